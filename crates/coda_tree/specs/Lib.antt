@@ -1,0 +1,5 @@
+pub mod Bindings
+pub mod Tree
+pub mod Volume
+pub mod Lookup
+pub mod Keeping
