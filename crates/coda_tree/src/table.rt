@@ -3,7 +3,7 @@ ghost use Rattle.std.specs.FinMap as map;
 ghost use Rattle.std.specs.BTreeMap as tree;
 ghost use Rattle.coda_fid.specs.Fid.{fid_cmp};
 ghost use Rattle.coda_tree.specs.Volume.{child, added, bound, IsDir, IsDirAt, bindings};
-ghost use Rattle.coda_tree.specs.Keeping.{BindsAt, IsSame};
+ghost use Rattle.coda_tree.specs.Table.{BindsAt, IsSame};
 
 use crate::{Node, NodeKind};
 use coda_fid::{Fid, Name};
@@ -23,7 +23,7 @@ pub struct NodeTable {
 
 impl Model for NodeTable {
     ghost use Rattle.coda_tree.specs.Volume.{Nodes, coded_nodes};
-    ghost use Rattle.coda_tree.specs.Keeping.{nodes_of};
+    ghost use Rattle.coda_tree.specs.Table.{nodes_of};
     ghost use Rattle.coda_tree.specs.contracts.node.Node as node_row;
 
     ghost Value = { Nodes };
