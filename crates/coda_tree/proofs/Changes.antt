@@ -52,6 +52,10 @@ put_taken_out m f node free = map.same_map fids_total exact_fids _ _ (λ q. elim
   | inr other ↦ gone_else fids_total exact_fids (map.insert m f node) f q other ∙ get_else fids_total exact_fids m f node q other
 ])
 
+-- a directory stays when a node is put at a free fid
+pub get_dir_put : (m : Nodes) (d f : Fid) (node : Node) → IsDirAt m d → map.get m f ≡ None → map.get (map.insert m f node) d ≡ map.get m d
+get_dir_put m d f node is free = get_else fids_total exact_fids m f node d (dir_not_free m d f is free)
+
 -- ---- a node added
 
 -- an addition is its edits in order

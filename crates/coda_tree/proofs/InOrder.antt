@@ -38,7 +38,7 @@ module _ {K X : Type 0} {R : K → K → Ordering} (o : IsTotalOrder R) where
   index_among [] k v is = absurd (none-some v is)
   index_among (first ∷ es) k v is =
       elim (R k first.0) as (λ r. R k first.0 ≡ r → cond (is_eq r) (Some first.1) (find R k es) ≡ Some v → (i : ℕ) × (e : K × X) × (slice_get (first ∷ es) i ≡ Some e) × (R k e.0 ≡ Equal) × (e.1 ≡ v)) [
-        | Less ↦ λ _ later. let at = index_among es k v later in (suc at.0, at.1, at.2)
+        | Less ↦ λ _ later. let at = index_among es k v later in (suc at.0, at.1, at.2, at.3, at.4)
         | Equal ↦ λ tied here. (0, first, refl, tied, same_Some first.1 v here)
-        | Greater ↦ λ _ later. let at = index_among es k v later in (suc at.0, at.1, at.2)
+        | Greater ↦ λ _ later. let at = index_among es k v later in (suc at.0, at.1, at.2, at.3, at.4)
       ] refl is

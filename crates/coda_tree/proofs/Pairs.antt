@@ -1,6 +1,6 @@
 -- Sorted pairs of a directory: what a search finds, and what an insertion makes of the finite map.
 use Rattle.std.proofs.Common.{◌≡◌, ◌≢◌, ℕ, zero, suc, ◌+◌, ◌-◌, ◌<◌, ◌≤◌, Bool, true, false, ◌&&◌, cond, IsTrue, List, [], ◌∷◌, ◌++◌, length, get_or, take, drop, Option, Some, None, Result, Ok, Err, IfOk, IfErr, Ordering, refl, sym, ap, ◌∙◌, subst, inl, inr, arith, rules, add-one}
-use Rattle.std.specs.Prelude.{T}
+use Rattle.std.specs.Prelude.{T, slice_get}
 use Rattle.std.specs.declared.cmp.Ordering.TheVariants.{Less, Equal, Greater}
 use Rattle.std.specs.List.{insert, remove}
 use Rattle.std.specs.List.Sorted.{IsSearchInRange, IsBinarySearchResult, IsNonDecreasingBy}
@@ -87,6 +87,16 @@ inserted es name fid i up gap =
     map.entries-from_sorted name_cmp _ (to_T _ (sorted_inserted es name fid i up gap)) ∙ sym (put_gap es name fid i gap)
     ∙ ap (put name_cmp name fid) (sym (map.entries-from_sorted name_cmp es (to_T _ up)))
     ∙ sym (map.entries-insert nat_list_cmp_total (map.from_sorted {R = name_cmp} es) name fid))
+
+-- the entries of what is seen of sorted pairs
+pub entries_seen : (es : Pairs) (seen : Bindings) → is_sorted name_cmp es ≡ true → map.from_sorted {R = name_cmp} es ≡ seen → map.entries seen ≡ es
+entries_seen es seen up is = ap (λ (b : Bindings). map.entries b) (sym is) ∙ map.entries-from_sorted name_cmp es (to_T _ up)
+
+-- nothing is at an index from the length on
+pub none_from : (es : Pairs) (i : ℕ) → length es ≤ i → slice_get es i ≡ None
+none_from [] i le = refl
+none_from (e ∷ es) zero le = absurd (omega (arith, le))
+none_from (e ∷ es) (suc i) le = none_from es i (omega (arith, le))
 
 -- ---- the search
 sorted_step : (es : Pairs) → is_sorted name_cmp es ≡ true → (k : ℕ) (d : Name × Fid) → suc k < length es → name_cmp (get_or es k d).0 (get_or es (suc k) d).0 ≡ Less

@@ -1,4 +1,4 @@
--- The finite map of a table's entries: what it has, and what a change of the entries makes of it.
+-- What a table keeps as a finite map: what it has, and what a change of the entries makes of it.
 use Rattle.std.proofs.Common.{◌≡◌, ◌≢◌, ℕ, suc, ◌+◌, Bool, true, false, cond, List, [], ◌∷◌, length, Option, Some, None, IfSome, option_map, is_some, add-one, refl, sym, ap, ◌∙◌, subst, inl, inr}
 use Rattle.std.specs.Ordering.{is_eq}
 use Rattle.std.specs.Map.{lookup, keys_of}
