@@ -1,5 +1,5 @@
 -- How the parents that a volume keeps follow its nodes.
-use Rattle.std.proofs.Common.{◌≡◌, ◌≢◌, Bool, true, false, cond, List, [], ◌∷◌, Option, Some, None, is_some, refl, sym, ap, ◌∙◌, subst, inl, inr}
+use Rattle.std.proofs.Common.{◌≡◌, ◌≢◌, true, false, cond, Some, None, is_some, refl, sym, ap, ◌∙◌, subst, inl, inr}
 use Rattle.std.specs.FinMap as map
 use Rattle.std.specs.BTreeMap as tree
 use Rattle.std.specs.BTreeMap.{BTreeMap}
@@ -9,7 +9,7 @@ use Rattle.coda_fid.specs.declared.fid.Fid.{Fid}
 use Rattle.coda_tree.specs.declared.node.Node.{Node}
 use Rattle.coda_tree.specs.Bindings.{Name}
 use Rattle.coda_tree.specs.Tree.{itself}
-use Rattle.coda_tree.specs.Volume.{Nodes, child, child_of, has, IsVolume, IsDirAt, IsDirNode, IsDir, IsLeaf, added, parent_of}
+use Rattle.coda_tree.specs.Volume.{Nodes, child, child_of, has, IsDirAt, IsDirNode, IsDir, IsLeaf, added, parent_of}
 use Rattle.coda_tree.specs.Keeping.{AreParents, IsKept}
 use Rattle.coda_tree.proofs.Order.{fid_cases, fids_total, exact_fids, get_here, get_else}
 use Rattle.coda_tree.proofs.Changes.{dir_node, addition, volume_added}

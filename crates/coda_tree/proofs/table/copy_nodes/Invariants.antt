@@ -1,5 +1,6 @@
 use Rattle.std.proofs.Common.{◌≡◌}
 use Rattle.std.specs.BTreeMap as tree
+use Rattle.std.specs.FinMap as map
 use Rattle.std.specs.Map.{keys_of}
 use Rattle.std.specs.List.Sorted.{IsStrictlySortedBy}
 use Rattle.coda_fid.specs.Fid.{fid_cmp}
@@ -11,5 +12,5 @@ use Rattle.coda_tree.proofs.table.copy_nodes.Given as goal
 abbrev pub invariant-loop-fid : goal.invariant-loop-fid
 invariant-loop-fid l = record {
   sorted : IsStrictlySortedBy fid_cmp (keys_of l.fid-iterator);
-  same : (q : Fid) → tree.get fid_cmp l.nodes q ≡ or_node (kept_at l.fid-iterator q) (tree.get fid_cmp l.copy q);
+  same : (q : Fid) → tree.get fid_cmp l.nodes q ≡ or_node (kept_at l.fid-iterator q) (map.get l.copy q);
 }

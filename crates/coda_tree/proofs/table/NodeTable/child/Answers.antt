@@ -1,4 +1,4 @@
-use Rattle.std.proofs.Common.{◌≡◌, sym, ap, ◌∙◌, Option}
+use Rattle.std.proofs.Common.{sym, ap, ◌∙◌, Option}
 use Rattle.std.specs.FinMap as map
 use Rattle.coda_fid.specs.Name.{name_cmp}
 use Rattle.coda_tree.specs.declared.node.Node.{Node}

@@ -1,7 +1,7 @@
-use Rattle.std.proofs.Common.{◌≡◌, Option, sym, ap, ◌∙◌, subst}
+use Rattle.std.proofs.Common.{Option, sym, ap, ◌∙◌, subst}
 use Rattle.std.specs.FinMap as map
 use Rattle.coda_tree.specs.declared.node.Node.{Node}
-use Rattle.coda_tree.specs.Volume.{Nodes, child, child_of, bound, IsDirNode}
+use Rattle.coda_tree.specs.Volume.{Nodes, child_of, bound, IsDirNode}
 use Rattle.coda_tree.proofs.Changes.{dir_node, get_dir_put, put_taken_out, added_put_first}
 use Rattle.coda_tree.proofs.table.NodeTable.create.Goals as goal
 

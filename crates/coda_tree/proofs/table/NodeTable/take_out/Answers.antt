@@ -1,4 +1,4 @@
-use Rattle.std.proofs.Common.{◌≡◌, ap, ◌∙◌}
+use Rattle.std.proofs.Common.{ap, ◌∙◌}
 use Rattle.std.specs.FinMap as map
 use Rattle.coda_tree.specs.Volume.{Nodes}
 use Rattle.coda_tree.proofs.Kept.{nodes_taken_out}

@@ -1,4 +1,4 @@
-use Rattle.std.proofs.Common.{◌≡◌, ap, ◌∙◌}
+use Rattle.std.proofs.Common.{ap, ◌∙◌}
 use Rattle.coda_tree.specs.Volume.{Tree, parent_of}
 use Rattle.coda_tree.proofs.Keep.{kept_is_parent}
 use Rattle.coda_tree.proofs.volume.Volume.parent.Goals as goal
