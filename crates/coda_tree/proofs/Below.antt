@@ -14,7 +14,7 @@ use Rattle.coda_tree.specs.declared.node.Node.{Node}
 use Rattle.coda_tree.specs.Tree.{Child, IsBelow, itself, under, AtDepth, at_top, one_deeper}
 use Rattle.coda_tree.specs.Volume.{Nodes, child, has, IsVolume, parent_of, below_within, is_below}
 use Rattle.coda_tree.proofs.Order.{fids_total}
-use Rattle.coda_tree.proofs.Tests.{or_true, has_some}
+use Rattle.coda_tree.proofs.Booleans.{or_true, has_some}
 use Rattle.coda_tree.proofs.Parents.{same_fid_is, same_fid_refl, tied_fid, parent_sound, parent_is}
 
 lt_le : (a b : ℕ) → a < b → a ≤ b

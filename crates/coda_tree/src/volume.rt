@@ -1,7 +1,8 @@
-ghost use Rattle.std.specs.Prelude.{◌≡◌, ◌↔◌, true, None, IfOk, OnOk, OnErr, IsTrue, option_copied};
+ghost use Rattle.std.specs.Prelude.{◌<◌, ℕ, ◌≡◌, ◌↔◌, true, None, IfOk, OnOk, OnErr, IsTrue, option_copied};
 ghost use Rattle.std.specs.FinMap as map;
 ghost use Rattle.coda_fid.specs.Fid.{root_of};
-ghost use Rattle.coda_tree.specs.Tree.{IsBelow};
+ghost use Rattle.coda_fid.specs.declared.fid.Fid.{Fid};
+ghost use Rattle.coda_tree.specs.Tree.{IsBelow, AtDepth};
 ghost use Rattle.coda_tree.specs.Volume.{child, has, added, fresh, fresh_root, parent_of, below_within, is_below, IsVolume, IsDirAt, IsLeaf};
 ghost use Rattle.coda_tree.specs.Lookup.{lookup_of, step_from};
 
@@ -99,10 +100,11 @@ impl Volume {
         self.number
     }
 
-    /// How many nodes there are, the root among them.
+    /// How many nodes there are, the root among them. No node is reached from the root by as many bindings.
     pub fn len(&self) -> usize
         ensures count { result ≡ map.len self.now.nodes }
         ensures volume { IsVolume (root_of self.now.number) self.now.nodes }
+        ensures depth { (depth : ℕ) (f : Fid) → AtDepth (child self.now.nodes) (root_of self.now.number) depth f → depth < result }
     {
         self.nodes.len()
     }
