@@ -27,8 +27,9 @@ pub enum PathFault {
 /// A volume: a tree of nodes whose root is a directory (Satyanarayanan et al. 1990).
 ///
 /// Each node stands at its fid. Each but the root is bound once, at one name of one directory, and each is reached
-/// from the root, whose fid the volume's number gives. Contracts see the number and a finite map from fids to nodes.
-/// A fid is found in logarithmic time, and so is the directory that binds it.
+/// from the root, whose fid the volume's number gives. Contracts see the number and a finite map from fids to nodes;
+/// `number` and `len` say that they are those of a volume. A fid is found in logarithmic time, and so is the directory
+/// that binds it.
 #[derive(Drop)]
 pub struct Volume {
     number: u32,
@@ -92,7 +93,7 @@ impl Volume {
         })
     }
 
-    /// The volume's number, which is that of each fid in it.
+    /// The volume's number, which gives its root's fid.
     pub fn number(&self) -> u32
         ensures number { result ≡ self.now.number }
         ensures volume { IsVolume (root_of self.now.number) self.now.nodes }
@@ -100,7 +101,7 @@ impl Volume {
         self.number
     }
 
-    /// How many nodes there are, the root among them. No node is reached from the root by as many bindings.
+    /// How many nodes there are, the root among them. Each is reached from the root by fewer bindings than that.
     pub fn len(&self) -> usize
         ensures count { result ≡ map.len self.now.nodes }
         ensures volume { IsVolume (root_of self.now.number) self.now.nodes }
