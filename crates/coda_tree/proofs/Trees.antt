@@ -1,0 +1,86 @@
+-- Changes of a tree, whatever is kept at its places.
+use Rattle.std.proofs.Common.{◌≡◌, ◌≢◌, Bool, true, false, List, Option, Some, None, refl, sym, ap, ◌∙◌, subst, inl, inr, ◌⊎◌}
+use Rattle.coda_fid.specs.declared.fid.Fid.{Fid}
+use Rattle.coda_tree.specs.Bindings.{Name}
+use Rattle.coda_tree.specs.Tree.{Child, IsBelow, itself, under, IsTree}
+use Rattle.coda_tree.proofs.Order.{fid_cases, name_cases}
+
+-- a tree with more bindings keeps what is below
+pub below_kept : {c c' : Child} {g : Fid} → ((d : Fid) (n : Name) (f : Fid) → c d n ≡ Some f → c' d n ≡ Some f) → (f : Fid) → IsBelow c g f → IsBelow c' g f
+below_kept more f (itself f' same) = itself f same
+below_kept more f (under d n f' h up) = under d n f (more d n f h) (below_kept more d up)
+
+-- two places, the same or not
+pub edge_cases : (d e : Fid) (n k : Name) → ((d ≡ e) × (n ≡ k)) ⊎ (((d ≡ e) × (n ≡ k)) → ⊥)
+edge_cases d e n k = elim (fid_cases d e) [
+  | inl same ↦ elim (name_cases n k) [
+    | inl alike ↦ inl (same, alike)
+    | inr differs ↦ inr (λ both. differs both.1)
+  ]
+  | inr apart ↦ inr (λ both. apart both.0)
+]
+
+-- ---- a new fid
+
+-- has2 and child2 are has and child with a new fid, which a directory binds at a free name
+pub record IsAddition (has has' : Fid → Bool) (c c' : Child) (dir : Fid) (name : Name) (new : Fid) : Type 0 where
+  pub dir_there : has dir ≡ true
+  pub new_free : has new ≡ false
+  pub name_free : c dir name ≡ None
+  pub here : c' dir name ≡ Some new
+  pub elsewhere : (d : Fid) (n : Name) → (((d ≡ dir) × (n ≡ name)) → ⊥) → c' d n ≡ c d n
+  pub new_there : has' new ≡ true
+  pub others : (q : Fid) → q ≢ new → has' q ≡ has q
+
+module _ {root dir new : Fid} {name : Name} {has has' : Fid → Bool} {c c' : Child} (t : IsTree root has c) (a : IsAddition has has' c c' dir name new) where
+  pub not_new : (q : Fid) → has q ≡ true → q ≢ new
+  not_new q there same = let free = a.new_free in cc
+
+  still_there : (q : Fid) → has q ≡ true → has' q ≡ true
+  still_there q there = a.others q (not_new q there) ∙ there
+
+  -- a binding is the new one or an old one
+  pub added_edge : (d : Fid) (n : Name) (f : Fid) → c' d n ≡ Some f → ((d ≡ dir) × (n ≡ name) × (f ≡ new)) ⊎ (c d n ≡ Some f)
+  added_edge d n f h = elim (edge_cases d dir n name) [
+    | inl both ↦
+        let at_new : c' dir name ≡ Some f = subst (λ e. c' e name ≡ Some f) both.0 (subst (λ k. c' d k ≡ Some f) both.1 h) in
+        let here = a.here in
+        inl (both.0, both.1, cc)
+    | inr apart ↦ inr (sym (a.elsewhere d n apart) ∙ h)
+  ]
+
+  pub more : (d : Fid) (n : Name) (f : Fid) → c d n ≡ Some f → c' d n ≡ Some f
+  more d n f h = a.elsewhere d n (λ both.
+      let free : c d n ≡ None = subst (λ e. c e n ≡ None) (sym both.0) (subst (λ k. c dir k ≡ None) (sym both.1) a.name_free) in
+      cc) ∙ h
+
+  pub tree_added : IsTree root has' c'
+  tree_added = record {
+    rooted = still_there root t.rooted;
+    unbound = λ d n h. elim (added_edge d n root h) [
+      | inl at ↦ not_new root t.rooted at.2
+      | inr old ↦ t.unbound d n old
+    ];
+    from = λ d n f h. elim (added_edge d n f h) [
+      | inl at ↦ still_there d (subst (λ e. has e ≡ true) (sym at.0) a.dir_there)
+      | inr old ↦ still_there d (t.from d n f old)
+    ];
+    there = λ d n f h. elim (added_edge d n f h) [
+      | inl at ↦ subst (λ e. has' e ≡ true) (sym at.2) a.new_there
+      | inr old ↦ still_there f (t.there d n f old)
+    ];
+    once = λ d n e k f h i. elim (added_edge d n f h) [
+      | inl at ↦ elim (added_edge e k f i) [
+        | inl here ↦ (at.0 ∙ sym here.0, at.1 ∙ sym here.1)
+        | inr old ↦ absurd (not_new f (t.there e k f old) at.2)
+      ]
+      | inr at ↦ elim (added_edge e k f i) [
+        | inl here ↦ absurd (not_new f (t.there d n f at) here.2)
+        | inr old ↦ t.once d n e k f at old
+      ]
+    ];
+    reached = λ f h. elim (fid_cases f new) [
+      | inl same ↦ under dir name f (a.here ∙ ap Some (sym same)) (below_kept more dir (t.reached dir a.dir_there))
+      | inr differs ↦ below_kept more f (t.reached f (sym (a.others f differs) ∙ h))
+    ];
+  }

@@ -1,0 +1,6 @@
+pub mod Bindings
+pub mod Tree
+pub mod Volume
+pub mod Lookup
+pub mod Table
+pub mod Keeping

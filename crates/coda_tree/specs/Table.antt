@@ -1,0 +1,27 @@
+-- How a table of nodes is kept, and what its private changes do.
+use Rattle.std.specs.Prelude.{◌≡◌, List, Option, Some, None, cond, option_map}
+use Rattle.std.specs.FinMap as map
+use Rattle.std.specs.BTreeMap as tree
+use Rattle.std.specs.BTreeMap.{BTreeMap}
+use Rattle.coda_fid.specs.Fid.{fid_cmp}
+use Rattle.coda_fid.specs.declared.fid.Fid.{Fid}
+use Rattle.coda_tree.specs.declared.node.Node.{Node}
+use Rattle.coda_tree.specs.Bindings.{Name}
+use Rattle.coda_tree.specs.Volume.{Nodes, bind_in}
+
+-- the finite map of a list of entries
+abbrev pub nodes_of : List (Fid × Node) → Nodes
+nodes_of entries = map.from_entries entries
+
+-- the same is kept at each fid
+abbrev pub IsSame : BTreeMap Fid Node → BTreeMap Fid Node → Type 0
+IsSame old new = (q : Fid) → tree.get fid_cmp new q ≡ tree.get fid_cmp old q
+
+-- the directory's node binds the name too, and all else stays
+abbrev pub BindsAt : BTreeMap Fid Node → BTreeMap Fid Node → Fid → Name → Fid → Type 0
+BindsAt old new dir name fid = (q : Fid) → tree.get fid_cmp new q ≡ cond (tree.is_at (fid_cmp dir) q) (option_map (λ node. bind_in node name fid) (tree.get fid_cmp old dir)) (tree.get fid_cmp old q)
+
+-- the first node, or else the second
+abbrev pub or_node : Option Node → Option Node → Option Node
+or_node None o = o
+or_node (Some node) o = Some node

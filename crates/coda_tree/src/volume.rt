@@ -1,0 +1,220 @@
+ghost use Rattle.std.specs.Prelude.{◌≡◌, ◌↔◌, true, None, IfOk, OnOk, OnErr, IsTrue, option_copied};
+ghost use Rattle.std.specs.FinMap as map;
+ghost use Rattle.coda_fid.specs.Fid.{root_of};
+ghost use Rattle.coda_tree.specs.Tree.{IsBelow};
+ghost use Rattle.coda_tree.specs.Volume.{child, has, added, fresh, fresh_root, parent_of, is_below, IsVolume, IsDirAt, IsLeaf};
+ghost use Rattle.coda_tree.specs.Lookup.{lookup_of, step_from};
+
+use crate::{Entries, Node, NodeKind, NodeTable};
+use coda_fid::{Fid, Name, Path, Sid};
+use std::alloc::{AllocError, Global};
+use std::collections::BTreeMap;
+use std::marker::Model;
+use thiserror::Error;
+
+/// Why a path leads nowhere, with the number of the component that stopped it, from 0.
+#[derive(Clone, Copy, Debug, PartialEq, Eq, Error)]
+pub enum PathFault {
+    /// The directory does not bind the name.
+    #[error("component {0} is not there")]
+    NotFound(usize),
+    /// What stands before the name is no directory.
+    #[error("component {0} is looked for in what is no directory")]
+    NotDir(usize),
+}
+
+/// A volume: a tree of nodes whose root is a directory (Satyanarayanan et al. 1990).
+///
+/// Each node stands at its fid. Each but the root is bound once, at one name of one directory, and each is reached
+/// from the root, whose fid the volume's number gives. Contracts see the number and a finite map from fids to nodes.
+/// A fid is found in logarithmic time, and so is the directory that binds it.
+#[derive(Drop)]
+pub struct Volume {
+    number: u32,
+    nodes: NodeTable,
+    parents: BTreeMap<Fid, Fid>,
+}
+
+impl Model for Volume {
+    ghost use Rattle.coda_tree.specs.Volume.{Tree, coded_tree};
+    ghost use Rattle.coda_tree.specs.Keeping.{tree_of, IsKeptVolume};
+    ghost use Rattle.coda_tree.specs.contracts.node.Node as node_row;
+
+    ghost Value = { Tree };
+
+    ghost coded = { coded_tree node_row.the_row.coded };
+
+    ghost view = { tree_of };
+
+    ghost invariant = { IsKeptVolume };
+}
+
+// The fid of a volume's root.
+fn root_fid(number: u32) -> Fid
+    ensures { result ≡ root_of number }
+{
+    Fid {
+        volume: number,
+        vnode: 0,
+        uniq: 1,
+    }
+}
+
+// The root of a fresh volume.
+fn root_node(alloc: Global) -> Node
+    ensures { result ≡ fresh_root }
+{
+    Node {
+        kind: NodeKind::Dir(Entries::new(alloc)),
+        mode: 0o755,
+        owner: 0,
+        mtime: 0,
+        sid: Sid {
+            client: 0,
+            number: 0,
+        },
+        marked: false,
+    }
+}
+
+impl Volume {
+    /// A volume with an empty root directory of owner 0 and mode 0o755. Fails for want of memory alone.
+    pub fn new(alloc: Global, number: u32) -> Result<Volume, AllocError>
+        ensures { IfOk result (λ v. v ≡ fresh number) }
+    {
+        let mut nodes = NodeTable::new(alloc);
+        nodes.put(root_fid(number), root_node(alloc))?;
+        Ok(Volume {
+            number,
+            nodes,
+            parents: BTreeMap::new(alloc),
+        })
+    }
+
+    /// The volume's number, which is that of each fid in it.
+    pub fn number(&self) -> u32
+        ensures number { result ≡ self.now.number }
+        ensures volume { IsVolume (root_of self.now.number) self.now.nodes }
+    {
+        self.number
+    }
+
+    /// How many nodes there are, the root among them.
+    pub fn len(&self) -> usize
+        ensures count { result ≡ map.len self.now.nodes }
+        ensures volume { IsVolume (root_of self.now.number) self.now.nodes }
+    {
+        self.nodes.len()
+    }
+
+    /// The node at a fid.
+    pub fn get(&self, fid: Fid) -> Option<&Node>
+        ensures { option_copied result ≡ map.get self.now.nodes fid }
+    {
+        self.nodes.get(fid)
+    }
+
+    /// What the directory at a fid binds at a name; `None` too where no directory stands there.
+    pub fn child(&self, dir: Fid, name: &Name) -> Option<Fid>
+        ensures { result ≡ child self.now.nodes dir name.now }
+    {
+        self.nodes.child(dir, name)
+    }
+
+    /// What a path leads to from the root, or the first component at which it stops.
+    pub fn lookup(&self, path: &Path) -> Result<Fid, PathFault>
+        ensures { result ≡ lookup_of self.now.nodes (root_of self.now.number) 0 path.now }
+    {
+        let mut at = root_fid(self.number);
+        let names = path.names();
+        for (component, name) in names.iter().enumerate() {
+            at = self.step(at, name, component)?;
+        }
+        Ok(at)
+    }
+
+    /// Whether a node is another or stands below it. Takes time in the depth of the first.
+    pub fn is_below(&self, fid: Fid, of: Fid) -> bool
+        ensures exact { result ≡ is_below self.now.nodes fid of }
+        ensures below { has self.now.nodes fid ≡ true → (IsTrue result ↔ IsBelow (child self.now.nodes) of fid) }
+    {
+        self.meets(fid, of)
+    }
+
+    /// Puts a node that binds nothing at a free fid and binds it in a directory at a free name. Fails for want of
+    /// memory alone, and then changes nothing.
+    pub fn add(&mut self, dir: Fid, name: Name, fid: Fid, node: Node) -> Result<(), AllocError>
+        requires dir_there { IsDirAt self.old.nodes dir }
+        requires name_free { child self.old.nodes dir name ≡ None }
+        requires fid_free { map.get self.old.nodes fid ≡ None }
+        requires leaf { IsLeaf node }
+        ensures ok { OnOk result (self.new ≡ record self.old { nodes = added self.old.nodes dir name fid node }) }
+        ensures err { OnErr result (self.new ≡ self.old) }
+    {
+        self.parents.insert(fid, dir)?;
+        match self.nodes.create(dir, name, fid, node) {
+            Ok(()) => Ok(()),
+            Err(e) => {
+                let _ = self.parents.remove(&fid);
+                Err(e)
+            }
+        }
+    }
+
+    /// A copy with all content. Fails for want of memory alone.
+    pub fn copy(&self) -> Result<Volume, AllocError>
+        ensures { IfOk result (λ v. v ≡ self.now) }
+    {
+        let nodes = self.nodes.copy()?;
+        let parents = self.parents.clone()?;
+        Ok(Volume {
+            number: self.number,
+            nodes,
+            parents,
+        })
+    }
+
+    // What one component of a path leads to.
+    fn step(&self, dir: Fid, name: &Name, component: usize) -> Result<Fid, PathFault>
+        ensures { result ≡ step_from (map.get self.now.nodes dir) name.now component }
+    {
+        match self.get(dir) {
+            Some(node) => match &node.kind {
+                NodeKind::Dir(entries) => match entries.find(name) {
+                    Some(next) => Ok(next),
+                    None => Err(PathFault::NotFound(component)),
+                },
+                NodeKind::File(_) | NodeKind::Link(_) => Err(PathFault::NotDir(component)),
+            },
+            None => Err(PathFault::NotDir(component)),
+        }
+    }
+
+    // The directory that binds a node.
+    fn parent(&self, fid: Fid) -> Option<Fid>
+        ensures { result ≡ parent_of self.now.nodes fid }
+    {
+        match self.parents.get(&fid) {
+            Some(dir) => Some(*dir),
+            None => None,
+        }
+    }
+
+    // Whether the way up from a node meets another.
+    #[tactic(auto, unfolding(crate::specs::Volume::is_below))]
+    fn meets(&self, fid: Fid, of: Fid) -> bool
+        ensures { result ≡ is_below self.now.nodes fid of }
+    {
+        let mut at = fid;
+        for _step in 0..self.len() {
+            if at == of {
+                return true;
+            }
+            match self.parent(at) {
+                Some(up) => at = up,
+                None => return false,
+            }
+        }
+        at == of
+    }
+}
