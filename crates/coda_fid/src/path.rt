@@ -92,6 +92,10 @@ impl Path {
         // One text is that of one path.
         ensures alone { IfOk result (λ p. (names : List (List ℕ)) → AreNames names → path_text names ≡ bytes.now → names ≡ p) }
         ensures bad { (result ≡ Err NameFault.BadName) ↔ ¬ IsPath bytes.now }
+
+        // The same by the test and by the names that stand between the bytes `/`.
+        ensures names { IfOk result (λ p. p ≡ names_in bytes.now) }
+        ensures tested { (result ≡ Err NameFault.BadName) ↔ (is_path bytes.now ≡ false) }
     {
         if !is_path_text(bytes) {
             return Err(NameFault::BadName);
