@@ -1,0 +1,7 @@
+//! A Coda cell in one process, and the call that runs a script in it.
+#![tactic(auto)]
+
+mod forms;
+mod line;
+mod number;
+mod words;
