@@ -1,13 +1,12 @@
 -- What each change of the nodes leaves at each fid, and of the tree.
-use Rattle.std.proofs.Common.{◌≡◌, ◌≢◌, ℕ, ◌+◌, Bool, true, false, cond, Option, Some, None, is_some, refl, sym, ap, ◌∙◌, subst, inl, inr}
+use Rattle.std.proofs.Common.{◌≡◌, ◌≢◌, ◌+◌, cond, Option, Some, None, is_some, refl, sym, ap, ◌∙◌, subst, inl, inr}
 use Rattle.std.specs.FinMap as map
 use Rattle.std.proofs.lemmas.Cmp.{nat_list_cmp_total}
 use Rattle.std.proofs.lemmas.Map.Lookups.{exact_bytes}
 use Rattle.std.proofs.lemmas.Option.{none-some}
 use Rattle.coda_fid.specs.declared.fid.Fid.{Fid}
 use Rattle.coda_tree.specs.declared.node.Node.{Node}
-use Rattle.coda_tree.specs.Bindings.{Name, Bindings}
-use Rattle.coda_tree.specs.Tree.{Child, IsTree}
+use Rattle.coda_tree.specs.Bindings.{Name}
 use Rattle.coda_tree.specs.Volume.{Nodes, bindings, child, child_of, has, IsVolume, IsDir, IsDirNode, IsDirAt, changed, changed_at, bind_in, bound, additions, edited_all, added}
 use Rattle.coda_tree.proofs.Order.{fid_cases, fids_total, exact_fids, get_here, get_else, gone_here, gone_else}
 use Rattle.coda_tree.proofs.Trees.{IsAddition, tree_added}
@@ -51,6 +50,10 @@ put_taken_out m f node free = map.same_map fids_total exact_fids _ _ (λ q. elim
   | inl same ↦ ap (map.get (map.remove (map.insert m f node) f)) same ∙ gone_here fids_total (map.insert m f node) f ∙ sym (ap (map.get m) same ∙ free)
   | inr other ↦ gone_else fids_total exact_fids (map.insert m f node) f q other ∙ get_else fids_total exact_fids m f node q other
 ])
+
+-- a directory stays when a node is put at a free fid
+pub get_dir_put : (m : Nodes) (d f : Fid) (node : Node) → IsDirAt m d → map.get m f ≡ None → map.get (map.insert m f node) d ≡ map.get m d
+get_dir_put m d f node is free = get_else fids_total exact_fids m f node d (dir_not_free m d f is free)
 
 -- ---- a node added
 
@@ -100,8 +103,8 @@ module _ (m : Nodes) (dir : Fid) (name : Name) (f : Fid) (node dnode : Node) (di
   len_added =
       let at : map.get (bound m dir name f) f ≡ None = get_unchanged m dir (λ n. bind_in n name f) dnode dir_is f (λ same. dir_other (sym same)) ∙ free in
       let as_many : map.len (bound m dir name f) ≡ map.len m =
-          ap (λ (n : Nodes). map.len n) (changed_is m dir (λ n. bind_in n name f) dnode dir_is) ∙ map.len-insert fids_total m dir (bind_in dnode name f)
-          ∙ ap (λ (o : Option Node). cond (is_some o) (map.len m) (map.len m + 1)) dir_is in
+      ap (λ (n : Nodes). map.len n) (changed_is m dir (λ n. bind_in n name f) dnode dir_is) ∙ map.len-insert fids_total m dir (bind_in dnode name f)
+      ∙ ap (λ (o : Option Node). cond (is_some o) (map.len m) (map.len m + 1)) dir_is in
       map.len-insert fids_total (bound m dir name f) f node ∙ ap (λ (o : Option Node). cond (is_some o) (map.len (bound m dir name f)) (map.len (bound m dir name f) + 1)) at ∙ ap (λ k. k + 1) as_many
 
   pub addition : child m dir name ≡ None → ((n : Name) → child_of (Some node) n ≡ None) → IsAddition (has m) (has (added m dir name f node)) (child m) (child (added m dir name f node)) dir name f

@@ -1,5 +1,5 @@
 -- The entries of a finite map in order, against what the map has at their keys.
-use Rattle.std.proofs.Common.{◌≡◌, ℕ, zero, suc, Bool, true, false, cond, List, [], ◌∷◌, length, Option, Some, None, Ordering, refl, sym, ap, ◌∙◌, subst}
+use Rattle.std.proofs.Common.{◌≡◌, ℕ, zero, suc, true, cond, List, [], ◌∷◌, Some, Ordering, refl, sym, ap, ◌∙◌}
 use Rattle.std.specs.Prelude.{slice_get}
 use Rattle.std.specs.declared.cmp.Ordering.TheVariants.{Less, Equal, Greater}
 use Rattle.std.specs.Ordering.{is_eq, ordering_reverse}
@@ -7,7 +7,6 @@ use Rattle.std.specs.Cmp.{IsTotalOrder}
 use Rattle.std.specs.FinMap as map
 use Rattle.std.specs.FinMap.{FinMap}
 use Rattle.std.specs.FinMap.Entries.{is_sorted, find, below_all}
-use Rattle.std.proofs.lemmas.Cmp.{tied_itself}
 use Rattle.std.proofs.lemmas.Option.{same_Some, none-some}
 use Rattle.coda_tree.proofs.Tests.{and_true, lt_less, from_T}
 use Rattle.coda_tree.proofs.Order.{at_itself}
@@ -38,7 +37,7 @@ module _ {K X : Type 0} {R : K → K → Ordering} (o : IsTotalOrder R) where
   index_among [] k v is = absurd (none-some v is)
   index_among (first ∷ es) k v is =
       elim (R k first.0) as (λ r. R k first.0 ≡ r → cond (is_eq r) (Some first.1) (find R k es) ≡ Some v → (i : ℕ) × (e : K × X) × (slice_get (first ∷ es) i ≡ Some e) × (R k e.0 ≡ Equal) × (e.1 ≡ v)) [
-        | Less ↦ λ _ later. let at = index_among es k v later in (suc at.0, at.1, at.2)
+        | Less ↦ λ _ later. let at = index_among es k v later in (suc at.0, at.1, at.2, at.3, at.4)
         | Equal ↦ λ tied here. (0, first, refl, tied, same_Some first.1 v here)
-        | Greater ↦ λ _ later. let at = index_among es k v later in (suc at.0, at.1, at.2)
+        | Greater ↦ λ _ later. let at = index_among es k v later in (suc at.0, at.1, at.2, at.3, at.4)
       ] refl is

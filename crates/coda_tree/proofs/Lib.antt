@@ -4,4 +4,7 @@ pub mod InOrder
 pub mod Trees
 pub mod Pairs
 pub mod Changes
-pub mod Table
+pub mod Kept
+pub mod Parents
+pub mod Below
+pub mod Keep

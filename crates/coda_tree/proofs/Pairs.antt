@@ -1,20 +1,18 @@
 -- Sorted pairs of a directory: what a search finds, and what an insertion makes of the finite map.
-use Rattle.std.proofs.Common.{◌≡◌, ◌≢◌, ℕ, zero, suc, ◌+◌, ◌-◌, ◌<◌, ◌≤◌, Bool, true, false, ◌&&◌, cond, IsTrue, List, [], ◌∷◌, ◌++◌, length, get_or, take, drop, Option, Some, None, Result, Ok, Err, IfOk, IfErr, Ordering, refl, sym, ap, ◌∙◌, subst, inl, inr, arith, rules, add-one}
-use Rattle.std.specs.Prelude.{T}
+use Rattle.std.proofs.Common.{◌≡◌, ℕ, zero, suc, ◌<◌, ◌≤◌, true, cond, [], ◌∷◌, length, get_or, Some, None, Ordering, refl, sym, ap, ◌∙◌, subst, inl, inr, arith}
+use Rattle.std.specs.Prelude.{slice_get}
 use Rattle.std.specs.declared.cmp.Ordering.TheVariants.{Less, Equal, Greater}
-use Rattle.std.specs.List.{insert, remove}
-use Rattle.std.specs.List.Sorted.{IsSearchInRange, IsBinarySearchResult, IsNonDecreasingBy}
-use Rattle.std.specs.Ordering.{ordering_index, ordering_reverse, is_lt, is_eq}
+use Rattle.std.specs.List.{insert}
+use Rattle.std.specs.Ordering.{ordering_reverse, is_eq}
 use Rattle.std.specs.FinMap as map
 use Rattle.std.specs.FinMap.Entries.{is_sorted, find, put, below_all, by_order, is_sorted-put}
-use Rattle.std.proofs.lemmas.Cmp.{nat_list_cmp_total, tied_itself}
+use Rattle.std.proofs.lemmas.Cmp.{nat_list_cmp_total}
 use Rattle.std.proofs.lemmas.Bool.{cases_lt}
 use Rattle.std.proofs.lemmas.Map.Lookups.{exact_bytes}
 use Rattle.coda_fid.specs.Name.{name_cmp}
 use Rattle.coda_fid.specs.declared.fid.Fid.{Fid}
 use Rattle.coda_tree.specs.Bindings.{Name, Pairs, Bindings, IsIndexOf, IsGapFor}
-use Rattle.coda_tree.proofs.Tests.{and_true, and_both, lt_less, to_T, from_T}
-use Rattle.coda_tree.proofs.Order.{apart, at_itself, name_cases}
+use Rattle.coda_tree.proofs.Tests.{and_true, lt_less, to_T, from_T}
 
 turn : (a b : Name) (o : Ordering) → name_cmp a b ≡ o → name_cmp b a ≡ ordering_reverse o
 turn a b o h = nat_list_cmp_total.antisymm b a ∙ ap ordering_reverse h
@@ -87,6 +85,16 @@ inserted es name fid i up gap =
     map.entries-from_sorted name_cmp _ (to_T _ (sorted_inserted es name fid i up gap)) ∙ sym (put_gap es name fid i gap)
     ∙ ap (put name_cmp name fid) (sym (map.entries-from_sorted name_cmp es (to_T _ up)))
     ∙ sym (map.entries-insert nat_list_cmp_total (map.from_sorted {R = name_cmp} es) name fid))
+
+-- the entries of what is seen of sorted pairs
+pub entries_seen : (es : Pairs) (seen : Bindings) → is_sorted name_cmp es ≡ true → map.from_sorted {R = name_cmp} es ≡ seen → map.entries seen ≡ es
+entries_seen es seen up is = ap (λ (b : Bindings). map.entries b) (sym is) ∙ map.entries-from_sorted name_cmp es (to_T _ up)
+
+-- nothing is at an index from the length on
+pub none_from : (es : Pairs) (i : ℕ) → length es ≤ i → slice_get es i ≡ None
+none_from [] i le = refl
+none_from (e ∷ es) zero le = absurd (omega (arith, le))
+none_from (e ∷ es) (suc i) le = none_from es i (omega (arith, le))
 
 -- ---- the search
 sorted_step : (es : Pairs) → is_sorted name_cmp es ≡ true → (k : ℕ) (d : Name × Fid) → suc k < length es → name_cmp (get_or es k d).0 (get_or es (suc k) d).0 ≡ Less

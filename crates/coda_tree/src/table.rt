@@ -3,7 +3,7 @@ ghost use Rattle.std.specs.FinMap as map;
 ghost use Rattle.std.specs.BTreeMap as tree;
 ghost use Rattle.coda_fid.specs.Fid.{fid_cmp};
 ghost use Rattle.coda_tree.specs.Volume.{child, added, bound, IsDir, IsDirAt, bindings};
-ghost use Rattle.coda_tree.specs.Table.{BindsAt, IsSame};
+ghost use Rattle.coda_tree.specs.Table.{nodes_of, BindsAt, IsSame};
 
 use crate::{Node, NodeKind};
 use coda_fid::{Fid, Name};
@@ -46,13 +46,13 @@ fn bind(nodes: &mut BTreeMap<Fid, Node>, dir: Fid, name: Name, fid: Fid) -> Resu
 }
 
 // A copy of each node.
-fn copy_nodes(alloc: Global, nodes: &BTreeMap<Fid, Node>) -> Result<BTreeMap<Fid, Node>, AllocError>
-    ensures { IfOk result (λ m. IsSame nodes.now m) }
+fn copy_nodes(alloc: Global, nodes: &BTreeMap<Fid, Node>) -> Result<NodeTable, AllocError>
+    ensures { IfOk result (λ t. t ≡ nodes_of nodes.now.entries) }
 {
-    let mut copy = BTreeMap::new(alloc);
+    let mut copy = NodeTable::new(alloc);
     for (fid, node) in nodes {
         let node = node.copy()?;
-        copy.insert(*fid, node)?;
+        copy.put(*fid, node)?;
     }
     Ok(copy)
 }
@@ -128,11 +128,7 @@ impl NodeTable {
     pub fn copy(&self) -> Result<NodeTable, AllocError>
         ensures { IfOk result (λ t. t ≡ self.now) }
     {
-        let nodes = copy_nodes(self.alloc, &self.nodes)?;
-        Ok(NodeTable {
-            alloc: self.alloc,
-            nodes,
-        })
+        copy_nodes(self.alloc, &self.nodes)
     }
 
     // Binds a name in a directory.

@@ -2,7 +2,7 @@ ghost use Rattle.std.specs.Prelude.{◌≡◌, ◌↔◌, true, None, IfOk, OnOk
 ghost use Rattle.std.specs.FinMap as map;
 ghost use Rattle.coda_fid.specs.Fid.{root_of};
 ghost use Rattle.coda_tree.specs.Tree.{IsBelow};
-ghost use Rattle.coda_tree.specs.Volume.{child, has, added, fresh, fresh_root, parent_of, is_below, IsVolume, IsDirAt, IsLeaf};
+ghost use Rattle.coda_tree.specs.Volume.{child, has, added, fresh, fresh_root, parent_of, below_within, is_below, IsVolume, IsDirAt, IsLeaf};
 ghost use Rattle.coda_tree.specs.Lookup.{lookup_of, step_from};
 
 use crate::{Entries, Node, NodeKind, NodeTable};
@@ -134,11 +134,12 @@ impl Volume {
     }
 
     /// Whether a node is another or stands below it. Takes time in the depth of the first.
+    #[tactic(auto, unfolding(crate::specs::Volume::is_below))]
     pub fn is_below(&self, fid: Fid, of: Fid) -> bool
         ensures exact { result ≡ is_below self.now.nodes fid of }
         ensures below { has self.now.nodes fid ≡ true → (IsTrue result ↔ IsBelow (child self.now.nodes) of fid) }
     {
-        self.meets(fid, of)
+        self.climbs_to(fid, of, self.len())
     }
 
     /// Puts a node that binds nothing at a free fid and binds it in a directory at a free name. Fails for want of
@@ -200,13 +201,12 @@ impl Volume {
         }
     }
 
-    // Whether the way up from a node meets another.
-    #[tactic(auto, unfolding(crate::specs::Volume::is_below))]
-    fn meets(&self, fid: Fid, of: Fid) -> bool
-        ensures { result ≡ is_below self.now.nodes fid of }
+    // Whether the way up from a node meets another within so many steps.
+    fn climbs_to(&self, fid: Fid, of: Fid, steps: usize) -> bool
+        ensures { result ≡ below_within self.now.nodes steps fid of }
     {
         let mut at = fid;
-        for _step in 0..self.len() {
+        for _step in 0..steps {
             if at == of {
                 return true;
             }

@@ -1,5 +1,5 @@
--- The finite map of a table's entries: what it has, and what a change of the entries makes of it.
-use Rattle.std.proofs.Common.{◌≡◌, ◌≢◌, ℕ, suc, ◌+◌, Bool, true, false, cond, List, [], ◌∷◌, length, Option, Some, None, IfSome, option_map, is_some, add-one, refl, sym, ap, ◌∙◌, subst, inl, inr}
+-- What a table keeps as a finite map: what it has, and what a change of the entries makes of it.
+use Rattle.std.proofs.Common.{◌≡◌, ◌≢◌, suc, ◌+◌, cond, List, [], ◌∷◌, length, Option, Some, None, IfSome, option_map, is_some, add-one, refl, sym, ap, ◌∙◌, subst, inl, inr}
 use Rattle.std.specs.Ordering.{is_eq}
 use Rattle.std.specs.Map.{lookup, keys_of}
 use Rattle.std.specs.List.{AllByRecursion}
@@ -8,12 +8,11 @@ use Rattle.std.specs.declared.cmp.Ordering.TheVariants.{Less}
 use Rattle.std.specs.FinMap as map
 use Rattle.std.specs.FinMap.{find}
 use Rattle.std.specs.BTreeMap as tree
-use Rattle.std.proofs.lemmas.Option.{none-some}
 use Rattle.coda_fid.specs.Fid.{fid_cmp}
 use Rattle.coda_fid.specs.declared.fid.Fid.{Fid}
 use Rattle.coda_tree.specs.declared.node.Node.{Node}
 use Rattle.coda_tree.specs.Bindings.{Name}
-use Rattle.coda_tree.specs.Volume.{Nodes, changed_at, bind_in, bound, IsDir, IsDirAt, bindings, child, child_of}
+use Rattle.coda_tree.specs.Volume.{Nodes, bind_in, bound, IsDir, IsDirAt, bindings, child, child_of}
 use Rattle.coda_tree.specs.Table.{nodes_of, or_node}
 use Rattle.coda_tree.proofs.Order.{fid_cases, fids_total, exact_fids, apart, at_itself, get_here, get_else, gone_here, gone_else}
 use Rattle.coda_tree.proofs.Changes.{dir_node, get_changed, get_unchanged}
@@ -89,19 +88,28 @@ len_nodes (e ∷ entries) s =
     ∙ ap (λ (o : Option Node). cond (is_some o) (map.len (nodes_of entries)) (map.len (nodes_of entries) + 1)) (get_nodes entries e.0 ∙ below_none e.0 entries s.0)
     ∙ add-one (map.len (nodes_of entries)) ∙ ap suc (len_nodes entries s.1)
 
--- ---- a step of a copy: o is copied, n is copied so far and n' with one node more
-pub copy_step : (o n n' : Fid → Option Node) (left rest : List (Fid × Node)) (k : Fid) (node : Node) → left ≡ (k, node) ∷ rest → IsStrictlySortedBy fid_cmp (keys_of left) → ((q : Fid) → o q ≡ or_node (kept_at left q) (n q)) → ((q : Fid) → n' q ≡ cond (tree.is_at (fid_cmp k) q) (Some node) (n q)) → (IsStrictlySortedBy fid_cmp (keys_of rest)) × ((q : Fid) → o q ≡ or_node (kept_at rest q) (n' q))
+pub or_none : (o : Option Node) → or_node o None ≡ o
+or_none None = refl
+or_none (Some node) = refl
+
+-- ---- a copy: o is copied, m is copied so far, and m' with one node more
+pub copy_step : (o : Fid → Option Node) (m m' : Nodes) (left rest : List (Fid × Node)) (k : Fid) (node : Node) → left ≡ (k, node) ∷ rest → m' ≡ map.insert m k node → IsStrictlySortedBy fid_cmp (keys_of left)
+    → ((q : Fid) → o q ≡ or_node (kept_at left q) (map.get m q)) → (IsStrictlySortedBy fid_cmp (keys_of rest)) × ((q : Fid) → o q ≡ or_node (kept_at rest q) (map.get m' q))
 unfolding IsStrictlySortedBy
-copy_step o n n' left rest k node is sorted same put =
+copy_step o m m' left rest k node is put sorted same =
     let up : IsStrictlySortedBy fid_cmp (keys_of ((k, node) ∷ rest)) = subst (λ (l : List (Fid × Node)). IsStrictlySortedBy fid_cmp (keys_of l)) is sorted in
-    let was : (q : Fid) → o q ≡ or_node (cond (is_eq (fid_cmp q k)) (Some node) (kept_at rest q)) (n q) = λ q. same q ∙ ap (λ (l : List (Fid × Node)). or_node (kept_at l q) (n q)) is in (
+    let was : (q : Fid) → o q ≡ or_node (cond (is_eq (fid_cmp q k)) (Some node) (kept_at rest q)) (map.get m q) = λ q. same q ∙ ap (λ (l : List (Fid × Node)). or_node (kept_at l q) (map.get m q)) is in (
       up.1,
       λ q. elim (fid_cases q k) [
         | inl at ↦
-            was q ∙ ap (λ e. or_node (cond (is_eq (fid_cmp e k)) (Some node) (kept_at rest q)) (n q)) at ∙ ap (λ x. or_node x (n q)) (at_itself fids_total k (Some node) (kept_at rest q))
-            ∙ sym (ap (λ e. or_node (kept_at rest e) (n' q)) at ∙ ap (λ x. or_node x (n' q)) (below_none k rest up.0) ∙ put q ∙ ap (λ e. cond (tree.is_at (fid_cmp k) e) (Some node) (n q)) at ∙ changed_here k (Some node) (n q))
+            was q ∙ ap (λ e. or_node (cond (is_eq (fid_cmp e k)) (Some node) (kept_at rest q)) (map.get m q)) at ∙ ap (λ x. or_node x (map.get m q)) (at_itself fids_total k (Some node) (kept_at rest q))
+            ∙ sym (ap (λ e. or_node (kept_at rest e) (map.get m' e)) at ∙ ap (λ x. or_node x (map.get m' k)) (below_none k rest up.0) ∙ ap (λ (n : Nodes). map.get n k) put ∙ get_here fids_total m k node)
         | inr other ↦
-            was q ∙ ap (λ x. or_node x (n q)) (apart fid_cmp exact_fids q k (Some node) (kept_at rest q) other)
-            ∙ ap (λ x. or_node (kept_at rest q) x) (sym (put q ∙ changed_else k q (Some node) (n q) other))
+            was q ∙ ap (λ x. or_node x (map.get m q)) (apart fid_cmp exact_fids q k (Some node) (kept_at rest q) other)
+            ∙ ap (λ x. or_node (kept_at rest q) x) (sym (ap (λ (n : Nodes). map.get n q) put ∙ get_else fids_total exact_fids m k node q other))
       ],
     )
+
+-- and once nothing is left
+pub copied : (entries : List (Fid × Node)) (m : Nodes) → ((q : Fid) → kept_at entries q ≡ map.get m q) → m ≡ nodes_of entries
+copied entries m same = map.same_map fids_total exact_fids _ _ (λ q. sym (same q) ∙ sym (get_nodes entries q))

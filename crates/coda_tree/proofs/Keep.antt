@@ -1,0 +1,120 @@
+-- How the parents that a volume keeps follow its nodes.
+use Rattle.std.proofs.Common.{◌≡◌, ◌≢◌, true, false, cond, Some, None, is_some, refl, sym, ap, ◌∙◌, subst, inl, inr}
+use Rattle.std.specs.FinMap as map
+use Rattle.std.specs.BTreeMap as tree
+use Rattle.std.specs.BTreeMap.{BTreeMap}
+use Rattle.std.proofs.lemmas.Option.{none-some, same_Some}
+use Rattle.coda_fid.specs.Fid.{fid_cmp}
+use Rattle.coda_fid.specs.declared.fid.Fid.{Fid}
+use Rattle.coda_tree.specs.declared.node.Node.{Node}
+use Rattle.coda_tree.specs.Bindings.{Name}
+use Rattle.coda_tree.specs.Tree.{itself}
+use Rattle.coda_tree.specs.Volume.{Nodes, child, child_of, has, IsDirAt, IsDirNode, IsDir, IsLeaf, added, parent_of}
+use Rattle.coda_tree.specs.Keeping.{AreParents, IsKept}
+use Rattle.coda_tree.proofs.Order.{fid_cases, fids_total, exact_fids, get_here, get_else}
+use Rattle.coda_tree.proofs.Changes.{dir_node, addition, volume_added}
+use Rattle.coda_tree.proofs.Trees.{added_edge, more, not_new}
+use Rattle.coda_tree.proofs.Parents.{parent_is, parent_sound}
+use Rattle.coda_tree.proofs.Kept.{changed_here, changed_else}
+
+-- the kept parent is the directory that binds the fid
+pub kept_is_parent : {root : Fid} (m : Nodes) (parents : BTreeMap Fid Fid) → IsKept root m parents → (f : Fid) → tree.get fid_cmp parents f ≡ parent_of m f
+kept_is_parent m parents k f =
+    elim (tree.get fid_cmp parents f) as (λ o. tree.get fid_cmp parents f ≡ o → o ≡ parent_of m f) [
+      | Some p ↦ λ e. let bound = k.kept.parent f p e in sym (parent_is m k.volume p bound.0 f bound.1)
+      | None ↦ λ e. elim (parent_of m f) as (λ o. parent_of m f ≡ o → None ≡ o) [
+        | None ↦ λ _. refl
+        | Some p ↦ λ is. let bound = parent_sound m f p is in absurd (none-some p (sym e ∙ k.kept.binds p bound.0 f bound.1))
+      ] refl
+    ] refl
+
+-- nothing is kept beside a free fid
+pub no_parent : {root : Fid} (m : Nodes) (parents : BTreeMap Fid Fid) → IsKept root m parents → (f : Fid) → map.get m f ≡ None → tree.get fid_cmp parents f ≡ None
+no_parent m parents k f free =
+    elim (tree.get fid_cmp parents f) as (λ o. tree.get fid_cmp parents f ≡ o → o ≡ None) [
+      | None ↦ λ _. refl
+      | Some p ↦ λ e.
+          let bound = k.kept.parent f p e in
+          let there : is_some (map.get m f) ≡ true = k.volume.tree.there p bound.0 f bound.1 in
+          let free' : is_some (map.get m f) ≡ false = ap is_some free in
+          cc
+    ] refl
+
+-- parents that are the same at each fid serve as well
+pub parents_same : (m : Nodes) (old new : BTreeMap Fid Fid) → ((q : Fid) → tree.get fid_cmp new q ≡ tree.get fid_cmp old q) → AreParents m old → AreParents m new
+parents_same m old new same k = record {
+  parent = λ f p is. k.parent f p (sym (same f) ∙ is);
+  binds = λ p n f is. same f ∙ k.binds p n f is;
+}
+
+-- ---- a node added
+
+module _ {root : Fid} (m : Nodes) (old new : BTreeMap Fid Fid) (dir : Fid) (name : Name) (f : Fid) (node : Node) (put : (q : Fid) → tree.get fid_cmp new q ≡ cond (tree.is_at (fid_cmp f) q) (Some dir) (tree.get fid_cmp old q)) where
+  pub kept_added : IsKept root m old → IsDirAt m dir → child m dir name ≡ None → map.get m f ≡ None → IsLeaf node → IsKept root (added m dir name f node) new
+  kept_added k dir_there name_free free leaf =
+      let there = dir_node m dir dir_there in
+      let facts = addition m dir name f node there.0 there.1 free name_free leaf in
+      let here : tree.get fid_cmp new f ≡ Some dir = put f ∙ changed_here f (Some dir) (tree.get fid_cmp old f) in
+      let other : (q : Fid) → q ≢ f → tree.get fid_cmp new q ≡ tree.get fid_cmp old q = λ q differs. put q ∙ changed_else f q (Some dir) (tree.get fid_cmp old q) differs in
+      record {
+        volume = volume_added m dir name f node there.0 there.1 free k.volume name_free leaf;
+        kept = record {
+          parent = λ q p is. elim (fid_cases q f) [
+            | inl same ↦
+                let p_is : dir ≡ p = same_Some dir p (sym here ∙ ap (tree.get fid_cmp new) (sym same) ∙ is) in
+                (name, ap (λ e. child (added m dir name f node) e name) (sym p_is) ∙ facts.here ∙ ap Some (sym same))
+            | inr differs ↦
+                let was = k.kept.parent q p (sym (other q differs) ∙ is) in
+                (was.0, more k.volume.tree facts p was.0 q was.1)
+          ];
+          binds = λ p n q is. elim (added_edge k.volume.tree facts p n q is) [
+            | inl at ↦ ap (tree.get fid_cmp new) at.2 ∙ here ∙ ap Some (sym at.0)
+            | inr was ↦ other q (not_new k.volume.tree facts q (k.volume.tree.there p n q was)) ∙ k.kept.binds p n q was
+          ];
+        };
+      }
+
+-- a parent that was put beside a free fid and taken out again
+pub parent_taken_out : {root : Fid} (m : Nodes) (old more less : BTreeMap Fid Fid) (dir f : Fid) → IsKept root m old → map.get m f ≡ None
+    → ((q : Fid) → tree.get fid_cmp more q ≡ cond (tree.is_at (fid_cmp f) q) (Some dir) (tree.get fid_cmp old q))
+    → ((q : Fid) → tree.get fid_cmp less q ≡ cond (tree.is_at (fid_cmp f) q) None (tree.get fid_cmp more q)) → IsKept root m less
+parent_taken_out m old more less dir f k free put out = record {
+  volume = k.volume;
+  kept = parents_same m old less (λ q. elim (fid_cases q f) [
+    | inl same ↦ ap (tree.get fid_cmp less) same ∙ out f ∙ changed_here f None (tree.get fid_cmp more f) ∙ sym (ap (tree.get fid_cmp old) same ∙ no_parent m old k f free)
+    | inr other ↦ out q ∙ changed_else f q None (tree.get fid_cmp more q) other ∙ put q ∙ changed_else f q (Some dir) (tree.get fid_cmp old q) other
+  ]) k.kept;
+}
+
+-- ---- a root alone
+
+pub kept_root : (root : Fid) (node : Node) (parents : BTreeMap Fid Fid) → ((q : Fid) → tree.get fid_cmp parents q ≡ None) → IsDir node.kind → IsLeaf node → IsKept root (map.insert map.empty root node) parents
+kept_root root node parents none dir leaf =
+    let m : Nodes = map.insert map.empty root node in
+    let here : map.get m root ≡ Some node = get_here fids_total map.empty root node in
+    let else : (q : Fid) → q ≢ root → map.get m q ≡ None = λ q other. get_else fids_total exact_fids map.empty root node q other ∙ map.get-empty fid_cmp q in
+    let no_child : (d : Fid) (n : Name) → child m d n ≡ None = λ d n. elim (fid_cases d root) [
+      | inl same ↦ ap (λ e. child m e n) same ∙ ap (λ o. child_of o n) here ∙ leaf n
+      | inr other ↦ ap (λ o. child_of o n) (else d other)
+    ] in
+    let never : (d : Fid) (n : Name) (f : Fid) → child m d n ≡ Some f → ⊥ = λ d n f is. none-some f (sym (no_child d n) ∙ is) in
+    record {
+      volume = record {
+        tree = record {
+          rooted = ap is_some here;
+          unbound = λ d n is. never d n root is;
+          from = λ d n f is. absurd (never d n f is);
+          there = λ d n f is. absurd (never d n f is);
+          once = λ d n e k f is _. absurd (never d n f is);
+          reached = λ f is. elim (fid_cases f root) [
+            | inl same ↦ itself f same
+            | inr other ↦ let gone : has m f ≡ false = ap is_some (else f other) in cc
+          ];
+        };
+        top = subst IsDirNode (sym here) dir;
+      };
+      kept = record {
+        parent = λ f p is. absurd (none-some p (sym (none f) ∙ is));
+        binds = λ p n f is. absurd (never p n f is);
+      };
+    }
