@@ -1,7 +1,9 @@
 //! A Coda cell in one process, and the call that runs a script in it.
 #![tactic(auto)]
 
+mod client;
 mod forms;
 mod line;
 mod number;
+mod reply;
 mod words;
