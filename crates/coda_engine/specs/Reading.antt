@@ -29,8 +29,8 @@ pub record Place (M : Type 0) : Type 0 where
 
 -- after these lines and bytes, with this line under way, a byte more passes no limit
 pub record HasRoom (pending : List ℕ) (lines bytes : ℕ) : Type 0 where
-  pub few : bytes < 16777216
-  pub open : pending ≡ [] → lines < 200000
+  pub size : bytes < 16777216
+  pub count : pending ≡ [] → lines < 200000
 
 -- after these lines and bytes, with this line under way, a byte more passes a limit
 abbrev pub IsFull : List ℕ → ℕ → ℕ → Type 0

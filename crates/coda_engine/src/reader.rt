@@ -166,10 +166,10 @@ impl Reader {
         ensures later { K.faults sink.old ≤ K.faults sink.new }
         ensures sink_fault { result ≡ Status.SinkFault → Rose (K.faults sink.old) (K.faults sink.new) }
     {
-        if self.pending.is_empty() {
+        let line = self.pending.as_slice();
+        if line.is_empty() {
             return Status::Done;
         }
-        let line = self.pending.as_slice();
         match run_line(self.alloc, machine, self.lines + 1, line, sink) {
             Ok(()) => Status::Done,
             Err(status) => status,
