@@ -18,10 +18,17 @@ pub runs_more : {M : Type 0} (gives : Gives M) (old mid new : M) (ls : List (Lis
     → Runs gives old ls report outside mid → gives mid line text answered new → Runs gives old (ls ++ line ∷ []) (report ++ text) (outside ++ answered) new
 runs_more gives old mid new [] line report text outside answered run did =
     (new, text, [], answered, [], rw (← run.2) did, (refl, refl, refl), rw (run.0, append-nil text) refl, rw (run.1, append-nil answered) refl)
-runs_more gives old mid new (l ∷ ls) line report text outside answered run did =
-    ( run.0, run.1, run.2 ++ text, run.3, run.4 ++ answered, run.5
-    , runs_more gives run.0 mid new ls line run.2 text run.4 answered run.6 did
-    , rw (run.7, append_assoc run.1 run.2 text) refl, rw (run.8, append_assoc run.3 run.4 answered) refl )
+runs_more gives old mid new (l ∷ ls) line report text outside answered run did = (
+  run.0,
+  run.1,
+  run.2 ++ text,
+  run.3,
+  run.4 ++ answered,
+  run.5,
+  runs_more gives run.0 mid new ls line run.2 text run.4 answered run.6 did,
+  rw (run.7, append_assoc run.1 run.2 text) refl,
+  rw (run.8, append_assoc run.3 run.4 answered) refl,
+)
 
 -- where the input may go on, what ran is whole lines
 pub whole_of : {M : Type 0} {gives : Gives M} {start : M} {read front rest report : List ℕ} {outside : List (List ℕ)} {state : M}

@@ -2,7 +2,7 @@ use Rattle.std.proofs.Common.{◌≡◌, ◌≢◌, ℕ, ◌-◌, ◌<◌, ◌�
 use Rattle.std.proofs.lemmas.List.{length-take-le}
 use Rattle.std.specs.Io.KnownBytes.{Consumes}
 use Rattle.coda_engine.specs.Place.{place}
-use Rattle.coda_engine.proofs.Going.{goes_start, goes_more, goes_counted, goes_stop, goes_no_source_fault, goes_end, goes_fault}
+use Rattle.coda_engine.proofs.Going.{goes_start, goes_more, goes_counted, goes_stop, goes_no_source_fault, goes_end}
 use Rattle.coda_engine.proofs.running.run_pieces.Goals as goal
 
 pub loop-reader-init : goal.loop-reader-init
