@@ -7,7 +7,7 @@ use Rattle.std.proofs.lemmas.Bool.{false≢true, eqb-false}
 use Rattle.std.proofs.Math.Dec.{eqb-suc-zero}
 use Rattle.std.proofs.KnownBytes.{Appends-nil, Appends-trans}
 use Rattle.coda_engine.specs.Machine.{Gives, Refuses}
-use Rattle.coda_engine.specs.Run.{Ran, Answers}
+use Rattle.coda_engine.specs.Run.{Ran, BrokeOff, Answers}
 use Rattle.coda_engine.specs.Reading.{Place, HasRoom, IsFull, Stands, StopsAmong, Advances, Stops, Ends, LineStops}
 use Rattle.coda_engine.specs.declared.status.Status.{Status}
 use Rattle.coda_engine.specs.declared.status.Status.TheVariants.{Done, Usage, Script, SourceFault, SinkFault, TooLong, Memory}
@@ -26,6 +26,29 @@ advances_more a b c p q r bs cs first then = (
   λ start read report outside s. rw (← append_assoc read bs cs, ← append_assoc report first.0 then.0, ← append_assoc outside first.1 then.1)
       (then.3 start (read ++ bs) (report ++ first.0) (outside ++ first.1) (first.3 start read report outside s)),
 )
+
+-- the reply that was written in part stays so, whatever was read besides
+broke_more : {M : Type 0} {gives : Gives M} {start : M} (read front rest written more : List ℕ) (outside : List (List ℕ)) (new : M)
+    → BrokeOff gives start false read front rest written outside new → BrokeOff gives start false (read ++ more) front (rest ++ more) written outside new
+broke_more read front rest written more outside new b = record {
+  split = rw (b.split, append_assoc front rest more) refl;
+  whole = elim b.whole [ inl whole ↦ inl whole | inr ended ↦ absurd (false≢true ended.0) ];
+  within = b.within;
+  before = b.before;
+  line = b.line;
+  same = b.same;
+  report = b.report;
+  answers = b.answers;
+  state = b.state;
+  runs = b.runs;
+  part = b.part;
+  missing = b.missing;
+  answered = b.answered;
+  did = b.did;
+  some = b.some;
+  wrote = b.wrote;
+  said = b.said;
+}
 
 -- what ends a run among these bytes ends it among these and more
 pub stops_more : {M : Type 0} (gives : Gives M) (refuses : Refuses M) (start new : M) (read written more : List ℕ) (outside : List (List ℕ)) (status : Status)
@@ -51,8 +74,7 @@ stops_more gives refuses start new read written more outside TooLong h = (
   ran_more false read h.0 h.1 written more outside new h.2,
   (h.3.0, h.3.1, h.3.2 ++ more, rw (h.3.3, append_assoc h.3.0 (h.3.1 ∷ h.3.2) more) refl, h.3.4, h.3.5, h.3.6),
 )
-stops_more gives refuses start new read written more outside SinkFault h =
-    (h.0, h.1 ++ more, h.2, ran_more false read h.0 h.1 h.2 more outside new h.3, h.4)
+stops_more gives refuses start new read written more outside SinkFault h = (h.0, h.1 ++ more, broke_more read h.0 h.1 written more outside new h.2)
 stops_more gives refuses start new read written more outside Memory h =
     (h.0, (h.1.0, h.1.1 ++ more, h.1.2, ran_more false read h.1.0 h.1.1 h.1.2 more outside h.0 h.1.3, h.1.4))
 
@@ -72,6 +94,28 @@ ran_all : {M : Type 0} {gives : Gives M} {start : M} (all : Bool) (read front re
     → Ran gives start false read front rest report outside state → Ran gives start all read front rest report outside state
 ran_all all read front rest report outside state ran = record { split = ran.split; whole = inl (whole_of ran); within = ran.within; runs = ran.runs }
 
+broke_all : {M : Type 0} {gives : Gives M} {start : M} (all : Bool) (read front rest written : List ℕ) (outside : List (List ℕ)) (new : M)
+    → BrokeOff gives start false read front rest written outside new → BrokeOff gives start all read front rest written outside new
+broke_all all read front rest written outside new b = record {
+  split = b.split;
+  whole = elim b.whole [ inl whole ↦ inl whole | inr ended ↦ absurd (false≢true ended.0) ];
+  within = b.within;
+  before = b.before;
+  line = b.line;
+  same = b.same;
+  report = b.report;
+  answers = b.answers;
+  state = b.state;
+  runs = b.runs;
+  part = b.part;
+  missing = b.missing;
+  answered = b.answered;
+  did = b.did;
+  some = b.some;
+  wrote = b.wrote;
+  said = b.said;
+}
+
 -- a run that ended on the way has its status whatever came after
 pub answers_all : {M : Type 0} (gives : Gives M) (refuses : Refuses M) (start new : M) (all : Bool) (read written : List ℕ) (outside : List (List ℕ)) (status : Status)
     → StopsAmong gives refuses start new read written outside status → Answers gives refuses start new all read written outside status
@@ -81,7 +125,7 @@ answers_all gives refuses start new all read written outside SourceFault h = abs
 answers_all gives refuses start new all read written outside (Script line column kind) h =
     (h.0, h.1, h.2, h.3, elim h.4 [ inl n ↦ inl n | inr n ↦ absurd (false≢true n.0) ], h.5, h.6)
 answers_all gives refuses start new all read written outside TooLong h = h
-answers_all gives refuses start new all read written outside SinkFault h = (h.0, h.1, h.2, ran_all all read h.0 h.1 h.2 outside new h.3, h.4)
+answers_all gives refuses start new all read written outside SinkFault h = (h.0, h.1, broke_all all read h.0 h.1 written outside new h.2)
 answers_all gives refuses start new all read written outside Memory h = (h.0, (h.1.0, h.1.1, h.1.2, ran_all all read h.1.0 h.1.1 h.1.2 outside h.0 h.1.3, h.1.4))
 
 -- a list of no length is empty, and others aren't
@@ -112,6 +156,30 @@ last_ran read report text outside answered new p s some gives =
     let ls : lines read ≡ lines s.front ++ p.pending ∷ [] = rw (s.ran.split, lines-more s.front p.pending whole, lines-last p.pending s.partial some) refl in
     record { split = sym (append-nil read); whole = inr (refl, refl); within = s.within; runs = rw ls (runs_more _ _ _ _ _ _ _ _ _ _ s.ran.runs gives) }
 
+-- the reply to a last line without a newline was written in part
+last_broke : {M : Type 0} {gives : Gives M} {start : M} (read report part missing : List ℕ) (outside answered : List (List ℕ)) (new : M) (p : Place M)
+    → Stands gives start read report outside p → p.pending ≢ [] → gives p.state p.pending (part ++ missing) answered new → missing ≢ []
+    → BrokeOff gives start true read read [] (report ++ part) (outside ++ answered) new
+last_broke read report part missing outside answered new p s some did left = record {
+  split = sym (append-nil read);
+  whole = inr (refl, refl);
+  within = s.within;
+  before = lines s.front;
+  line = p.pending;
+  same = rw (s.ran.split, lines-more s.front p.pending (whole_of s.ran), lines-last p.pending s.partial some) refl;
+  report = report;
+  answers = outside;
+  state = p.state;
+  runs = s.ran.runs;
+  part = part;
+  missing = missing;
+  answered = answered;
+  did = did;
+  some = left;
+  wrote = refl;
+  said = refl;
+}
+
 pub ends_last : {M : Type 0} (gives : Gives M) (refuses : Refuses M) (a b : Option (List ℕ)) (p : Place M) (text : List ℕ) (answered : List (List ℕ)) (new : M)
     → p.pending ≢ [] → Appends a b text → gives p.state p.pending text answered new → Ends gives refuses a b p new Done
 ends_last gives refuses a b p text answered new some held did =
@@ -131,11 +199,10 @@ ends_stop gives refuses a b p new (Script line column kind) some h = (
       (s.front, p.pending, p.pending, s.ran, inr (refl, s.partial, some, rw (← s.ran.split) s.within, refl), h.2, rw h.1 (ap (λ n. n + 1) s.count)),
 )
 ends_stop gives refuses a b p new SinkFault some h = (
+  h.0,
   h.2,
-  h.1,
-  h.4,
-  λ start read report outside s.
-      (read, [], report ++ h.0, last_ran read report h.0 outside h.1 new p s some h.3, (h.5.0, rw (h.5.1, append_assoc report h.2 h.5.0) refl)),
+  h.5,
+  λ start read report outside s. (read, [], last_broke read report h.0 h.1 outside h.2 new p s some h.3 h.4),
 )
 ends_stop gives refuses a b p new Memory some h = (
   [],
@@ -175,5 +242,5 @@ line_stops gives refuses a b p new TooLong free h = absurd h
 line_stops gives refuses a b p new (Script line column kind) free h =
     ([], [], h.0, λ start read report outside s. rw (h.1, h.3) (stop_script gives refuses read report outside column kind p s free h.2))
 line_stops gives refuses a b p new SinkFault free h =
-    (h.2, h.1, h.4, λ start read report outside s. stop_sink gives refuses read report h.0 h.2 outside h.1 new p s free h.3 h.5)
+    (h.0, h.2, h.5, λ start read report outside s. stop_sink gives refuses read report h.0 h.1 outside h.2 new p s free h.3 h.4)
 line_stops gives refuses a b p new Memory free h = memory_stops gives refuses a b p new (10 ∷ []) h

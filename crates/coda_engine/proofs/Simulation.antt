@@ -1,7 +1,7 @@
 -- What a machine reports, a plainer machine reports whose states it shows.
-use Rattle.std.proofs.Common.{◌≢◌, ℕ, Bool, List, [], ◌∷◌, refl, Option}
+use Rattle.std.proofs.Common.{◌≢◌, ℕ, Bool, List, [], ◌∷◌, ◌++◌, refl, Option}
 use Rattle.coda_engine.specs.Machine.{Gives, Refuses}
-use Rattle.coda_engine.specs.Run.{Runs, Ran, Answers, Reports, is_at_end}
+use Rattle.coda_engine.specs.Run.{Runs, Ran, BrokeOff, Answers, Reports, is_at_end}
 use Rattle.coda_engine.specs.declared.status.Kind.{Kind}
 use Rattle.coda_engine.specs.declared.status.Status.{Status}
 use Rattle.coda_engine.specs.declared.status.Status.TheVariants.{Done, Usage, Script, SourceFault, SinkFault, TooLong, Memory}
@@ -30,6 +30,36 @@ ran_shown sim p m m' all read front rest report outside shows ran =
     let run = runs_shown sim p m m' _ report outside shows ran.runs in
     (run.0, record { split = ran.split; whole = ran.whole; within = ran.within; runs = run.1 }, run.2)
 
+-- the lines in front of what was read, the last with a reply that was written in part
+pub broke_shown : {P M : Type 0} {Shows : P → M → Type 0} {plain : Gives P} {plain_refuses : Refuses P} {gives : Gives M} {refuses : Refuses M} → Simulates Shows plain plain_refuses gives refuses
+    → (p : P) (m m' : M) (all : Bool) (read front rest written : List ℕ) (outside : List (List ℕ)) → Shows p m → BrokeOff gives m all read front rest written outside m'
+    → (p' : P) × BrokeOff plain p all read front rest written outside p' × Shows p' m'
+broke_shown sim p m m' all read front rest written outside shows b =
+    let run = runs_shown sim p m b.state b.before b.report b.answers shows b.runs in
+    let last = sim.step run.0 b.state m' b.line (b.part ++ b.missing) b.answered run.2 b.did in (
+      last.0,
+      record {
+        split = b.split;
+        whole = b.whole;
+        within = b.within;
+        before = b.before;
+        line = b.line;
+        same = b.same;
+        report = b.report;
+        answers = b.answers;
+        state = run.0;
+        runs = run.1;
+        part = b.part;
+        missing = b.missing;
+        answered = b.answered;
+        did = last.1;
+        some = b.some;
+        wrote = b.wrote;
+        said = b.said;
+      },
+      last.2,
+    )
+
 -- the answers of a run, by its status
 pub answers_shown : {P M : Type 0} {Shows : P → M → Type 0} {plain : Gives P} {plain_refuses : Refuses P} {gives : Gives M} {refuses : Refuses M} → Simulates Shows plain plain_refuses gives refuses
     → (p : P) (m m' : M) (all : Bool) (read written : List ℕ) (outside : List (List ℕ)) (status : Status) → Shows p m → Answers gives refuses m m' all read written outside status
@@ -48,8 +78,8 @@ answers_shown sim p m m' all read written outside SourceFault shows a =
     let ran = ran_shown sim p m m' _ read a.0 a.1 written outside shows a.2 in
     (ran.0, (a.0, a.1, ran.1, a.3, a.4), λ other. ran.2)
 answers_shown sim p m m' all read written outside SinkFault shows a =
-    let ran = ran_shown sim p m m' all read a.0 a.1 a.2 outside shows a.3 in
-    (ran.0, (a.0, a.1, a.2, ran.1, a.4), λ other. ran.2)
+    let broke = broke_shown sim p m m' all read a.0 a.1 written outside shows a.2 in
+    (broke.0, (a.0, a.1, broke.1), λ other. broke.2)
 answers_shown sim p m m' all read written outside Memory shows a =
     let cut = a.1 in
     let ran = ran_shown sim p m a.0 all read cut.0 cut.1 cut.2 outside shows cut.3 in

@@ -7,7 +7,7 @@ use Rattle.std.proofs.lemmas.Bool.{false≢true}
 use Rattle.std.proofs.lemmas.Bool.Decides.{eqb_tells}
 use Rattle.coda_engine.specs.Lines.{HasNoNewline, IsWholeLines, IsWithinLimits}
 use Rattle.coda_engine.specs.Machine.{Gives, Refuses}
-use Rattle.coda_engine.specs.Run.{Runs, Ran, IsPrefix, Answers}
+use Rattle.coda_engine.specs.Run.{Runs, Ran, Answers}
 use Rattle.coda_engine.specs.Reading.{Place, HasRoom, IsFull, Stands}
 use Rattle.coda_engine.specs.declared.status.Kind.{Kind}
 use Rattle.coda_engine.specs.declared.status.Status.TheVariants.{Script, SinkFault, TooLong, Memory}
@@ -171,13 +171,33 @@ stop_script gives refuses read report outside column kind place s free refused =
     )
 
 -- a reply that was written in part
-pub stop_sink : {M : Type 0} (gives : Gives M) (refuses : Refuses M) {start : M} (read report text written : List ℕ) (outside answered : List (List ℕ)) (new : M) (place : Place M)
+pub stop_sink : {M : Type 0} (gives : Gives M) (refuses : Refuses M) {start : M} (read report part missing : List ℕ) (outside answered : List (List ℕ)) (new : M) (place : Place M)
     → Stands gives start read report outside place → HasRoom place.pending place.lines place.bytes
-    → gives place.state (strip_carriage_return place.pending) text answered new → IsPrefix written text
-    → Answers gives refuses start new false (read ++ 10 ∷ []) (report ++ written) (outside ++ answered) SinkFault
-stop_sink gives refuses read report text written outside answered new place s free did prefix =
-    let after = stands_line read report text outside answered place (record { state = new; pending = []; lines = place.lines + 1; bytes = place.bytes + 1 }) s free did refl refl refl in
-    (after.front, [], report ++ text, after.ran, (prefix.0, rw (prefix.1, append_assoc report written prefix.0) refl))
+    → gives place.state (strip_carriage_return place.pending) (part ++ missing) answered new → missing ≢ []
+    → Answers gives refuses start new false (read ++ 10 ∷ []) (report ++ part) (outside ++ answered) SinkFault
+stop_sink gives refuses read report part missing outside answered new place s free did some = (
+  read ++ 10 ∷ [],
+  [],
+  record {
+    split = rw (append-nil (read ++ 10 ∷ [])) refl;
+    whole = inl (inr (read, refl));
+    within = within_more read report outside 10 place s free;
+    before = lines s.front;
+    line = strip_carriage_return place.pending;
+    same = rw s.ran.split (lines_closed s.front place.pending (whole_of s.ran) s.partial);
+    report = report;
+    answers = outside;
+    state = place.state;
+    runs = s.ran.runs;
+    part = part;
+    missing = missing;
+    answered = answered;
+    did = did;
+    some = some;
+    wrote = refl;
+    said = refl;
+  },
+)
 
 -- want of memory
 pub stop_memory : {M : Type 0} (gives : Gives M) (refuses : Refuses M) {start : M} (new : M) (read report more : List ℕ) (outside : List (List ℕ)) (place : Place M)

@@ -1,10 +1,10 @@
 -- Where a reader of a script stands between two bytes.
-use Rattle.std.specs.Prelude.{◌≡◌, ℕ, ◌<◌, ◌≤◌, ◌⊎◌, true, false, List, [], ◌++◌, length, Option}
+use Rattle.std.specs.Prelude.{◌≡◌, ◌≢◌, ℕ, ◌<◌, ◌≤◌, ◌⊎◌, true, false, List, [], ◌++◌, length, Option}
 use Rattle.std.specs.Str.Lines.{lines}
 use Rattle.std.specs.Io.KnownBytes.{Appends, Consumes}
 use Rattle.coda_engine.specs.Lines.{HasNoNewline, IsWithinLimits}
 use Rattle.coda_engine.specs.Machine.{Gives, Refuses}
-use Rattle.coda_engine.specs.Run.{Ran, Answers, IsPrefix}
+use Rattle.coda_engine.specs.Run.{Ran, Answers}
 use Rattle.coda_engine.specs.declared.status.Status.{Status}
 use Rattle.coda_engine.specs.declared.status.Status.TheVariants.{Done, Usage, Script, SourceFault, SinkFault, TooLong, Memory}
 
@@ -13,7 +13,8 @@ abbrev pub LineStops : {M : Type 0} → Gives M → Refuses M → Option (List �
 LineStops gives refuses held_old held_new old new line number (Script at column kind) =
     Appends held_old held_new [] × (at ≡ number) × refuses old line column kind × (new ≡ old)
 LineStops gives refuses held_old held_new old new line number SinkFault =
-    (text : List ℕ) × (answered : List (List ℕ)) × (written : List ℕ) × gives old line text answered new × Appends held_old held_new written × IsPrefix written text
+    (part : List ℕ) × (missing : List ℕ) × (answered : List (List ℕ)) × gives old line (part ++ missing) answered new × (missing ≢ [])
+    × Appends held_old held_new part
 LineStops gives refuses held_old held_new old new line number Memory = Appends held_old held_new []
 LineStops gives refuses held_old held_new old new line number Done = ⊥
 LineStops gives refuses held_old held_new old new line number Usage = ⊥

@@ -44,6 +44,27 @@ abbrev pub IsCutShort : {M : Type 0} → Gives M → M → M → Bool → List �
 IsCutShort gives start new all read written outside =
     (front : List ℕ) × (rest : List ℕ) × (report : List ℕ) × Ran gives start all read front rest report outside new × IsPrefix written report
 
+-- Of the bytes read, those in front are whole lines within the limits, and the machine ran them. Of the reply to the last of
+-- them only a front was written, behind the whole report of the lines before it.
+pub record BrokeOff {M : Type 0} (gives : Gives M) (start : M) (all : Bool) (read front rest written : List ℕ) (outside : List (List ℕ)) (new : M) : Type 0 where
+  pub split : read ≡ front ++ rest
+  pub whole : IsWholeLines front ⊎ (IsTrue all × (rest ≡ []))
+  pub within : IsWithinLimits front
+  pub before : List (List ℕ)
+  pub line : List ℕ
+  pub same : lines front ≡ before ++ line ∷ []
+  pub report : List ℕ
+  pub answers : List (List ℕ)
+  pub state : M
+  pub runs : Runs gives start before report answers state
+  pub part : List ℕ
+  pub missing : List ℕ
+  pub answered : List (List ℕ)
+  pub did : gives state line (part ++ missing) answered new
+  pub some : missing ≢ []
+  pub wrote : written ≡ report ++ part
+  pub said : outside ≡ answers ++ answered
+
 -- A run from start that left new, read these bytes, which may be all there are, wrote these, and had these answers of the
 -- outside may have this status.
 abbrev pub Answers : {M : Type 0} → Gives M → Refuses M → M → M → Bool → List ℕ → List ℕ → List (List ℕ) → Status → Type 0
@@ -60,7 +81,8 @@ Answers gives refuses start new all read written outside TooLong =
 Answers gives refuses start new all read written outside SourceFault =
     (front : List ℕ) × (rest : List ℕ) × Ran gives start false read front rest written outside new × HasNoNewline rest × IsWithinLimits read
 -- the lines up to the one whose reply wasn't written whole ran
-Answers gives refuses start new all read written outside SinkFault = IsCutShort gives start new all read written outside
+Answers gives refuses start new all read written outside SinkFault =
+    (front : List ℕ) × (rest : List ℕ) × BrokeOff gives start all read front rest written outside new
 -- some whole lines ran; what the machine is after the line that found no memory isn't said
 Answers {M} gives refuses start new all read written outside Memory = (state : M) × IsCutShort gives start state all read written outside
 -- a run has other statuses

@@ -1,5 +1,5 @@
 // The writing of a text in as many calls as it takes.
-ghost use Rattle.std.specs.Prelude.{◌≡◌, ℕ, ◌≤◌, length, take, OnOk, OnErr};
+ghost use Rattle.std.specs.Prelude.{◌≡◌, ℕ, ◌<◌, length, take, OnOk, OnErr};
 ghost use Rattle.std.specs.Io.KnownBytes.{Appends};
 ghost use Rattle.coda_io.specs.Faults.{HasCause};
 
@@ -9,10 +9,10 @@ use coda_io::{Sink, WriteFault};
 ///
 /// # Errors
 ///
-/// `WriteFault` where a call was refused or took nothing: the sink took some of the bytes then.
+/// `WriteFault` where a call was refused or took nothing: the sink took some of the bytes then, but not all.
 pub fn write_all<K: Sink>(sink: &mut K, bytes: &[u8]) -> Result<(), WriteFault>
     ensures ok { OnOk result (Appends (K.held sink.old) (K.held sink.new) bytes.now) }
-    ensures err { OnErr result ((n : ℕ) × (n ≤ length bytes.now) × Appends (K.held sink.old) (K.held sink.new) (take n bytes.now)) }
+    ensures err { OnErr result ((n : ℕ) × (n < length bytes.now) × Appends (K.held sink.old) (K.held sink.new) (take n bytes.now)) }
     ensures cause { HasCause (K.faults sink.old) (K.faults sink.new) result }
 {
     let mut done = 0;
