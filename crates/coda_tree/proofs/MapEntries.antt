@@ -8,7 +8,7 @@ use Rattle.std.specs.FinMap as map
 use Rattle.std.specs.FinMap.{FinMap}
 use Rattle.std.specs.FinMap.Entries.{is_sorted, find, below_all}
 use Rattle.std.proofs.lemmas.Option.{same_Some, none-some}
-use Rattle.coda_tree.proofs.Tests.{and_true, lt_less, from_T}
+use Rattle.coda_tree.proofs.Booleans.{and_true, lt_less, from_T}
 use Rattle.coda_tree.proofs.Order.{at_itself}
 
 module _ {K X : Type 0} {R : K → K → Ordering} (o : IsTotalOrder R) where
