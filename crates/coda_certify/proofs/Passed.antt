@@ -8,10 +8,10 @@ use Rattle.coda_tree.specs.declared.node.Node.{Node}
 use Rattle.coda_tree.specs.declared.node.NodeKind.{NodeKind}
 use Rattle.coda_tree.specs.declared.node.NodeKind.TheVariants.{File, Link, Dir}
 use Rattle.coda_tree.specs.Bindings.{Name}
-use Rattle.coda_tree.specs.Volume.{Nodes, child, IsDir, IsDirNode, IsDirAt}
+use Rattle.coda_tree.specs.Volume.{Nodes, child, IsDir, IsDirNode, added}
 use Rattle.coda_certify.specs.declared.reason.Reason.{Reason}
-use Rattle.coda_certify.specs.Checks.{◌otherwise◌, where_true, is_no_dir, no_dir_of, marked_of, name_taken_of, fid_used_of, full_of, creation_checks, first_reason, certify}
-use Rattle.coda_certify.specs.Replay.{MayCreate, MayApply}
+use Rattle.coda_certify.specs.Checks.{◌otherwise◌, where_true, is_no_dir, no_dir_of, marked_of, name_taken_of, fid_used_of, creation_checks, first_reason, certify}
+use Rattle.coda_certify.specs.Replay.{empty_file, empty_dir, applied, MayCreate, MayApply}
 
 -- what follows the last check changes nothing
 pub otherwise-None : (o : Option Reason) → (o otherwise None) ≡ o
@@ -62,3 +62,12 @@ pub may_apply : (m : Nodes) (op : Op) → certify m op ≡ None → MayApply m o
 unfolding certify
 may_apply m (Create dir name fid mode owner) h = may_create m dir name fid h
 may_apply m (Mkdir dir name fid mode owner) h = may_create m dir name fid h
+
+-- what a creation adds
+pub applied-Create : (m : Nodes) (client number time : ℕ) (dir : Fid) (name : Name) (fid : Fid) (mode owner : ℕ) → applied m client (record { number = number; time = time; op = Create dir name fid mode owner }) ≡ added m dir name fid (empty_file mode owner time (record { client = client; number = number }))
+unfolding applied added
+applied-Create m client number time dir name fid mode owner = refl
+
+pub applied-Mkdir : (m : Nodes) (client number time : ℕ) (dir : Fid) (name : Name) (fid : Fid) (mode owner : ℕ) → applied m client (record { number = number; time = time; op = Mkdir dir name fid mode owner }) ≡ added m dir name fid (empty_dir mode owner time (record { client = client; number = number }))
+unfolding applied added
+applied-Mkdir m client number time dir name fid mode owner = refl

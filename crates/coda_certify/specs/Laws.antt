@@ -1,5 +1,5 @@
 -- What the verdict of a replay says of its records.
-use Rattle.std.specs.Prelude.{◌≡◌, ℕ, Option, Some, None, Ok, Err, List, ◌∷◌, ◌++◌}
+use Rattle.std.specs.Prelude.{◌≡◌, ℕ, Some, None, Ok, Err, List, ◌∷◌, ◌++◌}
 use Rattle.coda_fid.specs.declared.op.Record.{Record}
 use Rattle.coda_tree.specs.Volume.{Nodes}
 use Rattle.coda_certify.specs.declared.reason.Reason.{Reason}

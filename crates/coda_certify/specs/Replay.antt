@@ -18,10 +18,18 @@ use Rattle.coda_certify.specs.Checks.{certify}
 abbrev pub made : NodeKind → ℕ → ℕ → ℕ → Sid → Node
 made kind mode owner time sid = record { kind = kind; mode = mode; owner = owner; mtime = time; sid = sid; marked = false }
 
+-- the empty file that a creation puts
+abbrev pub empty_file : ℕ → ℕ → ℕ → Sid → Node
+empty_file mode owner time sid = made (File []) mode owner time sid
+
+-- the empty directory that a creation puts
+abbrev pub empty_dir : ℕ → ℕ → ℕ → Sid → Node
+empty_dir mode owner time sid = made (Dir map.empty) mode owner time sid
+
 -- the edits that an operation of this time and name is
 abbrev pub effects : ℕ → Sid → Op → List Edit
-effects time sid (Create dir name fid mode owner) = additions dir name fid (made (File []) mode owner time sid)
-effects time sid (Mkdir dir name fid mode owner) = additions dir name fid (made (Dir map.empty) mode owner time sid)
+effects time sid (Create dir name fid mode owner) = additions dir name fid (empty_file mode owner time sid)
+effects time sid (Mkdir dir name fid mode owner) = additions dir name fid (empty_dir mode owner time sid)
 
 -- what a creation may rely on once it is certified: a directory is there, and name and fid are free
 pub record MayCreate (m : Nodes) (dir : Fid) (name : Name) (fid : Fid) : Type 0 where

@@ -1,5 +1,5 @@
 -- The verdict of a replay, and the nodes that it leaves.
-use Rattle.std.specs.Prelude.{ℕ, Ok, Err}
+use Rattle.std.specs.Prelude.{Ok, Err}
 use Rattle.coda_tree.specs.Volume.{Nodes}
 use Rattle.coda_certify.specs.declared.verdict.Verdict.{Verdict}
 use Rattle.coda_certify.specs.declared.verdict.Verdict.TheVariants.{Applied, Conflict}

@@ -1,7 +1,7 @@
-ghost use Rattle.std.specs.Prelude.{◌≡◌, None, OnOk, OnErr};
+ghost use Rattle.std.specs.Prelude.{◌≡◌, None, IfOk, OnOk, OnErr};
 ghost use Rattle.coda_tree.specs.Volume.{added, IsLeaf};
 ghost use Rattle.coda_certify.specs.Checks.{certify as certify_op};
-ghost use Rattle.coda_certify.specs.Replay.{made, applied, sid_of, MayCreate, MayApply};
+ghost use Rattle.coda_certify.specs.Replay.{made, empty_file, empty_dir, applied, sid_of, MayCreate, MayApply};
 
 use coda_fid::{Bytes, Fid, Name, Op, Record, Sid};
 use coda_tree::{Entries, Node, NodeKind, NodeTable, Volume};
@@ -27,6 +27,21 @@ fn make(kind: NodeKind, mode: u16, owner: u32, mtime: u64, sid: Sid) -> Node
         sid,
         marked: false,
     }
+}
+
+fn new_file(alloc: Global, mode: u16, owner: u32, mtime: u64, sid: Sid) -> Result<Node, AllocError>
+    ensures made { IfOk result (λ node. node ≡ empty_file mode owner mtime sid) }
+    ensures leaf { IfOk result IsLeaf }
+{
+    let content = Bytes::of(alloc, &[])?;
+    Ok(make(NodeKind::File(content), mode, owner, mtime, sid))
+}
+
+fn new_dir(alloc: Global, mode: u16, owner: u32, mtime: u64, sid: Sid) -> Node
+    ensures made { result ≡ empty_dir mode owner mtime sid }
+    ensures leaf { IsLeaf result }
+{
+    make(NodeKind::Dir(Entries::new(alloc)), mode, owner, mtime, sid)
 }
 
 fn create(
@@ -83,9 +98,8 @@ pub fn apply(alloc: Global, volume: &mut Volume, client: u8, rec: &Record) -> Re
             mode,
             owner,
         } => {
-            let content = Bytes::of(alloc, &[])?;
-            let node = make(NodeKind::File(content), *mode, *owner, rec.time, sid);
-            create(volume, *dir, name, *fid, node)
+            let file = new_file(alloc, *mode, *owner, rec.time, sid)?;
+            create(volume, *dir, name, *fid, file)
         }
         Op::Mkdir {
             dir,
@@ -94,9 +108,8 @@ pub fn apply(alloc: Global, volume: &mut Volume, client: u8, rec: &Record) -> Re
             mode,
             owner,
         } => {
-            let entries = Entries::new(alloc);
-            let node = make(NodeKind::Dir(entries), *mode, *owner, rec.time, sid);
-            create(volume, *dir, name, *fid, node)
+            let new = new_dir(alloc, *mode, *owner, rec.time, sid);
+            create(volume, *dir, name, *fid, new)
         }
     }
 }
@@ -127,8 +140,7 @@ pub fn apply_to_table(
             mode,
             owner,
         } => {
-            let content = Bytes::of(alloc, &[])?;
-            let node = make(NodeKind::File(content), *mode, *owner, rec.time, sid);
+            let node = new_file(alloc, *mode, *owner, rec.time, sid)?;
             create_in_table(table, *dir, name, *fid, node)
         }
         Op::Mkdir {
@@ -138,8 +150,7 @@ pub fn apply_to_table(
             mode,
             owner,
         } => {
-            let entries = Entries::new(alloc);
-            let node = make(NodeKind::Dir(entries), *mode, *owner, rec.time, sid);
+            let node = new_dir(alloc, *mode, *owner, rec.time, sid);
             create_in_table(table, *dir, name, *fid, node)
         }
     }
