@@ -6,3 +6,7 @@ pub mod Plain
 pub mod Ask
 pub mod Asking
 pub mod Code
+pub mod Steps
+pub mod Cells
+pub mod Printing
+pub mod Texts
