@@ -1,11 +1,41 @@
--- What an operation names.
-use Rattle.std.specs.Prelude.{Bool, false, ◌||◌, Option, Some, None}
+-- What an operation names, carries and weighs.
+use Rattle.std.specs.Prelude.{ℕ, ◌+◌, Bool, if◌then◌else◌, Option, Some, None, List, [], ◌∷◌, length}
+use Rattle.std.specs.List.{list_any}
 use Rattle.coda_fid.specs.declared.fid.Fid.{Fid}
+use Rattle.coda_fid.specs.declared.fid.Sid.{Sid}
+use Rattle.coda_fid.specs.declared.op.Over.{Over}
 use Rattle.coda_fid.specs.declared.op.Op.{Op}
 use Rattle.coda_fid.specs.declared.op.Op.TheVariants.{Create, Mkdir}
 use Rattle.coda_fid.specs.Fid.{same_fid}
 
+-- the fids among the fields, in their order
+abbrev pub fids_of : Op → List Fid
+fids_of (Create dir name fid mode owner) = dir ∷ fid ∷ []
+fids_of (Mkdir dir name fid mode owner) = dir ∷ fid ∷ []
+
 -- whether a fid is among the fields
 abbrev pub mentions : Op → Fid → Bool
-mentions (Create dir name fid mode owner) q = same_fid dir q || same_fid fid q
-mentions (Mkdir dir name fid mode owner) q = same_fid dir q || same_fid fid q
+mentions op fid = list_any (λ f. same_fid f fid) (fids_of op)
+
+-- the object that an operation has a kept version for, with that version
+abbrev pub carried : Op → Option Over
+carried (Create dir name fid mode owner) = None
+carried (Mkdir dir name fid mode owner) = None
+
+-- the version kept for an object, where it is the one carried
+abbrev pub kept_for : Option Over → Fid → Option Sid
+kept_for None fid = None
+kept_for (Some over) fid = if same_fid over.fid fid then Some over.pre else None
+
+-- the version that an operation has kept for an object
+abbrev pub pre_of : Op → Fid → Option Sid
+pre_of op fid = kept_for (carried op) fid
+
+-- the bytes of the names of an operation
+abbrev pub bytes_of : Op → ℕ
+bytes_of (Create dir name fid mode owner) = length name
+bytes_of (Mkdir dir name fid mode owner) = length name
+
+-- what the record of an operation weighs
+abbrev pub weight_of : Op → ℕ
+weight_of op = 64 + bytes_of op

@@ -1,4 +1,5 @@
-//! Names of objects and of operations, and the operations themselves.
+//! The names of objects and of operations, paths, and the operations on a volume as clients
+//! record them.
 #![tactic(auto)]
 
 mod bytes;

@@ -1,9 +1,20 @@
-ghost use Rattle.std.specs.Prelude.{◌≡◌, List, ℕ, IfOk};
+ghost use Rattle.std.specs.Prelude.{◌≡◌, ◌↔◌, IfOk, IsTrue, List, [], ℕ, false};
+ghost use Rattle.std.specs.List.{list_all};
+ghost use Rattle.coda_fid.specs.Name.{is_name, AreNames};
+ghost use Rattle.coda_fid.specs.Path.{path_text, names_in, parts, is_path, IsPath, ArePathNames};
 
-use crate::Name;
+use crate::name::is_good;
+use crate::{Name, NameFault};
+use std::alloc::{AllocError, Global};
 use std::marker::Model;
 
-/// A path inside a volume.
+/// The most bytes that the text of a path has.
+const LONGEST_PATH: usize = 1024;
+
+/// A path from the root of a volume: the names that it leads through.
+///
+/// Its text is `/` alone for the root, and else has each name behind a `/`; it has at most 1,024
+/// bytes. Contracts see the list of the names.
 #[derive(Debug, Drop)]
 pub struct Path {
     items: Vec<Name>,
@@ -13,18 +24,101 @@ impl Model for Path {
     ghost Value = { List (List ℕ) };
 
     ghost view = { λ p. p.items.items };
+
+    ghost invariant = { λ p. ArePathNames p.items.items };
+}
+
+fn all_good(bytes: &[u8]) -> bool
+    ensures { result ≡ list_all is_name (parts bytes.now) }
+{
+    bytes.split(|b| *b == b'/').all(is_good)
+}
+
+fn is_path_text(bytes: &[u8]) -> bool
+    ensures { result ≡ is_path bytes.now }
+{
+    if bytes.len() > LONGEST_PATH {
+        return false;
+    }
+    match bytes {
+        [] => false,
+        [b'/'] => true,
+        [first, rest @ ..] => *first == b'/' && all_good(rest),
+    }
+}
+
+fn read_parts(alloc: Global, bytes: &[u8]) -> Result<Vec<Name>, AllocError>
+    requires { IsTrue (list_all is_name (parts bytes.now)) }
+    ensures { IfOk result (λ names. names.items ≡ parts bytes.now) }
+{
+    let mut names = Vec::new(alloc);
+    for part in bytes.split(|b| *b == b'/') {
+        let name = Name::of_good(alloc, part)?;
+        names.push(name)?;
+    }
+    Ok(names)
+}
+
+fn read_names(alloc: Global, bytes: &[u8]) -> Result<Vec<Name>, AllocError>
+    requires { IsTrue (is_path bytes.now) }
+    ensures { IfOk result (λ names. names.items ≡ names_in bytes.now) }
+{
+    match bytes {
+        [] | [_] => Ok(Vec::new(alloc)),
+        [_, rest @ ..] => read_parts(alloc, rest),
+    }
+}
+
+fn copy_names(alloc: Global, names: &[Name]) -> Result<Vec<Name>, AllocError>
+    ensures { IfOk result (λ copies. copies.items ≡ names.now) }
+{
+    let mut copies = Vec::new(alloc);
+    for name in names {
+        let copy = name.copy()?;
+        copies.push(copy)?;
+    }
+    Ok(copies)
 }
 
 impl Path {
-    pub fn from_names(items: Vec<Name>) -> Path
-        ensures { result ≡ items.items }
+    /// The path that the bytes are the text of.
+    ///
+    /// # Errors
+    ///
+    /// `BadName` exactly where they are the text of none; so `Memory` comes for a path alone.
+    pub fn read(alloc: Global, bytes: &[u8]) -> Result<Path, NameFault>
+        ensures ok { IfOk result (λ p. path_text p ≡ bytes.now) }
+
+        // One text is that of one path.
+        ensures alone { IfOk result (λ p. (names : List (List ℕ)) → AreNames names → path_text names ≡ bytes.now → names ≡ p) }
+        ensures bad { (result ≡ Err NameFault.BadName) ↔ ¬ IsPath bytes.now }
+
+        // The same by the test and by the names that stand between the bytes `/`.
+        ensures names { IfOk result (λ p. p ≡ names_in bytes.now) }
+        ensures tested { (result ≡ Err NameFault.BadName) ↔ (is_path bytes.now ≡ false) }
     {
-        Path { items }
+        if !is_path_text(bytes) {
+            return Err(NameFault::BadName);
+        }
+        match read_names(alloc, bytes) {
+            Ok(items) => Ok(Path { items }),
+            Err(_) => Err(NameFault::Memory),
+        }
     }
 
+    /// The names that it leads through, from the root on.
     pub fn names(&self) -> &[Name]
-        ensures { result.now ≡ self.now }
+        ensures same { result.now ≡ self.now }
+        ensures path { ArePathNames result.now }
     {
         &self.items
+    }
+
+    /// The same path, in memory of its own.
+    pub fn copy(&self) -> Result<Path, AllocError>
+        ensures { IfOk result (λ p. p ≡ self.now) }
+    {
+        let items = copy_names(*self.items.allocator(), &self.items)?;
+        Ok(Path { items })
     }
 }

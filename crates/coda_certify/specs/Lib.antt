@@ -1,0 +1,5 @@
+pub mod Texts
+pub mod Checks
+pub mod Replay
+pub mod Verdicts
+pub mod Laws

@@ -1,0 +1,44 @@
+// What runs a line.
+use crate::status::Kind;
+use std::alloc::Global;
+
+/// A line is refused: its first wrong column, from 1, and what is wrong there.
+#[derive(Clone, Copy, Debug, PartialEq, Eq)]
+pub struct LineFault {
+    pub column: u32,
+    pub kind: Kind,
+}
+
+/// Why a line wasn't run.
+#[derive(Clone, Copy, Debug, PartialEq, Eq)]
+pub enum LineStop {
+    /// The line isn't in the language, or not in this state.
+    Refused(LineFault),
+    /// There was no memory.
+    Memory,
+}
+
+/// What runs the lines of a script, one after another.
+pub trait Machine {
+    ghost use Rattle.std.specs.Prelude.{ℕ, List, IfOk, IfErr};
+    ghost use Rattle.std.specs.String.{string_bytes};
+    ghost use Rattle.coda_engine.specs.declared.status.Kind.{Kind};
+    ghost use Rattle.coda_engine.specs.Machine.{HasReason};
+
+    // From the first state, the line may give this text, with its newlines, have these answers of the outside, and leave
+    // the last state.
+    ghost gives: { Self → List ℕ → List ℕ → List (List ℕ) → Self → Type 0 };
+
+    // In this state the line is refused at this column, for this.
+    ghost refuses: { Self → List ℕ → ℕ → Kind → Type 0 };
+
+    /// Runs a line, which has no newline, and answers the text of its reply: nothing, or lines that each have their
+    /// newline.
+    ///
+    /// # Errors
+    ///
+    /// `Refused` where the machine refuses the line; nothing has changed then. `Memory` where there was no memory.
+    fn run(&mut self, alloc: Global, line: &[u8]) -> Result<String, LineStop>
+        ensures ok { IfOk result (λ text. (outside : List (List ℕ)) × gives self.old line.now (string_bytes text) outside self.new) }
+        ensures reason { IfErr result (HasReason refuses self.old line.now self.new) };
+}

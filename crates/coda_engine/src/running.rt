@@ -1,0 +1,70 @@
+// The run of a script.
+ghost use Rattle.std.specs.Prelude.{◌≡◌, ◌<◌, ◌≤◌, ℕ, List, vec_len, length, IfOk};
+ghost use Rattle.coda_io.specs.Faults.{Rose};
+ghost use Rattle.coda_engine.specs.Run.{Reports};
+
+use crate::machine::Machine;
+use crate::reader::Reader;
+use crate::status::Status;
+use coda_io::{Sink, Source};
+use std::alloc::{AllocError, Global};
+
+const PIECE: usize = 65536;
+
+// A buffer of this length. Its caller sees the length alone.
+fn buffer_of(alloc: Global, len: usize) -> Result<Vec<u8>, AllocError>
+    ensures { IfOk result (λ buffer. vec_len buffer ≡ len) }
+{
+    vec![in alloc; 0u8; len]
+}
+
+// Runs the script that the source gives, read in pieces of at most the buffer's length.
+fn run_pieces<M: Machine, S: Source, K: Sink>(
+    alloc: Global,
+    machine: &mut M,
+    buffer: &mut [u8],
+    source: &mut S,
+    sink: &mut K,
+) -> Status
+    requires { 0 < length buffer.old }
+    ensures report { (outside : List (List ℕ)) × Reports M.gives M.refuses machine.old machine.new (S.left source.old) (S.left source.new) (K.held sink.old) (K.held sink.new) outside result }
+    ensures source_fault { result ≡ Status.SourceFault → Rose (S.faults source.old) (S.faults source.new) }
+    ensures sink_fault { result ≡ Status.SinkFault → Rose (K.faults sink.old) (K.faults sink.new) }
+    ensures source_later { S.faults source.old ≤ S.faults source.new }
+    ensures sink_later { K.faults sink.old ≤ K.faults sink.new }
+{
+    let mut reader = Reader::new(alloc);
+    loop {
+        let count = match source.read(buffer) {
+            Ok(0) => return reader.finish(machine, sink),
+            Ok(count) => count,
+            Err(_) => return Status::SourceFault,
+        };
+        match reader.feed(machine, &buffer[..count], sink) {
+            Ok(()) => {}
+            Err(status) => return status,
+        }
+    }
+}
+
+/// Runs the script that the source gives over a machine, and writes the replies to the sink.
+///
+/// The status says how the run ended, and what was read, run and written then; `Usage` is never answered. The machine is
+/// left in the state that it was in after the last line that ran, except at `Memory`.
+pub fn run<M: Machine, S: Source, K: Sink>(
+    alloc: Global,
+    machine: &mut M,
+    source: &mut S,
+    sink: &mut K,
+) -> Status
+    ensures report { (outside : List (List ℕ)) × Reports M.gives M.refuses machine.old machine.new (S.left source.old) (S.left source.new) (K.held sink.old) (K.held sink.new) outside result }
+    ensures source_fault { result ≡ Status.SourceFault → Rose (S.faults source.old) (S.faults source.new) }
+    ensures sink_fault { result ≡ Status.SinkFault → Rose (K.faults sink.old) (K.faults sink.new) }
+    ensures source_later { S.faults source.old ≤ S.faults source.new }
+    ensures sink_later { K.faults sink.old ≤ K.faults sink.new }
+{
+    match buffer_of(alloc, PIECE) {
+        Ok(mut buffer) => run_pieces(alloc, machine, &mut buffer, source, sink),
+        Err(_) => Status::Memory,
+    }
+}

@@ -1,0 +1,12 @@
+pub mod Words
+pub mod Numbers
+pub mod Forms
+pub mod State
+pub mod Plain
+pub mod Ask
+pub mod Asking
+pub mod Code
+pub mod Steps
+pub mod Cells
+pub mod Printing
+pub mod Texts

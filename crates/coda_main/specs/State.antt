@@ -1,0 +1,143 @@
+-- What a cell is at a moment, and what an entry of a history makes of it.
+use Rattle.std.specs.Prelude.{ℕ, ◌+◌, Bool, List, [], ◌∷◌, ◌++◌, Option, Some, None, Result, Ok, Err}
+use Rattle.std.specs.Option.{option_map}
+use Rattle.std.specs.FinMap as map
+use Rattle.coda_fid.specs.declared.fid.Fid.{Fid}
+use Rattle.coda_fid.specs.declared.op.Record.{Record}
+use Rattle.coda_tree.specs.declared.node.Node.{Node}
+use Rattle.coda_tree.specs.Volume.{Nodes, Tree, fresh}
+use Rattle.coda_certify.specs.declared.verdict.Verdict.{Verdict}
+use Rattle.coda_certify.specs.declared.verdict.Verdict.TheVariants.{Applied, Conflict}
+use Rattle.coda_certify.specs.Replay.{Replayed, applied, replay}
+use Rattle.coda_certify.specs.Verdicts.{nodes_left}
+use Rattle.coda_main.specs.declared.line.Link.{Link}
+use Rattle.coda_main.specs.declared.line.Link.TheVariants.{Down}
+
+-- ---- a client
+
+-- what a client has: the blocks of its cache, the nodes that it holds, its log on the volume, and how many operations it
+-- accepted, objects it created and chunks it froze there
+pub record ClientState : Type 0 where
+  pub number : ℕ
+  pub blocks : ℕ
+  pub nodes : Nodes
+  pub log : List Record
+  pub operations : ℕ
+  pub creations : ℕ
+  pub chunks : ℕ
+
+-- an entry of a client's history
+pub data ClientEntry : Type 0 where
+  -- it fetched a node
+  Fetched : (fid : Fid) (node : Node) → ClientEntry
+  -- it accepted an operation
+  Operated : (rec : Record) → ClientEntry
+  -- it froze a chunk for a server, up to the operation with the last number
+  Froze : (number server last : ℕ) → ClientEntry
+  -- it learned what became of a chunk
+  Settled : (number : ℕ) (verdict : Verdict) → ClientEntry
+
+-- a client that was just made
+abbrev pub new_client : ℕ → ℕ → ClientState
+new_client number blocks = record { number = number; blocks = blocks; nodes = map.empty; log = []; operations = 0; creations = 0; chunks = 0 }
+
+-- the log after a verdict on the chunk that it was: applied, it is done with, and a conflict leaves it
+abbrev pub log_after : Verdict → List Record → List Record
+log_after Applied log = []
+log_after (Conflict n why) log = log
+
+-- a client after an entry
+abbrev pub client_after : ClientState → ClientEntry → ClientState
+client_after c (Fetched fid node) = record c { nodes = map.insert c.nodes fid node }
+client_after c (Operated rec) = record c {
+  nodes = applied c.nodes c.number rec;
+  log = c.log ++ rec ∷ [];
+  operations = c.operations + 1;
+  creations = c.creations + 1
+}
+client_after c (Froze number server last) = record c { chunks = number }
+client_after c (Settled number verdict) = record c { log = log_after verdict c.log }
+
+-- a client after entries in order
+abbrev pub client_after_all : ClientState → List ClientEntry → ClientState
+client_after_all c [] = c
+client_after_all c (entry ∷ entries) = client_after_all (client_after c entry) entries
+
+-- ---- a replica
+
+-- one server's copy of a volume
+pub record ReplicaState : Type 0 where
+  pub server : ℕ
+  pub tree : Tree
+
+-- an entry of a replica's history: it decided a client's chunk, with these operations
+pub data ReplicaEntry : Type 0 where
+  Decided : (client number : ℕ) (span : List Record) → ReplicaEntry
+
+-- a replica that was just made
+abbrev pub new_replica : ℕ → ℕ → ReplicaState
+new_replica server volume = record { server = server; tree = fresh volume }
+
+-- the records that a client sends for a span of operations: until logs are cancelled, the operations themselves
+abbrev pub sent_of : List Record → List Record
+sent_of span = span
+
+-- the first replay, unless it meets a record that is refused
+abbrev pub or_replayed : Replayed → Replayed → Replayed
+or_replayed (Ok nodes) other = Ok nodes
+or_replayed (Err why) other = other
+
+-- what a replica decides of a span: its replay where all of it certifies in turn, and else the replay of what was sent
+abbrev pub decision : Nodes → ℕ → List Record → Replayed
+decision nodes client span = or_replayed (replay nodes client span) (replay nodes client (sent_of span))
+
+-- a volume whose nodes are others
+abbrev pub with_nodes : Tree → Nodes → Tree
+with_nodes tree nodes = record tree { nodes = nodes }
+
+-- a replica after an entry
+abbrev pub replica_after : ReplicaState → ReplicaEntry → ReplicaState
+replica_after r (Decided client number span) = record r { tree = with_nodes r.tree (nodes_left r.tree.nodes (decision r.tree.nodes client span)) }
+
+-- a replica after entries in order
+abbrev pub replica_after_all : ReplicaState → List ReplicaEntry → ReplicaState
+replica_after_all r [] = r
+replica_after_all r (entry ∷ entries) = replica_after_all (replica_after r entry) entries
+
+-- ---- a cell
+
+-- what a cell is at a moment: one replica of one volume, one client, and the link between them, each once it was made
+pub record CellState : Type 0 where
+  pub replica : Option ReplicaState
+  pub client : Option ClientState
+  pub link : Link
+
+-- what happens in a cell
+pub data Event : Type 0 where
+  -- a volume is made, on a server
+  VolumeMade : (volume server : ℕ) → Event
+  -- a client is made, with so many blocks of cache
+  ClientMade : (client blocks : ℕ) → Event
+  -- the link changes
+  LinkSet : (link : Link) → Event
+  -- the client's history has one more entry
+  AtClient : (entry : ClientEntry) → Event
+  -- the replica's history has one more entry
+  AtReplica : (entry : ReplicaEntry) → Event
+
+-- a cell in which nothing was made
+abbrev pub empty_state : CellState
+empty_state = record { replica = None; client = None; link = Down }
+
+-- a cell after an event
+abbrev pub after : CellState → Event → CellState
+after s (VolumeMade volume server) = record s { replica = Some (new_replica server volume) }
+after s (ClientMade client blocks) = record s { client = Some (new_client client blocks) }
+after s (LinkSet link) = record s { link = link }
+after s (AtClient entry) = record s { client = option_map (λ c. client_after c entry) s.client }
+after s (AtReplica entry) = record s { replica = option_map (λ r. replica_after r entry) s.replica }
+
+-- a cell after events in order
+abbrev pub after_all : CellState → List Event → CellState
+after_all s [] = s
+after_all s (event ∷ events) = after_all (after s event) events
