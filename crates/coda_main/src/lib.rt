@@ -5,6 +5,8 @@ mod cell;
 mod client;
 mod forms;
 mod line;
+mod machine;
 mod number;
 mod reply;
+mod report;
 mod words;
