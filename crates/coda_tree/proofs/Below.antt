@@ -11,10 +11,11 @@ use Rattle.std.proofs.lemmas.Map.Steps.{length-le_from_keys}
 use Rattle.coda_fid.specs.Fid.{fid_cmp, same_fid}
 use Rattle.coda_fid.specs.declared.fid.Fid.{Fid}
 use Rattle.coda_tree.specs.declared.node.Node.{Node}
+use Rattle.coda_tree.specs.Bindings.{Name}
 use Rattle.coda_tree.specs.Tree.{Child, IsBelow, itself, under, AtDepth, at_top, one_deeper}
-use Rattle.coda_tree.specs.Volume.{Nodes, child, has, IsVolume, parent_of, below_within, is_below}
+use Rattle.coda_tree.specs.Volume.{Nodes, bindings, child, child_of, has, IsVolume, parent_of, below_within, is_below}
 use Rattle.coda_tree.proofs.Order.{fids_total}
-use Rattle.coda_tree.proofs.Tests.{or_true, has_some}
+use Rattle.coda_tree.proofs.Booleans.{or_true, has_some}
 use Rattle.coda_tree.proofs.Parents.{same_fid_is, same_fid_refl, tied_fid, parent_sound, parent_is}
 
 lt_le : (a b : ℕ) → a < b → a ≤ b
@@ -137,3 +138,11 @@ pub depth_lt : {root : Fid} (m : Nodes) → IsVolume root m → (depth : ℕ) (f
 depth_lt m v depth f at =
     let b = below_at depth f at in
     subst (λ k. k < map.len m) b.1 (height_lt m v f b.0)
+
+-- the root is reached by no binding
+pub depth_top : (m : Nodes) (root : Fid) → AtDepth (child m) root 0 root
+depth_top m root = at_top 0 root refl refl
+
+-- and what a directory binds by one more than the directory
+pub depth_bound : {root : Fid} (m : Nodes) (depth : ℕ) (d : Fid) (node : Node) (n : Name) (f : Fid) → AtDepth (child m) root depth d → map.get m d ≡ Some node → map.get (bindings node.kind) n ≡ Some f → AtDepth (child m) root (depth + 1) f
+depth_bound m depth d node n f at is bound = one_deeper depth (depth + 1) d n f refl (ap (λ o. child_of o n) is ∙ bound) at

@@ -1,10 +1,10 @@
-pub mod Tests
+pub mod Booleans
 pub mod Order
-pub mod InOrder
+pub mod MapEntries
 pub mod Trees
 pub mod Pairs
 pub mod Changes
-pub mod Kept
+pub mod TableMap
 pub mod Parents
 pub mod Below
-pub mod Keep
+pub mod KeptParents

@@ -12,7 +12,7 @@ use Rattle.std.proofs.lemmas.Map.Lookups.{exact_bytes}
 use Rattle.coda_fid.specs.Name.{name_cmp}
 use Rattle.coda_fid.specs.declared.fid.Fid.{Fid}
 use Rattle.coda_tree.specs.Bindings.{Name, Pairs, Bindings, IsIndexOf, IsGapFor}
-use Rattle.coda_tree.proofs.Tests.{and_true, lt_less, to_T, from_T}
+use Rattle.coda_tree.proofs.Booleans.{and_true, lt_less, to_T, from_T}
 
 turn : (a b : Name) (o : Ordering) → name_cmp a b ≡ o → name_cmp b a ≡ ordering_reverse o
 turn a b o h = nat_list_cmp_total.antisymm b a ∙ ap ordering_reverse h

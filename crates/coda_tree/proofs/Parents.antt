@@ -14,7 +14,7 @@ use Rattle.coda_tree.specs.declared.node.Node.{Node}
 use Rattle.coda_tree.specs.Bindings.{Name}
 use Rattle.coda_tree.specs.Volume.{Nodes, bindings, child, child_of, IsVolume, is_at_fid, binds_fid, parent_of}
 use Rattle.coda_tree.proofs.Order.{exact_fids}
-use Rattle.coda_tree.proofs.Tests.{and_true, and_both, eq_true}
+use Rattle.coda_tree.proofs.Booleans.{and_true, and_both, eq_true}
 
 -- ---- a test that finds
 find_passes : {A : Type 0} (p : A → Bool) (xs : List A) (x : A) → find p xs ≡ Some x → p x ≡ true

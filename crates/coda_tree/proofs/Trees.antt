@@ -22,7 +22,7 @@ edge_cases d e n k = elim (fid_cases d e) [
 
 -- ---- a new fid
 
--- has2 and child2 are has and child with a new fid, which a directory binds at a free name
+-- has' and c' are has and c with a new fid, which a directory binds at a free name
 pub record IsAddition (has has' : Fid → Bool) (c c' : Child) (dir : Fid) (name : Name) (new : Fid) : Type 0 where
   pub dir_there : has dir ≡ true
   pub new_free : has new ≡ false

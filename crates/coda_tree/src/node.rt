@@ -22,15 +22,16 @@ pub enum NodeKind {
 pub struct Node {
     /// What it is and holds.
     pub kind: NodeKind,
-    /// The permission bits.
+    /// The permission bits, as in `0o755`.
     pub mode: u16,
-    /// The number of the owner.
+    /// The user number of the owner.
     pub owner: u32,
-    /// When it was last changed.
+    /// When it was made or its content last stored, in seconds, unless an operation set another time.
     pub mtime: u64,
-    /// The last operation that changed it: its version, by which conflicts are told (Kistler and Satyanarayanan 1992).
+    /// The operation that made it or last changed its content or attributes: its version, by which conflicts are told,
+    /// as the storeid is (Kistler and Satyanarayanan 1992). Changes of what a directory binds leave it.
     pub sid: Sid,
-    /// Whether it is marked as in conflict, until somebody repairs it (Satyanarayanan et al. 1990).
+    /// Whether it is marked as inconsistent, until somebody repairs it (Satyanarayanan et al. 1990).
     pub marked: bool,
 }
 

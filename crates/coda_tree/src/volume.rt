@@ -1,7 +1,8 @@
-ghost use Rattle.std.specs.Prelude.{◌≡◌, ◌↔◌, true, None, IfOk, OnOk, OnErr, IsTrue, option_copied};
+ghost use Rattle.std.specs.Prelude.{◌<◌, ℕ, ◌≡◌, ◌↔◌, true, None, IfOk, OnOk, OnErr, IsTrue, option_copied};
 ghost use Rattle.std.specs.FinMap as map;
 ghost use Rattle.coda_fid.specs.Fid.{root_of};
-ghost use Rattle.coda_tree.specs.Tree.{IsBelow};
+ghost use Rattle.coda_fid.specs.declared.fid.Fid.{Fid};
+ghost use Rattle.coda_tree.specs.Tree.{IsBelow, AtDepth};
 ghost use Rattle.coda_tree.specs.Volume.{child, has, added, fresh, fresh_root, parent_of, below_within, is_below, IsVolume, IsDirAt, IsLeaf};
 ghost use Rattle.coda_tree.specs.Lookup.{lookup_of, step_from};
 
@@ -26,8 +27,9 @@ pub enum PathFault {
 /// A volume: a tree of nodes whose root is a directory (Satyanarayanan et al. 1990).
 ///
 /// Each node stands at its fid. Each but the root is bound once, at one name of one directory, and each is reached
-/// from the root, whose fid the volume's number gives. Contracts see the number and a finite map from fids to nodes.
-/// A fid is found in logarithmic time, and so is the directory that binds it.
+/// from the root, whose fid the volume's number gives. Contracts see the number and a finite map from fids to nodes;
+/// `number` and `len` say that they are those of a volume. A fid is found in logarithmic time, and so is the directory
+/// that binds it.
 #[derive(Drop)]
 pub struct Volume {
     number: u32,
@@ -91,7 +93,7 @@ impl Volume {
         })
     }
 
-    /// The volume's number, which is that of each fid in it.
+    /// The volume's number, which gives its root's fid.
     pub fn number(&self) -> u32
         ensures number { result ≡ self.now.number }
         ensures volume { IsVolume (root_of self.now.number) self.now.nodes }
@@ -99,10 +101,11 @@ impl Volume {
         self.number
     }
 
-    /// How many nodes there are, the root among them.
+    /// How many nodes there are, the root among them. Each is reached from the root by fewer bindings than that.
     pub fn len(&self) -> usize
         ensures count { result ≡ map.len self.now.nodes }
         ensures volume { IsVolume (root_of self.now.number) self.now.nodes }
+        ensures depth { (depth : ℕ) (f : Fid) → AtDepth (child self.now.nodes) (root_of self.now.number) depth f → depth < result }
     {
         self.nodes.len()
     }

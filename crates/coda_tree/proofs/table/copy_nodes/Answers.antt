@@ -6,7 +6,7 @@ use Rattle.coda_fid.specs.declared.fid.Fid.{Fid}
 use Rattle.coda_tree.specs.declared.node.Node.{Node}
 use Rattle.coda_tree.specs.Volume.{Nodes}
 use Rattle.coda_tree.specs.Table.{or_node}
-use Rattle.coda_tree.proofs.Kept.{kept_at, or_none, copy_step, copied}
+use Rattle.coda_tree.proofs.TableMap.{kept_at, or_none, copy_step, copied}
 use Rattle.coda_tree.proofs.table.copy_nodes.Goals as goal
 
 pub loop-fid-preserved : goal.loop-fid-preserved

@@ -6,7 +6,7 @@ use Rattle.std.specs.List.Sorted.{IsStrictlySortedBy}
 use Rattle.coda_fid.specs.Fid.{fid_cmp}
 use Rattle.coda_fid.specs.declared.fid.Fid.{Fid}
 use Rattle.coda_tree.specs.Table.{or_node}
-use Rattle.coda_tree.proofs.Kept.{kept_at}
+use Rattle.coda_tree.proofs.TableMap.{kept_at}
 use Rattle.coda_tree.proofs.table.copy_nodes.Given as goal
 
 abbrev pub invariant-loop-fid : goal.invariant-loop-fid

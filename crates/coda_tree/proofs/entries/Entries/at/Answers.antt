@@ -4,7 +4,7 @@ use Rattle.std.specs.FinMap as map
 use Rattle.std.proofs.lemmas.Cmp.{nat_list_cmp_total}
 use Rattle.std.proofs.lemmas.Option.{slice_get-get_or}
 use Rattle.coda_tree.specs.Bindings.{Pairs}
-use Rattle.coda_tree.proofs.InOrder.{get_entry}
+use Rattle.coda_tree.proofs.MapEntries.{get_entry}
 use Rattle.coda_tree.proofs.Pairs.{entries_seen, none_from}
 use Rattle.coda_tree.proofs.entries.Entries.at.Goals as goal
 

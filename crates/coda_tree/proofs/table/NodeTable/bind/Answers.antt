@@ -1,7 +1,7 @@
 use Rattle.std.proofs.Common.{sym, ap, ◌∙◌, subst}
 use Rattle.std.proofs.lemmas.Result.{on_ok_weaker, on_err_weaker}
 use Rattle.coda_tree.specs.Volume.{Nodes, child, bound, IsDirAt}
-use Rattle.coda_tree.proofs.Kept.{may_bind, nodes_bound, nodes_same}
+use Rattle.coda_tree.proofs.TableMap.{may_bind, nodes_bound, nodes_same}
 use Rattle.coda_tree.proofs.table.NodeTable.bind.Goals as goal
 
 pub bind-requires : goal.bind-requires

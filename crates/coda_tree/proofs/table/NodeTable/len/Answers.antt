@@ -1,7 +1,7 @@
 use Rattle.std.proofs.Common.{sym, ap, ◌∙◌}
 use Rattle.std.specs.FinMap as map
 use Rattle.coda_tree.specs.Volume.{Nodes}
-use Rattle.coda_tree.proofs.Kept.{len_nodes}
+use Rattle.coda_tree.proofs.TableMap.{len_nodes}
 use Rattle.coda_tree.proofs.table.NodeTable.len.Goals as goal
 
 pub returns : goal.returns

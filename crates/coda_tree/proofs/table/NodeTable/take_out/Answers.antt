@@ -1,7 +1,7 @@
 use Rattle.std.proofs.Common.{ap, ◌∙◌}
 use Rattle.std.specs.FinMap as map
 use Rattle.coda_tree.specs.Volume.{Nodes}
-use Rattle.coda_tree.proofs.Kept.{nodes_taken_out}
+use Rattle.coda_tree.proofs.TableMap.{nodes_taken_out}
 use Rattle.coda_tree.proofs.table.NodeTable.take_out.Goals as goal
 
 pub returns : goal.returns

@@ -3,7 +3,7 @@ use Rattle.std.specs.FinMap as map
 use Rattle.coda_fid.specs.Fid.{root_of}
 use Rattle.coda_tree.specs.Volume.{Tree, Nodes, child, IsDirAt}
 use Rattle.coda_tree.specs.Keeping.{IsKept}
-use Rattle.coda_tree.proofs.Keep.{kept_added, parent_taken_out}
+use Rattle.coda_tree.proofs.KeptParents.{kept_added, parent_taken_out}
 use Rattle.coda_tree.proofs.volume.Volume.add.Goals as goal
 
 pub invariant_of-self-in-Ok : goal.invariant_of-self-in-Ok

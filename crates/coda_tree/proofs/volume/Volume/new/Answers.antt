@@ -6,8 +6,8 @@ use Rattle.coda_fid.specs.Name.{name_cmp}
 use Rattle.coda_fid.specs.declared.fid.Fid.{Fid}
 use Rattle.coda_tree.specs.Volume.{Nodes, fresh_root}
 use Rattle.coda_tree.specs.Keeping.{IsKept}
-use Rattle.coda_tree.proofs.Kept.{kept_at}
-use Rattle.coda_tree.proofs.Keep.{kept_root}
+use Rattle.coda_tree.proofs.TableMap.{kept_at}
+use Rattle.coda_tree.proofs.KeptParents.{kept_root}
 use Rattle.coda_tree.proofs.volume.Volume.new.Goals as goal
 
 pub invariant_of-result : goal.invariant_of-result

@@ -1,6 +1,6 @@
 use Rattle.std.proofs.Common.{ap, ◌∙◌}
 use Rattle.coda_tree.specs.Volume.{Tree, parent_of}
-use Rattle.coda_tree.proofs.Keep.{kept_is_parent}
+use Rattle.coda_tree.proofs.KeptParents.{kept_is_parent}
 use Rattle.coda_tree.proofs.volume.Volume.parent.Goals as goal
 
 pub returns-in-Some : goal.returns-in-Some

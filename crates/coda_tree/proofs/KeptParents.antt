@@ -15,7 +15,7 @@ use Rattle.coda_tree.proofs.Order.{fid_cases, fids_total, exact_fids, get_here, 
 use Rattle.coda_tree.proofs.Changes.{dir_node, addition, volume_added}
 use Rattle.coda_tree.proofs.Trees.{added_edge, more, not_new}
 use Rattle.coda_tree.proofs.Parents.{parent_is, parent_sound}
-use Rattle.coda_tree.proofs.Kept.{changed_here, changed_else}
+use Rattle.coda_tree.proofs.TableMap.{changed_here, changed_else}
 
 -- the kept parent is the directory that binds the fid
 pub kept_is_parent : {root : Fid} (m : Nodes) (parents : BTreeMap Fid Fid) → IsKept root m parents → (f : Fid) → tree.get fid_cmp parents f ≡ parent_of m f

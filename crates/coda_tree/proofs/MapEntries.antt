@@ -7,8 +7,9 @@ use Rattle.std.specs.Cmp.{IsTotalOrder}
 use Rattle.std.specs.FinMap as map
 use Rattle.std.specs.FinMap.{FinMap}
 use Rattle.std.specs.FinMap.Entries.{is_sorted, find, below_all}
+use Rattle.std.proofs.lemmas.Map.Lookups.{CmpEqualImpliesEq}
 use Rattle.std.proofs.lemmas.Option.{same_Some, none-some}
-use Rattle.coda_tree.proofs.Tests.{and_true, lt_less, from_T}
+use Rattle.coda_tree.proofs.Booleans.{and_true, lt_less, from_T}
 use Rattle.coda_tree.proofs.Order.{at_itself}
 
 module _ {K X : Type 0} {R : K → K → Ordering} (o : IsTotalOrder R) where
@@ -41,3 +42,10 @@ module _ {K X : Type 0} {R : K → K → Ordering} (o : IsTotalOrder R) where
         | Equal ↦ λ tied here. (0, first, refl, tied, same_Some first.1 v here)
         | Greater ↦ λ _ later. let at = index_among es k v later in (suc at.0, at.1, at.2, at.3, at.4)
       ] refl is
+
+  -- what the map has at a key stands at an index of its entries
+  pub entry_index : CmpEqualImpliesEq R → (m : FinMap R X) (k : K) (v : X) → map.get m k ≡ Some v → (i : ℕ) × (slice_get (map.entries m) i ≡ Some (k, v))
+  entry_index exact m k v is =
+      let at = index_among (map.entries m) k v (sym (map.get-entries m k) ∙ is) in
+      let key : at.1.0 ≡ k = sym (exact k at.1.0 at.3) in
+      (at.0, at.2 ∙ ap Some (λ j. (key j, at.4 j)))
