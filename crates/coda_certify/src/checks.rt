@@ -4,7 +4,7 @@ ghost use Rattle.coda_tree.specs.Volume.{child};
 ghost use Rattle.coda_certify.specs.Checks.{no_dir_of, marked_of, name_taken_of, fid_used_of, full_of, creation_checks, first_reason, certify as certify_op};
 
 use crate::Reason;
-use coda_fid::{Fid, Name, Op};
+use coda_fid::{Fid, Name, Op, Record};
 use coda_tree::{NodeKind, Volume};
 
 /// The most objects that a volume has.
@@ -86,10 +86,10 @@ fn certify_creation(volume: &Volume, dir: Fid, name: &Name, fid: Fid) -> Option<
 /// directory stands where it is to be bound; where this directory is marked; where it binds the
 /// name; where an object has the new one's identifier; and where the volume has 100,000 objects.
 #[tactic(auto, unfolding(crate::specs::Checks::certify))]
-pub fn certify(volume: &Volume, op: &Op) -> Option<Reason>
-    ensures { result ≡ certify_op volume.now.nodes op.now }
+pub fn certify(volume: &Volume, rec: &Record) -> Option<Reason>
+    ensures { result ≡ certify_op volume.now.nodes rec.now.op }
 {
-    match op {
+    match &rec.op {
         Op::Create { dir, name, fid, .. } => certify_creation(volume, *dir, name, *fid),
         Op::Mkdir { dir, name, fid, .. } => certify_creation(volume, *dir, name, *fid),
     }

@@ -19,7 +19,7 @@ fn apply_in_turn(
     ensures applied { OnOk result (IfOk (replay_from volume.old.nodes client recs.now) (λ left. volume.new ≡ record volume.old { nodes = left })) }
 {
     for rec in recs {
-        if let Some(why) = certify(volume, &rec.op) {
+        if let Some(why) = certify(volume, rec) {
             return Ok(Verdict::Conflict(rec.number, why));
         }
         apply(alloc, volume, client, rec)?;
