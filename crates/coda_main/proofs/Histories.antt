@@ -13,7 +13,7 @@ use Rattle.coda_main.specs.PlainRun.{Step, Replies, takes, LineGives, LineRefuse
 use Rattle.coda_main.specs.Texts.{text_of}
 use Rattle.coda_main.specs.Cells.{Runs}
 
-client_pushed : (c : ClientState) (entries : List ClientEntry) (entry : ClientEntry) → client_after_all c (entries ++ entry ∷ []) ≡ client_after (client_after_all c entries) entry
+pub client_pushed : (c : ClientState) (entries : List ClientEntry) (entry : ClientEntry) → client_after_all c (entries ++ entry ∷ []) ≡ client_after (client_after_all c entries) entry
 client_pushed c [] entry = refl
 client_pushed c (e ∷ entries) entry = client_pushed (client_after c e) entries entry
 

@@ -12,3 +12,4 @@ pub mod Printing
 pub mod Texts
 pub mod PlainRun
 pub mod Shows
+pub mod Headline

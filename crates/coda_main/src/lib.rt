@@ -14,5 +14,8 @@ mod top;
 mod words;
 
 pub use coda_engine::{Kind, Status};
-pub use laws::{clean_scripts_run, one_status};
+pub use laws::{
+    certified_chunks_are_applied, chunks_are_decided_once, clean_scripts_run,
+    conflicts_name_a_sent_record, one_status,
+};
 pub use top::{coda, run_script};
