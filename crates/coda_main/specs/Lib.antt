@@ -10,3 +10,5 @@ pub mod Steps
 pub mod Cells
 pub mod Printing
 pub mod Texts
+pub mod Lines
+pub mod ShownWhole

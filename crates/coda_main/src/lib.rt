@@ -4,7 +4,12 @@
 mod cell;
 mod client;
 mod forms;
+mod law;
 mod line;
 mod number;
+mod printing;
 mod reply;
+mod report;
 mod words;
+
+pub use law::volumes_are_shown_whole;
