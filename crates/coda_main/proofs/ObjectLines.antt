@@ -1,5 +1,5 @@
 -- The lines of objects, level by level.
-use Rattle.std.proofs.Common.{◌≡◌, ℕ, zero, suc, ◌+◌, List, [], ◌∷◌, ◌++◌, length, take, Option, Some, None, refl, sym, ap, ◌∙◌, append_assoc, arith}
+use Rattle.std.proofs.Common.{◌≡◌, ℕ, zero, suc, List, [], ◌∷◌, ◌++◌, length, take, Some, None, refl, sym, ap, ◌∙◌, append_assoc, arith}
 use Rattle.std.specs.List.{flat_map}
 use Rattle.std.specs.FinMap as map
 use Rattle.std.proofs.Math.Seq.{take-append_seam}
@@ -7,8 +7,8 @@ use Rattle.coda_fid.specs.Name.{name_cmp}
 use Rattle.coda_fid.specs.declared.fid.Fid.{Fid}
 use Rattle.coda_tree.specs.declared.node.Node.{Node}
 use Rattle.coda_tree.specs.declared.node.NodeKind.{NodeKind}
-use Rattle.coda_tree.specs.declared.node.NodeKind.TheVariants.{File, Link, Dir}
-use Rattle.coda_tree.specs.Bindings.{Bindings, Name}
+use Rattle.coda_tree.specs.declared.node.NodeKind.TheVariants.{Dir}
+use Rattle.coda_tree.specs.Bindings.{Bindings}
 use Rattle.coda_tree.specs.Volume.{Nodes, bindings}
 use Rattle.coda_main.specs.Texts.{line, object_line, object_lines, lines_from}
 use Rattle.coda_main.specs.Lines.{bound_lines}

@@ -91,11 +91,12 @@ fn is_open(bytes: &[u8]) -> bool
     !bytes.is_empty() && all_open(bytes)
 }
 
-/// Prints a name or a path: between quotes, unless its bytes are plain. Plain bytes are printed as they are.
+/// Prints a name or a path: as it is where that is plain, and else between quotes.
 pub fn put_printed(out: &mut String, bytes: &[u8]) -> Result<(), AllocError>
     ensures { OnOk result (string_bytes out.new ≡ string_bytes out.old ++ printed bytes.now) }
 {
     if is_open(bytes) {
+        // Plain bytes escape to themselves.
         put_escaped(out, bytes)
     } else {
         put_quoted(out, bytes)
@@ -109,7 +110,7 @@ pub fn put_content(out: &mut String, bytes: &[u8]) -> Result<(), AllocError>
     if bytes.len() <= MOST_CONTENT {
         return put_quoted(out, bytes);
     }
-    let (first, _rest) = bytes.split_at(MOST_CONTENT);
+    let (first, _) = bytes.split_at(MOST_CONTENT);
     put_quoted(out, first)?;
     out.push_str("..")
 }

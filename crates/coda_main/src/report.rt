@@ -1,9 +1,10 @@
 // The texts of replies.
-ghost use Rattle.std.specs.Prelude.{◌≡◌, ◌∷◌, [], ◌++◌, IfOk, OnOk, string_bytes, option_map};
+ghost use Rattle.std.specs.Prelude.{◌≡◌, ◌∷◌, [], ◌++◌, IfOk, OnOk, codes, string_bytes, option_map};
+ghost use Rattle.std.specs.Fmt.{decimal};
 ghost use Rattle.std.specs.List.{flat_map};
 ghost use Rattle.std.specs.FinMap as map;
-ghost use Rattle.coda_main.specs.Texts.{line, kind_text, content_text, mark_text, shown_path, attributes_text, object_line, object_lines, volume_line, volume_text, entry_line, listing_text, refusal_text, shown_of, text_of};
-ghost use Rattle.coda_main.specs.Lines.{object_head, bound_lines, entry_text, chunk_text, refused_text};
+ghost use Rattle.coda_main.specs.Texts.{line, kind_text, content_text, mark_text, shown_path, attributes_text, object_line, object_lines, volume_line, volume_text, entry_line, listing_text, verdict_text, refusal_text, shown_of, text_of};
+ghost use Rattle.coda_main.specs.Lines.{object_head, bound_lines, entry_text};
 ghost use Rattle.coda_main.specs.Cells.{cell_state, replica_state};
 
 use crate::cell::{Cell, Replica};
@@ -151,7 +152,8 @@ fn put_bound(
     Ok(())
 }
 
-fn put_volume(out: &mut String, server: u8, volume: &Volume) -> Result<(), AllocError>
+// Puts the first line of a volume.
+fn put_volume_line(out: &mut String, server: u8, volume: &Volume) -> Result<(), AllocError>
     ensures { OnOk result (string_bytes out.new ≡ string_bytes out.old ++ volume_line server volume.now) }
 {
     let (number, objects) = (volume.number(), volume.len());
@@ -163,7 +165,7 @@ fn put_replica(out: &mut String, alloc: Global, replica: &Replica) -> Result<(),
     ensures { OnOk result (string_bytes out.new ≡ string_bytes out.old ++ volume_text replica.now.server replica.now.volume) }
 {
     let volume = &replica.volume;
-    put_volume(out, replica.server, volume)?;
+    put_volume_line(out, replica.server, volume)?;
     let root = Fid {
         volume: volume.number(),
         vnode: 0,
@@ -204,12 +206,15 @@ fn put_listing(out: &mut String, fetched: bool, entries: &Entries) -> Result<(),
     put_entries(out, entries)
 }
 
-fn put_verdict(out: &mut String, number: u64, verdict: Verdict) -> Result<(), AllocError>
-    ensures { OnOk result (string_bytes out.new ≡ string_bytes out.old ++ chunk_text number verdict) }
+// Puts what became of the chunk of a number.
+fn put_chunk(out: &mut String, number: u64, verdict: Verdict) -> Result<(), AllocError>
+    ensures { OnOk result (string_bytes out.new ≡ string_bytes out.old ++ line (codes "chunk " ++ decimal number ++ 32 ∷ verdict_text verdict)) }
 {
     match verdict {
         Verdict::Applied => writeln!(out, "chunk {number} applied"),
-        Verdict::Conflict(record, why) => { writeln!(out, "chunk {number} conflict {record} {why}") }
+        Verdict::Conflict(record, why) => {
+            writeln!(out, "chunk {number} conflict {record} {why}")
+        }
     }
 }
 
@@ -229,7 +234,7 @@ fn put_refusal(out: &mut String, refusal: Refusal) -> Result<(), AllocError>
 }
 
 fn put_refused(out: &mut String, refusal: Refusal) -> Result<(), AllocError>
-    ensures { OnOk result (string_bytes out.new ≡ string_bytes out.old ++ refused_text refusal) }
+    ensures { OnOk result (string_bytes out.new ≡ string_bytes out.old ++ line (codes "refused " ++ refusal_text refusal)) }
 {
     out.push_str("refused ")?;
     put_refusal(out, refusal)?;
@@ -253,7 +258,7 @@ fn put_reply(out: &mut String, cell: &Cell, reply: &Reply) -> Result<(), AllocEr
         Reply::Accepted => out.push_str("ok\n"),
         Reply::Done { number, fid } => writeln!(out, "done {number} {fid}"),
         Reply::Listed { fetched, entries } => put_listing(out, *fetched, entries),
-        Reply::Chunk { number, verdict } => put_verdict(out, *number, *verdict),
+        Reply::Chunk { number, verdict } => put_chunk(out, *number, *verdict),
         Reply::Shown { .. } => put_shown(out, cell),
         Reply::Refused(refusal) => put_refused(out, *refusal),
     }

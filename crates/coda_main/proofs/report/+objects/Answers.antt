@@ -1,4 +1,4 @@
-use Rattle.std.proofs.Common.{◌≡◌, ℕ, ◌-◌, suc, ◌∷◌, Vec, Global, ◌++◌, OnOk, string_bytes, subst, sym, ap, refl, ◌∙◌, arith}
+use Rattle.std.proofs.Common.{◌≡◌, ℕ, ◌-◌, ◌∷◌, Vec, Global, ◌++◌, OnOk, string_bytes, subst, sym, ap, ◌∙◌, arith}
 use Rattle.std.specs.FinMap as map
 use Rattle.coda_tree.specs.Volume.{bindings}
 use Rattle.coda_main.specs.Texts.{object_lines}
@@ -45,7 +45,7 @@ put_objects-returns-in-File-clause-lines t c =
     (omega arith) c.in-Some.ensures (ap bindings c.in-File.is) c.deref.ensures.value c.in_ok-put_object_line-in-Some.ensures
 
 pub put_objects-returns-in-Link-clause-lines : goal.put_objects-returns-in-Link-clause-lines
-put_objects-returns-in-Link-clause-lines t c = 
+put_objects-returns-in-Link-clause-lines t c =
     leaf_lines (string_bytes c.args.out.now) (string_bytes c.put_object_line.new.out) c.args.volume.now.nodes c.args.levels (c.args.levels - 1) c.args.path.now.items c.deref.result.now c.args.fid c.in-Some.node.now
     (omega arith) c.in-Some.ensures (ap bindings c.in-Link.is) c.deref.ensures.value c.in_ok-put_object_line-in-Some.ensures
 
