@@ -5,6 +5,8 @@ use Rattle.coda_tree.specs.Volume.{Nodes}
 use Rattle.coda_certify.specs.declared.reason.Reason.{Reason}
 use Rattle.coda_certify.specs.Checks.{certify}
 use Rattle.coda_certify.specs.Replay.{applied, Replayed, unless_refused, replay}
+use Rattle.coda_certify.specs.declared.verdict.Verdict.TheVariants.{Applied, Conflict}
+use Rattle.coda_certify.specs.Verdicts.{verdict_of}
 use Rattle.coda_certify.specs.Laws.{IsFirstRefused, IsCertifiedAfter}
 
 -- a certified record is applied first
@@ -32,6 +34,19 @@ replay-append m client (rec ∷ front) back = replay_step m client rec front bac
 -- one more certified record is applied last
 pub replay-push : (m before : Nodes) (client : ℕ) (front : List Record) (rec : Record) → replay m client front ≡ Ok before → certify before rec.op ≡ None → replay m client (front ++ rec ∷ []) ≡ Ok (applied before client rec)
 replay-push m before client front rec h k = replay-append m client front (rec ∷ []) ∙ (ap (λ r. replay_on r client (rec ∷ [])) h ∙ replay-cons before client rec [] k)
+
+-- ---- what a verdict says
+
+pub ok_from_applied : (r : Replayed) → verdict_of r ≡ Applied → (left : Nodes) × (r ≡ Ok left)
+ok_from_applied (Ok m) h = (m, refl)
+ok_from_applied (Err e) h = cc
+
+pub err_from_conflict : (r : Replayed) (number : ℕ) (why : Reason) → verdict_of r ≡ Conflict number why → r ≡ Err (number, why)
+err_from_conflict (Ok m) number why h = cc
+err_from_conflict (Err e) number why h =
+    let p : e.0 ≡ number = cc in
+    let q : e.1 ≡ why = cc in
+    λ i. Err (p i, q i)
 
 -- ---- the laws
 

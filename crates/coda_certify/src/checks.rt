@@ -4,12 +4,13 @@ ghost use Rattle.coda_tree.specs.Volume.{child};
 ghost use Rattle.coda_certify.specs.Checks.{no_dir_of, marked_of, name_taken_of, fid_used_of, full_of, creation_checks, first_reason, certify as certify_op};
 
 use crate::Reason;
-use coda_fid::{Fid, Name, Op};
+use coda_fid::{Fid, Name, Op, Record};
 use coda_tree::{NodeKind, Volume};
 
 /// The most objects that a volume has.
 const MOST_OBJECTS: usize = 100_000;
 
+// No directory stands there.
 fn no_dir(volume: &Volume, dir: Fid) -> Option<Reason>
     ensures { result ≡ no_dir_of (map.get volume.now.nodes dir) dir }
 {
@@ -22,6 +23,7 @@ fn no_dir(volume: &Volume, dir: Fid) -> Option<Reason>
     }
 }
 
+// What stands there is marked as in conflict.
 fn marked(volume: &Volume, fid: Fid) -> Option<Reason>
     ensures { result ≡ marked_of (map.get volume.now.nodes fid) fid }
 {
@@ -37,12 +39,14 @@ fn marked(volume: &Volume, fid: Fid) -> Option<Reason>
     }
 }
 
+// The directory binds the name.
 fn name_taken(volume: &Volume, dir: Fid, name: &Name) -> Option<Reason>
     ensures { result ≡ name_taken_of (child volume.now.nodes dir name.now) }
 {
     volume.child(dir, name).map(Reason::NameTaken)
 }
 
+// An object stands there.
 fn fid_used(volume: &Volume, fid: Fid) -> Option<Reason>
     ensures { result ≡ fid_used_of (map.get volume.now.nodes fid) fid }
 {
@@ -52,6 +56,7 @@ fn fid_used(volume: &Volume, fid: Fid) -> Option<Reason>
     }
 }
 
+// The volume has all the objects that it may have.
 fn full(volume: &Volume) -> Option<Reason>
     ensures { result ≡ full_of (map.len volume.now.nodes) }
 {
@@ -63,6 +68,7 @@ fn full(volume: &Volume) -> Option<Reason>
     }
 }
 
+// The checks of a creation, in their order.
 fn certify_creation(volume: &Volume, dir: Fid, name: &Name, fid: Fid) -> Option<Reason>
     ensures { result ≡ first_reason volume.now.nodes (creation_checks dir name.now fid) }
 {
@@ -80,10 +86,10 @@ fn certify_creation(volume: &Volume, dir: Fid, name: &Name, fid: Fid) -> Option<
 /// directory stands where it is to be bound; where this directory is marked; where it binds the
 /// name; where an object has the new one's identifier; and where the volume has 100,000 objects.
 #[tactic(auto, unfolding(crate::specs::Checks::certify))]
-pub fn certify(volume: &Volume, op: &Op) -> Option<Reason>
-    ensures { result ≡ certify_op volume.now.nodes op.now }
+pub fn certify(volume: &Volume, rec: &Record) -> Option<Reason>
+    ensures { result ≡ certify_op volume.now.nodes rec.now.op }
 {
-    match op {
+    match &rec.op {
         Op::Create { dir, name, fid, .. } => certify_creation(volume, *dir, name, *fid),
         Op::Mkdir { dir, name, fid, .. } => certify_creation(volume, *dir, name, *fid),
     }

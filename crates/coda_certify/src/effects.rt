@@ -7,6 +7,7 @@ use coda_fid::{Bytes, Fid, Name, Op, Record, Sid};
 use coda_tree::{Entries, Node, NodeKind, NodeTable, Volume};
 use std::alloc::{AllocError, Global};
 
+// The name of a client's operation.
 fn sid_for(client: u8, rec: &Record) -> Sid
     ensures { result ≡ sid_of client rec.now }
 {
@@ -16,6 +17,7 @@ fn sid_for(client: u8, rec: &Record) -> Sid
     }
 }
 
+// A node that is not marked.
 fn make(kind: NodeKind, mode: u16, owner: u32, mtime: u64, sid: Sid) -> Node
     ensures { result ≡ made kind mode owner mtime sid }
 {
@@ -29,6 +31,7 @@ fn make(kind: NodeKind, mode: u16, owner: u32, mtime: u64, sid: Sid) -> Node
     }
 }
 
+// An empty file. Fails for want of memory alone.
 fn new_file(alloc: Global, mode: u16, owner: u32, mtime: u64, sid: Sid) -> Result<Node, AllocError>
     ensures made { IfOk result (λ node. node ≡ empty_file mode owner mtime sid) }
     ensures leaf { IfOk result IsLeaf }
@@ -37,6 +40,7 @@ fn new_file(alloc: Global, mode: u16, owner: u32, mtime: u64, sid: Sid) -> Resul
     Ok(make(NodeKind::File(content), mode, owner, mtime, sid))
 }
 
+// An empty directory.
 fn new_dir(alloc: Global, mode: u16, owner: u32, mtime: u64, sid: Sid) -> Node
     ensures made { result ≡ empty_dir mode owner mtime sid }
     ensures leaf { IsLeaf result }
@@ -44,6 +48,7 @@ fn new_dir(alloc: Global, mode: u16, owner: u32, mtime: u64, sid: Sid) -> Node
     make(NodeKind::Dir(Entries::new(alloc)), mode, owner, mtime, sid)
 }
 
+// Puts a new node into a volume. Fails for want of memory alone, and then changes nothing.
 fn create(
     volume: &mut Volume,
     dir: Fid,
@@ -60,6 +65,7 @@ fn create(
     volume.add(dir, name, fid, node)
 }
 
+// Puts a new node into a table, likewise.
 fn create_in_table(
     table: &mut NodeTable,
     dir: Fid,

@@ -7,6 +7,26 @@ use coda_fid::Record;
 use coda_tree::Volume;
 use std::alloc::{AllocError, Global};
 
+// Applies the records in turn, up to the first that is refused; what it leaves of a volume where one is refused, or
+// where memory runs out, is of no use.
+fn apply_in_turn(
+    alloc: Global,
+    volume: &mut Volume,
+    client: u8,
+    recs: &[Record],
+) -> Result<Verdict, AllocError>
+    ensures verdict { IfOk result (λ v. v ≡ verdict_of (replay_from volume.old.nodes client recs.now)) }
+    ensures applied { OnOk result (IfOk (replay_from volume.old.nodes client recs.now) (λ left. volume.new ≡ record volume.old { nodes = left })) }
+{
+    for rec in recs {
+        if let Some(why) = certify(volume, rec) {
+            return Ok(Verdict::Conflict(rec.number, why));
+        }
+        apply(alloc, volume, client, rec)?;
+    }
+    Ok(Verdict::Applied)
+}
+
 /// Replays a client's records in order, all or nothing (Kistler and Satyanarayanan 1992).
 ///
 /// Each record is certified after those before it were applied. Where one is refused, the verdict
@@ -26,12 +46,11 @@ pub fn replay(
     ensures err { OnErr result (volume.new ≡ volume.old) }
 {
     let mut next = volume.copy()?;
-    for rec in recs {
-        if let Some(why) = certify(&next, &rec.op) {
-            return Ok(Verdict::Conflict(rec.number, why));
+    match apply_in_turn(alloc, &mut next, client, recs)? {
+        Verdict::Applied => {
+            *volume = next;
+            Ok(Verdict::Applied)
         }
-        apply(alloc, &mut next, client, rec)?;
+        conflict => Ok(conflict),
     }
-    *volume = next;
-    Ok(Verdict::Applied)
 }

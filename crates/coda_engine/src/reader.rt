@@ -71,8 +71,7 @@ fn run_line<M: Machine, K: Sink>(
 impl Reader {
     ghost use Rattle.std.specs.Prelude.{◌≡◌, ◌≤◌, ◌∷◌, [], IfErr, OnOk, Err, MatchBool};
     ghost use Rattle.coda_io.specs.Faults.{Rose};
-    ghost use Rattle.coda_engine.specs.Machine.{Gives};
-    ghost use Rattle.coda_engine.specs.Reading.{HasRoom, IsFull, Stands, Advances, Stops, Ends};
+    ghost use Rattle.coda_engine.specs.Reading.{HasRoom, IsFull, Advances, Stops, Ends};
     ghost use Rattle.coda_engine.specs.Place.{place};
 
     /// A reader at the start of a script.

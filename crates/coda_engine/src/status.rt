@@ -7,19 +7,19 @@ use std::fmt;
 /// What is wrong in a line at its first wrong column.
 #[derive(Clone, Copy, Debug, PartialEq, Eq)]
 pub enum Kind {
-    /// A word that the language doesn't have there, or none.
+    /// A word isn't the one that must stand there.
     Word,
-    /// A number that isn't written as one, or isn't in its range.
+    /// A number isn't written as one, or isn't in its range.
     Number,
-    /// A quoted text that isn't written as one.
+    /// The bytes are no token, or a quoted text isn't in its range.
     Text,
-    /// A path that isn't one.
+    /// A path isn't one.
     Path,
-    /// Too few or too many of what a line lists.
+    /// A token is missing, or is one too many.
     Count,
-    /// A line that the command doesn't take, or not there.
+    /// The command doesn't take the line, or not in this place.
     Mode,
-    /// Actors that a line may not name together.
+    /// The line names one actor too many.
     Actors,
 }
 
@@ -50,9 +50,9 @@ pub enum Status {
     Script { line: u32, column: u32, kind: Kind },
     /// A read of the script was refused.
     SourceFault,
-    /// A write of the report was refused, or took nothing.
+    /// A write of the report was refused, or took nothing: the last line that ran has its reply written in part or not at all.
     SinkFault,
-    /// The script passes a limit: 16 MiB, or 200,000 lines.
+    /// A byte was read that passes 16 MiB or begins line 200,001.
     TooLong,
     /// There was no memory.
     Memory,

@@ -71,6 +71,7 @@ pub struct Record {
     pub op: Op,
 }
 
+// Whether one of two is the object.
 fn is_either(a: Fid, b: Fid, fid: Fid) -> bool
     ensures { result ≡ (same_fid a fid || same_fid b fid) }
 {
@@ -112,6 +113,7 @@ impl Op {
         }
     }
 
+    // The bytes of the names in it.
     fn byte_count(&self) -> u64
         ensures count { result ≡ bytes_of self.now }
         ensures small { result ≤ 255 }

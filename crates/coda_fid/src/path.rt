@@ -28,12 +28,14 @@ impl Model for Path {
     ghost invariant = { λ p. ArePathNames p.items.items };
 }
 
+// Whether each part between the `/` is a name.
 fn all_good(bytes: &[u8]) -> bool
     ensures { result ≡ list_all is_name (parts bytes.now) }
 {
     bytes.split(|b| *b == b'/').all(is_good)
 }
 
+// Whether the bytes are the text of a path.
 fn is_path_text(bytes: &[u8]) -> bool
     ensures { result ≡ is_path bytes.now }
 {
@@ -47,6 +49,7 @@ fn is_path_text(bytes: &[u8]) -> bool
     }
 }
 
+// The parts between the `/`, which are names.
 fn read_parts(alloc: Global, bytes: &[u8]) -> Result<Vec<Name>, AllocError>
     requires { IsTrue (list_all is_name (parts bytes.now)) }
     ensures { IfOk result (λ names. names.items ≡ parts bytes.now) }
@@ -59,6 +62,7 @@ fn read_parts(alloc: Global, bytes: &[u8]) -> Result<Vec<Name>, AllocError>
     Ok(names)
 }
 
+// The names that the text of a path leads through.
 fn read_names(alloc: Global, bytes: &[u8]) -> Result<Vec<Name>, AllocError>
     requires { IsTrue (is_path bytes.now) }
     ensures { IfOk result (λ names. names.items ≡ names_in bytes.now) }
@@ -69,6 +73,7 @@ fn read_names(alloc: Global, bytes: &[u8]) -> Result<Vec<Name>, AllocError>
     }
 }
 
+// The same names, in memory of their own.
 fn copy_names(alloc: Global, names: &[Name]) -> Result<Vec<Name>, AllocError>
     ensures { IfOk result (λ copies. copies.items ≡ names.now) }
 {

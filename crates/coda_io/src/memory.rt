@@ -1,5 +1,5 @@
 // A source and a sink in memory, which fail at the calls that they are told to fail at.
-ghost use Rattle.std.specs.Prelude.{◌≡◌, ◌<◌, ◌≤◌, length, Ok};
+ghost use Rattle.std.specs.Prelude.{◌≡◌};
 ghost use Rattle.coda_io.specs.Memory.{supply_of, store_of};
 
 use crate::{ReadFault, Sink, Source, WriteFault};

@@ -1,13 +1,14 @@
 -- What the cell of the code stands for.
-use Rattle.std.specs.Prelude.{◌≡◌, List, Option}
+use Rattle.std.specs.Prelude.{◌≡◌, List, Option, Some}
 use Rattle.std.specs.Option.{option_map}
 use Rattle.coda_main.specs.declared.cell.Cell.{Cell}
 use Rattle.coda_main.specs.declared.cell.Replica.{Replica}
 use Rattle.coda_main.specs.declared.line.Line.{Line}
 use Rattle.coda_main.specs.declared.reply.Reply.{Reply}
-use Rattle.coda_main.specs.State.{ReplicaState, CellState, Event, after_all}
+use Rattle.coda_main.specs.declared.line.Link.{Link}
+use Rattle.coda_main.specs.State.{ClientState, ReplicaState, CellState, Event, after_all}
 use Rattle.coda_main.specs.Code.{client_state}
-use Rattle.coda_main.specs.Steps.{Does}
+use Rattle.coda_main.specs.Steps.{Does, Outcome}
 
 -- what a replica is
 abbrev pub replica_state : Replica → ReplicaState
@@ -22,3 +23,12 @@ pub record Runs (old : CellState) (line : Line) (reply : Reply) (new : CellState
   pub events : List Event
   pub does : Does old line reply events
   pub left : new ≡ after_all old events
+
+-- a cell with one client and one replica
+abbrev pub pair : Link → ClientState → ReplicaState → CellState
+pair link c r = record { replica = Some r; client = Some c; link = link }
+
+-- a client and a replica acted together with this reply, and were left so
+pub record Act (outcome : Outcome) (link : Link) (c : ClientState) (r : ReplicaState) (reply : Reply) (c' : ClientState) (r' : ReplicaState) : Type 0 where
+  pub answered : reply ≡ outcome.reply
+  pub left : pair link c' r' ≡ after_all (pair link c r) outcome.events

@@ -9,6 +9,9 @@ pub mod Code
 pub mod Steps
 pub mod Cells
 pub mod Printing
-pub mod Texts
 pub mod Lines
+pub mod Texts
 pub mod ShownWhole
+pub mod PlainRun
+pub mod Shows
+pub mod Headline

@@ -1,5 +1,5 @@
 -- The words of a line of a script.
-use Rattle.std.specs.Prelude.{ℕ, zero, suc, Bool, true, false, not, ◌||◌, ◌==◌, ◌+◌, if◌then◌else◌, List, [], ◌∷◌, length, take, drop, Option, Some, None}
+use Rattle.std.specs.Prelude.{◌≡◌, codes, ℕ, zero, suc, Bool, true, false, not, ◌||◌, ◌==◌, ◌+◌, if◌then◌else◌, List, [], ◌∷◌, length, take, drop, Option, Some, None}
 use Rattle.std.specs.Option.{option_map_or}
 
 -- a space or a tab
@@ -38,3 +38,7 @@ first_words (suc most) line = option_map_or (λ found. found.0 ∷ first_words m
 abbrev pub is_silent : List ℕ → Bool
 is_silent [] = true
 is_silent (byte ∷ bytes) = if is_blank byte then is_silent bytes else byte == 35
+
+-- the words of a command line that runs a script: the one word `run`
+abbrev pub IsRun : List (List ℕ) → Type 0
+IsRun words = words ≡ codes "run" ∷ []

@@ -1,6 +1,12 @@
 // The cell: one replica of one volume, one client, and the link between them.
+ghost use Rattle.std.specs.Prelude.{◌≡◌, IfOk};
+ghost use Rattle.std.specs.Option.{option_map};
+ghost use Rattle.coda_main.specs.Code.{client_state, nodes_offered};
+ghost use Rattle.coda_main.specs.Steps.{reached, drain};
+ghost use Rattle.coda_main.specs.Cells.{replica_state, Act};
+
 use crate::client::Client;
-use crate::line::{Line, Link};
+use crate::line::{Ask, Line, Link};
 use crate::reply::{Refusal, Reply};
 use coda_certify::{Verdict, replay};
 use coda_fid::Record;
@@ -24,6 +30,44 @@ pub struct Cell {
     pub replica: Option<Replica>,
     pub client: Option<Client>,
     pub link: Link,
+}
+
+// The volume from which the client can fetch.
+fn offers(link: Link, replica: &Option<Replica>) -> Option<&Volume>
+    ensures { nodes_offered result ≡ reached link (option_map replica_state replica.now) }
+{
+    match link {
+        Link::Down => None,
+        Link::Strong => match replica {
+            Some(replica) => Some(&replica.volume),
+            None => None,
+        },
+    }
+}
+
+// Sends the whole log of a client to a replica, which decides it.
+fn send(
+    alloc: Global,
+    link: Link,
+    client: &mut Client,
+    replica: &mut Replica,
+) -> Result<Reply, AllocError>
+    ensures { IfOk result (λ reply. Act (drain link (client_state client.old) (replica_state replica.old)) link (client_state client.old) (replica_state replica.old) reply (client_state client.new) (replica_state replica.new)) }
+{
+    match link {
+        Link::Down => return Ok(Reply::Refused(Refusal::LinkDown)),
+        Link::Strong => {}
+    }
+    if client.log.is_empty() {
+        return Ok(Reply::Refused(Refusal::Nothing));
+    }
+    if client.chunks >= MOST_CHUNKS {
+        return Ok(Reply::Refused(Refusal::JournalFull));
+    }
+    let number = client.chunks + 1;
+    let verdict = replica.decide(alloc, client.number, &client.log)?;
+    client.settle(number, &verdict);
+    Ok(Reply::Chunk { number, verdict })
 }
 
 impl Replica {
@@ -56,7 +100,8 @@ impl Replica {
 }
 
 impl Cell {
-    ghost use Rattle.std.specs.Prelude.{◌≡◌, IfOk, IsTrue};
+    ghost use Rattle.std.specs.Prelude.{◌≡◌, ℕ, true, IfOk, IsSome};
+    ghost use Rattle.coda_main.specs.declared.line.Line.TheVariants as Line;
     ghost use Rattle.coda_main.specs.State.{empty_state};
     ghost use Rattle.coda_main.specs.Steps.{is_built, is_client, is_volume, is_server};
     ghost use Rattle.coda_main.specs.Cells.{cell_state, Runs};
@@ -116,6 +161,83 @@ impl Cell {
                 self.is_client(*client) && (self.is_volume(*volume) && self.is_server(*server))
             }
             Line::Show { server, volume } => self.is_volume(*volume) && self.is_server(*server),
+        }
+    }
+
+    fn make_volume(&mut self, volume: u32, server: u8) -> Result<Reply, AllocError>
+        ensures { IfOk result (λ reply. Runs (cell_state self.old) (Line.Volume volume server) reply (cell_state self.new)) }
+    {
+        let replica = Replica::new(self.alloc, server, volume)?;
+        self.replica = Some(replica);
+        Ok(Reply::Opened)
+    }
+
+    fn make_client(&mut self, client: u8, blocks: u32) -> Reply
+        ensures { Runs (cell_state self.old) (Line.Client client blocks) result (cell_state self.new) }
+    {
+        self.client = Some(Client::new(self.alloc, client, blocks));
+        Reply::Opened
+    }
+
+    fn set_link(&mut self, link: Link) -> Reply
+        ensures { (client server : ℕ) → Runs (cell_state self.old) (Line.Link client server link) result (cell_state self.new) }
+    {
+        self.link = link;
+        Reply::Accepted
+    }
+
+    fn list(&mut self, volume: u32) -> Result<Reply, AllocError>
+        requires { IsSome self.old.client }
+        ensures { IfOk result (λ reply. (client : ℕ) → Runs (cell_state self.old) (Line.List client volume) reply (cell_state self.new)) }
+    {
+        let offers = offers(self.link, &self.replica);
+        match &mut self.client {
+            Some(client) => client.list(offers, volume),
+            None => Ok(Reply::Accepted),
+        }
+    }
+
+    fn create(&mut self, volume: u32, ask: &Ask) -> Result<Reply, AllocError>
+        requires { IsSome self.old.client }
+        ensures { IfOk result (λ reply. (client : ℕ) → Runs (cell_state self.old) (Line.Operation client volume ask.now) reply (cell_state self.new)) }
+    {
+        let offers = offers(self.link, &self.replica);
+        match &mut self.client {
+            Some(client) => client.create(self.alloc, offers, volume, ask),
+            None => Ok(Reply::Accepted),
+        }
+    }
+
+    fn drain(&mut self) -> Result<Reply, AllocError>
+        requires client { IsSome self.old.client }
+        requires replica { IsSome self.old.replica }
+        ensures { IfOk result (λ reply. (client volume server : ℕ) → Runs (cell_state self.old) (Line.Drain client volume server) reply (cell_state self.new)) }
+    {
+        match &mut self.client {
+            Some(client) => match &mut self.replica {
+                Some(replica) => send(self.alloc, self.link, client, replica),
+                None => Ok(Reply::Accepted),
+            },
+            None => Ok(Reply::Accepted),
+        }
+    }
+
+    /// Carries a line out.
+    pub fn step(&mut self, line: &Line) -> Result<Reply, AllocError>
+        requires { is_built (cell_state self.old) line.now ≡ true }
+        ensures { IfOk result (λ reply. Runs (cell_state self.old) line.now reply (cell_state self.new)) }
+    {
+        match line {
+            Line::Volume { volume, server } => self.make_volume(*volume, *server),
+            Line::Client { client, blocks } => Ok(self.make_client(*client, *blocks)),
+            Line::Link { link, .. } => Ok(self.set_link(*link)),
+            Line::List { volume, .. } => self.list(*volume),
+            Line::Operation { volume, ask, .. } => self.create(*volume, ask),
+            Line::Drain { .. } => self.drain(),
+            Line::Show { server, volume } => Ok(Reply::Shown {
+                server: *server,
+                volume: *volume,
+            }),
         }
     }
 }

@@ -4,7 +4,7 @@ ghost use Rattle.coda_fid.specs.Fid.{root_of};
 ghost use Rattle.std.specs.Option.{option_map};
 ghost use Rattle.coda_main.specs.Ask.{names_of, op_of, ending};
 
-use coda_certify::apply_to_table;
+use coda_certify::{Verdict, apply_to_table};
 use coda_fid::{Fid, Name, Op, Path, Record};
 use coda_tree::{NodeKind, NodeTable, Volume};
 use std::alloc::{AllocError, Global};
@@ -86,12 +86,12 @@ pub struct Client {
 }
 
 impl Client {
-    ghost use Rattle.std.specs.Prelude.{◌≡◌, ◌<◌, None, Some, OnOk, IfOk};
+    ghost use Rattle.std.specs.Prelude.{◌≡◌, ◌<◌, ℕ, ◌∷◌, [], None, Some, OnOk, IfOk};
     ghost use Rattle.std.specs.FinMap as map;
     ghost use Rattle.coda_fid.specs.declared.fid.Fid.{Fid};
     ghost use Rattle.coda_tree.specs.Volume.{child, IsDirAt};
     ghost use Rattle.coda_certify.specs.Replay.{MayApply};
-    ghost use Rattle.coda_main.specs.State.{new_client, client_after, Operated};
+    ghost use Rattle.coda_main.specs.State.{new_client, client_after, client_after_all, Operated, Froze, Settled};
     ghost use Rattle.coda_main.specs.Asking.{looked, step_from, walk, list_root, is_full, refusal_under, create_new, create_from, create_along, root_answer, create};
     ghost use Rattle.coda_main.specs.Code.{client_state, nodes_offered, Reaches, Gives};
 
@@ -321,6 +321,17 @@ impl Client {
         match self.walk(offers, root_fid(volume), front)? {
             Ok(dir) => self.create_from(alloc, offers, volume, ask, name, dir),
             Err(refusal) => Ok(Reply::Refused(refusal)),
+        }
+    }
+
+    /// Takes what became of the chunk of this number, which was the whole log.
+    pub fn settle(&mut self, number: u64, verdict: &Verdict)
+        ensures { (server last : ℕ) → client_state self.new ≡ client_after_all (client_state self.old) (Froze number server last ∷ Settled number verdict.now ∷ []) }
+    {
+        self.chunks = number;
+        match verdict {
+            Verdict::Applied => self.log.clear(),
+            Verdict::Conflict(_, _) => {}
         }
     }
 }

@@ -4,12 +4,19 @@
 mod cell;
 mod client;
 mod forms;
-mod law;
+mod laws;
 mod line;
+mod machine;
 mod number;
 mod printing;
 mod reply;
 mod report;
+mod top;
 mod words;
 
-pub use law::volumes_are_shown_whole;
+pub use coda_engine::{Kind, Status};
+pub use laws::{
+    certified_chunks_are_applied, chunks_are_decided_once, clean_scripts_run,
+    conflicts_name_a_sent_record, one_status, volumes_are_shown_whole,
+};
+pub use top::{coda, run_script};

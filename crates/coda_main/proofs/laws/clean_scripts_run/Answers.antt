@@ -1,0 +1,8 @@
+use Rattle.std.proofs.Common.{refl}
+use Rattle.coda_engine.proofs.OneRun.{clean_scripts_run}
+use Rattle.coda_main.specs.Plain.{empty_cell}
+use Rattle.coda_main.proofs.Made.{cells_tell}
+use Rattle.coda_main.proofs.laws.clean_scripts_run.Goals as goal
+
+pub returns : goal.returns
+returns c = clean_scripts_run cells_tell empty_cell empty_cell refl

@@ -1,0 +1,5 @@
+use Rattle.coda_main.proofs.Verdicts.{conflicts_name_a_sent_record}
+use Rattle.coda_main.proofs.laws.conflicts_name_a_sent_record.Goals as goal
+
+pub returns : goal.returns
+returns c = conflicts_name_a_sent_record

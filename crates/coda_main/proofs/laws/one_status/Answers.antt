@@ -1,0 +1,8 @@
+use Rattle.std.proofs.Common.{refl}
+use Rattle.coda_engine.proofs.OneStatus.{one_status}
+use Rattle.coda_main.specs.Plain.{empty_cell}
+use Rattle.coda_main.proofs.Made.{cells_tell}
+use Rattle.coda_main.proofs.laws.one_status.Goals as goal
+
+pub returns : goal.returns
+returns c = one_status cells_tell empty_cell empty_cell refl refl
