@@ -1,22 +1,13 @@
--- One step over the bytes that are printed, and over lines.
-use Rattle.std.proofs.Common.{◌≡◌, ℕ, zero, suc, ◌+◌, ◌<◌, ◌≤◌, Bool, true, false, ◌&&◌, List, [], ◌∷◌, ◌++◌, length, get_or, drop, take, Some, refl, sym, ap, ◌∙◌, add-one, append_assoc, arith}
+-- Bytes that escape to themselves, and one step over what is printed.
+use Rattle.std.proofs.Common.{◌≡◌, ℕ, zero, suc, ◌+◌, ◌≤◌, Bool, true, false, ◌&&◌, List, [], ◌∷◌, ◌++◌, length, take, Some, refl, sym, ap, ◌∙◌, add-one, append_assoc, arith}
 use Rattle.std.specs.Prelude.{slice_get, nat_le, not, ◌==◌, ◌||◌, if◌then◌else◌, ◌/◌, ◌%◌}
 use Rattle.std.specs.List.{flat_map, list_all}
-use Rattle.std.proofs.lemmas.List.{drop_all, take_all}
+use Rattle.std.proofs.lemmas.List.{take_all}
 use Rattle.std.proofs.lemmas.Option.{same_Some, none-some}
 use Rattle.std.proofs.lemmas.Bool.Decides.{nat_tests}
 use Rattle.coda_tree.proofs.Booleans.{and_true}
 use Rattle.coda_main.specs.Printing.{hex_digit, escaped, quoted, printed, is_open_byte, is_open}
-use Rattle.coda_main.proofs.Bytes.{at_byte, append-nil}
-
-pub open_goes : (bytes : List ℕ) (i : ℕ) → i < length bytes → is_open_byte (get_or bytes i 0) ≡ true → list_all is_open_byte (drop i bytes) ≡ list_all is_open_byte (drop (i + 1) bytes)
-open_goes bytes i lt e = rw (at_byte bytes i lt, e) refl
-
-pub open_stops : (bytes : List ℕ) (i : ℕ) → i < length bytes → is_open_byte (get_or bytes i 0) ≡ false → list_all is_open_byte (drop i bytes) ≡ false
-open_stops bytes i lt e = rw (at_byte bytes i lt, e) refl
-
-pub open_ends : (bytes : List ℕ) (i : ℕ) → length bytes ≤ i → list_all is_open_byte (drop i bytes) ≡ true
-open_ends bytes i le = rw (drop_all i bytes le) refl
+use Rattle.coda_main.proofs.Bytes.{append-nil}
 
 wider : (b : ℕ) → nat_le 33 b ≡ true → nat_le 32 b ≡ true
 wider b h = grind (arith, nat_tests)
@@ -31,12 +22,13 @@ escaped_open : (b : ℕ) → is_open_byte b ≡ true → escaped b ≡ b ∷ []
 escaped_open b h = open_test (nat_le 33 b) (nat_le b 126) (b == 34) (b == 92) (nat_le 32 b) (92 ∷ b ∷ []) (b ∷ []) (92 ∷ 120 ∷ hex_digit (b / 16) ∷ hex_digit (b % 16) ∷ []) h (wider b)
 
 -- and so are open bytes
-pub escaped_all : (bytes : List ℕ) → list_all is_open_byte bytes ≡ true → flat_map escaped bytes ≡ bytes
+escaped_all : (bytes : List ℕ) → list_all is_open_byte bytes ≡ true → flat_map escaped bytes ≡ bytes
 escaped_all [] h = refl
 escaped_all (b ∷ bytes) h =
     let both = and_true (is_open_byte b) (list_all is_open_byte bytes) h in
     rw (escaped_open b both.0, escaped_all bytes both.1) refl
 
+-- so open bytes are printed as they are escaped
 pub escaped_printed : (bytes : List ℕ) → is_open bytes ≡ true → flat_map escaped bytes ≡ printed bytes
 escaped_printed bytes h = escaped_all bytes (and_true (nat_le 1 (length bytes)) (list_all is_open_byte bytes) h).1 ∙ sym (ap (λ (b : Bool). if b then bytes else quoted bytes) h)
 

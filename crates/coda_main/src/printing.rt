@@ -59,8 +59,8 @@ fn put_escaped(out: &mut String, bytes: &[u8]) -> Result<(), AllocError>
     Ok(())
 }
 
-/// Prints bytes between quotes.
-pub fn put_quoted(out: &mut String, bytes: &[u8]) -> Result<(), AllocError>
+// Prints bytes between quotes.
+fn put_quoted(out: &mut String, bytes: &[u8]) -> Result<(), AllocError>
     ensures { OnOk result (string_bytes out.new ≡ string_bytes out.old ++ quoted bytes.now) }
 {
     put_byte(out, b'"')?;
