@@ -1,5 +1,6 @@
 // Scripts of the most lines and bytes, and of the most objects.
 use crate::running::{put_lines, run_script};
+use crate::table::OPENED;
 use coda_main::Status;
 use std::alloc::{AllocError, Global};
 use std::test::Fail;
@@ -18,20 +19,23 @@ fn script_of(alloc: Global, bytes: usize) -> Result<Vec<u8>, AllocError> {
     Ok(script)
 }
 
-// A script with so many directories of 99 files each, which are then sent and shown.
-fn full_script(alloc: Global, directories: u32) -> Result<Vec<u8>, AllocError> {
-    let mut script = ACTORS.to_vec(alloc)?;
-    script.extend_from_slice(b"link 1 1 strong\n")?;
-    for directory in 0..directories {
-        let line = format!(in alloc; "mkdir 1 7 /d{directory}\n")?;
+// Puts the lines that create these objects behind a script: directories, of 99 files each.
+fn put_creations(
+    alloc: Global,
+    script: &mut Vec<u8>,
+    from: u32,
+    to: u32,
+) -> Result<(), AllocError> {
+    for object in from..to {
+        let (directory, file) = (object / 100, object % 100);
+        let line = if file == 0 {
+            format!(in alloc; "mkdir 1 7 /d{directory}\n")?
+        } else {
+            format!(in alloc; "create 1 7 /d{directory}/f{file}\n")?
+        };
         script.extend_from_slice(line.as_bytes())?;
-        for file in 0u32..99 {
-            let line = format!(in alloc; "create 1 7 /d{directory}/f{file}\n")?;
-            script.extend_from_slice(line.as_bytes())?;
-        }
     }
-    script.extend_from_slice(b"drain 1 7 1 window 0\nshow volume 1 7\n")?;
-    Ok(script)
+    Ok(())
 }
 
 #[test]
@@ -75,14 +79,42 @@ fn sixteen_mebibytes_run(rt: HostRuntime) -> Result<(), Fail> {
     Ok(())
 }
 
+// The root is an object too, so a client may add 99,999.
 #[test]
 fn a_volume_has_at_most_a_hundred_thousand_objects(rt: HostRuntime) -> Result<(), Fail> {
     let alloc = rt.alloc();
-    let (status, sink) = run_script(alloc, full_script(alloc, 1000)?)?;
-    assert_eq!(rt; status, Status::Done);
+    let mut script = OPENED.to_vec(alloc)?;
+    put_creations(alloc, &mut script, 0, 100_000)?;
+    script.extend_from_slice(b"drain 1 7 1 window 0\nshow volume 1 7\n")?;
+    let (status, sink) = run_script(alloc, script)?;
     let report = std::str::from_utf8(sink.bytes())?;
-    let end =
-        "\ndone 100000 7.1.100000\nchunk 1 conflict 100000 volume-full 100000\nvolume 7 at 1 objects 1\n/ dir 7.0.1 0755 0 0 0.0\n";
-    assert!(rt; report.ends_with(end), "the volume is as before");
+    let end = "\ndone 100000 7.1.100000
+chunk 1 conflict 100000 volume-full 100000
+volume 7 at 1 objects 1
+/ dir 7.0.1 0755 0 0 0.0
+";
+    assert_eq!(rt; status, Status::Done);
+    assert!(rt;
+        report.ends_with(end),
+        "one object too many, and the volume is as before"
+    );
+
+    let mut script = OPENED.to_vec(alloc)?;
+    put_creations(alloc, &mut script, 0, 99_999)?;
+    script.extend_from_slice(b"drain 1 7 1 window 0\n")?;
+    put_creations(alloc, &mut script, 99_999, 100_000)?;
+    script.extend_from_slice(b"drain 1 7 1 window 0\n")?;
+    let (status, sink) = run_script(alloc, script)?;
+    let report = std::str::from_utf8(sink.bytes())?;
+    let end = "\ndone 99999 7.1.99999
+chunk 1 applied
+done 100000 7.1.100000
+chunk 2 conflict 100000 volume-full 100000
+";
+    assert_eq!(rt; status, Status::Done);
+    assert!(rt;
+        report.ends_with(end),
+        "a full volume, and then one object too many"
+    );
     Ok(())
 }

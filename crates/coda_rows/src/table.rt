@@ -453,38 +453,14 @@ pub fn faulty_links() -> &'static [Row] {
         ("link_cut_off", b"volume 7 on 1\nclient 1 cache 100\nlink 1 1\nshow volume 1 7\n", "opened 0\nopened 0\n", BAD_3),
         ("link_too_long", b"volume 7 on 1\nclient 1 cache 100\nlink 1 1 strong 1\nshow volume 1 7\n", "opened 0\nopened 0\n", BAD_3),
         ("link_quoted", b"volume 7 on 1\nclient 1 cache 100\nlink 1 1 \"strong\"\nshow volume 1 7\n", "opened 0\nopened 0\n", BAD_3),
-        ("list_of_no_client", b"volume 7 on 1
-client 1 cache 100
-link 1 1 strong
-list x 7 /
-show volume 1 7
-", "opened 0
-opened 0
-ok
-", BAD_4),
-        ("list_of_no_volume", b"volume 7 on 1
-client 1 cache 100
-link 1 1 strong
-list 1 x /
-show volume 1 7
-", "opened 0
-opened 0
-ok
-", BAD_4),
-        ("list_of_volume_0", b"volume 7 on 1\nclient 1 cache 100\nlink 1 1 strong\nlist 1 0 /\nshow volume 1 7\n", "opened 0\nopened 0\nok\n", BAD_4),
-        ("list_of_a_name", b"volume 7 on 1\nclient 1 cache 100\nlink 1 1 strong\nlist 1 7 /a\nshow volume 1 7\n", "opened 0\nopened 0\nok\n", BAD_4),
-        ("list_of_two_slashes", b"volume 7 on 1
-client 1 cache 100
-link 1 1 strong
-list 1 7 //
-show volume 1 7
-", "opened 0
-opened 0
-ok
-", BAD_4),
-        ("list_cut_off", b"volume 7 on 1\nclient 1 cache 100\nlink 1 1 strong\nlist 1 7\nshow volume 1 7\n", "opened 0\nopened 0\nok\n", BAD_4),
-        ("list_too_long", b"volume 7 on 1\nclient 1 cache 100\nlink 1 1 strong\nlist 1 7 / /\nshow volume 1 7\n", "opened 0\nopened 0\nok\n", BAD_4),
-        ("list_quoted", b"volume 7 on 1\nclient 1 cache 100\nlink 1 1 strong\nlist 1 7 \"/\"\nshow volume 1 7\n", "opened 0\nopened 0\nok\n", BAD_4),
+        ("list_of_no_client", b"volume 7 on 1\nclient 1 cache 100\nlist x 7 /\nshow volume 1 7\n", "opened 0\nopened 0\n", BAD_3),
+        ("list_of_no_volume", b"volume 7 on 1\nclient 1 cache 100\nlist 1 x /\nshow volume 1 7\n", "opened 0\nopened 0\n", BAD_3),
+        ("list_of_volume_0", b"volume 7 on 1\nclient 1 cache 100\nlist 1 0 /\nshow volume 1 7\n", "opened 0\nopened 0\n", BAD_3),
+        ("list_of_a_name", b"volume 7 on 1\nclient 1 cache 100\nlist 1 7 /a\nshow volume 1 7\n", "opened 0\nopened 0\n", BAD_3),
+        ("list_of_two_slashes", b"volume 7 on 1\nclient 1 cache 100\nlist 1 7 //\nshow volume 1 7\n", "opened 0\nopened 0\n", BAD_3),
+        ("list_cut_off", b"volume 7 on 1\nclient 1 cache 100\nlist 1 7\nshow volume 1 7\n", "opened 0\nopened 0\n", BAD_3),
+        ("list_too_long", b"volume 7 on 1\nclient 1 cache 100\nlist 1 7 / /\nshow volume 1 7\n", "opened 0\nopened 0\n", BAD_3),
+        ("list_quoted", b"volume 7 on 1\nclient 1 cache 100\nlist 1 7 \"/\"\nshow volume 1 7\n", "opened 0\nopened 0\n", BAD_3),
     ]
 }
 
@@ -492,107 +468,19 @@ ok
 #[rattlefmt::skip]
 pub fn faulty_creations() -> &'static [Row] {
     &[
-        ("mkdir_of_no_client", b"volume 7 on 1
-client 1 cache 100
-link 1 1 strong
-mkdir x 7 /a
-show volume 1 7
-", "opened 0
-opened 0
-ok
-", BAD_4),
-        ("mkdir_of_no_volume", b"volume 7 on 1
-client 1 cache 100
-link 1 1 strong
-mkdir 1 x /a
-show volume 1 7
-", "opened 0
-opened 0
-ok
-", BAD_4),
-        ("mkdir_of_no_path", b"volume 7 on 1
-client 1 cache 100
-link 1 1 strong
-mkdir 1 7 a
-show volume 1 7
-", "opened 0
-opened 0
-ok
-", BAD_4),
-        ("mkdir_cut_off", b"volume 7 on 1\nclient 1 cache 100\nlink 1 1 strong\nmkdir 1 7\nshow volume 1 7\n", "opened 0\nopened 0\nok\n", BAD_4),
-        ("mkdir_too_long", b"volume 7 on 1
-client 1 cache 100
-link 1 1 strong
-mkdir 1 7 /a /b
-show volume 1 7
-", "opened 0
-opened 0
-ok
-", BAD_4),
-        ("mkdir_with_a_mode", b"volume 7 on 1
-client 1 cache 100
-link 1 1 strong
-mkdir 1 7 /a mode 0700
-show volume 1 7
-", "opened 0
-opened 0
-ok
-", BAD_4),
-        ("mkdir_quoted", b"volume 7 on 1
-client 1 cache 100
-link 1 1 strong
-mkdir 1 7 \"/a\"
-show volume 1 7
-", "opened 0
-opened 0
-ok
-", BAD_4),
-        ("create_of_no_client", b"volume 7 on 1
-client 1 cache 100
-link 1 1 strong
-create x 7 /a
-show volume 1 7
-", "opened 0
-opened 0
-ok
-", BAD_4),
-        ("create_of_no_volume", b"volume 7 on 1
-client 1 cache 100
-link 1 1 strong
-create 1 x /a
-show volume 1 7
-", "opened 0
-opened 0
-ok
-", BAD_4),
-        ("create_of_no_path", b"volume 7 on 1
-client 1 cache 100
-link 1 1 strong
-create 1 7 a
-show volume 1 7
-", "opened 0
-opened 0
-ok
-", BAD_4),
-        ("create_cut_off", b"volume 7 on 1\nclient 1 cache 100\nlink 1 1 strong\ncreate 1 7\nshow volume 1 7\n", "opened 0\nopened 0\nok\n", BAD_4),
-        ("create_too_long", b"volume 7 on 1
-client 1 cache 100
-link 1 1 strong
-create 1 7 /a /b
-show volume 1 7
-", "opened 0
-opened 0
-ok
-", BAD_4),
-        ("create_quoted", b"volume 7 on 1
-client 1 cache 100
-link 1 1 strong
-create 1 7 \"/a\"
-show volume 1 7
-", "opened 0
-opened 0
-ok
-", BAD_4),
+        ("mkdir_of_no_client", b"volume 7 on 1\nclient 1 cache 100\nmkdir x 7 /a\nshow volume 1 7\n", "opened 0\nopened 0\n", BAD_3),
+        ("mkdir_of_no_volume", b"volume 7 on 1\nclient 1 cache 100\nmkdir 1 x /a\nshow volume 1 7\n", "opened 0\nopened 0\n", BAD_3),
+        ("mkdir_of_no_path", b"volume 7 on 1\nclient 1 cache 100\nmkdir 1 7 a\nshow volume 1 7\n", "opened 0\nopened 0\n", BAD_3),
+        ("mkdir_cut_off", b"volume 7 on 1\nclient 1 cache 100\nmkdir 1 7\nshow volume 1 7\n", "opened 0\nopened 0\n", BAD_3),
+        ("mkdir_too_long", b"volume 7 on 1\nclient 1 cache 100\nmkdir 1 7 /a /b\nshow volume 1 7\n", "opened 0\nopened 0\n", BAD_3),
+        ("mkdir_with_a_mode", b"volume 7 on 1\nclient 1 cache 100\nmkdir 1 7 /a mode 0700\nshow volume 1 7\n", "opened 0\nopened 0\n", BAD_3),
+        ("mkdir_quoted", b"volume 7 on 1\nclient 1 cache 100\nmkdir 1 7 \"/a\"\nshow volume 1 7\n", "opened 0\nopened 0\n", BAD_3),
+        ("create_of_no_client", b"volume 7 on 1\nclient 1 cache 100\ncreate x 7 /a\nshow volume 1 7\n", "opened 0\nopened 0\n", BAD_3),
+        ("create_of_no_volume", b"volume 7 on 1\nclient 1 cache 100\ncreate 1 x /a\nshow volume 1 7\n", "opened 0\nopened 0\n", BAD_3),
+        ("create_of_no_path", b"volume 7 on 1\nclient 1 cache 100\ncreate 1 7 a\nshow volume 1 7\n", "opened 0\nopened 0\n", BAD_3),
+        ("create_cut_off", b"volume 7 on 1\nclient 1 cache 100\ncreate 1 7\nshow volume 1 7\n", "opened 0\nopened 0\n", BAD_3),
+        ("create_too_long", b"volume 7 on 1\nclient 1 cache 100\ncreate 1 7 /a /b\nshow volume 1 7\n", "opened 0\nopened 0\n", BAD_3),
+        ("create_quoted", b"volume 7 on 1\nclient 1 cache 100\ncreate 1 7 \"/a\"\nshow volume 1 7\n", "opened 0\nopened 0\n", BAD_3),
     ]
 }
 
@@ -600,87 +488,15 @@ ok
 #[rattlefmt::skip]
 pub fn faulty_paths() -> &'static [Row] {
     &[
-        ("path_with_two_slashes", b"volume 7 on 1
-client 1 cache 100
-link 1 1 strong
-create 1 7 //a
-show volume 1 7
-", "opened 0
-opened 0
-ok
-", BAD_4),
-        ("path_with_a_slash_behind", b"volume 7 on 1
-client 1 cache 100
-link 1 1 strong
-mkdir 1 7 /a/
-show volume 1 7
-", "opened 0
-opened 0
-ok
-", BAD_4),
-        ("path_with_a_dot", b"volume 7 on 1
-client 1 cache 100
-link 1 1 strong
-create 1 7 /.
-show volume 1 7
-", "opened 0
-opened 0
-ok
-", BAD_4),
-        ("path_with_two_dots", b"volume 7 on 1
-client 1 cache 100
-link 1 1 strong
-create 1 7 /..
-show volume 1 7
-", "opened 0
-opened 0
-ok
-", BAD_4),
-        ("path_through_two_dots", b"volume 7 on 1
-client 1 cache 100
-link 1 1 strong
-create 1 7 /a/../b
-show volume 1 7
-", "opened 0
-opened 0
-ok
-", BAD_4),
-        ("path_with_a_quote", b"volume 7 on 1
-client 1 cache 100
-link 1 1 strong
-create 1 7 /a\"b
-show volume 1 7
-", "opened 0
-opened 0
-ok
-", BAD_4),
-        ("path_with_a_delete_byte", b"volume 7 on 1
-client 1 cache 100
-link 1 1 strong
-create 1 7 /a\x7fb
-show volume 1 7
-", "opened 0
-opened 0
-ok
-", BAD_4),
-        ("path_with_a_control_byte", b"volume 7 on 1
-client 1 cache 100
-link 1 1 strong
-create 1 7 /a\x1fb
-show volume 1 7
-", "opened 0
-opened 0
-ok
-", BAD_4),
-        ("path_with_a_nul_byte", b"volume 7 on 1
-client 1 cache 100
-link 1 1 strong
-create 1 7 /a\0b
-show volume 1 7
-", "opened 0
-opened 0
-ok
-", BAD_4),
+        ("path_with_two_slashes", b"volume 7 on 1\nclient 1 cache 100\ncreate 1 7 //a\nshow volume 1 7\n", "opened 0\nopened 0\n", BAD_3),
+        ("path_with_a_slash_behind", b"volume 7 on 1\nclient 1 cache 100\nmkdir 1 7 /a/\nshow volume 1 7\n", "opened 0\nopened 0\n", BAD_3),
+        ("path_with_a_dot", b"volume 7 on 1\nclient 1 cache 100\ncreate 1 7 /.\nshow volume 1 7\n", "opened 0\nopened 0\n", BAD_3),
+        ("path_with_two_dots", b"volume 7 on 1\nclient 1 cache 100\ncreate 1 7 /..\nshow volume 1 7\n", "opened 0\nopened 0\n", BAD_3),
+        ("path_through_two_dots", b"volume 7 on 1\nclient 1 cache 100\ncreate 1 7 /a/../b\nshow volume 1 7\n", "opened 0\nopened 0\n", BAD_3),
+        ("path_with_a_quote", b"volume 7 on 1\nclient 1 cache 100\ncreate 1 7 /a\"b\nshow volume 1 7\n", "opened 0\nopened 0\n", BAD_3),
+        ("path_with_a_delete_byte", b"volume 7 on 1\nclient 1 cache 100\ncreate 1 7 /a\x7fb\nshow volume 1 7\n", "opened 0\nopened 0\n", BAD_3),
+        ("path_with_a_control_byte", b"volume 7 on 1\nclient 1 cache 100\ncreate 1 7 /a\x1fb\nshow volume 1 7\n", "opened 0\nopened 0\n", BAD_3),
+        ("path_with_a_nul_byte", b"volume 7 on 1\nclient 1 cache 100\ncreate 1 7 /a\0b\nshow volume 1 7\n", "opened 0\nopened 0\n", BAD_3),
     ]
 }
 
@@ -688,151 +504,23 @@ ok
 #[rattlefmt::skip]
 pub fn faulty_drains() -> &'static [Row] {
     &[
-        ("drain_of_no_client", b"volume 7 on 1
-client 1 cache 100
-link 1 1 strong
-drain x 7 1 window 0
-show volume 1 7
-", "opened 0
-opened 0
-ok
-", BAD_4),
-        ("drain_of_no_volume", b"volume 7 on 1
-client 1 cache 100
-link 1 1 strong
-drain 1 x 1 window 0
-show volume 1 7
-", "opened 0
-opened 0
-ok
-", BAD_4),
-        ("drain_to_no_server", b"volume 7 on 1
-client 1 cache 100
-link 1 1 strong
-drain 1 7 x window 0
-show volume 1 7
-", "opened 0
-opened 0
-ok
-", BAD_4),
-        ("drain_with_no_window", b"volume 7 on 1
-client 1 cache 100
-link 1 1 strong
-drain 1 7 1
-show volume 1 7
-", "opened 0
-opened 0
-ok
-", BAD_4),
-        ("drain_cut_off", b"volume 7 on 1
-client 1 cache 100
-link 1 1 strong
-drain 1 7 1 window
-show volume 1 7
-", "opened 0
-opened 0
-ok
-", BAD_4),
-        ("drain_of_another_word", b"volume 7 on 1
-client 1 cache 100
-link 1 1 strong
-drain 1 7 1 windows 0
-show volume 1 7
-", "opened 0
-opened 0
-ok
-", BAD_4),
-        ("drain_in_part", b"volume 7 on 1
-client 1 cache 100
-link 1 1 strong
-drain 1 7 1 window 1
-show volume 1 7
-", "opened 0
-opened 0
-ok
-", BAD_4),
-        ("drain_with_no_number", b"volume 7 on 1
-client 1 cache 100
-link 1 1 strong
-drain 1 7 1 window x
-show volume 1 7
-", "opened 0
-opened 0
-ok
-", BAD_4),
-        ("drain_too_long", b"volume 7 on 1
-client 1 cache 100
-link 1 1 strong
-drain 1 7 1 window 0 0
-show volume 1 7
-", "opened 0
-opened 0
-ok
-", BAD_4),
-        ("drain_quoted", b"volume 7 on 1
-client 1 cache 100
-link 1 1 strong
-drain 1 7 1 window \"0\"
-show volume 1 7
-", "opened 0
-opened 0
-ok
-", BAD_4),
-        ("show_of_a_client", b"volume 7 on 1
-client 1 cache 100
-link 1 1 strong
-show client 1 7
-show volume 1 7
-", "opened 0
-opened 0
-ok
-", BAD_4),
-        ("show_of_no_server", b"volume 7 on 1
-client 1 cache 100
-link 1 1 strong
-show volume x 7
-show volume 1 7
-", "opened 0
-opened 0
-ok
-", BAD_4),
-        ("show_of_server_9", b"volume 7 on 1
-client 1 cache 100
-link 1 1 strong
-show volume 9 7
-show volume 1 7
-", "opened 0
-opened 0
-ok
-", BAD_4),
-        ("show_of_no_volume", b"volume 7 on 1
-client 1 cache 100
-link 1 1 strong
-show volume 1 x
-show volume 1 7
-", "opened 0
-opened 0
-ok
-", BAD_4),
-        ("show_cut_off", b"volume 7 on 1\nclient 1 cache 100\nlink 1 1 strong\nshow volume 1\nshow volume 1 7\n", "opened 0\nopened 0\nok\n", BAD_4),
-        ("show_too_long", b"volume 7 on 1
-client 1 cache 100
-link 1 1 strong
-show volume 1 7 7
-show volume 1 7
-", "opened 0
-opened 0
-ok
-", BAD_4),
-        ("show_quoted", b"volume 7 on 1
-client 1 cache 100
-link 1 1 strong
-show \"volume\" 1 7
-show volume 1 7
-", "opened 0
-opened 0
-ok
-", BAD_4),
+        ("drain_of_no_client", b"volume 7 on 1\nclient 1 cache 100\ndrain x 7 1 window 0\nshow volume 1 7\n", "opened 0\nopened 0\n", BAD_3),
+        ("drain_of_no_volume", b"volume 7 on 1\nclient 1 cache 100\ndrain 1 x 1 window 0\nshow volume 1 7\n", "opened 0\nopened 0\n", BAD_3),
+        ("drain_to_no_server", b"volume 7 on 1\nclient 1 cache 100\ndrain 1 7 x window 0\nshow volume 1 7\n", "opened 0\nopened 0\n", BAD_3),
+        ("drain_with_no_window", b"volume 7 on 1\nclient 1 cache 100\ndrain 1 7 1\nshow volume 1 7\n", "opened 0\nopened 0\n", BAD_3),
+        ("drain_cut_off", b"volume 7 on 1\nclient 1 cache 100\ndrain 1 7 1 window\nshow volume 1 7\n", "opened 0\nopened 0\n", BAD_3),
+        ("drain_of_another_word", b"volume 7 on 1\nclient 1 cache 100\ndrain 1 7 1 windows 0\nshow volume 1 7\n", "opened 0\nopened 0\n", BAD_3),
+        ("drain_in_part", b"volume 7 on 1\nclient 1 cache 100\ndrain 1 7 1 window 1\nshow volume 1 7\n", "opened 0\nopened 0\n", BAD_3),
+        ("drain_with_no_number", b"volume 7 on 1\nclient 1 cache 100\ndrain 1 7 1 window x\nshow volume 1 7\n", "opened 0\nopened 0\n", BAD_3),
+        ("drain_too_long", b"volume 7 on 1\nclient 1 cache 100\ndrain 1 7 1 window 0 0\nshow volume 1 7\n", "opened 0\nopened 0\n", BAD_3),
+        ("drain_quoted", b"volume 7 on 1\nclient 1 cache 100\ndrain 1 7 1 window \"0\"\nshow volume 1 7\n", "opened 0\nopened 0\n", BAD_3),
+        ("show_of_a_client", b"volume 7 on 1\nclient 1 cache 100\nshow client 1 7\nshow volume 1 7\n", "opened 0\nopened 0\n", BAD_3),
+        ("show_of_no_server", b"volume 7 on 1\nclient 1 cache 100\nshow volume x 7\nshow volume 1 7\n", "opened 0\nopened 0\n", BAD_3),
+        ("show_of_server_9", b"volume 7 on 1\nclient 1 cache 100\nshow volume 9 7\nshow volume 1 7\n", "opened 0\nopened 0\n", BAD_3),
+        ("show_of_no_volume", b"volume 7 on 1\nclient 1 cache 100\nshow volume 1 x\nshow volume 1 7\n", "opened 0\nopened 0\n", BAD_3),
+        ("show_cut_off", b"volume 7 on 1\nclient 1 cache 100\nshow volume 1\nshow volume 1 7\n", "opened 0\nopened 0\n", BAD_3),
+        ("show_too_long", b"volume 7 on 1\nclient 1 cache 100\nshow volume 1 7 7\nshow volume 1 7\n", "opened 0\nopened 0\n", BAD_3),
+        ("show_quoted", b"volume 7 on 1\nclient 1 cache 100\nshow \"volume\" 1 7\nshow volume 1 7\n", "opened 0\nopened 0\n", BAD_3),
     ]
 }
 
@@ -840,151 +528,23 @@ ok
 #[rattlefmt::skip]
 pub fn wrong_actors() -> &'static [Row] {
     &[
-        ("volume_again", b"volume 7 on 1\nclient 1 cache 100\nlink 1 1 strong\nvolume 7 on 1\nshow volume 1 7\n", "opened 0\nopened 0\nok\n", BAD_4),
-        ("volume_of_another_number", b"volume 7 on 1
-client 1 cache 100
-link 1 1 strong
-volume 8 on 2
-show volume 1 7
-", "opened 0
-opened 0
-ok
-", BAD_4),
-        ("client_again", b"volume 7 on 1
-client 1 cache 100
-link 1 1 strong
-client 1 cache 100
-show volume 1 7
-", "opened 0
-opened 0
-ok
-", BAD_4),
-        ("client_of_another_number", b"volume 7 on 1
-client 1 cache 100
-link 1 1 strong
-client 2 cache 100
-show volume 1 7
-", "opened 0
-opened 0
-ok
-", BAD_4),
-        ("link_of_another_client", b"volume 7 on 1
-client 1 cache 100
-link 1 1 strong
-link 2 1 strong
-show volume 1 7
-", "opened 0
-opened 0
-ok
-", BAD_4),
-        ("link_to_another_server", b"volume 7 on 1
-client 1 cache 100
-link 1 1 strong
-link 1 2 strong
-show volume 1 7
-", "opened 0
-opened 0
-ok
-", BAD_4),
-        ("list_of_another_client", b"volume 7 on 1
-client 1 cache 100
-link 1 1 strong
-list 2 7 /
-show volume 1 7
-", "opened 0
-opened 0
-ok
-", BAD_4),
-        ("list_of_another_volume", b"volume 7 on 1
-client 1 cache 100
-link 1 1 strong
-list 1 8 /
-show volume 1 7
-", "opened 0
-opened 0
-ok
-", BAD_4),
-        ("mkdir_of_another_client", b"volume 7 on 1
-client 1 cache 100
-link 1 1 strong
-mkdir 2 7 /a
-show volume 1 7
-", "opened 0
-opened 0
-ok
-", BAD_4),
-        ("mkdir_of_another_volume", b"volume 7 on 1
-client 1 cache 100
-link 1 1 strong
-mkdir 1 8 /a
-show volume 1 7
-", "opened 0
-opened 0
-ok
-", BAD_4),
-        ("create_of_another_client", b"volume 7 on 1
-client 1 cache 100
-link 1 1 strong
-create 2 7 /a
-show volume 1 7
-", "opened 0
-opened 0
-ok
-", BAD_4),
-        ("create_of_another_volume", b"volume 7 on 1
-client 1 cache 100
-link 1 1 strong
-create 1 8 /a
-show volume 1 7
-", "opened 0
-opened 0
-ok
-", BAD_4),
-        ("drain_of_another_client", b"volume 7 on 1
-client 1 cache 100
-link 1 1 strong
-drain 2 7 1 window 0
-show volume 1 7
-", "opened 0
-opened 0
-ok
-", BAD_4),
-        ("drain_of_another_volume", b"volume 7 on 1
-client 1 cache 100
-link 1 1 strong
-drain 1 8 1 window 0
-show volume 1 7
-", "opened 0
-opened 0
-ok
-", BAD_4),
-        ("drain_to_another_server", b"volume 7 on 1
-client 1 cache 100
-link 1 1 strong
-drain 1 7 2 window 0
-show volume 1 7
-", "opened 0
-opened 0
-ok
-", BAD_4),
-        ("show_of_another_server", b"volume 7 on 1
-client 1 cache 100
-link 1 1 strong
-show volume 2 7
-show volume 1 7
-", "opened 0
-opened 0
-ok
-", BAD_4),
-        ("show_of_another_volume", b"volume 7 on 1
-client 1 cache 100
-link 1 1 strong
-show volume 1 8
-show volume 1 7
-", "opened 0
-opened 0
-ok
-", BAD_4),
+        ("volume_again", b"volume 7 on 1\nclient 1 cache 100\nvolume 7 on 1\nshow volume 1 7\n", "opened 0\nopened 0\n", BAD_3),
+        ("volume_of_another_number", b"volume 7 on 1\nclient 1 cache 100\nvolume 8 on 2\nshow volume 1 7\n", "opened 0\nopened 0\n", BAD_3),
+        ("client_again", b"volume 7 on 1\nclient 1 cache 100\nclient 1 cache 100\nshow volume 1 7\n", "opened 0\nopened 0\n", BAD_3),
+        ("client_of_another_number", b"volume 7 on 1\nclient 1 cache 100\nclient 2 cache 100\nshow volume 1 7\n", "opened 0\nopened 0\n", BAD_3),
+        ("link_of_another_client", b"volume 7 on 1\nclient 1 cache 100\nlink 2 1 strong\nshow volume 1 7\n", "opened 0\nopened 0\n", BAD_3),
+        ("link_to_another_server", b"volume 7 on 1\nclient 1 cache 100\nlink 1 2 strong\nshow volume 1 7\n", "opened 0\nopened 0\n", BAD_3),
+        ("list_of_another_client", b"volume 7 on 1\nclient 1 cache 100\nlist 2 7 /\nshow volume 1 7\n", "opened 0\nopened 0\n", BAD_3),
+        ("list_of_another_volume", b"volume 7 on 1\nclient 1 cache 100\nlist 1 8 /\nshow volume 1 7\n", "opened 0\nopened 0\n", BAD_3),
+        ("mkdir_of_another_client", b"volume 7 on 1\nclient 1 cache 100\nmkdir 2 7 /a\nshow volume 1 7\n", "opened 0\nopened 0\n", BAD_3),
+        ("mkdir_of_another_volume", b"volume 7 on 1\nclient 1 cache 100\nmkdir 1 8 /a\nshow volume 1 7\n", "opened 0\nopened 0\n", BAD_3),
+        ("create_of_another_client", b"volume 7 on 1\nclient 1 cache 100\ncreate 2 7 /a\nshow volume 1 7\n", "opened 0\nopened 0\n", BAD_3),
+        ("create_of_another_volume", b"volume 7 on 1\nclient 1 cache 100\ncreate 1 8 /a\nshow volume 1 7\n", "opened 0\nopened 0\n", BAD_3),
+        ("drain_of_another_client", b"volume 7 on 1\nclient 1 cache 100\ndrain 2 7 1 window 0\nshow volume 1 7\n", "opened 0\nopened 0\n", BAD_3),
+        ("drain_of_another_volume", b"volume 7 on 1\nclient 1 cache 100\ndrain 1 8 1 window 0\nshow volume 1 7\n", "opened 0\nopened 0\n", BAD_3),
+        ("drain_to_another_server", b"volume 7 on 1\nclient 1 cache 100\ndrain 1 7 2 window 0\nshow volume 1 7\n", "opened 0\nopened 0\n", BAD_3),
+        ("show_of_another_server", b"volume 7 on 1\nclient 1 cache 100\nshow volume 2 7\nshow volume 1 7\n", "opened 0\nopened 0\n", BAD_3),
+        ("show_of_another_volume", b"volume 7 on 1\nclient 1 cache 100\nshow volume 1 8\nshow volume 1 7\n", "opened 0\nopened 0\n", BAD_3),
     ]
 }
 
