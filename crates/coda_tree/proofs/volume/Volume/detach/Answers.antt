@@ -1,4 +1,4 @@
-use Rattle.std.proofs.Common.{◌≡◌, Some, None, IsSomeAnd, sym, ap, ◌∙◌, subst}
+use Rattle.std.proofs.Common.{◌≡◌, None, IsSomeAnd, sym, ap, ◌∙◌, subst}
 use Rattle.std.proofs.lemmas.Option.{same_Some}
 use Rattle.coda_fid.specs.Fid.{root_of}
 use Rattle.coda_fid.specs.declared.fid.Fid.{Fid}
@@ -18,7 +18,7 @@ invariant_of-self c =
     let fid = c.in-Some.fid in
     let was = ap (λ (t : Tree). child t.nodes c.args.dir name) c.self.view_is ∙ sym c.in-Some.ensures in
     let leaf = subst (λ (t : Tree). (n : Name) → child t.nodes fid n ≡ None) (sym c.self.view_is)
-        (subst (λ o. IsSomeAnd o (λ (f : Fid). (n : Name) → child c.args.self.now.nodes f n ≡ None)) (sym c.in-Some.ensures) c.requires) in
+    (subst (λ o. IsSomeAnd o (λ (f : Fid). (n : Name) → child c.args.self.now.nodes f n ≡ None)) (sym c.in-Some.ensures) c.requires) in
     subst (λ (m : Nodes). IsKept (root_of c.self.inside.number) m c.remove.new.self) (sym c.detach.ensures)
     (kept_detached c.self.inside.nodes c.self.inside.parents c.remove.new.self c.args.dir name fid c.remove.ensures.updates.0 c.self.invariant was leaf)
 
