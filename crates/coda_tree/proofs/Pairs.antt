@@ -1,5 +1,5 @@
 -- Sorted pairs of a directory: what a search finds, and what an insertion or a removal makes of the finite map.
-use Rattle.std.proofs.Common.{◌≡◌, ℕ, zero, suc, ◌<◌, ◌≤◌, true, cond, [], ◌∷◌, length, get_or, Some, None, Ordering, refl, sym, ap, ◌∙◌, subst, inl, inr, arith}
+use Rattle.std.proofs.Common.{◌≡◌, ◌≢◌, ℕ, zero, suc, ◌<◌, ◌≤◌, true, cond, [], ◌∷◌, length, get_or, Some, None, Ordering, refl, sym, ap, ◌∙◌, subst, inl, inr, arith}
 use Rattle.std.specs.Prelude.{slice_get}
 use Rattle.std.specs.declared.cmp.Ordering.TheVariants.{Less, Equal, Greater}
 use Rattle.std.specs.List.{insert, remove}
@@ -86,6 +86,12 @@ sorted_removed [] (suc i) h = refl
 sorted_removed (e ∷ es) zero h = (and_true _ _ h).1
 sorted_removed (e ∷ es) (suc i) h = and_both _ _ (below_removed e.0 es i (and_true _ _ h).0) (sorted_removed es i (and_true _ _ h).1)
 
+greater_differs : (a b : Name) → name_cmp a b ≡ Greater → b ≢ a
+greater_differs a b h same =
+    let tied : name_cmp b b ≡ Equal = tied_itself nat_list_cmp_total b in
+    let greater : name_cmp b b ≡ Greater = ap (λ x. name_cmp x b) same ∙ h in
+    cc
+
 -- what is found once the pair of a name is removed
 find_removed : (es : Pairs) (name : Name) (i : ℕ) (q : Name) → is_sorted name_cmp es ≡ true → IsIndexOf es name i → find name_cmp q (remove es i) ≡ cond (is_eq (name_cmp q name)) None (find name_cmp q es)
 find_removed [] name i q up at = absurd (omega (arith, at.in_range))
@@ -100,7 +106,7 @@ find_removed (e ∷ es) name (suc i) q up at =
     elim (name_cases q e.0) [
       | inl same ↦
           ap (λ x. cond (is_eq (name_cmp x e.0)) (Some e.1) (find name_cmp q (remove es i))) same ∙ at_itself nat_list_cmp_total e.0 _ _
-          ∙ sym (ap (λ x. cond (is_eq (name_cmp x name)) None (find name_cmp q (e ∷ es))) same ∙ apart name_cmp exact_bytes e.0 name None (find name_cmp q (e ∷ es)) (λ alike. let g : name_cmp name e.0 ≡ Greater = before e es name i up at in let t : name_cmp e.0 e.0 ≡ Equal = tied_itself nat_list_cmp_total e.0 in cc)
+          ∙ sym (ap (λ x. cond (is_eq (name_cmp x name)) None (find name_cmp q (e ∷ es))) same ∙ apart name_cmp exact_bytes e.0 name None (find name_cmp q (e ∷ es)) (greater_differs name e.0 (before e es name i up at))
           ∙ ap (λ x. cond (is_eq (name_cmp x e.0)) (Some e.1) (find name_cmp q es)) same ∙ at_itself nat_list_cmp_total e.0 _ _)
       | inr differs ↦
           apart name_cmp exact_bytes q e.0 (Some e.1) (find name_cmp q (remove es i)) differs ∙ rest
