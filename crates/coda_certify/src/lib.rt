@@ -6,6 +6,7 @@ mod effects;
 mod law;
 mod reason;
 mod replays;
+mod undoing;
 mod verdict;
 
 pub use checks::certify;

@@ -1,5 +1,5 @@
 -- One step over the bytes of a line or of a word.
-use Rattle.std.proofs.Common.{◌≡◌, ℕ, suc, ◌+◌, ◌<◌, ◌≤◌, Bool, true, false, List, [], ◌∷◌, length, get_or, drop, map, ◌++◌, Option, Some, None, refl, sym, ap, ◌∙◌, add-one, eqb}
+use Rattle.std.proofs.Common.{◌≡◌, ℕ, suc, ◌+◌, ◌<◌, ◌≤◌, true, false, List, [], ◌∷◌, length, get_or, drop, map, ◌++◌, Some, None, refl, sym, ap, ◌∙◌, add-one, eqb}
 use Rattle.std.proofs.Math.Seq.{drop-cons}
 use Rattle.std.proofs.lemmas.List.{drop_all}
 use Rattle.coda_main.specs.Words.{is_blank, next_word, first_words, is_silent}

@@ -13,7 +13,7 @@ use Rattle.coda_main.specs.declared.line.Ask.{Ask}
 use Rattle.coda_main.specs.declared.reply.Refusal.{Refusal}
 use Rattle.coda_main.specs.Ask.{names_of, ending}
 use Rattle.coda_main.specs.State.{ClientState, ClientEntry, Fetched, Operated, Froze, Settled, client_after, client_after_all}
-use Rattle.coda_main.specs.Asking.{Answer, Walked, offered, fetch_of, look, looked, step_from, go_on, walk, list_in, list_of, list_root, next_fid, is_full, create_unless, create_new, refusal_under, unless_refused, create_under, create_from, at_outcome, create_root, root_answer, create_along, create}
+use Rattle.coda_main.specs.Asking.{Answer, Walked, offered, fetch_of, look, looked, step_from, go_on, walk, list_in, list_of, list_root, next_fid, is_full, create_unless, create_new, refusal_under, unless_refused, create_under, create_from, at_outcome, create_root, create_along, create}
 
 -- an entry that neither freezes nor settles a chunk
 abbrev pub Calm : ClientEntry → Type 0

@@ -1,7 +1,7 @@
 -- Each chunk is decided at most once.
 use Rattle.std.proofs.Common.{◌≡◌, ◌≢◌, ℕ, ◌+◌, ◌≤◌, Bool, true, false, List, [], ◌∷◌, ◌++◌, map, Option, Some, None, refl, sym, ap, subst, ◌∙◌, inl, inr, ◌⊎◌, append_assoc, arith}
 use Rattle.std.specs.Prelude.{nat_le, cond}
-use Rattle.std.specs.Option.{option_map, option_map_or}
+use Rattle.std.specs.Option.{option_map}
 use Rattle.std.proofs.lemmas.Bool.{false≢true}
 use Rattle.coda_fid.specs.declared.op.Record.{Record}
 use Rattle.coda_certify.specs.Verdicts.{verdict_of}
@@ -13,10 +13,10 @@ use Rattle.coda_main.specs.declared.line.Line.TheVariants.{Volume, Client, Link,
 use Rattle.coda_main.specs.declared.reply.Refusal.TheVariants.{JournalFull}
 use Rattle.coda_main.specs.declared.reply.Reply.{Reply}
 use Rattle.coda_main.specs.declared.reply.Reply.TheVariants.{Refused}
-use Rattle.coda_main.specs.State.{ClientState, ClientEntry, client_after, client_after_all, decision, new_client, Froze, Settled, ReplicaState, ReplicaEntry, Decided, CellState, Event, VolumeMade, ClientMade, LinkSet, AtClient, AtReplica}
-use Rattle.coda_main.specs.Plain.{PlainCell, PlainClient, PlainReplica, client_of, replica_of, state_of, client_with, grown, grown_all, empty_cell}
+use Rattle.coda_main.specs.State.{ClientState, ClientEntry, client_after, decision, new_client, Froze, Settled, ReplicaState, ReplicaEntry, Decided, Event, VolumeMade, ClientMade, AtClient}
+use Rattle.coda_main.specs.Plain.{PlainCell, PlainClient, PlainReplica, client_of, state_of, client_with, grown, grown_all, empty_cell}
 use Rattle.coda_main.specs.Asking.{list_root, create}
-use Rattle.coda_main.specs.Steps.{is_built, Does, offers_of, Outcome, drain, drained, sent, stays}
+use Rattle.coda_main.specs.Steps.{is_built, Does, offers_of, drain, drained, sent, stays}
 use Rattle.coda_main.specs.PlainRun.{LineGives}
 use Rattle.coda_main.specs.Headline.{IsDecisionOf, AreDecidedOnce, ChunksAreDecidedOnce}
 use Rattle.coda_main.proofs.Bytes.{append-nil}
@@ -144,9 +144,10 @@ keeps_sent (Some q) (Some p) link c r is k =
     let after_both : client_of (client_with learned (client_with frozen p)) ≡ client_after (client_after (client_of p) frozen) learned =
     client_pushed start (p.history ++ frozen ∷ []) learned ∙ ap (λ x. client_after x learned) (client_pushed start p.history frozen) in
     let most : (client_of (client_with learned (client_with frozen p))).chunks ≡ c.chunks + 1 = ap (λ (x : ClientState). x.chunks) after_both in
-    let below = up_to_more (client_of p).chunks (client_of (client_with learned (client_with frozen p))).chunks q.history (omega (arith, most, counted)) k.0 in
-    ( up_to_push (client_of (client_with learned (client_with frozen p))).chunks q.history entry below (omega (arith, most))
-    , differ_push (client_of p).chunks q.history entry k.0 k.1 (ap (λ n. n + 1) (sym counted)) )
+    let below = up_to_more (client_of p).chunks (client_of (client_with learned (client_with frozen p))).chunks q.history (omega (arith, most, counted)) k.0 in (
+      up_to_push (client_of (client_with learned (client_with frozen p))).chunks q.history entry below (omega (arith, most)),
+      differ_push (client_of p).chunks q.history entry k.0 k.1 (ap (λ n. n + 1) (sym counted)),
+    )
 
 -- ---- each line
 

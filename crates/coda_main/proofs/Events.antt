@@ -1,5 +1,5 @@
 -- What entries and events make of a cell.
-use Rattle.std.proofs.Common.{◌≡◌, ◌≢◌, ℕ, ◌+◌, Bool, true, false, List, [], ◌∷◌, ◌++◌, length, map, Option, Some, None, Result, Ok, Err, IfOk, refl, sym, ap, subst, ◌∙◌, arith}
+use Rattle.std.proofs.Common.{◌≡◌, ◌≢◌, ℕ, ◌+◌, false, List, [], ◌∷◌, length, map, Option, Some, Result, Ok, Err, IfOk, refl, sym, ap, subst, ◌∙◌}
 use Rattle.std.specs.Prelude.{nat_le}
 use Rattle.std.specs.Option.{option_map}
 use Rattle.coda_fid.specs.declared.op.Record.{Record}
@@ -14,7 +14,7 @@ use Rattle.coda_main.specs.declared.reply.Reply.{Reply}
 use Rattle.coda_main.specs.declared.reply.Reply.TheVariants.{Chunk}
 use Rattle.coda_main.specs.State.{ClientState, ClientEntry, client_after, client_after_all, ReplicaState, replica_after, decision, Froze, Settled, Decided, CellState, Event, AtClient, after, after_all}
 use Rattle.coda_main.specs.Asking.{Answer, list_root, create}
-use Rattle.coda_main.specs.Steps.{Outcome, ByClient, ByBoth, offers_of, drain, drained, sent}
+use Rattle.coda_main.specs.Steps.{Outcome, ByClient, offers_of, drain, drained, sent}
 use Rattle.coda_main.specs.Code.{Gives}
 use Rattle.coda_main.specs.Cells.{Runs, Act, pair}
 

@@ -1,5 +1,5 @@
 -- What histories leave once they have more entries, and what a line then gives.
-use Rattle.std.proofs.Common.{◌≡◌, ℕ, Bool, true, false, List, [], ◌∷◌, ◌++◌, Option, Some, None, refl, sym, ap, subst, ◌∙◌, inl, inr}
+use Rattle.std.proofs.Common.{◌≡◌, ℕ, true, false, List, [], ◌∷◌, ◌++◌, Option, Some, None, refl, sym, ap, subst, ◌∙◌, inl, inr}
 use Rattle.std.specs.Option.{option_map}
 use Rattle.coda_engine.specs.declared.status.Kind.TheVariants.{Mode}
 use Rattle.coda_main.specs.declared.line.Line.{Line}
@@ -9,7 +9,7 @@ use Rattle.coda_main.specs.Forms.{line_in}
 use Rattle.coda_main.specs.State.{ClientState, ClientEntry, client_after, client_after_all, new_client, ReplicaState, ReplicaEntry, replica_after, replica_after_all, new_replica, CellState, Event, VolumeMade, ClientMade, LinkSet, AtClient, AtReplica, after, after_all}
 use Rattle.coda_main.specs.Plain.{PlainCell, PlainClient, PlainReplica, client_of, replica_of, state_of, client_with, replica_with, grown, grown_all}
 use Rattle.coda_main.specs.Steps.{is_built, Does}
-use Rattle.coda_main.specs.PlainRun.{Step, Replies, takes, LineGives, LineRefused}
+use Rattle.coda_main.specs.PlainRun.{takes, LineGives, LineRefused}
 use Rattle.coda_main.specs.Texts.{text_of}
 use Rattle.coda_main.specs.Cells.{Runs}
 
@@ -51,14 +51,20 @@ line_gives old new bytes text said reply heard spelled built runs printed plain 
     let left : state_of next ≡ new = state_grown_all plain runs.events ∙ ap (λ s. after_all s runs.events) shows ∙ sym runs.left in
     let DoesIn : CellState → Type 0 = λ s. Does s said reply runs.events in (
       next,
-      (refl, inr (heard, record {
-        said = said;
-        reply = reply;
-        spelled = spelled;
-        built = ap (λ s. is_built s said) shows ∙ built;
-        step = record { events = runs.events; does = subst DoesIn (sym shows) runs.does; grows = refl };
-        printed = printed ∙ ap (λ s. text_of s reply) (sym left);
-      })),
+      (
+        refl,
+        inr (
+          heard,
+          record {
+            said = said;
+            reply = reply;
+            spelled = spelled;
+            built = ap (λ s. is_built s said) shows ∙ built;
+            step = record { events = runs.events; does = subst DoesIn (sym shows) runs.does; grows = refl };
+            printed = printed ∙ ap (λ s. text_of s reply) (sym left);
+          },
+        ),
+      ),
       left,
     )
 

@@ -1,5 +1,5 @@
 -- Which lines a cell takes depends on what was made alone.
-use Rattle.std.proofs.Common.{◌≡◌, ℕ, Bool, true, false, List, [], ◌∷◌, map, Option, Some, None, refl, sym, ap, subst, ◌∙◌, inl, inr, ◌⊎◌}
+use Rattle.std.proofs.Common.{◌≡◌, ℕ, Bool, true, false, List, [], ◌∷◌, map, Option, Some, None, refl, sym, ap, ◌∙◌, inl, inr}
 use Rattle.std.specs.Prelude.{◌&&◌, ◌==◌, nat_le, cond}
 use Rattle.std.specs.Option.{option_map, option_map_or}
 use Rattle.std.proofs.lemmas.Bool.{false≢true}
@@ -15,7 +15,7 @@ use Rattle.coda_main.specs.declared.reply.Reply.{Reply}
 use Rattle.coda_main.specs.declared.reply.Reply.TheVariants.{Refused}
 use Rattle.coda_main.specs.Forms.{line_in}
 use Rattle.coda_main.specs.State.{ClientState, ClientEntry, Fetched, Operated, Froze, Settled, client_after, ReplicaState, ReplicaEntry, Decided, replica_after, CellState, Event, VolumeMade, ClientMade, LinkSet, AtClient, AtReplica, after, after_all}
-use Rattle.coda_main.specs.Plain.{PlainCell, state_of, grown_all}
+use Rattle.coda_main.specs.Plain.{PlainCell, state_of}
 use Rattle.coda_main.specs.Steps.{is_built, Does, drain, drained, sent, stays}
 use Rattle.coda_main.specs.PlainRun.{LineGives, LineRefused, takes}
 use Rattle.coda_main.proofs.Histories.{state_grown_all}

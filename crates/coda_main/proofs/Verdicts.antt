@@ -1,14 +1,12 @@
 -- What a decision comes to.
-use Rattle.std.proofs.Common.{◌≡◌, ◌≢◌, ℕ, List, Result, Ok, Err, refl, sym, ap, subst, ◌∙◌}
-use Rattle.coda_fid.specs.declared.op.Record.{Record}
+use Rattle.std.proofs.Common.{◌≡◌, ℕ, Ok, Err, refl, sym, ap, ◌∙◌}
 use Rattle.coda_tree.specs.Volume.{Nodes}
 use Rattle.coda_certify.specs.declared.reason.Reason.{Reason}
-use Rattle.coda_certify.specs.declared.verdict.Verdict.TheVariants.{Applied, Conflict}
 use Rattle.coda_certify.specs.Replay.{Replayed, replay}
 use Rattle.coda_certify.specs.Verdicts.{verdict_of, nodes_left}
 use Rattle.coda_certify.proofs.Records.{first_refused, err_from_conflict}
-use Rattle.coda_main.specs.State.{ReplicaState, or_replayed, decision}
-use Rattle.coda_main.specs.Headline.{IsConflict, CertifiedChunksAreApplied, ConflictsNameASentRecord}
+use Rattle.coda_main.specs.State.{or_replayed, decision}
+use Rattle.coda_main.specs.Headline.{CertifiedChunksAreApplied, ConflictsNameASentRecord}
 
 pub certified_chunks_are_applied : CertifiedChunksAreApplied
 certified_chunks_are_applied replica client number span nodes certified =

@@ -1,6 +1,6 @@
 -- What a client answers to what it is asked: look-ups along a path, fetches, and the acceptance of a creation.
-use Rattle.std.specs.Prelude.{ℕ, ◌+◌, ◌-◌, ◌^◌, Bool, true, false, ◌||◌, nat_le, is_some, is_none, if◌then◌else◌, List, [], ◌∷◌, ◌++◌, Option, Some, None, Result, Ok, Err}
-use Rattle.std.specs.Option.{option_map, option_and_then}
+use Rattle.std.specs.Prelude.{ℕ, ◌+◌, Bool, true, false, ◌||◌, nat_le, is_some, is_none, if◌then◌else◌, List, [], ◌∷◌, ◌++◌, Option, Some, None, Result, Ok, Err}
+use Rattle.std.specs.Option.{option_and_then}
 use Rattle.std.specs.FinMap as map
 use Rattle.coda_fid.specs.Fid.{root_of}
 use Rattle.coda_fid.specs.declared.fid.Fid.{Fid}
@@ -9,7 +9,7 @@ use Rattle.coda_fid.specs.declared.op.Record.{Record}
 use Rattle.coda_tree.specs.declared.node.Node.{Node}
 use Rattle.coda_tree.specs.declared.node.NodeKind.{NodeKind}
 use Rattle.coda_tree.specs.declared.node.NodeKind.TheVariants.{File, Link, Dir}
-use Rattle.coda_tree.specs.Bindings.{Name, Bindings}
+use Rattle.coda_tree.specs.Bindings.{Name}
 use Rattle.coda_tree.specs.Volume.{Nodes}
 use Rattle.coda_main.specs.State.{ClientState, ClientEntry, Fetched, Operated, client_after_all}
 use Rattle.coda_main.specs.declared.line.Ask.{Ask}
@@ -127,7 +127,7 @@ abbrev pub create_unless : Bool → ClientState → ℕ → Ask → Fid → Name
 create_unless true c volume ask dir name = refuse [] Exists
 create_unless false c volume ask dir name = record {
   entries = Operated (next_record c (op_of ask dir name (next_fid c volume))) ∷ [];
-  reply = Done (c.operations + 1) (next_fid c volume)
+  reply = Done (c.operations + 1) (next_fid c volume);
 }
 
 -- what the creation of an object under a free name of a directory answers

@@ -1,5 +1,5 @@
 -- What the cell of the code stands for.
-use Rattle.std.specs.Prelude.{◌≡◌, List, Option, Some}
+use Rattle.std.specs.Prelude.{◌≡◌, List, Some}
 use Rattle.std.specs.Option.{option_map}
 use Rattle.coda_main.specs.declared.cell.Cell.{Cell}
 use Rattle.coda_main.specs.declared.cell.Replica.{Replica}

@@ -1,5 +1,5 @@
 -- What the parts of the code stand for.
-use Rattle.std.specs.Prelude.{◌≡◌, ℕ, List, Option, Result}
+use Rattle.std.specs.Prelude.{◌≡◌, Option, Result}
 use Rattle.std.specs.Option.{option_map}
 use Rattle.std.specs.Borrow.{Bor}
 use Rattle.coda_fid.specs.declared.fid.Fid.{Fid}
@@ -19,7 +19,7 @@ client_state c = record {
   log = c.log.items;
   operations = c.operations;
   creations = c.creations;
-  chunks = c.chunks
+  chunks = c.chunks;
 }
 
 -- the nodes of a volume that is offered

@@ -1,6 +1,6 @@
 -- The forms of the lines of a script. Each form is a list of words: some stand as they are, and some are a number in a
 -- range, a path or a choice.
-use Rattle.std.specs.Prelude.{ℕ, Bool, true, false, not, ◌&&◌, ◌==◌, nat_eq, nat_lt, is_some, if◌then◌else◌, List, [], ◌∷◌, Option, Some, None, codes}
+use Rattle.std.specs.Prelude.{ℕ, Bool, not, ◌&&◌, ◌==◌, nat_eq, nat_lt, is_some, if◌then◌else◌, List, [], ◌∷◌, Option, Some, None, codes}
 use Rattle.std.specs.List.{list_all}
 use Rattle.std.specs.Cmp.Lexicographic.{pointwise}
 use Rattle.std.specs.Option.{option_map_or}
@@ -128,7 +128,6 @@ abbrev pub mkdir_form : List (List ℕ) → Option Line
 mkdir_form = creation_form (codes "mkdir") (λ p. Mkdir p 493 0)
 
 infixr 5 ◌or_form◌
-
 -- the first form that the words have
 abbrev pub ◌or_form◌ : Option Line → Option Line → Option Line
 None or_form other = other

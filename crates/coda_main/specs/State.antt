@@ -1,5 +1,5 @@
 -- What a cell is at a moment, and what an entry of a history makes of it.
-use Rattle.std.specs.Prelude.{ℕ, ◌+◌, Bool, List, [], ◌∷◌, ◌++◌, Option, Some, None, Result, Ok, Err}
+use Rattle.std.specs.Prelude.{ℕ, ◌+◌, List, [], ◌∷◌, ◌++◌, Option, Some, None, Ok, Err}
 use Rattle.std.specs.Option.{option_map}
 use Rattle.std.specs.FinMap as map
 use Rattle.coda_fid.specs.declared.fid.Fid.{Fid}
@@ -53,7 +53,7 @@ client_after c (Operated rec) = record c {
   nodes = applied c.nodes c.number rec;
   log = c.log ++ rec ∷ [];
   operations = c.operations + 1;
-  creations = c.creations + 1
+  creations = c.creations + 1;
 }
 client_after c (Froze number server last) = record c { chunks = number }
 client_after c (Settled number verdict) = record c { log = log_after verdict c.log }

@@ -70,7 +70,7 @@ sent c r = record {
   events = AtClient (Froze (c.chunks + 1) r.server c.operations)
       ∷ AtReplica (Decided c.number (c.chunks + 1) c.log)
       ∷ AtClient (Settled (c.chunks + 1) (verdict_of (decision r.tree.nodes c.number c.log)))
-      ∷ []
+      ∷ [];
 }
 
 -- a refusal, by which nothing happens

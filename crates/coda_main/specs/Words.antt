@@ -1,5 +1,5 @@
 -- The words of a line of a script.
-use Rattle.std.specs.Prelude.{◌≡◌, codes, ℕ, zero, suc, Bool, true, false, not, ◌||◌, ◌==◌, ◌+◌, if◌then◌else◌, List, [], ◌∷◌, length, take, drop, Option, Some, None}
+use Rattle.std.specs.Prelude.{◌≡◌, codes, ℕ, zero, suc, Bool, true, false, not, ◌||◌, ◌==◌, ◌+◌, if◌then◌else◌, List, [], ◌∷◌, take, drop, Option, Some, None}
 use Rattle.std.specs.Option.{option_map_or}
 
 -- a space or a tab

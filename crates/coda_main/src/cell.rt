@@ -157,9 +157,11 @@ impl Cell {
             Line::Operation { client, volume, .. } => {
                 self.is_client(*client) && self.is_volume(*volume)
             }
-            Line::Drain { client, volume, server } => {
-                self.is_client(*client) && (self.is_volume(*volume) && self.is_server(*server))
-            }
+            Line::Drain {
+                client,
+                volume,
+                server,
+            } => { self.is_client(*client) && (self.is_volume(*volume) && self.is_server(*server)) }
             Line::Show { server, volume } => self.is_volume(*volume) && self.is_server(*server),
         }
     }

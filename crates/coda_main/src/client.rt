@@ -4,13 +4,12 @@ ghost use Rattle.coda_fid.specs.Fid.{root_of};
 ghost use Rattle.std.specs.Option.{option_map};
 ghost use Rattle.coda_main.specs.Ask.{names_of, op_of, ending};
 
+use crate::line::Ask;
+use crate::reply::{Refusal, Reply};
 use coda_certify::{Verdict, apply_to_table};
 use coda_fid::{Fid, Name, Op, Path, Record};
 use coda_tree::{NodeKind, NodeTable, Volume};
 use std::alloc::{AllocError, Global};
-
-use crate::line::Ask;
-use crate::reply::{Refusal, Reply};
 
 /// The most operations that a client accepts in a volume.
 const MOST_ENTRIES: u64 = 4_294_967_295;
@@ -253,7 +252,14 @@ impl Client {
         let number = self.operations + 1;
         let name = name.copy()?;
         let op = op_of(ask, dir, name, fid);
-        self.accept(alloc, Record { number, time: START, op })?;
+        self.accept(
+            alloc,
+            Record {
+                number,
+                time: START,
+                op,
+            },
+        )?;
         Ok(Reply::Done { number, fid })
     }
 

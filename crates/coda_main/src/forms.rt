@@ -73,7 +73,8 @@ fn link_in(word: &[u8]) -> Option<Link>
 fn is_bare(word: &[u8]) -> bool
     ensures { result ≡ list_all is_bare_byte word.now }
 {
-    word.iter().all(|byte| *byte > 32 && *byte != 127 && *byte != b'"')
+    word.iter()
+        .all(|byte| *byte > 32 && *byte != 127 && *byte != b'"')
 }
 
 fn path_in(alloc: Global, word: &[u8]) -> Result<Option<Path>, AllocError>
@@ -129,7 +130,11 @@ fn link_form(words: &[&[u8]]) -> Option<Line>
     let client = client_number(client)?;
     let server = server_number(server)?;
     let link = link_in(link)?;
-    Some(Line::Link { client, server, link })
+    Some(Line::Link {
+        client,
+        server,
+        link,
+    })
 }
 
 fn list_form(words: &[&[u8]]) -> Option<Line>

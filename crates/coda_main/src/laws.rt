@@ -9,34 +9,29 @@ ghost use Rattle.coda_main.specs.PlainRun.{LineGives, LineRefused};
 /// or as one that is too long.
 pub fn clean_scripts_run()
     ensures { CleanScriptsRun LineGives LineRefused empty_cell empty_cell }
-{
-}
+{}
 
 /// A script has one status, however it is cut into pieces, but for faults and want of memory.
 pub fn one_status()
     ensures { OneStatus LineGives LineRefused empty_cell empty_cell }
-{
-}
+{}
 
 /// Whatever lines ran from an empty cell, each chunk of a client is decided at most once (Kistler and Satyanarayanan 1992:
 /// a log is replayed as one transaction).
 pub fn chunks_are_decided_once()
     ensures { ChunksAreDecidedOnce }
-{
-}
+{}
 
 /// Where the operations of a chunk certify in turn, the chunk is applied, and leaves the volume that replaying them leaves.
 pub fn certified_chunks_are_applied()
     ensures { CertifiedChunksAreApplied }
-{
-}
+{}
 
 /// A conflict names the first of the records sent that certification refuses, the operations of the chunk don't certify
 /// either, and the volume is as it was.
 pub fn conflicts_name_a_sent_record()
     ensures { ConflictsNameASentRecord }
-{
-}
+{}
 
 /// A law of the text of a volume: as many levels as there are objects show all of it, and more show no more.
 pub fn volumes_are_shown_whole()

@@ -4,12 +4,15 @@ use Rattle.std.specs.FinMap as map
 use Rattle.std.proofs.lemmas.Cmp.{nat_list_cmp_total}
 use Rattle.std.proofs.lemmas.Map.Lookups.{exact_bytes}
 use Rattle.std.proofs.lemmas.Option.{none-some}
+use Rattle.coda_fid.specs.Name.{name_cmp}
 use Rattle.coda_fid.specs.declared.fid.Fid.{Fid}
 use Rattle.coda_tree.specs.declared.node.Node.{Node}
+use Rattle.coda_tree.specs.declared.node.NodeKind.{NodeKind}
+use Rattle.coda_tree.specs.declared.node.NodeKind.TheVariants.{File, Link, Dir}
 use Rattle.coda_tree.specs.Bindings.{Name}
-use Rattle.coda_tree.specs.Volume.{Nodes, bindings, child, child_of, has, IsVolume, IsDir, IsDirNode, IsDirAt, changed, changed_at, bind_in, bound, additions, edited_all, added}
-use Rattle.coda_tree.proofs.Order.{fid_cases, fids_total, exact_fids, get_here, get_else, gone_here, gone_else}
-use Rattle.coda_tree.proofs.Trees.{IsAddition, tree_added}
+use Rattle.coda_tree.specs.Volume.{Nodes, bindings, child, child_of, has, IsVolume, IsDir, IsDirNode, IsDirAt, changed, changed_at, with_kind, bind_in, unbind_in, bound, unbound, additions, edited_all, added, detached}
+use Rattle.coda_tree.proofs.Order.{fid_cases, fids_total, exact_fids, get_here, get_else, gone_here, gone_else, insert_removed}
+use Rattle.coda_tree.proofs.Trees.{IsAddition, tree_added, IsRemoval, tree_removed, root_differs}
 
 -- ---- a node changed
 
@@ -29,6 +32,21 @@ bind_here node name f = get_here nat_list_cmp_total (bindings node.kind) name f
 pub bind_else : (node : Node) (name : Name) (f : Fid) (n : Name) → n ≢ name → child_of (Some (bind_in node name f)) n ≡ child_of (Some node) n
 bind_else node name f n ne = get_else nat_list_cmp_total exact_bytes (bindings node.kind) name f n ne
 
+pub unbind_here : (node : Node) (name : Name) → child_of (Some (unbind_in node name)) name ≡ None
+unbind_here node name = gone_here nat_list_cmp_total (bindings node.kind) name
+
+pub unbind_else : (node : Node) (name n : Name) → n ≢ name → child_of (Some (unbind_in node name)) n ≡ child_of (Some node) n
+unbind_else node name n ne = gone_else nat_list_cmp_total exact_bytes (bindings node.kind) name n ne
+
+same_kind : (kind : NodeKind) (name : Name) (f : Fid) → IsDir kind → map.get (bindings kind) name ≡ None → Dir (map.remove (map.insert (bindings kind) name f) name) ≡ kind
+same_kind (File content) name f is free = absurd is
+same_kind (Link target) name f is free = absurd is
+same_kind (Dir entries) name f is free = ap Dir (insert_removed nat_list_cmp_total exact_bytes entries name f free)
+
+-- a directory in which a free name was bound and unbound again
+pub bind_undone : (node : Node) (name : Name) (f : Fid) → IsDir node.kind → map.get (bindings node.kind) name ≡ None → unbind_in (bind_in node name f) name ≡ node
+bind_undone node name f is free = ap (λ kind. with_kind node kind) (same_kind node.kind name f is free)
+
 -- ---- a directory that is there
 
 dir_of : (o : Option Node) → IsDirNode o → (node : Node) × (o ≡ Some node) × IsDir node.kind
@@ -39,6 +57,19 @@ dir_of (Some node) d = (node, refl, d)
 pub dir_node : (m : Nodes) (d : Fid) → IsDirAt m d → (node : Node) × (map.get m d ≡ Some node) × IsDir node.kind
 dir_node m d is = dir_of (map.get m d) is
 
+kind_binds : (kind : NodeKind) (name : Name) (f : Fid) → map.get (bindings kind) name ≡ Some f → IsDir kind
+kind_binds (File content) name f is = absurd (none-some f (sym (map.get-empty name_cmp name) ∙ is))
+kind_binds (Link target) name f is = absurd (none-some f (sym (map.get-empty name_cmp name) ∙ is))
+kind_binds (Dir entries) name f is = tt
+
+node_binds : (o : Option Node) (name : Name) (f : Fid) → child_of o name ≡ Some f → IsDirNode o
+node_binds None name f is = absurd (none-some f is)
+node_binds (Some node) name f is = kind_binds node.kind name f is
+
+-- what binds something is a directory
+pub binder_is_dir : (m : Nodes) (d : Fid) (name : Name) (f : Fid) → child m d name ≡ Some f → IsDirAt m d
+binder_is_dir m d name f is = node_binds (map.get m d) name f is
+
 -- a directory does not stand at a free fid
 pub dir_not_free : (m : Nodes) (d f : Fid) → IsDirAt m d → map.get m f ≡ None → d ≢ f
 dir_not_free m d f is free same = subst IsDirNode (ap (map.get m) same ∙ free) is
@@ -46,10 +77,7 @@ dir_not_free m d f is free same = subst IsDirNode (ap (map.get m) same ∙ free)
 -- ---- a node put at a free fid and taken out again
 
 pub put_taken_out : (m : Nodes) (f : Fid) (node : Node) → map.get m f ≡ None → map.remove (map.insert m f node) f ≡ m
-put_taken_out m f node free = map.same_map fids_total exact_fids _ _ (λ q. elim (fid_cases q f) [
-  | inl same ↦ ap (map.get (map.remove (map.insert m f node) f)) same ∙ gone_here fids_total (map.insert m f node) f ∙ sym (ap (map.get m) same ∙ free)
-  | inr other ↦ gone_else fids_total exact_fids (map.insert m f node) f q other ∙ get_else fids_total exact_fids m f node q other
-])
+put_taken_out m f node free = insert_removed fids_total exact_fids m f node free
 
 -- a directory stays when a node is put at a free fid
 pub get_dir_put : (m : Nodes) (d f : Fid) (node : Node) → IsDirAt m d → map.get m f ≡ None → map.get (map.insert m f node) d ≡ map.get m d
@@ -133,3 +161,92 @@ module _ (m : Nodes) (dir : Fid) (name : Name) (f : Fid) (node dnode : Node) (di
     tree = tree_added v.tree (addition name_free leaf);
     top = dir_added root v.top;
   }
+
+-- ---- a node taken out
+
+module _ (m : Nodes) (dir : Fid) (name : Name) (f : Fid) (dnode : Node) (dir_is : map.get m dir ≡ Some dnode) where
+  pub get_detached_old : map.get (detached m dir name f) f ≡ None
+  unfolding detached
+  get_detached_old = gone_here fids_total (unbound m dir name) f
+
+  pub get_detached_dir : dir ≢ f → map.get (detached m dir name f) dir ≡ Some (unbind_in dnode name)
+  unfolding detached
+  get_detached_dir differs = gone_else fids_total exact_fids (unbound m dir name) f dir differs ∙ get_changed m dir (λ n. unbind_in n name) dnode dir_is
+
+  pub get_detached_else : (q : Fid) → q ≢ f → q ≢ dir → map.get (detached m dir name f) q ≡ map.get m q
+  unfolding detached
+  get_detached_else q a b = gone_else fids_total exact_fids (unbound m dir name) f q a ∙ get_unchanged m dir (λ n. unbind_in n name) dnode dir_is q b
+
+  binder_differs : child m dir name ≡ Some f → ((n : Name) → child m f n ≡ None) → dir ≢ f
+  binder_differs was leaf same = none-some f (sym (leaf name) ∙ ap (λ e. child m e name) (sym same) ∙ was)
+
+  pub removal : child m dir name ≡ Some f → ((n : Name) → child m f n ≡ None) → IsRemoval (has m) (has (detached m dir name f)) (child m) (child (detached m dir name f)) dir name f
+  removal was leaf =
+      let dir_other = binder_differs was leaf in
+      record {
+        was = was;
+        leaf = leaf;
+        here = ap (λ o. child_of o name) (get_detached_dir dir_other) ∙ unbind_here dnode name;
+        elsewhere = λ d n not_edge. elim (fid_cases d f) [
+          | inl same ↦ ap (λ e. child (detached m dir name f) e n) same ∙ ap (λ o. child_of o n) get_detached_old ∙ sym (ap (λ e. child m e n) same ∙ leaf n)
+          | inr other ↦ elim (fid_cases d dir) [
+            | inl at ↦
+                ap (λ e. child (detached m dir name f) e n) at ∙ ap (λ o. child_of o n) (get_detached_dir dir_other) ∙ unbind_else dnode name n (λ alike. not_edge (at, alike))
+                ∙ sym (ap (λ e. child m e n) at ∙ ap (λ o. child_of o n) dir_is)
+            | inr away ↦ ap (λ o. child_of o n) (get_detached_else d other away)
+          ]
+        ];
+        old_gone = ap is_some get_detached_old;
+        others = λ q other. elim (fid_cases q dir) [
+          | inl at ↦ ap (λ e. has (detached m dir name f) e) at ∙ ap is_some (get_detached_dir dir_other) ∙ sym (ap (λ e. has m e) at ∙ ap is_some dir_is)
+          | inr away ↦ ap is_some (get_detached_else q other away)
+        ];
+      }
+
+  -- what was a directory is one, where it stays
+  dir_left : dir ≢ f → (q : Fid) → q ≢ f → IsDirAt m q → IsDirAt (detached m dir name f) q
+  dir_left dir_other q other is = elim (fid_cases q dir) [
+    | inl at ↦ subst IsDirNode (sym (ap (map.get (detached m dir name f)) at ∙ get_detached_dir dir_other)) tt
+    | inr away ↦ subst IsDirNode (sym (get_detached_else q other away)) is
+  ]
+
+  -- a volume stays one where the node bound nothing
+  pub volume_detached : {root : Fid} → IsVolume root m → child m dir name ≡ Some f → ((n : Name) → child m f n ≡ None) → IsVolume root (detached m dir name f)
+  volume_detached {root} v was leaf =
+      let facts = removal was leaf in
+      record {
+        tree = tree_removed v.tree facts;
+        top = dir_left (binder_differs was leaf) root (root_differs v.tree facts) v.top;
+      }
+
+-- ---- a node added and taken out again
+
+module _ (m : Nodes) (dir : Fid) (name : Name) (f : Fid) (node : Node) (is : IsDirAt m dir) (name_free : child m dir name ≡ None) (free : map.get m f ≡ None) where
+  -- the new name is bound to the new node
+  pub added_child : child (added m dir name f node) dir name ≡ Some f
+  added_child =
+      let there = dir_node m dir is in
+      ap (λ o. child_of o name) (get_added_dir m dir name f node there.0 there.1 free) ∙ bind_here there.0 name f
+
+  -- the new node binds what it did
+  pub added_binds : (n : Name) → child (added m dir name f node) f n ≡ map.get (bindings node.kind) n
+  added_binds n =
+      let there = dir_node m dir is in
+      ap (λ o. child_of o n) (get_added_new m dir name f node there.0 there.1 free)
+
+  -- nothing else is left of it
+  pub detached_added : detached (added m dir name f node) dir name f ≡ m
+  detached_added =
+      let there = dir_node m dir is in
+      let more = added m dir name f node in
+      let at_dir = get_added_dir m dir name f node there.0 there.1 free in
+      let name_free' : map.get (bindings there.0.kind) name ≡ None = ap (λ o. child_of o name) (sym there.1) ∙ name_free in
+      map.same_map fids_total exact_fids _ _ (λ q. elim (fid_cases q f) [
+        | inl same ↦ ap (map.get (detached more dir name f)) same ∙ get_detached_old more dir name f (bind_in there.0 name f) at_dir ∙ sym (ap (map.get m) same ∙ free)
+        | inr other ↦ elim (fid_cases q dir) [
+          | inl at ↦
+              ap (map.get (detached more dir name f)) at ∙ get_detached_dir more dir name f (bind_in there.0 name f) at_dir (dir_not_free m dir f is free)
+              ∙ ap Some (bind_undone there.0 name f there.2 name_free') ∙ sym (ap (map.get m) at ∙ there.1)
+          | inr away ↦ get_detached_else more dir name f (bind_in there.0 name f) at_dir q other away ∙ get_added_else m dir name f node there.0 there.1 free q other away
+        ]
+      ])

@@ -9,11 +9,11 @@ use Rattle.coda_fid.specs.declared.fid.Fid.{Fid}
 use Rattle.coda_tree.specs.declared.node.Node.{Node}
 use Rattle.coda_tree.specs.Bindings.{Name}
 use Rattle.coda_tree.specs.Tree.{itself}
-use Rattle.coda_tree.specs.Volume.{Nodes, child, child_of, has, IsDirAt, IsDirNode, IsDir, IsLeaf, added, parent_of}
+use Rattle.coda_tree.specs.Volume.{Nodes, child, child_of, has, IsDirAt, IsDirNode, IsDir, IsLeaf, added, detached, parent_of}
 use Rattle.coda_tree.specs.Keeping.{AreParents, IsKept}
 use Rattle.coda_tree.proofs.Order.{fid_cases, fids_total, exact_fids, get_here, get_else}
-use Rattle.coda_tree.proofs.Changes.{dir_node, addition, volume_added}
-use Rattle.coda_tree.proofs.Trees.{added_edge, more, not_new}
+use Rattle.coda_tree.proofs.Changes.{dir_node, binder_is_dir, addition, volume_added, removal, volume_detached}
+use Rattle.coda_tree.proofs.Trees.{added_edge, more, not_new, left_edge, kept_edge}
 use Rattle.coda_tree.proofs.Parents.{parent_is, parent_sound}
 use Rattle.coda_tree.proofs.TableMap.{changed_here, changed_else}
 
@@ -85,6 +85,30 @@ parent_taken_out m old more less dir f k free put out = record {
     | inr other ↦ out q ∙ changed_else f q None (tree.get fid_cmp more q) other ∙ put q ∙ changed_else f q (Some dir) (tree.get fid_cmp old q) other
   ]) k.kept;
 }
+
+-- ---- a node taken out
+
+module _ {root : Fid} (m : Nodes) (old new : BTreeMap Fid Fid) (dir : Fid) (name : Name) (f : Fid) (out : (q : Fid) → tree.get fid_cmp new q ≡ cond (tree.is_at (fid_cmp f) q) None (tree.get fid_cmp old q)) where
+  pub kept_detached : IsKept root m old → child m dir name ≡ Some f → ((n : Name) → child m f n ≡ None) → IsKept root (detached m dir name f) new
+  kept_detached k was leaf =
+      let there = dir_node m dir (binder_is_dir m dir name f was) in
+      let facts = removal m dir name f there.0 there.1 was leaf in
+      let here : tree.get fid_cmp new f ≡ None = out f ∙ changed_here f None (tree.get fid_cmp old f) in
+      let other : (q : Fid) → q ≢ f → tree.get fid_cmp new q ≡ tree.get fid_cmp old q = λ q differs. out q ∙ changed_else f q None (tree.get fid_cmp old q) differs in
+      record {
+        volume = volume_detached m dir name f there.0 there.1 k.volume was leaf;
+        kept = record {
+          parent = λ q p is. elim (fid_cases q f) [
+            | inl same ↦ absurd (none-some p (sym here ∙ ap (tree.get fid_cmp new) (sym same) ∙ is))
+            | inr differs ↦
+                let bound = k.kept.parent q p (sym (other q differs) ∙ is) in
+                (bound.0, kept_edge k.volume.tree facts p bound.0 q differs bound.1)
+          ];
+          binds = λ p n q is.
+              let left = left_edge k.volume.tree facts p n q is in
+              other q left.1 ∙ k.kept.binds p n q left.0;
+        };
+      }
 
 -- ---- a root alone
 

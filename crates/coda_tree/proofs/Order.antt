@@ -1,5 +1,5 @@
 -- The orders of fids and names tell keys apart, and what a finite map has after a change.
-use Rattle.std.proofs.Common.{◌≡◌, ◌≢◌, ℕ, cond, Some, None, Ordering, refl, ap, ◌∙◌, inl, inr, ◌⊎◌}
+use Rattle.std.proofs.Common.{◌≡◌, ◌≢◌, ℕ, cond, Some, None, Ordering, refl, sym, ap, ◌∙◌, inl, inr, ◌⊎◌}
 use Rattle.std.specs.declared.cmp.Ordering.TheVariants.{Less, Equal, Greater}
 use Rattle.std.specs.Ordering.{nat_cmp, ordering_then, is_eq}
 use Rattle.std.specs.Cmp.{IsTotalOrder}
@@ -58,3 +58,10 @@ module _ {K X : Type 0} {R : K → K → Ordering} (o : IsTotalOrder R) where
 
   pub gone_else : CmpEqualImpliesEq R → (m : FinMap R X) (k q : K) → q ≢ k → map.get (map.remove m k) q ≡ map.get m q
   gone_else exact m k q ne = map.get-remove o m k q ∙ apart R exact q k _ _ ne
+
+  -- what was put at a free key and taken out again
+  pub insert_removed : CmpEqualImpliesEq R → (m : FinMap R X) (k : K) (v : X) → map.get m k ≡ None → map.remove (map.insert m k v) k ≡ m
+  insert_removed exact m k v free = map.same_map o exact _ _ (λ q. elim (cases_by o exact q k) [
+    | inl same ↦ ap (map.get (map.remove (map.insert m k v) k)) same ∙ gone_here (map.insert m k v) k ∙ sym (ap (map.get m) same ∙ free)
+    | inr other ↦ gone_else exact (map.insert m k v) k q other ∙ get_else exact m k v q other
+  ])

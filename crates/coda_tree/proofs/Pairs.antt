@@ -1,18 +1,19 @@
--- Sorted pairs of a directory: what a search finds, and what an insertion makes of the finite map.
-use Rattle.std.proofs.Common.{◌≡◌, ℕ, zero, suc, ◌<◌, ◌≤◌, true, cond, [], ◌∷◌, length, get_or, Some, None, Ordering, refl, sym, ap, ◌∙◌, subst, inl, inr, arith}
+-- Sorted pairs of a directory: what a search finds, and what an insertion or a removal makes of the finite map.
+use Rattle.std.proofs.Common.{◌≡◌, ◌≢◌, ℕ, zero, suc, ◌<◌, ◌≤◌, true, cond, [], ◌∷◌, length, get_or, Some, None, Ordering, refl, sym, ap, ◌∙◌, subst, inl, inr, arith}
 use Rattle.std.specs.Prelude.{slice_get}
 use Rattle.std.specs.declared.cmp.Ordering.TheVariants.{Less, Equal, Greater}
-use Rattle.std.specs.List.{insert}
+use Rattle.std.specs.List.{insert, remove}
 use Rattle.std.specs.Ordering.{ordering_reverse, is_eq}
 use Rattle.std.specs.FinMap as map
 use Rattle.std.specs.FinMap.Entries.{is_sorted, find, put, below_all, by_order, is_sorted-put}
-use Rattle.std.proofs.lemmas.Cmp.{nat_list_cmp_total}
+use Rattle.std.proofs.lemmas.Cmp.{nat_list_cmp_total, tied_itself}
 use Rattle.std.proofs.lemmas.Bool.{cases_lt}
 use Rattle.std.proofs.lemmas.Map.Lookups.{exact_bytes}
 use Rattle.coda_fid.specs.Name.{name_cmp}
 use Rattle.coda_fid.specs.declared.fid.Fid.{Fid}
 use Rattle.coda_tree.specs.Bindings.{Name, Pairs, Bindings, IsIndexOf, IsGapFor}
-use Rattle.coda_tree.proofs.Booleans.{and_true, lt_less, to_T, from_T}
+use Rattle.coda_tree.proofs.Booleans.{and_true, and_both, lt_less, to_T, from_T}
+use Rattle.coda_tree.proofs.Order.{apart, at_itself, name_cases}
 
 turn : (a b : Name) (o : Ordering) → name_cmp a b ≡ o → name_cmp b a ≡ ordering_reverse o
 turn a b o h = nat_list_cmp_total.antisymm b a ∙ ap ordering_reverse h
@@ -72,6 +73,46 @@ find_at (e ∷ es) name zero d up at = ap (λ o. cond (is_eq o) (Some e.1) (find
 find_at (e ∷ es) name (suc i) d up at =
     ap (λ o. cond (is_eq o) (Some e.1) (find name_cmp name es)) (before e es name i up at) ∙ find_at es name i d (and_true _ _ up).1 (tail_at e es name i at)
 
+-- ---- a pair removed
+below_removed : (x : Name) (es : Pairs) (i : ℕ) → below_all name_cmp x es ≡ true → below_all name_cmp x (remove es i) ≡ true
+below_removed x [] zero h = refl
+below_removed x [] (suc i) h = refl
+below_removed x (e ∷ es) zero h = (and_true _ _ h).1
+below_removed x (e ∷ es) (suc i) h = and_both _ _ (and_true _ _ h).0 (below_removed x es i (and_true _ _ h).1)
+
+pub sorted_removed : (es : Pairs) (i : ℕ) → is_sorted name_cmp es ≡ true → is_sorted name_cmp (remove es i) ≡ true
+sorted_removed [] zero h = refl
+sorted_removed [] (suc i) h = refl
+sorted_removed (e ∷ es) zero h = (and_true _ _ h).1
+sorted_removed (e ∷ es) (suc i) h = and_both _ _ (below_removed e.0 es i (and_true _ _ h).0) (sorted_removed es i (and_true _ _ h).1)
+
+greater_differs : (a b : Name) → name_cmp a b ≡ Greater → b ≢ a
+greater_differs a b h same =
+    let tied : name_cmp b b ≡ Equal = tied_itself nat_list_cmp_total b in
+    let greater : name_cmp b b ≡ Greater = ap (λ x. name_cmp x b) same ∙ h in
+    cc
+
+-- what is found once the pair of a name is removed
+find_removed : (es : Pairs) (name : Name) (i : ℕ) (q : Name) → is_sorted name_cmp es ≡ true → IsIndexOf es name i → find name_cmp q (remove es i) ≡ cond (is_eq (name_cmp q name)) None (find name_cmp q es)
+find_removed [] name i q up at = absurd (omega (arith, at.in_range))
+find_removed (e ∷ es) name zero q up at =
+    let is : e.0 ≡ name = exact_bytes _ _ (at.has_name e) in
+    elim (name_cases q name) [
+      | inl same ↦ ap (λ x. find name_cmp x es) (same ∙ sym is) ∙ none_below e.0 es (and_true _ _ up).0 ∙ sym (ap (λ x. cond (is_eq (name_cmp x name)) None (find name_cmp q (e ∷ es))) same ∙ at_itself nat_list_cmp_total name _ _)
+      | inr differs ↦ sym (apart name_cmp exact_bytes q name None (find name_cmp q (e ∷ es)) differs ∙ apart name_cmp exact_bytes q e.0 (Some e.1) (find name_cmp q es) (λ same. differs (same ∙ is)))
+    ]
+find_removed (e ∷ es) name (suc i) q up at =
+    let rest = find_removed es name i q (and_true _ _ up).1 (tail_at e es name i at) in
+    elim (name_cases q e.0) [
+      | inl same ↦
+          ap (λ x. cond (is_eq (name_cmp x e.0)) (Some e.1) (find name_cmp q (remove es i))) same ∙ at_itself nat_list_cmp_total e.0 _ _
+          ∙ sym (ap (λ x. cond (is_eq (name_cmp x name)) None (find name_cmp q (e ∷ es))) same ∙ apart name_cmp exact_bytes e.0 name None (find name_cmp q (e ∷ es)) (greater_differs name e.0 (before e es name i up at))
+          ∙ ap (λ x. cond (is_eq (name_cmp x e.0)) (Some e.1) (find name_cmp q es)) same ∙ at_itself nat_list_cmp_total e.0 _ _)
+      | inr differs ↦
+          apart name_cmp exact_bytes q e.0 (Some e.1) (find name_cmp q (remove es i)) differs ∙ rest
+          ∙ ap (λ o. cond (is_eq (name_cmp q name)) None o) (sym (apart name_cmp exact_bytes q e.0 (Some e.1) (find name_cmp q es) differs))
+    ]
+
 -- ---- as finite maps
 pub get_pairs : (es : Pairs) (q : Name) → is_sorted name_cmp es ≡ true → map.get (map.from_sorted {R = name_cmp} es) q ≡ find name_cmp q es
 get_pairs es q up = map.get-from_sorted name_cmp es q (to_T _ up)
@@ -85,6 +126,21 @@ inserted es name fid i up gap =
     map.entries-from_sorted name_cmp _ (to_T _ (sorted_inserted es name fid i up gap)) ∙ sym (put_gap es name fid i gap)
     ∙ ap (put name_cmp name fid) (sym (map.entries-from_sorted name_cmp es (to_T _ up)))
     ∙ sym (map.entries-insert nat_list_cmp_total (map.from_sorted {R = name_cmp} es) name fid))
+
+pub removed : (es : Pairs) (name : Name) (i : ℕ) → is_sorted name_cmp es ≡ true → IsIndexOf es name i → map.from_sorted {R = name_cmp} (remove es i) ≡ map.remove (map.from_sorted es) name
+removed es name i up at = map.same_map nat_list_cmp_total exact_bytes _ _ (λ q.
+    get_pairs (remove es i) q (sorted_removed es i up) ∙ find_removed es name i q up at
+    ∙ ap (λ o. cond (is_eq (name_cmp q name)) None o) (sym (get_pairs es q up))
+    ∙ sym (map.get-remove nat_list_cmp_total (map.from_sorted {R = name_cmp} es) name q))
+
+-- a name that is not there
+pub not_removed : (es : Pairs) (name : Name) (i : ℕ) → is_sorted name_cmp es ≡ true → IsGapFor es name i → map.from_sorted {R = name_cmp} es ≡ map.remove (map.from_sorted es) name
+not_removed es name i up gap = map.same_map nat_list_cmp_total exact_bytes _ _ (λ q.
+    elim (name_cases q name) [
+      | inl same ↦ ap (map.get (map.from_sorted {R = name_cmp} es)) same ∙ get_pairs es name up ∙ find_gap es name i gap
+          ∙ sym (map.get-remove nat_list_cmp_total (map.from_sorted {R = name_cmp} es) name q ∙ ap (λ x. cond (is_eq (name_cmp x name)) None (map.get (map.from_sorted {R = name_cmp} es) q)) same ∙ at_itself nat_list_cmp_total name _ _)
+      | inr differs ↦ sym (map.get-remove nat_list_cmp_total (map.from_sorted {R = name_cmp} es) name q ∙ apart name_cmp exact_bytes q name None _ differs)
+    ])
 
 -- the entries of what is seen of sorted pairs
 pub entries_seen : (es : Pairs) (seen : Bindings) → is_sorted name_cmp es ≡ true → map.from_sorted {R = name_cmp} es ≡ seen → map.entries seen ≡ es

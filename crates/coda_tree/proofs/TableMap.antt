@@ -12,7 +12,7 @@ use Rattle.coda_fid.specs.Fid.{fid_cmp}
 use Rattle.coda_fid.specs.declared.fid.Fid.{Fid}
 use Rattle.coda_tree.specs.declared.node.Node.{Node}
 use Rattle.coda_tree.specs.Bindings.{Name}
-use Rattle.coda_tree.specs.Volume.{Nodes, bind_in, bound, IsDir, IsDirAt, bindings, child, child_of}
+use Rattle.coda_tree.specs.Volume.{Nodes, changed, bind_in, unbind_in, bound, unbound, IsDir, IsDirAt, bindings, child, child_of}
 use Rattle.coda_tree.specs.Table.{nodes_of, or_node}
 use Rattle.coda_tree.proofs.Order.{fid_cases, fids_total, exact_fids, apart, at_itself, get_here, get_else, gone_here, gone_else}
 use Rattle.coda_tree.proofs.Changes.{dir_node, get_changed, get_unchanged}
@@ -54,18 +54,33 @@ nodes_taken_out old new f out = map.same_map fids_total exact_fids _ _ (λ q. ge
   | inr other ↦ changed_else f q None (kept_at old q) other ∙ sym (get_nodes old q) ∙ sym (gone_else fids_total exact_fids (nodes_of old) f q other)
 ])
 
+-- a directory changed
+nodes_changed : (old new : List (Fid × Node)) (dir : Fid) (change : Node → Node) → IsDirAt (nodes_of old) dir → ((q : Fid) → kept_at new q ≡ cond (tree.is_at (fid_cmp dir) q) (option_map change (kept_at old dir)) (kept_at old q))
+    → nodes_of new ≡ changed (nodes_of old) dir change
+nodes_changed old new dir change is changes =
+    let there = dir_node (nodes_of old) dir is in
+    map.same_map fids_total exact_fids _ _ (λ q. get_nodes new q ∙ changes q ∙ elim (fid_cases q dir) [
+      | inl at ↦
+          ap (λ e. cond (tree.is_at (fid_cmp dir) e) (option_map change (kept_at old dir)) (kept_at old q)) at ∙ changed_here dir _ (kept_at old q) ∙ ap (option_map change) (sym (get_nodes old dir) ∙ there.1)
+          ∙ sym (ap (map.get (changed (nodes_of old) dir change)) at ∙ get_changed (nodes_of old) dir change there.0 there.1)
+      | inr away ↦ changed_else dir q _ (kept_at old q) away ∙ sym (get_nodes old q) ∙ sym (get_unchanged (nodes_of old) dir change there.0 there.1 q away)
+    ])
+
 -- a name bound in a directory
 pub nodes_bound : (old new : List (Fid × Node)) (dir : Fid) (name : Name) (f : Fid) → IsDirAt (nodes_of old) dir
     → ((q : Fid) → kept_at new q ≡ cond (tree.is_at (fid_cmp dir) q) (option_map (λ node. bind_in node name f) (kept_at old dir)) (kept_at old q)) → nodes_of new ≡ bound (nodes_of old) dir name f
-nodes_bound old new dir name f is binds =
-    let there = dir_node (nodes_of old) dir is in
-    map.same_map fids_total exact_fids _ _ (λ q. get_nodes new q ∙ binds q ∙ elim (fid_cases q dir) [
-      | inl at ↦
-          ap (λ e. cond (tree.is_at (fid_cmp dir) e) (option_map (λ node. bind_in node name f) (kept_at old dir)) (kept_at old q)) at ∙ changed_here dir _ (kept_at old q)
-          ∙ ap (option_map (λ node. bind_in node name f)) (sym (get_nodes old dir) ∙ there.1)
-          ∙ sym (ap (map.get (bound (nodes_of old) dir name f)) at ∙ get_changed (nodes_of old) dir (λ n. bind_in n name f) there.0 there.1)
-      | inr away ↦ changed_else dir q _ (kept_at old q) away ∙ sym (get_nodes old q) ∙ sym (get_unchanged (nodes_of old) dir (λ n. bind_in n name f) there.0 there.1 q away)
-    ])
+nodes_bound old new dir name f is binds = nodes_changed old new dir (λ node. bind_in node name f) is binds
+
+-- a name unbound in a directory
+pub nodes_unbound : (old new : List (Fid × Node)) (dir : Fid) (name : Name) → IsDirAt (nodes_of old) dir
+    → ((q : Fid) → kept_at new q ≡ cond (tree.is_at (fid_cmp dir) q) (option_map (λ node. unbind_in node name) (kept_at old dir)) (kept_at old q)) → nodes_of new ≡ unbound (nodes_of old) dir name
+nodes_unbound old new dir name is unbinds = nodes_changed old new dir (λ node. unbind_in node name) is unbinds
+
+-- a directory is kept where one stands
+pub kept_dir : (entries : List (Fid × Node)) (dir : Fid) → IsDirAt (nodes_of entries) dir → IfSome (kept_at entries dir) (λ node. IsDir node.kind)
+kept_dir entries dir is =
+    let there = dir_node (nodes_of entries) dir is in
+    subst (λ o. IfSome o (λ (node : Node). IsDir node.kind)) (sym (sym (get_nodes entries dir) ∙ there.1)) there.2
 
 -- the name may be bound in the directory that is kept
 pub may_bind : (entries : List (Fid × Node)) (dir : Fid) (name : Name) → IsDirAt (nodes_of entries) dir → child (nodes_of entries) dir name ≡ None → IfSome (kept_at entries dir) (λ node. IsDir node.kind × (map.get (bindings node.kind) name ≡ None))

@@ -84,3 +84,57 @@ module _ {root dir new : Fid} {name : Name} {has has' : Fid → Bool} {c c' : Ch
       | inr differs ↦ below_kept more f (t.reached f (sym (a.others f differs) ∙ h))
     ];
   }
+
+-- ---- a fid taken out
+
+-- has' and c' are has and c without a fid that binds nothing, nor the name that a directory bound it at
+pub record IsRemoval (has has' : Fid → Bool) (c c' : Child) (dir : Fid) (name : Name) (old : Fid) : Type 0 where
+  pub was : c dir name ≡ Some old
+  pub leaf : (n : Name) → c old n ≡ None
+  pub here : c' dir name ≡ None
+  pub elsewhere : (d : Fid) (n : Name) → (((d ≡ dir) × (n ≡ name)) → ⊥) → c' d n ≡ c d n
+  pub old_gone : has' old ≡ false
+  pub others : (q : Fid) → q ≢ old → has' q ≡ has q
+
+module _ {root dir old : Fid} {name : Name} {has has' : Fid → Bool} {c c' : Child} (t : IsTree root has c) (a : IsRemoval has has' c c' dir name old) where
+  -- a binding that is left is an old one, of another fid
+  pub left_edge : (d : Fid) (n : Name) (f : Fid) → c' d n ≡ Some f → (c d n ≡ Some f) × (f ≢ old)
+  left_edge d n f h = elim (edge_cases d dir n name) [
+    | inl both ↦
+        let none : c' d n ≡ None = subst (λ e. c' e n ≡ None) (sym both.0) (subst (λ k. c' dir k ≡ None) (sym both.1) a.here) in
+        cc
+    | inr apart ↦
+        let is : c d n ≡ Some f = sym (a.elsewhere d n apart) ∙ h in
+        (is, λ same. apart (t.once d n dir name old (is ∙ ap Some same) a.was))
+  ]
+
+  pub kept_edge : (d : Fid) (n : Name) (f : Fid) → f ≢ old → c d n ≡ Some f → c' d n ≡ Some f
+  kept_edge d n f differs h = a.elsewhere d n (λ both.
+      let was : c d n ≡ Some old = subst (λ e. c e n ≡ Some old) (sym both.0) (subst (λ k. c dir k ≡ Some old) (sym both.1) a.was) in
+      differs cc) ∙ h
+
+  not_parent : (d : Fid) (n : Name) (f : Fid) → c d n ≡ Some f → d ≢ old
+  not_parent d n f h same =
+      let none : c d n ≡ None = subst (λ e. c e n ≡ None) (sym same) (a.leaf n) in
+      cc
+
+  still_reached : (f : Fid) → f ≢ old → IsBelow c root f → IsBelow c' root f
+  still_reached f differs (itself f' same) = itself f same
+  still_reached f differs (under d n f' h up) = under d n f (kept_edge d n f differs h) (still_reached d (not_parent d n f h) up)
+
+  left_differs : (q : Fid) → has' q ≡ true → q ≢ old
+  left_differs q h same = let gone = a.old_gone in cc
+
+  -- the root stays
+  pub root_differs : root ≢ old
+  root_differs same = t.unbound dir name (a.was ∙ ap Some (sym same))
+
+  pub tree_removed : IsTree root has' c'
+  tree_removed = record {
+    rooted = a.others root root_differs ∙ t.rooted;
+    unbound = λ d n h. t.unbound d n (left_edge d n root h).0;
+    from = λ d n f h. let was = left_edge d n f h in a.others d (not_parent d n f was.0) ∙ t.from d n f was.0;
+    there = λ d n f h. let was = left_edge d n f h in a.others f was.1 ∙ t.there d n f was.0;
+    once = λ d n e k f h i. t.once d n e k f (left_edge d n f h).0 (left_edge e k f i).0;
+    reached = λ f h. let differs = left_differs f h in still_reached f differs (t.reached f (sym (a.others f differs) ∙ h));
+  }

@@ -7,7 +7,7 @@ use Rattle.coda_fid.specs.Fid.{fid_cmp}
 use Rattle.coda_fid.specs.declared.fid.Fid.{Fid}
 use Rattle.coda_tree.specs.declared.node.Node.{Node}
 use Rattle.coda_tree.specs.Bindings.{Name}
-use Rattle.coda_tree.specs.Volume.{Nodes, bind_in}
+use Rattle.coda_tree.specs.Volume.{Nodes, bind_in, unbind_in}
 
 -- the finite map of a list of entries
 abbrev pub nodes_of : List (Fid × Node) → Nodes
@@ -20,6 +20,10 @@ IsSame old new = (q : Fid) → tree.get fid_cmp new q ≡ tree.get fid_cmp old q
 -- the directory's node binds the name too, and all else stays
 abbrev pub BindsAt : BTreeMap Fid Node → BTreeMap Fid Node → Fid → Name → Fid → Type 0
 BindsAt old new dir name fid = (q : Fid) → tree.get fid_cmp new q ≡ cond (tree.is_at (fid_cmp dir) q) (option_map (λ node. bind_in node name fid) (tree.get fid_cmp old dir)) (tree.get fid_cmp old q)
+
+-- the directory's node binds nothing at the name, and all else stays
+abbrev pub UnbindsAt : BTreeMap Fid Node → BTreeMap Fid Node → Fid → Name → Type 0
+UnbindsAt old new dir name = (q : Fid) → tree.get fid_cmp new q ≡ cond (tree.is_at (fid_cmp dir) q) (option_map (λ node. unbind_in node name) (tree.get fid_cmp old dir)) (tree.get fid_cmp old q)
 
 -- the first node, or else the second
 abbrev pub or_node : Option Node → Option Node → Option Node

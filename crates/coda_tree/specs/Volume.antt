@@ -101,6 +101,10 @@ with_kind node kind = record node { kind = kind }
 abbrev pub bind_in : Node → Name → Fid → Node
 bind_in node name f = with_kind node (Dir (map.insert (bindings node.kind) name f))
 
+-- the node, which binds nothing at the name
+abbrev pub unbind_in : Node → Name → Node
+unbind_in node name = with_kind node (Dir (map.remove (bindings node.kind) name))
+
 -- the map with the changed node at d, where there was one, and else as it is
 abbrev pub changed_at : Option Node → Nodes → Fid → (Node → Node) → Nodes
 changed_at None m d change = m
@@ -114,17 +118,27 @@ changed m d change = changed_at (map.get m d) m d change
 abbrev pub bound : Nodes → Fid → Name → Fid → Nodes
 bound m d name f = changed m d (λ node. bind_in node name f)
 
+-- the map in which d binds nothing at the name
+abbrev pub unbound : Nodes → Fid → Name → Nodes
+unbound m d name = changed m d (λ node. unbind_in node name)
+
 -- one edit at one fid
 pub data Edit : Type 0 where
   -- the node stands at the fid
   Put : (f : Fid) (node : Node) → Edit
   -- the directory d binds f at the name too
   Bind : (d : Fid) (name : Name) (f : Fid) → Edit
+  -- nothing stands at the fid
+  TakeOut : (f : Fid) → Edit
+  -- the directory d binds nothing at the name
+  Unbind : (d : Fid) (name : Name) → Edit
 
 -- the map after an edit
 abbrev pub edited : Nodes → Edit → Nodes
 edited m (Put f node) = map.insert m f node
 edited m (Bind d name f) = bound m d name f
+edited m (TakeOut f) = map.remove m f
+edited m (Unbind d name) = unbound m d name
 
 -- the map after the edits in order
 abbrev pub edited_all : Nodes → List Edit → Nodes
@@ -138,6 +152,14 @@ additions d name f node = Bind d name f ∷ Put f node ∷ []
 -- the node put at f, and f bound in d at the name
 unfoldable pub added : Nodes → Fid → Name → Fid → Node → Nodes
 added m d name f node = edited_all m (additions d name f node)
+
+-- the edits that take a node out of a directory, and out of the map
+abbrev pub removals : Fid → Name → Fid → List Edit
+removals d name f = Unbind d name ∷ TakeOut f ∷ []
+
+-- the name unbound in d, and the node at f taken out
+unfoldable pub detached : Nodes → Fid → Name → Fid → Nodes
+detached m d name f = edited_all m (removals d name f)
 
 -- ---- whole volumes
 

@@ -12,7 +12,7 @@ use std::marker::Model;
 /// What a directory binds: names, each with the fid that it stands for, in byte order of names.
 ///
 /// Contracts see it as a finite map from names to fids. A name is found by binary search, and takes time linear
-/// in the directory to bind.
+/// in the directory to bind or unbind.
 #[derive(Debug, Drop)]
 pub struct Entries {
     items: Vec<(Name, Fid)>,
@@ -91,6 +91,18 @@ impl Entries {
         match search(&self.items, &name) {
             Ok(_) => Ok(()),
             Err(at) => Ok(self.items.insert(at, (name, fid))?),
+        }
+    }
+
+    /// Unbinds a name, where it is bound.
+    pub fn remove(&mut self, name: &Name)
+        ensures { self.new ≡ map.remove self.old name.now }
+    {
+        match search(&self.items, name) {
+            Ok(at) => {
+                let _ = self.items.remove(at);
+            }
+            Err(_) => {}
         }
     }
 

@@ -1,6 +1,6 @@
 ghost use Rattle.std.specs.Prelude.{◌≡◌, None, OnOk, OnErr, IfOk};
 ghost use Rattle.std.specs.FinMap as map;
-ghost use Rattle.coda_tree.specs.Volume.{bindings, bind_in, IsDir};
+ghost use Rattle.coda_tree.specs.Volume.{bindings, bind_in, unbind_in, IsDir};
 
 use crate::Entries;
 use coda_fid::{Bytes, Fid, Name, Sid};
@@ -83,6 +83,17 @@ impl Node {
         match &mut self.kind {
             NodeKind::Dir(entries) => entries.insert(name, fid),
             NodeKind::File(_) | NodeKind::Link(_) => Ok(()),
+        }
+    }
+
+    // Unbinds a name in a directory.
+    pub(crate) fn unbind(&mut self, name: &Name)
+        requires { IsDir self.old.kind }
+        ensures { self.new ≡ unbind_in self.old name.now }
+    {
+        match &mut self.kind {
+            NodeKind::Dir(entries) => entries.remove(name),
+            NodeKind::File(_) | NodeKind::Link(_) => {}
         }
     }
 }

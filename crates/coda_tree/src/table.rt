@@ -2,8 +2,8 @@ ghost use Rattle.std.specs.Prelude.{◌≡◌, None, IfOk, IfSome, OnOk, OnErr, 
 ghost use Rattle.std.specs.FinMap as map;
 ghost use Rattle.std.specs.BTreeMap as tree;
 ghost use Rattle.coda_fid.specs.Fid.{fid_cmp};
-ghost use Rattle.coda_tree.specs.Volume.{child, added, bound, IsDir, IsDirAt, bindings};
-ghost use Rattle.coda_tree.specs.Table.{nodes_of, BindsAt, IsSame};
+ghost use Rattle.coda_tree.specs.Volume.{child, added, detached, bound, unbound, IsDir, IsDirAt, bindings};
+ghost use Rattle.coda_tree.specs.Table.{nodes_of, BindsAt, UnbindsAt, IsSame};
 
 use crate::{Node, NodeKind};
 use coda_fid::{Fid, Name};
@@ -42,6 +42,16 @@ fn bind(nodes: &mut BTreeMap<Fid, Node>, dir: Fid, name: Name, fid: Fid) -> Resu
     match nodes.get_mut(&dir) {
         Some(node) => node.bind(name, fid),
         None => Ok(()),
+    }
+}
+
+// Unbinds a name in the directory at a fid.
+fn unbind(nodes: &mut BTreeMap<Fid, Node>, dir: Fid, name: &Name)
+    requires { IfSome (tree.get fid_cmp nodes.old dir) (λ node. IsDir node.kind) }
+    ensures { UnbindsAt nodes.old nodes.new dir name.now }
+{
+    if let Some(node) = nodes.get_mut(&dir) {
+        node.unbind(name);
     }
 }
 
@@ -131,6 +141,16 @@ impl NodeTable {
         copy_nodes(self.alloc, &self.nodes)
     }
 
+    // Unbinds a name in a directory and takes out the node at a fid.
+    #[tactic(auto, unfolding(crate::specs::Volume::detached))]
+    pub(crate) fn detach(&mut self, dir: Fid, name: &Name, fid: Fid)
+        requires { IsDirAt self.old dir }
+        ensures { self.new ≡ detached self.old dir name.now fid }
+    {
+        self.unbind(dir, name);
+        self.take_out(fid);
+    }
+
     // Binds a name in a directory.
     fn bind(&mut self, dir: Fid, name: Name, fid: Fid) -> Result<(), AllocError>
         requires dir_there { IsDirAt self.old dir }
@@ -139,6 +159,14 @@ impl NodeTable {
         ensures err { OnErr result (self.new ≡ self.old) }
     {
         bind(&mut self.nodes, dir, name, fid)
+    }
+
+    // Unbinds a name in a directory.
+    fn unbind(&mut self, dir: Fid, name: &Name)
+        requires { IsDirAt self.old dir }
+        ensures { self.new ≡ unbound self.old dir name.now }
+    {
+        unbind(&mut self.nodes, dir, name);
     }
 
     // Takes out the node at a fid.

@@ -1,9 +1,9 @@
-ghost use Rattle.std.specs.Prelude.{◌<◌, ℕ, ◌≡◌, ◌↔◌, true, None, IfOk, OnOk, OnErr, IsTrue, option_copied};
+ghost use Rattle.std.specs.Prelude.{◌<◌, ℕ, ◌≡◌, ◌↔◌, true, List, Some, None, IfOk, OnOk, OnErr, IsSomeAnd, IsTrue, option_copied};
 ghost use Rattle.std.specs.FinMap as map;
 ghost use Rattle.coda_fid.specs.Fid.{root_of};
 ghost use Rattle.coda_fid.specs.declared.fid.Fid.{Fid};
 ghost use Rattle.coda_tree.specs.Tree.{IsBelow, AtDepth};
-ghost use Rattle.coda_tree.specs.Volume.{child, has, added, fresh, fresh_root, parent_of, below_within, is_below, IsVolume, IsDirAt, IsLeaf};
+ghost use Rattle.coda_tree.specs.Volume.{child, has, added, detached, fresh, fresh_root, parent_of, below_within, is_below, IsVolume, IsDirAt, IsLeaf};
 ghost use Rattle.coda_tree.specs.Lookup.{lookup_of, step_from};
 
 use crate::{Entries, Node, NodeKind, NodeTable};
@@ -162,6 +162,17 @@ impl Volume {
                 let _ = self.parents.remove(&fid);
                 Err(e)
             }
+        }
+    }
+
+    /// Takes a node that binds nothing out of the directory that binds it, and out of the volume.
+    pub fn detach(&mut self, dir: Fid, name: &Name)
+        requires { IsSomeAnd (child self.old.nodes dir name.now) (λ f. (n : List ℕ) → child self.old.nodes f n ≡ None) }
+        ensures { (f : Fid) → child self.old.nodes dir name.now ≡ Some f → self.new ≡ record self.old { nodes = detached self.old.nodes dir name.now f } }
+    {
+        if let Some(fid) = self.child(dir, name) {
+            self.nodes.detach(dir, name, fid);
+            let _ = self.parents.remove(&fid);
         }
     }
 

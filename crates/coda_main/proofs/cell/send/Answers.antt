@@ -1,8 +1,7 @@
-use Rattle.std.proofs.Common.{◌≡◌, ◌≢◌, ◌+◌, ◌<◌, ◌≤◌, false, List, length, refl, sym, ap, subst, ◌∙◌, rules, arith, tests}
+use Rattle.std.proofs.Common.{◌≡◌, ◌≢◌, ◌+◌, false, List, length, sym, ap, ◌∙◌, rules, tests}
 use Rattle.std.specs.Prelude.{nat_le}
 use Rattle.std.specs.Vec.{vec_len}
 use Rattle.std.proofs.lemmas.Bool.{eqb-false}
-use Rattle.std.proofs.lemmas.Bool.Decides.{nat_tests}
 use Rattle.coda_fid.specs.declared.op.Record.{Record}
 use Rattle.coda_certify.specs.Verdicts.{verdict_of}
 use Rattle.coda_main.specs.State.{decision, replica_after, Decided}

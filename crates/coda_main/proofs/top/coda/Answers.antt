@@ -1,8 +1,8 @@
-use Rattle.std.proofs.Common.{◌≡◌, ◌<◌, ◌≤◌, ℕ, List, [], ◌∷◌, length, get_or, map, sym, ap, subst, ◌∙◌, arith, rules, codes}
+use Rattle.std.proofs.Common.{◌≡◌, ◌<◌, ◌≤◌, List, [], ◌∷◌, length, get_or, map, sym, ap, subst, ◌∙◌, arith, rules, codes}
 use Rattle.std.specs.String.{string_bytes}
 use Rattle.coda_engine.specs.Run.{Reports}
 use Rattle.coda_engine.specs.declared.status.Status.{Status}
-use Rattle.coda_main.specs.Plain.{PlainCell, empty_cell}
+use Rattle.coda_main.specs.Plain.{empty_cell}
 use Rattle.coda_main.specs.PlainRun.{LineGives, LineRefused}
 use Rattle.coda_main.specs.Words.{IsRun}
 use Rattle.coda_main.proofs.top.coda.Goals as goal

@@ -1,5 +1,4 @@
-use Rattle.std.proofs.Common.{◌≡◌, ◌-◌, ◌+◌, ◌∷◌, ◌++◌, ℕ, List, [], map, refl, sym, ap, ◌∙◌, arith, append_assoc, Bor}
-use Rattle.coda_main.specs.Words.{first_words}
+use Rattle.std.proofs.Common.{◌≡◌, ◌-◌, ◌+◌, ◌++◌, ℕ, List, map, refl, sym, ap, ◌∙◌, arith, Bor}
 use Rattle.coda_main.proofs.Bytes.{words_go, words_end, words_stop, append-nil, map-push}
 use Rattle.coda_main.proofs.words.first_words.Goals as goal
 
