@@ -20,7 +20,8 @@ const MOST_CREATIONS: u32 = 4_294_967_295;
 /// When an operation is accepted: until the clock can be moved it stands at 0.
 const START: u64 = 0;
 
-fn root_fid(volume: u32) -> Fid
+/// The fid of a volume's root.
+pub fn root_fid(volume: u32) -> Fid
     ensures { result ≡ root_of volume }
 {
     Fid {

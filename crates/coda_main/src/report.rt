@@ -8,6 +8,7 @@ ghost use Rattle.coda_main.specs.Lines.{object_head, bound_lines, entry_text};
 ghost use Rattle.coda_main.specs.Cells.{cell_state, replica_state};
 
 use crate::cell::{Cell, Replica};
+use crate::client::root_fid;
 use crate::printing::{put_byte, put_content, put_mode, put_printed};
 use crate::reply::{Refusal, Reply};
 use coda_certify::Verdict;
@@ -166,13 +167,14 @@ fn put_replica(out: &mut String, alloc: Global, replica: &Replica) -> Result<(),
 {
     let volume = &replica.volume;
     put_volume_line(out, replica.server, volume)?;
-    let root = Fid {
-        volume: volume.number(),
-        vnode: 0,
-        uniq: 1,
-    };
     let mut path = Vec::new(alloc);
-    put_objects(out, volume, volume.len(), &mut path, root)
+    put_objects(
+        out,
+        volume,
+        volume.len(),
+        &mut path,
+        root_fid(volume.number()),
+    )
 }
 
 fn put_entry(out: &mut String, name: &Name, fid: Fid) -> Result<(), AllocError>

@@ -5,9 +5,6 @@ ghost use Rattle.std.specs.Option.{option_map};
 
 use std::alloc::{AllocError, Global};
 
-/// As many words as any line has, and one more.
-pub const MOST_WORDS: usize = 7;
-
 fn is_blank(byte: u8) -> bool
     ensures { result ≡ is_blank byte }
 {
