@@ -1,5 +1,6 @@
-ghost use Rattle.std.specs.Prelude.{◌≡◌, None, Some, OnOk, OnErr, IfOk, IsSome};
+ghost use Rattle.std.specs.Prelude.{◌≡◌, ◌<◌, ◌^◌, None, Some, OnOk, OnErr, IfOk, IsSome};
 ghost use Rattle.std.specs.FinMap as map;
+ghost use Rattle.coda_tree.specs.Blocks.{blocks_of};
 ghost use Rattle.coda_tree.specs.Volume.{bindings, bind_in, unbind_in, with_content, written, content_patch, attrs_patch, IsDir};
 
 use crate::Entries;
@@ -82,6 +83,20 @@ impl Node {
             sid: self.sid,
             marked: self.marked,
         })
+    }
+
+    /// How many blocks of a cache the node takes: one, and a file one more for each 1024 bytes begun, a directory one
+    /// more for each 32 names that it binds.
+    pub fn blocks(&self) -> u32
+        requires { blocks_of self.now.kind < 2 ^ 32 }
+        ensures { result ≡ blocks_of self.now.kind }
+    {
+        let more = match &self.kind {
+            NodeKind::File(content) => content.len().div_ceil(1024),
+            NodeKind::Link(_) => 0,
+            NodeKind::Dir(entries) => entries.len() / 32,
+        };
+        1 + more as u32
     }
 
     // Binds a name that is free in a directory. Fails for want of memory alone, and then changes nothing.
