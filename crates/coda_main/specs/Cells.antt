@@ -1,5 +1,5 @@
 -- What the cell of the code stands for.
-use Rattle.std.specs.Prelude.{◌≡◌, List, Some}
+use Rattle.std.specs.Prelude.{◌≡◌, ℕ, List, Some}
 use Rattle.std.specs.Option.{option_map}
 use Rattle.coda_main.specs.declared.cell.Cell.{Cell}
 use Rattle.coda_main.specs.declared.cell.Replica.{Replica}
@@ -16,7 +16,7 @@ replica_state r = record { server = r.server; tree = r.volume }
 
 -- what a cell is
 abbrev pub cell_state : Cell → CellState
-cell_state c = record { replica = option_map replica_state c.replica; client = option_map client_state c.client; link = c.link }
+cell_state c = record { clock = c.clock; replica = option_map replica_state c.replica; client = option_map client_state c.client; link = c.link }
 
 -- a line was carried out with this reply, and left the cell so
 pub record Runs (old : CellState) (line : Line) (reply : Reply) (new : CellState) : Type 0 where
@@ -25,10 +25,10 @@ pub record Runs (old : CellState) (line : Line) (reply : Reply) (new : CellState
   pub left : new ≡ after_all old events
 
 -- a cell with one client and one replica
-abbrev pub pair : Link → ClientState → ReplicaState → CellState
-pair link c r = record { replica = Some r; client = Some c; link = link }
+abbrev pub pair : ℕ → Link → ClientState → ReplicaState → CellState
+pair clock link c r = record { clock = clock; replica = Some r; client = Some c; link = link }
 
--- a client and a replica acted together with this reply, and were left so
+-- a client and a replica acted together with this reply, and were left so, whatever the clock
 pub record Act (outcome : Outcome) (link : Link) (c : ClientState) (r : ReplicaState) (reply : Reply) (c' : ClientState) (r' : ReplicaState) : Type 0 where
   pub answered : reply ≡ outcome.reply
-  pub left : pair link c' r' ≡ after_all (pair link c r) outcome.events
+  pub left : (clock : ℕ) → pair clock link c' r' ≡ after_all (pair clock link c r) outcome.events

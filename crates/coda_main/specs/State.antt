@@ -1,5 +1,5 @@
 -- What a cell is at a moment, and what an entry of a history makes of it.
-use Rattle.std.specs.Prelude.{ℕ, ◌+◌, List, [], ◌∷◌, ◌++◌, Option, Some, None, Ok, Err}
+use Rattle.std.specs.Prelude.{ℕ, ◌+◌, min, List, [], ◌∷◌, ◌++◌, Option, Some, None, Ok, Err}
 use Rattle.std.specs.Option.{option_map}
 use Rattle.std.specs.FinMap as map
 use Rattle.coda_fid.specs.declared.fid.Fid.{Fid}
@@ -10,6 +10,7 @@ use Rattle.coda_certify.specs.declared.verdict.Verdict.{Verdict}
 use Rattle.coda_certify.specs.declared.verdict.Verdict.TheVariants.{Applied, Conflict}
 use Rattle.coda_certify.specs.Replay.{Replayed, applied, replay}
 use Rattle.coda_certify.specs.Verdicts.{nodes_left}
+use Rattle.coda_main.specs.Ask.{created_by}
 use Rattle.coda_main.specs.declared.line.Link.{Link}
 use Rattle.coda_main.specs.declared.line.Link.TheVariants.{Down}
 
@@ -53,7 +54,7 @@ client_after c (Operated rec) = record c {
   nodes = applied c.nodes c.number rec;
   log = c.log ++ rec ∷ [];
   operations = c.operations + 1;
-  creations = c.creations + 1;
+  creations = c.creations + created_by rec.op;
 }
 client_after c (Froze number server last) = record c { chunks = number }
 client_after c (Settled number verdict) = record c { log = log_after verdict c.log }
@@ -106,8 +107,9 @@ replica_after_all r (entry ∷ entries) = replica_after_all (replica_after r ent
 
 -- ---- a cell
 
--- what a cell is at a moment: one replica of one volume, one client, and the link between them, each once it was made
+-- what a cell is at a moment: its clock in seconds, one replica of one volume, one client, and the link between them, each once it was made
 pub record CellState : Type 0 where
+  pub clock : ℕ
   pub replica : Option ReplicaState
   pub client : Option ClientState
   pub link : Link
@@ -118,6 +120,8 @@ pub data Event : Type 0 where
   VolumeMade : (volume server : ℕ) → Event
   -- a client is made, with so many blocks of cache
   ClientMade : (client blocks : ℕ) → Event
+  -- time passes
+  Ticked : (seconds : ℕ) → Event
   -- the link changes
   LinkSet : (link : Link) → Event
   -- the client's history has one more entry
@@ -127,12 +131,17 @@ pub data Event : Type 0 where
 
 -- a cell in which nothing was made
 abbrev pub empty_state : CellState
-empty_state = record { replica = None; client = None; link = Down }
+empty_state = record { clock = 0; replica = None; client = None; link = Down }
+
+-- a clock some seconds later; it stops at the last number of 64 bits
+abbrev pub later : ℕ → ℕ → ℕ
+later clock seconds = min (clock + seconds) 18446744073709551615
 
 -- a cell after an event
 abbrev pub after : CellState → Event → CellState
 after s (VolumeMade volume server) = record s { replica = Some (new_replica server volume) }
 after s (ClientMade client blocks) = record s { client = Some (new_client client blocks) }
+after s (Ticked seconds) = record s { clock = later s.clock seconds }
 after s (LinkSet link) = record s { link = link }
 after s (AtClient entry) = record s { client = option_map (λ c. client_after c entry) s.client }
 after s (AtReplica entry) = record s { replica = option_map (λ r. replica_after r entry) s.replica }

@@ -7,12 +7,12 @@ use Rattle.coda_certify.specs.Verdicts.{verdict_of}
 use Rattle.coda_main.specs.declared.line.Link.{Link as LinkState}
 use Rattle.coda_main.specs.declared.line.Link.TheVariants.{Strong, Down}
 use Rattle.coda_main.specs.declared.line.Line.{Line}
-use Rattle.coda_main.specs.declared.line.Line.TheVariants.{Volume, Client, Link, List as Listing, Operation, Drain, Show}
+use Rattle.coda_main.specs.declared.line.Line.TheVariants.{Volume, Client, Link, Tick, Operation, Read, List as Listing, Drain, Show}
 use Rattle.coda_main.specs.declared.reply.Refusal.TheVariants.{Nothing, LinkDown, JournalFull}
 use Rattle.coda_main.specs.declared.reply.Reply.{Reply}
 use Rattle.coda_main.specs.declared.reply.Reply.TheVariants.{Opened, Accepted, Chunk, Shown, Refused}
-use Rattle.coda_main.specs.State.{ClientState, Froze, Settled, ReplicaState, Decided, decision, CellState, Event, VolumeMade, ClientMade, LinkSet, AtClient, AtReplica}
-use Rattle.coda_main.specs.Asking.{Answer, list_root, create}
+use Rattle.coda_main.specs.State.{ClientState, Froze, Settled, ReplicaState, Decided, decision, CellState, Event, VolumeMade, ClientMade, Ticked, LinkSet, AtClient, AtReplica}
+use Rattle.coda_main.specs.Asking.{Answer, operate, read, list}
 
 -- ---- which lines a cell takes
 
@@ -40,7 +40,9 @@ abbrev pub is_built : CellState → Line → Bool
 is_built s (Volume volume server) = has_no_volume s
 is_built s (Client client blocks) = has_no_client s
 is_built s (Link client server link) = is_client s client && is_server s server
-is_built s (Listing client volume) = is_client s client && is_volume s volume
+is_built s (Tick seconds) = true
+is_built s (Read client volume path) = is_client s client && is_volume s volume
+is_built s (Listing client volume path) = is_client s client && is_volume s volume
 is_built s (Operation client volume ask) = is_client s client && is_volume s volume
 is_built s (Drain client volume server) = is_client s client && (is_volume s volume && is_server s server)
 is_built s (Show server volume) = is_volume s volume && is_server s server
@@ -110,7 +112,9 @@ abbrev pub Does : CellState → Line → Reply → List Event → Type 0
 Does s (Volume volume server) reply events = (reply ≡ Opened) × (events ≡ VolumeMade volume server ∷ [])
 Does s (Client client blocks) reply events = (reply ≡ Opened) × (events ≡ ClientMade client blocks ∷ [])
 Does s (Link client server link) reply events = (reply ≡ Accepted) × (events ≡ LinkSet link ∷ [])
-Does s (Listing client volume) reply events = ByClient s (λ offers c. list_root offers c volume) reply events
-Does s (Operation client volume ask) reply events = ByClient s (λ offers c. create offers c volume ask) reply events
+Does s (Tick seconds) reply events = (reply ≡ Accepted) × (events ≡ Ticked seconds ∷ [])
+Does s (Operation client volume ask) reply events = ByClient s (λ offers c. operate offers c s.clock volume ask) reply events
+Does s (Read client volume path) reply events = ByClient s (λ offers c. read offers c volume path) reply events
+Does s (Listing client volume path) reply events = ByClient s (λ offers c. list offers c volume path) reply events
 Does s (Drain client volume server) reply events = ByBoth s (drain s.link) reply events
 Does s (Show server volume) reply events = (reply ≡ Shown server volume) × (events ≡ [])
