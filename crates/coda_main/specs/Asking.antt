@@ -1,5 +1,5 @@
 -- What a client answers to what it is asked, and what its history gains: look-ups first, and then the answer over what it holds.
-use Rattle.std.specs.Prelude.{ℕ, ◌+◌, Bool, length, take, List, [], ◌∷◌, ◌++◌, Option, Some, None, Result, Ok, Err}
+use Rattle.std.specs.Prelude.{ℕ, ◌+◌, Bool, List, [], ◌∷◌, ◌++◌, Option, Some, None, Result, Ok, Err}
 use Rattle.std.specs.FinMap as map
 use Rattle.coda_fid.specs.Fid.{root_of}
 use Rattle.coda_fid.specs.declared.fid.Fid.{Fid}
@@ -16,10 +16,12 @@ use Rattle.coda_main.specs.declared.line.Ask.TheVariants.{Create, Mkdir, Symlink
 use Rattle.coda_main.specs.Ask.{ending, front_of, too_big, object_of}
 use Rattle.coda_main.specs.Fetching.{resolve, look_on, look_along, is_fetched}
 use Rattle.coda_main.specs.Accepting.{Accepted, accept}
-use Rattle.coda_main.specs.declared.reply.Refusal.{Refusal}
-use Rattle.coda_main.specs.declared.reply.Refusal.TheVariants.{NotDir, IsDir, Miss, TooBig}
-use Rattle.coda_main.specs.declared.reply.Reply.{Reply}
-use Rattle.coda_main.specs.declared.reply.Reply.TheVariants.{Done, Content, Target, Listed, Refused}
+use Rattle.coda_main.specs.declared.refused.Refused.{Refused}
+use Rattle.coda_main.specs.declared.refused.Refused.TheVariants.{NotDir, IsDir, Miss, TooBig}
+use Rattle.coda_main.specs.Refusing.{refusal}
+use Rattle.coda_script.specs.declared.reply.Readable.TheVariants.{File as FileOf, Link as LinkTo}
+use Rattle.coda_script.specs.declared.reply.Reply.{Reply}
+use Rattle.coda_script.specs.declared.reply.Reply.TheVariants.{Done, Read, Listed}
 
 -- what a client answers, and the entries that it adds
 pub record Answer : Type 0 where
@@ -31,8 +33,8 @@ abbrev pub replies : List ClientEntry → Reply → Answer
 replies entries reply = record { entries = entries; reply = reply }
 
 -- a refusal, after these entries
-abbrev pub refuse : List ClientEntry → Refusal → Answer
-refuse entries refusal = replies entries (Refused refusal)
+abbrev pub refuse : List ClientEntry → Refused → Answer
+refuse entries why = replies entries (refusal why)
 
 -- ---- operations
 
@@ -54,20 +56,20 @@ look_ups offers c volume (Remove path) = look_along offers c (root_of volume) pa
 look_ups offers c volume (Rmdir path) = look_along offers c (root_of volume) path
 look_ups offers c volume (Rename from to) = rename_look_ups offers c volume from to
 
--- the record of the next operation of a client, at a time
-abbrev pub next_record : ClientState → ℕ → Op → Record
-next_record c time op = record { number = c.operations + 1; time = time; op = op }
+-- the record of the next operation of a client on a volume, at a time
+abbrev pub next_record : ClientState → ℕ → ℕ → Op → Record
+next_record c volume time op = record { number = (c.logs volume).operations + 1; time = time; op = op }
 
 -- the answer where an operation is accepted or refused after look-ups
-abbrev pub answer_to : List ClientEntry → ClientState → ℕ → Accepted → Answer
-answer_to entries c time (Err refusal) = refuse entries refusal
-answer_to entries c time (Ok op) = replies (entries ++ Operated (next_record c time op) ∷ []) (Done (c.operations + 1) (object_of op))
+abbrev pub answer_to : List ClientEntry → ClientState → ℕ → ℕ → Accepted → Answer
+answer_to entries c time volume (Err why) = refuse entries why
+answer_to entries c time volume (Ok op) = replies (entries ++ Operated volume (next_record c volume time op) ∷ []) (Done ((c.logs volume).operations + 1) (object_of op))
 
 -- the same, unless content is too long, which is seen before anything is looked up
 abbrev pub operate_unless : Option ℕ → Option Nodes → ClientState → ℕ → ℕ → Ask → Answer
 operate_unless (Some length) offers c time volume ask = refuse [] (TooBig length)
 operate_unless None offers c time volume ask =
-    answer_to (look_ups offers c volume ask) (client_after_all c (look_ups offers c volume ask)) time (accept (client_after_all c (look_ups offers c volume ask)) volume ask)
+    answer_to (look_ups offers c volume ask) (client_after_all c (look_ups offers c volume ask)) time volume (accept (client_after_all c (look_ups offers c volume ask)) volume ask)
 
 -- what a client that is asked for an operation at a time answers
 unfoldable pub operate : Option Nodes → ClientState → ℕ → ℕ → Ask → Answer
@@ -75,26 +77,26 @@ operate offers c time volume ask = operate_unless (too_big ask) offers c time vo
 
 -- ---- reading and listing
 
--- what a file or link is answered as: of a file the length and no more than its first bytes, by which it is shown
+-- what a file or link is answered as
 abbrev pub read_in : Bool → NodeKind → Reply
-read_in fetched (File content) = Content fetched (length content) (take 65 content)
-read_in fetched (Link target) = Target fetched target
-read_in fetched (Dir entries) = Refused IsDir
+read_in fetched (File content) = Read fetched (FileOf content)
+read_in fetched (Link target) = Read fetched (LinkTo target)
+read_in fetched (Dir entries) = refusal IsDir
 
 -- what a directory is answered as
 abbrev pub list_in : Bool → NodeKind → Reply
-list_in fetched (File content) = Refused NotDir
-list_in fetched (Link target) = Refused NotDir
+list_in fetched (File content) = refusal NotDir
+list_in fetched (Link target) = refusal NotDir
 list_in fetched (Dir entries) = Listed fetched entries
 
 -- the reply by the object that is held
 abbrev pub shown_as : (Bool → NodeKind → Reply) → Bool → Option Node → Fid → Reply
-shown_as show fetched None fid = Refused (Miss fid)
+shown_as show fetched None fid = refusal (Miss fid)
 shown_as show fetched (Some node) fid = show fetched node.kind
 
 -- the reply by where a path leads after look-ups
-abbrev pub shown_at : (Bool → NodeKind → Reply) → List ClientEntry → Nodes → Result Fid Refusal → Reply
-shown_at show entries m (Err refusal) = Refused refusal
+abbrev pub shown_at : (Bool → NodeKind → Reply) → List ClientEntry → Nodes → Result Fid Refused → Reply
+shown_at show entries m (Err why) = refusal why
 shown_at show entries m (Ok fid) = shown_as show (is_fetched entries fid) (map.get m fid) fid
 
 -- what a client that is asked to show an object answers

@@ -11,39 +11,39 @@ use Rattle.coda_tree.specs.declared.node.NodeKind.TheVariants.{File, Link, Dir}
 use Rattle.coda_tree.specs.Bindings.{Name}
 use Rattle.coda_tree.specs.Volume.{Nodes}
 use Rattle.coda_main.specs.State.{ClientState, ClientEntry, Fetched, Operated, Froze, Settled, client_after_all}
-use Rattle.coda_main.specs.declared.reply.Refusal.{Refusal}
-use Rattle.coda_main.specs.declared.reply.Refusal.TheVariants.{NotFound, NotDir, Miss}
+use Rattle.coda_main.specs.declared.refused.Refused.{Refused}
+use Rattle.coda_main.specs.declared.refused.Refused.TheVariants.{NotFound, NotDir, Miss}
 
 -- ---- where names lead over the nodes that a client holds
 
 -- what comes after a success
-abbrev pub then_find : {A B : Type 0} → Result A Refusal → (A → Result B Refusal) → Result B Refusal
+abbrev pub then_find : {A B : Type 0} → Result A Refused → (A → Result B Refused) → Result B Refused
 then_find (Err refusal) next = Err refusal
 then_find (Ok found) next = next found
 
 -- an object that is held
-abbrev pub held : Option Node → Fid → Result Fid Refusal
+abbrev pub held : Option Node → Fid → Result Fid Refused
 held None fid = Err (Miss fid)
 held (Some node) fid = Ok fid
 
 -- what stands at a name that a directory may bind
-abbrev pub found : Option Fid → Result Fid Refusal
+abbrev pub found : Option Fid → Result Fid Refused
 found None = Err NotFound
 found (Some fid) = Ok fid
 
 -- what a node binds at a name, where it is a directory
-abbrev pub step_in : NodeKind → Name → Result Fid Refusal
+abbrev pub step_in : NodeKind → Name → Result Fid Refused
 step_in (File content) name = Err NotDir
 step_in (Link target) name = Err NotDir
 step_in (Dir entries) name = found (map.get entries name)
 
 -- where a name leads from an object, where that is held
-abbrev pub step_from : Option Node → Fid → Name → Result Fid Refusal
+abbrev pub step_from : Option Node → Fid → Name → Result Fid Refused
 step_from None at name = Err (Miss at)
 step_from (Some node) at name = step_in node.kind name
 
 -- where names lead in turn from an object: each object on the way is held, the last one too
-abbrev pub resolve : Nodes → Fid → List Name → Result Fid Refusal
+abbrev pub resolve : Nodes → Fid → List Name → Result Fid Refused
 resolve m at [] = held (map.get m at) at
 resolve m at (name ∷ names) = then_find (step_from (map.get m at) at name) (λ next. resolve m next names)
 
@@ -68,7 +68,7 @@ abbrev pub looked : Option Nodes → ClientState → Fid → ClientState
 looked offers c fid = client_after_all c (look offers c fid)
 
 -- what follows where a step led somewhere
-abbrev pub look_on : Result Fid Refusal → (Fid → List ClientEntry) → List ClientEntry
+abbrev pub look_on : Result Fid Refused → (Fid → List ClientEntry) → List ClientEntry
 look_on (Err refusal) next = []
 look_on (Ok fid) next = next fid
 
@@ -82,9 +82,9 @@ look_along offers c at (name ∷ names) =
 abbrev pub fids_fetched : List ClientEntry → List Fid
 fids_fetched [] = []
 fids_fetched (Fetched fid node ∷ entries) = fid ∷ fids_fetched entries
-fids_fetched (Operated rec ∷ entries) = fids_fetched entries
-fids_fetched (Froze number server last ∷ entries) = fids_fetched entries
-fids_fetched (Settled number verdict ∷ entries) = fids_fetched entries
+fids_fetched (Operated volume rec ∷ entries) = fids_fetched entries
+fids_fetched (Froze volume number server last ∷ entries) = fids_fetched entries
+fids_fetched (Settled volume number verdict ∷ entries) = fids_fetched entries
 
 -- whether the object is among them
 abbrev pub is_fetched : List ClientEntry → Fid → Bool
