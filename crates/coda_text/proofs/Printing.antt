@@ -1,16 +1,16 @@
 -- What is printed is one word, and stands for the bytes that were printed.
-use Rattle.std.proofs.Common.{◌≡◌, ℕ, suc, ◌+◌, ◌-◌, ◌*◌, ◌/◌, ◌%◌, ◌<◌, ◌≤◌, Bool, true, false, cond, ltb, leb, eqb, ◌⊎◌, inl, inr, List, [], ◌∷◌, ◌++◌, length, Option, Some, None, refl, sym, ap, subst, ◌∙◌, append_assoc, add-zero, arith, rules, tests}
-use Rattle.std.specs.Prelude.{◌&&◌, ◌||◌, not}
-use Rattle.std.specs.Option.{option_map_or, option_to_list}
+use Rattle.std.proofs.Common.{◌≡◌, ℕ, suc, ◌+◌, ◌-◌, ◌*◌, ◌/◌, ◌%◌, ◌<◌, Bool, true, false, cond, leb, eqb, ◌⊎◌, inl, inr, List, [], ◌∷◌, ◌++◌, length, Option, Some, None, refl, sym, ap, ◌∙◌, append_assoc, add-zero, arith, rules, tests}
+use Rattle.std.specs.Prelude.{◌&&◌, ◌||◌}
+use Rattle.std.specs.Option.{option_map_or}
 use Rattle.std.specs.List.{flat_map, list_all, AllByRecursion}
-use Rattle.std.proofs.lemmas.Bool.{false≢true, eqb-true, cases_lt}
+use Rattle.std.proofs.lemmas.Bool.{eqb-true, cases_lt}
 use Rattle.std.proofs.lemmas.Bool.Decides.{nat_tests}
 use Rattle.std.proofs.lemmas.List.{append-nil}
 use Rattle.std.proofs.lemmas.List.Concat.{flat_map-cons}
 use Rattle.coda_text.specs.declared.words.Part.{Part}
 use Rattle.coda_text.specs.declared.words.Part.TheVariants.{Bare, Inside, Escape, High, Low, Closed}
 use Rattle.coda_text.specs.declared.texts.Escape.TheVariants as escapes
-use Rattle.coda_text.specs.Words.{Split, Place, gap, under_way, ended, broken, word, scan, is_separator, is_bare, is_plain, is_hex, opens, goes_on, may_end, split_of}
+use Rattle.coda_text.specs.Words.{gap, under_way, ended, word, scan, is_separator, is_bare, is_plain, is_hex, opens, goes_on, may_end, split_of}
 use Rattle.coda_text.specs.Texts.{decoded, hex_value, hex_digit, escaped, quoted, is_open, is_open_byte, printed, value_of}
 
 -- the part of a word behind more bytes
@@ -90,15 +90,15 @@ escaped_runs : (b : ℕ) (rest : List ℕ) → b < 256 → runs Inside (escaped 
 escaped_runs b rest lt =
     elim (cases_bool (eqb b 34 || eqb b 92)) [
       | inl t ↦ elim (or_cases (eqb b 34) (eqb b 92) t) [
-          | inl e ↦ rw (eqb-true b 34 e) refl
-          | inr e ↦ rw (eqb-true b 92 e) refl
-        ]
+        | inl e ↦ rw (eqb-true b 34 e) refl
+        | inr e ↦ rw (eqb-true b 92 e) refl
+      ]
       | inr f ↦
-        let p = or_false (eqb b 34) (eqb b 92) f in
-        elim (cases_bool (leb 32 b && leb b 126)) [
-          | inl t ↦ rw (f, t, shown_is_plain b t p.0 p.1, p.0, p.1) refl
-          | inr g ↦ rw (f, g, hex_16 (b / 16) (omega arith), hex_16 (b % 16) (omega arith)) refl
-        ]
+          let p = or_false (eqb b 34) (eqb b 92) f in
+          elim (cases_bool (leb 32 b && leb b 126)) [
+            | inl t ↦ rw (f, t, shown_is_plain b t p.0 p.1, p.0, p.1) refl
+            | inr g ↦ rw (f, g, hex_16 (b / 16) (omega arith), hex_16 (b % 16) (omega arith)) refl
+          ]
     ]
 
 escaped_decodes : (b : ℕ) (rest : List ℕ) → b < 256 → decoded escapes.Plain (escaped b ++ rest) ≡ b ∷ decoded escapes.Plain rest
@@ -106,15 +106,15 @@ unfolding decoded
 escaped_decodes b rest lt =
     elim (cases_bool (eqb b 34 || eqb b 92)) [
       | inl t ↦ elim (or_cases (eqb b 34) (eqb b 92) t) [
-          | inl e ↦ rw (eqb-true b 34 e) refl
-          | inr e ↦ rw (eqb-true b 92 e) refl
-        ]
+        | inl e ↦ rw (eqb-true b 34 e) refl
+        | inr e ↦ rw (eqb-true b 92 e) refl
+      ]
       | inr f ↦
-        let p = or_false (eqb b 34) (eqb b 92) f in
-        elim (cases_bool (leb 32 b && leb b 126)) [
-          | inl t ↦ rw (f, t, p.0, p.1) refl
-          | inr g ↦ let m : 16 * (b / 16 % 16) + b % 16 ≡ b = omega arith in rw (f, g, value_16 (b / 16) (omega arith), value_16 (b % 16) (omega arith), m) refl
-        ]
+          let p = or_false (eqb b 34) (eqb b 92) f in
+          elim (cases_bool (leb 32 b && leb b 126)) [
+            | inl t ↦ rw (f, t, p.0, p.1) refl
+            | inr g ↦ let m : 16 * (b / 16 % 16) + b % 16 ≡ b = omega arith in rw (f, g, value_16 (b / 16) (omega arith), value_16 (b % 16) (omega arith), m) refl
+          ]
     ]
 
 quoted_runs : (bs rest : List ℕ) → AllByRecursion (λ b. b < 256) bs → runs Inside (flat_map escaped bs ++ 34 ∷ rest) ≡ runs Closed rest

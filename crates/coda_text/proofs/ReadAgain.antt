@@ -1,10 +1,10 @@
 -- What was printed is one token, and reading it gives the bytes back.
-use Rattle.std.proofs.Common.{◌≡◌, ℕ, suc, ◌<◌, List, [], ◌∷◌, length, get_or, map, None, Result, Ok, Err, sym, ap, subst, ◌∙◌, arith}
+use Rattle.std.proofs.Common.{◌≡◌, ℕ, suc, ◌<◌, List, [], ◌∷◌, get_or, map, Result, Ok, Err, sym, ap, subst, ◌∙◌}
 use Rattle.std.specs.Global.{Vec}
 use Rattle.coda_text.specs.declared.splitting.Token.{Token}
 use Rattle.coda_text.specs.declared.splitting.TextFault.{TextFault}
 use Rattle.coda_text.specs.declared.splitting.TextFault.TheVariants.{Memory, BadWord}
-use Rattle.coda_text.specs.Words.{Split, word, ended, split_of}
+use Rattle.coda_text.specs.Words.{Split, word, split_of}
 use Rattle.coda_text.specs.Texts.{printed, value_of}
 use Rattle.coda_text.specs.Printed.{AreBytes, IsWordFor}
 use Rattle.coda_text.specs.Tokens.{token_of, Splits, IsOneToken}

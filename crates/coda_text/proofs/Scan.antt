@@ -1,14 +1,13 @@
 -- One step of a scan at a place of the line.
-use Rattle.std.proofs.Common.{◌≡◌, ℕ, suc, ◌+◌, ◌-◌, ◌<◌, ◌≤◌, Bool, true, false, cond, List, [], ◌∷◌, ◌++◌, length, get_or, take, drop, Option, Some, None, refl, sym, ap, ◌∙◌, subst, add-one, arith, leb, rules, tests, inl, inr}
+use Rattle.std.proofs.Common.{◌≡◌, ℕ, ◌+◌, ◌-◌, ◌<◌, ◌≤◌, Bool, true, false, List, [], ◌∷◌, ◌++◌, length, get_or, take, drop, Some, None, refl, sym, ap, ◌∙◌, add-one, arith, leb, rules, tests, inl, inr}
 use Rattle.std.specs.Prelude.{◌&&◌, ◌||◌, slice_range}
-use Rattle.std.specs.Option.{option_map_or}
 use Rattle.std.proofs.Math.Seq.{drop-cons}
 use Rattle.std.proofs.lemmas.List.{take_more, get_or-drop, drop_all, length-drop}
 use Rattle.std.proofs.lemmas.Bool.{cases_lt, false≢true}
 use Rattle.coda_text.specs.declared.words.Part.{Part}
 use Rattle.coda_text.specs.declared.words.Next.{Next}
 use Rattle.coda_text.specs.declared.words.Next.TheVariants.{End, Bad, Found}
-use Rattle.coda_text.specs.Words.{Split, Place, gap, under_way, ended, broken, word, scan, is_separator, opens, goes_on, may_end}
+use Rattle.coda_text.specs.Words.{Split, under_way, ended, broken, word, scan, is_separator, opens, goes_on, may_end}
 use Rattle.coda_text.specs.Steps.{split_from, is_end, rest_of_word, Finishes, Finds}
 
 or_left : (a b : Bool) → a ≡ false → (a || b) ≡ true → b ≡ true
@@ -80,8 +79,8 @@ unfolding scan
 word_ends line start at part there may =
     elim (cases_lt at (length line)) [
       | inl lt ↦
-        let sep : is_separator (get_or line at 0) ≡ true = and_right (may_end part) _ (or_left _ _ (lt-leb (length line) at lt) there) in
-        rw (at_byte line at lt, may, sep) refl
+          let sep : is_separator (get_or line at 0) ≡ true = and_right (may_end part) _ (or_left _ _ (lt-leb (length line) at lt) there) in
+          rw (at_byte line at lt, may, sep) refl
       | inr le ↦ rw (at_end line at le, may) refl
     ]
 

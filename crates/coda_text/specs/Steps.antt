@@ -1,5 +1,5 @@
 -- What each step over a line finds, as the code goes.
-use Rattle.std.specs.Prelude.{◌≡◌, ℕ, ◌+◌, ◌<◌, ◌≤◌, Bool, true, false, ◌&&◌, ◌||◌, nat_le, List, length, drop, slice_range, slice_index}
+use Rattle.std.specs.Prelude.{◌≡◌, ℕ, ◌+◌, ◌<◌, ◌≤◌, Bool, false, ◌&&◌, ◌||◌, nat_le, List, length, drop, slice_range, slice_index}
 use Rattle.coda_text.specs.declared.words.Part.{Part}
 use Rattle.coda_text.specs.declared.words.Next.{Next}
 use Rattle.coda_text.specs.declared.words.Next.TheVariants.{End, Bad, Found}

@@ -1,5 +1,5 @@
 -- The tokens of a line.
-use Rattle.std.specs.Prelude.{◌≡◌, ℕ, ◌+◌, List, [], ◌∷◌, map, length, Option, Some, None, Result, Ok, Err}
+use Rattle.std.specs.Prelude.{◌≡◌, ℕ, ◌+◌, List, [], ◌∷◌, map, length, Some, None, Result, Ok, Err}
 use Rattle.std.specs.Global.{Vec}
 use Rattle.coda_text.specs.declared.splitting.Token.{Token}
 use Rattle.coda_text.specs.declared.splitting.TextFault.{TextFault}

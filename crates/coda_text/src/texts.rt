@@ -227,5 +227,4 @@ pub fn printed(alloc: Global, bytes: &[u8]) -> Result<Bytes, AllocError>
 /// What is printed is one word of a line, and stands for the bytes that were printed.
 pub fn what_is_printed_is_read_again()
     ensures { (bytes : List ℕ) → AreBytes bytes → IsWordFor (printed bytes) bytes }
-{
-}
+{}

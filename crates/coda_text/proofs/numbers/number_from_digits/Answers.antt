@@ -1,4 +1,4 @@
-use Rattle.std.proofs.Common.{◌∙◌, sym, arith}
+use Rattle.std.proofs.Common.{◌∙◌, sym}
 use Rattle.coda_text.proofs.Digits.{number_goes, number_stops, number_ends}
 use Rattle.coda_text.proofs.numbers.number_from_digits.Goals as goal
 

@@ -1,4 +1,4 @@
-use Rattle.std.proofs.Common.{◌∙◌, sym, arith}
+use Rattle.std.proofs.Common.{◌∙◌, sym}
 use Rattle.coda_text.proofs.Digits.{octal_goes, octal_stops, octal_ends}
 use Rattle.coda_text.proofs.numbers.octal_from_digits.Goals as goal
 

@@ -1,4 +1,4 @@
-use Rattle.std.proofs.Common.{◌∙◌, sym, arith}
+use Rattle.std.proofs.Common.{◌∙◌, sym}
 use Rattle.coda_text.proofs.Decoding.{open_goes}
 use Rattle.coda_text.proofs.texts.all_open.Goals as goal
 

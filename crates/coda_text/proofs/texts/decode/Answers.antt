@@ -1,4 +1,4 @@
-use Rattle.std.proofs.Common.{◌∙◌, sym, arith}
+use Rattle.std.proofs.Common.{◌∙◌, sym}
 use Rattle.coda_text.proofs.Decoding.{decodes, decoding_ends}
 use Rattle.coda_text.proofs.texts.decode.Goals as goal
 

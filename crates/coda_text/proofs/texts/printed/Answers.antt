@@ -8,4 +8,4 @@ use Rattle.coda_text.proofs.texts.printed.Goals as goal
 pub returns-clause-word : goal.returns-clause-word
 returns-clause-word c =
     IfOk-weaker c.print.result (λ t. t ≡ printed c.args.bytes.now) (λ t. IsWordFor t c.args.bytes.now)
-      (λ t is. printed_is_word c.args.bytes.now t (are_bytes c.args.bytes.now (λ i. omega (arith, c.type_inv.bytes i))) is) c.print.ensures
+    (λ t is. printed_is_word c.args.bytes.now t (are_bytes c.args.bytes.now (λ i. omega (arith, c.type_inv.bytes i))) is) c.print.ensures
