@@ -1,0 +1,11 @@
+//! The lines of a script: what they say, and which they are.
+#![tactic(auto)]
+
+mod fault;
+mod line;
+mod slots;
+mod turns;
+
+pub use coda_engine::Kind;
+pub use fault::LineFault;
+pub use line::{Content, Expansion, Line, Servers, Strength, Task};
