@@ -1,5 +1,5 @@
 -- The grammar: every form of a line, in one table. Columns of reading and spellings follow from it.
-use Rattle.std.specs.Prelude.{codes, ℕ, ◌+◌, Bool, true, false, List, [], ◌∷◌, Option, Some, None}
+use Rattle.std.specs.Prelude.{codes, ℕ, ◌+◌, true, false, if◌then◌else◌, List, ◌∷◌, Option, Some, None, is_some}
 use Rattle.coda_engine.specs.declared.status.Kind.{Kind}
 use Rattle.coda_engine.specs.declared.status.Kind.TheVariants.{Word, Count}
 use Rattle.coda_script.specs.declared.line.Line.{Line}
@@ -40,8 +40,7 @@ says line = ends Count line
 
 -- the line ends there, behind an optional part: a further word is one too many, or stands where the part might
 abbrev pub closes : {A : Type 0} → Option A → Line → Form
-closes None line = ends Word line
-closes (Some x) line = ends Count line
+closes part line = ends (if is_some part then Count else Word) line
 
 -- optional parts
 abbrev pub mode : (Option ℕ → Form) → Form

@@ -3,6 +3,8 @@
 
 mod fault;
 mod line;
+mod operations;
+mod options;
 mod slots;
 mod turns;
 
