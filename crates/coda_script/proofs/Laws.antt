@@ -42,11 +42,11 @@ unfolding option_at
 option_took word slot ws end breaks x e =
     elim (chosen (is_next (is_word word) ws) (slot_at kinds.Number (number_in slot) (rest_of (split ws end breaks)) >>= (λ n. Ok (Some n.0, n.1))) (Ok (None, split ws end breaks)) (Ok x) e) [
       | inl t ↦
-        let v = first_is word ws t.0 in
-        let e' : (slot_at kinds.Number (number_in slot) (rest_of (split (v.0 ∷ v.1) end breaks)) >>= (λ n. Ok (Some n.0, n.1))) ≡ Ok x = rw v.2 at t.1 in
-        let b = bind_ok (slot_at kinds.Number (number_in slot) (split v.1 end breaks)) (λ n. Ok (Some n.0, n.1)) x e' in
-        let k = slot_took kinds.Number (number_in slot) v.1 end breaks b.0 b.1 in
-        inl (v.0, k.0, k.1, v.2 ∙ ap (λ (r : List Word). v.0 ∷ r) k.2, v.3, b.0.0, k.3, sym (ok_is (Some b.0.0, b.0.1) x b.2) ∙ ap (λ (r : Split). let p : Option ℕ × Split = (Some b.0.0, r) in p) k.4)
+          let v = first_is word ws t.0 in
+          let e' : (slot_at kinds.Number (number_in slot) (rest_of (split (v.0 ∷ v.1) end breaks)) >>= (λ n. Ok (Some n.0, n.1))) ≡ Ok x = rw v.2 at t.1 in
+          let b = bind_ok (slot_at kinds.Number (number_in slot) (split v.1 end breaks)) (λ n. Ok (Some n.0, n.1)) x e' in
+          let k = slot_took kinds.Number (number_in slot) v.1 end breaks b.0 b.1 in
+          inl (v.0, k.0, k.1, v.2 ∙ ap (λ (r : List Word). v.0 ∷ r) k.2, v.3, b.0.0, k.3, sym (ok_is (Some b.0.0, b.0.1) x b.2) ∙ ap (λ (r : Split). let p : Option ℕ × Split = (Some b.0.0, r) in p) k.4)
       | inr t ↦ inr (t.0, sym (ok_is (None, split ws end breaks) x t.1))
     ]
 
@@ -71,10 +71,10 @@ sound nothing ws end breaks line e = absurd cc
 sound (either word so other) ws end breaks line e =
     elim (chosen (is_next (is_word word) ws) (read so (rest_of (split ws end breaks))) (read other (split ws end breaks)) (Ok line) e) [
       | inl t ↦
-        let w = first_is word ws t.0 in
-        let e' : read so (rest_of (split (w.0 ∷ w.1) end breaks)) ≡ Ok line = rw w.2 at t.1 in
-        let s = sound so w.1 end breaks line e' in
-        (s.0, inl (texts w.1, ap texts w.2 ∙ ap (λ (r : List ℕ). r ∷ texts w.1) w.3, s.1))
+          let w = first_is word ws t.0 in
+          let e' : read so (rest_of (split (w.0 ∷ w.1) end breaks)) ≡ Ok line = rw w.2 at t.1 in
+          let s = sound so w.1 end breaks line e' in
+          (s.0, inl (texts w.1, ap texts w.2 ∙ ap (λ (r : List ℕ). r ∷ texts w.1) w.3, s.1))
       | inr t ↦ let s = sound other ws end breaks line t.1 in (s.0, inr (sym (next_begins (is_word word) ws) ∙ t.0, s.1))
     ]
 sound (a_number slot next) ws end breaks line e =
@@ -96,13 +96,13 @@ sound (perhaps word slot next) ws end breaks line e =
     let b = bind_ok (option_at word slot (split ws end breaks)) (λ n. read (next n.0) n.1) line e in
     elim (option_took word slot ws end breaks b.0 b.1) [
       | inl t ↦
-        let r : read (next (Some t.5)) (split t.2 end breaks) ≡ Ok line = rw t.7 at b.2 in
-        let s = sound (next (Some t.5)) t.2 end breaks line r in
-        (s.0, inl (t.1.text, texts t.2, ap texts t.3 ∙ ap (λ (r : List ℕ). r ∷ t.1.text ∷ texts t.2) t.4, t.5, t.6, s.1))
+          let r : read (next (Some t.5)) (split t.2 end breaks) ≡ Ok line = rw t.7 at b.2 in
+          let s = sound (next (Some t.5)) t.2 end breaks line r in
+          (s.0, inl (t.1.text, texts t.2, ap texts t.3 ∙ ap (λ (r : List ℕ). r ∷ t.1.text ∷ texts t.2) t.4, t.5, t.6, s.1))
       | inr t ↦
-        let r : read (next None) (split ws end breaks) ≡ Ok line = rw t.1 at b.2 in
-        let s = sound (next None) ws end breaks line r in
-        (s.0, inr (sym (next_begins (is_word word) ws) ∙ t.0, s.1))
+          let r : read (next None) (split ws end breaks) ≡ Ok line = rw t.1 at b.2 in
+          let s = sound (next None) ws end breaks line r in
+          (s.0, inr (sym (next_begins (is_word word) ws) ∙ t.0, s.1))
     ]
 sound (servers_above all last next) ws end breaks line e =
     let b = bind_ok (servers_at all last (split ws end breaks) ws) (λ n. read (next n.0) n.1) line e in

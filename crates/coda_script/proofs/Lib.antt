@@ -1,3 +1,4 @@
 pub mod Binding
 pub mod ServerLists
+pub mod ServerSteps
 pub mod Laws

@@ -19,10 +19,10 @@ servers_took all [] last end breaks x e = subst (TookServers all last [] end bre
 servers_took all (w ∷ ws) last end breaks x e =
     elim (chosen (is_server all w.text) (option_map_or (λ s. servers_at all s (split ws end breaks) ws >>= (λ more. Ok (s ∷ more.0, more.1))) (number_in (between (last + 1) 8) w.text) (Err (w.at + 1, kinds.Number))) (Ok ([], split (w ∷ ws) end breaks)) (Ok x) e) [
       | inl t ↦
-        let o = option_ok (number_in (between (last + 1) 8) w.text) (λ s. servers_at all s (split ws end breaks) ws >>= (λ more. Ok (s ∷ more.0, more.1))) (w.at + 1, kinds.Number) x t.1 in
-        let m = bind_ok (servers_at all o.0 (split ws end breaks) ws) (λ more. Ok (o.0 ∷ more.0, more.1)) x o.2 in
-        let k = servers_took all ws o.0 end breaks m.0 m.1 in
-        subst (TookServers all last (w ∷ ws) end breaks) (ok_is (o.0 ∷ m.0.0, m.0.1) x m.2) (w ∷ k.0, k.1, ap (λ (r : List Word). w ∷ r) k.2, (t.0, o.1, k.3), k.4, k.5)
+          let o = option_ok (number_in (between (last + 1) 8) w.text) (λ s. servers_at all s (split ws end breaks) ws >>= (λ more. Ok (s ∷ more.0, more.1))) (w.at + 1, kinds.Number) x t.1 in
+          let m = bind_ok (servers_at all o.0 (split ws end breaks) ws) (λ more. Ok (o.0 ∷ more.0, more.1)) x o.2 in
+          let k = servers_took all ws o.0 end breaks m.0 m.1 in
+          subst (TookServers all last (w ∷ ws) end breaks) (ok_is (o.0 ∷ m.0.0, m.0.1) x m.2) (w ∷ k.0, k.1, ap (λ (r : List Word). w ∷ r) k.2, (t.0, o.1, k.3), k.4, k.5)
       | inr t ↦ subst (TookServers all last (w ∷ ws) end breaks) (ok_is ([], split (w ∷ ws) end breaks) x t.1) ([], w ∷ ws, refl, tt, t.0, refl)
     ]
 

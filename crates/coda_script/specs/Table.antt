@@ -85,9 +85,9 @@ unfoldable pub setattr_form : Form
 setattr_form =
     place (λ c v p.
     either (codes "mode") (a_number octal (λ m. owner (λ o. mtime (λ t.
-      closes t (Task (tasks.Setattr c v p (record { mode = Some m; owner = o; mtime = t }))))))) (
+    closes t (Task (tasks.Setattr c v p (record { mode = Some m; owner = o; mtime = t }))))))) (
     either (codes "owner") (a_number (between 0 4294967295) (λ o. mtime (λ t.
-      closes t (Task (tasks.Setattr c v p (record { mode = None; owner = Some o; mtime = t })))))) (
+    closes t (Task (tasks.Setattr c v p (record { mode = None; owner = Some o; mtime = t })))))) (
     either (codes "mtime") (number (λ t. says (Task (tasks.Setattr c v p (record { mode = None; owner = None; mtime = Some t })))))
     nothing)))
 

@@ -1,10 +1,13 @@
 //! The lines of a script: what they say, and which they are.
 #![tactic(auto)]
 
+mod actors;
 mod fault;
 mod line;
 mod operations;
 mod options;
+mod servers;
+mod services;
 mod slots;
 mod turns;
 

@@ -98,9 +98,17 @@ pub enum Task {
         attrs: Attrs,
     },
     /// `remove C V P`.
-    Remove { client: u8, volume: u32, path: Path },
+    Remove {
+        client: u8,
+        volume: u32,
+        path: Path,
+    },
     /// `rmdir C V P`.
-    Rmdir { client: u8, volume: u32, path: Path },
+    Rmdir {
+        client: u8,
+        volume: u32,
+        path: Path,
+    },
     /// `rename C V P P`.
     Rename {
         client: u8,
@@ -109,9 +117,17 @@ pub enum Task {
         to: Path,
     },
     /// `read C V P`.
-    Read { client: u8, volume: u32, path: Path },
+    Read {
+        client: u8,
+        volume: u32,
+        path: Path,
+    },
     /// `list C V P`.
-    List { client: u8, volume: u32, path: Path },
+    List {
+        client: u8,
+        volume: u32,
+        path: Path,
+    },
     /// `drain C V S` with `window W`, in seconds.
     Drain {
         client: u8,
@@ -120,9 +136,16 @@ pub enum Task {
         window: Option<u64>,
     },
     /// `refresh C V S`.
-    Refresh { client: u8, volume: u32, server: u8 },
+    Refresh {
+        client: u8,
+        volume: u32,
+        server: u8,
+    },
     /// `giveup C V`.
-    Giveup { client: u8, volume: u32 },
+    Giveup {
+        client: u8,
+        volume: u32,
+    },
 }
 
 /// A line of a script. What a line leaves out is `None`: the reader puts in no default.
@@ -149,11 +172,16 @@ pub enum Line {
         strength: Strength,
     },
     /// `tick N`: at most 10^9 seconds.
-    Tick { seconds: u32 },
+    Tick {
+        seconds: u32,
+    },
     /// What a client does.
     Task(Task),
     /// `at T LINE`: what a client does in its thread of this number, from 1 to 8.
-    At { thread: u8, task: Task },
+    At {
+        thread: u8,
+        task: Task,
+    },
     /// `hoard add C V P PRIO` with `children` or `descendants`: the priority is of 1 to 1,000.
     HoardAdd {
         client: u8,
@@ -163,13 +191,24 @@ pub enum Line {
         expansion: Expansion,
     },
     /// `hoard remove C V P`.
-    HoardRemove { client: u8, volume: u32, path: Path },
+    HoardRemove {
+        client: u8,
+        volume: u32,
+        path: Path,
+    },
     /// `hoard clear C`.
-    HoardClear { client: u8 },
+    HoardClear {
+        client: u8,
+    },
     /// `hoard list C`.
-    HoardList { client: u8 },
+    HoardList {
+        client: u8,
+    },
     /// `walk C V`.
-    Walk { client: u8, volume: u32 },
+    Walk {
+        client: u8,
+        volume: u32,
+    },
     /// `send C V S` with `window W`, in seconds.
     Send {
         client: u8,
@@ -178,13 +217,23 @@ pub enum Line {
         window: Option<u64>,
     },
     /// `deliver M`.
-    Deliver { message: u64 },
+    Deliver {
+        message: u64,
+    },
     /// `lose M`.
-    Lose { message: u64 },
+    Lose {
+        message: u64,
+    },
     /// `breaks S V`.
-    Breaks { server: u8, volume: u32 },
+    Breaks {
+        server: u8,
+        volume: u32,
+    },
     /// `crash client C N`: the number chooses what the crash leaves on the disk.
-    CrashClient { client: u8, choice: u64 },
+    CrashClient {
+        client: u8,
+        choice: u64,
+    },
     /// `crash replica S V N`: the number chooses what the crash leaves on the disk.
     CrashReplica {
         server: u8,
@@ -192,11 +241,19 @@ pub enum Line {
         choice: u64,
     },
     /// `recover client C`.
-    RecoverClient { client: u8 },
+    RecoverClient {
+        client: u8,
+    },
     /// `recover replica S V`.
-    RecoverReplica { server: u8, volume: u32 },
+    RecoverReplica {
+        server: u8,
+        volume: u32,
+    },
     /// `arm client C K`: the disk fails after so many calls.
-    ArmClient { client: u8, passes: u64 },
+    ArmClient {
+        client: u8,
+        passes: u64,
+    },
     /// `arm replica S V K`: the disk fails after so many calls.
     ArmReplica {
         server: u8,
@@ -204,7 +261,10 @@ pub enum Line {
         passes: u64,
     },
     /// `resolve V S S ..`: two servers at least.
-    Resolve { volume: u32, servers: Servers },
+    Resolve {
+        volume: u32,
+        servers: Servers,
+    },
     /// `repair V S P`.
     Repair {
         volume: u32,
@@ -212,9 +272,18 @@ pub enum Line {
         path: Path,
     },
     /// `show volume S V`.
-    ShowVolume { server: u8, volume: u32 },
+    ShowVolume {
+        server: u8,
+        volume: u32,
+    },
     /// `show log C V`.
-    ShowLog { client: u8, volume: u32 },
+    ShowLog {
+        client: u8,
+        volume: u32,
+    },
     /// `show state C V`.
-    ShowState { client: u8, volume: u32 },
+    ShowState {
+        client: u8,
+        volume: u32,
+    },
 }

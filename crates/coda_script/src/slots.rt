@@ -133,7 +133,12 @@ pub fn text(alloc: Global, cursor: &mut Cursor) -> Result<Bytes, LineFault>
 
 /// A quoted text of so many bytes at least, and so many at most.
 #[tactic(auto, unfolding(crate::specs::Reading::slot_at))]
-pub fn sized_text(alloc: Global, cursor: &mut Cursor, low: usize, high: usize) -> Result<Bytes, LineFault>
+pub fn sized_text(
+    alloc: Global,
+    cursor: &mut Cursor,
+    low: usize,
+    high: usize,
+) -> Result<Bytes, LineFault>
     ensures { Gives (λ t. (t, cursor.new)) result (slot_at kinds.Text (text_in (sized low high)) cursor.old) }
 {
     match cursor.head() {
