@@ -1,4 +1,5 @@
 // The forms of hoarding, messages, callbacks, disks and replicas.
+ghost use Rattle.std.specs.Prelude.{◌≡◌};
 ghost use Rattle.coda_script.specs.Reading.{read};
 ghost use Rattle.coda_script.specs.Table.{hoard_add_form, hoard_form, walk_form, send_form, deliver_form, lose_form, breaks_form, crash_form, recover_form, arm_form, resolve_form, repair_form, show_form};
 ghost use Rattle.coda_script.specs.Outcome.{Gives};
@@ -8,8 +9,21 @@ use crate::servers::servers_above;
 use crate::slots::{ends, number, path, takes, wrong};
 use crate::{Expansion, Line, LineFault, Servers};
 use coda_engine::Kind;
+use coda_fid::Path;
 use coda_text::Cursor;
 use std::alloc::Global;
+
+fn hoard_entry(client: u8, volume: u32, path: Path, priority: u16, expansion: Expansion) -> Line
+    ensures { result ≡ Line.HoardAdd client volume path priority expansion }
+{
+    Line::HoardAdd {
+        client,
+        volume,
+        path,
+        priority,
+        expansion,
+    }
+}
 
 #[tactic(auto, unfolding(crate::specs::Table::hoard_add_form))]
 fn hoard_add(alloc: Global, cursor: &mut Cursor) -> Result<Line, LineFault>
@@ -19,26 +33,16 @@ fn hoard_add(alloc: Global, cursor: &mut Cursor) -> Result<Line, LineFault>
     let volume = number(cursor, 1, 4_294_967_295)? as u32;
     let path = path(alloc, cursor)?;
     let priority = number(cursor, 1, 1000)? as u16;
-    let expansion = if takes(cursor, b"children") {
-        Expansion::Children
-    } else if takes(cursor, b"descendants") {
-        Expansion::Descendants
-    } else {
-        Expansion::Alone
-    };
-    let kind = match expansion {
-        Expansion::Alone => Kind::Word,
-        Expansion::Children => Kind::Count,
-        Expansion::Descendants => Kind::Count,
-    };
-    let line = Line::HoardAdd {
-        client,
-        volume,
-        path,
-        priority,
-        expansion,
-    };
-    ends(cursor, kind, line)
+    if takes(cursor, b"children") {
+        let line = hoard_entry(client, volume, path, priority, Expansion::Children);
+        return says(cursor, line);
+    }
+    if takes(cursor, b"descendants") {
+        let line = hoard_entry(client, volume, path, priority, Expansion::Descendants);
+        return says(cursor, line);
+    }
+    let line = hoard_entry(client, volume, path, priority, Expansion::Alone);
+    ends(cursor, Kind::Word, line)
 }
 
 #[tactic(auto, unfolding(crate::specs::Table::hoard_form))]
