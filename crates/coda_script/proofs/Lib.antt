@@ -1,4 +1,6 @@
 pub mod Binding
 pub mod ServerLists
 pub mod ServerSteps
+pub mod TurnSteps
+pub mod LineBytes
 pub mod Laws

@@ -16,11 +16,11 @@ use Rattle.coda_script.proofs.ServerLists.{servers_stop}
 abbrev pub with_front : List ℕ → Result (List ℕ × Split) Fault → Result (List ℕ × Split) Fault
 with_front front read = read >>= λ x. Ok (front ++ x.0, x.1)
 
-opened : (r : Option ℕ) (rest next : Split) (s : ℕ) (f : Fault) → option_map_or (λ (x : ℕ). let r : Result (ℕ × Split) Fault = Ok (x, rest) in r) r (Err f) ≡ Ok (s, next) → (r ≡ Some s) × (rest ≡ next)
+pub opened : (r : Option ℕ) (rest next : Split) (s : ℕ) (f : Fault) → option_map_or (λ (x : ℕ). let r : Result (ℕ × Split) Fault = Ok (x, rest) in r) r (Err f) ≡ Ok (s, next) → (r ≡ Some s) × (rest ≡ next)
 opened (Some x) rest next s f e = let p = ok_is (x, rest) (s, next) e in (ap (λ (q : ℕ × Split). let o : Option ℕ = Some q.0 in o) p, ap (λ (q : ℕ × Split). q.1) p)
 opened None rest next s f e = absurd cc
 
-failed : (r : Option ℕ) (rest : Split) (f g : Fault) → option_map_or (λ (x : ℕ). let r : Result (ℕ × Split) Fault = Ok (x, rest) in r) r (Err f) ≡ Err g → (r ≡ None) × (f ≡ g)
+pub failed : (r : Option ℕ) (rest : Split) (f g : Fault) → option_map_or (λ (x : ℕ). let r : Result (ℕ × Split) Fault = Ok (x, rest) in r) r (Err f) ≡ Err g → (r ≡ None) × (f ≡ g)
 failed (Some x) rest f g e = absurd cc
 failed None rest f g e = (refl, cc)
 
