@@ -4,3 +4,5 @@ pub mod ServerSteps
 pub mod TurnSteps
 pub mod LineBytes
 pub mod Laws
+pub mod Avoiding
+pub mod WholeLines
