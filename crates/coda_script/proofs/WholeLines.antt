@@ -1,5 +1,5 @@
 -- Reading and spelling are each other's inverse, for whole lines.
-use Rattle.std.proofs.Common.{◌≡◌, ℕ, Bool, true, false, ◌⊎◌, inl, inr, List, [], ◌∷◌, Option, Some, None, Result, Ok, Err, refl, sym, ap, subst, ◌∙◌}
+use Rattle.std.proofs.Common.{◌≡◌, ℕ, ◌+◌, Bool, true, false, ◌⊎◌, inl, inr, List, [], ◌∷◌, Option, Some, None, Result, Ok, Err, refl, sym, ap, subst, ◌∙◌}
 use Rattle.std.specs.Prelude.{codes, IfOk, IfSome, IfNone}
 use Rattle.std.specs.Option.{option_map_or}
 use Rattle.coda_engine.specs.declared.status.Kind.TheVariants as kinds
@@ -90,36 +90,37 @@ placed_in_thread thread line said e = absurd cc
 
 -- ---- the words of a line
 
+-- what was read behind the threads that were taken
+behind_turns : (ws : List Word) (end : ℕ) (breaks : Option ℕ) (x : Turns × Split) (line said : Line) → (x ≡ (Unnamed, split ws end breaks)) ⊎ TookThread ws end breaks x → read script x.1 ≡ Ok line → placed x.0 line ≡ Ok said
+    → (breaks ≡ None) × SpellsLine (texts ws) said
+behind_turns ws end breaks x line said (inl t) r p =
+    let l = ok_is line said (subst (λ (y : Turns × Split). placed y.0 line ≡ Ok said) t p) in
+    let s = sound script ws end breaks line (subst (λ (y : Turns × Split). read script y.1 ≡ Ok line) t r) in
+    (s.0, inl (subst (λ (y : Line). Spells script (texts ws) y) l s.1))
+behind_turns ws end breaks x line said (inr t) r p =
+    elim t.left [
+      | inl one ↦
+        let task = placed_in_thread t.thread line said (subst (λ (y : Turns × Split). placed y.0 line ≡ Ok said) one p) in
+        let s = sound script t.rest end breaks line (subst (λ (y : Turns × Split). read script y.1 ≡ Ok line) one r) in
+        (s.0, inr (record {
+          turn = t.turn.text;
+          thread = t.thread;
+          rest = texts t.rest;
+          task = task.0;
+          words = ap texts t.words ∙ ap (λ (w : List ℕ). w ∷ t.turn.text ∷ texts t.rest) t.is_at;
+          number = t.number;
+          spelled = subst (λ (y : Line). Spells script (texts t.rest) y) task.1 s.1;
+          says = task.2;
+        }))
+      | inr several ↦ absurd (let q = subst (λ (y : Turns). placed y line ≡ Ok said) several p in cc)
+    ]
+
 words_sound : (ws : List Word) (end : ℕ) (breaks : Option ℕ) (said : Line) → read_words (split ws end breaks) ≡ Ok said → (breaks ≡ None) × SpellsLine (texts ws) said
 unfolding read_words
 words_sound ws end breaks said e =
     let b = bind_ok (turns_at Unnamed (split ws end breaks) ws) (λ turns. read script turns.1 >>= λ line. placed turns.0 line) said e in
     let l = bind_ok (read script b.0.1) (λ line. placed b.0.0 line) said b.2 in
-    elim (turns_took ws end breaks b.0 b.1) [
-      | inl t ↦
-        let p : placed Unnamed l.0 ≡ Ok said = rw t at l.2 in
-        let r : read script (split ws end breaks) ≡ Ok l.0 = rw t at l.1 in
-        let s = sound script ws end breaks said (r ∙ p) in
-        (s.0, inl s.1)
-      | inr t ↦ elim t.left [
-          | inl one ↦
-            let p : placed (Thread t.thread) l.0 ≡ Ok said = rw one at l.2 in
-            let r : read script (split t.rest end breaks) ≡ Ok l.0 = rw one at l.1 in
-            let task = placed_in_thread t.thread l.0 said p in
-            let s = sound script t.rest end breaks l.0 r in
-            (s.0, inr (record {
-              turn = t.turn.text;
-              thread = t.thread;
-              rest = texts t.rest;
-              task = task.0;
-              words = ap texts t.words ∙ ap (λ (w : List ℕ). w ∷ t.turn.text ∷ texts t.rest) t.is_at;
-              number = t.number;
-              spelled = subst (λ (x : Line). Spells script (texts t.rest) x) task.1 s.1;
-              says = task.2;
-            }))
-          | inr several ↦ absurd (let p : placed Several l.0 ≡ Ok said = rw several at l.2 in cc)
-        ]
-    ]
+    behind_turns ws end breaks b.0 l.0 said (turns_took ws end breaks b.0 b.1) l.1 l.2
 
 -- no thread is named before what the table's words spell
 plain_stop : (ws : List Word) (end : ℕ) (breaks : Option ℕ) (seen : Turns) (line : Line) → Spells script (texts ws) line → turns_at seen (split ws end breaks) ws ≡ Ok (seen, split ws end breaks)
