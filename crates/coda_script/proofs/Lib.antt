@@ -6,3 +6,8 @@ pub mod LineBytes
 pub mod Laws
 pub mod Avoiding
 pub mod WholeLines
+pub mod Possible
+pub mod Clear
+pub mod Tabled
+pub mod EveryLine
+pub mod InRanges

@@ -5,3 +5,4 @@ pub mod Table
 pub mod Lines
 pub mod Outcome
 pub mod Spelling
+pub mod Ranges

@@ -2,7 +2,7 @@
 use Rattle.std.specs.Prelude.{ℕ, Bool, true, false, ◌&&◌, nat_le, if◌then◌else◌, List, [], ◌∷◌, length, Option, Some, None, option_and_then}
 use Rattle.std.specs.Str.{bytes_eq}
 use Rattle.coda_fid.specs.Path.{is_path, names_in}
-use Rattle.coda_text.specs.Numbers.{number_of, octal_of}
+use Rattle.coda_text.specs.Numbers.{number_of, octal_of, begins_with_digit}
 use Rattle.coda_text.specs.Texts.{value_of, is_quoted}
 
 -- a number from one to another, or a mode in octal
@@ -44,11 +44,6 @@ text_in slot word = if is_quoted word && has_room slot (length (value_of word)) 
 -- whether a word is that one, as it stands
 abbrev pub is_word : List ℕ → List ℕ → Bool
 is_word word text = bytes_eq text word
-
--- whether a word begins with a digit
-abbrev pub begins_with_digit : List ℕ → Bool
-begins_with_digit [] = false
-begins_with_digit (b ∷ bs) = nat_le 48 b && nat_le b 57
 
 -- whether a word stands for a server where more servers may stand: each word up to the line's end, or each one that
 -- begins with a digit

@@ -18,7 +18,7 @@ abbrev pub runs : Part → List ℕ → Option Part
 runs part [] = Some part
 runs part (b ∷ bs) = option_map_or (λ next. runs next bs) (goes_on part b) None
 
-bare_apart : (b : ℕ) → is_bare b ≡ true → is_separator b ≡ false
+pub bare_apart : (b : ℕ) → is_bare b ≡ true → is_separator b ≡ false
 bare_apart b e = grind (arith, nat_tests)
 
 if_some : {A : Type 0} (b : Bool) (x y : A) → cond b (let r : Option A = Some x in r) None ≡ Some y → b ≡ true
@@ -57,19 +57,19 @@ or_cases : (a b : Bool) → (a || b) ≡ true → (a ≡ true) ⊎ (b ≡ true)
 or_cases true b e = inl refl
 or_cases false b e = inr e
 
-cases_bool : (b : Bool) → (b ≡ true) ⊎ (b ≡ false)
+pub cases_bool : (b : Bool) → (b ≡ true) ⊎ (b ≡ false)
 cases_bool true = inl refl
 cases_bool false = inr refl
 
-and_left : (a b : Bool) → (a && b) ≡ true → a ≡ true
+pub and_left : (a b : Bool) → (a && b) ≡ true → a ≡ true
 and_left true b e = refl
 and_left false b e = e
 
-and_right : (a b : Bool) → (a && b) ≡ true → b ≡ true
+pub and_right : (a b : Bool) → (a && b) ≡ true → b ≡ true
 and_right true b e = e
 and_right false b e = absurd cc
 
-open_is_bare : (b : ℕ) → is_open_byte b ≡ true → is_bare b ≡ true
+pub open_is_bare : (b : ℕ) → is_open_byte b ≡ true → is_bare b ≡ true
 open_is_bare b e = grind (arith, nat_tests)
 
 hex_16 : (n : ℕ) → n < 16 → is_hex (hex_digit n) ≡ true
@@ -117,13 +117,13 @@ escaped_decodes b rest lt =
           ]
     ]
 
-quoted_runs : (bs rest : List ℕ) → AllByRecursion (λ b. b < 256) bs → runs Inside (flat_map escaped bs ++ 34 ∷ rest) ≡ runs Closed rest
+pub quoted_runs : (bs rest : List ℕ) → AllByRecursion (λ b. b < 256) bs → runs Inside (flat_map escaped bs ++ 34 ∷ rest) ≡ runs Closed rest
 quoted_runs [] rest fits = refl
 quoted_runs (b ∷ bs) rest fits =
     let regrouped : flat_map escaped (b ∷ bs) ++ 34 ∷ rest ≡ escaped b ++ (flat_map escaped bs ++ 34 ∷ rest) = ap (λ (x : List ℕ). x ++ 34 ∷ rest) (flat_map-cons escaped b bs) ∙ append_assoc (escaped b) (flat_map escaped bs) (34 ∷ rest) in
     ap (runs Inside) regrouped ∙ escaped_runs b (flat_map escaped bs ++ 34 ∷ rest) fits.0 ∙ quoted_runs bs rest fits.1
 
-quoted_decodes : (bs : List ℕ) → AllByRecursion (λ b. b < 256) bs → decoded escapes.Plain (flat_map escaped bs ++ 34 ∷ []) ≡ bs
+pub quoted_decodes : (bs : List ℕ) → AllByRecursion (λ b. b < 256) bs → decoded escapes.Plain (flat_map escaped bs ++ 34 ∷ []) ≡ bs
 unfolding decoded
 quoted_decodes [] fits = refl
 quoted_decodes (b ∷ bs) fits =
@@ -145,11 +145,11 @@ unfolding scan
 one_word_more b bs rest at first last sep o r may =
     rw (sep, o) (scan_runs bs (32 ∷ rest) at (at + 1) (b ∷ []) first last r ∙ rw may refl)
 
-open_runs : (bs : List ℕ) → list_all is_open_byte bs ≡ true → runs Bare bs ≡ Some Bare
+pub open_runs : (bs : List ℕ) → list_all is_open_byte bs ≡ true → runs Bare bs ≡ Some Bare
 open_runs [] e = refl
 open_runs (b ∷ bs) e = rw (open_is_bare b (and_left (is_open_byte b) _ e)) (open_runs bs (and_right (is_open_byte b) _ e))
 
-open_unquoted : (b : ℕ) → is_open_byte b ≡ true → eqb b 34 ≡ false
+pub open_unquoted : (b : ℕ) → is_open_byte b ≡ true → eqb b 34 ≡ false
 open_unquoted b e = grind (arith, nat_tests)
 
 abbrev IsPrinted : List ℕ → List ℕ → Type 0

@@ -1,5 +1,5 @@
 -- Decimal and octal numbers.
-use Rattle.std.specs.Prelude.{ℕ, ◌+◌, ◌-◌, ◌*◌, ◌^◌, ◌&&◌, nat_lt, nat_le, if◌then◌else◌, List, [], ◌∷◌, length, Option, Some, None}
+use Rattle.std.specs.Prelude.{ℕ, Bool, false, ◌+◌, ◌-◌, ◌*◌, ◌^◌, ◌&&◌, nat_lt, nat_le, if◌then◌else◌, List, [], ◌∷◌, length, Option, Some, None}
 use Rattle.std.specs.Option.{option_map_or}
 
 -- a number with one more decimal digit, where that is one and the number stays below 2^64
@@ -14,6 +14,11 @@ number_from n (d ∷ ds) = option_map_or (λ m. number_from m ds) (with_digit n 
 -- the number that a word is: 1 to 20 decimal digits, below 2^64
 abbrev pub number_of : List ℕ → Option ℕ
 number_of word = if nat_le 1 (length word) && nat_le (length word) 20 then number_from 0 word else None
+
+-- whether a word begins with a digit
+abbrev pub begins_with_digit : List ℕ → Bool
+begins_with_digit [] = false
+begins_with_digit (b ∷ bs) = nat_le 48 b && nat_le b 57
 
 -- a mode with one more octal digit, where that is one and the mode stays within 7777
 abbrev pub with_octal : ℕ → ℕ → Option ℕ
