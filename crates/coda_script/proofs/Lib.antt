@@ -3,11 +3,11 @@ pub mod ServerLists
 pub mod ServerSteps
 pub mod TurnSteps
 pub mod LineBytes
-pub mod Laws
+pub mod AnyForm
 pub mod Avoiding
-pub mod WholeLines
 pub mod Possible
 pub mod Clear
 pub mod Tabled
-pub mod EveryLine
 pub mod InRanges
+pub mod WholeLines
+pub mod EveryLine

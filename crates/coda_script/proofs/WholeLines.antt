@@ -15,11 +15,13 @@ use Rattle.coda_script.specs.Slots.{between, number_in, is_word}
 use Rattle.coda_script.specs.Reading.{Fault, ◌>>=◌, missing, is_next, read}
 use Rattle.coda_script.specs.Table.{script}
 use Rattle.coda_script.specs.Lines.{is_silent, with_thread, turns_at, placed, read_words, line_of}
-use Rattle.coda_script.specs.Spelling.{begins, Spells, SpellsAt, SpellsLine, Says}
+use Rattle.coda_script.specs.Spelling.{begins, Spells, SpellsAt, SpellsLine, Says, words_of}
+use Rattle.coda_script.specs.Ranges.{InRange}
+use Rattle.coda_script.proofs.InRanges.{spelled_in_range}
 use Rattle.coda_script.proofs.Binding.{split, texts, ok_is, some_is, bind_ok, chosen, option_ok, next_begins, texts_cons, is_itself, word_is}
 use Rattle.coda_script.proofs.Avoiding.{script_avoids_at}
 use Rattle.coda_script.proofs.TurnSteps.{turns_stop}
-use Rattle.coda_script.proofs.Laws.{sound, complete}
+use Rattle.coda_script.proofs.AnyForm.{sound, complete}
 
 -- ---- the threads that a line names
 
@@ -172,3 +174,8 @@ is_silent_then line (Ok None) g =
       | inl t ↦ t.0
       | inr t ↦ let b = bind_ok (read_words (split_of line)) (λ l. Ok (Some l)) None t.1 in absurd (let e = b.2 in cc)
     ]
+
+pub is_in_range : (line : List ℕ) (r : Result (Option Line) LineFault) → IfOk r (λ o. IfSome o (λ said. Says line said)) → IfOk r (λ o. IfSome o InRange)
+is_in_range line (Err e) s = tt
+is_in_range line (Ok None) s = tt
+is_in_range line (Ok (Some said)) s = spelled_in_range (words_of line) said s.spelled

@@ -3,6 +3,7 @@
 
 mod actors;
 mod fault;
+mod laws;
 mod line;
 mod operations;
 mod options;
@@ -14,5 +15,6 @@ mod turns;
 
 pub use coda_engine::Kind;
 pub use fault::LineFault;
+pub use laws::each_line_has_a_spelling;
 pub use line::{Content, Expansion, Line, Servers, Strength, Task};
 pub use reading::read_line;

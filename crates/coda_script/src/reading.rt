@@ -4,6 +4,7 @@ ghost use Rattle.coda_script.specs.Reading.{read};
 ghost use Rattle.coda_script.specs.Table.{script, setup_forms, actor_forms, last_forms};
 ghost use Rattle.coda_script.specs.Lines.{first_byte, is_silent, read_words, line_of};
 ghost use Rattle.coda_script.specs.Outcome.{Gives};
+ghost use Rattle.coda_script.specs.Ranges.{InRange};
 ghost use Rattle.coda_script.specs.Spelling.{Says, ReadsAll};
 
 use crate::slots::{takes, wrong};
@@ -196,6 +197,9 @@ pub fn read_line(alloc: Global, bytes: &[u8]) -> Result<Option<Line>, LineFault>
 
     // What is read is spelled so.
     ensures found { IfOk result (λ o. IfSome o (λ said. Says bytes.now said)) }
+
+    // What is read names things in their ranges.
+    ensures ranges { IfOk result (λ o. IfSome o InRange) }
 
     // What is spelled so is read, unless memory runs out.
     ensures only { ReadsAll bytes.now result }
