@@ -1,5 +1,5 @@
 -- A volume as a finite map from fids to nodes, and the edits of such a map.
-use Rattle.std.specs.Prelude.{◌≡◌, ℕ, zero, suc, Bool, false, ◌||◌, List, [], ◌∷◌, Option, Some, None, is_some, refl}
+use Rattle.std.specs.Prelude.{◌≡◌, ◌≢◌, ℕ, zero, suc, Bool, false, ◌||◌, List, [], ◌∷◌, Option, Some, None, is_some, refl}
 use Rattle.std.specs.List.{list_any, find}
 use Rattle.std.specs.Option.{option_map_or}
 use Rattle.std.specs.FinMap as map
@@ -7,6 +7,8 @@ use Rattle.std.specs.FinMap.{FinMap}
 use Rattle.std.specs.Coded.{Coded, code_by, coded×, coded_ℕ}
 use Rattle.coda_fid.specs.Fid.{fid_cmp, same_fid, root_of, coded_fid}
 use Rattle.coda_fid.specs.declared.fid.Fid.{Fid}
+use Rattle.coda_fid.specs.declared.fid.Sid.{Sid}
+use Rattle.coda_fid.specs.declared.op.Attrs.{Attrs}
 use Rattle.coda_tree.specs.declared.node.Node.{Node}
 use Rattle.coda_tree.specs.declared.node.NodeKind.{NodeKind}
 use Rattle.coda_tree.specs.declared.node.NodeKind.TheVariants.{File, Link, Dir}
@@ -122,6 +124,44 @@ bound m d name f = changed m d (λ node. bind_in node name f)
 abbrev pub unbound : Nodes → Fid → Name → Nodes
 unbound m d name = changed m d (λ node. unbind_in node name)
 
+-- the new value where there is one, and else the old
+abbrev pub set_or : {A : Type 0} → Option A → A → A
+set_or (Some new) old = new
+set_or None old = old
+
+-- the parts of a node that a write sets
+pub record Patch : Type 0 where
+  pub content : Option (List ℕ)
+  pub mode : Option ℕ
+  pub owner : Option ℕ
+  pub mtime : Option ℕ
+
+-- the content and its time
+abbrev pub content_patch : List ℕ → ℕ → Patch
+content_patch content mtime = record { content = Some content; mode = None; owner = None; mtime = Some mtime }
+
+-- the attributes that are to be set
+abbrev pub attrs_patch : Attrs → Patch
+attrs_patch attrs = record { content = None; mode = attrs.mode; owner = attrs.owner; mtime = attrs.mtime }
+
+-- a file with the new content, where there is one; links and directories have none
+abbrev pub with_content : Option (List ℕ) → NodeKind → NodeKind
+with_content None kind = kind
+with_content (Some new) (File content) = File new
+with_content (Some new) (Link target) = Link target
+with_content (Some new) (Dir entries) = Dir entries
+
+-- the node with those parts set, and of that version
+abbrev pub written : Patch → Sid → Node → Node
+written patch sid node = record {
+  kind = with_content patch.content node.kind;
+  mode = set_or patch.mode node.mode;
+  owner = set_or patch.owner node.owner;
+  mtime = set_or patch.mtime node.mtime;
+  sid = sid;
+  marked = node.marked;
+}
+
 -- one edit at one fid
 pub data Edit : Type 0 where
   -- the node stands at the fid
@@ -132,6 +172,8 @@ pub data Edit : Type 0 where
   TakeOut : (f : Fid) → Edit
   -- the directory d binds nothing at the name
   Unbind : (d : Fid) (name : Name) → Edit
+  -- parts of the node at the fid are set, and it is of that version
+  Write : (f : Fid) (patch : Patch) (sid : Sid) → Edit
 
 -- the map after an edit
 abbrev pub edited : Nodes → Edit → Nodes
@@ -139,6 +181,7 @@ edited m (Put f node) = map.insert m f node
 edited m (Bind d name f) = bound m d name f
 edited m (TakeOut f) = map.remove m f
 edited m (Unbind d name) = unbound m d name
+edited m (Write f patch sid) = changed m f (written patch sid)
 
 -- the map after the edits in order
 abbrev pub edited_all : Nodes → List Edit → Nodes
@@ -160,6 +203,44 @@ removals d name f = Unbind d name ∷ TakeOut f ∷ []
 -- the name unbound in d, and the node at f taken out
 unfoldable pub detached : Nodes → Fid → Name → Fid → Nodes
 detached m d name f = edited_all m (removals d name f)
+
+-- the edits that bind a node at a name of another directory, or at another name, in place of where it was
+abbrev pub moves : Fid → Name → Fid → Name → Fid → List Edit
+moves from name to new f = Unbind from name ∷ Bind to new f ∷ []
+
+-- f unbound at its old name, and bound at the new one
+unfoldable pub moved : Nodes → Fid → Name → Fid → Name → Fid → Nodes
+moved m from name to new f = edited_all m (moves from name to new f)
+
+-- the edits that move a node to the name of another, which is taken out
+abbrev pub replacements : Fid → Fid → Name → Fid → Name → Fid → List Edit
+replacements old from name to new f = TakeOut old ∷ moves from name to new f
+
+-- old taken out, and f moved to its name
+unfoldable pub replaced : Nodes → Fid → Fid → Name → Fid → Name → Fid → Nodes
+replaced m old from name to new f = edited_all m (replacements old from name to new f)
+
+-- the second node binds what the first does, and is a directory where the first is one
+pub record BindsAsMuch (was : Node) (node : Node) : Type 0 where
+  pub same : bindings was.kind ≡ bindings node.kind
+  pub dir : IsDir was.kind → IsDir node.kind
+
+-- what a move may rely on: the object is bound at the old name, the new directory is there and does not stand at or below the object, and the new name is free
+pub record MayMove (m : Nodes) (from : Fid) (name : Name) (to : Fid) (new : Name) : Type 0 where
+  pub fid : Fid
+  pub was : child m from name ≡ Some fid
+  pub to_dir : IsDirAt m to
+  pub free : child m to new ≡ None
+  pub apart : is_below m to fid ≡ false
+
+-- what a move to a bound name may rely on: both objects are bound, they differ, and both bind nothing
+pub record MayReplace (m : Nodes) (old from : Fid) (name : Name) (to : Fid) (new : Name) : Type 0 where
+  pub fid : Fid
+  pub was : child m from name ≡ Some fid
+  pub had : child m to new ≡ Some old
+  pub differ : old ≢ fid
+  pub leaf : (n : Name) → child m fid n ≡ None
+  pub old_leaf : (n : Name) → child m old n ≡ None
 
 -- ---- whole volumes
 
