@@ -49,6 +49,9 @@ pub texts_cons : (ws : List Word) (t : List ℕ) (ts : List (List ℕ)) → text
 texts_cons [] t ts e = absurd cc
 texts_cons (w ∷ ws) t ts e = (w, ws, refl, cc, cc)
 
+pub behind_word : (w : Word) (a b : List Word) → a ≡ b → w ∷ a ≡ w ∷ b
+behind_word w a b e = ap (λ (r : List Word). w ∷ r) e
+
 pub texts_nil : (ws : List Word) → texts ws ≡ [] → ws ≡ []
 texts_nil [] e = refl
 texts_nil (w ∷ ws) e = absurd cc

@@ -75,21 +75,23 @@ line_at thread task t h b =
     let fits = (held 1 8 thread (omega arith) t).1 in
     let ws = codes "at" ∷ decimal thread ∷ s.0 in
     let are : AreWords ws = (bare_word (codes "at") refl, (decimal_word thread fits, s.1)) in
-    let j = joined ws 0 are in
-    (join ws, record {
-      loud = joined_loud ws are refl (λ none. let e = none in cc);
-      whole = j.1;
-      spelled = inr (record {
-        turn = decimal thread;
-        thread = thread;
-        rest = s.0;
-        task = task;
-        words = j.0;
-        number = rw (number_again thread fits, le-leb 1 thread t.0, le-leb thread 8 t.1) refl;
-        spelled = s.2;
-        says = refl;
-      });
-    })
+    let j = joined ws 0 are in (
+      join ws,
+      record {
+        loud = joined_loud ws are refl (λ none. let e = none in cc);
+        whole = j.1;
+        spelled = inr (record {
+          turn = decimal thread;
+          thread = thread;
+          rest = s.0;
+          task = task;
+          words = j.0;
+          number = rw (number_again thread fits, le-leb 1 thread t.0, le-leb thread 8 t.1) refl;
+          spelled = s.2;
+          says = refl;
+        });
+      },
+    )
 
 pub every_line : (said : Line) → InRange said → OfBytes said → (line : List ℕ) × Says line said
 every_line (At thread task) h b = line_at thread task h.0 h.1 b

@@ -63,6 +63,7 @@ octal_small (d ∷ ds) m n le e =
     mapped : (o : Option ℕ) (f : ℕ → Option ℕ) (y : ℕ) → option_map_or f o None ≡ Some y → (x : ℕ) × (o ≡ Some x) × (f x ≡ Some y)
     mapped (Some x) f y e = (x, refl, e)
     mapped None f y e = absurd cc
+
     step : (m d k : ℕ) → with_octal m d ≡ Some k → k ≤ 4095
     step m d k e =
         let i = if_some (leb 48 d && leb d 55 && leb (m * 8 + (d - 48)) 4095) (m * 8 + (d - 48)) k e in
@@ -166,17 +167,21 @@ hoard_lets = (λ c ic v iv p ip n hn. ((ic, iv, ip, hn), ((ic, iv, ip, hn), (ic,
 
 disk_lets : Lets InRange crash_form × Lets InRange recover_form × Lets InRange arm_form
 unfolding crash_form recover_form arm_form
-disk_lets =
-    ((λ c ic n hn. (ic, hn), (λ s is v iv n hn. (is, iv, hn), tt)),
-      (λ c ic. ic, (λ s is v iv. (is, iv), tt)),
-      (λ c ic n hn. (ic, hn), (λ s is v iv n hn. (is, iv, hn), tt)))
+disk_lets = (
+  (λ c ic n hn. (ic, hn), (λ s is v iv n hn. (is, iv, hn), tt)),
+  (λ c ic. ic, (λ s is v iv. (is, iv), tt)),
+  (λ c ic n hn. (ic, hn), (λ s is v iv n hn. (is, iv, hn), tt)),
+)
 
 last_lets : Lets InRange last_forms
 unfolding last_forms resolve_form repair_form show_form
-last_lets =
-    (λ v iv s is t it us hu. (iv, (is, it, hu)),
-      (λ v iv s is p ip. (iv, is, ip),
-        ((λ s is v iv. (is, iv), (λ c ic v iv. (ic, iv), (λ c ic v iv. (ic, iv), tt))), tt)))
+last_lets = (
+  λ v iv s is t it us hu. (iv, (is, it, hu)),
+  (
+    λ v iv s is p ip. (iv, is, ip),
+    ((λ s is v iv. (is, iv), (λ c ic v iv. (ic, iv), (λ c ic v iv. (ic, iv), tt))), tt),
+  ),
+)
 
 actor_lets : Lets InRange actor_forms
 unfolding actor_forms

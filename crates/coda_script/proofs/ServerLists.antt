@@ -6,7 +6,7 @@ use Rattle.coda_text.specs.Words.{Split, Word}
 use Rattle.coda_script.specs.Slots.{between, number_in, is_server}
 use Rattle.coda_script.specs.Reading.{Fault, ◌>>=◌, is_next, servers_at}
 use Rattle.coda_script.specs.Spelling.{begins, SpellServers}
-use Rattle.coda_script.proofs.Binding.{split, texts, ok_is, bind_ok, chosen, option_ok, texts_cons, next_begins}
+use Rattle.coda_script.proofs.Binding.{split, texts, ok_is, bind_ok, chosen, option_ok, texts_cons, next_begins, behind_word}
 
 -- what reading servers took
 abbrev pub TookServers : Bool → ℕ → List Word → ℕ → Option ℕ → List ℕ × Split → Type 0
@@ -22,7 +22,7 @@ servers_took all (w ∷ ws) last end breaks x e =
           let o = option_ok (number_in (between (last + 1) 8) w.text) (λ s. servers_at all s (split ws end breaks) ws >>= (λ more. Ok (s ∷ more.0, more.1))) (w.at + 1, kinds.Number) x t.1 in
           let m = bind_ok (servers_at all o.0 (split ws end breaks) ws) (λ more. Ok (o.0 ∷ more.0, more.1)) x o.2 in
           let k = servers_took all ws o.0 end breaks m.0 m.1 in
-          subst (TookServers all last (w ∷ ws) end breaks) (ok_is (o.0 ∷ m.0.0, m.0.1) x m.2) (w ∷ k.0, k.1, ap (λ (r : List Word). w ∷ r) k.2, (t.0, o.1, k.3), k.4, k.5)
+          subst (TookServers all last (w ∷ ws) end breaks) (ok_is (o.0 ∷ m.0.0, m.0.1) x m.2) (w ∷ k.0, k.1, behind_word w ws (k.0 ++ k.1) k.2, (t.0, o.1, k.3), k.4, k.5)
       | inr t ↦ subst (TookServers all last (w ∷ ws) end breaks) (ok_is ([], split (w ∷ ws) end breaks) x t.1) ([], w ∷ ws, refl, tt, t.0, refl)
     ]
 
@@ -46,4 +46,4 @@ texts_parts ws [] rest e = ([], ws, refl, refl, e)
 texts_parts ws (t ∷ mine) rest e =
     let w = texts_cons ws t (mine ++ rest) e in
     let p = texts_parts w.1 mine rest w.4 in
-    (w.0 ∷ p.0, p.1, w.2 ∙ ap (λ (r : List Word). w.0 ∷ r) p.2, rw (w.3, p.3) refl, p.4)
+    (w.0 ∷ p.0, p.1, w.2 ∙ behind_word w.0 w.1 (p.0 ++ p.1) p.2, rw (w.3, p.3) refl, p.4)

@@ -36,8 +36,8 @@ several_stay (w ∷ []) end breaks x e =
 several_stay (w ∷ v ∷ ws) end breaks x e =
     elim (chosen (is_word (codes "at") w.text) (option_map_or (λ t. turns_at Several (split ws end breaks) ws) (number_in (between 1 8) v.text) (Err (v.at + 1, kinds.Number))) (Ok (Several, split (w ∷ v ∷ ws) end breaks)) (Ok x) e) [
       | inl t ↦
-        let o = option_ok (number_in (between 1 8) v.text) (λ t. turns_at Several (split ws end breaks) ws) (v.at + 1, kinds.Number) x t.1 in
-        several_stay ws end breaks x o.2
+          let o = option_ok (number_in (between 1 8) v.text) (λ t. turns_at Several (split ws end breaks) ws) (v.at + 1, kinds.Number) x t.1 in
+          several_stay ws end breaks x o.2
       | inr t ↦ sym (ap (λ (q : Turns × Split). q.0) (ok_is (Several, split (w ∷ v ∷ ws) end breaks) x t.1))
     ]
 
@@ -52,8 +52,8 @@ one_stays (w ∷ []) end breaks thread x e =
 one_stays (w ∷ v ∷ ws) end breaks thread x e =
     elim (chosen (is_word (codes "at") w.text) (option_map_or (λ t. turns_at Several (split ws end breaks) ws) (number_in (between 1 8) v.text) (Err (v.at + 1, kinds.Number))) (Ok (Thread thread, split (w ∷ v ∷ ws) end breaks)) (Ok x) e) [
       | inl t ↦
-        let o = option_ok (number_in (between 1 8) v.text) (λ t. turns_at Several (split ws end breaks) ws) (v.at + 1, kinds.Number) x t.1 in
-        inr (several_stay ws end breaks x o.2)
+          let o = option_ok (number_in (between 1 8) v.text) (λ t. turns_at Several (split ws end breaks) ws) (v.at + 1, kinds.Number) x t.1 in
+          inr (several_stay ws end breaks x o.2)
       | inr t ↦ inl (sym (ok_is (Thread thread, split (w ∷ v ∷ ws) end breaks) x t.1))
     ]
 
@@ -79,8 +79,8 @@ turns_took (w ∷ []) end breaks x e =
 turns_took (w ∷ v ∷ ws) end breaks x e =
     elim (chosen (is_word (codes "at") w.text) (option_map_or (λ t. turns_at (Thread t) (split ws end breaks) ws) (number_in (between 1 8) v.text) (Err (v.at + 1, kinds.Number))) (Ok (Unnamed, split (w ∷ v ∷ ws) end breaks)) (Ok x) e) [
       | inl t ↦
-        let o = option_ok (number_in (between 1 8) v.text) (λ t. turns_at (Thread t) (split ws end breaks) ws) (v.at + 1, kinds.Number) x t.1 in
-        inr (record { at = w; turn = v; rest = ws; thread = o.0; words = refl; is_at = word_is (codes "at") w.text t.0; number = o.1; left = one_stays ws end breaks o.0 x o.2 })
+          let o = option_ok (number_in (between 1 8) v.text) (λ t. turns_at (Thread t) (split ws end breaks) ws) (v.at + 1, kinds.Number) x t.1 in
+          inr (record { at = w; turn = v; rest = ws; thread = o.0; words = refl; is_at = word_is (codes "at") w.text t.0; number = o.1; left = one_stays ws end breaks o.0 x o.2 })
       | inr t ↦ inl (sym (ok_is (Unnamed, split (w ∷ v ∷ ws) end breaks) x t.1))
     ]
 
@@ -102,18 +102,20 @@ behind_turns ws end breaks x line said (inl t) r p =
 behind_turns ws end breaks x line said (inr t) r p =
     elim t.left [
       | inl one ↦
-        let task = placed_in_thread t.thread line said (subst (λ (y : Turns × Split). placed y.0 line ≡ Ok said) one p) in
-        let s = sound script t.rest end breaks line (subst (λ (y : Turns × Split). read script y.1 ≡ Ok line) one r) in
-        (s.0, inr (record {
-          turn = t.turn.text;
-          thread = t.thread;
-          rest = texts t.rest;
-          task = task.0;
-          words = ap texts t.words ∙ ap (λ (w : List ℕ). w ∷ t.turn.text ∷ texts t.rest) t.is_at;
-          number = t.number;
-          spelled = subst (λ (y : Line). Spells script (texts t.rest) y) task.1 s.1;
-          says = task.2;
-        }))
+          let task = placed_in_thread t.thread line said (subst (λ (y : Turns × Split). placed y.0 line ≡ Ok said) one p) in
+          let s = sound script t.rest end breaks line (subst (λ (y : Turns × Split). read script y.1 ≡ Ok line) one r) in (
+            s.0,
+            inr (record {
+              turn = t.turn.text;
+              thread = t.thread;
+              rest = texts t.rest;
+              task = task.0;
+              words = ap texts t.words ∙ ap (λ (w : List ℕ). w ∷ t.turn.text ∷ texts t.rest) t.is_at;
+              number = t.number;
+              spelled = subst (λ (y : Line). Spells script (texts t.rest) y) task.1 s.1;
+              says = task.2;
+            }),
+          )
       | inr several ↦ absurd (let q = subst (λ (y : Turns). placed y line ≡ Ok said) several p in cc)
     ]
 
@@ -153,9 +155,9 @@ is_found line (Ok (Some said)) g =
     elim (chosen (is_silent line) (Ok None) (read_words (split_of line) >>= (λ l. Ok (Some l))) (Ok (Some said)) g) [
       | inl t ↦ absurd (let e = t.1 in cc)
       | inr t ↦
-        let b = bind_ok (read_words (split_of line)) (λ l. Ok (Some l)) (Some said) t.1 in
-        let s = words_sound (split_of line).words (split_of line).end (split_of line).breaks b.0 b.1 in
-        subst (λ (l : Line). Says line l) (some_is b.0 said (ok_is (Some b.0) (Some said) b.2)) (record { loud = t.0; whole = s.0; spelled = s.1 })
+          let b = bind_ok (read_words (split_of line)) (λ l. Ok (Some l)) (Some said) t.1 in
+          let s = words_sound (split_of line).words (split_of line).end (split_of line).breaks b.0 b.1 in
+          subst (λ (l : Line). Says line l) (some_is b.0 said (ok_is (Some b.0) (Some said) b.2)) (record { loud = t.0; whole = s.0; spelled = s.1 })
     ]
 
 pub is_only : (line : List ℕ) (said : Line) → Says line said → line_of line ≡ Ok (Some said)

@@ -6,3 +6,4 @@ pub mod Lines
 pub mod Outcome
 pub mod Spelling
 pub mod Ranges
+pub mod Refusals

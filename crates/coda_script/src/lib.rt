@@ -8,6 +8,8 @@ mod line;
 mod operations;
 mod options;
 mod reading;
+mod refusal;
+mod reply;
 mod servers;
 mod services;
 mod slots;
@@ -18,3 +20,8 @@ pub use fault::LineFault;
 pub use laws::each_line_has_a_spelling;
 pub use line::{Content, Expansion, Line, Servers, Strength, Task};
 pub use reading::read_line;
+pub use refusal::Refusal;
+pub use reply::{
+    Answer, Arg, Args, ClientState, HoardEntries, HoardEntry, Mark, Marks, Numbers, Readable,
+    Records, Reply, Why,
+};
