@@ -25,3 +25,10 @@ pub use reply::{
     Answer, Arg, Args, ClientState, HoardEntries, HoardEntry, Mark, Marks, Numbers, Readable,
     Records, Reply, Why,
 };
+
+#[cfg(test)]
+mod faulty;
+#[cfg(test)]
+mod said;
+#[cfg(test)]
+mod tests;
