@@ -29,6 +29,8 @@ pub use reply::{
 #[cfg(test)]
 mod faulty;
 #[cfg(test)]
+mod odd;
+#[cfg(test)]
 mod said;
 #[cfg(test)]
 mod tests;

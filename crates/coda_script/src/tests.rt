@@ -1,6 +1,4 @@
-use crate::faulty::FAULTY;
-use crate::said::SAID;
-use crate::{Kind, Line, LineFault, read_line};
+use crate::{Kind, Line, LineFault, faulty, odd, read_line, said};
 use std::alloc::{AllocError, Global};
 use std::test::Fail;
 
@@ -33,13 +31,20 @@ fn line_of(
 #[test]
 fn lines_say_what_they_spell(rt: HostRuntime) -> Result<(), Fail> {
     let alloc = rt.alloc();
-    for (line, text) in &SAID {
-        let Some(said) = read(alloc, line)? else {
-            assert!(rt; false, "{line:?} says nothing");
-            continue;
-        };
-        let shown = format!(in alloc; "{said:?}")?;
-        assert_eq!(rt; shown.as_str(), *text);
+    let table = [
+        said::tasks(),
+        said::lines(),
+        said::options_left_out(),
+        said::threads(),
+    ];
+    for rows in table {
+        for (line, text) in rows {
+            let shown = match read(alloc, line)? {
+                Some(said) => format!(in alloc; "{said:?}")?,
+                None => String::new(alloc),
+            };
+            assert_eq!(rt; shown.as_str(), *text, "{line:?}");
+        }
     }
     Ok(())
 }
@@ -47,12 +52,36 @@ fn lines_say_what_they_spell(rt: HostRuntime) -> Result<(), Fail> {
 #[test]
 fn faulty_lines_have_a_column_and_a_kind(rt: HostRuntime) {
     let alloc = rt.alloc();
-    for (line, column, kind) in &FAULTY {
-        let fault = LineFault::BadLine {
-            column: *column,
-            kind: *kind,
-        };
-        assert_eq!(rt; read(alloc, line).err(), Some(fault), "{line:?}");
+    let table = [
+        faulty::creations(),
+        faulty::symlinks_and_stores(),
+        faulty::attributes(),
+        faulty::removals(),
+        faulty::renames(),
+        faulty::looks(),
+        faulty::sends(),
+        faulty::volumes_and_clients(),
+        faulty::links_and_ticks(),
+        faulty::hoards(),
+        faulty::messages(),
+        faulty::disks(),
+        faulty::replicas(),
+        odd::words(),
+        odd::numbers(),
+        odd::modes_and_options(),
+        odd::paths(),
+        odd::texts(),
+        odd::servers(),
+        odd::threads(),
+    ];
+    for rows in table {
+        for (line, column, kind) in rows {
+            let fault = LineFault::BadLine {
+                column: *column,
+                kind: *kind,
+            };
+            assert_eq!(rt; read(alloc, line).err(), Some(fault), "{line:?}");
+        }
     }
 }
 
