@@ -17,42 +17,42 @@ use Rattle.coda_tree.specs.Volume.{Nodes, bindings, child, child_of, IsDir, IsDi
 use Rattle.coda_certify.specs.Replay.{MayCreate, MayApply}
 use Rattle.coda_main.specs.declared.line.Ask.{Ask}
 use Rattle.coda_main.specs.declared.line.Ask.TheVariants.{Create, Mkdir, Symlink, Store, Setattr, Remove, Rmdir, Rename}
-use Rattle.coda_main.specs.declared.reply.Refusal.{Refusal}
-use Rattle.coda_main.specs.declared.reply.Refusal.TheVariants.{JournalFull, Exists, IsDir as IsDirRefusal, Loop}
+use Rattle.coda_main.specs.declared.refused.Refused.{Refused}
+use Rattle.coda_main.specs.declared.refused.Refused.TheVariants.{JournalFull, Exists, IsDir as IsADirectory, Loop}
 use Rattle.coda_main.specs.State.{ClientState}
 use Rattle.coda_main.specs.Ask.{Ending, ending, created_by}
 use Rattle.coda_main.specs.Fetching.{then_find, held, step_in, step_from, resolve}
 use Rattle.coda_main.specs.Accepting.{Accepted, next_fid, is_full, is_full_for_creations, unless_used, new_fid, new_at, new_in, new_under, new_place, at_root, accept_creation, unless_full, store_in, store_at, setattr_at, remove_in, remove_at, rmdir_of, rmdir_in, rmdir_at, spot, held_bound, bound_in, bound_at, place, is_met, is_dir_at, with_version, replaced_by, move_to, rename_to, rename_root, accept_rename, accept_remove, accept_rmdir, accept}
 
 -- what a client relies on where it puts an operation behind its log
-pub record MayAppend (c : ClientState) (op : Op) : Type 0 where
+pub record MayAppend (c : ClientState) (volume : ℕ) (op : Op) : Type 0 where
   pub allowed : MayApply c.nodes op
-  pub operations : c.operations < 4294967295
-  pub creations : (c.creations < 4294967295) ⊎ (created_by op ≡ 0)
+  pub operations : (c.logs volume).operations < 4294967295
+  pub creations : ((c.logs volume).creations < 4294967295) ⊎ (created_by op ≡ 0)
 
-ok_is : {A : Type 0} (x y : A) → (let ok : A → Result A Refusal = λ z. Ok z in ok x ≡ ok y) → x ≡ y
+ok_is : {A : Type 0} (x y : A) → (let ok : A → Result A Refused = λ z. Ok z in ok x ≡ ok y) → x ≡ y
 ok_is x y h = cc
 
 -- what a success came from
-found_then : {A B : Type 0} (r : Result A Refusal) (next : A → Result B Refusal) (x : B) → then_find r next ≡ Ok x → (y : A) × (r ≡ Ok y) × (next y ≡ Ok x)
+found_then : {A B : Type 0} (r : Result A Refused) (next : A → Result B Refused) (x : B) → then_find r next ≡ Ok x → (y : A) × (r ≡ Ok y) × (next y ≡ Ok x)
 found_then (Err refusal) next x h = cc
 found_then (Ok y) next x h = (y, refl, h)
 
 -- what was not refused at the root
-not_at_root : (c : ClientState) (volume : ℕ) (refusal : Refusal) (op : Op) → at_root c volume refusal ≡ Ok op → ⊥
+not_at_root : (c : ClientState) (volume : ℕ) (refusal : Refused) (op : Op) → at_root c volume refusal ≡ Ok op → ⊥
 not_at_root c volume refusal op h = let r = found_then (held (map.get c.nodes (root_of volume)) (root_of volume)) (λ _. Err refusal) op h in cc
 
-few : (c : ClientState) → is_full c ≡ false → c.operations < 4294967295
-few c h = grind (arith, nat_tests, h)
+few : (c : ClientState) (volume : ℕ) → is_full c volume ≡ false → (c.logs volume).operations < 4294967295
+few c volume h = grind (arith, nat_tests, h)
 
-few_creations : (c : ClientState) → is_full_for_creations c ≡ false → (c.operations < 4294967295) × (c.creations < 4294967295)
-few_creations c h = (grind (arith, nat_tests, h), grind (arith, nat_tests, h))
+few_creations : (c : ClientState) (volume : ℕ) → is_full_for_creations c volume ≡ false → ((c.logs volume).operations < 4294967295) × ((c.logs volume).creations < 4294967295)
+few_creations c volume h = (grind (arith, nat_tests, h), grind (arith, nat_tests, h))
 
-unless_full_is : (c : ClientState) (op' op : Op) → unless_full c op' ≡ Ok op → (op' ≡ op) × (c.operations < 4294967295)
-unless_full_is c op' op h =
-    elim (is_full c) as (λ b. is_full c ≡ b → cond b (Err JournalFull) (Ok op') ≡ Ok op → (op' ≡ op) × (c.operations < 4294967295)) [
+unless_full_is : (c : ClientState) (volume : ℕ) (op' op : Op) → unless_full c volume op' ≡ Ok op → (op' ≡ op) × ((c.logs volume).operations < 4294967295)
+unless_full_is c volume op' op h =
+    elim (is_full c volume) as (λ b. is_full c volume ≡ b → cond b (Err JournalFull) (Ok op') ≡ Ok op → (op' ≡ op) × ((c.logs volume).operations < 4294967295)) [
       | true ↦ λ e is. cc
-      | false ↦ λ e is. (ok_is op' op is, few c e)
+      | false ↦ λ e is. (ok_is op' op is, few c volume e)
     ] refl h
 
 -- ---- creations
@@ -65,10 +65,10 @@ unless_used_is : (used : Bool) (new fid : Fid) → unless_used used new ≡ Ok f
 unless_used_is true new fid h = cc
 unless_used_is false new fid h = (refl, ok_is new fid h)
 
-new_fid_is : (c : ClientState) (volume : ℕ) (fid : Fid) → new_fid c volume ≡ Ok fid → (is_full_for_creations c ≡ false) × (map.get c.nodes fid ≡ None)
+new_fid_is : (c : ClientState) (volume : ℕ) (fid : Fid) → new_fid c volume ≡ Ok fid → (is_full_for_creations c volume ≡ false) × (map.get c.nodes fid ≡ None)
 new_fid_is c volume fid h =
     let new = next_fid c volume in
-    elim (is_full_for_creations c) as (λ b. is_full_for_creations c ≡ b → cond b (Err JournalFull) (unless_used (is_some (map.get c.nodes new)) new) ≡ Ok fid → (is_full_for_creations c ≡ false) × (map.get c.nodes fid ≡ None)) [
+    elim (is_full_for_creations c volume) as (λ b. is_full_for_creations c volume ≡ b → cond b (Err JournalFull) (unless_used (is_some (map.get c.nodes new)) new) ≡ Ok fid → (is_full_for_creations c volume ≡ false) × (map.get c.nodes fid ≡ None)) [
       | true ↦ λ e is. cc
       | false ↦ λ e is. let u = unless_used_is (is_some (map.get c.nodes new)) new fid is in (e, ap (map.get c.nodes) (sym u.1) ∙ none_of (map.get c.nodes new) u.0)
     ] refl h
@@ -87,16 +87,16 @@ new_under_is c volume None dir name fid h = cc
 new_under_is c volume (Some node) dir name fid h = new_in_is c volume node.kind name fid h
 
 -- a creation relies on its place
-pub record IsCreation (c : ClientState) (make : Fid → Name → Fid → Op) (op : Op) : Type 0 where
+pub record IsCreation (c : ClientState) (volume : ℕ) (make : Fid → Name → Fid → Op) (op : Op) : Type 0 where
   pub dir : Fid
   pub name : Name
   pub fid : Fid
   pub is : make dir name fid ≡ op
   pub may : MayCreate c.nodes dir name fid
-  pub operations : c.operations < 4294967295
-  pub creations : c.creations < 4294967295
+  pub operations : (c.logs volume).operations < 4294967295
+  pub creations : (c.logs volume).creations < 4294967295
 
-creation_is : (c : ClientState) (volume : ℕ) (e : Ending) (make : Fid → Name → Fid → Op) (op : Op) → accept_creation c volume e make ≡ Ok op → IsCreation c make op
+creation_is : (c : ClientState) (volume : ℕ) (e : Ending) (make : Fid → Name → Fid → Op) (op : Op) → accept_creation c volume e make ≡ Ok op → IsCreation c volume make op
 creation_is c volume None make op h = absurd (not_at_root c volume Exists op h)
 creation_is c volume (Some e) make op h =
     let a = found_then (new_place c volume e) (λ p. Ok (make p.0 e.1 p.1)) op h in
@@ -105,7 +105,7 @@ creation_is c volume (Some e) make op h =
     let same = ok_is (b.0, d.0) a.0 d.2 in
     let u = new_under_is c volume (map.get c.nodes b.0) b.0 e.1 d.0 d.1 in
     let n = new_fid_is c volume d.0 u.2 in
-    let counts = few_creations c n.0 in
+    let counts = few_creations c volume n.0 in
     record {
       dir = b.0;
       name = e.1;
@@ -136,49 +136,49 @@ spot_dir m volume e s h =
     subst (λ (p : Fid × Fid). IsDirAt m p.0) same (step_dir (map.get m a.0) a.0 e.1 b.0 b.1)
 
 -- an operation that creates nothing
-appends : (c : ClientState) (op' op : Op) → unless_full c op' ≡ Ok op → MayApply c.nodes op' → created_by op' ≡ 0 → MayAppend c op
-appends c op' op h may none =
-    let u = unless_full_is c op' op h in
+appends : (c : ClientState) (volume : ℕ) (op' op : Op) → unless_full c volume op' ≡ Ok op → MayApply c.nodes op' → created_by op' ≡ 0 → MayAppend c volume op
+appends c volume op' op h may none =
+    let u = unless_full_is c volume op' op h in
     record {
       allowed = subst (MayApply c.nodes) u.0 may;
       operations = u.1;
       creations = inr (ap created_by (sym u.0) ∙ none);
     }
 
-store_is : (c : ClientState) (kind : NodeKind) (fid : Fid) (pre : Sid) (content : List ℕ) (op : Op) → store_in c kind fid pre content ≡ Ok op → MayAppend c op
-store_is c (File old) fid pre content op h = appends c (StoreOp fid pre content) op h tt refl
-store_is c (Link target) fid pre content op h = cc
-store_is c (Dir entries) fid pre content op h = cc
+store_is : (c : ClientState) (volume : ℕ) (kind : NodeKind) (fid : Fid) (pre : Sid) (content : List ℕ) (op : Op) → store_in c volume kind fid pre content ≡ Ok op → MayAppend c volume op
+store_is c volume (File old) fid pre content op h = appends c volume (StoreOp fid pre content) op h tt refl
+store_is c volume (Link target) fid pre content op h = cc
+store_is c volume (Dir entries) fid pre content op h = cc
 
-store_at_is : (c : ClientState) (o : Option Node) (fid : Fid) (content : List ℕ) (op : Op) → store_at c o fid content ≡ Ok op → MayAppend c op
-store_at_is c None fid content op h = cc
-store_at_is c (Some node) fid content op h = store_is c node.kind fid node.sid content op h
+store_at_is : (c : ClientState) (volume : ℕ) (o : Option Node) (fid : Fid) (content : List ℕ) (op : Op) → store_at c volume o fid content ≡ Ok op → MayAppend c volume op
+store_at_is c volume None fid content op h = cc
+store_at_is c volume (Some node) fid content op h = store_is c volume node.kind fid node.sid content op h
 
-setattr_is : (c : ClientState) (o : Option Node) (fid : Fid) (attrs : Attrs) (op : Op) → setattr_at c o fid attrs ≡ Ok op → MayAppend c op
-setattr_is c None fid attrs op h = cc
-setattr_is c (Some node) fid attrs op h = appends c (SetattrOp fid node.sid attrs) op h tt refl
+setattr_is : (c : ClientState) (volume : ℕ) (o : Option Node) (fid : Fid) (attrs : Attrs) (op : Op) → setattr_at c volume o fid attrs ≡ Ok op → MayAppend c volume op
+setattr_is c volume None fid attrs op h = cc
+setattr_is c volume (Some node) fid attrs op h = appends c volume (SetattrOp fid node.sid attrs) op h tt refl
 
-remove_is : (c : ClientState) (kind : NodeKind) (dir : Fid) (name : Name) (fid : Fid) (pre : Sid) (op : Op) → remove_in c kind dir name fid pre ≡ Ok op → IsDirAt c.nodes dir → MayAppend c op
-remove_is c (File content) dir name fid pre op h there = appends c (RemoveOp dir name fid pre) op h there refl
-remove_is c (Link target) dir name fid pre op h there = appends c (RemoveOp dir name fid pre) op h there refl
-remove_is c (Dir entries) dir name fid pre op h there = cc
+remove_is : (c : ClientState) (volume : ℕ) (kind : NodeKind) (dir : Fid) (name : Name) (fid : Fid) (pre : Sid) (op : Op) → remove_in c volume kind dir name fid pre ≡ Ok op → IsDirAt c.nodes dir → MayAppend c volume op
+remove_is c volume (File content) dir name fid pre op h there = appends c volume (RemoveOp dir name fid pre) op h there refl
+remove_is c volume (Link target) dir name fid pre op h there = appends c volume (RemoveOp dir name fid pre) op h there refl
+remove_is c volume (Dir entries) dir name fid pre op h there = cc
 
-remove_at_is : (c : ClientState) (o : Option Node) (dir : Fid) (name : Name) (fid : Fid) (op : Op) → remove_at c o dir name fid ≡ Ok op → IsDirAt c.nodes dir → MayAppend c op
-remove_at_is c None dir name fid op h there = cc
-remove_at_is c (Some node) dir name fid op h there = remove_is c node.kind dir name fid node.sid op h there
+remove_at_is : (c : ClientState) (volume : ℕ) (o : Option Node) (dir : Fid) (name : Name) (fid : Fid) (op : Op) → remove_at c volume o dir name fid ≡ Ok op → IsDirAt c.nodes dir → MayAppend c volume op
+remove_at_is c volume None dir name fid op h there = cc
+remove_at_is c volume (Some node) dir name fid op h there = remove_is c volume node.kind dir name fid node.sid op h there
 
-rmdir_of_is : (c : ClientState) (empty : Bool) (dir : Fid) (name : Name) (fid : Fid) (pre : Sid) (op : Op) → rmdir_of c empty dir name fid pre ≡ Ok op → IsDirAt c.nodes dir → MayAppend c op
-rmdir_of_is c true dir name fid pre op h there = appends c (RmdirOp dir name fid pre) op h there refl
-rmdir_of_is c false dir name fid pre op h there = cc
+rmdir_of_is : (c : ClientState) (volume : ℕ) (empty : Bool) (dir : Fid) (name : Name) (fid : Fid) (pre : Sid) (op : Op) → rmdir_of c volume empty dir name fid pre ≡ Ok op → IsDirAt c.nodes dir → MayAppend c volume op
+rmdir_of_is c volume true dir name fid pre op h there = appends c volume (RmdirOp dir name fid pre) op h there refl
+rmdir_of_is c volume false dir name fid pre op h there = cc
 
-rmdir_is : (c : ClientState) (kind : NodeKind) (dir : Fid) (name : Name) (fid : Fid) (pre : Sid) (op : Op) → rmdir_in c kind dir name fid pre ≡ Ok op → IsDirAt c.nodes dir → MayAppend c op
-rmdir_is c (File content) dir name fid pre op h there = cc
-rmdir_is c (Link target) dir name fid pre op h there = cc
-rmdir_is c (Dir entries) dir name fid pre op h there = rmdir_of_is c (map.len entries == 0) dir name fid pre op h there
+rmdir_is : (c : ClientState) (volume : ℕ) (kind : NodeKind) (dir : Fid) (name : Name) (fid : Fid) (pre : Sid) (op : Op) → rmdir_in c volume kind dir name fid pre ≡ Ok op → IsDirAt c.nodes dir → MayAppend c volume op
+rmdir_is c volume (File content) dir name fid pre op h there = cc
+rmdir_is c volume (Link target) dir name fid pre op h there = cc
+rmdir_is c volume (Dir entries) dir name fid pre op h there = rmdir_of_is c volume (map.len entries == 0) dir name fid pre op h there
 
-rmdir_at_is : (c : ClientState) (o : Option Node) (dir : Fid) (name : Name) (fid : Fid) (op : Op) → rmdir_at c o dir name fid ≡ Ok op → IsDirAt c.nodes dir → MayAppend c op
-rmdir_at_is c None dir name fid op h there = cc
-rmdir_at_is c (Some node) dir name fid op h there = rmdir_is c node.kind dir name fid node.sid op h there
+rmdir_at_is : (c : ClientState) (volume : ℕ) (o : Option Node) (dir : Fid) (name : Name) (fid : Fid) (op : Op) → rmdir_at c volume o dir name fid ≡ Ok op → IsDirAt c.nodes dir → MayAppend c volume op
+rmdir_at_is c volume None dir name fid op h there = cc
+rmdir_at_is c volume (Some node) dir name fid op h there = rmdir_is c volume node.kind dir name fid node.sid op h there
 
 -- ---- renames
 
@@ -209,7 +209,7 @@ version_is : (o : Option Node) (old : Fid) (over : Option Over) → with_version
 version_is None old over h = cc
 version_is (Some node) old over h = ap (option_map (λ (v : Over). v.fid)) (ok_is (Some (record { fid = old; pre = node.sid })) over h)
 
-unless_is : (same : Bool) (r : Result (Option Over) Refusal) (over : Option Over) → cond same (Err Exists) r ≡ Ok over → r ≡ Ok over
+unless_is : (same : Bool) (r : Result (Option Over) Refused) (over : Option Over) → cond same (Err Exists) r ≡ Ok over → r ≡ Ok over
 unless_is true r over h = cc
 unless_is false r over h = h
 
@@ -223,13 +223,13 @@ unless_met true r op h = cc
 unless_met false r op h = h
 
 move_is : (c : ClientState) (volume : ℕ) (from_dir : Fid) (from : Name) (fid : Fid) (e : List Name × Name) (p : Fid × Option Fid) (op : Op) → move_to c volume from_dir from fid e p ≡ Ok op
-    → IsDirAt c.nodes from_dir → IsDirAt c.nodes p.0 → child c.nodes p.0 e.1 ≡ p.1 → MayAppend c op
+    → IsDirAt c.nodes from_dir → IsDirAt c.nodes p.0 → child c.nodes p.0 e.1 ≡ p.1 → MayAppend c volume op
 move_is c volume from_dir from fid e p op h from_there to_there bound =
-    let a = unless_met (is_met c.nodes (root_of volume) e.0 fid) (then_find (replaced_by c.nodes fid p.1) (λ over. unless_full c (RenameOp from_dir from p.0 e.1 fid over))) op h in
-    let b = found_then (replaced_by c.nodes fid p.1) (λ over. unless_full c (RenameOp from_dir from p.0 e.1 fid over)) op a in
-    appends c (RenameOp from_dir from p.0 e.1 fid b.0) op b.2 (record { from_there = from_there; to_there = to_there; bound = bound ∙ replaced_is c.nodes fid p.1 b.0 b.1 }) refl
+    let a = unless_met (is_met c.nodes (root_of volume) e.0 fid) (then_find (replaced_by c.nodes fid p.1) (λ over. unless_full c volume (RenameOp from_dir from p.0 e.1 fid over))) op h in
+    let b = found_then (replaced_by c.nodes fid p.1) (λ over. unless_full c volume (RenameOp from_dir from p.0 e.1 fid over)) op a in
+    appends c volume (RenameOp from_dir from p.0 e.1 fid b.0) op b.2 (record { from_there = from_there; to_there = to_there; bound = bound ∙ replaced_is c.nodes fid p.1 b.0 b.1 }) refl
 
-rename_is : (c : ClientState) (volume : ℕ) (from_dir : Fid) (from : Name) (fid : Fid) (to : Ending) (op : Op) → rename_to c volume from_dir from fid to ≡ Ok op → IsDirAt c.nodes from_dir → MayAppend c op
+rename_is : (c : ClientState) (volume : ℕ) (from_dir : Fid) (from : Name) (fid : Fid) (to : Ending) (op : Op) → rename_to c volume from_dir from fid to ≡ Ok op → IsDirAt c.nodes from_dir → MayAppend c volume op
 rename_is c volume from_dir from fid None op h from_there = absurd (not_at_root c volume Exists op h)
 rename_is c volume from_dir from fid (Some e) op h from_there =
     let a = found_then (place c.nodes volume e) (λ p. move_to c volume from_dir from fid e p) op h in
@@ -242,26 +242,26 @@ root_stays c volume (Some e) op h = let a = found_then (place c.nodes volume e) 
 
 -- ---- every kind
 
-append_created : (c : ClientState) (make : Fid → Name → Fid → Op) (op : Op) → ((dir : Fid) (name : Name) (fid : Fid) → MayCreate c.nodes dir name fid → MayApply c.nodes (make dir name fid)) → IsCreation c make op → MayAppend c op
-append_created c make op may is = record {
+append_created : (c : ClientState) (volume : ℕ) (make : Fid → Name → Fid → Op) (op : Op) → ((dir : Fid) (name : Name) (fid : Fid) → MayCreate c.nodes dir name fid → MayApply c.nodes (make dir name fid)) → IsCreation c volume make op → MayAppend c volume op
+append_created c volume make op may is = record {
   allowed = subst (MayApply c.nodes) is.is (may is.dir is.name is.fid is.may);
   operations = is.operations;
   creations = inl is.creations;
 }
 
-may_remove : (c : ClientState) (volume : ℕ) (e : Ending) (op : Op) → accept_remove c volume e ≡ Ok op → MayAppend c op
-may_remove c volume None op h = absurd (not_at_root c volume IsDirRefusal op h)
+may_remove : (c : ClientState) (volume : ℕ) (e : Ending) (op : Op) → accept_remove c volume e ≡ Ok op → MayAppend c volume op
+may_remove c volume None op h = absurd (not_at_root c volume IsADirectory op h)
 may_remove c volume (Some e) op h =
-    let a = found_then (spot c.nodes volume e) (λ s. remove_at c (map.get c.nodes s.1) s.0 e.1 s.1) op h in
-    remove_at_is c (map.get c.nodes a.0.1) a.0.0 e.1 a.0.1 op a.2 (spot_dir c.nodes volume e a.0 a.1)
+    let a = found_then (spot c.nodes volume e) (λ s. remove_at c volume (map.get c.nodes s.1) s.0 e.1 s.1) op h in
+    remove_at_is c volume (map.get c.nodes a.0.1) a.0.0 e.1 a.0.1 op a.2 (spot_dir c.nodes volume e a.0 a.1)
 
-may_rmdir : (c : ClientState) (volume : ℕ) (e : Ending) (op : Op) → accept_rmdir c volume e ≡ Ok op → MayAppend c op
+may_rmdir : (c : ClientState) (volume : ℕ) (e : Ending) (op : Op) → accept_rmdir c volume e ≡ Ok op → MayAppend c volume op
 may_rmdir c volume None op h = absurd (not_at_root c volume Loop op h)
 may_rmdir c volume (Some e) op h =
-    let a = found_then (spot c.nodes volume e) (λ s. rmdir_at c (map.get c.nodes s.1) s.0 e.1 s.1) op h in
-    rmdir_at_is c (map.get c.nodes a.0.1) a.0.0 e.1 a.0.1 op a.2 (spot_dir c.nodes volume e a.0 a.1)
+    let a = found_then (spot c.nodes volume e) (λ s. rmdir_at c volume (map.get c.nodes s.1) s.0 e.1 s.1) op h in
+    rmdir_at_is c volume (map.get c.nodes a.0.1) a.0.0 e.1 a.0.1 op a.2 (spot_dir c.nodes volume e a.0 a.1)
 
-may_rename : (c : ClientState) (volume : ℕ) (from to : Ending) (op : Op) → accept_rename c volume from to ≡ Ok op → MayAppend c op
+may_rename : (c : ClientState) (volume : ℕ) (from to : Ending) (op : Op) → accept_rename c volume from to ≡ Ok op → MayAppend c volume op
 may_rename c volume None to op h =
     let a = found_then (held (map.get c.nodes (root_of volume)) (root_of volume)) (λ _. rename_root c volume to) op h in
     absurd (root_stays c volume to op a.2)
@@ -270,17 +270,17 @@ may_rename c volume (Some e) to op h =
     rename_is c volume a.0.0 e.1 a.0.1 to op a.2 (spot_dir c.nodes volume e a.0 a.1)
 
 -- what is accepted may be put behind the log
-pub may_append : (c : ClientState) (volume : ℕ) (ask : Ask) (op : Op) → accept c volume ask ≡ Ok op → MayAppend c op
+pub may_append : (c : ClientState) (volume : ℕ) (ask : Ask) (op : Op) → accept c volume ask ≡ Ok op → MayAppend c volume op
 unfolding accept
-may_append c volume (Create path mode owner) op h = append_created c _ op (λ dir name fid may. may) (creation_is c volume (ending path) (λ dir name fid. CreateOp dir name fid mode owner) op h)
-may_append c volume (Mkdir path mode owner) op h = append_created c _ op (λ dir name fid may. may) (creation_is c volume (ending path) (λ dir name fid. MkdirOp dir name fid mode owner) op h)
-may_append c volume (Symlink path target) op h = append_created c _ op (λ dir name fid may. may) (creation_is c volume (ending path) (λ dir name fid. SymlinkOp dir name fid target 511 0) op h)
+may_append c volume (Create path mode owner) op h = append_created c volume _ op (λ dir name fid may. may) (creation_is c volume (ending path) (λ dir name fid. CreateOp dir name fid mode owner) op h)
+may_append c volume (Mkdir path mode owner) op h = append_created c volume _ op (λ dir name fid may. may) (creation_is c volume (ending path) (λ dir name fid. MkdirOp dir name fid mode owner) op h)
+may_append c volume (Symlink path target) op h = append_created c volume _ op (λ dir name fid may. may) (creation_is c volume (ending path) (λ dir name fid. SymlinkOp dir name fid target 511 0) op h)
 may_append c volume (Store path content) op h =
-    let a = found_then (resolve c.nodes (root_of volume) path) (λ fid. store_at c (map.get c.nodes fid) fid content) op h in
-    store_at_is c (map.get c.nodes a.0) a.0 content op a.2
+    let a = found_then (resolve c.nodes (root_of volume) path) (λ fid. store_at c volume (map.get c.nodes fid) fid content) op h in
+    store_at_is c volume (map.get c.nodes a.0) a.0 content op a.2
 may_append c volume (Setattr path attrs) op h =
-    let a = found_then (resolve c.nodes (root_of volume) path) (λ fid. setattr_at c (map.get c.nodes fid) fid attrs) op h in
-    setattr_is c (map.get c.nodes a.0) a.0 attrs op a.2
+    let a = found_then (resolve c.nodes (root_of volume) path) (λ fid. setattr_at c volume (map.get c.nodes fid) fid attrs) op h in
+    setattr_is c volume (map.get c.nodes a.0) a.0 attrs op a.2
 may_append c volume (Remove path) op h = may_remove c volume (ending path) op h
 may_append c volume (Rmdir path) op h = may_rmdir c volume (ending path) op h
 may_append c volume (Rename from to) op h = may_rename c volume (ending from) (ending to) op h

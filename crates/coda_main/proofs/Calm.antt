@@ -1,6 +1,7 @@
 -- A client that is asked for an operation, or to read or list an object, freezes no chunk.
-use Rattle.std.proofs.Common.{◌≡◌, ℕ, List, [], ◌∷◌, ◌++◌, Option, Some, None, Result, Ok, Err, refl, ◌∙◌}
+use Rattle.std.proofs.Common.{◌≡◌, ℕ, ◌==◌, true, false, cond, sym, ap, List, [], ◌∷◌, ◌++◌, Option, Some, None, Result, Ok, Err, refl, ◌∙◌}
 use Rattle.std.specs.FinMap as map
+use Rattle.std.proofs.lemmas.Bool.{eqb-true}
 use Rattle.coda_fid.specs.Fid.{root_of}
 use Rattle.coda_fid.specs.declared.fid.Fid.{Fid}
 use Rattle.coda_tree.specs.declared.node.Node.{Node}
@@ -8,9 +9,9 @@ use Rattle.coda_tree.specs.Bindings.{Name}
 use Rattle.coda_tree.specs.Volume.{Nodes}
 use Rattle.coda_main.specs.declared.line.Ask.{Ask}
 use Rattle.coda_main.specs.declared.line.Ask.TheVariants.{Create, Mkdir, Symlink, Store, Setattr, Remove, Rmdir, Rename}
-use Rattle.coda_main.specs.declared.reply.Refusal.{Refusal}
+use Rattle.coda_main.specs.declared.refused.Refused.{Refused}
 use Rattle.coda_main.specs.Ask.{ending, front_of, too_big}
-use Rattle.coda_main.specs.State.{ClientState, ClientEntry, Fetched, Operated, Froze, Settled, client_after, client_after_all}
+use Rattle.coda_main.specs.State.{put, LogState, log_with, ClientState, ClientEntry, Fetched, Operated, Froze, Settled, client_after, client_after_all}
 use Rattle.coda_main.specs.Fetching.{offered, fetch_of, look, looked, step_from, resolve, look_on, look_along}
 use Rattle.coda_main.specs.Accepting.{Accepted, accept}
 use Rattle.coda_main.specs.Asking.{rename_look_ups, look_ups, answer_to, operate_unless, operate}
@@ -18,24 +19,31 @@ use Rattle.coda_main.specs.Asking.{rename_look_ups, look_ups, answer_to, operate
 -- an entry that neither freezes nor settles a chunk
 abbrev pub Calm : ClientEntry → Type 0
 Calm (Fetched fid node) = Unit {0}
-Calm (Operated rec) = Unit {0}
-Calm (Froze number server last) = ⊥
-Calm (Settled number verdict) = ⊥
+Calm (Operated volume rec) = Unit {0}
+Calm (Froze volume number server last) = ⊥
+Calm (Settled volume number verdict) = ⊥
 
 abbrev pub AreCalm : List ClientEntry → Type 0
 AreCalm [] = Unit {0}
 AreCalm (entry ∷ entries) = Calm entry × AreCalm entries
 
-chunks_kept : (c : ClientState) (entry : ClientEntry) → Calm entry → (client_after c entry).chunks ≡ c.chunks
-chunks_kept c (Fetched fid node) calm = refl
-chunks_kept c (Operated rec) calm = refl
-chunks_kept c (Froze number server last) calm = absurd calm
-chunks_kept c (Settled number verdict) calm = absurd calm
+put_chunks : (logs : ℕ → LogState) (volume : ℕ) (l : LogState) → l.chunks ≡ (logs volume).chunks → (v : ℕ) → (put logs volume l v).chunks ≡ (logs v).chunks
+put_chunks logs volume l same v =
+    elim (v == volume) as (λ b. (v == volume) ≡ b → (cond b l (logs v)).chunks ≡ (logs v).chunks) [
+      | true ↦ λ e. same ∙ ap (λ (k : ℕ). (logs k).chunks) (sym (eqb-true v volume e))
+      | false ↦ λ e. refl
+    ] refl
 
--- and so the count of chunks stays
-pub chunks_kept_all : (c : ClientState) (entries : List ClientEntry) → AreCalm entries → (client_after_all c entries).chunks ≡ c.chunks
-chunks_kept_all c [] calm = refl
-chunks_kept_all c (entry ∷ entries) calm = chunks_kept_all (client_after c entry) entries calm.1 ∙ chunks_kept c entry calm.0
+chunks_kept : (c : ClientState) (entry : ClientEntry) → Calm entry → (v : ℕ) → ((client_after c entry).logs v).chunks ≡ (c.logs v).chunks
+chunks_kept c (Fetched fid node) calm v = refl
+chunks_kept c (Operated volume rec) calm v = put_chunks c.logs volume (log_with (c.logs volume) rec) refl v
+chunks_kept c (Froze volume number server last) calm v = absurd calm
+chunks_kept c (Settled volume number verdict) calm v = absurd calm
+
+-- and so the counts of chunks stay
+pub chunks_kept_all : (c : ClientState) (entries : List ClientEntry) → AreCalm entries → (v : ℕ) → ((client_after_all c entries).logs v).chunks ≡ (c.logs v).chunks
+chunks_kept_all c [] calm v = refl
+chunks_kept_all c (entry ∷ entries) calm v = chunks_kept_all (client_after c entry) entries calm.1 v ∙ chunks_kept c entry calm.0 v
 
 calm_both : (first last : List ClientEntry) → AreCalm first → AreCalm last → AreCalm (first ++ last)
 calm_both [] last a b = b
@@ -49,7 +57,7 @@ calm_fetch None None fid = tt
 calm_look : (offers : Option Nodes) (c : ClientState) (fid : Fid) → AreCalm (look offers c fid)
 calm_look offers c fid = calm_fetch (map.get c.nodes fid) (offered offers fid) fid
 
-calm_on : (r : Result Fid Refusal) (next : Fid → List ClientEntry) → ((fid : Fid) → AreCalm (next fid)) → AreCalm (look_on r next)
+calm_on : (r : Result Fid Refused) (next : Fid → List ClientEntry) → ((fid : Fid) → AreCalm (next fid)) → AreCalm (look_on r next)
 calm_on (Err refusal) next h = tt
 calm_on (Ok fid) next h = h fid
 
@@ -77,15 +85,15 @@ calm_look_ups offers c volume (Remove path) = calm_along offers c (root_of volum
 calm_look_ups offers c volume (Rmdir path) = calm_along offers c (root_of volume) path
 calm_look_ups offers c volume (Rename from to) = calm_rename offers c volume from to
 
-calm_answer : (entries : List ClientEntry) (c : ClientState) (time : ℕ) (accepted : Accepted) → AreCalm entries → AreCalm (answer_to entries c time accepted).entries
-calm_answer entries c time (Err refusal) calm = calm
-calm_answer entries c time (Ok op) calm = calm_both entries _ calm (tt, tt)
+calm_answer : (entries : List ClientEntry) (c : ClientState) (time volume : ℕ) (accepted : Accepted) → AreCalm entries → AreCalm (answer_to entries c time volume accepted).entries
+calm_answer entries c time volume (Err refusal) calm = calm
+calm_answer entries c time volume (Ok op) calm = calm_both entries _ calm (tt, tt)
 
 calm_unless : (length : Option ℕ) (offers : Option Nodes) (c : ClientState) (time volume : ℕ) (ask : Ask) → AreCalm (operate_unless length offers c time volume ask).entries
 calm_unless (Some length) offers c time volume ask = tt
 calm_unless None offers c time volume ask =
     let entries = look_ups offers c volume ask in
-    calm_answer entries (client_after_all c entries) time (accept (client_after_all c entries) volume ask) (calm_look_ups offers c volume ask)
+    calm_answer entries (client_after_all c entries) time volume (accept (client_after_all c entries) volume ask) (calm_look_ups offers c volume ask)
 
 pub calm_operate : (offers : Option Nodes) (c : ClientState) (time volume : ℕ) (ask : Ask) → AreCalm (operate offers c time volume ask).entries
 unfolding operate

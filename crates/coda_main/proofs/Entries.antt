@@ -6,7 +6,7 @@ use Rattle.coda_fid.specs.declared.op.Op.{Op}
 use Rattle.coda_tree.specs.Bindings.{Name}
 use Rattle.coda_tree.specs.Volume.{Nodes}
 use Rattle.coda_main.specs.declared.line.Ask.{Ask}
-use Rattle.coda_main.specs.declared.reply.Reply.{Reply}
+use Rattle.coda_script.specs.declared.reply.Reply.{Reply}
 use Rattle.coda_main.specs.Ask.{ending, too_big}
 use Rattle.coda_main.specs.State.{ClientState, ClientEntry, Operated, client_after, client_after_all}
 use Rattle.coda_main.specs.Fetching.{resolve, look_on, look_along}
@@ -48,15 +48,15 @@ renamed offers old mid new volume from to first second third root fid at_root a 
 
 -- an operation that was accepted after look-ups
 pub operated : (offers : Option Nodes) (old mid new : ClientState) (time volume : ℕ) (ask : Ask) (op : Op) (reply : Reply) → too_big ask ≡ None → mid ≡ client_after_all old (look_ups offers old volume ask) → accept mid volume ask ≡ Ok op
-    → Gives (answer_to [] mid time (Ok op)) mid reply new → Gives (operate offers old time volume ask) old reply new
+    → Gives (answer_to [] mid time volume (Ok op)) mid reply new → Gives (operate offers old time volume ask) old reply new
 unfolding operate
 operated offers old mid new time volume ask op reply short mid_is accepted given =
     let entries = look_ups offers old volume ask in
     let back = sym mid_is in
-    let whole : operate_unless (too_big ask) offers old time volume ask ≡ answer_to entries mid time (Ok op) =
-    ap (λ o. operate_unless o offers old time volume ask) short ∙ (λ i. answer_to entries (back i) time (accept (back i) volume ask)) ∙ ap (answer_to entries mid time) accepted in
+    let whole : operate_unless (too_big ask) offers old time volume ask ≡ answer_to entries mid time volume (Ok op) =
+    ap (λ o. operate_unless o offers old time volume ask) short ∙ (λ i. answer_to entries (back i) time volume (accept (back i) volume ask)) ∙ ap (answer_to entries mid time volume) accepted in
     let Of : Answer → Type 0 = λ a. Gives a old reply new in
     subst Of (sym whole) (record {
       answered = given.answered;
-      left = given.left ∙ ap (λ c. client_after_all c (Operated (next_record mid time op) ∷ [])) mid_is ∙ sym (client_after_both old entries (Operated (next_record mid time op) ∷ []));
+      left = given.left ∙ ap (λ c. client_after_all c (Operated volume (next_record mid volume time op) ∷ [])) mid_is ∙ sym (client_after_both old entries (Operated volume (next_record mid volume time op) ∷ []));
     })

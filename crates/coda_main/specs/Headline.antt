@@ -22,10 +22,11 @@ AreDecidedOnce history =
     (client number : ℕ) (front middle back : List ReplicaEntry) (first second : ReplicaEntry) → history ≡ front ++ first ∷ (middle ++ second ∷ back)
     → IsDecisionOf first client number → IsDecisionOf second client number → ⊥
 
--- Whatever lines ran, from an empty cell, each chunk of a client is decided at most once.
+-- Whatever lines ran, from an empty cell, each chunk of a client on a volume is decided at most once.
 abbrev pub ChunksAreDecidedOnce : Type 0
 ChunksAreDecidedOnce =
-    (ls : List (List ℕ)) (report : List ℕ) (outside : List (List ℕ)) (cell : PlainCell) (replica : PlainReplica) → Runs LineGives empty_cell ls report outside cell → cell.replica ≡ Some replica → AreDecidedOnce replica.history
+    (ls : List (List ℕ)) (report : List ℕ) (outside : List (List ℕ)) (cell : PlainCell) (volume : ℕ) (replica : PlainReplica) → Runs LineGives empty_cell ls report outside cell → cell.replicas volume ≡ Some replica
+    → AreDecidedOnce replica.history
 
 -- what a replica's volume is after it decided a chunk
 abbrev pub left_by : ReplicaState → ℕ → ℕ → List Record → Nodes

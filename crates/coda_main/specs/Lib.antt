@@ -1,9 +1,8 @@
 pub mod Words
-pub mod Numbers
-pub mod Forms
 pub mod Ask
 pub mod State
 pub mod Plain
+pub mod Refusing
 pub mod Fetching
 pub mod Accepting
 pub mod Asking

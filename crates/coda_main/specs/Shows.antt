@@ -1,6 +1,10 @@
 -- The cell of the code as a machine: what it does is what any plain cell may do that it shows.
 use Rattle.std.specs.Prelude.{◌≡◌, ℕ, List}
 use Rattle.coda_engine.specs.declared.status.Kind.{Kind}
+use Rattle.coda_engine.specs.declared.machine.LineStop.{LineStop}
+use Rattle.coda_engine.specs.declared.machine.LineStop.TheVariants.{Refused, Memory as OutOfMemory}
+use Rattle.coda_script.specs.declared.fault.LineFault.{LineFault}
+use Rattle.coda_script.specs.declared.fault.LineFault.TheVariants.{BadLine, Memory}
 use Rattle.coda_main.specs.declared.cell.Cell.{Cell}
 use Rattle.coda_main.specs.Plain.{PlainCell, state_of}
 use Rattle.coda_main.specs.PlainRun.{LineGives, LineRefused}
@@ -18,3 +22,8 @@ CellGives old bytes text outside new =
 -- Each plain cell that the cell shows refuses this line.
 abbrev pub CellRefuses : Cell → List ℕ → ℕ → Kind → Type 0
 CellRefuses cell bytes column kind = (plain : PlainCell) → Shows plain cell → LineRefused plain bytes column kind
+
+-- a line that wasn't read stops as its fault says
+abbrev pub StopsAs : LineFault → LineStop → Type 0
+StopsAs (BadLine column kind) stop = stop ≡ Refused (record { column = column; kind = kind })
+StopsAs Memory stop = stop ≡ OutOfMemory

@@ -1,7 +1,7 @@
 -- What a line does in a cell: a relation of the state before, the line, its reply, and what happens.
-use Rattle.std.specs.Prelude.{◌≡◌, ℕ, ◌+◌, Bool, true, false, ◌||◌, ◌==◌, nat_le, is_some, if◌then◌else◌, List, [], ◌∷◌, length, map, Option, Some, None}
+use Rattle.std.specs.Prelude.{◌≡◌, ℕ, ◌+◌, Bool, true, false, ◌||◌, ◌==◌, nat_le, is_some, if◌then◌else◌, List, [], ◌∷◌, length, map, replicate, Option, Some, None}
 use Rattle.std.specs.Option.{option_map, option_map_or, option_and_then, unwrap_or}
-use Rattle.std.specs.List.{list_any, repeat}
+use Rattle.std.specs.List.{list_any}
 use Rattle.coda_fid.specs.declared.op.Attrs.{Attrs}
 use Rattle.coda_fid.specs.declared.op.Record.{Record}
 use Rattle.coda_tree.specs.Bindings.{Name}
@@ -69,7 +69,7 @@ is_built (line.Task t) = is_built_task t
 is_built (line.ShowVolume server volume) = true
 is_built _ = false
 
--- ---- which actors a line names
+-- ---- actors that a line names
 
 -- an actor that a line names, and whether it is there
 pub record Named : Type 0 where
@@ -92,55 +92,41 @@ server_named s server = record { number = server; there = list_any (λ other. ot
 abbrev pub holder_named : CellState → ℕ → ℕ → Named
 holder_named s server volume = record { number = server; there = option_map_or (λ (r : ReplicaState). r.server == server) (s.replicas volume) false }
 
--- the actors that a client's task names, from left to right
+-- a client and a volume that a line names in this order
 abbrev pub on_volume : CellState → ℕ → ℕ → List Named
 on_volume s client volume = client_named s client ∷ volume_named s volume ∷ []
 
-abbrev pub named_by_task : CellState → Task → List Named
-named_by_task s (task.Create client volume path mode owner) = on_volume s client volume
-named_by_task s (task.Mkdir client volume path mode owner) = on_volume s client volume
-named_by_task s (task.Symlink client volume path target) = on_volume s client volume
-named_by_task s (task.Store client volume path content) = on_volume s client volume
-named_by_task s (task.Setattr client volume path attrs) = on_volume s client volume
-named_by_task s (task.Remove client volume path) = on_volume s client volume
-named_by_task s (task.Rmdir client volume path) = on_volume s client volume
-named_by_task s (task.Rename client volume from to) = on_volume s client volume
-named_by_task s (task.Read client volume path) = on_volume s client volume
-named_by_task s (task.List client volume path) = on_volume s client volume
-named_by_task s (task.Drain client volume server window) = client_named s client ∷ volume_named s volume ∷ holder_named s server volume ∷ []
-named_by_task s _ = []
-
--- the actors that a line names, from left to right
-abbrev pub named : CellState → Line → List Named
-named s (line.Link client server strength) = client_named s client ∷ server_named s server ∷ []
-named s (line.Task t) = named_by_task s t
-named s (line.ShowVolume server volume) = holder_named s server volume ∷ []
-named s _ = []
-
--- the first that isn't there
+-- the refusal for the first actor that isn't there, from left to right
 abbrev pub first_missing : List Named → Option Refused
 first_missing [] = None
 first_missing (n ∷ ns) = if n.there then first_missing ns else Some (NoSuchActor n.number)
 
--- why a volume can't be made: it is there, or 64 volumes are
+-- why an actor can't be made: it is there, or as many are as there may be
 abbrev pub no_room : Bool → Bool → Option Refused
 no_room true full = Some AlreadyThere
 no_room false true = Some CellFull
 no_room false false = None
 
--- why a line that makes an actor is refused; there are never more clients than numbers for them
-abbrev pub not_made : CellState → Line → Option Refused
-not_made s (line.Volume volume servers area) = no_room (is_some (s.replicas volume)) (nat_le 64 (length s.servers))
-not_made s (line.Client client blocks area) = no_room (is_some (s.clients client)) false
-not_made s _ = None
+-- at most 64 volumes are made
+abbrev pub no_volume : CellState → ℕ → Option Refused
+no_volume s volume = no_room (is_some (s.replicas volume)) (nat_le 64 (length s.servers))
 
--- the first refusal that a line has before its own
-abbrev pub or_refused : Option Refused → Option Refused → Option Refused
-or_refused None other = other
-or_refused (Some why) other = Some why
+-- there are never more clients than numbers for them
+abbrev pub no_client : CellState → ℕ → Option Refused
+no_client s client = no_room (is_some (s.clients client)) false
 
-abbrev pub common_refusal : CellState → Line → Option Refused
-common_refusal s l = or_refused (first_missing (named s l)) (not_made s l)
+-- what a line may answer, and what happens then
+abbrev pub Doing : Type 1
+Doing = Reply → List Event → Type 0
+
+-- a refusal, by which nothing happens, or else the line's own
+abbrev pub Unless : Option Refused → Doing → Doing
+Unless (Some why) own reply events = (reply ≡ refusal why) × (events ≡ [])
+Unless None own reply events = own reply events
+
+-- where the actors that the line names are there
+abbrev pub Naming : List Named → Doing → Doing
+Naming names own = Unless (first_missing names) own
 
 -- ---- what a client can fetch
 
@@ -176,14 +162,13 @@ abbrev pub stays : Refused → Outcome
 stays why = record { reply = refusal why; events = [] }
 
 -- a log without records is nothing to send, and a client freezes at most 2^32 - 1 chunks of a volume
-abbrev pub drained : List Record → ℕ → ℕ → LogState → ReplicaState → Outcome
-drained [] number volume l r = stays Nothing
-drained (rec ∷ recs) number volume l r = if nat_le 4294967295 l.chunks then stays JournalFull else sent_from number volume l r
+abbrev pub drained : ℕ → ℕ → LogState → ReplicaState → Outcome
+drained number volume l r = if length l.log == 0 then stays Nothing else (if nat_le 4294967295 l.chunks then stays JournalFull else sent_from number volume l r)
 
 -- the client of this number sends its log of a volume to the replica, where the link is up
 abbrev pub drain : Strength → ℕ → ℕ → LogState → ReplicaState → Outcome
-drain Strong number volume l r = drained l.log number volume l r
-drain Weak number volume l r = drained l.log number volume l r
+drain Strong number volume l r = drained number volume l r
+drain Weak number volume l r = drained number volume l r
 drain Down number volume l r = stays LinkDown
 
 -- ---- what a line does
@@ -204,17 +189,29 @@ pub record ByBoth (s : CellState) (number volume : ℕ) (reply : Reply) (events 
   pub answered : reply ≡ (drain (s.links number replica.server) number volume (client.logs volume) replica).reply
   pub happened : events ≡ (drain (s.links number replica.server) number volume (client.logs volume) replica).events
 
+-- a reply, and one thing that happens
+abbrev pub Happens : Reply → Event → Doing
+Happens said event reply events = (reply ≡ said) × (events ≡ event ∷ [])
+
+-- a reply, and nothing happens
+abbrev pub Says : Reply → Doing
+Says said reply events = (reply ≡ said) × (events ≡ [])
+
+-- nothing that is built
+abbrev pub Nowhere : Doing
+Nowhere reply events = ⊥
+
 -- the bytes of content: a text as it is, or one byte so many times
 abbrev pub bytes_of : Content → List ℕ
 bytes_of (content.Text text) = text
-bytes_of (content.Fill length byte) = repeat length byte
+bytes_of (content.Fill length byte) = replicate length byte
 
--- a client is asked for an operation
-abbrev pub Operates : CellState → ℕ → ℕ → Ask → Reply → List Event → Type 0
-Operates s client volume ask = ByClient s client volume (λ offers c. operate offers c s.clock volume ask)
+-- a client that is there is asked for an operation on a volume that is there
+abbrev pub Operates : CellState → ℕ → ℕ → Ask → Doing
+Operates s client volume ask = Naming (on_volume s client volume) (ByClient s client volume (λ offers c. operate offers c s.clock volume ask))
 
 -- what a task does; a new file has mode 0644 and a new directory mode 0755 where no other is given, and the owner is then 0
-abbrev pub DoesTask : CellState → Task → Reply → List Event → Type 0
+abbrev pub DoesTask : CellState → Task → Doing
 DoesTask s (task.Create client volume path mode owner) = Operates s client volume (Create path (unwrap_or mode 420) (unwrap_or owner 0))
 DoesTask s (task.Mkdir client volume path mode owner) = Operates s client volume (Mkdir path (unwrap_or mode 493) (unwrap_or owner 0))
 DoesTask s (task.Symlink client volume path target) = Operates s client volume (Symlink path target)
@@ -223,35 +220,23 @@ DoesTask s (task.Setattr client volume path attrs) = Operates s client volume (S
 DoesTask s (task.Remove client volume path) = Operates s client volume (Remove path)
 DoesTask s (task.Rmdir client volume path) = Operates s client volume (Rmdir path)
 DoesTask s (task.Rename client volume from to) = Operates s client volume (Rename from to)
-DoesTask s (task.Read client volume path) = ByClient s client volume (λ offers c. read offers c volume path)
-DoesTask s (task.List client volume path) = ByClient s client volume (λ offers c. list offers c volume path)
-DoesTask s (task.Drain client volume server window) = ByBoth s client volume
-DoesTask s _ = λ reply events. ⊥
-
--- a reply, and one thing that happens
-abbrev pub Happens : Reply → Event → Reply → List Event → Type 0
-Happens said event reply events = (reply ≡ said) × (events ≡ event ∷ [])
+DoesTask s (task.Read client volume path) = Naming (on_volume s client volume) (ByClient s client volume (λ offers c. read offers c volume path))
+DoesTask s (task.List client volume path) = Naming (on_volume s client volume) (ByClient s client volume (λ offers c. list offers c volume path))
+DoesTask s (task.Drain client volume server window) = Naming (client_named s client ∷ volume_named s volume ∷ holder_named s server volume ∷ []) (ByBoth s client volume)
+DoesTask s (task.Refresh client volume server) = Nowhere
+DoesTask s (task.Giveup client volume) = Nowhere
 
 -- the server of a volume that is on one alone
 abbrev pub alone : List ℕ → ℕ
 alone [] = 0
 alone (server ∷ servers) = server
 
--- what a line does where it has no refusal before its own
-abbrev pub DoesOwn : CellState → Line → Reply → List Event → Type 0
-DoesOwn s (line.Volume volume servers area) = Happens (Opened (0 ∷ [])) (VolumeMade volume (alone servers))
-DoesOwn s (line.Client client blocks area) = Happens (Opened (0 ∷ [])) (ClientMade client blocks)
-DoesOwn s (line.Link client server strength) = Happens Accepted (LinkSet client server strength)
-DoesOwn s (line.Tick seconds) = Happens Accepted (Ticked seconds)
-DoesOwn s (line.Task t) = DoesTask s t
-DoesOwn s (line.ShowVolume server volume) = λ reply events. (reply ≡ ShowVolume server volume) × (events ≡ [])
-DoesOwn s _ = λ reply events. ⊥
-
--- a refusal that a line has before its own, by which nothing happens
-abbrev pub DoesUnless : Option Refused → CellState → Line → Reply → List Event → Type 0
-DoesUnless (Some why) s l reply events = (reply ≡ refusal why) × (events ≡ [])
-DoesUnless None s l reply events = DoesOwn s l reply events
-
 -- In a state, a line that is built has this reply, and this happens.
-abbrev pub Does : CellState → Line → Reply → List Event → Type 0
-Does s l = DoesUnless (common_refusal s l) s l
+abbrev pub Does : CellState → Line → Doing
+Does s (line.Volume volume servers area) = Unless (no_volume s volume) (Happens (Opened (0 ∷ [])) (VolumeMade volume (alone servers)))
+Does s (line.Client client blocks area) = Unless (no_client s client) (Happens (Opened (0 ∷ [])) (ClientMade client blocks))
+Does s (line.Link client server strength) = Naming (client_named s client ∷ server_named s server ∷ []) (Happens Accepted (LinkSet client server strength))
+Does s (line.Tick seconds) = Happens Accepted (Ticked seconds)
+Does s (line.Task t) = DoesTask s t
+Does s (line.ShowVolume server volume) = Naming (holder_named s server volume ∷ []) (Says (ShowVolume server volume))
+Does s _ = Nowhere

@@ -15,10 +15,16 @@ use Rattle.coda_certify.specs.declared.verdict.Verdict.TheVariants.{Applied, Con
 use Rattle.coda_certify.specs.Texts.{reason_text}
 use Rattle.coda_main.specs.Printing.{printed, text_of_content, mode_text}
 use Rattle.coda_main.specs.State.{CellState, ReplicaState}
-use Rattle.coda_main.specs.declared.reply.Refusal.{Refusal}
-use Rattle.coda_main.specs.declared.reply.Refusal.TheVariants.{NotFound, NotDir, Nothing, JournalFull, Exists, IsDir, NotEmpty, Loop, Miss, TooBig, LinkDown, NotFile}
-use Rattle.coda_main.specs.declared.reply.Reply.{Reply}
-use Rattle.coda_main.specs.declared.reply.Reply.TheVariants.{Opened, Accepted, Done, Content, Target, Listed, Chunk, Shown, Refused}
+use Rattle.coda_script.specs.Refusals.{number_of_refusal, refusal_name}
+use Rattle.coda_script.specs.declared.refusal.Refusal.{Refusal}
+use Rattle.coda_script.specs.declared.reply.Answer.{Answer}
+use Rattle.coda_script.specs.declared.reply.Answer.TheVariants.{Decided, Behind, Old}
+use Rattle.coda_script.specs.declared.reply.Arg.{Arg}
+use Rattle.coda_script.specs.declared.reply.Arg.TheVariants.{Number, Object}
+use Rattle.coda_script.specs.declared.reply.Readable.{Readable}
+use Rattle.coda_script.specs.declared.reply.Readable.TheVariants.{File as FileOf, Link as LinkTo}
+use Rattle.coda_script.specs.declared.reply.Reply.{Reply}
+use Rattle.coda_script.specs.declared.reply.Reply.TheVariants.{Opened, Accepted, Done, Read, Listed, Drained, ShowVolume, Refused}
 
 -- a newline behind a text
 abbrev pub line : List ℕ → List ℕ
@@ -97,20 +103,40 @@ abbrev pub verdict_text : Verdict → List ℕ
 verdict_text Applied = codes "applied"
 verdict_text (Conflict number why) = codes "conflict " ++ decimal number ++ 32 ∷ reason_text why
 
+-- what became of a chunk
+abbrev pub answer_text : Answer → List ℕ
+answer_text (Decided verdict) = verdict_text verdict
+answer_text (Behind last) = codes "behind " ++ decimal last
+answer_text (Old last) = codes "old " ++ decimal last
+
+-- a file's length and the first of its content, or a link's target
+abbrev pub readable_text : Readable → List ℕ
+readable_text (FileOf content) = decimal (length content) ++ 32 ∷ text_of_content content
+readable_text (LinkTo target) = codes "link " ++ text_of_content target
+
+-- what a refusal names
+abbrev pub arg_text : Arg → List ℕ
+arg_text (Number number) = 32 ∷ decimal number
+arg_text (Object fid) = 32 ∷ fid_text fid
+
 -- the number and the name of a refusal, and what it names
-abbrev pub refusal_text : Refusal → List ℕ
-refusal_text NotFound = codes "3 not-found"
-refusal_text NotDir = codes "4 not-dir"
-refusal_text Nothing = codes "6 nothing"
-refusal_text JournalFull = codes "13 journal-full"
-refusal_text Exists = codes "18 exists"
-refusal_text IsDir = codes "19 is-dir"
-refusal_text NotEmpty = codes "20 not-empty"
-refusal_text Loop = codes "21 loop"
-refusal_text (Miss fid) = codes "22 miss " ++ fid_text fid
-refusal_text (TooBig length) = codes "25 too-big " ++ decimal length
-refusal_text LinkDown = codes "31 link-down"
-refusal_text NotFile = codes "44 not-file"
+abbrev pub refused_text : Refusal → List Arg → List ℕ
+refused_text why args = codes "refused " ++ decimal (number_of_refusal why) ++ 32 ∷ refusal_name why ++ flat_map arg_text args
+
+-- numbers, each behind a blank
+abbrev pub numbers_text : List ℕ → List ℕ
+numbers_text numbers = flat_map (λ n. 32 ∷ decimal n) numbers
+
+-- the text of a reply; what is shown of a volume is not told by the reply itself
+abbrev pub reply_text : Reply → List ℕ
+reply_text (Opened entries) = line (codes "opened" ++ numbers_text entries)
+reply_text Accepted = line (codes "ok")
+reply_text (Done number fid) = line (codes "done " ++ decimal number ++ 32 ∷ fid_text fid)
+reply_text (Read fetched what) = line (source_text fetched ++ readable_text what)
+reply_text (Listed fetched entries) = listing_text fetched entries
+reply_text (Drained chunk answer) = line (codes "chunk " ++ decimal chunk ++ 32 ∷ answer_text answer)
+reply_text (Refused why args) = line (refused_text why args)
+reply_text _ = []
 
 -- the volume of a replica
 abbrev pub shown_of : Option ReplicaState → List ℕ
@@ -119,12 +145,5 @@ shown_of (Some r) = volume_text r.server r.tree
 
 -- the text of a reply in the cell that the line left
 abbrev pub text_of : CellState → Reply → List ℕ
-text_of s Opened = line (codes "opened 0")
-text_of s Accepted = line (codes "ok")
-text_of s (Done number fid) = line (codes "done " ++ decimal number ++ 32 ∷ fid_text fid)
-text_of s (Content fetched length front) = line (source_text fetched ++ decimal length ++ 32 ∷ text_of_content front)
-text_of s (Target fetched target) = line (source_text fetched ++ codes "link " ++ text_of_content target)
-text_of s (Listed fetched entries) = listing_text fetched entries
-text_of s (Chunk number verdict) = line (codes "chunk " ++ decimal number ++ 32 ∷ verdict_text verdict)
-text_of s (Shown server volume) = shown_of s.replica
-text_of s (Refused refusal) = line (codes "refused " ++ refusal_text refusal)
+text_of s (ShowVolume server volume) = shown_of (s.replicas volume)
+text_of s reply = reply_text reply

@@ -1,7 +1,7 @@
 // Acceptance: what a client was asked for becomes an operation on the nodes that it holds, or is refused.
 use crate::client::{Client, ending, root_fid};
 use crate::line::Ask;
-use crate::reply::Refusal;
+use crate::refused::Refused;
 use coda_fid::{Attrs, Bytes, Fid, Name, Op, Over, Path, Sid};
 use coda_tree::NodeKind;
 use std::alloc::AllocError;
@@ -16,7 +16,7 @@ const MOST_CREATIONS: u32 = 4_294_967_295;
 const LINK_MODE: u16 = 0o777;
 
 /// An operation that is accepted, or why it isn't.
-pub type Accepted = Result<Op, Refusal>;
+pub type Accepted = Result<Op, Refused>;
 
 impl Client {
     ghost use Rattle.std.specs.Prelude.{◌≡◌, Some, None, Ok, IfOk};
@@ -28,26 +28,26 @@ impl Client {
     ghost use Rattle.coda_main.specs.Accepting.{is_full, new_fid, new_under, new_place, at_root, accept_creation, unless_full, store_at, setattr_at, remove_at, rmdir_at, spot, bound_at, place, is_met, is_dir_at, with_version, replaced_by, move_to, rename_to, rename_root, accept_rename, accept_remove, accept_rmdir, accept};
     ghost use Rattle.coda_main.specs.Code.{client_state};
 
-    // Whether the client has accepted as many operations as it may.
-    fn is_full(&self) -> bool
-        ensures { result ≡ is_full (client_state self.now) }
+    // Whether the client has accepted as many operations on a volume as it may.
+    fn is_full(&self, volume: u32) -> bool
+        ensures { result ≡ is_full (client_state self.now) volume }
     {
-        self.operations >= MOST_OPERATIONS
+        self.operations(volume) >= MOST_OPERATIONS
     }
 
     // An operation, unless the client has accepted as many as it may.
-    fn unless_full(&self, op: Op) -> Accepted
-        ensures { result ≡ unless_full (client_state self.now) op }
+    fn unless_full(&self, volume: u32, op: Op) -> Accepted
+        ensures { result ≡ unless_full (client_state self.now) volume op }
     {
-        if self.is_full() {
-            Err(Refusal::JournalFull)
+        if self.is_full(volume) {
+            Err(Refused::JournalFull)
         } else {
             Ok(op)
         }
     }
 
     // What is refused of the root, where that is held.
-    fn at_root(&self, volume: u32, refusal: Refusal) -> Accepted
+    fn at_root(&self, volume: u32, refusal: Refused) -> Accepted
         ensures { result ≡ at_root (client_state self.now) volume refusal }
     {
         match self.held(root_fid(volume)) {
@@ -57,43 +57,44 @@ impl Client {
     }
 
     // The fid of a new object.
-    fn new_fid(&self, volume: u32) -> Result<Fid, Refusal>
+    fn new_fid(&self, volume: u32) -> Result<Fid, Refused>
         ensures { result ≡ new_fid (client_state self.now) volume }
     {
-        if self.is_full() || self.creations >= MOST_CREATIONS {
-            return Err(Refusal::JournalFull);
+        let creations = self.creations(volume);
+        if self.is_full(volume) || creations >= MOST_CREATIONS {
+            return Err(Refused::JournalFull);
         }
         let fid = Fid {
             volume,
             vnode: u32::from(self.number),
-            uniq: self.creations + 1,
+            uniq: creations + 1,
         };
         if self.nodes.get(fid).is_some() {
-            Err(Refusal::Exists)
+            Err(Refused::Exists)
         } else {
             Ok(fid)
         }
     }
 
     // The fid of a new object under a name of a directory.
-    fn new_under(&self, volume: u32, dir: Fid, name: &Name) -> Result<Fid, Refusal>
+    fn new_under(&self, volume: u32, dir: Fid, name: &Name) -> Result<Fid, Refused>
         ensures { result ≡ new_under (client_state self.now) volume (map.get self.now.nodes dir) dir name.now }
     {
         match self.nodes.get(dir) {
             Some(node) => match &node.kind {
                 NodeKind::Dir(entries) => match entries.find(name) {
-                    Some(_) => Err(Refusal::Exists),
+                    Some(_) => Err(Refused::Exists),
                     None => self.new_fid(volume),
                 },
-                NodeKind::File(_) => Err(Refusal::NotDir),
-                NodeKind::Link(_) => Err(Refusal::NotDir),
+                NodeKind::File(_) => Err(Refused::NotDir),
+                NodeKind::Link(_) => Err(Refused::NotDir),
             },
-            None => Err(Refusal::Miss(dir)),
+            None => Err(Refused::Miss(dir)),
         }
     }
 
     // The directory of a new object and its fid.
-    fn new_place(&self, volume: u32, front: &[Name], name: &Name) -> Result<(Fid, Fid), Refusal>
+    fn new_place(&self, volume: u32, front: &[Name], name: &Name) -> Result<(Fid, Fid), Refused>
         ensures { result ≡ new_place (client_state self.now) volume (front.now, name.now) }
     {
         match self.resolve(root_fid(volume), front) {
@@ -115,7 +116,7 @@ impl Client {
         ensures { IfOk result (λ accepted. accepted ≡ accept_creation (client_state self.now) volume (ending path.now) (λ dir name fid. Op.Create dir name fid mode owner)) }
     {
         let Some((front, name)) = ending(path.names()) else {
-            return Ok(self.at_root(volume, Refusal::Exists));
+            return Ok(self.at_root(volume, Refused::Exists));
         };
         match self.new_place(volume, front, name) {
             Ok((dir, fid)) => {
@@ -142,7 +143,7 @@ impl Client {
         ensures { IfOk result (λ accepted. accepted ≡ accept_creation (client_state self.now) volume (ending path.now) (λ dir name fid. Op.Mkdir dir name fid mode owner)) }
     {
         let Some((front, name)) = ending(path.names()) else {
-            return Ok(self.at_root(volume, Refusal::Exists));
+            return Ok(self.at_root(volume, Refused::Exists));
         };
         match self.new_place(volume, front, name) {
             Ok((dir, fid)) => {
@@ -168,7 +169,7 @@ impl Client {
         ensures { IfOk result (λ accepted. accepted ≡ accept_creation (client_state self.now) volume (ending path.now) (λ dir name fid. Op.Symlink dir name fid target.now 511 0)) }
     {
         let Some((front, name)) = ending(path.names()) else {
-            return Ok(self.at_root(volume, Refusal::Exists));
+            return Ok(self.at_root(volume, Refused::Exists));
         };
         match self.new_place(volume, front, name) {
             Ok((dir, fid)) => {
@@ -188,93 +189,93 @@ impl Client {
     }
 
     // A store at an object that was found.
-    fn store_at(&self, fid: Fid, content: &Bytes) -> Result<Accepted, AllocError>
-        ensures { IfOk result (λ accepted. accepted ≡ store_at (client_state self.now) (map.get self.now.nodes fid) fid content.now) }
+    fn store_at(&self, volume: u32, fid: Fid, content: &Bytes) -> Result<Accepted, AllocError>
+        ensures { IfOk result (λ accepted. accepted ≡ store_at (client_state self.now) volume (map.get self.now.nodes fid) fid content.now) }
     {
         match self.nodes.get(fid) {
             Some(node) => match &node.kind {
                 NodeKind::File(_) => {
                     let content = content.copy()?;
-                    Ok(self.unless_full(Op::Store {
+                    Ok(self.unless_full(volume, Op::Store {
                         fid,
                         pre: node.sid,
                         content,
                     }))
                 }
-                NodeKind::Link(_) => Ok(Err(Refusal::NotFile)),
-                NodeKind::Dir(_) => Ok(Err(Refusal::IsDir)),
+                NodeKind::Link(_) => Ok(Err(Refused::NotFile)),
+                NodeKind::Dir(_) => Ok(Err(Refused::IsDir)),
             },
-            None => Ok(Err(Refusal::Miss(fid))),
+            None => Ok(Err(Refused::Miss(fid))),
         }
     }
 
     // A change of attributes of an object that was found.
-    fn setattr_at(&self, fid: Fid, attrs: &Attrs) -> Accepted
-        ensures { result ≡ setattr_at (client_state self.now) (map.get self.now.nodes fid) fid attrs.now }
+    fn setattr_at(&self, volume: u32, fid: Fid, attrs: &Attrs) -> Accepted
+        ensures { result ≡ setattr_at (client_state self.now) volume (map.get self.now.nodes fid) fid attrs.now }
     {
         match self.nodes.get(fid) {
-            Some(node) => self.unless_full(Op::Setattr {
+            Some(node) => self.unless_full(volume, Op::Setattr {
                 fid,
                 pre: node.sid,
                 attrs: *attrs,
             }),
-            None => Err(Refusal::Miss(fid)),
+            None => Err(Refused::Miss(fid)),
         }
     }
 
     // A removal of an object that was found.
-    fn remove_at(&self, dir: Fid, name: &Name, fid: Fid) -> Result<Accepted, AllocError>
-        ensures { IfOk result (λ accepted. accepted ≡ remove_at (client_state self.now) (map.get self.now.nodes fid) dir name.now fid) }
+    fn remove_at(&self, volume: u32, dir: Fid, name: &Name, fid: Fid) -> Result<Accepted, AllocError>
+        ensures { IfOk result (λ accepted. accepted ≡ remove_at (client_state self.now) volume (map.get self.now.nodes fid) dir name.now fid) }
     {
         let name = name.copy()?;
         Ok(match self.nodes.get(fid) {
             Some(node) => match &node.kind {
-                NodeKind::Dir(_) => Err(Refusal::IsDir),
-                NodeKind::File(_) => self.unless_full(Op::Remove {
+                NodeKind::Dir(_) => Err(Refused::IsDir),
+                NodeKind::File(_) => self.unless_full(volume, Op::Remove {
                     dir,
                     name,
                     fid,
                     pre: node.sid,
                 }),
-                NodeKind::Link(_) => self.unless_full(Op::Remove {
+                NodeKind::Link(_) => self.unless_full(volume, Op::Remove {
                     dir,
                     name,
                     fid,
                     pre: node.sid,
                 }),
             },
-            None => Err(Refusal::Miss(fid)),
+            None => Err(Refused::Miss(fid)),
         })
     }
 
     // A removal of a directory that was found.
-    fn rmdir_at(&self, dir: Fid, name: &Name, fid: Fid) -> Result<Accepted, AllocError>
-        ensures { IfOk result (λ accepted. accepted ≡ rmdir_at (client_state self.now) (map.get self.now.nodes fid) dir name.now fid) }
+    fn rmdir_at(&self, volume: u32, dir: Fid, name: &Name, fid: Fid) -> Result<Accepted, AllocError>
+        ensures { IfOk result (λ accepted. accepted ≡ rmdir_at (client_state self.now) volume (map.get self.now.nodes fid) dir name.now fid) }
     {
         let name = name.copy()?;
         Ok(match self.nodes.get(fid) {
             Some(node) => match &node.kind {
                 NodeKind::Dir(entries) => {
                     if entries.is_empty() {
-                        self.unless_full(Op::Rmdir {
+                        self.unless_full(volume, Op::Rmdir {
                             dir,
                             name,
                             fid,
                             pre: node.sid,
                         })
                     } else {
-                        Err(Refusal::NotEmpty)
+                        Err(Refused::NotEmpty)
                     }
                 }
-                NodeKind::File(_) => Err(Refusal::NotDir),
-                NodeKind::Link(_) => Err(Refusal::NotDir),
+                NodeKind::File(_) => Err(Refused::NotDir),
+                NodeKind::Link(_) => Err(Refused::NotDir),
             },
-            None => Err(Refusal::Miss(fid)),
+            None => Err(Refused::Miss(fid)),
         })
     }
 
     // The directory in which a path ends, and the object under its last name.
-    fn spot(&self, volume: u32, front: &[Name], name: &Name) -> Result<(Fid, Fid), Refusal>
+    fn spot(&self, volume: u32, front: &[Name], name: &Name) -> Result<(Fid, Fid), Refused>
         ensures { result ≡ spot self.now.nodes volume (front.now, name.now) }
     {
         match self.resolve(root_fid(volume), front) {
@@ -293,10 +294,10 @@ impl Client {
         ensures { IfOk result (λ accepted. accepted ≡ accept_remove (client_state self.now) volume (ending path.now)) }
     {
         let Some((front, name)) = ending(path.names()) else {
-            return Ok(self.at_root(volume, Refusal::IsDir));
+            return Ok(self.at_root(volume, Refused::IsDir));
         };
         match self.spot(volume, front, name) {
-            Ok((dir, fid)) => self.remove_at(dir, name, fid),
+            Ok((dir, fid)) => self.remove_at(volume, dir, name, fid),
             Err(refusal) => Ok(Err(refusal)),
         }
     }
@@ -305,16 +306,16 @@ impl Client {
         ensures { IfOk result (λ accepted. accepted ≡ accept_rmdir (client_state self.now) volume (ending path.now)) }
     {
         let Some((front, name)) = ending(path.names()) else {
-            return Ok(self.at_root(volume, Refusal::Loop));
+            return Ok(self.at_root(volume, Refused::Loop));
         };
         match self.spot(volume, front, name) {
-            Ok((dir, fid)) => self.rmdir_at(dir, name, fid),
+            Ok((dir, fid)) => self.rmdir_at(volume, dir, name, fid),
             Err(refusal) => Ok(Err(refusal)),
         }
     }
 
     // What a directory may bind at a name, where that is held.
-    fn bound_at(&self, dir: Fid, name: &Name) -> Result<Option<Fid>, Refusal>
+    fn bound_at(&self, dir: Fid, name: &Name) -> Result<Option<Fid>, Refused>
         ensures { result ≡ bound_at self.now.nodes (map.get self.now.nodes dir) dir name.now }
     {
         match self.nodes.get(dir) {
@@ -326,15 +327,15 @@ impl Client {
                     },
                     None => Ok(None),
                 },
-                NodeKind::File(_) => Err(Refusal::NotDir),
-                NodeKind::Link(_) => Err(Refusal::NotDir),
+                NodeKind::File(_) => Err(Refused::NotDir),
+                NodeKind::Link(_) => Err(Refused::NotDir),
             },
-            None => Err(Refusal::Miss(dir)),
+            None => Err(Refused::Miss(dir)),
         }
     }
 
     // The place of a new name: its directory and what stands there.
-    fn place(&self, volume: u32, front: &[Name], name: &Name) -> Result<(Fid, Option<Fid>), Refusal>
+    fn place(&self, volume: u32, front: &[Name], name: &Name) -> Result<(Fid, Option<Fid>), Refused>
         ensures { result ≡ place self.now.nodes volume (front.now, name.now) }
     {
         match self.resolve(root_fid(volume), front) {
@@ -378,7 +379,7 @@ impl Client {
     }
 
     // An object that is to be replaced, with its version.
-    fn with_version(&self, old: Fid) -> Result<Option<Over>, Refusal>
+    fn with_version(&self, old: Fid) -> Result<Option<Over>, Refused>
         ensures { result ≡ with_version (map.get self.now.nodes old) old }
     {
         match self.nodes.get(old) {
@@ -386,19 +387,19 @@ impl Client {
                 fid: old,
                 pre: node.sid,
             })),
-            None => Err(Refusal::Miss(old)),
+            None => Err(Refused::Miss(old)),
         }
     }
 
     // What a rename of an object replaces.
-    fn replaced_by(&self, fid: Fid, bound: Option<Fid>) -> Result<Option<Over>, Refusal>
+    fn replaced_by(&self, fid: Fid, bound: Option<Fid>) -> Result<Option<Over>, Refused>
         ensures { result ≡ replaced_by self.now.nodes fid bound }
     {
         match bound {
             None => Ok(None),
             Some(old) => {
                 if old == fid || (self.is_dir(fid) || self.is_dir(old)) {
-                    Err(Refusal::Exists)
+                    Err(Refused::Exists)
                 } else {
                     self.with_version(old)
                 }
@@ -418,7 +419,7 @@ impl Client {
         ensures { IfOk result (λ accepted. accepted ≡ rename_to (client_state self.now) volume from_dir from.now fid (ending to.now)) }
     {
         let Some((front, name)) = ending(to.names()) else {
-            return Ok(self.at_root(volume, Refusal::Exists));
+            return Ok(self.at_root(volume, Refused::Exists));
         };
         match self.place(volume, front, name) {
             Ok((dir, bound)) => self.move_to(volume, from_dir, from, fid, front, name, dir, bound),
@@ -441,13 +442,13 @@ impl Client {
         ensures { IfOk result (λ accepted. accepted ≡ move_to (client_state self.now) volume from_dir from.now fid (front.now, to.now) (to_dir, bound)) }
     {
         if self.is_met(root_fid(volume), front, fid) {
-            return Ok(Err(Refusal::Loop));
+            return Ok(Err(Refused::Loop));
         }
         match self.replaced_by(fid, bound) {
             Ok(over) => {
                 let from = from.copy()?;
                 let to = to.copy()?;
-                Ok(self.unless_full(Op::Rename {
+                Ok(self.unless_full(volume, Op::Rename {
                     from_dir,
                     from,
                     to_dir,
@@ -466,10 +467,10 @@ impl Client {
     {
         match ending(to.names()) {
             Some((front, name)) => match self.place(volume, front, name) {
-                Ok(_) => Err(Refusal::Loop),
+                Ok(_) => Err(Refused::Loop),
                 Err(refusal) => Err(refusal),
             },
-            None => self.at_root(volume, Refusal::Loop),
+            None => self.at_root(volume, Refused::Loop),
         }
     }
 
@@ -494,19 +495,19 @@ impl Client {
         path: &Path,
         content: &Bytes,
     ) -> Result<Accepted, AllocError>
-        ensures { IfOk result (λ accepted. accepted ≡ then_find (resolve self.now.nodes (root_of volume) path.now) (λ fid. store_at (client_state self.now) (map.get self.now.nodes fid) fid content.now)) }
+        ensures { IfOk result (λ accepted. accepted ≡ then_find (resolve self.now.nodes (root_of volume) path.now) (λ fid. store_at (client_state self.now) volume (map.get self.now.nodes fid) fid content.now)) }
     {
         match self.resolve(root_fid(volume), path.names()) {
-            Ok(fid) => self.store_at(fid, content),
+            Ok(fid) => self.store_at(volume, fid, content),
             Err(refusal) => Ok(Err(refusal)),
         }
     }
 
     fn accept_setattr(&self, volume: u32, path: &Path, attrs: &Attrs) -> Accepted
-        ensures { result ≡ then_find (resolve self.now.nodes (root_of volume) path.now) (λ fid. setattr_at (client_state self.now) (map.get self.now.nodes fid) fid attrs.now) }
+        ensures { result ≡ then_find (resolve self.now.nodes (root_of volume) path.now) (λ fid. setattr_at (client_state self.now) volume (map.get self.now.nodes fid) fid attrs.now) }
     {
         match self.resolve(root_fid(volume), path.names()) {
-            Ok(fid) => self.setattr_at(fid, attrs),
+            Ok(fid) => self.setattr_at(volume, fid, attrs),
             Err(refusal) => Err(refusal),
         }
     }

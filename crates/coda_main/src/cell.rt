@@ -1,26 +1,40 @@
-// The cell: one replica of one volume, one client, and the link between them.
-ghost use Rattle.std.specs.Prelude.{◌≡◌, IfOk};
-ghost use Rattle.std.specs.Option.{option_map};
+// The cell: replicas of volumes, clients, and the links between them.
+ghost use Rattle.std.specs.Prelude.{◌≡◌, ℕ, ◌∷◌, [], Some, IfOk, OnOk};
+ghost use Rattle.std.specs.BTreeMap as tree;
+ghost use Rattle.std.specs.Option.{option_map, option_and_then, unwrap_or};
+ghost use Rattle.std.specs.Ordering.{nat_cmp};
+ghost use Rattle.coda_script.specs.declared.line.Strength.TheVariants as Strength;
+ghost use Rattle.coda_script.specs.declared.reply.Reply.TheVariants as Reply;
+ghost use Rattle.coda_main.specs.State.{put, linked};
 ghost use Rattle.coda_main.specs.Code.{client_state, nodes_offered};
-ghost use Rattle.coda_main.specs.Steps.{reached, drain};
-ghost use Rattle.coda_main.specs.Cells.{replica_state, Act};
+ghost use Rattle.coda_main.specs.Cells.{ends_cmp, replica_state};
+ghost use Rattle.coda_main.specs.Steps.{reached, bytes_of};
 
 use crate::client::Client;
-use crate::line::{Ask, Line, Link};
-use crate::reply::{Refusal, Reply};
-use coda_certify::{Verdict, replay};
-use coda_fid::{Path, Record};
+use crate::line::Ask;
+use crate::refused::Refused;
+use crate::replica::Replica;
+use crate::sending::send;
+use coda_fid::{Bytes, Path};
+use coda_script::{Content, Line, Numbers, Reply, Strength, Task};
 use coda_tree::Volume;
 use std::alloc::{AllocError, Global};
+use std::collections::BTreeMap;
 
-/// The most chunks that a client freezes on a volume.
-const MOST_CHUNKS: u64 = 4_294_967_295;
+/// The most volumes of a cell.
+const MOST_VOLUMES: usize = 64;
 
-/// One server's copy of the volume.
-#[derive(Drop)]
-pub struct Replica {
+/// The mode of a new directory where the line names none: rwxr-xr-x.
+const DIRECTORY_MODE: u16 = 0o755;
+
+/// The mode of a new file where the line names none: rw-r--r--.
+const FILE_MODE: u16 = 0o644;
+
+/// The two ends of a link.
+#[derive(Clone, Copy, Debug, PartialEq, Eq, PartialOrd, Ord)]
+pub struct Ends {
+    pub client: u8,
     pub server: u8,
-    pub volume: Volume,
 }
 
 /// A cell, with what was made so far.
@@ -29,84 +43,117 @@ pub struct Cell {
     pub alloc: Global,
     /// The seconds that have passed.
     pub clock: u64,
-    pub replica: Option<Replica>,
-    pub client: Option<Client>,
-    pub link: Link,
+    /// The server of each volume, in the order of making.
+    pub servers: Vec<u8>,
+    /// The replica of each volume.
+    pub replicas: BTreeMap<u32, Replica>,
+    pub clients: BTreeMap<u8, Client>,
+    /// The links that were set; the others are down.
+    pub links: BTreeMap<Ends, Strength>,
 }
 
-// The volume from which the client can fetch.
-fn offers(link: Link, replica: &Option<Replica>) -> Option<&Volume>
-    ensures { nodes_offered result ≡ reached link (option_map replica_state replica.now) }
+// How well a client reaches a server.
+fn strength(links: &BTreeMap<Ends, Strength>, client: u8, server: u8) -> Strength
+    ensures { result ≡ unwrap_or (tree.get ends_cmp links.now (record { client = client; server = server })) Strength.Down }
 {
-    match link {
-        Link::Down => None,
-        Link::Strong => match replica {
-            Some(replica) => Some(&replica.volume),
-            None => None,
-        },
+    match links.get(&Ends { client, server }) {
+        Some(strength) => *strength,
+        None => Strength::Down,
     }
 }
 
-// Sends the whole log of a client to a replica, which decides it.
-fn send(
-    alloc: Global,
-    link: Link,
-    client: &mut Client,
-    replica: &mut Replica,
-) -> Result<Reply, AllocError>
-    ensures { IfOk result (λ reply. Act (drain link (client_state client.old) (replica_state replica.old)) link (client_state client.old) (replica_state replica.old) reply (client_state client.new) (replica_state replica.new)) }
+// The volume of a replica, where its server can be reached.
+fn offers(strength: Strength, replica: &Replica) -> Option<&Volume>
+    ensures { nodes_offered result ≡ reached strength (replica_state replica.now) }
 {
-    match link {
-        Link::Down => return Ok(Reply::Refused(Refusal::LinkDown)),
-        Link::Strong => {}
+    match strength {
+        Strength::Strong => Some(&replica.volume),
+        Strength::Weak => Some(&replica.volume),
+        Strength::Down => None,
     }
-    if client.log.is_empty() {
-        return Ok(Reply::Refused(Refusal::Nothing));
-    }
-    if client.chunks >= MOST_CHUNKS {
-        return Ok(Reply::Refused(Refusal::JournalFull));
-    }
-    let number = client.chunks + 1;
-    let verdict = replica.decide(alloc, client.number, &client.log)?;
-    client.settle(number, &verdict);
-    Ok(Reply::Chunk { number, verdict })
 }
 
-impl Replica {
-    ghost use Rattle.std.specs.Prelude.{◌≡◌, ℕ, IfOk, OnOk};
-    ghost use Rattle.coda_fid.specs.declared.op.Record.{Record};
-    ghost use Rattle.coda_certify.specs.Verdicts.{verdict_of};
-    ghost use Rattle.coda_main.specs.State.{new_replica, decision, replica_after, Decided};
-    ghost use Rattle.coda_main.specs.Cells.{replica_state};
-
-    /// A replica of a fresh volume.
-    pub fn new(alloc: Global, server: u8, volume: u32) -> Result<Replica, AllocError>
-        ensures { IfOk result (λ r. replica_state r ≡ new_replica server volume) }
-    {
-        let volume = Volume::new(alloc, volume)?;
-        Ok(Replica { server, volume })
+// What a client can fetch of a volume.
+fn offers_of<'a>(
+    links: &BTreeMap<Ends, Strength>,
+    replicas: &'a BTreeMap<u32, Replica>,
+    client: u8,
+    volume: u32,
+) -> Option<&'a Volume>
+    ensures { nodes_offered result ≡ option_and_then (λ r. reached (unwrap_or (tree.get ends_cmp links.now (record { client = client; server = r.server })) Strength.Down) r) (option_map replica_state (tree.get nat_cmp replicas.now volume)) }
+{
+    match replicas.get(&volume) {
+        Some(replica) => offers(strength(links, client, replica.server), replica),
+        None => None,
     }
+}
 
-    /// Decides a client's chunk with these operations: all are applied, or none.
-    pub fn decide(
-        &mut self,
-        alloc: Global,
-        client: u8,
-        span: &[Record],
-    ) -> Result<Verdict, AllocError>
-        ensures verdict { IfOk result (λ v. v ≡ verdict_of (decision self.old.volume.nodes client span.now)) }
-        ensures state { OnOk result ((number : ℕ) → replica_state self.new ≡ replica_after (replica_state self.old) (Decided client number span.now)) }
-    {
-        replay(alloc, &mut self.volume, client, span)
+// Puts a replica at the number of a volume.
+fn put_replica(
+    replicas: &mut BTreeMap<u32, Replica>,
+    volume: u32,
+    replica: Replica,
+) -> Result<(), AllocError>
+    ensures { OnOk result ((v : ℕ) → option_map replica_state (tree.get nat_cmp replicas.new v) ≡ put (λ w. option_map replica_state (tree.get nat_cmp replicas.old w)) volume (Some (replica_state replica)) v) }
+{
+    replicas.insert(volume, replica)?;
+    Ok(())
+}
+
+// Puts a client at its number.
+fn put_client(
+    clients: &mut BTreeMap<u8, Client>,
+    number: u8,
+    client: Client,
+) -> Result<(), AllocError>
+    ensures { OnOk result ((n : ℕ) → option_map client_state (tree.get nat_cmp clients.new n) ≡ put (λ m. option_map client_state (tree.get nat_cmp clients.old m)) number (Some (client_state client)) n) }
+{
+    clients.insert(number, client)?;
+    Ok(())
+}
+
+// Sets the strength of a link.
+fn put_link(
+    links: &mut BTreeMap<Ends, Strength>,
+    ends: Ends,
+    strength: Strength,
+) -> Result<(), AllocError>
+    ensures { OnOk result ((c s : ℕ) → unwrap_or (tree.get ends_cmp links.new (record { client = c; server = s })) Strength.Down ≡ linked (λ d t. unwrap_or (tree.get ends_cmp links.old (record { client = d; server = t })) Strength.Down) ends.client ends.server strength c s) }
+{
+    links.insert(ends, strength)?;
+    Ok(())
+}
+
+// The bytes of content.
+fn bytes_of(alloc: Global, content: Content) -> Result<Bytes, AllocError>
+    ensures { IfOk result (λ bytes. bytes ≡ bytes_of content) }
+{
+    match content {
+        Content::Text(text) => Ok(text),
+        Content::Fill { length, byte } => {
+            let filled = vec![in alloc; byte; length as usize]?;
+            Ok(Bytes::from_vec(filled))
+        }
     }
+}
+
+// The reply that an actor's disk had no entries.
+fn opened(alloc: Global) -> Result<Reply, AllocError>
+    ensures { IfOk result (λ reply. reply ≡ Reply.Opened (0 ∷ [])) }
+{
+    let numbers = vec![in alloc; 0u64]?;
+    Ok(Reply::Opened(Numbers::from_vec(numbers)))
 }
 
 impl Cell {
-    ghost use Rattle.std.specs.Prelude.{◌≡◌, ℕ, true, IfOk, IsSome};
-    ghost use Rattle.coda_main.specs.declared.line.Line.TheVariants as Line;
-    ghost use Rattle.coda_main.specs.State.{empty_state};
-    ghost use Rattle.coda_main.specs.Steps.{is_built, is_client, is_volume, is_server};
-    ghost use Rattle.coda_main.specs.Cells.{cell_state, Runs};
+    ghost use Rattle.std.specs.Prelude.{◌≡◌, ℕ, ◌==◌, List, ◌∷◌, [], None, IfOk, OnOk};
+    ghost use Rattle.std.specs.List.{list_any};
+    ghost use Rattle.coda_script.specs.declared.reply.Reply.TheVariants as Reply;
+    ghost use Rattle.coda_main.specs.State.{empty_state, after, VolumeMade, ClientMade, Ticked, LinkSet};
+    ghost use Rattle.coda_main.specs.Asking.{operate, read, list};
+    ghost use Rattle.coda_main.specs.Steps.{Unless, Naming, Happens, Says, ByClient, ByBoth, client_named, volume_named, server_named, holder_named, on_volume, first_missing, no_volume, no_client};
+    ghost use Rattle.coda_script.specs.declared.line.Line.TheVariants as Line;
+    ghost use Rattle.coda_main.specs.Cells.{cell_state, Carried, Stepped, TaskStepped};
 
     /// A cell in which nothing was made.
     pub fn new(alloc: Global) -> Cell
@@ -115,156 +162,409 @@ impl Cell {
         Cell {
             alloc,
             clock: 0,
-            replica: None,
-            client: None,
-            link: Link::Down,
+            servers: Vec::new(alloc),
+            replicas: BTreeMap::new(alloc),
+            clients: BTreeMap::new(alloc),
+            links: BTreeMap::new(alloc),
         }
     }
 
-    fn is_client(&self, number: u8) -> bool
-        ensures { result ≡ is_client (cell_state self.now) number }
-    {
-        match &self.client {
-            Some(client) => client.number == number,
-            None => false,
-        }
-    }
-
-    fn is_volume(&self, volume: u32) -> bool
-        ensures { result ≡ is_volume (cell_state self.now) volume }
-    {
-        match &self.replica {
-            Some(replica) => replica.volume.number() == volume,
-            None => false,
-        }
-    }
-
+    // Whether a volume was made on a server.
     fn is_server(&self, server: u8) -> bool
-        ensures { result ≡ is_server (cell_state self.now) server }
+        ensures { result ≡ list_any (λ other. other == server) self.now.servers.items }
     {
-        match &self.replica {
+        self.servers.iter().any(|other| *other == server)
+    }
+
+    // Why a volume can't be made.
+    fn no_volume(&self, volume: u32) -> Option<Refused>
+        ensures { result ≡ no_volume (cell_state self.now) volume }
+    {
+        if self.replicas.contains_key(&volume) {
+            return Some(Refused::AlreadyThere);
+        }
+        if self.servers.len() >= MOST_VOLUMES {
+            return Some(Refused::CellFull);
+        }
+        None
+    }
+
+    // Why a client can't be made.
+    fn no_client(&self, client: u8) -> Option<Refused>
+        ensures { result ≡ no_client (cell_state self.now) client }
+    {
+        if self.clients.contains_key(&client) {
+            Some(Refused::AlreadyThere)
+        } else {
+            None
+        }
+    }
+
+    // Whether a server holds a volume.
+    fn holds(&self, server: u8, volume: u32) -> bool
+        ensures { result ≡ (holder_named (cell_state self.now) server volume).there }
+    {
+        match self.replicas.get(&volume) {
             Some(replica) => replica.server == server,
             None => false,
         }
     }
 
-    /// Whether a line names only actors that were made, and makes no second volume and no second client.
-    pub fn is_built(&self, line: &Line) -> bool
-        ensures { result ≡ is_built (cell_state self.now) line.now }
+    // The first of a client and a volume that isn't there.
+    fn missing(&self, client: u8, volume: u32) -> Option<Refused>
+        ensures { result ≡ first_missing (on_volume (cell_state self.now) client volume) }
     {
-        match line {
-            Line::Volume { .. } => self.replica.is_none(),
-            Line::Client { .. } => self.client.is_none(),
-            Line::Link { client, server, .. } => self.is_client(*client) && self.is_server(*server),
-            Line::Tick { .. } => true,
-            Line::Read { client, volume, .. } => self.is_client(*client) && self.is_volume(*volume),
-            Line::List { client, volume, .. } => self.is_client(*client) && self.is_volume(*volume),
-            Line::Operation { client, volume, .. } => {
-                self.is_client(*client) && self.is_volume(*volume)
-            }
-            Line::Drain {
-                client,
-                volume,
-                server,
-            } => { self.is_client(*client) && (self.is_volume(*volume) && self.is_server(*server)) }
-            Line::Show { server, volume } => self.is_volume(*volume) && self.is_server(*server),
+        if !self.clients.contains_key(&client) {
+            return Some(Refused::NoSuchActor(u32::from(client)));
         }
+        if !self.replicas.contains_key(&volume) {
+            return Some(Refused::NoSuchActor(volume));
+        }
+        None
+    }
+
+    // The first of a client, a volume and its server that isn't there.
+    fn missing_holder(&self, client: u8, volume: u32, server: u8) -> Option<Refused>
+        ensures { result ≡ first_missing (client_named (cell_state self.now) client ∷ volume_named (cell_state self.now) volume ∷ holder_named (cell_state self.now) server volume ∷ []) }
+    {
+        if !self.clients.contains_key(&client) {
+            return Some(Refused::NoSuchActor(u32::from(client)));
+        }
+        if !self.replicas.contains_key(&volume) {
+            return Some(Refused::NoSuchActor(volume));
+        }
+        if !self.holds(server, volume) {
+            return Some(Refused::NoSuchActor(u32::from(server)));
+        }
+        None
+    }
+
+    // The first of a client and a server that isn't there.
+    fn missing_end(&self, client: u8, server: u8) -> Option<Refused>
+        ensures { result ≡ first_missing (client_named (cell_state self.now) client ∷ server_named (cell_state self.now) server ∷ []) }
+    {
+        if !self.clients.contains_key(&client) {
+            return Some(Refused::NoSuchActor(u32::from(client)));
+        }
+        if !self.is_server(server) {
+            return Some(Refused::NoSuchActor(u32::from(server)));
+        }
+        None
+    }
+
+    fn put_volume(&mut self, volume: u32, server: u8) -> Result<(), AllocError>
+        ensures { OnOk result (cell_state self.new ≡ after (cell_state self.old) (VolumeMade volume server)) }
+    {
+        let replica = Replica::new(self.alloc, server, volume)?;
+        self.servers.push(server)?;
+        put_replica(&mut self.replicas, volume, replica)
+    }
+
+    fn put_client(&mut self, client: u8, blocks: u32) -> Result<(), AllocError>
+        ensures { OnOk result (cell_state self.new ≡ after (cell_state self.old) (ClientMade client blocks)) }
+    {
+        let made = Client::new(self.alloc, client, blocks);
+        put_client(&mut self.clients, client, made)
+    }
+
+    fn put_link(&mut self, client: u8, server: u8, strength: Strength) -> Result<(), AllocError>
+        ensures { OnOk result (cell_state self.new ≡ after (cell_state self.old) (LinkSet client server strength)) }
+    {
+        put_link(&mut self.links, Ends { client, server }, strength)
     }
 
     fn make_volume(&mut self, volume: u32, server: u8) -> Result<Reply, AllocError>
-        ensures { IfOk result (λ reply. Runs (cell_state self.old) (Line.Volume volume server) reply (cell_state self.new)) }
+        ensures { IfOk result (λ reply. Carried (Unless (no_volume (cell_state self.old) volume) (Happens (Reply.Opened (0 ∷ [])) (VolumeMade volume server))) (cell_state self.old) reply (cell_state self.new)) }
     {
-        let replica = Replica::new(self.alloc, server, volume)?;
-        self.replica = Some(replica);
-        Ok(Reply::Opened)
+        if let Some(why) = self.no_volume(volume) {
+            return why.reply(self.alloc);
+        }
+        self.put_volume(volume, server)?;
+        opened(self.alloc)
     }
 
-    fn make_client(&mut self, client: u8, blocks: u32) -> Reply
-        ensures { Runs (cell_state self.old) (Line.Client client blocks) result (cell_state self.new) }
+    fn make_client(&mut self, client: u8, blocks: u32) -> Result<Reply, AllocError>
+        ensures { IfOk result (λ reply. Carried (Unless (no_client (cell_state self.old) client) (Happens (Reply.Opened (0 ∷ [])) (ClientMade client blocks))) (cell_state self.old) reply (cell_state self.new)) }
     {
-        self.client = Some(Client::new(self.alloc, client, blocks));
-        Reply::Opened
+        if let Some(why) = self.no_client(client) {
+            return why.reply(self.alloc);
+        }
+        self.put_client(client, blocks)?;
+        opened(self.alloc)
     }
 
-    fn set_link(&mut self, link: Link) -> Reply
-        ensures { (client server : ℕ) → Runs (cell_state self.old) (Line.Link client server link) result (cell_state self.new) }
+    fn set_link(
+        &mut self,
+        client: u8,
+        server: u8,
+        strength: Strength,
+    ) -> Result<Reply, AllocError>
+        ensures { IfOk result (λ reply. Carried (Naming (client_named (cell_state self.old) client ∷ server_named (cell_state self.old) server ∷ []) (Happens Reply.Accepted (LinkSet client server strength))) (cell_state self.old) reply (cell_state self.new)) }
     {
-        self.link = link;
+        if let Some(why) = self.missing_end(client, server) {
+            return why.reply(self.alloc);
+        }
+        self.put_link(client, server, strength)?;
+        Ok(Reply::Accepted)
+    }
+
+    fn tick(&mut self, seconds: u32) -> Reply
+        ensures { Carried (Happens Reply.Accepted (Ticked seconds)) (cell_state self.old) result (cell_state self.new) }
+    {
+        self.clock = self.clock.saturating_add(u64::from(seconds));
         Reply::Accepted
     }
 
-    fn tick(&mut self, seconds: u64) -> Reply
-        ensures { Runs (cell_state self.old) (Line.Tick seconds) result (cell_state self.new) }
+    // Has a client accept an operation, where it and the volume are there.
+    fn operate(&mut self, client: u8, volume: u32, ask: &Ask) -> Result<Reply, AllocError>
+        ensures { IfOk result (λ reply. Carried (Naming (on_volume (cell_state self.old) client volume) (ByClient (cell_state self.old) client volume (λ offers c. operate offers c self.old.clock volume ask.now))) (cell_state self.old) reply (cell_state self.new)) }
     {
-        self.clock = self.clock.saturating_add(seconds);
-        Reply::Accepted
+        if let Some(why) = self.missing(client, volume) {
+            return why.reply(self.alloc);
+        }
+        self.operate_there(client, volume, ask)
     }
 
-    fn read(&mut self, volume: u32, path: &Path) -> Result<Reply, AllocError>
-        requires { IsSome self.old.client }
-        ensures { IfOk result (λ reply. (client : ℕ) → Runs (cell_state self.old) (Line.Read client volume path.now) reply (cell_state self.new)) }
+    fn operate_there(&mut self, client: u8, volume: u32, ask: &Ask) -> Result<Reply, AllocError>
+        requires { first_missing (on_volume (cell_state self.old) client volume) ≡ None }
+        ensures { IfOk result (λ reply. Carried (ByClient (cell_state self.old) client volume (λ offers c. operate offers c self.old.clock volume ask.now)) (cell_state self.old) reply (cell_state self.new)) }
     {
-        let offers = offers(self.link, &self.replica);
-        match &mut self.client {
-            Some(client) => client.read(self.alloc, offers, volume, path),
+        let offers = offers_of(&self.links, &self.replicas, client, volume);
+        match self.clients.get_mut(&client) {
+            Some(found) => found.operate(offers, self.clock, volume, ask),
             None => Ok(Reply::Accepted),
         }
     }
 
-    fn list(&mut self, volume: u32, path: &Path) -> Result<Reply, AllocError>
-        requires { IsSome self.old.client }
-        ensures { IfOk result (λ reply. (client : ℕ) → Runs (cell_state self.old) (Line.List client volume path.now) reply (cell_state self.new)) }
+    // Has a client read an object, where it and the volume are there.
+    fn read(&mut self, client: u8, volume: u32, path: &Path) -> Result<Reply, AllocError>
+        ensures { IfOk result (λ reply. Carried (Naming (on_volume (cell_state self.old) client volume) (ByClient (cell_state self.old) client volume (λ offers c. read offers c volume path.now))) (cell_state self.old) reply (cell_state self.new)) }
     {
-        let offers = offers(self.link, &self.replica);
-        match &mut self.client {
-            Some(client) => client.list(self.alloc, offers, volume, path),
+        if let Some(why) = self.missing(client, volume) {
+            return why.reply(self.alloc);
+        }
+        self.read_there(client, volume, path)
+    }
+
+    fn read_there(&mut self, client: u8, volume: u32, path: &Path) -> Result<Reply, AllocError>
+        requires { first_missing (on_volume (cell_state self.old) client volume) ≡ None }
+        ensures { IfOk result (λ reply. Carried (ByClient (cell_state self.old) client volume (λ offers c. read offers c volume path.now)) (cell_state self.old) reply (cell_state self.new)) }
+    {
+        let offers = offers_of(&self.links, &self.replicas, client, volume);
+        match self.clients.get_mut(&client) {
+            Some(found) => found.read(offers, volume, path),
             None => Ok(Reply::Accepted),
         }
     }
 
-    fn operate(&mut self, volume: u32, ask: &Ask) -> Result<Reply, AllocError>
-        requires { IsSome self.old.client }
-        ensures { IfOk result (λ reply. (client : ℕ) → Runs (cell_state self.old) (Line.Operation client volume ask.now) reply (cell_state self.new)) }
+    // Has a client list a directory, where it and the volume are there.
+    fn list(&mut self, client: u8, volume: u32, path: &Path) -> Result<Reply, AllocError>
+        ensures { IfOk result (λ reply. Carried (Naming (on_volume (cell_state self.old) client volume) (ByClient (cell_state self.old) client volume (λ offers c. list offers c volume path.now))) (cell_state self.old) reply (cell_state self.new)) }
     {
-        let offers = offers(self.link, &self.replica);
-        match &mut self.client {
-            Some(client) => client.operate(self.alloc, offers, self.clock, volume, ask),
+        if let Some(why) = self.missing(client, volume) {
+            return why.reply(self.alloc);
+        }
+        self.list_there(client, volume, path)
+    }
+
+    fn list_there(&mut self, client: u8, volume: u32, path: &Path) -> Result<Reply, AllocError>
+        requires { first_missing (on_volume (cell_state self.old) client volume) ≡ None }
+        ensures { IfOk result (λ reply. Carried (ByClient (cell_state self.old) client volume (λ offers c. list offers c volume path.now)) (cell_state self.old) reply (cell_state self.new)) }
+    {
+        let offers = offers_of(&self.links, &self.replicas, client, volume);
+        match self.clients.get_mut(&client) {
+            Some(found) => found.list(offers, volume, path),
             None => Ok(Reply::Accepted),
         }
     }
 
-    fn drain(&mut self) -> Result<Reply, AllocError>
-        requires client { IsSome self.old.client }
-        requires replica { IsSome self.old.replica }
-        ensures { IfOk result (λ reply. (client volume server : ℕ) → Runs (cell_state self.old) (Line.Drain client volume server) reply (cell_state self.new)) }
+    // Sends a client's log of a volume to a server, where all three are there.
+    fn drain(&mut self, client: u8, volume: u32, server: u8) -> Result<Reply, AllocError>
+        ensures { IfOk result (λ reply. Carried (Naming (client_named (cell_state self.old) client ∷ volume_named (cell_state self.old) volume ∷ holder_named (cell_state self.old) server volume ∷ []) (ByBoth (cell_state self.old) client volume)) (cell_state self.old) reply (cell_state self.new)) }
     {
-        match &mut self.client {
-            Some(client) => match &mut self.replica {
-                Some(replica) => send(self.alloc, self.link, client, replica),
+        if let Some(why) = self.missing_holder(client, volume, server) {
+            return why.reply(self.alloc);
+        }
+        self.drain_there(client, volume)
+    }
+
+    fn drain_there(&mut self, client: u8, volume: u32) -> Result<Reply, AllocError>
+        requires { first_missing (on_volume (cell_state self.old) client volume) ≡ None }
+        ensures { IfOk result (λ reply. Carried (ByBoth (cell_state self.old) client volume) (cell_state self.old) reply (cell_state self.new)) }
+    {
+        match self.clients.get_mut(&client) {
+            Some(found) => match self.replicas.get_mut(&volume) {
+                Some(replica) => {
+                    let strength = strength(&self.links, client, replica.server);
+                    send(self.alloc, strength, client, volume, found, replica)
+                }
                 None => Ok(Reply::Accepted),
             },
             None => Ok(Reply::Accepted),
         }
     }
 
-    /// Carries a line out.
-    pub fn step(&mut self, line: &Line) -> Result<Reply, AllocError>
-        requires { is_built (cell_state self.old) line.now ≡ true }
-        ensures { IfOk result (λ reply. Runs (cell_state self.old) line.now reply (cell_state self.new)) }
+    fn show(&self, server: u8, volume: u32) -> Result<Reply, AllocError>
+        ensures { IfOk result (λ reply. Carried (Naming (holder_named (cell_state self.now) server volume ∷ []) (Says (Reply.ShowVolume server volume))) (cell_state self.now) reply (cell_state self.now)) }
+    {
+        if self.holds(server, volume) {
+            Ok(Reply::ShowVolume { server, volume })
+        } else {
+            Refused::NoSuchActor(u32::from(server)).reply(self.alloc)
+        }
+    }
+
+    // Carries a task out, where it is one that is built.
+    fn carry_out(&mut self, task: Task) -> Result<Option<Reply>, AllocError>
+        ensures { IfOk result (λ o. TaskStepped (cell_state self.old) task o (cell_state self.new)) }
+    {
+        let reply = match task {
+            Task::Create {
+                client,
+                volume,
+                path,
+                mode,
+                owner,
+            } => {
+                let (mode, owner) = (mode.unwrap_or(FILE_MODE), owner.unwrap_or(0));
+                self.operate(client, volume, &Ask::Create { path, mode, owner })?
+            }
+            Task::Mkdir {
+                client,
+                volume,
+                path,
+                mode,
+                owner,
+            } => {
+                let (mode, owner) = (mode.unwrap_or(DIRECTORY_MODE), owner.unwrap_or(0));
+                self.operate(client, volume, &Ask::Mkdir { path, mode, owner })?
+            }
+            Task::Symlink {
+                client,
+                volume,
+                path,
+                target,
+            } => self.operate(client, volume, &Ask::Symlink { path, target })?,
+            Task::Store {
+                client,
+                volume,
+                path,
+                content,
+            } => {
+                let content = bytes_of(self.alloc, content)?;
+                self.operate(client, volume, &Ask::Store { path, content })?
+            }
+            Task::Setattr {
+                client,
+                volume,
+                path,
+                attrs,
+            } => self.operate(client, volume, &Ask::Setattr { path, attrs })?,
+            Task::Remove {
+                client,
+                volume,
+                path,
+            } => self.operate(client, volume, &Ask::Remove { path })?,
+            Task::Rmdir {
+                client,
+                volume,
+                path,
+            } => self.operate(client, volume, &Ask::Rmdir { path })?,
+            Task::Rename {
+                client,
+                volume,
+                from,
+                to,
+            } => self.operate(client, volume, &Ask::Rename { from, to })?,
+            Task::Read {
+                client,
+                volume,
+                path,
+            } => self.read(client, volume, &path)?,
+            Task::List {
+                client,
+                volume,
+                path,
+            } => self.list(client, volume, &path)?,
+            Task::Drain {
+                client,
+                volume,
+                server,
+                window: Some(0),
+            } => self.drain(client, volume, server)?,
+            Task::Drain { .. } => return Ok(None),
+            Task::Refresh { .. } => return Ok(None),
+            Task::Giveup { .. } => return Ok(None),
+        };
+        Ok(Some(reply))
+    }
+
+    // Makes a volume on one server.
+    fn make_alone(
+        &mut self,
+        volume: u32,
+        servers: &[u8],
+        area: Option<u8>,
+    ) -> Result<Option<Reply>, AllocError>
+        ensures { IfOk result (λ o. (servers' : List ℕ) → servers' ≡ servers.now → Stepped (cell_state self.old) (Line.Volume volume servers' area) o (cell_state self.new)) }
+    {
+        if area.is_some() {
+            return Ok(None);
+        }
+        match servers {
+            [server] => Ok(Some(self.make_volume(volume, *server)?)),
+            _ => Ok(None),
+        }
+    }
+
+    /// Carries a line out, where it is one that is built.
+    pub fn step(&mut self, line: Line) -> Result<Option<Reply>, AllocError>
+        ensures { IfOk result (λ o. Stepped (cell_state self.old) line o (cell_state self.new)) }
     {
         match line {
-            Line::Volume { volume, server } => self.make_volume(*volume, *server),
-            Line::Client { client, blocks } => Ok(self.make_client(*client, *blocks)),
-            Line::Link { link, .. } => Ok(self.set_link(*link)),
-            Line::Tick { seconds } => Ok(self.tick(*seconds)),
-            Line::Operation { volume, ask, .. } => self.operate(*volume, ask),
-            Line::Read { volume, path, .. } => self.read(*volume, path),
-            Line::List { volume, path, .. } => self.list(*volume, path),
-            Line::Drain { .. } => self.drain(),
-            Line::Show { server, volume } => Ok(Reply::Shown {
-                server: *server,
-                volume: *volume,
-            }),
+            Line::Volume {
+                volume,
+                servers,
+                area,
+            } => self.make_alone(volume, servers.servers(), area),
+            Line::Client {
+                client,
+                blocks,
+                area: None,
+            } => Ok(Some(self.make_client(client, blocks)?)),
+            Line::Client { .. } => Ok(None),
+            Line::Link {
+                strength: Strength::Weak,
+                ..
+            } => Ok(None),
+            Line::Link {
+                client,
+                server,
+                strength,
+            } => Ok(Some(self.set_link(client, server, strength)?)),
+            Line::Tick { seconds } => Ok(Some(self.tick(seconds))),
+            Line::Task(task) => self.carry_out(task),
+            Line::ShowVolume { server, volume } => Ok(Some(self.show(server, volume)?)),
+            Line::At { .. } => Ok(None),
+            Line::HoardAdd { .. } => Ok(None),
+            Line::HoardRemove { .. } => Ok(None),
+            Line::HoardClear { .. } => Ok(None),
+            Line::HoardList { .. } => Ok(None),
+            Line::Walk { .. } => Ok(None),
+            Line::Send { .. } => Ok(None),
+            Line::Deliver { .. } => Ok(None),
+            Line::Lose { .. } => Ok(None),
+            Line::Breaks { .. } => Ok(None),
+            Line::CrashClient { .. } => Ok(None),
+            Line::CrashReplica { .. } => Ok(None),
+            Line::RecoverClient { .. } => Ok(None),
+            Line::RecoverReplica { .. } => Ok(None),
+            Line::ArmClient { .. } => Ok(None),
+            Line::ArmReplica { .. } => Ok(None),
+            Line::Resolve { .. } => Ok(None),
+            Line::Repair { .. } => Ok(None),
+            Line::ShowLog { .. } => Ok(None),
+            Line::ShowState { .. } => Ok(None),
         }
     }
 }

@@ -1,22 +1,25 @@
 // A client: the nodes that it holds and its log.
-ghost use Rattle.std.specs.Prelude.{◌≡◌, ◌≤◌, IfOk, take};
+ghost use Rattle.std.specs.Prelude.{◌≡◌, ◌≤◌, ◌<◌, ◌⊎◌, ℕ, IfOk, OnOk, IsSome};
+ghost use Rattle.std.specs.BTreeMap as tree;
+ghost use Rattle.std.specs.Ordering.{nat_cmp};
 ghost use Rattle.std.specs.List.{list_any};
 ghost use Rattle.std.specs.Option.{option_map};
 ghost use Rattle.coda_fid.specs.Fid.{root_of, same_fid};
 ghost use Rattle.coda_main.specs.Ask.{ending, front_of, too_big, too_long, object_of, created_by};
+ghost use Rattle.coda_main.specs.State.{put, log_with};
+ghost use Rattle.coda_main.specs.Code.{log_state};
 
 use crate::line::Ask;
-use crate::reply::{Refusal, Reply};
-use coda_certify::{Verdict, apply_to_table};
+use crate::refused::Refused;
+use coda_certify::apply_to_table;
 use coda_fid::{Bytes, Fid, Name, Op, Path, Record};
+use coda_script::{Readable, Reply};
 use coda_tree::{NodeKind, NodeTable, Volume};
 use std::alloc::{AllocError, Global};
+use std::collections::BTreeMap;
 
 /// The most bytes of a file's content: 1 MiB.
 const MOST_CONTENT: usize = 1_048_576;
-
-/// How many of the first bytes of a content are enough to show it.
-const SHOWN_CONTENT: usize = 65;
 
 /// The fid of a volume's root.
 pub fn root_fid(volume: u32) -> Fid
@@ -116,28 +119,85 @@ fn is_noted(noted: &[Fid], fid: Fid) -> bool
     noted.iter().any(|f| *f == fid)
 }
 
-// The first bytes of a content, by which it is shown.
-fn front_of_content(alloc: Global, content: &Bytes) -> Result<Bytes, AllocError>
-    ensures { IfOk result (λ front. front ≡ take 65 content.now) }
-{
-    let bytes = content.bytes();
-    if bytes.len() <= SHOWN_CONTENT {
-        return Bytes::of(alloc, bytes);
-    }
-    let (front, _) = bytes.split_at(SHOWN_CONTENT);
-    Bytes::of(alloc, front)
-}
-
-/// A client of the volume.
-#[derive(Drop)]
-pub struct Client {
-    pub number: u8,
-    pub blocks: u32,
-    pub nodes: NodeTable,
+/// What a client has of a volume: its log, and how many operations it accepted, objects it created and chunks it froze.
+#[derive(Debug, Drop)]
+pub struct VolumeLog {
     pub log: Vec<Record>,
     pub operations: u64,
     pub creations: u32,
     pub chunks: u64,
+}
+
+/// A client: the nodes that it holds, of whatever volume, and its log of each volume that it worked on.
+#[derive(Drop)]
+pub struct Client {
+    pub alloc: Global,
+    pub number: u8,
+    pub blocks: u32,
+    pub nodes: NodeTable,
+    pub logs: BTreeMap<u32, VolumeLog>,
+}
+
+// The log of a volume, which is made where there is none.
+fn log_at(
+    alloc: Global,
+    logs: &mut BTreeMap<u32, VolumeLog>,
+    volume: u32,
+) -> Result<(), AllocError>
+    ensures { OnOk result (IsSome (tree.get nat_cmp logs.new volume) × ((v : ℕ) → log_state (tree.get nat_cmp logs.new v) ≡ log_state (tree.get nat_cmp logs.old v))) }
+{
+    if logs.contains_key(&volume) {
+        return Ok(());
+    }
+    logs.insert(
+        volume,
+        VolumeLog {
+            log: Vec::new(alloc),
+            operations: 0,
+            creations: 0,
+            chunks: 0,
+        },
+    )?;
+    Ok(())
+}
+
+// Puts a record behind the log of a volume, where there is one. Fails for want of memory alone.
+fn push_record(
+    logs: &mut BTreeMap<u32, VolumeLog>,
+    volume: u32,
+    rec: Record,
+) -> Result<(), AllocError>
+    requires there { IsSome (tree.get nat_cmp logs.old volume) }
+    requires operations { (log_state (tree.get nat_cmp logs.old volume)).operations < 4294967295 }
+    requires creations { ((log_state (tree.get nat_cmp logs.old volume)).creations < 4294967295) ⊎ (created_by rec.op ≡ 0) }
+    ensures { OnOk result ((v : ℕ) → log_state (tree.get nat_cmp logs.new v) ≡ put (λ w. log_state (tree.get nat_cmp logs.old w)) volume (log_with (log_state (tree.get nat_cmp logs.old volume)) rec) v) }
+{
+    match logs.get_mut(&volume) {
+        Some(log) => log.push(rec),
+        None => Ok(()),
+    }
+}
+
+impl VolumeLog {
+    ghost use Rattle.std.specs.Prelude.{◌≡◌, ◌<◌, ◌⊎◌, Some, OnOk};
+    ghost use Rattle.coda_main.specs.Ask.{created_by};
+    ghost use Rattle.coda_main.specs.State.{log_with};
+    ghost use Rattle.coda_main.specs.Code.{log_state};
+
+    // Puts a record behind the log, and counts it. Fails for want of memory alone.
+    fn push(&mut self, rec: Record) -> Result<(), AllocError>
+        requires operations { self.old.operations < 4294967295 }
+        requires creations { (self.old.creations < 4294967295) ⊎ (created_by rec.op ≡ 0) }
+        ensures { OnOk result (log_state (Some self.new) ≡ log_with (log_state (Some self.old)) rec) }
+    {
+        let created = created_by(&rec.op);
+        self.log.push(rec)?;
+        self.operations += 1;
+        if created > 0 {
+            self.creations += created;
+        }
+        Ok(())
+    }
 }
 
 impl Client {
@@ -146,24 +206,24 @@ impl Client {
     ghost use Rattle.coda_fid.specs.Fid.{root_of};
     ghost use Rattle.coda_fid.specs.declared.fid.Fid.{Fid};
     ghost use Rattle.coda_certify.specs.Replay.{MayApply};
-    ghost use Rattle.coda_main.specs.State.{new_client, client_after, client_after_all, Operated, Froze, Settled};
+    ghost use Rattle.std.specs.BTreeMap as tree;
+    ghost use Rattle.std.specs.Ordering.{nat_cmp};
+    ghost use Rattle.coda_main.specs.State.{put, log_with, new_client, client_after, client_after_all};
     ghost use Rattle.coda_main.specs.Ask.{ending, front_of, created_by};
     ghost use Rattle.coda_main.specs.Fetching.{held, step_from, resolve, look, look_along, is_fetched};
     ghost use Rattle.coda_main.specs.Asking.{rename_look_ups, look_ups, answer_to, operate, read_in, list_in, shown_as, shown_at, read, list};
-    ghost use Rattle.coda_main.specs.Code.{client_state, nodes_offered, Looked, Finds, Gives};
+    ghost use Rattle.coda_main.specs.Code.{log_state, client_state, nodes_offered, Looked, Finds, Gives};
 
     /// A client with so many blocks of cache, which holds nothing.
     pub fn new(alloc: Global, number: u8, blocks: u32) -> Client
         ensures { client_state result ≡ new_client number blocks }
     {
         Client {
+            alloc,
             number,
             blocks,
             nodes: NodeTable::new(alloc),
-            log: Vec::new(alloc),
-            operations: 0,
-            creations: 0,
-            chunks: 0,
+            logs: BTreeMap::new(alloc),
         }
     }
 
@@ -215,34 +275,34 @@ impl Client {
     }
 
     /// An object, where it is held.
-    pub fn held(&self, fid: Fid) -> Result<Fid, Refusal>
+    pub fn held(&self, fid: Fid) -> Result<Fid, Refused>
         ensures { result ≡ held (map.get self.now.nodes fid) fid }
     {
         match self.nodes.get(fid) {
             Some(_) => Ok(fid),
-            None => Err(Refusal::Miss(fid)),
+            None => Err(Refused::Miss(fid)),
         }
     }
 
     /// Where a name leads from an object that is held.
-    pub fn step(&self, at: Fid, name: &Name) -> Result<Fid, Refusal>
+    pub fn step(&self, at: Fid, name: &Name) -> Result<Fid, Refused>
         ensures { result ≡ step_from (map.get self.now.nodes at) at name.now }
     {
         match self.nodes.get(at) {
             Some(node) => match &node.kind {
                 NodeKind::Dir(entries) => match entries.find(name) {
                     Some(next) => Ok(next),
-                    None => Err(Refusal::NotFound),
+                    None => Err(Refused::NotFound),
                 },
-                NodeKind::File(_) => Err(Refusal::NotDir),
-                NodeKind::Link(_) => Err(Refusal::NotDir),
+                NodeKind::File(_) => Err(Refused::NotDir),
+                NodeKind::Link(_) => Err(Refused::NotDir),
             },
-            None => Err(Refusal::Miss(at)),
+            None => Err(Refused::Miss(at)),
         }
     }
 
     /// Where names lead in turn from an object, over what is held.
-    pub fn resolve(&self, from: Fid, names: &[Name]) -> Result<Fid, Refusal>
+    pub fn resolve(&self, from: Fid, names: &[Name]) -> Result<Fid, Refused>
         ensures { result ≡ resolve self.now.nodes from names.now }
     {
         let mut at = from;
@@ -277,7 +337,6 @@ impl Client {
     // Looks up what an ask names.
     fn look_up(
         &mut self,
-        alloc: Global,
         offers: Option<&Volume>,
         volume: u32,
         ask: &Ask,
@@ -285,7 +344,7 @@ impl Client {
         ensures { OnOk result (client_state self.new ≡ client_after_all (client_state self.old) (look_ups (nodes_offered offers.entry) (client_state self.old) volume ask.now)) }
     {
         let root = root_fid(volume);
-        let mut fetched = Vec::new(alloc);
+        let mut fetched = Vec::new(self.alloc);
         match ask {
             Ask::Create { path, .. } => {
                 self.look_along(offers, root, front(path.names()), &mut fetched)
@@ -306,22 +365,28 @@ impl Client {
         }
     }
 
-    // Puts an accepted operation behind the log and carries it out on the nodes that the client holds.
-    fn append(&mut self, alloc: Global, time: u64, op: Op) -> Result<Reply, AllocError>
-        requires allowed { MayApply self.old.nodes op }
-        requires operations { self.old.operations < 4294967295 }
-        requires creations { (self.old.creations < 4294967295) ⊎ (created_by op ≡ 0) }
-        ensures { IfOk result (λ reply. Gives (answer_to [] (client_state self.old) time (Ok op)) (client_state self.old) reply (client_state self.new)) }
+    // Puts an accepted operation behind the log of a volume.
+    fn log(&mut self, volume: u32, rec: Record) -> Result<(), AllocError>
+        requires operations { (log_state (tree.get nat_cmp self.old.logs volume)).operations < 4294967295 }
+        requires creations { ((log_state (tree.get nat_cmp self.old.logs volume)).creations < 4294967295) ⊎ (created_by rec.op ≡ 0) }
+        ensures { OnOk result (client_state self.new ≡ record (client_state self.old) { logs = put (client_state self.old).logs volume (log_with ((client_state self.old).logs volume) rec) }) }
     {
-        let number = self.operations + 1;
+        log_at(self.alloc, &mut self.logs, volume)?;
+        push_record(&mut self.logs, volume, rec)
+    }
+
+    // Puts an accepted operation behind the log and carries it out on the nodes that the client holds.
+    fn append(&mut self, volume: u32, time: u64, op: Op) -> Result<Reply, AllocError>
+        requires allowed { MayApply self.old.nodes op }
+        requires operations { ((client_state self.old).logs volume).operations < 4294967295 }
+        requires creations { (((client_state self.old).logs volume).creations < 4294967295) ⊎ (created_by op ≡ 0) }
+        ensures { IfOk result (λ reply. Gives (answer_to [] (client_state self.old) time volume (Ok op)) (client_state self.old) reply (client_state self.new)) }
+    {
+        let number = self.operations(volume) + 1;
         let fid = object_of(&op);
-        let created = created_by(&op);
         let rec = Record { number, time, op };
-        self.log.reserve(1)?;
-        apply_to_table(alloc, &mut self.nodes, self.number, &rec)?;
-        self.log.push(rec)?;
-        self.operations = number;
-        self.creations += created;
+        apply_to_table(self.alloc, &mut self.nodes, self.number, &rec)?;
+        self.log(volume, rec)?;
         Ok(Reply::Done { number, fid })
     }
 
@@ -329,7 +394,6 @@ impl Client {
     #[tactic(auto, unfolding(crate::specs::Asking::operate))]
     pub fn operate(
         &mut self,
-        alloc: Global,
         offers: Option<&Volume>,
         time: u64,
         volume: u32,
@@ -338,37 +402,32 @@ impl Client {
         ensures { IfOk result (λ reply. Gives (operate (nodes_offered offers.entry) (client_state self.old) time volume ask.now) (client_state self.old) reply (client_state self.new)) }
     {
         if let Some(length) = too_big(ask) {
-            return Ok(Reply::Refused(Refusal::TooBig(length)));
+            return Refused::TooBig(length).reply(self.alloc);
         }
-        self.look_up(alloc, offers, volume, ask)?;
+        self.look_up(offers, volume, ask)?;
         match self.accept(volume, ask)? {
-            Ok(op) => self.append(alloc, time, op),
-            Err(refusal) => Ok(Reply::Refused(refusal)),
+            Ok(op) => self.append(volume, time, op),
+            Err(refusal) => refusal.reply(self.alloc),
         }
     }
 
     // The reply to a reading of an object that is held.
-    fn read_at(&self, alloc: Global, fetched: bool, fid: Fid) -> Result<Reply, AllocError>
+    fn read_at(&self, fetched: bool, fid: Fid) -> Result<Reply, AllocError>
         ensures { IfOk result (λ reply. reply ≡ shown_as read_in fetched (map.get self.now.nodes fid) fid) }
     {
         match self.nodes.get(fid) {
             Some(node) => match &node.kind {
                 NodeKind::File(content) => {
-                    let length = content.len() as u64;
-                    let front = front_of_content(alloc, content)?;
-                    Ok(Reply::Content {
-                        fetched,
-                        length,
-                        front,
-                    })
+                    let what = Readable::File(content.copy()?);
+                    Ok(Reply::Read { fetched, what })
                 }
                 NodeKind::Link(target) => {
-                    let target = target.copy()?;
-                    Ok(Reply::Target { fetched, target })
+                    let what = Readable::Link(target.copy()?);
+                    Ok(Reply::Read { fetched, what })
                 }
-                NodeKind::Dir(_) => Ok(Reply::Refused(Refusal::IsDir)),
+                NodeKind::Dir(_) => Refused::IsDir.reply(self.alloc),
             },
-            None => Ok(Reply::Refused(Refusal::Miss(fid))),
+            None => Refused::Miss(fid).reply(self.alloc),
         }
     }
 
@@ -382,25 +441,24 @@ impl Client {
                     let entries = entries.copy()?;
                     Ok(Reply::Listed { fetched, entries })
                 }
-                NodeKind::File(_) => Ok(Reply::Refused(Refusal::NotDir)),
-                NodeKind::Link(_) => Ok(Reply::Refused(Refusal::NotDir)),
+                NodeKind::File(_) => Refused::NotDir.reply(self.alloc),
+                NodeKind::Link(_) => Refused::NotDir.reply(self.alloc),
             },
-            None => Ok(Reply::Refused(Refusal::Miss(fid))),
+            None => Refused::Miss(fid).reply(self.alloc),
         }
     }
 
     // Looks a path up, and answers where it leads and whether that object was fetched for it.
     fn find(
         &mut self,
-        alloc: Global,
         offers: Option<&Volume>,
         volume: u32,
         path: &Path,
-    ) -> Result<Result<(Fid, bool), Refusal>, AllocError>
+    ) -> Result<Result<(Fid, bool), Refused>, AllocError>
         ensures { IfOk result (λ outcome. Finds (look_along (nodes_offered offers.entry) (client_state self.old) (root_of volume) path.now) (client_state self.old) volume path.now outcome (client_state self.new)) }
     {
         let root = root_fid(volume);
-        let mut fetched = Vec::new(alloc);
+        let mut fetched = Vec::new(self.alloc);
         self.look_along(offers, root, path.names(), &mut fetched)?;
         match self.resolve(root, path.names()) {
             Ok(fid) => Ok(Ok((fid, is_noted(&fetched, fid)))),
@@ -411,43 +469,50 @@ impl Client {
     /// Reads a file or a link.
     pub fn read(
         &mut self,
-        alloc: Global,
         offers: Option<&Volume>,
         volume: u32,
         path: &Path,
     ) -> Result<Reply, AllocError>
         ensures { IfOk result (λ reply. Gives (read (nodes_offered offers.entry) (client_state self.old) volume path.now) (client_state self.old) reply (client_state self.new)) }
     {
-        match self.find(alloc, offers, volume, path)? {
-            Ok((fid, fetched)) => self.read_at(alloc, fetched, fid),
-            Err(refusal) => Ok(Reply::Refused(refusal)),
+        match self.find(offers, volume, path)? {
+            Ok((fid, fetched)) => self.read_at(fetched, fid),
+            Err(refusal) => refusal.reply(self.alloc),
         }
     }
 
     /// Lists what a directory binds.
     pub fn list(
         &mut self,
-        alloc: Global,
         offers: Option<&Volume>,
         volume: u32,
         path: &Path,
     ) -> Result<Reply, AllocError>
         ensures { IfOk result (λ reply. Gives (list (nodes_offered offers.entry) (client_state self.old) volume path.now) (client_state self.old) reply (client_state self.new)) }
     {
-        match self.find(alloc, offers, volume, path)? {
+        match self.find(offers, volume, path)? {
             Ok((fid, fetched)) => self.list_at(fetched, fid),
-            Err(refusal) => Ok(Reply::Refused(refusal)),
+            Err(refusal) => refusal.reply(self.alloc),
         }
     }
 
-    /// Takes what became of the chunk of this number, which was the whole log.
-    pub fn settle(&mut self, number: u64, verdict: &Verdict)
-        ensures { (server last : ℕ) → client_state self.new ≡ client_after_all (client_state self.old) (Froze number server last ∷ Settled number verdict.now ∷ []) }
+    /// How many operations the client accepted on a volume.
+    pub fn operations(&self, volume: u32) -> u64
+        ensures { result ≡ ((client_state self.now).logs volume).operations }
     {
-        self.chunks = number;
-        match verdict {
-            Verdict::Applied => self.log.clear(),
-            Verdict::Conflict(_, _) => {}
+        match self.logs.get(&volume) {
+            Some(log) => log.operations,
+            None => 0,
+        }
+    }
+
+    /// How many objects the client created in a volume.
+    pub fn creations(&self, volume: u32) -> u32
+        ensures { result ≡ ((client_state self.now).logs volume).creations }
+    {
+        match self.logs.get(&volume) {
+            Some(log) => log.creations,
+            None => 0,
         }
     }
 }

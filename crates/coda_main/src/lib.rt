@@ -4,16 +4,15 @@
 mod accepting;
 mod cell;
 mod client;
-mod forms;
 mod laws;
 mod line;
 mod machine;
-mod number;
 mod printing;
-mod reply;
+mod refused;
+mod replica;
 mod report;
+mod sending;
 mod top;
-mod words;
 
 pub use coda_engine::{Kind, Status};
 pub use laws::{

@@ -1,19 +1,20 @@
 // The texts of replies.
-ghost use Rattle.std.specs.Prelude.{◌≡◌, ◌∷◌, [], ◌++◌, IfOk, OnOk, codes, string_bytes, option_map};
+ghost use Rattle.std.specs.Prelude.{◌≡◌, ◌∷◌, [], ◌++◌, IfOk, OnOk, codes, string_bytes};
 ghost use Rattle.std.specs.Fmt.{decimal};
 ghost use Rattle.std.specs.List.{flat_map};
 ghost use Rattle.std.specs.FinMap as map;
-ghost use Rattle.coda_main.specs.Texts.{line, kind_text, content_text, mark_text, shown_path, attributes_text, object_line, object_lines, volume_line, volume_text, entry_line, source_text, listing_text, verdict_text, refusal_text, shown_of, text_of};
-ghost use Rattle.coda_main.specs.Printing.{text_of_content};
+ghost use Rattle.coda_main.specs.Texts.{line, kind_text, content_text, mark_text, shown_path, attributes_text, object_line, object_lines, volume_line, volume_text, entry_line, source_text, readable_text, listing_text, answer_text, numbers_text, arg_text, refused_text, reply_text, shown_of, text_of};
+ghost use Rattle.coda_script.specs.Refusals.{number_of_refusal, refusal_name};
 ghost use Rattle.coda_main.specs.Lines.{object_head, bound_lines, entry_text};
 ghost use Rattle.coda_main.specs.Cells.{cell_state, replica_state};
 
-use crate::cell::{Cell, Replica};
+use crate::cell::Cell;
 use crate::client::root_fid;
 use crate::printing::{put_byte, put_content, put_mode, put_printed};
-use crate::reply::{Refusal, Reply};
+use crate::replica::Replica;
 use coda_certify::Verdict;
 use coda_fid::{Fid, Name};
+use coda_script::{Answer, Arg, Args, Numbers, Readable, Refusal, Reply};
 use coda_tree::{Entries, Node, NodeKind, Volume};
 use std::alloc::{AllocError, Global};
 use std::fmt::Write;
@@ -220,100 +221,149 @@ fn put_source(out: &mut String, fetched: bool) -> Result<(), AllocError>
     }
 }
 
-// Puts the length of a file's content and what is shown of it.
-fn put_file(out: &mut String, fetched: bool, length: u64, front: &[u8]) -> Result<(), AllocError>
-    ensures { OnOk result (string_bytes out.new ≡ string_bytes out.old ++ line (source_text fetched ++ decimal length ++ 32 ∷ text_of_content front.now)) }
+// Puts a file's length and the first of its content, or a link's target.
+fn put_readable(out: &mut String, what: &Readable) -> Result<(), AllocError>
+    ensures { OnOk result (string_bytes out.new ≡ string_bytes out.old ++ readable_text what.now) }
 {
-    put_source(out, fetched)?;
-    write!(out, "{length} ")?;
-    put_content(out, front)?;
-    put_byte(out, b'\n')
-}
-
-// Puts the target of a link.
-fn put_target(out: &mut String, fetched: bool, target: &[u8]) -> Result<(), AllocError>
-    ensures { OnOk result (string_bytes out.new ≡ string_bytes out.old ++ line (source_text fetched ++ codes "link " ++ text_of_content target.now)) }
-{
-    put_source(out, fetched)?;
-    out.push_str("link ")?;
-    put_content(out, target)?;
-    put_byte(out, b'\n')
-}
-
-// Puts what became of the chunk of a number.
-fn put_chunk(out: &mut String, number: u64, verdict: Verdict) -> Result<(), AllocError>
-    ensures { OnOk result (string_bytes out.new ≡ string_bytes out.old ++ line (codes "chunk " ++ decimal number ++ 32 ∷ verdict_text verdict)) }
-{
-    match verdict {
-        Verdict::Applied => writeln!(out, "chunk {number} applied"),
-        Verdict::Conflict(record, why) => {
-            writeln!(out, "chunk {number} conflict {record} {why}")
+    match what {
+        Readable::File(content) => {
+            let length = content.len();
+            write!(out, "{length} ")?;
+            put_content(out, content.bytes())
+        }
+        Readable::Link(target) => {
+            out.push_str("link ")?;
+            put_content(out, target.bytes())
         }
     }
 }
 
-// Puts the number and the name of a refusal, and what it names.
-fn put_refusal(out: &mut String, refusal: Refusal) -> Result<(), AllocError>
-    ensures { OnOk result (string_bytes out.new ≡ string_bytes out.old ++ refusal_text refusal) }
+fn put_read(out: &mut String, fetched: bool, what: &Readable) -> Result<(), AllocError>
+    ensures { OnOk result (string_bytes out.new ≡ string_bytes out.old ++ line (source_text fetched ++ readable_text what.now)) }
 {
-    match refusal {
-        Refusal::NotFound => out.push_str("3 not-found"),
-        Refusal::NotDir => out.push_str("4 not-dir"),
-        Refusal::Nothing => out.push_str("6 nothing"),
-        Refusal::JournalFull => out.push_str("13 journal-full"),
-        Refusal::Exists => out.push_str("18 exists"),
-        Refusal::IsDir => out.push_str("19 is-dir"),
-        Refusal::NotEmpty => out.push_str("20 not-empty"),
-        Refusal::Loop => out.push_str("21 loop"),
-        Refusal::Miss(fid) => write!(out, "22 miss {fid}"),
-        Refusal::TooBig(length) => write!(out, "25 too-big {length}"),
-        Refusal::LinkDown => out.push_str("31 link-down"),
-        Refusal::NotFile => out.push_str("44 not-file"),
-    }
-}
-
-fn put_refused(out: &mut String, refusal: Refusal) -> Result<(), AllocError>
-    ensures { OnOk result (string_bytes out.new ≡ string_bytes out.old ++ line (codes "refused " ++ refusal_text refusal)) }
-{
-    out.push_str("refused ")?;
-    put_refusal(out, refusal)?;
+    put_source(out, fetched)?;
+    put_readable(out, what)?;
     put_byte(out, b'\n')
 }
 
-fn put_shown(out: &mut String, cell: &Cell) -> Result<(), AllocError>
-    ensures { OnOk result (string_bytes out.new ≡ string_bytes out.old ++ shown_of (option_map replica_state cell.now.replica)) }
+// Puts what became of the chunk of a number.
+fn put_chunk(out: &mut String, chunk: u64, answer: Answer) -> Result<(), AllocError>
+    ensures { OnOk result (string_bytes out.new ≡ string_bytes out.old ++ line (codes "chunk " ++ decimal chunk ++ 32 ∷ answer_text answer)) }
 {
-    match &cell.replica {
+    match answer {
+        Answer::Decided(Verdict::Applied) => writeln!(out, "chunk {chunk} applied"),
+        Answer::Decided(Verdict::Conflict(record, why)) => {
+            writeln!(out, "chunk {chunk} conflict {record} {why}")
+        }
+        Answer::Behind(last) => writeln!(out, "chunk {chunk} behind {last}"),
+        Answer::Old(last) => writeln!(out, "chunk {chunk} old {last}"),
+    }
+}
+
+// Puts numbers, each behind a blank.
+fn put_numbers(out: &mut String, numbers: &[u64]) -> Result<(), AllocError>
+    ensures { OnOk result (string_bytes out.new ≡ string_bytes out.old ++ numbers_text numbers.now) }
+{
+    for number in numbers {
+        let number = *number;
+        write!(out, " {number}")?;
+    }
+    Ok(())
+}
+
+fn put_opened(out: &mut String, entries: &Numbers) -> Result<(), AllocError>
+    ensures { OnOk result (string_bytes out.new ≡ string_bytes out.old ++ line (codes "opened" ++ numbers_text entries.now)) }
+{
+    out.push_str("opened")?;
+    put_numbers(out, entries.numbers())?;
+    put_byte(out, b'\n')
+}
+
+// Puts what a refusal names.
+fn put_arg(out: &mut String, arg: Arg) -> Result<(), AllocError>
+    ensures { OnOk result (string_bytes out.new ≡ string_bytes out.old ++ arg_text arg) }
+{
+    match arg {
+        Arg::Number(number) => write!(out, " {number}"),
+        Arg::Object(fid) => write!(out, " {fid}"),
+    }
+}
+
+fn put_args(out: &mut String, args: &[Arg]) -> Result<(), AllocError>
+    ensures { OnOk result (string_bytes out.new ≡ string_bytes out.old ++ flat_map arg_text args.now) }
+{
+    for arg in args {
+        put_arg(out, *arg)?;
+    }
+    Ok(())
+}
+
+// Puts the number and the name of a refusal.
+fn put_name(out: &mut String, refusal: Refusal) -> Result<(), AllocError>
+    ensures { OnOk result (string_bytes out.new ≡ string_bytes out.old ++ (codes "refused " ++ decimal (number_of_refusal refusal) ++ 32 ∷ refusal_name refusal)) }
+{
+    let number = refusal.number();
+    write!(out, "refused {number} {refusal}")
+}
+
+fn put_refused(out: &mut String, refusal: Refusal, args: &Args) -> Result<(), AllocError>
+    ensures { OnOk result (string_bytes out.new ≡ string_bytes out.old ++ line (refused_text refusal args.now)) }
+{
+    put_name(out, refusal)?;
+    put_args(out, args.args())?;
+    put_byte(out, b'\n')
+}
+
+// Puts the volume of a replica, where there is one.
+fn put_shown(out: &mut String, cell: &Cell, volume: u32) -> Result<(), AllocError>
+    ensures { OnOk result (string_bytes out.new ≡ string_bytes out.old ++ shown_of ((cell_state cell.now).replicas volume)) }
+{
+    match cell.replicas.get(&volume) {
         Some(replica) => put_replica(out, cell.alloc, replica),
         None => Ok(()),
     }
 }
 
-fn put_reply(out: &mut String, cell: &Cell, reply: &Reply) -> Result<(), AllocError>
-    ensures { OnOk result (string_bytes out.new ≡ string_bytes out.old ++ text_of (cell_state cell.now) reply.now) }
+// Puts the reply of a line that is built.
+fn put_reply(out: &mut String, reply: &Reply) -> Result<(), AllocError>
+    ensures { OnOk result (string_bytes out.new ≡ string_bytes out.old ++ reply_text reply.now) }
 {
     match reply {
-        Reply::Opened => out.push_str("opened 0\n"),
+        Reply::Opened(entries) => put_opened(out, entries),
         Reply::Accepted => out.push_str("ok\n"),
         Reply::Done { number, fid } => writeln!(out, "done {number} {fid}"),
-        Reply::Content {
-            fetched,
-            length,
-            front,
-        } => put_file(out, *fetched, *length, front.bytes()),
-        Reply::Target { fetched, target } => put_target(out, *fetched, target.bytes()),
+        Reply::Read { fetched, what } => put_read(out, *fetched, what),
         Reply::Listed { fetched, entries } => put_listing(out, *fetched, entries),
-        Reply::Chunk { number, verdict } => put_chunk(out, *number, *verdict),
-        Reply::Shown { .. } => put_shown(out, cell),
-        Reply::Refused(refusal) => put_refused(out, *refusal),
+        Reply::Drained { chunk, answer } => put_chunk(out, *chunk, *answer),
+        Reply::Refused { refusal, args } => put_refused(out, *refusal, args),
+        Reply::Hoarded(_) => Ok(()),
+        Reply::Walked { .. } => Ok(()),
+        Reply::Sent { .. } => Ok(()),
+        Reply::Delivered { .. } => Ok(()),
+        Reply::Settled { .. } => Ok(()),
+        Reply::StillFrozen { .. } => Ok(()),
+        Reply::Broken { .. } => Ok(()),
+        Reply::Lost { .. } => Ok(()),
+        Reply::Posted(_) => Ok(()),
+        Reply::GaveUp(_) => Ok(()),
+        Reply::Crashed => Ok(()),
+        Reply::Recovered { .. } => Ok(()),
+        Reply::Resolved { .. } => Ok(()),
+        Reply::Repaired(_) => Ok(()),
+        Reply::ShowVolume { .. } => Ok(()),
+        Reply::ShowLog { .. } => Ok(()),
+        Reply::State(_) => Ok(()),
     }
 }
 
 /// The text of a reply in the cell that the line left.
-pub fn reply_text(alloc: Global, cell: &Cell, reply: &Reply) -> Result<String, AllocError>
+pub fn text_of(alloc: Global, cell: &Cell, reply: &Reply) -> Result<String, AllocError>
     ensures { IfOk result (λ text. string_bytes text ≡ text_of (cell_state cell.now) reply.now) }
 {
     let mut text = String::new(alloc);
-    put_reply(&mut text, cell, reply)?;
+    match reply {
+        Reply::ShowVolume { volume, .. } => put_shown(&mut text, cell, *volume)?,
+        _ => put_reply(&mut text, reply)?,
+    }
     Ok(text)
 }

@@ -5,4 +5,4 @@ use Rattle.coda_main.proofs.Made.{cells_tell}
 use Rattle.coda_main.proofs.laws.clean_scripts_run.Goals as goal
 
 pub returns : goal.returns
-returns c = clean_scripts_run cells_tell empty_cell empty_cell refl
+returns c = clean_scripts_run cells_tell empty_cell empty_cell tt

@@ -5,4 +5,4 @@ use Rattle.coda_main.proofs.Made.{cells_tell}
 use Rattle.coda_main.proofs.laws.one_status.Goals as goal
 
 pub returns : goal.returns
-returns c = one_status cells_tell empty_cell empty_cell refl refl
+returns c = one_status cells_tell empty_cell empty_cell tt tt
