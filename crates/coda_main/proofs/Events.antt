@@ -170,10 +170,11 @@ drained_acted number volume l l' r r' verdict e f decided replica_is log_is =
     subst (λ a. Of a (nat_le 4294967295 l.chunks)) (sym e) (subst (Of false) (sym f) (sent_acted number volume l l' r r' verdict decided replica_is log_is))
 
 -- a client that has no log of the volume, or whose link is down
-pub sends_nothing : (number volume : ℕ) (c : ClientState) (r : ReplicaState) (reply : Reply) → c.logs volume ≡ new_log → reply ≡ refusal Nothing → Sends (drained number volume) number volume c c r r reply
-sends_nothing number volume c r reply is said = record {
+pub sends_nothing : (number volume : ℕ) (c c' : ClientState) (r : ReplicaState) (reply : Reply) → c.logs volume ≡ new_log → ((v : ℕ) → c'.logs v ≡ c.logs v) → c' ≡ record c { logs = c'.logs } → reply ≡ refusal Nothing
+    → Sends (drained number volume) number volume c c' r r reply
+sends_nothing number volume c c' r reply is logs rest said = record {
   log = c.logs volume;
-  left = sym (λ i. record c { logs = λ v. put_same c.logs volume (c.logs volume) refl v i });
+  left = rest ∙ (λ i. record c { logs = λ v. (logs v ∙ sym (put_same c.logs volume (c.logs volume) refl v)) i });
   acted = empty_acted number volume (c.logs volume) r reply (ap (λ (l : LogState). length l.log == 0) is) said;
 }
 

@@ -1,14 +1,15 @@
 // The cell: replicas of volumes, clients, and the links between them.
-ghost use Rattle.std.specs.Prelude.{◌≡◌, ℕ, ◌∷◌, [], Some, IfOk, OnOk};
+ghost use Rattle.std.specs.Prelude.{◌≡◌, ℕ, ◌∷◌, [], Some, IsSome, IfOk, OnOk};
 ghost use Rattle.std.specs.BTreeMap as tree;
 ghost use Rattle.std.specs.Option.{option_map, option_and_then, unwrap_or};
 ghost use Rattle.std.specs.Ordering.{nat_cmp};
 ghost use Rattle.coda_script.specs.declared.line.Strength.TheVariants as Strength;
 ghost use Rattle.coda_script.specs.declared.reply.Reply.TheVariants as Reply;
-ghost use Rattle.coda_main.specs.State.{put, linked};
-ghost use Rattle.coda_main.specs.Code.{client_state, nodes_offered};
-ghost use Rattle.coda_main.specs.Cells.{ends_cmp, replica_state};
-ghost use Rattle.coda_main.specs.Steps.{reached, bytes_of};
+ghost use Rattle.coda_main.specs.State.{put, linked, ClientState, ReplicaState};
+ghost use Rattle.coda_main.specs.Asking.{operate, read, list};
+ghost use Rattle.coda_main.specs.Code.{client_state, nodes_offered, Gives};
+ghost use Rattle.coda_main.specs.Cells.{ends_cmp, replica_state, Sends};
+ghost use Rattle.coda_main.specs.Steps.{reached, drain, bytes_of};
 
 use crate::client::Client;
 use crate::line::Ask;
@@ -122,6 +123,101 @@ fn put_link(
 {
     links.insert(ends, strength)?;
     Ok(())
+}
+
+// Has a client accept an operation, where it is there.
+fn operate_at(
+    clients: &mut BTreeMap<u8, Client>,
+    client: u8,
+    offers: Option<&Volume>,
+    volume: u32,
+    time: u64,
+    ask: &Ask,
+) -> Result<Reply, AllocError>
+    requires { IsSome (tree.get nat_cmp clients.old client) }
+    ensures { IfOk result (λ reply. (c c' : ClientState) × (option_map client_state (tree.get nat_cmp clients.old client) ≡ Some c) × Gives (operate (nodes_offered offers.entry) c time volume ask.now) c reply c' × ((n : ℕ) → option_map client_state (tree.get nat_cmp clients.new n) ≡ put (λ m. option_map client_state (tree.get nat_cmp clients.old m)) client (Some c') n)) }
+{
+    match clients.get_mut(&client) {
+        Some(found) => found.operate(offers, time, volume, ask),
+        None => Ok(Reply::Accepted),
+    }
+}
+
+// Has a client read an object, where it is there.
+fn read_at(
+    clients: &mut BTreeMap<u8, Client>,
+    client: u8,
+    offers: Option<&Volume>,
+    volume: u32,
+    path: &Path,
+) -> Result<Reply, AllocError>
+    requires { IsSome (tree.get nat_cmp clients.old client) }
+    ensures { IfOk result (λ reply. (c c' : ClientState) × (option_map client_state (tree.get nat_cmp clients.old client) ≡ Some c) × Gives (read (nodes_offered offers.entry) c volume path.now) c reply c' × ((n : ℕ) → option_map client_state (tree.get nat_cmp clients.new n) ≡ put (λ m. option_map client_state (tree.get nat_cmp clients.old m)) client (Some c') n)) }
+{
+    match clients.get_mut(&client) {
+        Some(found) => found.read(offers, volume, path),
+        None => Ok(Reply::Accepted),
+    }
+}
+
+// Has a client list a directory, where it is there.
+fn list_at(
+    clients: &mut BTreeMap<u8, Client>,
+    client: u8,
+    offers: Option<&Volume>,
+    volume: u32,
+    path: &Path,
+) -> Result<Reply, AllocError>
+    requires { IsSome (tree.get nat_cmp clients.old client) }
+    ensures { IfOk result (λ reply. (c c' : ClientState) × (option_map client_state (tree.get nat_cmp clients.old client) ≡ Some c) × Gives (list (nodes_offered offers.entry) c volume path.now) c reply c' × ((n : ℕ) → option_map client_state (tree.get nat_cmp clients.new n) ≡ put (λ m. option_map client_state (tree.get nat_cmp clients.old m)) client (Some c') n)) }
+{
+    match clients.get_mut(&client) {
+        Some(found) => found.list(offers, volume, path),
+        None => Ok(Reply::Accepted),
+    }
+}
+
+// Sends a client's log of a volume to a replica, where the client is there.
+fn send_at(
+    alloc: Global,
+    strength: Strength,
+    clients: &mut BTreeMap<u8, Client>,
+    client: u8,
+    volume: u32,
+    replica: &mut Replica,
+) -> Result<Reply, AllocError>
+    requires { IsSome (tree.get nat_cmp clients.old client) }
+    ensures { IfOk result (λ reply. (c c' : ClientState) × (option_map client_state (tree.get nat_cmp clients.old client) ≡ Some c) × Sends (drain strength client volume) client volume c c' (replica_state replica.old) (replica_state replica.new) reply × ((n : ℕ) → option_map client_state (tree.get nat_cmp clients.new n) ≡ put (λ m. option_map client_state (tree.get nat_cmp clients.old m)) client (Some c') n)) }
+{
+    match clients.get_mut(&client) {
+        Some(found) => send(alloc, strength, client, volume, found, replica),
+        None => Ok(Reply::Accepted),
+    }
+}
+
+// Sends a client's log of a volume to its replica, where both are there.
+fn send_between(
+    alloc: Global,
+    links: &BTreeMap<Ends, Strength>,
+    clients: &mut BTreeMap<u8, Client>,
+    replicas: &mut BTreeMap<u32, Replica>,
+    client: u8,
+    volume: u32,
+) -> Result<Reply, AllocError>
+    requires client { IsSome (tree.get nat_cmp clients.old client) }
+    requires replica { IsSome (tree.get nat_cmp replicas.old volume) }
+    ensures { IfOk result (λ reply. (c c' : ClientState) × (r r' : ReplicaState) × (option_map client_state (tree.get nat_cmp clients.old client) ≡ Some c) × (option_map replica_state (tree.get nat_cmp replicas.old volume) ≡ Some r)
+        × Sends (drain (unwrap_or (tree.get ends_cmp links.now (record { client = client; server = r.server })) Strength.Down) client volume) client volume c c' r r' reply
+        × ((n : ℕ) → option_map client_state (tree.get nat_cmp clients.new n) ≡ put (λ m. option_map client_state (tree.get nat_cmp clients.old m)) client (Some c') n)
+        × ((v : ℕ) → option_map replica_state (tree.get nat_cmp replicas.new v) ≡ put (λ w. option_map replica_state (tree.get nat_cmp replicas.old w)) volume (Some r') v)) }
+{
+    match replicas.get_mut(&volume) {
+        Some(replica) => {
+            let strength = strength(links, client, replica.server);
+            send_at(alloc, strength, clients, client, volume, replica)
+        }
+        None => Ok(Reply::Accepted),
+    }
 }
 
 // The bytes of content.
@@ -330,10 +426,7 @@ impl Cell {
         ensures { IfOk result (λ reply. Carried (ByClient (cell_state self.old) client volume (λ offers c. operate offers c self.old.clock volume ask.now)) (cell_state self.old) reply (cell_state self.new)) }
     {
         let offers = offers_of(&self.links, &self.replicas, client, volume);
-        match self.clients.get_mut(&client) {
-            Some(found) => found.operate(offers, self.clock, volume, ask),
-            None => Ok(Reply::Accepted),
-        }
+        operate_at(&mut self.clients, client, offers, volume, self.clock, ask)
     }
 
     // Has a client read an object, where it and the volume are there.
@@ -351,10 +444,7 @@ impl Cell {
         ensures { IfOk result (λ reply. Carried (ByClient (cell_state self.old) client volume (λ offers c. read offers c volume path.now)) (cell_state self.old) reply (cell_state self.new)) }
     {
         let offers = offers_of(&self.links, &self.replicas, client, volume);
-        match self.clients.get_mut(&client) {
-            Some(found) => found.read(offers, volume, path),
-            None => Ok(Reply::Accepted),
-        }
+        read_at(&mut self.clients, client, offers, volume, path)
     }
 
     // Has a client list a directory, where it and the volume are there.
@@ -372,10 +462,7 @@ impl Cell {
         ensures { IfOk result (λ reply. Carried (ByClient (cell_state self.old) client volume (λ offers c. list offers c volume path.now)) (cell_state self.old) reply (cell_state self.new)) }
     {
         let offers = offers_of(&self.links, &self.replicas, client, volume);
-        match self.clients.get_mut(&client) {
-            Some(found) => found.list(offers, volume, path),
-            None => Ok(Reply::Accepted),
-        }
+        list_at(&mut self.clients, client, offers, volume, path)
     }
 
     // Sends a client's log of a volume to a server, where all three are there.
@@ -392,16 +479,14 @@ impl Cell {
         requires { first_missing (on_volume (cell_state self.old) client volume) ≡ None }
         ensures { IfOk result (λ reply. Carried (ByBoth (cell_state self.old) client volume) (cell_state self.old) reply (cell_state self.new)) }
     {
-        match self.clients.get_mut(&client) {
-            Some(found) => match self.replicas.get_mut(&volume) {
-                Some(replica) => {
-                    let strength = strength(&self.links, client, replica.server);
-                    send(self.alloc, strength, client, volume, found, replica)
-                }
-                None => Ok(Reply::Accepted),
-            },
-            None => Ok(Reply::Accepted),
-        }
+        send_between(
+            self.alloc,
+            &self.links,
+            &mut self.clients,
+            &mut self.replicas,
+            client,
+            volume,
+        )
     }
 
     fn show(&self, server: u8, volume: u32) -> Result<Reply, AllocError>

@@ -19,4 +19,7 @@ returns-in-Some c =
 
 pub returns-in-None : goal.returns-in-None
 returns-in-None c =
-    IfOk-weaker c.reply.result _ _ (λ reply said. sends_nothing c.args.number c.args.volume (client_state c.args.client.now) (replica_state c.args.replica.now) reply (ap log_state (sym c.in-None.ensures.value)) said) c.reply.ensures
+    let old = client_state c.args.client.now in
+    let logs = c.args.client.now.logs in
+    let same : (v : ℕ) → log_state (tree.get nat_cmp c.get_mut.follows.lender-at-none v) ≡ log_state (tree.get nat_cmp logs v) = λ v. search rules in
+    IfOk-weaker c.reply.result _ _ (λ reply said. sends_nothing c.args.number c.args.volume old _ (replica_state c.args.replica.now) reply (ap log_state (sym c.in-None.ensures.value)) same refl said) c.reply.ensures
