@@ -1,9 +1,9 @@
 // The rows of the table, and small scripts that are built.
 use crate::running::{put_lines, run_script, run_word};
 use crate::table;
-use crate::table::{BAD_4, OPENED};
+use crate::table::OPENED;
 use coda_io::{MemSink, MemSource};
-use coda_main::{Status, coda};
+use coda_main::{Kind, Status, coda};
 use std::test::Fail;
 
 #[test]
@@ -13,15 +13,11 @@ fn each_row_has_its_report_and_its_status(rt: HostRuntime) -> Result<(), Fail> {
         table::whole_runs(),
         table::layouts(),
         table::printed_names(),
-        table::faulty_words(),
-        table::faulty_volumes(),
-        table::faulty_clients(),
-        table::faulty_links(),
-        table::faulty_creations(),
-        table::faulty_paths(),
-        table::faulty_drains(),
-        table::wrong_actors(),
-        table::early_lines(),
+        table::faulty_lines(),
+        table::later_lines(),
+        table::unknown_actors(),
+        table::many_actors(),
+        table::operations(),
     ];
     for rows in table {
         for (name, script, report, status) in rows {
@@ -47,7 +43,18 @@ fn names_and_paths_have_a_most_length(rt: HostRuntime) -> Result<(), Fail> {
             "done 1 7.1.1\n",
             Status::Done,
         ),
-        ("name_of_256_bytes", 255, b"n", b"n", "", BAD_4),
+        (
+            "name_of_256_bytes",
+            255,
+            b"n",
+            b"n",
+            "",
+            Status::Script {
+                line: 4,
+                column: 11,
+                kind: Kind::Path,
+            },
+        ),
         (
             "path_of_1024_bytes",
             511,
@@ -56,7 +63,18 @@ fn names_and_paths_have_a_most_length(rt: HostRuntime) -> Result<(), Fail> {
             "refused 3 not-found\n",
             Status::Done,
         ),
-        ("path_of_1025_bytes", 511, b"a/", b"ab", "", BAD_4),
+        (
+            "path_of_1025_bytes",
+            511,
+            b"a/",
+            b"ab",
+            "",
+            Status::Script {
+                line: 4,
+                column: 11,
+                kind: Kind::Path,
+            },
+        ),
     ];
     for (name, count, part, last, reply, status) in &rows {
         let mut script = OPENED.to_vec(alloc)?;

@@ -1,34 +1,6 @@
 // The table of scripts. Behind most bad lines stands a line that would have a reply.
 use coda_main::{Kind, Status};
 
-/// Line 1 is bad.
-pub const BAD_1: Status = Status::Script {
-    line: 1,
-    column: 1,
-    kind: Kind::Mode,
-};
-
-/// Line 2 is bad.
-pub const BAD_2: Status = Status::Script {
-    line: 2,
-    column: 1,
-    kind: Kind::Mode,
-};
-
-/// Line 3 is bad.
-pub const BAD_3: Status = Status::Script {
-    line: 3,
-    column: 1,
-    kind: Kind::Mode,
-};
-
-/// Line 4 is bad.
-pub const BAD_4: Status = Status::Script {
-    line: 4,
-    column: 1,
-    kind: Kind::Mode,
-};
-
 /// A script whose client works while the link is down, and then sends what it did.
 pub const FIRST_PATH: &[u8] = b"volume 7 on 1
 client 1 cache 100
@@ -87,7 +59,7 @@ ok
 ok
 refused 22 miss 7.0.1
 ", Status::Done),
-        ("local_refusals", b"volume 7 on 1
+        ("refusals_of_creations", b"volume 7 on 1
 client 1 cache 100
 link 1 1 strong
 mkdir 1 7 /a/b
@@ -282,7 +254,7 @@ chunk 1 applied
 ", Status::Done),
         ("blanks_between_words", b"\tvolume\t7 \t on  1\t \n  client 1 cache 100\nlink\t1\t1\tstrong\n", "opened 0\nopened 0\nok\n", Status::Done),
         ("comments_and_blank_lines", b"# first\n\n   \n\t\nvolume 7 on 1\n#\n  \t# \xff\"\x01\n#volume 7 on 1\n", "opened 0\n", Status::Done),
-        ("comment_in_a_line", b"volume 7 on 1 # here\n", "", BAD_1),
+        ("comment_in_a_line", b"volume 7 on 1 # here\n", "", Status::Script { line: 1, column: 15, kind: Kind::Word }),
         ("carriage_return_and_newline", b"volume 7 on 1\r
 \r
 # comment\r
@@ -292,13 +264,13 @@ mkdir 1 7 /a\r
 opened 0
 refused 22 miss 7.0.1
 ", Status::Done),
-        ("two_carriage_returns", b"volume 7 on 1\nshow volume 1 7\r\r\n", "opened 0\n", BAD_2),
-        ("carriage_return_alone_in_a_line", b"volume 7 on 1\n\r\r\n", "opened 0\n", BAD_2),
-        ("carriage_return_within_a_line", b"volume 7 on 1\rclient 1 cache 100\n", "", BAD_1),
+        ("two_carriage_returns", b"volume 7 on 1\nshow volume 1 7\r\r\n", "opened 0\n", Status::Script { line: 2, column: 15, kind: Kind::Text }),
+        ("carriage_return_alone_in_a_line", b"volume 7 on 1\n\r\r\n", "opened 0\n", Status::Script { line: 2, column: 1, kind: Kind::Text }),
+        ("carriage_return_within_a_line", b"volume 7 on 1\rclient 1 cache 100\n", "", Status::Script { line: 1, column: 13, kind: Kind::Text }),
         ("no_newline_at_the_end", b"volume 7 on 1\nclient 1 cache 100\nmkdir 1 7 /a", "opened 0\nopened 0\nrefused 22 miss 7.0.1\n", Status::Done),
-        ("bad_line_with_no_newline", b"volume 7 on 1\nvolume", "opened 0\n", BAD_2),
-        ("carriage_return_and_no_newline", b"volume 7 on 1\nshow volume 1 7\r", "opened 0\n", BAD_2),
-        ("carriage_return_at_the_end", b"volume 7 on 1\n\r", "opened 0\n", BAD_2),
+        ("bad_line_with_no_newline", b"volume 7 on 1\nvolume", "opened 0\n", Status::Script { line: 2, column: 7, kind: Kind::Count }),
+        ("carriage_return_and_no_newline", b"volume 7 on 1\nshow volume 1 7\r", "opened 0\n", Status::Script { line: 2, column: 15, kind: Kind::Text }),
+        ("carriage_return_at_the_end", b"volume 7 on 1\n\r", "opened 0\n", Status::Script { line: 2, column: 1, kind: Kind::Text }),
         ("blanks_and_no_newline", b"volume 7 on 1\n \t", "opened 0\n", Status::Done),
         ("comment_and_no_newline", b"volume 7 on 1\n# end\r", "opened 0\n", Status::Done),
         ("empty_script", b"", "", Status::Done),
@@ -381,184 +353,437 @@ done 4 7.1.4
     ]
 }
 
-/// Lines whose first word is none.
+/// Lines that are none, each with its first wrong column and what is wrong there.
 #[rattlefmt::skip]
-pub fn faulty_words() -> &'static [Row] {
+pub fn faulty_lines() -> &'static [Row] {
     &[
-        ("unknown_word", b"volume 7 on 1\nclient 1 cache 100\nmirror 1\nshow volume 1 7\n", "opened 0\nopened 0\n", BAD_3),
-        ("upper_case_word", b"volume 7 on 1\nclient 1 cache 100\nLINK 1 1 strong\nshow volume 1 7\n", "opened 0\nopened 0\n", BAD_3),
-        ("quoted_word", b"volume 7 on 1\nclient 1 cache 100\n\"link\" 1 1 strong\nshow volume 1 7\n", "opened 0\nopened 0\n", BAD_3),
-        ("longer_word", b"volume 7 on 1\nclient 1 cache 100\nlinks 1 1 strong\nshow volume 1 7\n", "opened 0\nopened 0\n", BAD_3),
-        ("quote_alone", b"volume 7 on 1\nclient 1 cache 100\n\"\nshow volume 1 7\n", "opened 0\nopened 0\n", BAD_3),
-        ("control_byte", b"volume 7 on 1\nclient 1 cache 100\n\x01\nshow volume 1 7\n", "opened 0\nopened 0\n", BAD_3),
-        ("nul_byte", b"volume 7 on 1\nclient 1 cache 100\n\0\nshow volume 1 7\n", "opened 0\nopened 0\n", BAD_3),
-        ("high_byte", b"volume 7 on 1\nclient 1 cache 100\n\xff\nshow volume 1 7\n", "opened 0\nopened 0\n", BAD_3),
+        ("word_that_is_wrong", b"link 1 1 stong", "", Status::Script { line: 1, column: 10, kind: Kind::Word }),
+        ("text_that_does_not_end", b"store 1 7 /f text \"ab", "", Status::Script { line: 1, column: 19, kind: Kind::Text }),
+        ("line_of_an_actor", b"at 1 list 1 7 /\n", "", Status::Script { line: 1, column: 1, kind: Kind::Mode }),
+        ("unknown_word", b"volume 7 on 1\nmirror 1\nshow volume 1 7\n", "opened 0\n", Status::Script { line: 2, column: 1, kind: Kind::Word }),
+        ("upper_case_word", b"volume 7 on 1\nSHOW volume 1 7\n", "opened 0\n", Status::Script { line: 2, column: 1, kind: Kind::Word }),
+        ("control_byte", b"volume 7 on 1\n\x01\nshow volume 1 7\n", "opened 0\n", Status::Script { line: 2, column: 1, kind: Kind::Text }),
+        ("nul_byte", b"volume 7 on 1\nmkdir 1 7 /a\0b\n", "opened 0\n", Status::Script { line: 2, column: 11, kind: Kind::Text }),
+        ("delete_byte", b"volume 7 on 1\nmkdir 1 7 /a\x7fb\n", "opened 0\n", Status::Script { line: 2, column: 11, kind: Kind::Text }),
+        ("volume_of_number_0", b"volume 0 on 1\nvolume 7 on 1\n", "", Status::Script { line: 1, column: 8, kind: Kind::Number }),
+        ("volume_past_64_bits", b"volume 18446744073709551623 on 1\n", "", Status::Script { line: 1, column: 8, kind: Kind::Number }),
+        ("volume_of_21_digits", b"volume 000000000000000000007 on 1\n", "", Status::Script { line: 1, column: 8, kind: Kind::Number }),
+        ("volume_with_a_sign", b"volume +7 on 1\n", "", Status::Script { line: 1, column: 8, kind: Kind::Number }),
+        ("client_with_too_many_blocks", b"volume 7 on 1\nclient 1 cache 32769\n", "opened 0\n", Status::Script { line: 2, column: 16, kind: Kind::Number }),
+        ("link_cut_off", b"volume 7 on 1\nlink 1 1\n", "opened 0\n", Status::Script { line: 2, column: 9, kind: Kind::Count }),
+        ("list_too_long", b"volume 7 on 1\nlist 1 7 / /\n", "opened 0\n", Status::Script { line: 2, column: 12, kind: Kind::Count }),
+        ("mkdir_of_no_path", b"volume 7 on 1\nmkdir 1 7 a\n", "opened 0\n", Status::Script { line: 2, column: 11, kind: Kind::Path }),
+        ("path_through_two_dots", b"volume 7 on 1\nmkdir 1 7 /a/../b\n", "opened 0\n", Status::Script { line: 2, column: 11, kind: Kind::Path }),
+        ("mode_of_10000", b"volume 7 on 1\nmkdir 1 7 /a mode 10000\n", "opened 0\n", Status::Script { line: 2, column: 19, kind: Kind::Number }),
+        ("setattr_of_nothing", b"volume 7 on 1\nsetattr 1 7 /a\n", "opened 0\n", Status::Script { line: 2, column: 15, kind: Kind::Count }),
+        ("empty_link", b"volume 7 on 1\nsymlink 1 7 /a \"\"\n", "opened 0\n", Status::Script { line: 2, column: 16, kind: Kind::Text }),
+        ("drain_with_half_a_window", b"volume 7 on 1\ndrain 1 7 1 window\n", "opened 0\n", Status::Script { line: 2, column: 19, kind: Kind::Count }),
     ]
 }
 
-/// Lines that are almost `volume`.
+/// Lines of forms that the cell doesn't carry out yet.
 #[rattlefmt::skip]
-pub fn faulty_volumes() -> &'static [Row] {
+pub fn later_lines() -> &'static [Row] {
     &[
-        ("volume_with_no_number", b"volume x on 1\nvolume 7 on 1\n", "", BAD_1),
-        ("volume_of_number_0", b"volume 0 on 1\nvolume 7 on 1\n", "", BAD_1),
-        ("volume_of_number_2_to_32", b"volume 4294967296 on 1\nvolume 7 on 1\n", "", BAD_1),
-        ("volume_past_32_bits", b"volume 4294967303 on 1\nvolume 7 on 1\n", "", BAD_1),
-        ("volume_past_64_bits", b"volume 18446744073709551623 on 1\nvolume 7 on 1\n", "", BAD_1),
-        ("volume_of_21_digits", b"volume 000000000000000000007 on 1\nvolume 7 on 1\n", "", BAD_1),
-        ("volume_with_a_sign", b"volume +7 on 1\nvolume 7 on 1\n", "", BAD_1),
-        ("volume_below_0", b"volume -7 on 1\nvolume 7 on 1\n", "", BAD_1),
-        ("volume_in_hexadecimal", b"volume 0x7 on 1\nvolume 7 on 1\n", "", BAD_1),
-        ("volume_at_a_server", b"volume 7 at 1\nvolume 7 on 1\n", "", BAD_1),
-        ("volume_on_server_0", b"volume 7 on 0\nvolume 7 on 1\n", "", BAD_1),
-        ("volume_on_server_9", b"volume 7 on 9\nvolume 7 on 1\n", "", BAD_1),
-        ("volume_on_server_257", b"volume 7 on 257\nvolume 7 on 1\n", "", BAD_1),
-        ("volume_on_no_server", b"volume 7 on\nvolume 7 on 1\n", "", BAD_1),
-        ("volume_on_two_servers", b"volume 7 on 1 2\nvolume 7 on 1\n", "", BAD_1),
-        ("volume_quoted", b"volume \"7\" on 1\nvolume 7 on 1\n", "", BAD_1),
-        ("volume_alone", b"volume\nvolume 7 on 1\n", "", BAD_1),
+        ("weak_link", b"volume 7 on 1\nclient 1 cache 100\nlink 1 1 weak\n", "opened 0\nopened 0\n", Status::Script { line: 3, column: 1, kind: Kind::Mode }),
+        ("two_servers", b"volume 7 on 1 2\n", "", Status::Script { line: 1, column: 1, kind: Kind::Mode }),
+        ("area_of_a_volume", b"volume 7 on 1 area 2\n", "", Status::Script { line: 1, column: 1, kind: Kind::Mode }),
+        ("area_of_a_client", b"client 1 cache 9 area 2\n", "", Status::Script { line: 1, column: 1, kind: Kind::Mode }),
+        ("drain_of_a_week", b"volume 7 on 1\nclient 1 cache 100\ndrain 1 7 1\n", "opened 0\nopened 0\n", Status::Script { line: 3, column: 1, kind: Kind::Mode }),
+        ("drain_of_a_window", b"volume 7 on 1\nclient 1 cache 100\ndrain 1 7 1 window 5\n", "opened 0\nopened 0\n", Status::Script { line: 3, column: 1, kind: Kind::Mode }),
+        ("crash", b"volume 7 on 1\ncrash replica 1 7 0\n", "opened 0\n", Status::Script { line: 2, column: 1, kind: Kind::Mode }),
+        ("hoard", b"volume 7 on 1\nclient 1 cache 100\nhoard list 1\n", "opened 0\nopened 0\n", Status::Script { line: 3, column: 1, kind: Kind::Mode }),
     ]
 }
 
-/// Lines that are almost `client`.
+/// Lines that name an actor that isn't there, or make one again.
 #[rattlefmt::skip]
-pub fn faulty_clients() -> &'static [Row] {
+pub fn unknown_actors() -> &'static [Row] {
     &[
-        ("client_with_no_number", b"client x cache 100\nvolume 7 on 1\n", "", BAD_1),
-        ("client_of_number_0", b"client 0 cache 100\nvolume 7 on 1\n", "", BAD_1),
-        ("client_of_number_256", b"client 256 cache 100\nvolume 7 on 1\n", "", BAD_1),
-        ("client_of_number_257", b"client 257 cache 100\nvolume 7 on 1\n", "", BAD_1),
-        ("client_with_no_cache", b"client 1 store 100\nvolume 7 on 1\n", "", BAD_1),
-        ("client_with_no_blocks", b"client 1 cache 0\nvolume 7 on 1\n", "", BAD_1),
-        ("client_with_too_many_blocks", b"client 1 cache 32769\nvolume 7 on 1\n", "", BAD_1),
-        ("client_with_blocks_past_16_bits", b"client 1 cache 65636\nvolume 7 on 1\n", "", BAD_1),
-        ("client_with_a_word_of_blocks", b"client 1 cache all\nvolume 7 on 1\n", "", BAD_1),
-        ("client_cut_off", b"client 1 cache\nvolume 7 on 1\n", "", BAD_1),
-        ("client_too_long", b"client 1 cache 100 1\nvolume 7 on 1\n", "", BAD_1),
-        ("client_quoted", b"client 1 \"cache\" 100\nvolume 7 on 1\n", "", BAD_1),
+        ("volume_again", b"volume 7 on 1\nclient 1 cache 100\nlink 1 1 strong\nvolume 7 on 1\nread 3 7 /\n", "opened 0\nopened 0\nok\nrefused 33 already-there\nrefused 32 no-such-actor 3\n", Status::Done),
+        ("volume_on_another_server", b"volume 7 on 1\nvolume 7 on 2\nshow volume 2 7\n", "opened 0\nrefused 33 already-there\nrefused 32 no-such-actor 2\n", Status::Done),
+        ("client_again", b"client 1 cache 100\nclient 1 cache 9\n", "opened 0\nrefused 33 already-there\n", Status::Done),
+        ("nobody_is_there", b"link 1 1 strong
+list 2 7 /
+read 3 7 /
+mkdir 4 7 /a
+create 5 7 /a
+symlink 6 7 /a \"t\"
+store 7 7 /a text \"\"
+setattr 8 7 /a mode 0
+remove 9 7 /a
+rmdir 10 7 /a
+rename 11 7 /a /b
+drain 12 7 1 window 0
+show volume 1 7
+tick 5
+", "refused 32 no-such-actor 1
+refused 32 no-such-actor 2
+refused 32 no-such-actor 3
+refused 32 no-such-actor 4
+refused 32 no-such-actor 5
+refused 32 no-such-actor 6
+refused 32 no-such-actor 7
+refused 32 no-such-actor 8
+refused 32 no-such-actor 9
+refused 32 no-such-actor 10
+refused 32 no-such-actor 11
+refused 32 no-such-actor 12
+refused 32 no-such-actor 1
+ok
+", Status::Done),
+        ("left_before_right", b"client 1 cache 9
+volume 7 on 2
+list 1 8 /
+drain 1 8 3 window 0
+drain 2 8 3 window 0
+link 1 1 strong
+link 2 1 strong
+show volume 1 9
+show volume 2 9
+", "opened 0
+opened 0
+refused 32 no-such-actor 8
+refused 32 no-such-actor 8
+refused 32 no-such-actor 2
+refused 32 no-such-actor 1
+refused 32 no-such-actor 2
+refused 32 no-such-actor 1
+refused 32 no-such-actor 2
+", Status::Done),
+        ("server_without_the_volume", b"client 1 cache 9
+volume 7 on 2
+volume 8 on 3
+drain 1 7 3 window 0
+show volume 3 7
+show volume 2 8
+link 1 1 down
+link 1 3 down
+", "opened 0
+opened 0
+opened 0
+refused 32 no-such-actor 3
+refused 32 no-such-actor 3
+refused 32 no-such-actor 2
+refused 32 no-such-actor 1
+ok
+", Status::Done),
     ]
 }
 
-/// Lines that are almost `link` or `list`.
+/// Two clients and two volumes.
 #[rattlefmt::skip]
-pub fn faulty_links() -> &'static [Row] {
+pub fn many_actors() -> &'static [Row] {
     &[
-        ("link_of_no_number", b"volume 7 on 1\nclient 1 cache 100\nlink x 1 strong\nshow volume 1 7\n", "opened 0\nopened 0\n", BAD_3),
-        ("link_of_client_0", b"volume 7 on 1\nclient 1 cache 100\nlink 0 1 strong\nshow volume 1 7\n", "opened 0\nopened 0\n", BAD_3),
-        ("link_of_client_257", b"volume 7 on 1\nclient 1 cache 100\nlink 257 1 strong\nshow volume 1 7\n", "opened 0\nopened 0\n", BAD_3),
-        ("link_to_no_number", b"volume 7 on 1\nclient 1 cache 100\nlink 1 x strong\nshow volume 1 7\n", "opened 0\nopened 0\n", BAD_3),
-        ("link_to_server_9", b"volume 7 on 1\nclient 1 cache 100\nlink 1 9 strong\nshow volume 1 7\n", "opened 0\nopened 0\n", BAD_3),
-        ("link_weak", b"volume 7 on 1\nclient 1 cache 100\nlink 1 1 weak\nshow volume 1 7\n", "opened 0\nopened 0\n", BAD_3),
-        ("link_upper_case", b"volume 7 on 1\nclient 1 cache 100\nlink 1 1 Strong\nshow volume 1 7\n", "opened 0\nopened 0\n", BAD_3),
-        ("link_cut_off", b"volume 7 on 1\nclient 1 cache 100\nlink 1 1\nshow volume 1 7\n", "opened 0\nopened 0\n", BAD_3),
-        ("link_too_long", b"volume 7 on 1\nclient 1 cache 100\nlink 1 1 strong 1\nshow volume 1 7\n", "opened 0\nopened 0\n", BAD_3),
-        ("link_quoted", b"volume 7 on 1\nclient 1 cache 100\nlink 1 1 \"strong\"\nshow volume 1 7\n", "opened 0\nopened 0\n", BAD_3),
-        ("list_of_no_client", b"volume 7 on 1\nclient 1 cache 100\nlist x 7 /\nshow volume 1 7\n", "opened 0\nopened 0\n", BAD_3),
-        ("list_of_no_volume", b"volume 7 on 1\nclient 1 cache 100\nlist 1 x /\nshow volume 1 7\n", "opened 0\nopened 0\n", BAD_3),
-        ("list_of_volume_0", b"volume 7 on 1\nclient 1 cache 100\nlist 1 0 /\nshow volume 1 7\n", "opened 0\nopened 0\n", BAD_3),
-        ("list_of_a_name", b"volume 7 on 1\nclient 1 cache 100\nlist 1 7 /a\nshow volume 1 7\n", "opened 0\nopened 0\n", BAD_3),
-        ("list_of_two_slashes", b"volume 7 on 1\nclient 1 cache 100\nlist 1 7 //\nshow volume 1 7\n", "opened 0\nopened 0\n", BAD_3),
-        ("list_cut_off", b"volume 7 on 1\nclient 1 cache 100\nlist 1 7\nshow volume 1 7\n", "opened 0\nopened 0\n", BAD_3),
-        ("list_too_long", b"volume 7 on 1\nclient 1 cache 100\nlist 1 7 / /\nshow volume 1 7\n", "opened 0\nopened 0\n", BAD_3),
-        ("list_quoted", b"volume 7 on 1\nclient 1 cache 100\nlist 1 7 \"/\"\nshow volume 1 7\n", "opened 0\nopened 0\n", BAD_3),
+        ("rename_loop_conflict", b"volume 7 on 1
+client 1 cache 100
+link 1 1 strong
+client 2 cache 100
+link 2 1 strong
+mkdir 1 7 /a
+mkdir 1 7 /b
+drain 1 7 1 window 0
+rename 1 7 /a /b/a
+rename 2 7 /b /a/b
+drain 1 7 1 window 0
+drain 2 7 1 window 0
+show volume 1 7
+", "opened 0
+opened 0
+ok
+opened 0
+ok
+done 1 7.1.1
+done 2 7.1.2
+chunk 1 applied
+done 3 7.1.1
+done 1 7.1.2
+chunk 2 applied
+chunk 1 conflict 1 loop
+volume 7 at 1 objects 3
+/ dir 7.0.1 0755 0 0 0.0
+/b dir 7.1.2 0755 0 0 1.2
+/b/a dir 7.1.1 0755 0 0 1.1
+", Status::Done),
+        ("two_clients_bind_a_name", b"volume 7 on 1
+client 1 cache 100
+client 2 cache 100
+link 1 1 strong
+link 2 1 strong
+create 1 7 /a
+create 2 7 /b
+create 2 7 /a
+drain 1 7 1 window 0
+drain 2 7 1 window 0
+list 2 7 /
+show volume 1 7
+", "opened 0
+opened 0
+ok
+ok
+done 1 7.1.1
+done 1 7.2.1
+done 2 7.2.2
+chunk 1 applied
+chunk 1 conflict 2 name-taken 7.1.1
+cached 2
+a 7.2.2
+b 7.2.1
+volume 7 at 1 objects 2
+/ dir 7.0.1 0755 0 0 0.0
+/a file 7.1.1 0644 0 0 1.1 0 \"\"
+", Status::Done),
+        ("two_volumes_of_a_client", b"volume 7 on 1
+volume 8 on 2
+client 1 cache 100
+link 1 1 strong
+mkdir 1 7 /a
+mkdir 1 8 /a
+link 1 2 strong
+mkdir 1 8 /a
+drain 1 8 2 window 0
+drain 1 7 1 window 0
+show volume 1 7
+show volume 2 8
+", "opened 0
+opened 0
+opened 0
+ok
+done 1 7.1.1
+refused 22 miss 8.0.1
+ok
+done 1 8.1.1
+chunk 1 applied
+chunk 1 applied
+volume 7 at 1 objects 2
+/ dir 7.0.1 0755 0 0 0.0
+/a dir 7.1.1 0755 0 0 1.1
+volume 8 at 2 objects 2
+/ dir 8.0.1 0755 0 0 0.0
+/a dir 8.1.1 0755 0 0 1.1
+", Status::Done),
     ]
 }
 
-/// Lines that are almost `mkdir` or `create`.
+/// The eight operations, and what they refuse.
 #[rattlefmt::skip]
-pub fn faulty_creations() -> &'static [Row] {
+pub fn operations() -> &'static [Row] {
     &[
-        ("mkdir_of_no_client", b"volume 7 on 1\nclient 1 cache 100\nmkdir x 7 /a\nshow volume 1 7\n", "opened 0\nopened 0\n", BAD_3),
-        ("mkdir_of_no_volume", b"volume 7 on 1\nclient 1 cache 100\nmkdir 1 x /a\nshow volume 1 7\n", "opened 0\nopened 0\n", BAD_3),
-        ("mkdir_of_no_path", b"volume 7 on 1\nclient 1 cache 100\nmkdir 1 7 a\nshow volume 1 7\n", "opened 0\nopened 0\n", BAD_3),
-        ("mkdir_cut_off", b"volume 7 on 1\nclient 1 cache 100\nmkdir 1 7\nshow volume 1 7\n", "opened 0\nopened 0\n", BAD_3),
-        ("mkdir_too_long", b"volume 7 on 1\nclient 1 cache 100\nmkdir 1 7 /a /b\nshow volume 1 7\n", "opened 0\nopened 0\n", BAD_3),
-        ("mkdir_with_a_mode", b"volume 7 on 1\nclient 1 cache 100\nmkdir 1 7 /a mode 0700\nshow volume 1 7\n", "opened 0\nopened 0\n", BAD_3),
-        ("mkdir_quoted", b"volume 7 on 1\nclient 1 cache 100\nmkdir 1 7 \"/a\"\nshow volume 1 7\n", "opened 0\nopened 0\n", BAD_3),
-        ("create_of_no_client", b"volume 7 on 1\nclient 1 cache 100\ncreate x 7 /a\nshow volume 1 7\n", "opened 0\nopened 0\n", BAD_3),
-        ("create_of_no_volume", b"volume 7 on 1\nclient 1 cache 100\ncreate 1 x /a\nshow volume 1 7\n", "opened 0\nopened 0\n", BAD_3),
-        ("create_of_no_path", b"volume 7 on 1\nclient 1 cache 100\ncreate 1 7 a\nshow volume 1 7\n", "opened 0\nopened 0\n", BAD_3),
-        ("create_cut_off", b"volume 7 on 1\nclient 1 cache 100\ncreate 1 7\nshow volume 1 7\n", "opened 0\nopened 0\n", BAD_3),
-        ("create_too_long", b"volume 7 on 1\nclient 1 cache 100\ncreate 1 7 /a /b\nshow volume 1 7\n", "opened 0\nopened 0\n", BAD_3),
-        ("create_quoted", b"volume 7 on 1\nclient 1 cache 100\ncreate 1 7 \"/a\"\nshow volume 1 7\n", "opened 0\nopened 0\n", BAD_3),
-    ]
-}
-
-/// Words that are almost a path.
-#[rattlefmt::skip]
-pub fn faulty_paths() -> &'static [Row] {
-    &[
-        ("path_with_two_slashes", b"volume 7 on 1\nclient 1 cache 100\ncreate 1 7 //a\nshow volume 1 7\n", "opened 0\nopened 0\n", BAD_3),
-        ("path_with_a_slash_behind", b"volume 7 on 1\nclient 1 cache 100\nmkdir 1 7 /a/\nshow volume 1 7\n", "opened 0\nopened 0\n", BAD_3),
-        ("path_with_a_dot", b"volume 7 on 1\nclient 1 cache 100\ncreate 1 7 /.\nshow volume 1 7\n", "opened 0\nopened 0\n", BAD_3),
-        ("path_with_two_dots", b"volume 7 on 1\nclient 1 cache 100\ncreate 1 7 /..\nshow volume 1 7\n", "opened 0\nopened 0\n", BAD_3),
-        ("path_through_two_dots", b"volume 7 on 1\nclient 1 cache 100\ncreate 1 7 /a/../b\nshow volume 1 7\n", "opened 0\nopened 0\n", BAD_3),
-        ("path_with_a_quote", b"volume 7 on 1\nclient 1 cache 100\ncreate 1 7 /a\"b\nshow volume 1 7\n", "opened 0\nopened 0\n", BAD_3),
-        ("path_with_a_delete_byte", b"volume 7 on 1\nclient 1 cache 100\ncreate 1 7 /a\x7fb\nshow volume 1 7\n", "opened 0\nopened 0\n", BAD_3),
-        ("path_with_a_control_byte", b"volume 7 on 1\nclient 1 cache 100\ncreate 1 7 /a\x1fb\nshow volume 1 7\n", "opened 0\nopened 0\n", BAD_3),
-        ("path_with_a_nul_byte", b"volume 7 on 1\nclient 1 cache 100\ncreate 1 7 /a\0b\nshow volume 1 7\n", "opened 0\nopened 0\n", BAD_3),
-    ]
-}
-
-/// Lines that are almost `drain` or `show`.
-#[rattlefmt::skip]
-pub fn faulty_drains() -> &'static [Row] {
-    &[
-        ("drain_of_no_client", b"volume 7 on 1\nclient 1 cache 100\ndrain x 7 1 window 0\nshow volume 1 7\n", "opened 0\nopened 0\n", BAD_3),
-        ("drain_of_no_volume", b"volume 7 on 1\nclient 1 cache 100\ndrain 1 x 1 window 0\nshow volume 1 7\n", "opened 0\nopened 0\n", BAD_3),
-        ("drain_to_no_server", b"volume 7 on 1\nclient 1 cache 100\ndrain 1 7 x window 0\nshow volume 1 7\n", "opened 0\nopened 0\n", BAD_3),
-        ("drain_with_no_window", b"volume 7 on 1\nclient 1 cache 100\ndrain 1 7 1\nshow volume 1 7\n", "opened 0\nopened 0\n", BAD_3),
-        ("drain_cut_off", b"volume 7 on 1\nclient 1 cache 100\ndrain 1 7 1 window\nshow volume 1 7\n", "opened 0\nopened 0\n", BAD_3),
-        ("drain_of_another_word", b"volume 7 on 1\nclient 1 cache 100\ndrain 1 7 1 windows 0\nshow volume 1 7\n", "opened 0\nopened 0\n", BAD_3),
-        ("drain_in_part", b"volume 7 on 1\nclient 1 cache 100\ndrain 1 7 1 window 1\nshow volume 1 7\n", "opened 0\nopened 0\n", BAD_3),
-        ("drain_with_no_number", b"volume 7 on 1\nclient 1 cache 100\ndrain 1 7 1 window x\nshow volume 1 7\n", "opened 0\nopened 0\n", BAD_3),
-        ("drain_too_long", b"volume 7 on 1\nclient 1 cache 100\ndrain 1 7 1 window 0 0\nshow volume 1 7\n", "opened 0\nopened 0\n", BAD_3),
-        ("drain_quoted", b"volume 7 on 1\nclient 1 cache 100\ndrain 1 7 1 window \"0\"\nshow volume 1 7\n", "opened 0\nopened 0\n", BAD_3),
-        ("show_of_a_client", b"volume 7 on 1\nclient 1 cache 100\nshow client 1 7\nshow volume 1 7\n", "opened 0\nopened 0\n", BAD_3),
-        ("show_of_no_server", b"volume 7 on 1\nclient 1 cache 100\nshow volume x 7\nshow volume 1 7\n", "opened 0\nopened 0\n", BAD_3),
-        ("show_of_server_9", b"volume 7 on 1\nclient 1 cache 100\nshow volume 9 7\nshow volume 1 7\n", "opened 0\nopened 0\n", BAD_3),
-        ("show_of_no_volume", b"volume 7 on 1\nclient 1 cache 100\nshow volume 1 x\nshow volume 1 7\n", "opened 0\nopened 0\n", BAD_3),
-        ("show_cut_off", b"volume 7 on 1\nclient 1 cache 100\nshow volume 1\nshow volume 1 7\n", "opened 0\nopened 0\n", BAD_3),
-        ("show_too_long", b"volume 7 on 1\nclient 1 cache 100\nshow volume 1 7 7\nshow volume 1 7\n", "opened 0\nopened 0\n", BAD_3),
-        ("show_quoted", b"volume 7 on 1\nclient 1 cache 100\nshow \"volume\" 1 7\nshow volume 1 7\n", "opened 0\nopened 0\n", BAD_3),
-    ]
-}
-
-/// Lines that make an actor again or name one that no line made.
-#[rattlefmt::skip]
-pub fn wrong_actors() -> &'static [Row] {
-    &[
-        ("volume_again", b"volume 7 on 1\nclient 1 cache 100\nvolume 7 on 1\nshow volume 1 7\n", "opened 0\nopened 0\n", BAD_3),
-        ("volume_of_another_number", b"volume 7 on 1\nclient 1 cache 100\nvolume 8 on 2\nshow volume 1 7\n", "opened 0\nopened 0\n", BAD_3),
-        ("client_again", b"volume 7 on 1\nclient 1 cache 100\nclient 1 cache 100\nshow volume 1 7\n", "opened 0\nopened 0\n", BAD_3),
-        ("client_of_another_number", b"volume 7 on 1\nclient 1 cache 100\nclient 2 cache 100\nshow volume 1 7\n", "opened 0\nopened 0\n", BAD_3),
-        ("link_of_another_client", b"volume 7 on 1\nclient 1 cache 100\nlink 2 1 strong\nshow volume 1 7\n", "opened 0\nopened 0\n", BAD_3),
-        ("link_to_another_server", b"volume 7 on 1\nclient 1 cache 100\nlink 1 2 strong\nshow volume 1 7\n", "opened 0\nopened 0\n", BAD_3),
-        ("list_of_another_client", b"volume 7 on 1\nclient 1 cache 100\nlist 2 7 /\nshow volume 1 7\n", "opened 0\nopened 0\n", BAD_3),
-        ("list_of_another_volume", b"volume 7 on 1\nclient 1 cache 100\nlist 1 8 /\nshow volume 1 7\n", "opened 0\nopened 0\n", BAD_3),
-        ("mkdir_of_another_client", b"volume 7 on 1\nclient 1 cache 100\nmkdir 2 7 /a\nshow volume 1 7\n", "opened 0\nopened 0\n", BAD_3),
-        ("mkdir_of_another_volume", b"volume 7 on 1\nclient 1 cache 100\nmkdir 1 8 /a\nshow volume 1 7\n", "opened 0\nopened 0\n", BAD_3),
-        ("create_of_another_client", b"volume 7 on 1\nclient 1 cache 100\ncreate 2 7 /a\nshow volume 1 7\n", "opened 0\nopened 0\n", BAD_3),
-        ("create_of_another_volume", b"volume 7 on 1\nclient 1 cache 100\ncreate 1 8 /a\nshow volume 1 7\n", "opened 0\nopened 0\n", BAD_3),
-        ("drain_of_another_client", b"volume 7 on 1\nclient 1 cache 100\ndrain 2 7 1 window 0\nshow volume 1 7\n", "opened 0\nopened 0\n", BAD_3),
-        ("drain_of_another_volume", b"volume 7 on 1\nclient 1 cache 100\ndrain 1 8 1 window 0\nshow volume 1 7\n", "opened 0\nopened 0\n", BAD_3),
-        ("drain_to_another_server", b"volume 7 on 1\nclient 1 cache 100\ndrain 1 7 2 window 0\nshow volume 1 7\n", "opened 0\nopened 0\n", BAD_3),
-        ("show_of_another_server", b"volume 7 on 1\nclient 1 cache 100\nshow volume 2 7\nshow volume 1 7\n", "opened 0\nopened 0\n", BAD_3),
-        ("show_of_another_volume", b"volume 7 on 1\nclient 1 cache 100\nshow volume 1 8\nshow volume 1 7\n", "opened 0\nopened 0\n", BAD_3),
-    ]
-}
-
-/// Lines that name an actor before it is made.
-#[rattlefmt::skip]
-pub fn early_lines() -> &'static [Row] {
-    &[
-        ("show_before_the_volume", b"client 1 cache 100\nshow volume 1 7\n", "opened 0\n", BAD_2),
-        ("link_before_the_volume", b"client 1 cache 100\nlink 1 1 strong\n", "opened 0\n", BAD_2),
-        ("list_before_the_volume", b"client 1 cache 100\nlist 1 7 /\n", "opened 0\n", BAD_2),
-        ("drain_before_the_volume", b"client 1 cache 100\ndrain 1 7 1 window 0\n", "opened 0\n", BAD_2),
-        ("link_before_the_client", b"volume 7 on 1\nlink 1 1 strong\n", "opened 0\n", BAD_2),
-        ("list_before_the_client", b"volume 7 on 1\nlist 1 7 /\n", "opened 0\n", BAD_2),
-        ("mkdir_before_the_client", b"volume 7 on 1\nmkdir 1 7 /a\n", "opened 0\n", BAD_2),
-        ("drain_before_the_client", b"volume 7 on 1\ndrain 1 7 1 window 0\n", "opened 0\n", BAD_2),
+        ("too_big", b"volume 7 on 1
+client 1 cache 1100
+link 1 1 strong
+create 1 7 /f
+store 1 7 /f fill 0 65
+store 1 7 /f fill 1048576 65
+store 1 7 /f fill 1048577 65
+", "opened 0
+opened 0
+ok
+done 1 7.1.1
+done 2 7.1.1
+done 3 7.1.1
+refused 25 too-big 1048577
+", Status::Done),
+        ("local_refusals", b"volume 7 on 1
+client 1 cache 100
+link 1 1 strong
+mkdir 1 7 /d
+create 1 7 /d/f
+symlink 1 7 /l \"t\"
+mkdir 1 7 /d
+list 1 7 /d/f
+read 1 7 /
+remove 1 7 /z
+rmdir 1 7 /d
+rename 1 7 /d /d/x
+store 1 7 /l text \"\"
+read 1 7 /l
+", "opened 0
+opened 0
+ok
+done 1 7.1.1
+done 2 7.1.2
+done 3 7.1.3
+refused 18 exists
+refused 4 not-dir
+refused 19 is-dir
+refused 3 not-found
+refused 20 not-empty
+refused 21 loop
+refused 44 not-file
+cached link \"t\"
+", Status::Done),
+        ("refusals_of_a_rename", b"volume 7 on 1
+client 1 cache 100
+link 1 1 strong
+mkdir 1 7 /d
+mkdir 1 7 /e
+create 1 7 /f
+create 1 7 /d/g
+rename 1 7 / /x
+rename 1 7 /d /
+rename 1 7 /d /d
+rename 1 7 /d /e
+rename 1 7 /f /d
+rename 1 7 /d /f
+rename 1 7 /f /f
+rename 1 7 /z /d
+rename 1 7 /f /z/y
+rename 1 7 /f /f/y
+rename 1 7 /d /d/g/h
+rename 1 7 /f /d/g
+read 1 7 /f
+list 1 7 /d
+rename 1 7 /d /e/d
+list 1 7 /e/d
+drain 1 7 1 window 0
+show volume 1 7
+", "opened 0
+opened 0
+ok
+done 1 7.1.1
+done 2 7.1.2
+done 3 7.1.3
+done 4 7.1.4
+refused 21 loop
+refused 18 exists
+refused 18 exists
+refused 18 exists
+refused 18 exists
+refused 18 exists
+refused 18 exists
+refused 3 not-found
+refused 3 not-found
+refused 4 not-dir
+refused 4 not-dir
+done 5 7.1.3
+refused 3 not-found
+cached 1
+g 7.1.3
+done 6 7.1.1
+cached 1
+g 7.1.3
+chunk 1 applied
+volume 7 at 1 objects 4
+/ dir 7.0.1 0755 0 0 0.0
+/e dir 7.1.2 0755 0 0 1.2
+/e/d dir 7.1.1 0755 0 0 1.1
+/e/d/g file 7.1.3 0644 0 0 1.3 0 \"\"
+", Status::Done),
+        ("attributes_and_time", b"volume 7 on 1
+client 1 cache 100
+link 1 1 strong
+tick 5
+mkdir 1 7 /d mode 0750 owner 4294967295
+create 1 7 /d/f mode 7777
+symlink 1 7 /d/l \"a b\" owner 3
+tick 10
+store 1 7 /d/f text \"x\\n\"
+setattr 1 7 /d mode 1 mtime 99
+setattr 1 7 /d/l owner 4
+tick 1
+setattr 1 7 /d/f mtime 0
+read 1 7 /d/f
+drain 1 7 1 window 0
+show volume 1 7
+", "opened 0
+opened 0
+ok
+ok
+done 1 7.1.1
+done 2 7.1.2
+done 3 7.1.3
+ok
+done 4 7.1.2
+done 5 7.1.1
+done 6 7.1.3
+ok
+done 7 7.1.2
+cached 2 \"x\\x0a\"
+chunk 1 applied
+volume 7 at 1 objects 4
+/ dir 7.0.1 0755 0 0 0.0
+/d dir 7.1.1 0001 4294967295 99 1.5
+/d/f file 7.1.2 7777 0 0 1.7 2 \"x\\x0a\"
+/d/l link 7.1.3 0777 4 5 1.6 \"a b\"
+", Status::Done),
+        ("removals", b"volume 7 on 1
+client 1 cache 100
+link 1 1 strong
+mkdir 1 7 /d
+create 1 7 /d/f
+symlink 1 7 /d/l \"t\"
+rmdir 1 7 /
+remove 1 7 /
+remove 1 7 /d
+rmdir 1 7 /d/f
+rmdir 1 7 /d
+remove 1 7 /d/f
+remove 1 7 /d/l
+rmdir 1 7 /d
+list 1 7 /
+drain 1 7 1 window 0
+show volume 1 7
+", "opened 0
+opened 0
+ok
+done 1 7.1.1
+done 2 7.1.2
+done 3 7.1.3
+refused 21 loop
+refused 19 is-dir
+refused 19 is-dir
+refused 4 not-dir
+refused 20 not-empty
+done 4 7.1.2
+done 5 7.1.3
+done 6 7.1.1
+cached 0
+chunk 1 applied
+volume 7 at 1 objects 1
+/ dir 7.0.1 0755 0 0 0.0
+", Status::Done),
+        ("served_and_fetched", b"volume 7 on 1
+client 1 cache 100
+client 2 cache 100
+link 1 1 strong
+link 2 1 strong
+mkdir 1 7 /d
+create 1 7 /d/f
+store 1 7 /d/f text \"ab\"
+drain 1 7 1 window 0
+read 2 7 /d/f
+read 2 7 /d/f
+list 2 7 /d
+list 2 7 /d/f/g
+store 2 7 /d/f text \"abc\"
+store 1 7 /d/f text \"\"
+drain 2 7 1 window 0
+drain 1 7 1 window 0
+read 1 7 /d/f
+show volume 1 7
+", "opened 0
+opened 0
+ok
+ok
+done 1 7.1.1
+done 2 7.1.2
+done 3 7.1.2
+chunk 1 applied
+fetched 2 \"ab\"
+cached 2 \"ab\"
+cached 1
+f 7.1.2
+refused 4 not-dir
+done 1 7.1.2
+done 4 7.1.2
+chunk 1 applied
+chunk 2 conflict 4 changed 1.3 2.1
+cached 0 \"\"
+volume 7 at 1 objects 3
+/ dir 7.0.1 0755 0 0 0.0
+/d dir 7.1.1 0755 0 0 1.1
+/d/f file 7.1.2 0644 0 0 2.1 3 \"abc\"
+", Status::Done),
     ]
 }
