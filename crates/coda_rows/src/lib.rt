@@ -2,6 +2,8 @@
 #![tactic(auto)]
 
 #[cfg(test)]
+mod certification;
+#[cfg(test)]
 mod faults;
 #[cfg(test)]
 mod limits;
