@@ -1,0 +1,14 @@
+use Rattle.std.proofs.Common.{◌≡◌, ℕ}
+use Rattle.std.proofs.lemmas.Result.{IfOk-weaker}
+use Rattle.coda_main.specs.State.{CellState}
+use Rattle.coda_main.specs.Asking.{list}
+use Rattle.coda_main.specs.Code.{nodes_offered}
+use Rattle.coda_main.specs.Cells.{cell_state}
+use Rattle.coda_main.proofs.Events.{client_carried}
+use Rattle.coda_main.proofs.cell.Cell.list_there.Goals as goal
+
+pub returns : goal.returns
+returns c =
+    let old = cell_state c.args.self.now in
+    IfOk-weaker c.list_at.result _ _ (λ reply x.
+    client_carried (λ offers x. list offers x c.args.volume c.args.path.now) old _ c.args.client c.args.volume x.0 x.1 (nodes_offered c.offers_of-offers.result) reply x.2 (λ i. let s : CellState = record old { clients = λ n. x.4 n i } in s) c.offers_of-offers.ensures x.3) c.list_at.ensures

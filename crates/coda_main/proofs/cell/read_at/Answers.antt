@@ -1,0 +1,10 @@
+use Rattle.std.proofs.Common.{◌≡◌, ℕ, Some, refl, sym, ap, subst, rules}
+use Rattle.std.specs.Option.{option_map}
+use Rattle.std.specs.BTreeMap as tree
+use Rattle.std.specs.Ordering.{nat_cmp}
+use Rattle.std.proofs.lemmas.Result.{IfOk-weaker}
+use Rattle.coda_main.specs.Code.{client_state}
+use Rattle.coda_main.proofs.cell.read_at.Goals as goal
+
+pub returns-in-Some : goal.returns-in-Some
+returns-in-Some c = IfOk-weaker c.read.result _ _ (λ reply given. (client_state c.in-Some.found.now, client_state c.read.new.self, ap (option_map client_state) (sym c.in-Some.ensures.value), given, λ n. search rules)) c.read.ensures
