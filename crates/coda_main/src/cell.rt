@@ -224,7 +224,7 @@ fn opened(alloc: Global) -> Result<Reply, AllocError>
 }
 
 impl Cell {
-    ghost use Rattle.std.specs.Prelude.{◌≡◌, ℕ, ◌==◌, List, ◌∷◌, [], None, IfOk, OnOk};
+    ghost use Rattle.std.specs.Prelude.{◌≡◌, ℕ, ◌==◌, List, ◌∷◌, [], None, IfOk, IfNone, OnOk};
     ghost use Rattle.std.specs.List.{list_any};
     ghost use Rattle.coda_script.specs.declared.reply.Reply.TheVariants as Reply;
     ghost use Rattle.coda_main.specs.State.{empty_state, after, VolumeMade, ClientMade, Ticked, LinkSet};
@@ -512,7 +512,8 @@ impl Cell {
 
     // Carries a task out, where it is one that is built.
     fn carry_out(&mut self, task: Task) -> Result<Option<Reply>, AllocError>
-        ensures { IfOk result (λ o. TaskStepped (cell_state self.old) task o (cell_state self.new)) }
+        ensures stepped { IfOk result (λ o. TaskStepped (cell_state self.old) task o (cell_state self.new)) }
+        ensures kept { IfOk result (λ o. IfNone o (self.new ≡ self.old)) }
     {
         match errand_of(self.alloc, task)? {
             Some(errand) => Ok(Some(self.run_errand(errand)?)),
@@ -527,7 +528,8 @@ impl Cell {
         servers: &[u8],
         area: Option<u8>,
     ) -> Result<Option<Reply>, AllocError>
-        ensures { IfOk result (λ o. (servers' : List ℕ) → servers' ≡ servers.now → Stepped (cell_state self.old) (Line.Volume volume servers' area) o (cell_state self.new)) }
+        ensures stepped { IfOk result (λ o. (servers' : List ℕ) → servers' ≡ servers.now → Stepped (cell_state self.old) (Line.Volume volume servers' area) o (cell_state self.new)) }
+        ensures kept { IfOk result (λ o. IfNone o (self.new ≡ self.old)) }
     {
         if area.is_some() {
             return Ok(None);
@@ -538,9 +540,27 @@ impl Cell {
         }
     }
 
-    /// Carries a line out, where it is one that is built.
+    // Makes a client that has no area.
+    #[tactic(auto, using(crate::proofs::Errands::client_carried))]
+    fn make_without_area(
+        &mut self,
+        client: u8,
+        blocks: u32,
+        area: Option<u8>,
+    ) -> Result<Option<Reply>, AllocError>
+        ensures stepped { IfOk result (λ o. Stepped (cell_state self.old) (Line.Client client blocks area) o (cell_state self.new)) }
+        ensures kept { IfOk result (λ o. IfNone o (self.new ≡ self.old)) }
+    {
+        if area.is_some() {
+            return Ok(None);
+        }
+        Ok(Some(self.make_client(client, blocks)?))
+    }
+
+    /// Carries a line out, where it is one that is built; a line that isn't changes nothing.
     pub fn step(&mut self, line: Line) -> Result<Option<Reply>, AllocError>
-        ensures { IfOk result (λ o. Stepped (cell_state self.old) line o (cell_state self.new)) }
+        ensures stepped { IfOk result (λ o. Stepped (cell_state self.old) line o (cell_state self.new)) }
+        ensures kept { IfOk result (λ o. IfNone o (self.new ≡ self.old)) }
     {
         match line {
             Line::Volume {
@@ -551,9 +571,8 @@ impl Cell {
             Line::Client {
                 client,
                 blocks,
-                area: None,
-            } => Ok(Some(self.make_client(client, blocks)?)),
-            Line::Client { .. } => Ok(None),
+                area,
+            } => self.make_without_area(client, blocks, area),
             Line::Link {
                 strength: Strength::Weak,
                 ..
