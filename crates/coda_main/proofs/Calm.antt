@@ -27,7 +27,7 @@ abbrev pub AreCalm : List ClientEntry → Type 0
 AreCalm [] = Unit {0}
 AreCalm (entry ∷ entries) = Calm entry × AreCalm entries
 
-put_chunks : (logs : ℕ → LogState) (volume : ℕ) (l : LogState) → l.chunks ≡ (logs volume).chunks → (v : ℕ) → (put logs volume l v).chunks ≡ (logs v).chunks
+pub put_chunks : (logs : ℕ → LogState) (volume : ℕ) (l : LogState) → l.chunks ≡ (logs volume).chunks → (v : ℕ) → (put logs volume l v).chunks ≡ (logs v).chunks
 put_chunks logs volume l same v =
     elim (v == volume) as (λ b. (v == volume) ≡ b → (cond b l (logs v)).chunks ≡ (logs v).chunks) [
       | true ↦ λ e. same ∙ ap (λ (k : ℕ). (logs k).chunks) (sym (eqb-true v volume e))

@@ -8,6 +8,7 @@ pub mod Accepting
 pub mod Asking
 pub mod Code
 pub mod Steps
+pub mod Errands
 pub mod Cells
 pub mod Printing
 pub mod Lines

@@ -9,27 +9,22 @@ ghost use Rattle.coda_main.specs.State.{put, linked, ClientState, ReplicaState};
 ghost use Rattle.coda_main.specs.Asking.{operate, read, list};
 ghost use Rattle.coda_main.specs.Code.{client_state, nodes_offered, Gives};
 ghost use Rattle.coda_main.specs.Cells.{ends_cmp, replica_state, Sends};
-ghost use Rattle.coda_main.specs.Steps.{reached, drain, bytes_of};
+ghost use Rattle.coda_main.specs.Steps.{reached, drain};
 
 use crate::client::Client;
+use crate::errand::{Errand, errand_of};
 use crate::line::Ask;
 use crate::refused::Refused;
 use crate::replica::Replica;
 use crate::sending::send;
-use coda_fid::{Bytes, Path};
-use coda_script::{Content, Line, Numbers, Reply, Strength, Task};
+use coda_fid::Path;
+use coda_script::{Line, Numbers, Reply, Strength, Task};
 use coda_tree::Volume;
 use std::alloc::{AllocError, Global};
 use std::collections::BTreeMap;
 
 /// The most volumes of a cell.
 const MOST_VOLUMES: usize = 64;
-
-/// The mode of a new directory where the line names none: rwxr-xr-x.
-const DIRECTORY_MODE: u16 = 0o755;
-
-/// The mode of a new file where the line names none: rw-r--r--.
-const FILE_MODE: u16 = 0o644;
 
 /// The two ends of a link.
 #[derive(Clone, Copy, Debug, PartialEq, Eq, PartialOrd, Ord)]
@@ -220,19 +215,6 @@ fn send_between(
     }
 }
 
-// The bytes of content.
-fn bytes_of(alloc: Global, content: Content) -> Result<Bytes, AllocError>
-    ensures { IfOk result (λ bytes. bytes ≡ bytes_of content) }
-{
-    match content {
-        Content::Text(text) => Ok(text),
-        Content::Fill { length, byte } => {
-            let filled = vec![in alloc; byte; length as usize]?;
-            Ok(Bytes::from_vec(filled))
-        }
-    }
-}
-
 // The reply that an actor's disk had no entries.
 fn opened(alloc: Global) -> Result<Reply, AllocError>
     ensures { IfOk result (λ reply. reply ≡ Reply.Opened (0 ∷ [])) }
@@ -242,7 +224,7 @@ fn opened(alloc: Global) -> Result<Reply, AllocError>
 }
 
 impl Cell {
-    ghost use Rattle.std.specs.Prelude.{◌≡◌, ℕ, ◌==◌, List, ◌∷◌, [], None, IfOk, OnOk};
+    ghost use Rattle.std.specs.Prelude.{◌≡◌, ℕ, ◌==◌, List, ◌∷◌, [], None, IfOk, IfNone, OnOk};
     ghost use Rattle.std.specs.List.{list_any};
     ghost use Rattle.coda_script.specs.declared.reply.Reply.TheVariants as Reply;
     ghost use Rattle.coda_main.specs.State.{empty_state, after, VolumeMade, ClientMade, Ticked, LinkSet};
@@ -250,6 +232,7 @@ impl Cell {
     ghost use Rattle.coda_main.specs.Steps.{Unless, Naming, Happens, Says, ByClient, ByBoth, client_named, volume_named, server_named, holder_named, on_volume, first_missing, no_volume, no_client};
     ghost use Rattle.coda_script.specs.declared.line.Line.TheVariants as Line;
     ghost use Rattle.coda_main.specs.Cells.{cell_state, Carried, Stepped, TaskStepped};
+    ghost use Rattle.coda_main.specs.Errands.{DoesErrand};
 
     /// A cell in which nothing was made.
     pub fn new(alloc: Global) -> Cell
@@ -499,89 +482,43 @@ impl Cell {
         }
     }
 
-    // Carries a task out, where it is one that is built.
-    fn carry_out(&mut self, task: Task) -> Result<Option<Reply>, AllocError>
-        ensures { IfOk result (λ o. TaskStepped (cell_state self.old) task o (cell_state self.new)) }
+    // Does what a task asks of a client.
+    fn run_errand(&mut self, errand: Errand) -> Result<Reply, AllocError>
+        ensures { IfOk result (λ reply. Carried (DoesErrand (cell_state self.old) errand) (cell_state self.old) reply (cell_state self.new)) }
     {
-        let reply = match task {
-            Task::Create {
+        match errand {
+            Errand::Operate {
+                client,
+                volume,
+                ask,
+            } => self.operate(client, volume, &ask),
+            Errand::Read {
                 client,
                 volume,
                 path,
-                mode,
-                owner,
-            } => {
-                let (mode, owner) = (mode.unwrap_or(FILE_MODE), owner.unwrap_or(0));
-                self.operate(client, volume, &Ask::Create { path, mode, owner })?
-            }
-            Task::Mkdir {
+            } => self.read(client, volume, &path),
+            Errand::List {
                 client,
                 volume,
                 path,
-                mode,
-                owner,
-            } => {
-                let (mode, owner) = (mode.unwrap_or(DIRECTORY_MODE), owner.unwrap_or(0));
-                self.operate(client, volume, &Ask::Mkdir { path, mode, owner })?
-            }
-            Task::Symlink {
-                client,
-                volume,
-                path,
-                target,
-            } => self.operate(client, volume, &Ask::Symlink { path, target })?,
-            Task::Store {
-                client,
-                volume,
-                path,
-                content,
-            } => {
-                let content = bytes_of(self.alloc, content)?;
-                self.operate(client, volume, &Ask::Store { path, content })?
-            }
-            Task::Setattr {
-                client,
-                volume,
-                path,
-                attrs,
-            } => self.operate(client, volume, &Ask::Setattr { path, attrs })?,
-            Task::Remove {
-                client,
-                volume,
-                path,
-            } => self.operate(client, volume, &Ask::Remove { path })?,
-            Task::Rmdir {
-                client,
-                volume,
-                path,
-            } => self.operate(client, volume, &Ask::Rmdir { path })?,
-            Task::Rename {
-                client,
-                volume,
-                from,
-                to,
-            } => self.operate(client, volume, &Ask::Rename { from, to })?,
-            Task::Read {
-                client,
-                volume,
-                path,
-            } => self.read(client, volume, &path)?,
-            Task::List {
-                client,
-                volume,
-                path,
-            } => self.list(client, volume, &path)?,
-            Task::Drain {
+            } => self.list(client, volume, &path),
+            Errand::Drain {
                 client,
                 volume,
                 server,
-                window: Some(0),
-            } => self.drain(client, volume, server)?,
-            Task::Drain { .. } => return Ok(None),
-            Task::Refresh { .. } => return Ok(None),
-            Task::Giveup { .. } => return Ok(None),
-        };
-        Ok(Some(reply))
+            } => self.drain(client, volume, server),
+        }
+    }
+
+    // Carries a task out, where it is one that is built.
+    fn carry_out(&mut self, task: Task) -> Result<Option<Reply>, AllocError>
+        ensures stepped { IfOk result (λ o. TaskStepped (cell_state self.old) task o (cell_state self.new)) }
+        ensures kept { IfOk result (λ o. IfNone o (self.new ≡ self.old)) }
+    {
+        match errand_of(self.alloc, task)? {
+            Some(errand) => Ok(Some(self.run_errand(errand)?)),
+            None => Ok(None),
+        }
     }
 
     // Makes a volume on one server.
@@ -591,7 +528,8 @@ impl Cell {
         servers: &[u8],
         area: Option<u8>,
     ) -> Result<Option<Reply>, AllocError>
-        ensures { IfOk result (λ o. (servers' : List ℕ) → servers' ≡ servers.now → Stepped (cell_state self.old) (Line.Volume volume servers' area) o (cell_state self.new)) }
+        ensures stepped { IfOk result (λ o. (servers' : List ℕ) → servers' ≡ servers.now → Stepped (cell_state self.old) (Line.Volume volume servers' area) o (cell_state self.new)) }
+        ensures kept { IfOk result (λ o. IfNone o (self.new ≡ self.old)) }
     {
         if area.is_some() {
             return Ok(None);
@@ -602,9 +540,27 @@ impl Cell {
         }
     }
 
-    /// Carries a line out, where it is one that is built.
+    // Makes a client that has no area.
+    #[tactic(auto, using(crate::proofs::Errands::client_carried))]
+    fn make_without_area(
+        &mut self,
+        client: u8,
+        blocks: u32,
+        area: Option<u8>,
+    ) -> Result<Option<Reply>, AllocError>
+        ensures stepped { IfOk result (λ o. Stepped (cell_state self.old) (Line.Client client blocks area) o (cell_state self.new)) }
+        ensures kept { IfOk result (λ o. IfNone o (self.new ≡ self.old)) }
+    {
+        if area.is_some() {
+            return Ok(None);
+        }
+        Ok(Some(self.make_client(client, blocks)?))
+    }
+
+    /// Carries a line out, where it is one that is built; a line that isn't changes nothing.
     pub fn step(&mut self, line: Line) -> Result<Option<Reply>, AllocError>
-        ensures { IfOk result (λ o. Stepped (cell_state self.old) line o (cell_state self.new)) }
+        ensures stepped { IfOk result (λ o. Stepped (cell_state self.old) line o (cell_state self.new)) }
+        ensures kept { IfOk result (λ o. IfNone o (self.new ≡ self.old)) }
     {
         match line {
             Line::Volume {
@@ -615,9 +571,8 @@ impl Cell {
             Line::Client {
                 client,
                 blocks,
-                area: None,
-            } => Ok(Some(self.make_client(client, blocks)?)),
-            Line::Client { .. } => Ok(None),
+                area,
+            } => self.make_without_area(client, blocks, area),
             Line::Link {
                 strength: Strength::Weak,
                 ..

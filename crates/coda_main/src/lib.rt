@@ -4,6 +4,7 @@
 mod accepting;
 mod cell;
 mod client;
+mod errand;
 mod laws;
 mod line;
 mod machine;
