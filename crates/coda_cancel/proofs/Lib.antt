@@ -1,0 +1,5 @@
+pub mod Keys
+pub mod Debts
+pub mod Passing
+pub mod Rising
+pub mod Additions

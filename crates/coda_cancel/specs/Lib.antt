@@ -1,0 +1,5 @@
+pub mod Handing
+pub mod Dropping
+pub mod Cancel
+pub mod Numbers
+pub mod Passing
