@@ -3,3 +3,4 @@ pub mod Debts
 pub mod Passing
 pub mod Rising
 pub mod Additions
+pub mod Sizes

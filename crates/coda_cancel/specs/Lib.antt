@@ -3,3 +3,4 @@ pub mod Dropping
 pub mod Cancel
 pub mod Numbers
 pub mod Passing
+pub mod Weights

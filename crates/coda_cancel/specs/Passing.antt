@@ -7,6 +7,8 @@ use Rattle.coda_fid.specs.declared.op.Record.{Record}
 use Rattle.coda_fid.specs.Fid.{same_fid}
 use Rattle.coda_fid.specs.Op.{carried}
 use Rattle.coda_cancel.specs.Handing.{Debt, owe, paid, hand}
+use Rattle.coda_cancel.specs.Dropping.{mentioning, drops}
+use Rattle.coda_cancel.specs.Cancel.{object}
 
 -- a version is owed for this object, if at all
 abbrev pub owed_to : Fid → Option Sid → Debt
@@ -29,3 +31,11 @@ handed dropped owed (rec ∷ recs) = passed dropped owed rec ∷ handed dropped 
 abbrev pub undropped : (Op → Bool) → List Record → List Record
 undropped dropped [] = []
 undropped dropped (rec ∷ recs) = cond (dropped rec.op) (undropped dropped recs) (rec ∷ undropped dropped recs)
+
+-- whether a record goes where an operation is added, by whether this one undoes a creation
+abbrev pub goes : Bool → Op → Op → Bool
+goes cancelled op earlier = cond cancelled (mentioning (object (carried op)) earlier) (drops op earlier)
+
+-- the added record alone, unless it undoes a creation
+abbrev pub new_last : Bool → Record → List Record
+new_last cancelled rec = cond cancelled [] (rec ∷ [])

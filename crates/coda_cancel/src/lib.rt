@@ -3,6 +3,7 @@
 
 mod adding;
 mod dropping;
+mod fitting;
 mod handing;
 mod tail;
 mod undoing;

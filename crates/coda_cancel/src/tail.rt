@@ -2,8 +2,10 @@ ghost use Rattle.std.specs.Prelude.{◌≡◌, ◌≤◌, [], take, drop, length
 ghost use Rattle.coda_fid.specs.declared.op.Record.{Record};
 ghost use Rattle.coda_cancel.specs.Cancel.{add};
 ghost use Rattle.coda_cancel.specs.Numbers.{AreBelow, IsRising, dropped, least};
+ghost use Rattle.coda_cancel.specs.Weights.{fits};
 
 use crate::adding::add_reserved;
+use crate::fitting::fits_after;
 use coda_fid::Record;
 use std::alloc::{AllocError, Global};
 use std::marker::Model;
@@ -101,5 +103,13 @@ impl Tail {
             return Err(AddFault::Memory(rec));
         }
         Ok(add_reserved(&mut self.records, rec))
+    }
+
+    /// Whether there would be so many records at most, and they would weigh so much at most, if the
+    /// operation were added.
+    pub fn fits_after(&self, rec: &Record, count: usize, weight: u64) -> bool
+        ensures { result ≡ fits count weight (add self.now rec.now) }
+    {
+        fits_after(&self.records, rec, count, weight)
     }
 }
