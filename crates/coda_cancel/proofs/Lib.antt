@@ -4,3 +4,4 @@ pub mod Passing
 pub mod Rising
 pub mod Additions
 pub mod Sizes
+pub mod Turns

@@ -10,7 +10,7 @@ use Rattle.coda_fid.specs.Op.{carried}
 use Rattle.coda_cancel.specs.Handing.{Debt, owe, paid, hand}
 use Rattle.coda_cancel.specs.Dropping.{mentioning, drops}
 use Rattle.coda_cancel.specs.Cancel.{kept, debt, without, cancels, object, appended, add}
-use Rattle.coda_cancel.specs.Numbers.{numbers, lesser, least, AreBelow, AreAbove, IsRising}
+use Rattle.coda_cancel.specs.Numbers.{numbers, lesser, least, AreBelow, AreUpTo, AreAbove, IsRising}
 
 less_chosen : (n a : ℕ) → n < a → (o : Option ℕ) → lesser n o ≡ n → lesser n (Some (lesser a o)) ≡ n
 less_chosen n a h None e = grind (arith, nat_tests)
@@ -94,3 +94,55 @@ pub least_at : (t : Op → Bool) (k : ℕ) (rs : List Record) (r : Record) → r
 least_at t k rs r is l h same e =
     let found : drop k rs ≡ r ∷ drop (suc k) rs = drop-cons rs k r l ∙ ap (λ x. x ∷ drop (suc k) rs) (sym is) in
     ap least (sym same ∙ ap (numbers t) found) ∙ least_found t r (drop (suc k) rs) (subst IsRising found h) e
+
+-- ---- a rising list and what comes behind it
+
+pub rising_before : (rs : List Record) (o : Record) (os : List Record) → IsRising (rs ++ o ∷ os) → IsRising rs × AreBelow o.number rs
+rising_before [] o os h = (tt, tt)
+rising_before (r ∷ rs) o os h = let rest = rising_before rs o os h.1 in ((above_before r.number rs (o ∷ os) h.0, rest.0), (above_at r.number rs o os h.0, rest.1))
+  where
+    above_before : (n : ℕ) (rs os : List Record) → AreAbove n (rs ++ os) → AreAbove n rs
+    above_before n [] os h = tt
+    above_before n (r ∷ rs) os h = (h.0, above_before n rs os h.1)
+
+    above_at : (n : ℕ) (rs : List Record) (o : Record) (os : List Record) → AreAbove n (rs ++ o ∷ os) → n < o.number
+    above_at n [] o os h = h.0
+    above_at n (r ∷ rs) o os h = above_at n rs o os h.1
+
+pub rising_behind : (rs os : List Record) → IsRising (rs ++ os) → IsRising os
+rising_behind [] os h = h
+rising_behind (r ∷ rs) os h = rising_behind rs os h.1
+
+above_more : (n m : ℕ) → n ≤ m → (rs : List Record) → AreAbove m rs → AreAbove n rs
+above_more n m l [] h = tt
+above_more n m l (r ∷ rs) h = (omega (arith, h.0), above_more n m l rs h.1)
+
+above_both : (n : ℕ) (rs os : List Record) → AreAbove n rs → AreAbove n os → AreAbove n (rs ++ os)
+above_both n [] os a b = b
+above_both n (r ∷ rs) os a b = (a.0, above_both n rs os a.1 b)
+
+-- where the one list goes up to a number, and the other is above it
+pub rising_both : (n : ℕ) (rs os : List Record) → IsRising rs → AreUpTo n rs → IsRising os → AreAbove n os → IsRising (rs ++ os)
+rising_both n [] os a b d e = d
+rising_both n (r ∷ rs) os a b d e = (above_both r.number rs os a.0 (above_more r.number n b.0 os e), rising_both n rs os a.1 b.1 d e)
+
+upto_push : (n : ℕ) (rs : List Record) (o : Record) → AreBelow n rs → o.number ≡ n → AreUpTo n (rs ++ o ∷ [])
+upto_push n [] o h e = (omega arith, tt)
+upto_push n (r ∷ rs) o h e = (omega (arith, h.0), upto_push n rs o h.1 e)
+
+below_upto : (n : ℕ) (rs : List Record) → AreBelow n rs → AreUpTo n rs
+below_upto n [] h = tt
+below_upto n (r ∷ rs) h = (omega (arith, h.0), below_upto n rs h.1)
+
+-- after an operation no number is above its own
+pub upto_add : (rs : List Record) (o : Record) → AreBelow o.number rs → AreUpTo o.number (add rs o)
+upto_add rs o l = cond_both (cancels o.op rs) (without (object (carried o.op)) rs) (appended rs o) (AreUpTo o.number)
+    (λ e. below_upto o.number _ (below_without o.number (object (carried o.op)) rs l))
+    (λ e. upto_push o.number (kept (drops o.op) (λ f. None) rs) (hand (debt (drops o.op) (λ f. None) rs) o) (below_kept o.number (drops o.op) (λ f. None) rs l) refl)
+
+-- one more operation is added
+pub rising_step : (rs : List Record) (o : Record) (os : List Record) → IsRising (rs ++ o ∷ os) → IsRising (add rs o ++ os)
+rising_step rs o os h =
+    let here = rising_before rs o os h in
+    let later = rising_behind rs (o ∷ os) h in
+    rising_both o.number (add rs o) os (rising_add rs o here.0 here.1) (upto_add rs o here.1) later.1 later.0

@@ -4,3 +4,4 @@ pub mod Cancel
 pub mod Numbers
 pub mod Passing
 pub mod Weights
+pub mod Joins

@@ -1,14 +1,16 @@
 // Adding an operation to a vector of records, by cancellation.
-ghost use Rattle.std.specs.Prelude.{◌≡◌, ◌≤◌, ◌<◌, ◌+◌};
+ghost use Rattle.std.specs.Prelude.{◌≡◌, ◌≤◌, ◌<◌, ◌+◌, ◌++◌};
 ghost use Rattle.std.specs.Vec.{vec_len, vec_capacity};
 ghost use Rattle.coda_fid.specs.Op.{carried};
 ghost use Rattle.coda_cancel.specs.Dropping.{mentioning, drops};
-ghost use Rattle.coda_cancel.specs.Cancel.{without, object, appended, add};
+ghost use Rattle.coda_cancel.specs.Cancel.{without, object, appended, add, added};
+ghost use Rattle.coda_cancel.specs.Joins.{joins_of};
 ghost use Rattle.coda_cancel.specs.Numbers.{IsRising, numbers, dropped, least};
 ghost use Rattle.coda_cancel.specs.Passing.{undropped};
 
 use crate::dropping::drops;
 use crate::handing::{hand_on, pay};
+use crate::join::Join;
 use crate::undoing::cancels;
 use coda_fid::{Fid, Op, Record};
 
@@ -91,4 +93,21 @@ pub fn add_reserved(records: &mut Vec<Record>, rec: Record) -> Option<u64>
     let least = first_dropped(records, &rec.op);
     append(records, rec, over.fid);
     least
+}
+
+/// Adds operations in turn, and notes those that dropped records.
+pub fn add_each(records: &mut Vec<Record>, mut later: Vec<Record>, joins: &mut Vec<Join>)
+    requires room { vec_len records.old + vec_len later ≤ vec_capacity records.old }
+    requires joins_room { vec_len joins.old + vec_len later ≤ vec_capacity joins.old }
+    requires rising { IsRising (records.old.items ++ later.items) }
+    ensures records { records.new.items ≡ added records.old.items later.items }
+    ensures joins { joins.new.items ≡ joins.old.items ++ joins_of records.old.items later.items }
+{
+    later.reverse();
+    while let Some(rec) = later.pop() {
+        let number = rec.number;
+        if let Some(least) = add_reserved(records, rec) {
+            joins.push_reserved(Join { least, number });
+        }
+    }
 }

@@ -5,7 +5,9 @@ mod adding;
 mod dropping;
 mod fitting;
 mod handing;
+mod join;
 mod tail;
 mod undoing;
 
+pub use join::Join;
 pub use tail::{AddFault, Tail};
