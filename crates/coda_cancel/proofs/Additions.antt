@@ -6,12 +6,11 @@ use Rattle.coda_fid.specs.declared.fid.Fid.{Fid}
 use Rattle.coda_fid.specs.declared.fid.Sid.{Sid}
 use Rattle.coda_fid.specs.declared.op.Op.{Op}
 use Rattle.coda_fid.specs.declared.op.Op.TheVariants.{Create, Mkdir, Symlink, Store, Setattr, Remove, Rmdir, Rename}
-use Rattle.coda_fid.specs.declared.op.Over.{Over}
 use Rattle.coda_fid.specs.declared.op.Record.{Record}
 use Rattle.coda_fid.specs.Op.{carried}
-use Rattle.coda_cancel.specs.Handing.{Debt, nothing, hand}
+use Rattle.coda_cancel.specs.Handing.{nothing, hand}
 use Rattle.coda_cancel.specs.Dropping.{mentioning, drops}
-use Rattle.coda_cancel.specs.Cancel.{kept, debt, without, cancels, object, appended, add}
+use Rattle.coda_cancel.specs.Cancel.{debt, without, cancels, object, appended, add}
 use Rattle.coda_cancel.specs.Numbers.{numbers, dropped}
 use Rattle.coda_cancel.specs.Passing.{owed_to, handed, undropped}
 use Rattle.coda_cancel.proofs.Debts.{hand-nothing, kept_all, debt_all, dropped-with_pre}

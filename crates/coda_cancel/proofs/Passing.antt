@@ -1,22 +1,22 @@
 -- Only records of the operation's own object are dropped, so a debt is for this object alone.
-use Rattle.std.proofs.Common.{◌≡◌, Bool, true, false, cond, List, [], ◌∷◌, ◌++◌, Option, Some, None, refl, sym, ap, ◌∙◌, subst, ◌&&◌, drop, get_or, set}
-use Rattle.std.proofs.lemmas.Bool.{and_parts, false≢true, true≢false, cases_Bool}
+use Rattle.std.proofs.Common.{◌≡◌, Bool, true, false, cond, List, [], ◌∷◌, Option, Some, None, refl, sym, ap, ◌∙◌, subst}
+use Rattle.std.proofs.lemmas.Bool.{and_parts, false≢true, true≢false}
 use Rattle.std.proofs.lemmas.Option.{none-some}
 use Rattle.coda_fid.specs.declared.fid.Fid.{Fid}
 use Rattle.coda_fid.specs.declared.fid.Sid.{Sid}
 use Rattle.coda_fid.specs.declared.op.Over.{Over}
 use Rattle.coda_fid.specs.declared.op.Attrs.{Attrs}
 use Rattle.coda_fid.specs.declared.op.Op.{Op}
-use Rattle.coda_fid.specs.declared.op.Op.TheVariants.{Create, Mkdir, Symlink, Store, Setattr, Remove, Rmdir, Rename}
+use Rattle.coda_fid.specs.declared.op.Op.TheVariants.{Store, Setattr, Remove, Rmdir, Rename}
 use Rattle.coda_fid.specs.declared.op.Record.{Record}
 use Rattle.coda_fid.specs.Fid.{same_fid}
 use Rattle.coda_fid.specs.Op.{carried, kept_for, pre_of}
-use Rattle.coda_cancel.specs.Handing.{Debt, nothing, earlier, owe, paid, hand, sid_or, with_pre}
-use Rattle.coda_cancel.specs.Dropping.{drops, writes, stores, is_covered, writes_over}
+use Rattle.coda_cancel.specs.Handing.{Debt, nothing, owe, paid, hand, sid_or, with_pre}
+use Rattle.coda_cancel.specs.Dropping.{drops, writes, stores, is_covered}
 use Rattle.coda_cancel.specs.Cancel.{object, kept, debt}
-use Rattle.coda_cancel.specs.Passing.{owed_to, passed, owed_after, handed, undropped}
-use Rattle.coda_cancel.proofs.Keys.{fid_true, fid_same, fid_false, fid_other, over_is}
-use Rattle.coda_cancel.proofs.Debts.{no_change, dropped-with_pre}
+use Rattle.coda_cancel.specs.Passing.{owed_to, owed_after, handed, undropped}
+use Rattle.coda_cancel.proofs.Keys.{fid_true, fid_false, fid_other, over_is}
+use Rattle.coda_cancel.proofs.Debts.{no_change}
 
 pub written_carries : (f : Fid) (r : Op) → writes f r ≡ true → over_is f (carried r) ≡ true
 written_carries f (Store g pre c) h = h

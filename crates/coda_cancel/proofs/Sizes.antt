@@ -1,12 +1,12 @@
 -- A list that an operation was added to, by how many records it has and what they weigh.
-use Rattle.std.proofs.Common.{◌≡◌, ℕ, suc, ◌+◌, ◌-◌, ◌≤◌, ◌<◌, Bool, true, false, cond, not, ◌&&◌, List, [], ◌∷◌, ◌++◌, Option, Some, None, refl, sym, ap, ◌∙◌, arith, drop, drop-cons, get_or, length, length-append, ◌⊎◌, inl, inr}
+use Rattle.std.proofs.Common.{◌≡◌, ℕ, suc, ◌+◌, ◌-◌, ◌≤◌, ◌<◌, Bool, true, false, cond, ◌&&◌, List, [], ◌∷◌, ◌++◌, Some, None, refl, sym, ap, ◌∙◌, arith, drop, drop-cons, get_or, length, length-append, ◌⊎◌, inl, inr}
 use Rattle.std.proofs.lemmas.List.{drop_all}
 use Rattle.std.specs.Prelude.{nat_le}
 use Rattle.std.proofs.lemmas.Bool.Decides.{nat_tests}
 use Rattle.coda_fid.specs.declared.fid.Fid.{Fid}
 use Rattle.coda_fid.specs.declared.fid.Sid.{Sid}
 use Rattle.coda_fid.specs.declared.op.Op.{Op}
-use Rattle.coda_fid.specs.declared.op.Op.TheVariants.{Create, Mkdir, Symlink, Store, Setattr, Remove, Rmdir, Rename}
+use Rattle.coda_fid.specs.declared.op.Op.TheVariants.{Rename}
 use Rattle.coda_fid.specs.declared.op.Record.{Record}
 use Rattle.coda_fid.specs.Op.{carried, weight_of}
 use Rattle.coda_cancel.specs.Handing.{Debt, nothing, owe, paid, hand, with_pre, sid_or}
@@ -39,9 +39,9 @@ total-append (r ∷ rs) os = let rest = total-append rs os in omega (arith, rest
 
 size_push : (rs os : List Record) (d : Debt) (o : Record) → SameSize rs os → SameSize (rs ++ hand d o ∷ []) (os ++ o ∷ [])
 size_push rs os d o h = (
-    length-append rs (hand d o ∷ []) ∙ ap (λ n. n + 1) h.0 ∙ sym (length-append os (o ∷ [])),
-    total-append rs (hand d o ∷ []) ∙ (λ i. h.1 i + (weight-with_pre (λ f p. sid_or (d f) p) o.op i + 0)) ∙ sym (total-append os (o ∷ [])),
-  )
+  length-append rs (hand d o ∷ []) ∙ ap (λ n. n + 1) h.0 ∙ sym (length-append os (o ∷ [])),
+  total-append rs (hand d o ∷ []) ∙ (λ i. h.1 i + (weight-with_pre (λ f p. sid_or (d f) p) o.op i + 0)) ∙ sym (total-append os (o ∷ [])),
+)
 
 same_test : (t s : Op → Bool) → ((r : Op) → t r ≡ s r) → (rs : List Record) → undropped t rs ≡ undropped s rs
 same_test t s h rs = λ i. undropped (λ r. h r i) rs
@@ -94,9 +94,9 @@ pub scan_stops : (most_count most_weight count room : ℕ) (rs : List Record) (o
 scan_stops most_count most_weight count room rs o b i r is l c h g out =
     let found : drop i rs ≡ r ∷ drop (suc i) rs = drop-cons rs i r l ∙ ap (λ x. x ∷ drop (suc i) rs) (sym is) in
     let left : fits count room (undropped (goes b o.op) (drop i rs) ++ new_last b o) ≡ false =
-        ap (λ l. fits count room (undropped (goes b o.op) l ++ new_last b o)) found
-        ∙ ap (λ x. fits count room (cond x (undropped (goes b o.op) (drop (suc i) rs)) (r ∷ undropped (goes b o.op) (drop (suc i) rs)) ++ new_last b o)) g
-        ∙ too_much count room r (undropped (goes b o.op) (drop (suc i) rs) ++ new_last b o) out in
+    ap (λ l. fits count room (undropped (goes b o.op) l ++ new_last b o)) found
+    ∙ ap (λ x. fits count room (cond x (undropped (goes b o.op) (drop (suc i) rs)) (r ∷ undropped (goes b o.op) (drop (suc i) rs)) ++ new_last b o)) g
+    ∙ too_much count room r (undropped (goes b o.op) (drop (suc i) rs) ++ new_last b o) out in
     sym left ∙ h ∙ ap (λ x. fits most_count most_weight (undropped (goes x o.op) rs ++ new_last x o)) c ∙ fits_added most_count most_weight rs o
 
 -- at its end the new record is left

@@ -1,6 +1,6 @@
 -- One turn of adding operations that wait in reverse.
-use Rattle.std.proofs.Common.{◌≡◌, List, [], ◌∷◌, ◌++◌, Option, Some, None, refl, sym, ap, ◌∙◌, subst, reverse, append_assoc}
-use Rattle.std.proofs.lemmas.List.{reverse-append}
+use Rattle.std.proofs.Common.{◌≡◌, List, [], ◌∷◌, ◌++◌, sym, ap, ◌∙◌, subst, reverse, append_assoc}
+use Rattle.std.proofs.lemmas.List.{append-nil, reverse-append}
 use Rattle.coda_fid.specs.declared.op.Record.{Record}
 use Rattle.coda_cancel.specs.declared.join.Join.{Join}
 use Rattle.coda_cancel.specs.Cancel.{add, added}
@@ -25,3 +25,11 @@ module _ (rs waiting left after : List Record) (o : Record) (popped : waiting �
 
 pub rising_now : (rs waiting left : List Record) (o : Record) → waiting ≡ left ++ o ∷ [] → IsRising (rs ++ reverse waiting) → IsRising rs
 rising_now rs waiting left o popped h = (rising_before rs o (reverse left) (subst (λ l. IsRising (rs ++ l)) (turned waiting left o popped) h)).0
+
+rising_front : (rs : List Record) → IsRising (rs ++ []) → IsRising rs
+rising_front rs h = subst IsRising (append-nil rs) h
+
+-- after operations of ever greater numbers the numbers rise
+pub rising_added : (rs os : List Record) → IsRising (rs ++ os) → IsRising (added rs os)
+rising_added rs [] h = rising_front rs h
+rising_added rs (o ∷ os) h = rising_added (add rs o) os (rising_step rs o os h)

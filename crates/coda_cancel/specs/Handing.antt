@@ -1,5 +1,5 @@
 -- How the version that a client had of an object is handed on from dropped records to later ones.
-use Rattle.std.specs.Prelude.{Bool, false, cond, Option, Some, None}
+use Rattle.std.specs.Prelude.{cond, Option, Some, None}
 use Rattle.coda_fid.specs.declared.fid.Fid.{Fid}
 use Rattle.coda_fid.specs.declared.fid.Sid.{Sid}
 use Rattle.coda_fid.specs.declared.op.Over.{Over}
@@ -7,7 +7,6 @@ use Rattle.coda_fid.specs.declared.op.Op.{Op}
 use Rattle.coda_fid.specs.declared.op.Op.TheVariants.{Create, Mkdir, Symlink, Store, Setattr, Remove, Rmdir, Rename}
 use Rattle.coda_fid.specs.declared.op.Record.{Record}
 use Rattle.coda_fid.specs.Fid.{same_fid}
-use Rattle.coda_fid.specs.Op.{carried}
 
 -- the replaced object of a rename, with another kept version
 abbrev pub with_over : (Fid → Sid → Sid) → Option Over → Option Over

@@ -1,5 +1,5 @@
 -- How the code hands a version on: one object at a time, along the list, before it takes the dropped records out.
-use Rattle.std.specs.Prelude.{Bool, cond, Option, Some, None, List, [], ◌∷◌}
+use Rattle.std.specs.Prelude.{Bool, cond, Option, None, List, [], ◌∷◌}
 use Rattle.coda_fid.specs.declared.fid.Fid.{Fid}
 use Rattle.coda_fid.specs.declared.fid.Sid.{Sid}
 use Rattle.coda_fid.specs.declared.op.Op.{Op}

@@ -1,10 +1,12 @@
-ghost use Rattle.std.specs.Prelude.{◌≡◌, ◌≤◌, [], take, drop, length, IfOk, OnOk, OnErr, IfErr};
+ghost use Rattle.std.specs.Prelude.{◌≡◌, ◌≤◌, [], ◌++◌, take, drop, length, IfOk, OnOk, OnErr, IfErr};
 ghost use Rattle.coda_fid.specs.declared.op.Record.{Record};
-ghost use Rattle.coda_cancel.specs.Cancel.{add};
+ghost use Rattle.coda_cancel.specs.Cancel.{add, added};
 ghost use Rattle.coda_cancel.specs.Numbers.{AreBelow, IsRising, dropped, least};
+ghost use Rattle.coda_cancel.specs.Joins.{joins_of};
 ghost use Rattle.coda_cancel.specs.Weights.{fits};
 
-use crate::adding::add_reserved;
+use crate::Join;
+use crate::adding::{add_each, add_reserved};
 use crate::fitting::fits_after;
 use coda_fid::Record;
 use std::alloc::{AllocError, Global};
@@ -49,6 +51,14 @@ impl Tail {
         Tail {
             records: Vec::new(alloc),
         }
+    }
+
+    /// These records, in the memory that they have.
+    pub fn from_records(records: Vec<Record>) -> Tail
+        requires { IsRising records.items }
+        ensures { result ≡ records.items }
+    {
+        Tail { records }
     }
 
     /// The records, in the order of their numbers.
@@ -103,6 +113,28 @@ impl Tail {
             return Err(AddFault::Memory(rec));
         }
         Ok(add_reserved(&mut self.records, rec))
+    }
+
+    /// Adds the records of a later part of the log in turn, and leaves that part empty.
+    ///
+    /// Answers those that dropped records as they were added.
+    ///
+    /// # Errors
+    ///
+    /// Fails for want of memory alone, and then both parts stay as they were.
+    pub fn add_all(&mut self, alloc: Global, later: &mut Tail) -> Result<Vec<Join>, AllocError>
+        requires { IsRising (self.old ++ later.old) }
+        ensures records { OnOk result (self.new ≡ added self.old later.old) }
+        ensures joins { IfOk result (λ joins. joins.items ≡ joins_of self.old later.old) }
+        ensures later { OnOk result (later.new ≡ []) }
+        ensures err { OnErr result (self.new ≡ self.old) }
+        ensures err_later { OnErr result (later.new ≡ later.old) }
+    {
+        let mut joins = Vec::with_capacity(alloc, later.records.len())?;
+        self.records.reserve(later.records.len())?;
+        let waiting = mem::replace(&mut later.records, Vec::new(alloc));
+        add_each(&mut self.records, waiting, &mut joins);
+        Ok(joins)
     }
 
     /// Whether there would be so many records at most, and they would weigh so much at most, if the

@@ -1,5 +1,4 @@
-use Rattle.std.proofs.Common.{◌≡◌, [], None, refl, sym, ap, ◌∙◌}
-use Rattle.coda_fid.specs.Op.{carried}
+use Rattle.std.proofs.Common.{sym, ap, ◌∙◌}
 use Rattle.coda_cancel.specs.Numbers.{least}
 use Rattle.coda_cancel.proofs.Additions.{plain_added, plain_dropped}
 use Rattle.coda_cancel.proofs.adding.add_reserved.Goals as goal

@@ -13,5 +13,5 @@ returns-clause-records c =
     let b : owed_to c.args.fid c.hand_on-owed.result ≡ debt (drops c.args.rec.op) nothing c.args.records.now.items = rw c.deref_mut.ensures.value at c.hand_on-owed.ensures.owed in
     let n : c.args.records.now.len ≡ length c.hand_on-owed.new.records = omega arith in
     let d : c.drop_needless.new.records.items ≡ undropped (drops c.args.rec.op) c.hand_on-owed.new.records =
-        c.drop_needless.ensures.records ∙ ap (undropped (drops c.args.rec.op)) (ap (λ k. take k (c.hand_on-owed.new.records ++ drop (length c.hand_on-owed.new.records) c.args.records.now.items)) n ∙ take-append_seam c.hand_on-owed.new.records _) in
+    c.drop_needless.ensures.records ∙ ap (undropped (drops c.args.rec.op)) (ap (λ k. take k (c.hand_on-owed.new.records ++ drop (length c.hand_on-owed.new.records) c.args.records.now.items)) n ∙ take-append_seam c.hand_on-owed.new.records _) in
     three_steps c.args.records.now.items c.hand_on-owed.new.records c.drop_needless.new.records.items c.push_reserved.new.self.items c.args.rec c.pay.new.rec c.args.fid c.hand_on-owed.result a b d c.pay.ensures c.push_reserved.ensures.items

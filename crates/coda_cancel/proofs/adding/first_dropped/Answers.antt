@@ -1,4 +1,4 @@
-use Rattle.std.proofs.Common.{◌≡◌, true, sym, ◌∙◌}
+use Rattle.std.proofs.Common.{sym, ◌∙◌}
 use Rattle.coda_cancel.specs.Dropping.{drops}
 use Rattle.coda_cancel.proofs.Rising.{least_at}
 use Rattle.coda_cancel.proofs.adding.first_dropped.Goals as goal

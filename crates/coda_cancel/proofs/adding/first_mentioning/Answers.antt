@@ -1,4 +1,4 @@
-use Rattle.std.proofs.Common.{◌≡◌, true, sym, ◌∙◌}
+use Rattle.std.proofs.Common.{sym, ◌∙◌}
 use Rattle.coda_cancel.specs.Dropping.{mentioning}
 use Rattle.coda_cancel.proofs.Rising.{least_at}
 use Rattle.coda_cancel.proofs.adding.first_mentioning.Goals as goal

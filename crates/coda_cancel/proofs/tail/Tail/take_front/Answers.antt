@@ -1,4 +1,3 @@
-use Rattle.coda_cancel.specs.Numbers.{IsRising}
 use Rattle.coda_cancel.proofs.Rising.{rising_drop}
 use Rattle.coda_cancel.proofs.tail.Tail.take_front.Goals as goal
 
