@@ -1,0 +1,12 @@
+pub mod Numbered
+pub mod Undone
+pub mod Near
+pub mod Others
+pub mod Sim
+pub mod Without
+pub mod Thaw
+pub mod Prefix
+pub mod Joins
+pub mod Stays
+pub mod Cuts
+pub mod Suffix

@@ -1,0 +1,10 @@
+//! The log of a client on a volume: frozen records on their way to a server, and those after them.
+#![tactic(auto)]
+
+mod law;
+mod segment;
+
+pub use law::{
+    a_thaw_has_the_segments, a_thaw_is_the_fold, segments_are_their_folds, the_rest_is_steady,
+};
+pub use segment::Segment;
