@@ -53,6 +53,12 @@ pub record MayCreate (m : Nodes) (dir : Fid) (name : Name) (fid : Fid) : Type 0 
   pub name_free : child m dir name ≡ None
   pub fid_free : map.get m fid ≡ None
 
+-- what a removal may rely on once it is certified: a directory binds the object at the name, and the object binds nothing
+pub record MayRemove (m : Nodes) (dir : Fid) (name : Name) (fid : Fid) : Type 0 where
+  pub dir_there : IsDirAt m dir
+  pub bound : child m dir name ≡ Some fid
+  pub leaf : (n : Name) → child m fid n ≡ None
+
 -- what a rename may rely on: both directories are there, and the new name is bound to what is replaced
 pub record MayRename (m : Nodes) (from_dir : Fid) (to_dir : Fid) (to : Name) (over : Option Over) : Type 0 where
   pub from_there : IsDirAt m from_dir

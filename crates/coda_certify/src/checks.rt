@@ -1,10 +1,11 @@
 ghost use Rattle.std.specs.Prelude.{◌≡◌};
 ghost use Rattle.std.specs.FinMap as map;
-ghost use Rattle.coda_tree.specs.Volume.{child};
-ghost use Rattle.coda_certify.specs.Checks.{no_dir_of, marked_of, name_taken_of, fid_used_of, full_of, creation_checks, first_reason, certify as certify_op};
+ghost use Rattle.coda_tree.specs.Volume.{child, is_below};
+ghost use Rattle.coda_certify.specs.Checks.{is_no_dir, is_dir, is_no_file, no_dir_of, marked_of, no_object_of, wrong_kind_of, same_object_of, name_taken_of, name_other_of, fid_used_of, change_of, version_of, not_empty_of, loop_of, full_of};
+ghost use Rattle.coda_certify.specs.Checks.{creation_checks, store_checks, setattr_checks, remove_checks, rmdir_checks, move_checks, replace_checks, first_reason, certify as certify_op};
 
 use crate::Reason;
-use coda_fid::{Fid, Name, Op, Record};
+use coda_fid::{Fid, Name, Op, Over, Record, Sid};
 use coda_tree::{NodeKind, Volume};
 
 /// The most objects that a volume has.
@@ -39,11 +40,87 @@ fn marked(volume: &Volume, fid: Fid) -> Option<Reason>
     }
 }
 
+// No object stands there.
+fn no_object(volume: &Volume, fid: Fid) -> Option<Reason>
+    ensures { result ≡ no_object_of (map.get volume.now.nodes fid) fid }
+{
+    match volume.get(fid) {
+        Some(_) => None,
+        None => Some(Reason::NoObject(fid)),
+    }
+}
+
+// What stands there is no file.
+fn not_a_file(volume: &Volume, fid: Fid) -> Option<Reason>
+    ensures { result ≡ wrong_kind_of is_no_file (map.get volume.now.nodes fid) fid }
+{
+    match volume.get(fid) {
+        Some(node) => match &node.kind {
+            NodeKind::File(_) => None,
+            NodeKind::Link(_) | NodeKind::Dir(_) => Some(Reason::WrongKind(fid)),
+        },
+        None => None,
+    }
+}
+
+// What stands there is a directory.
+fn a_directory(volume: &Volume, fid: Fid) -> Option<Reason>
+    ensures { result ≡ wrong_kind_of is_dir (map.get volume.now.nodes fid) fid }
+{
+    match volume.get(fid) {
+        Some(node) => match &node.kind {
+            NodeKind::Dir(_) => Some(Reason::WrongKind(fid)),
+            NodeKind::File(_) | NodeKind::Link(_) => None,
+        },
+        None => None,
+    }
+}
+
+// What stands there is no directory.
+fn not_a_directory(volume: &Volume, fid: Fid) -> Option<Reason>
+    ensures { result ≡ wrong_kind_of is_no_dir (map.get volume.now.nodes fid) fid }
+{
+    match volume.get(fid) {
+        Some(node) => match &node.kind {
+            NodeKind::Dir(_) => None,
+            NodeKind::File(_) | NodeKind::Link(_) => Some(Reason::WrongKind(fid)),
+        },
+        None => None,
+    }
+}
+
+// The replaced object is the moved one.
+fn same_object(replaced: Fid, fid: Fid) -> Option<Reason>
+    ensures { result ≡ same_object_of replaced fid }
+{
+    if replaced == fid {
+        Some(Reason::WrongKind(fid))
+    } else {
+        None
+    }
+}
+
 // The directory binds the name.
 fn name_taken(volume: &Volume, dir: Fid, name: &Name) -> Option<Reason>
     ensures { result ≡ name_taken_of (child volume.now.nodes dir name.now) }
 {
     volume.child(dir, name).map(Reason::NameTaken)
+}
+
+// The directory doesn't bind the name to the object.
+fn name_other(volume: &Volume, dir: Fid, name: &Name, fid: Fid) -> Option<Reason>
+    ensures { result ≡ name_other_of (child volume.now.nodes dir name.now) fid }
+{
+    match volume.child(dir, name) {
+        Some(found) => {
+            if found == fid {
+                None
+            } else {
+                Some(Reason::NameOther(Some(found)))
+            }
+        }
+        None => Some(Reason::NameOther(None)),
+    }
 }
 
 // An object stands there.
@@ -53,6 +130,64 @@ fn fid_used(volume: &Volume, fid: Fid) -> Option<Reason>
     match volume.get(fid) {
         Some(_) => Some(Reason::FidUsed(fid)),
         None => None,
+    }
+}
+
+// How a change of a node of this kind is told.
+fn change(kind: &NodeKind, kept: Sid, found: Sid) -> Reason
+    ensures { result ≡ change_of kind.now kept found }
+{
+    match kind {
+        NodeKind::File(_) => Reason::Changed { kept, found },
+        NodeKind::Link(_) => Reason::Changed { kept, found },
+        NodeKind::Dir(_) => Reason::AttrChanged { kept, found },
+    }
+}
+
+// What stands there is of another version.
+fn other_version(volume: &Volume, fid: Fid, pre: Sid) -> Option<Reason>
+    ensures { result ≡ version_of (map.get volume.now.nodes fid) pre }
+{
+    match volume.get(fid) {
+        Some(node) => {
+            if node.sid == pre {
+                None
+            } else {
+                Some(change(&node.kind, pre, node.sid))
+            }
+        }
+        None => None,
+    }
+}
+
+// What stands there binds something.
+fn not_empty(volume: &Volume, fid: Fid) -> Option<Reason>
+    ensures { result ≡ not_empty_of (map.get volume.now.nodes fid) }
+{
+    match volume.get(fid) {
+        Some(node) => match &node.kind {
+            NodeKind::Dir(entries) => {
+                if entries.is_empty() {
+                    None
+                } else {
+                    Some(Reason::NotEmpty)
+                }
+            }
+            NodeKind::File(_) => None,
+            NodeKind::Link(_) => None,
+        },
+        None => None,
+    }
+}
+
+// The directory is the object, or stands below it.
+fn makes_loop(volume: &Volume, fid: Fid, dir: Fid) -> Option<Reason>
+    ensures { result ≡ loop_of (is_below volume.now.nodes dir fid) }
+{
+    if volume.is_below(dir, fid) {
+        Some(Reason::Loop)
+    } else {
+        None
     }
 }
 
@@ -79,12 +214,119 @@ fn certify_creation(volume: &Volume, dir: Fid, name: &Name, fid: Fid) -> Option<
         .or_else(|| full(volume))
 }
 
+// The checks of a store, in their order.
+fn certify_store(volume: &Volume, fid: Fid, pre: Sid) -> Option<Reason>
+    ensures { result ≡ first_reason volume.now.nodes (store_checks fid pre) }
+{
+    marked(volume, fid)
+        .or_else(|| no_object(volume, fid))
+        .or_else(|| not_a_file(volume, fid))
+        .or_else(|| other_version(volume, fid, pre))
+}
+
+// The checks of a change of attributes, in their order.
+fn certify_setattr(volume: &Volume, fid: Fid, pre: Sid) -> Option<Reason>
+    ensures { result ≡ first_reason volume.now.nodes (setattr_checks fid pre) }
+{
+    marked(volume, fid)
+        .or_else(|| no_object(volume, fid))
+        .or_else(|| other_version(volume, fid, pre))
+}
+
+// The checks of the removal of a file or link, in their order.
+fn certify_remove(volume: &Volume, dir: Fid, name: &Name, fid: Fid, pre: Sid) -> Option<Reason>
+    ensures { result ≡ first_reason volume.now.nodes (remove_checks dir name.now fid pre) }
+{
+    no_dir(volume, dir)
+        .or_else(|| marked(volume, dir))
+        .or_else(|| marked(volume, fid))
+        .or_else(|| no_object(volume, fid))
+        .or_else(|| a_directory(volume, fid))
+        .or_else(|| name_other(volume, dir, name, fid))
+        .or_else(|| other_version(volume, fid, pre))
+}
+
+// The checks of the removal of a directory, in their order.
+fn certify_rmdir(volume: &Volume, dir: Fid, name: &Name, fid: Fid, pre: Sid) -> Option<Reason>
+    ensures { result ≡ first_reason volume.now.nodes (rmdir_checks dir name.now fid pre) }
+{
+    no_dir(volume, dir)
+        .or_else(|| marked(volume, dir))
+        .or_else(|| marked(volume, fid))
+        .or_else(|| no_object(volume, fid))
+        .or_else(|| not_a_directory(volume, fid))
+        .or_else(|| name_other(volume, dir, name, fid))
+        .or_else(|| other_version(volume, fid, pre))
+        .or_else(|| not_empty(volume, fid))
+}
+
+// The checks of a rename to a free name, in their order.
+fn certify_move(
+    volume: &Volume,
+    from_dir: Fid,
+    from: &Name,
+    to_dir: Fid,
+    to: &Name,
+    fid: Fid,
+) -> Option<Reason>
+    ensures { result ≡ first_reason volume.now.nodes (move_checks from_dir from.now to_dir to.now fid) }
+{
+    no_dir(volume, from_dir)
+        .or_else(|| no_dir(volume, to_dir))
+        .or_else(|| marked(volume, from_dir))
+        .or_else(|| marked(volume, to_dir))
+        .or_else(|| marked(volume, fid))
+        .or_else(|| no_object(volume, fid))
+        .or_else(|| name_taken(volume, to_dir, to))
+        .or_else(|| name_other(volume, from_dir, from, fid))
+        .or_else(|| makes_loop(volume, fid, to_dir))
+}
+
+// The checks of a rename that replaces an object, in their order.
+fn certify_replacement(
+    volume: &Volume,
+    from_dir: Fid,
+    from: &Name,
+    to_dir: Fid,
+    to: &Name,
+    fid: Fid,
+    over: Over,
+) -> Option<Reason>
+    ensures { result ≡ first_reason volume.now.nodes (replace_checks from_dir from.now to_dir to.now fid over) }
+{
+    no_dir(volume, from_dir)
+        .or_else(|| no_dir(volume, to_dir))
+        .or_else(|| marked(volume, from_dir))
+        .or_else(|| marked(volume, to_dir))
+        .or_else(|| marked(volume, fid))
+        .or_else(|| marked(volume, over.fid))
+        .or_else(|| no_object(volume, fid))
+        .or_else(|| no_object(volume, over.fid))
+        .or_else(|| a_directory(volume, over.fid))
+        .or_else(|| a_directory(volume, fid))
+        .or_else(|| same_object(over.fid, fid))
+        .or_else(|| name_other(volume, from_dir, from, fid))
+        .or_else(|| name_other(volume, to_dir, to, over.fid))
+        .or_else(|| other_version(volume, over.fid, over.pre))
+        .or_else(|| makes_loop(volume, fid, to_dir))
+}
+
 /// The first reason to refuse an operation, or none: certification (Kistler and Satyanarayanan
 /// 1992).
 ///
-/// The checks are those of the operation's kind, in a fixed order. A creation is refused where no
-/// directory stands where it is to be bound; where this directory is marked; where it binds the
-/// name; where an object has the new one's identifier; and where the volume has 100,000 objects.
+/// The checks are those of the operation's kind, in a fixed order:
+///
+/// - A creation: no directory stands where the object is to be bound; this directory is marked; it binds the name; an
+///   object has the new one's identifier; the volume has 100,000 objects.
+/// - A store: the object is marked; isn't there; is no file; has changed since the client saw it.
+/// - A change of attributes: the object is marked; isn't there; has changed.
+/// - A removal: no directory stands where the object was bound; this directory, or the object, is marked; the object isn't
+///   there; is a directory (or, of a directory's removal, is none); isn't bound at the name; has changed; and a directory is
+///   refused last where it binds something.
+/// - A rename: one of the directories isn't there; one of them, the object or the replaced object is marked; one of the two
+///   objects isn't there; something is replaced and one of the two is a directory, or the two are one; nothing is replaced
+///   and the new name is bound; the old name isn't bound to the object, or the new one not to the replaced one; the
+///   replaced object has changed; the object is the new directory or stands above it.
 #[tactic(auto, unfolding(crate::specs::Checks::certify))]
 pub fn certify(volume: &Volume, rec: &Record) -> Option<Reason>
     ensures { result ≡ certify_op volume.now.nodes rec.now.op }
@@ -92,5 +334,36 @@ pub fn certify(volume: &Volume, rec: &Record) -> Option<Reason>
     match &rec.op {
         Op::Create { dir, name, fid, .. } => certify_creation(volume, *dir, name, *fid),
         Op::Mkdir { dir, name, fid, .. } => certify_creation(volume, *dir, name, *fid),
+        Op::Symlink { dir, name, fid, .. } => certify_creation(volume, *dir, name, *fid),
+        Op::Store { fid, pre, .. } => certify_store(volume, *fid, *pre),
+        Op::Setattr { fid, pre, .. } => certify_setattr(volume, *fid, *pre),
+        Op::Remove {
+            dir,
+            name,
+            fid,
+            pre,
+        } => certify_remove(volume, *dir, name, *fid, *pre),
+        Op::Rmdir {
+            dir,
+            name,
+            fid,
+            pre,
+        } => certify_rmdir(volume, *dir, name, *fid, *pre),
+        Op::Rename {
+            from_dir,
+            from,
+            to_dir,
+            to,
+            fid,
+            over: None,
+        } => certify_move(volume, *from_dir, from, *to_dir, to, *fid),
+        Op::Rename {
+            from_dir,
+            from,
+            to_dir,
+            to,
+            fid,
+            over: Some(over),
+        } => certify_replacement(volume, *from_dir, from, *to_dir, to, *fid, *over),
     }
 }

@@ -1,9 +1,9 @@
-ghost use Rattle.std.specs.Prelude.{◌≡◌, None, IfOk, OnOk, OnErr};
-ghost use Rattle.coda_tree.specs.Volume.{added, IsLeaf};
-ghost use Rattle.coda_certify.specs.Checks.{certify as certify_op};
-ghost use Rattle.coda_certify.specs.Replay.{made, empty_file, empty_dir, applied, sid_of, MayCreate, MayApply};
+ghost use Rattle.std.specs.Prelude.{◌≡◌, None, Some, IfOk, OnOk, OnErr};
+ghost use Rattle.coda_tree.specs.Volume.{child, added, detached, moved, replaced, changed, written, content_patch, edited_all, IsLeaf, MayMove, MayReplace};
+ghost use Rattle.coda_certify.specs.Checks.{rename_checks, first_reason, certify as certify_op};
+ghost use Rattle.coda_certify.specs.Replay.{made, empty_file, empty_dir, new_link, rename_effects, applied, sid_of, MayCreate, MayRemove, MayRename, MayApply};
 
-use coda_fid::{Bytes, Fid, Name, Op, Record, Sid};
+use coda_fid::{Bytes, Fid, Name, Op, Over, Record, Sid};
 use coda_tree::{Entries, Node, NodeKind, NodeTable, Volume};
 use std::alloc::{AllocError, Global};
 
@@ -48,6 +48,21 @@ fn new_dir(alloc: Global, mode: u16, owner: u32, mtime: u64, sid: Sid) -> Node
     make(NodeKind::Dir(Entries::new(alloc)), mode, owner, mtime, sid)
 }
 
+// A symbolic link. Fails for want of memory alone.
+fn make_link(
+    target: &Bytes,
+    mode: u16,
+    owner: u32,
+    mtime: u64,
+    sid: Sid,
+) -> Result<Node, AllocError>
+    ensures made { IfOk result (λ node. node ≡ new_link target.now mode owner mtime sid) }
+    ensures leaf { IfOk result IsLeaf }
+{
+    let target = target.copy()?;
+    Ok(make(NodeKind::Link(target), mode, owner, mtime, sid))
+}
+
 // Puts a new node into a volume. Fails for want of memory alone, and then changes nothing.
 fn create(
     volume: &mut Volume,
@@ -65,7 +80,117 @@ fn create(
     volume.add(dir, name, fid, node)
 }
 
-// Puts a new node into a table, likewise.
+// Gives a file new content. Fails for want of memory alone, and then changes nothing.
+fn store(
+    volume: &mut Volume,
+    fid: Fid,
+    content: &Bytes,
+    time: u64,
+    sid: Sid,
+) -> Result<(), AllocError>
+    ensures ok { OnOk result (volume.new ≡ record volume.old { nodes = changed volume.old.nodes fid (written (content_patch content.now time) sid) }) }
+    ensures err { OnErr result (volume.new ≡ volume.old) }
+{
+    let content = content.copy()?;
+    volume.store(fid, content, time, sid);
+    Ok(())
+}
+
+// Takes an object out of a volume.
+fn remove(volume: &mut Volume, dir: Fid, name: &Name, fid: Fid)
+    requires { MayRemove volume.old.nodes dir name.now fid }
+    ensures { volume.new ≡ record volume.old { nodes = detached volume.old.nodes dir name.now fid } }
+{
+    volume.detach(dir, name);
+}
+
+// Moves an object to a free name. Fails for want of memory alone, and then changes nothing.
+fn move_to(
+    volume: &mut Volume,
+    from_dir: Fid,
+    from: &Name,
+    to_dir: Fid,
+    to: &Name,
+    fid: Fid,
+) -> Result<(), AllocError>
+    requires may { MayMove volume.old.nodes from_dir from.now to_dir to.now }
+    requires bound { child volume.old.nodes from_dir from.now ≡ Some fid }
+    ensures ok { OnOk result (volume.new ≡ record volume.old { nodes = moved volume.old.nodes from_dir from.now to_dir to.now fid }) }
+    ensures err { OnErr result (volume.new ≡ volume.old) }
+{
+    let to = to.copy()?;
+    volume.move_to(from_dir, from, to_dir, to)
+}
+
+// Moves an object to the name of another, which is taken out.
+fn replace(
+    volume: &mut Volume,
+    old: Fid,
+    from_dir: Fid,
+    from: &Name,
+    to_dir: Fid,
+    to: &Name,
+    fid: Fid,
+)
+    requires may { MayReplace volume.old.nodes old from_dir from.now to_dir to.now }
+    requires bound { child volume.old.nodes from_dir from.now ≡ Some fid }
+    ensures { volume.new ≡ record volume.old { nodes = replaced volume.old.nodes old from_dir from.now to_dir to.now fid } }
+{
+    volume.replace(old, from_dir, from, to_dir, to);
+}
+
+// Renames an object. Fails for want of memory alone, and then changes nothing.
+#[tactic(auto, unfolding(coda_tree::specs::Volume::moved, coda_tree::specs::Volume::replaced))]
+fn rename(
+    volume: &mut Volume,
+    from_dir: Fid,
+    from: &Name,
+    to_dir: Fid,
+    to: &Name,
+    fid: Fid,
+    over: Option<Over>,
+) -> Result<(), AllocError>
+    requires { first_reason volume.old.nodes (rename_checks from_dir from.now to_dir to.now fid over) ≡ None }
+    ensures ok { OnOk result (volume.new ≡ record volume.old { nodes = edited_all volume.old.nodes (rename_effects from_dir from.now to_dir to.now fid over) }) }
+    ensures err { OnErr result (volume.new ≡ volume.old) }
+{
+    match over {
+        None => move_to(volume, from_dir, from, to_dir, to, fid),
+        Some(over) => {
+            replace(volume, over.fid, from_dir, from, to_dir, to, fid);
+            Ok(())
+        }
+    }
+}
+
+// Renames an object in a table, likewise.
+#[tactic(auto, unfolding(coda_tree::specs::Volume::moved, coda_tree::specs::Volume::replaced))]
+fn rename_in_table(
+    table: &mut NodeTable,
+    from_dir: Fid,
+    from: &Name,
+    to_dir: Fid,
+    to: &Name,
+    fid: Fid,
+    over: Option<Over>,
+) -> Result<(), AllocError>
+    requires { MayRename table.old from_dir to_dir to.now over }
+    ensures ok { OnOk result (table.new ≡ edited_all table.old (rename_effects from_dir from.now to_dir to.now fid over)) }
+    ensures err { OnErr result (table.new ≡ table.old) }
+{
+    match over {
+        None => {
+            let to = to.copy()?;
+            table.move_to(from_dir, from, to_dir, to, fid)
+        }
+        Some(over) => {
+            table.replace(over.fid, from_dir, from, to_dir, to, fid);
+            Ok(())
+        }
+    }
+}
+
+// Puts a new node into a table. Fails for want of memory alone, and then changes nothing.
 fn create_in_table(
     table: &mut NodeTable,
     dir: Fid,
@@ -83,13 +208,15 @@ fn create_in_table(
 
 /// Applies a client's operation that certification does not refuse.
 ///
-/// A creation puts its object into the volume, with the record's time and the version that client
-/// and number name, and binds it.
+/// A creation puts its object into the volume, with the record's time and the version that client and number name, and
+/// binds it. A store sets content, time and version, and a change of attributes the given ones and the version. A removal
+/// unbinds its object and takes it out. A rename binds its object under the new name alone and changes no version; a
+/// replaced object is taken out.
 ///
 /// # Errors
 ///
 /// Fails for want of memory alone, and then changes nothing.
-#[tactic(auto, unfolding(crate::specs::Replay::applied, coda_tree::specs::Volume::added))]
+#[tactic(auto, unfolding(crate::specs::Replay::applied, coda_tree::specs::Volume::added, coda_tree::specs::Volume::detached, coda_tree::specs::Volume::moved, coda_tree::specs::Volume::replaced))]
 pub fn apply(alloc: Global, volume: &mut Volume, client: u8, rec: &Record) -> Result<(), AllocError>
     requires { certify_op volume.old.nodes rec.now.op ≡ None }
     ensures ok { OnOk result (volume.new ≡ record volume.old { nodes = applied volume.old.nodes client rec.now }) }
@@ -117,6 +244,38 @@ pub fn apply(alloc: Global, volume: &mut Volume, client: u8, rec: &Record) -> Re
             let new = new_dir(alloc, *mode, *owner, rec.time, sid);
             create(volume, *dir, name, *fid, new)
         }
+        Op::Symlink {
+            dir,
+            name,
+            fid,
+            target,
+            mode,
+            owner,
+        } => {
+            let link = make_link(target, *mode, *owner, rec.time, sid)?;
+            create(volume, *dir, name, *fid, link)
+        }
+        Op::Store { fid, content, .. } => store(volume, *fid, content, rec.time, sid),
+        Op::Setattr { fid, attrs, .. } => {
+            volume.set_attributes(*fid, attrs, sid);
+            Ok(())
+        }
+        Op::Remove { dir, name, fid, .. } => {
+            remove(volume, *dir, name, *fid);
+            Ok(())
+        }
+        Op::Rmdir { dir, name, fid, .. } => {
+            remove(volume, *dir, name, *fid);
+            Ok(())
+        }
+        Op::Rename {
+            from_dir,
+            from,
+            to_dir,
+            to,
+            fid,
+            over,
+        } => rename(volume, *from_dir, from, *to_dir, to, *fid, *over),
     }
 }
 
@@ -126,7 +285,7 @@ pub fn apply(alloc: Global, volume: &mut Volume, client: u8, rec: &Record) -> Re
 /// # Errors
 ///
 /// Fails for want of memory alone, and then changes nothing.
-#[tactic(auto, unfolding(crate::specs::Replay::applied, coda_tree::specs::Volume::added))]
+#[tactic(auto, unfolding(crate::specs::Replay::applied, coda_tree::specs::Volume::added, coda_tree::specs::Volume::detached, coda_tree::specs::Volume::moved, coda_tree::specs::Volume::replaced))]
 pub fn apply_to_table(
     alloc: Global,
     table: &mut NodeTable,
@@ -159,5 +318,41 @@ pub fn apply_to_table(
             let node = new_dir(alloc, *mode, *owner, rec.time, sid);
             create_in_table(table, *dir, name, *fid, node)
         }
+        Op::Symlink {
+            dir,
+            name,
+            fid,
+            target,
+            mode,
+            owner,
+        } => {
+            let node = make_link(target, *mode, *owner, rec.time, sid)?;
+            create_in_table(table, *dir, name, *fid, node)
+        }
+        Op::Store { fid, content, .. } => {
+            let content = content.copy()?;
+            table.store(*fid, content, rec.time, sid);
+            Ok(())
+        }
+        Op::Setattr { fid, attrs, .. } => {
+            table.set_attributes(*fid, attrs, sid);
+            Ok(())
+        }
+        Op::Remove { dir, name, fid, .. } => {
+            table.detach(*dir, name, *fid);
+            Ok(())
+        }
+        Op::Rmdir { dir, name, fid, .. } => {
+            table.detach(*dir, name, *fid);
+            Ok(())
+        }
+        Op::Rename {
+            from_dir,
+            from,
+            to_dir,
+            to,
+            fid,
+            over,
+        } => rename_in_table(table, *from_dir, from, *to_dir, to, *fid, *over),
     }
 }

@@ -6,7 +6,6 @@ mod effects;
 mod law;
 mod reason;
 mod replays;
-mod undoing;
 mod verdict;
 
 pub use checks::certify;

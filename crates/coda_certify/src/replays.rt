@@ -2,7 +2,6 @@ ghost use Rattle.std.specs.Prelude.{◌≡◌, IfOk, OnOk, OnErr};
 ghost use Rattle.coda_certify.specs.Replay.{replay as replay_from};
 ghost use Rattle.coda_certify.specs.Verdicts.{verdict_of, nodes_left};
 
-use crate::undoing::undo_all;
 use crate::{Verdict, apply, certify};
 use coda_fid::Record;
 use coda_tree::Volume;
@@ -12,7 +11,6 @@ use std::alloc::{AllocError, Global};
 ///
 /// Each record is certified after those before it were applied. Where one is refused, the verdict
 /// is a conflict that names the first such record with its reason, and the volume stays as it was.
-/// Records are applied in place, and undone where a later one is refused, so the volume is not copied.
 ///
 /// # Errors
 ///
@@ -27,15 +25,13 @@ pub fn replay(
     ensures volume { OnOk result (volume.new ≡ record volume.old { nodes = nodes_left volume.old.nodes (replay_from volume.old.nodes client recs.now) }) }
     ensures err { OnErr result (volume.new ≡ volume.old) }
 {
-    for (index, rec) in recs.iter().enumerate() {
-        if let Some(why) = certify(volume, rec) {
-            undo_all(volume, &recs[..index]);
+    let mut next = volume.copy()?;
+    for rec in recs {
+        if let Some(why) = certify(&next, rec) {
             return Ok(Verdict::Conflict(rec.number, why));
         }
-        if let Err(e) = apply(alloc, volume, client, rec) {
-            undo_all(volume, &recs[..index]);
-            return Err(e);
-        }
+        apply(alloc, &mut next, client, rec)?;
     }
+    *volume = next;
     Ok(Verdict::Applied)
 }

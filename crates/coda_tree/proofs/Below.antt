@@ -10,13 +10,13 @@ use Rattle.std.specs.FinMap.{find}
 use Rattle.std.proofs.lemmas.Map.Steps.{length-le_from_keys}
 use Rattle.coda_fid.specs.Fid.{fid_cmp, same_fid}
 use Rattle.coda_fid.specs.declared.fid.Fid.{Fid}
+use Rattle.coda_fid.proofs.Fids.{fids_total, same_fid_is, same_fid_refl}
 use Rattle.coda_tree.specs.declared.node.Node.{Node}
 use Rattle.coda_tree.specs.Bindings.{Name}
 use Rattle.coda_tree.specs.Tree.{Child, IsBelow, itself, under, AtDepth, at_top, one_deeper}
 use Rattle.coda_tree.specs.Volume.{Nodes, bindings, child, child_of, has, IsVolume, parent_of, below_within, is_below}
-use Rattle.coda_tree.proofs.Order.{fids_total}
 use Rattle.coda_tree.proofs.Booleans.{or_true, has_some}
-use Rattle.coda_tree.proofs.Parents.{same_fid_is, same_fid_refl, tied_fid, parent_sound, parent_is}
+use Rattle.coda_tree.proofs.Parents.{tied_fid, parent_sound, parent_is}
 
 lt_le : (a b : ℕ) → a < b → a ≤ b
 lt_le a b lt = omega (arith, lt)

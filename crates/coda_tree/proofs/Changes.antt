@@ -1,17 +1,18 @@
 -- What each change of the nodes leaves at each fid, and of the tree.
-use Rattle.std.proofs.Common.{◌≡◌, ◌≢◌, ◌+◌, cond, Option, Some, None, is_some, refl, sym, ap, ◌∙◌, subst, inl, inr}
+use Rattle.std.proofs.Common.{◌≡◌, ◌≢◌, ◌+◌, cond, Option, Some, None, option_map, is_some, refl, sym, ap, ◌∙◌, subst, inl, inr}
 use Rattle.std.specs.FinMap as map
 use Rattle.std.proofs.lemmas.Cmp.{nat_list_cmp_total}
 use Rattle.std.proofs.lemmas.Map.Lookups.{exact_bytes}
 use Rattle.std.proofs.lemmas.Option.{none-some}
 use Rattle.coda_fid.specs.Name.{name_cmp}
 use Rattle.coda_fid.specs.declared.fid.Fid.{Fid}
+use Rattle.coda_fid.proofs.Fids.{fids_total, exact_fids}
 use Rattle.coda_tree.specs.declared.node.Node.{Node}
 use Rattle.coda_tree.specs.declared.node.NodeKind.{NodeKind}
 use Rattle.coda_tree.specs.declared.node.NodeKind.TheVariants.{File, Link, Dir}
 use Rattle.coda_tree.specs.Bindings.{Name}
 use Rattle.coda_tree.specs.Volume.{Nodes, bindings, child, child_of, has, IsVolume, IsDir, IsDirNode, IsDirAt, changed, changed_at, with_kind, bind_in, unbind_in, bound, unbound, additions, edited_all, added, detached}
-use Rattle.coda_tree.proofs.Order.{fid_cases, fids_total, exact_fids, get_here, get_else, gone_here, gone_else, insert_removed}
+use Rattle.coda_tree.proofs.Order.{fid_cases, get_here, get_else, gone_here, gone_else, insert_removed}
 use Rattle.coda_tree.proofs.Trees.{IsAddition, tree_added, IsRemoval, tree_removed, root_differs}
 
 -- ---- a node changed
@@ -24,6 +25,20 @@ get_changed m d change node is = ap (λ n. map.get n d) (changed_is m d change n
 
 pub get_unchanged : (m : Nodes) (d : Fid) (change : Node → Node) (node : Node) → map.get m d ≡ Some node → (q : Fid) → q ≢ d → map.get (changed m d change) q ≡ map.get m q
 get_unchanged m d change node is q ne = ap (λ n. map.get n q) (changed_is m d change node is) ∙ get_else fids_total exact_fids m d (change node) q ne
+
+-- what a change leaves at the fid, whether or not a node is there
+pub at_changed : (m : Nodes) (d : Fid) (change : Node → Node) → map.get (changed m d change) d ≡ option_map change (map.get m d)
+at_changed m d change = elim (map.get m d) as (λ o. map.get m d ≡ o → map.get (changed m d change) d ≡ option_map change o) [
+  | None ↦ λ none. ap (λ o. map.get (changed_at o m d change) d) none ∙ none
+  | Some node ↦ λ is. get_changed m d change node is
+] refl
+
+-- and elsewhere
+pub off_changed : (m : Nodes) (d : Fid) (change : Node → Node) (q : Fid) → q ≢ d → map.get (changed m d change) q ≡ map.get m q
+off_changed m d change q other = elim (map.get m d) as (λ o. map.get m d ≡ o → map.get (changed m d change) q ≡ map.get m q) [
+  | None ↦ λ none. ap (λ o. map.get (changed_at o m d change) q) none
+  | Some node ↦ λ is. get_unchanged m d change node is q other
+] refl
 
 -- what the changed directory binds
 pub bind_here : (node : Node) (name : Name) (f : Fid) → child_of (Some (bind_in node name f)) name ≡ Some f
@@ -47,6 +62,51 @@ same_kind (Dir entries) name f is free = ap Dir (insert_removed nat_list_cmp_tot
 pub bind_undone : (node : Node) (name : Name) (f : Fid) → IsDir node.kind → map.get (bindings node.kind) name ≡ None → unbind_in (bind_in node name f) name ≡ node
 bind_undone node name f is free = ap (λ kind. with_kind node kind) (same_kind node.kind name f is free)
 
+has_as_many : (change : Node → Node) (o : Option Node) → is_some (option_map change o) ≡ is_some o
+has_as_many change None = refl
+has_as_many change (Some node) = refl
+
+-- a change leaves where nodes are
+pub has_changed : (m : Nodes) (d : Fid) (change : Node → Node) (q : Fid) → has (changed m d change) q ≡ has m q
+has_changed m d change q = elim (fid_cases q d) [
+  | inl at ↦ ap (has (changed m d change)) at ∙ ap is_some (at_changed m d change) ∙ has_as_many change (map.get m d) ∙ ap (has m) (sym at)
+  | inr off ↦ ap is_some (off_changed m d change q off)
+]
+
+binds_no_less : (o : Option Node) (name : Name) (f : Fid) (n : Name) → n ≢ name → child_of (option_map (λ node. bind_in node name f) o) n ≡ child_of o n
+binds_no_less None name f n other = refl
+binds_no_less (Some node) name f n other = bind_else node name f n other
+
+-- what is bound at the other names stays
+pub bound_else : (m : Nodes) (d : Fid) (name : Name) (f : Fid) (e : Fid) (n : Name) → (((e ≡ d) × (n ≡ name)) → ⊥) → child (bound m d name f) e n ≡ child m e n
+bound_else m d name f e n other = elim (fid_cases e d) [
+  | inl at ↦
+      ap (λ x. child (bound m d name f) x n) at ∙ ap (λ o. child_of o n) (at_changed m d (λ node. bind_in node name f))
+      ∙ binds_no_less (map.get m d) name f n (λ same. other (at, same)) ∙ ap (λ x. child m x n) (sym at)
+  | inr off ↦ ap (λ o. child_of o n) (off_changed m d (λ node. bind_in node name f) e off)
+]
+
+unbinds_one : (o : Option Node) (name : Name) → child_of (option_map (λ node. unbind_in node name) o) name ≡ None
+unbinds_one None name = refl
+unbinds_one (Some node) name = unbind_here node name
+
+-- nothing is bound at an unbound name
+pub unbound_here : (m : Nodes) (d : Fid) (name : Name) → child (unbound m d name) d name ≡ None
+unbound_here m d name = ap (λ o. child_of o name) (at_changed m d (λ node. unbind_in node name)) ∙ unbinds_one (map.get m d) name
+
+unbinds_no_more : (o : Option Node) (name n : Name) → n ≢ name → child_of (option_map (λ node. unbind_in node name) o) n ≡ child_of o n
+unbinds_no_more None name n other = refl
+unbinds_no_more (Some node) name n other = unbind_else node name n other
+
+-- and what is bound at the others stays
+pub unbound_else : (m : Nodes) (d : Fid) (name : Name) (e : Fid) (n : Name) → (((e ≡ d) × (n ≡ name)) → ⊥) → child (unbound m d name) e n ≡ child m e n
+unbound_else m d name e n other = elim (fid_cases e d) [
+  | inl at ↦
+      ap (λ x. child (unbound m d name) x n) at ∙ ap (λ o. child_of o n) (at_changed m d (λ node. unbind_in node name))
+      ∙ unbinds_no_more (map.get m d) name n (λ same. other (at, same)) ∙ ap (λ x. child m x n) (sym at)
+  | inr off ↦ ap (λ o. child_of o n) (off_changed m d (λ node. unbind_in node name) e off)
+]
+
 -- ---- a directory that is there
 
 dir_of : (o : Option Node) → IsDirNode o → (node : Node) × (o ≡ Some node) × IsDir node.kind
@@ -56,6 +116,15 @@ dir_of (Some node) d = (node, refl, d)
 -- the node that a directory is
 pub dir_node : (m : Nodes) (d : Fid) → IsDirAt m d → (node : Node) × (map.get m d ≡ Some node) × IsDir node.kind
 dir_node m d is = dir_of (map.get m d) is
+
+-- a directory stays one where the change keeps directories
+pub dir_changed : (m : Nodes) (d : Fid) (change : Node → Node) → ((node : Node) → IsDir node.kind → IsDir (change node).kind) → (q : Fid) → IsDirAt m q → IsDirAt (changed m d change) q
+dir_changed m d change keeps q is =
+    let there = dir_node m q is in
+    elim (fid_cases q d) [
+      | inl at ↦ subst IsDirNode (sym (ap (map.get (changed m d change)) at ∙ at_changed m d change ∙ ap (option_map change) (ap (map.get m) (sym at) ∙ there.1))) (keeps there.0 there.2)
+      | inr off ↦ subst IsDirNode (sym (off_changed m d change q off)) is
+    ]
 
 kind_binds : (kind : NodeKind) (name : Name) (f : Fid) → map.get (bindings kind) name ≡ Some f → IsDir kind
 kind_binds (File content) name f is = absurd (none-some f (sym (map.get-empty name_cmp name) ∙ is))
@@ -69,6 +138,12 @@ node_binds (Some node) name f is = kind_binds node.kind name f is
 -- what binds something is a directory
 pub binder_is_dir : (m : Nodes) (d : Fid) (name : Name) (f : Fid) → child m d name ≡ Some f → IsDirAt m d
 binder_is_dir m d name f is = node_binds (map.get m d) name f is
+
+-- a name that is bound in a directory is bound there
+pub bound_there : (m : Nodes) (d : Fid) (name : Name) (f : Fid) → IsDirAt m d → child (bound m d name f) d name ≡ Some f
+bound_there m d name f is =
+    let there = dir_node m d is in
+    ap (λ o. child_of o name) (get_changed m d (λ node. bind_in node name f) there.0 there.1) ∙ bind_here there.0 name f
 
 -- a directory does not stand at a free fid
 pub dir_not_free : (m : Nodes) (d f : Fid) → IsDirAt m d → map.get m f ≡ None → d ≢ f
@@ -177,7 +252,7 @@ module _ (m : Nodes) (dir : Fid) (name : Name) (f : Fid) (dnode : Node) (dir_is 
   unfolding detached
   get_detached_else q a b = gone_else fids_total exact_fids (unbound m dir name) f q a ∙ get_unchanged m dir (λ n. unbind_in n name) dnode dir_is q b
 
-  binder_differs : child m dir name ≡ Some f → ((n : Name) → child m f n ≡ None) → dir ≢ f
+  pub binder_differs : child m dir name ≡ Some f → ((n : Name) → child m f n ≡ None) → dir ≢ f
   binder_differs was leaf same = none-some f (sym (leaf name) ∙ ap (λ e. child m e name) (sym same) ∙ was)
 
   pub removal : child m dir name ≡ Some f → ((n : Name) → child m f n ≡ None) → IsRemoval (has m) (has (detached m dir name f)) (child m) (child (detached m dir name f)) dir name f
@@ -204,7 +279,7 @@ module _ (m : Nodes) (dir : Fid) (name : Name) (f : Fid) (dnode : Node) (dir_is 
       }
 
   -- what was a directory is one, where it stays
-  dir_left : dir ≢ f → (q : Fid) → q ≢ f → IsDirAt m q → IsDirAt (detached m dir name f) q
+  pub dir_left : dir ≢ f → (q : Fid) → q ≢ f → IsDirAt m q → IsDirAt (detached m dir name f) q
   dir_left dir_other q other is = elim (fid_cases q dir) [
     | inl at ↦ subst IsDirNode (sym (ap (map.get (detached m dir name f)) at ∙ get_detached_dir dir_other)) tt
     | inr away ↦ subst IsDirNode (sym (get_detached_else q other away)) is

@@ -1,19 +1,23 @@
 -- How the parents that a volume keeps follow its nodes.
-use Rattle.std.proofs.Common.{◌≡◌, ◌≢◌, true, false, cond, Some, None, is_some, refl, sym, ap, ◌∙◌, subst, inl, inr}
+use Rattle.std.proofs.Common.{◌≡◌, ◌≢◌, ℕ, true, false, cond, List, Option, Some, None, option_map, is_some, refl, sym, ap, ◌∙◌, subst, inl, inr}
 use Rattle.std.specs.FinMap as map
 use Rattle.std.specs.BTreeMap as tree
 use Rattle.std.specs.BTreeMap.{BTreeMap}
 use Rattle.std.proofs.lemmas.Option.{none-some, same_Some}
 use Rattle.coda_fid.specs.Fid.{fid_cmp}
 use Rattle.coda_fid.specs.declared.fid.Fid.{Fid}
+use Rattle.coda_fid.specs.declared.fid.Sid.{Sid}
+use Rattle.coda_fid.proofs.Fids.{fids_total, exact_fids}
 use Rattle.coda_tree.specs.declared.node.Node.{Node}
-use Rattle.coda_tree.specs.Bindings.{Name}
+use Rattle.coda_tree.specs.declared.node.NodeKind.{NodeKind}
+use Rattle.coda_tree.specs.declared.node.NodeKind.TheVariants.{File, Link, Dir}
+use Rattle.coda_tree.specs.Bindings.{Name, Bindings}
 use Rattle.coda_tree.specs.Tree.{itself}
-use Rattle.coda_tree.specs.Volume.{Nodes, child, child_of, has, IsDirAt, IsDirNode, IsDir, IsLeaf, added, detached, parent_of}
+use Rattle.coda_tree.specs.Volume.{Nodes, child, child_of, has, IsDirAt, IsDirNode, IsDir, IsLeaf, BindsAsMuch, Patch, bindings, with_content, written, changed, added, detached, parent_of}
 use Rattle.coda_tree.specs.Keeping.{AreParents, IsKept}
-use Rattle.coda_tree.proofs.Order.{fid_cases, fids_total, exact_fids, get_here, get_else}
-use Rattle.coda_tree.proofs.Changes.{dir_node, binder_is_dir, addition, volume_added, removal, volume_detached}
-use Rattle.coda_tree.proofs.Trees.{added_edge, more, not_new, left_edge, kept_edge}
+use Rattle.coda_tree.proofs.Order.{fid_cases, get_here, get_else}
+use Rattle.coda_tree.proofs.Changes.{dir_node, at_changed, off_changed, has_changed, binder_is_dir, addition, volume_added, removal, volume_detached}
+use Rattle.coda_tree.proofs.Trees.{added_edge, more, not_new, left_edge, kept_edge, tree_same}
 use Rattle.coda_tree.proofs.Parents.{parent_is, parent_sound}
 use Rattle.coda_tree.proofs.TableMap.{changed_here, changed_else}
 
@@ -142,3 +146,56 @@ kept_root root node parents none dir leaf =
         binds = λ p n f is. absurd (never p n f is);
       };
     }
+
+-- ---- a node changed
+
+-- nodes that bind the same, with directories where they were, are those of a volume with the same parents
+module _ {root : Fid} (m n : Nodes) (parents : BTreeMap Fid Fid) (there : (q : Fid) → has n q ≡ has m q) (same : (d : Fid) (k : Name) → child n d k ≡ child m d k) (dirs : (q : Fid) → IsDirAt m q → IsDirAt n q) where
+  kept_alike : IsKept root m parents → IsKept root n parents
+  kept_alike k = record {
+    volume = record { tree = tree_same there same k.volume.tree; top = dirs root k.volume.top };
+    kept = record {
+      parent = λ f p is. let bound = k.kept.parent f p is in (bound.0, same p bound.0 ∙ bound.1);
+      binds = λ p name f is. k.kept.binds p name f (sym (same p name) ∙ is);
+    };
+  }
+
+binds_as_much : (a : Node → Node) (o : Option Node) → ((node : Node) → o ≡ Some node → BindsAsMuch node (a node)) → (name : Name) → child_of (option_map a o) name ≡ child_of o name
+binds_as_much a None much name = refl
+binds_as_much a (Some node) much name = ap (λ (b : Bindings). map.get b name) (sym (much node refl).same)
+
+dir_as_much : (a : Node → Node) (o : Option Node) → ((node : Node) → o ≡ Some node → BindsAsMuch node (a node)) → IsDirNode o → IsDirNode (option_map a o)
+dir_as_much a None much is = is
+dir_as_much a (Some node) much is = (much node refl).dir is
+
+-- a node may change where it binds the same, and stays a directory where it is one
+pub kept_changed : {root : Fid} (m : Nodes) (parents : BTreeMap Fid Fid) (d : Fid) (change : Node → Node) → ((node : Node) → map.get m d ≡ Some node → BindsAsMuch node (change node)) → IsKept root m parents → IsKept root (changed m d change) parents
+kept_changed m parents d change much = kept_alike m (changed m d change) parents
+    (has_changed m d change)
+    (λ q name. elim (fid_cases q d) [
+      | inl at ↦ ap (λ e. child (changed m d change) e name) at ∙ ap (λ o. child_of o name) (at_changed m d change) ∙ binds_as_much change (map.get m d) much name ∙ ap (λ e. child m e name) (sym at)
+      | inr off ↦ ap (λ o. child_of o name) (off_changed m d change q off)
+    ])
+    (λ q is. elim (fid_cases q d) [
+      | inl at ↦ subst IsDirNode (sym (ap (map.get (changed m d change)) at ∙ at_changed m d change)) (dir_as_much change (map.get m d) much (subst (λ e. IsDirAt m e) at is))
+      | inr off ↦ subst IsDirNode (sym (off_changed m d change q off)) is
+    ])
+
+-- a write leaves what a node binds
+kind_written : (content : Option (List ℕ)) (kind : NodeKind) → bindings kind ≡ bindings (with_content content kind)
+kind_written None kind = refl
+kind_written (Some new) (File content) = refl
+kind_written (Some new) (Link target) = refl
+kind_written (Some new) (Dir entries) = refl
+
+dir_written : (content : Option (List ℕ)) (kind : NodeKind) → IsDir kind → IsDir (with_content content kind)
+dir_written None kind is = is
+dir_written (Some new) (File content) is = is
+dir_written (Some new) (Link target) is = is
+dir_written (Some new) (Dir entries) is = is
+
+pub kept_written : {root : Fid} (m : Nodes) (parents : BTreeMap Fid Fid) (d : Fid) (patch : Patch) (sid : Sid) → IsKept root m parents → IsKept root (changed m d (written patch sid)) parents
+kept_written m parents d patch sid = kept_changed m parents d (written patch sid) (λ node _. record {
+  same = kind_written patch.content node.kind;
+  dir = dir_written patch.content node.kind;
+})

@@ -4,7 +4,9 @@ pub mod MapEntries
 pub mod Trees
 pub mod Pairs
 pub mod Changes
+pub mod Moved
 pub mod TableMap
 pub mod Parents
 pub mod Below
 pub mod KeptParents
+pub mod KeptMoved

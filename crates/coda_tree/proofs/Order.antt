@@ -1,25 +1,15 @@
 -- The orders of fids and names tell keys apart, and what a finite map has after a change.
-use Rattle.std.proofs.Common.{◌≡◌, ◌≢◌, ℕ, cond, Some, None, Ordering, refl, sym, ap, ◌∙◌, inl, inr, ◌⊎◌}
+use Rattle.std.proofs.Common.{◌≡◌, ◌≢◌, cond, Some, None, Ordering, refl, sym, ap, ◌∙◌, inl, inr, ◌⊎◌}
 use Rattle.std.specs.declared.cmp.Ordering.TheVariants.{Less, Equal, Greater}
-use Rattle.std.specs.Ordering.{nat_cmp, ordering_then, is_eq}
+use Rattle.std.specs.Ordering.{is_eq}
 use Rattle.std.specs.Cmp.{IsTotalOrder}
 use Rattle.std.specs.FinMap as map
 use Rattle.std.specs.FinMap.{FinMap}
-use Rattle.std.proofs.lemmas.Cmp.{then_total, on_total, nat_cmp_total, nat_list_cmp_total, tied_itself}
-use Rattle.std.proofs.lemmas.Map.Lookups.{CmpEqualImpliesEq, exact_pairs, exact_unsigned, exact_bytes}
-use Rattle.coda_fid.specs.Fid.{fid_cmp}
+use Rattle.std.proofs.lemmas.Cmp.{nat_list_cmp_total, tied_itself}
+use Rattle.std.proofs.lemmas.Map.Lookups.{CmpEqualImpliesEq, exact_bytes}
 use Rattle.coda_fid.specs.declared.fid.Fid.{Fid}
+use Rattle.coda_fid.proofs.Fids.{exact_fids, fids_total}
 use Rattle.coda_tree.specs.Bindings.{Name}
-
--- fids that compare equal are one
-pub exact_fids : CmpEqualImpliesEq fid_cmp
-exact_fids a b h =
-    ap (λ (p : ℕ × (ℕ × ℕ)). let f : Fid = record { volume = p.0; vnode = p.1.0; uniq = p.1.1 } in f)
-    (exact_pairs nat_cmp (λ (x y : ℕ × ℕ). ordering_then (nat_cmp x.0 y.0) (nat_cmp x.1 y.1)) exact_unsigned (exact_pairs nat_cmp nat_cmp exact_unsigned exact_unsigned) (a.volume, (a.vnode, a.uniq)) (b.volume, (b.vnode, b.uniq)) h)
-
--- the order of fids is total
-pub fids_total : IsTotalOrder fid_cmp
-fids_total = then_total (on_total (λ (f : Fid). f.volume) nat_cmp_total) (then_total (on_total (λ (f : Fid). f.vnode) nat_cmp_total) (on_total (λ (f : Fid). f.uniq) nat_cmp_total))
 
 -- two keys are one, or differ
 pub cases_by : {K : Type 0} {R : K → K → Ordering} → IsTotalOrder R → CmpEqualImpliesEq R → (a b : K) → (a ≡ b) ⊎ (a ≢ b)
@@ -64,4 +54,36 @@ module _ {K X : Type 0} {R : K → K → Ordering} (o : IsTotalOrder R) where
   insert_removed exact m k v free = map.same_map o exact _ _ (λ q. elim (cases_by o exact q k) [
     | inl same ↦ ap (map.get (map.remove (map.insert m k v) k)) same ∙ gone_here (map.insert m k v) k ∙ sym (ap (map.get m) same ∙ free)
     | inr other ↦ gone_else exact (map.insert m k v) k q other ∙ get_else exact m k v q other
+  ])
+
+  -- what was taken out and put back with another value
+  pub insert_over : CmpEqualImpliesEq R → (m : FinMap R X) (k : K) (v : X) → map.insert (map.remove m k) k v ≡ map.insert m k v
+  insert_over exact m k v = map.same_map o exact _ _ (λ q. elim (cases_by o exact q k) [
+    | inl same ↦ ap (map.get (map.insert (map.remove m k) k v)) same ∙ get_here (map.remove m k) k v ∙ sym (ap (map.get (map.insert m k v)) same ∙ get_here m k v)
+    | inr other ↦ get_else exact (map.remove m k) k v q other ∙ gone_else exact m k q other ∙ sym (get_else exact m k v q other)
+  ])
+
+  -- what is put at one key and taken out at another, in either order
+  pub insert_apart : CmpEqualImpliesEq R → (m : FinMap R X) (gone k : K) (v : X) → k ≢ gone → map.insert (map.remove m gone) k v ≡ map.remove (map.insert m k v) gone
+  insert_apart exact m gone k v apart = map.same_map o exact _ _ (λ q. elim (cases_by o exact q k) [
+    | inl same ↦
+        ap (map.get (map.insert (map.remove m gone) k v)) same ∙ get_here (map.remove m gone) k v
+        ∙ sym (ap (map.get (map.remove (map.insert m k v) gone)) same ∙ gone_else exact (map.insert m k v) gone k apart ∙ get_here m k v)
+    | inr other ↦ get_else exact (map.remove m gone) k v q other ∙ elim (cases_by o exact q gone) [
+      | inl same ↦ ap (map.get (map.remove m gone)) same ∙ gone_here m gone ∙ sym (ap (map.get (map.remove (map.insert m k v) gone)) same ∙ gone_here (map.insert m k v) gone)
+      | inr differs ↦ gone_else exact m gone q differs ∙ sym (gone_else exact (map.insert m k v) gone q differs ∙ get_else exact m k v q other)
+    ]
+  ])
+
+  -- two keys taken out, in either order
+  pub remove_order : CmpEqualImpliesEq R → (m : FinMap R X) (a b : K) → map.remove (map.remove m a) b ≡ map.remove (map.remove m b) a
+  remove_order exact m a b = map.same_map o exact _ _ (λ q. elim (cases_by o exact q a) [
+    | inl at ↦ elim (cases_by o exact q b) [
+      | inl same ↦ ap (map.get (map.remove (map.remove m a) b)) same ∙ gone_here (map.remove m a) b ∙ sym (ap (map.get (map.remove (map.remove m b) a)) at ∙ gone_here (map.remove m b) a)
+      | inr other ↦ gone_else exact (map.remove m a) b q other ∙ ap (map.get (map.remove m a)) at ∙ gone_here m a ∙ sym (ap (map.get (map.remove (map.remove m b) a)) at ∙ gone_here (map.remove m b) a)
+    ]
+    | inr away ↦ elim (cases_by o exact q b) [
+      | inl same ↦ ap (map.get (map.remove (map.remove m a) b)) same ∙ gone_here (map.remove m a) b ∙ sym (gone_else exact (map.remove m b) a q away ∙ ap (map.get (map.remove m b)) same ∙ gone_here m b)
+      | inr other ↦ gone_else exact (map.remove m a) b q other ∙ gone_else exact m a q away ∙ sym (gone_else exact (map.remove m b) a q away ∙ gone_else exact m b q other)
+    ]
   ])

@@ -1,5 +1,5 @@
 -- Sorted pairs of a directory: what a search finds, and what an insertion or a removal makes of the finite map.
-use Rattle.std.proofs.Common.{◌≡◌, ◌≢◌, ℕ, zero, suc, ◌<◌, ◌≤◌, true, cond, [], ◌∷◌, length, get_or, Some, None, Ordering, refl, sym, ap, ◌∙◌, subst, inl, inr, arith}
+use Rattle.std.proofs.Common.{◌≡◌, ◌≢◌, ℕ, zero, suc, ◌<◌, ◌≤◌, true, cond, [], ◌∷◌, length, get_or, set, Some, None, Ordering, refl, sym, ap, ◌∙◌, subst, inl, inr, arith}
 use Rattle.std.specs.Prelude.{slice_get}
 use Rattle.std.specs.declared.cmp.Ordering.TheVariants.{Less, Equal, Greater}
 use Rattle.std.specs.List.{insert, remove}
@@ -73,6 +73,15 @@ find_at (e ∷ es) name zero d up at = ap (λ o. cond (is_eq o) (Some e.1) (find
 find_at (e ∷ es) name (suc i) d up at =
     ap (λ o. cond (is_eq o) (Some e.1) (find name_cmp name es)) (before e es name i up at) ∙ find_at es name i d (and_true _ _ up).1 (tail_at e es name i at)
 
+-- a pair put at the name is that pair in the place of the one there
+pub put_at : (es : Pairs) (name : Name) (fid : Fid) (i : ℕ) (key : Name) → is_sorted name_cmp es ≡ true → IsIndexOf es name i → ((d : Name × Fid) → (get_or es i d).0 ≡ key) → put name_cmp name fid es ≡ set es i (key, fid)
+put_at [] name fid i key up at is = absurd (omega (arith, at.in_range))
+put_at (e ∷ es) name fid zero key up at is =
+    ap (λ o. by_order o ((name, fid) ∷ e ∷ es) ((e.0, fid) ∷ es) (e ∷ put name_cmp name fid es)) (turn e.0 name Equal (at.has_name e)) ∙ ap (λ k. (k, fid) ∷ es) (is e)
+put_at (e ∷ es) name fid (suc i) key up at is =
+    ap (λ o. by_order o ((name, fid) ∷ e ∷ es) ((e.0, fid) ∷ es) (e ∷ put name_cmp name fid es)) (before e es name i up at)
+    ∙ ap (λ (l : Pairs). e ∷ l) (put_at es name fid i key (and_true _ _ up).1 (tail_at e es name i at) is)
+
 -- ---- a pair removed
 below_removed : (x : Name) (es : Pairs) (i : ℕ) → below_all name_cmp x es ≡ true → below_all name_cmp x (remove es i) ≡ true
 below_removed x [] zero h = refl
@@ -132,6 +141,17 @@ removed es name i up at = map.same_map nat_list_cmp_total exact_bytes _ _ (λ q.
     get_pairs (remove es i) q (sorted_removed es i up) ∙ find_removed es name i q up at
     ∙ ap (λ o. cond (is_eq (name_cmp q name)) None o) (sym (get_pairs es q up))
     ∙ sym (map.get-remove nat_list_cmp_total (map.from_sorted {R = name_cmp} es) name q))
+
+pub sorted_rebound : (es : Pairs) (name : Name) (fid : Fid) (i : ℕ) (key : Name) → is_sorted name_cmp es ≡ true → IsIndexOf es name i → ((d : Name × Fid) → (get_or es i d).0 ≡ key) → is_sorted name_cmp (set es i (key, fid)) ≡ true
+sorted_rebound es name fid i key up at is = ap (is_sorted name_cmp) (sym (put_at es name fid i key up at is)) ∙ from_T _ (is_sorted-put name_cmp nat_list_cmp_total name fid es (to_T _ up))
+
+pub rebound : (es : Pairs) (name : Name) (fid : Fid) (i : ℕ) (key : Name) → is_sorted name_cmp es ≡ true → IsIndexOf es name i → ((d : Name × Fid) → (get_or es i d).0 ≡ key)
+    → map.from_sorted {R = name_cmp} (set es i (key, fid)) ≡ map.insert (map.from_sorted es) name fid
+rebound es name fid i key up at is =
+    map.same_entries_map _ _ (
+    map.entries-from_sorted name_cmp _ (to_T _ (sorted_rebound es name fid i key up at is)) ∙ sym (put_at es name fid i key up at is)
+    ∙ ap (put name_cmp name fid) (sym (map.entries-from_sorted name_cmp es (to_T _ up)))
+    ∙ sym (map.entries-insert nat_list_cmp_total (map.from_sorted {R = name_cmp} es) name fid))
 
 -- a name that is not there
 pub not_removed : (es : Pairs) (name : Name) (i : ℕ) → is_sorted name_cmp es ≡ true → IsGapFor es name i → map.from_sorted {R = name_cmp} es ≡ map.remove (map.from_sorted es) name

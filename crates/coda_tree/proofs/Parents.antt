@@ -1,20 +1,19 @@
 -- The directory that binds a fid, by a search through all nodes.
-use Rattle.std.proofs.Common.{◌≡◌, ℕ, Bool, true, false, ◌&&◌, ◌||◌, ◌==◌, cond, List, [], ◌∷◌, Option, Some, None, is_some, Ordering, refl, sym, ap, ◌∙◌, subst, arith}
+use Rattle.std.proofs.Common.{◌≡◌, Bool, true, false, ◌||◌, cond, List, [], ◌∷◌, Option, Some, None, is_some, Ordering, refl, sym, ap, ◌∙◌, subst}
 use Rattle.std.specs.List.{list_any, find}
 use Rattle.std.specs.FinMap as map
 use Rattle.std.specs.FinMap.{FinMap}
 use Rattle.std.specs.Ordering.{eq_by_cmp}
-use Rattle.std.proofs.lemmas.Bool.Decides.{nat_tests}
 use Rattle.std.proofs.lemmas.Map.Lookups.{exact_bytes}
 use Rattle.std.proofs.lemmas.Option.{none-some}
-use Rattle.coda_fid.specs.Fid.{fid_cmp, same_fid}
+use Rattle.coda_fid.specs.Fid.{fid_cmp}
 use Rattle.coda_fid.specs.Name.{name_cmp}
 use Rattle.coda_fid.specs.declared.fid.Fid.{Fid}
+use Rattle.coda_fid.proofs.Fids.{exact_fids, same_fid_is, same_fid_refl}
 use Rattle.coda_tree.specs.declared.node.Node.{Node}
 use Rattle.coda_tree.specs.Bindings.{Name}
 use Rattle.coda_tree.specs.Volume.{Nodes, bindings, child, child_of, IsVolume, is_at_fid, binds_fid, parent_of}
-use Rattle.coda_tree.proofs.Order.{exact_fids}
-use Rattle.coda_tree.proofs.Booleans.{and_true, and_both, eq_true}
+use Rattle.coda_tree.proofs.Booleans.{eq_true}
 
 -- ---- a test that finds
 find_passes : {A : Type 0} (p : A → Bool) (xs : List A) (x : A) → find p xs ≡ Some x → p x ≡ true
@@ -63,27 +62,12 @@ tied_fid a b h = exact_fids a b (eq_true _ h)
 tied_name : (a b : Name) → eq_by_cmp name_cmp a b ≡ true → a ≡ b
 tied_name a b h = exact_bytes a b (eq_true _ h)
 
--- ---- the test of two fids
-pub same_fid_is : (a b : Fid) → same_fid a b ≡ true → a ≡ b
-same_fid_is a b h =
-    let p = and_true (a.volume == b.volume) ((a.vnode == b.vnode) && (a.uniq == b.uniq)) h in
-    let q = and_true (a.vnode == b.vnode) (a.uniq == b.uniq) p.1 in
-    let v : a.volume ≡ b.volume = grind (arith, nat_tests, p.0) in
-    let n : a.vnode ≡ b.vnode = grind (arith, nat_tests, q.0) in
-    let u : a.uniq ≡ b.uniq = grind (arith, nat_tests, q.1) in
-    λ i. record { volume = v i; vnode = n i; uniq = u i }
-
-same_number : (n : ℕ) → (n == n) ≡ true
-same_number n = grind (arith, nat_tests)
-
-pub same_fid_refl : (a : Fid) → same_fid a a ≡ true
-same_fid_refl a = and_both _ _ (same_number a.volume) (and_both _ _ (same_number a.vnode) (same_number a.uniq))
+-- ---- the directory that binds a fid
 
 at_fid : (o : Option Fid) (f : Fid) → is_at_fid o f ≡ true → o ≡ Some f
 at_fid None f h = cc
 at_fid (Some g) f h = ap Some (same_fid_is g f h)
 
--- ---- the directory that binds a fid
 binds_sound : (o : Option Node) (f : Fid) → binds_fid o f ≡ true → (n : Name) × (child_of o n ≡ Some f)
 binds_sound None f h = cc
 binds_sound (Some node) f h =

@@ -1,5 +1,5 @@
 -- What a table keeps as a finite map: what it has, and what a change of the entries makes of it.
-use Rattle.std.proofs.Common.{◌≡◌, ◌≢◌, suc, ◌+◌, cond, List, [], ◌∷◌, length, Option, Some, None, IfSome, option_map, is_some, add-one, refl, sym, ap, ◌∙◌, subst, inl, inr}
+use Rattle.std.proofs.Common.{◌≡◌, ◌≢◌, suc, ◌+◌, cond, List, [], ◌∷◌, length, Option, Some, None, IfSome, IsSome, option_map, is_some, add-one, refl, sym, ap, ◌∙◌, subst, inl, inr}
 use Rattle.std.specs.Ordering.{is_eq}
 use Rattle.std.specs.Map.{lookup, keys_of}
 use Rattle.std.specs.List.{AllByRecursion}
@@ -10,12 +10,13 @@ use Rattle.std.specs.FinMap.{find}
 use Rattle.std.specs.BTreeMap as tree
 use Rattle.coda_fid.specs.Fid.{fid_cmp}
 use Rattle.coda_fid.specs.declared.fid.Fid.{Fid}
+use Rattle.coda_fid.proofs.Fids.{fids_total, exact_fids}
 use Rattle.coda_tree.specs.declared.node.Node.{Node}
 use Rattle.coda_tree.specs.Bindings.{Name}
-use Rattle.coda_tree.specs.Volume.{Nodes, changed, bind_in, unbind_in, bound, unbound, IsDir, IsDirAt, bindings, child, child_of}
+use Rattle.coda_tree.specs.Volume.{Nodes, changed, IsDir, IsDirAt, bindings, child, child_of}
 use Rattle.coda_tree.specs.Table.{nodes_of, or_node}
-use Rattle.coda_tree.proofs.Order.{fid_cases, fids_total, exact_fids, apart, at_itself, get_here, get_else, gone_here, gone_else}
-use Rattle.coda_tree.proofs.Changes.{dir_node, get_changed, get_unchanged}
+use Rattle.coda_tree.proofs.Order.{fid_cases, apart, at_itself, get_here, get_else, gone_here, gone_else}
+use Rattle.coda_tree.proofs.Changes.{dir_node, at_changed, off_changed}
 
 -- what is kept at f
 abbrev pub kept_at : {X : Type 0} → List (Fid × X) → Fid → Option X
@@ -54,27 +55,14 @@ nodes_taken_out old new f out = map.same_map fids_total exact_fids _ _ (λ q. ge
   | inr other ↦ changed_else f q None (kept_at old q) other ∙ sym (get_nodes old q) ∙ sym (gone_else fids_total exact_fids (nodes_of old) f q other)
 ])
 
--- a directory changed
-nodes_changed : (old new : List (Fid × Node)) (dir : Fid) (change : Node → Node) → IsDirAt (nodes_of old) dir → ((q : Fid) → kept_at new q ≡ cond (tree.is_at (fid_cmp dir) q) (option_map change (kept_at old dir)) (kept_at old q))
-    → nodes_of new ≡ changed (nodes_of old) dir change
-nodes_changed old new dir change is changes =
-    let there = dir_node (nodes_of old) dir is in
-    map.same_map fids_total exact_fids _ _ (λ q. get_nodes new q ∙ changes q ∙ elim (fid_cases q dir) [
-      | inl at ↦
-          ap (λ e. cond (tree.is_at (fid_cmp dir) e) (option_map change (kept_at old dir)) (kept_at old q)) at ∙ changed_here dir _ (kept_at old q) ∙ ap (option_map change) (sym (get_nodes old dir) ∙ there.1)
-          ∙ sym (ap (map.get (changed (nodes_of old) dir change)) at ∙ get_changed (nodes_of old) dir change there.0 there.1)
-      | inr away ↦ changed_else dir q _ (kept_at old q) away ∙ sym (get_nodes old q) ∙ sym (get_unchanged (nodes_of old) dir change there.0 there.1 q away)
-    ])
-
--- a name bound in a directory
-pub nodes_bound : (old new : List (Fid × Node)) (dir : Fid) (name : Name) (f : Fid) → IsDirAt (nodes_of old) dir
-    → ((q : Fid) → kept_at new q ≡ cond (tree.is_at (fid_cmp dir) q) (option_map (λ node. bind_in node name f) (kept_at old dir)) (kept_at old q)) → nodes_of new ≡ bound (nodes_of old) dir name f
-nodes_bound old new dir name f is binds = nodes_changed old new dir (λ node. bind_in node name f) is binds
-
--- a name unbound in a directory
-pub nodes_unbound : (old new : List (Fid × Node)) (dir : Fid) (name : Name) → IsDirAt (nodes_of old) dir
-    → ((q : Fid) → kept_at new q ≡ cond (tree.is_at (fid_cmp dir) q) (option_map (λ node. unbind_in node name) (kept_at old dir)) (kept_at old q)) → nodes_of new ≡ unbound (nodes_of old) dir name
-nodes_unbound old new dir name is unbinds = nodes_changed old new dir (λ node. unbind_in node name) is unbinds
+-- a node changed, where there is one
+pub nodes_changed : (old new : List (Fid × Node)) (f : Fid) (change : Node → Node) → ((q : Fid) → kept_at new q ≡ cond (tree.is_at (fid_cmp f) q) (option_map change (kept_at old f)) (kept_at old q)) → nodes_of new ≡ changed (nodes_of old) f change
+nodes_changed old new f change changes = map.same_map fids_total exact_fids _ _ (λ q. get_nodes new q ∙ changes q ∙ elim (fid_cases q f) [
+  | inl at ↦
+      ap (λ e. cond (tree.is_at (fid_cmp f) e) (option_map change (kept_at old f)) (kept_at old q)) at ∙ changed_here f _ (kept_at old q) ∙ ap (option_map change) (sym (get_nodes old f))
+      ∙ sym (ap (map.get (changed (nodes_of old) f change)) at ∙ at_changed (nodes_of old) f change)
+  | inr away ↦ changed_else f q _ (kept_at old q) away ∙ sym (get_nodes old q) ∙ sym (off_changed (nodes_of old) f change q away)
+])
 
 -- a directory is kept where one stands
 pub kept_dir : (entries : List (Fid × Node)) (dir : Fid) → IsDirAt (nodes_of entries) dir → IfSome (kept_at entries dir) (λ node. IsDir node.kind)
@@ -88,6 +76,13 @@ may_bind entries dir name is free =
     let there = dir_node (nodes_of entries) dir is in
     subst (λ o. IfSome o (λ (node : Node). IsDir node.kind × (map.get (bindings node.kind) name ≡ None))) (sym (sym (get_nodes entries dir) ∙ there.1))
     (there.2, ap (λ o. child_of o name) (sym there.1) ∙ free)
+
+-- the name may be bound anew in the directory that is kept
+pub may_rebind : (entries : List (Fid × Node)) (dir : Fid) (name : Name) → IsDirAt (nodes_of entries) dir → IsSome (child (nodes_of entries) dir name) → IfSome (kept_at entries dir) (λ node. IsDir node.kind × IsSome (map.get (bindings node.kind) name))
+may_rebind entries dir name is bound =
+    let there = dir_node (nodes_of entries) dir is in
+    subst (λ o. IfSome o (λ (node : Node). IsDir node.kind × IsSome (map.get (bindings node.kind) name))) (sym (sym (get_nodes entries dir) ∙ there.1))
+    (there.2, subst (λ o. IsSome (child_of o name)) there.1 bound)
 
 -- ---- how many there are
 

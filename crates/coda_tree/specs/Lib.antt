@@ -4,3 +4,4 @@ pub mod Volume
 pub mod Lookup
 pub mod Table
 pub mod Keeping
+pub mod Blocks

@@ -17,13 +17,17 @@ nodes_of entries = map.from_entries entries
 abbrev pub IsSame : BTreeMap Fid Node → BTreeMap Fid Node → Type 0
 IsSame old new = (q : Fid) → tree.get fid_cmp new q ≡ tree.get fid_cmp old q
 
+-- the node at the fid is changed, where there is one, and all else stays
+abbrev pub ChangesAt : BTreeMap Fid Node → BTreeMap Fid Node → Fid → (Node → Node) → Type 0
+ChangesAt old new fid change = (q : Fid) → tree.get fid_cmp new q ≡ cond (tree.is_at (fid_cmp fid) q) (option_map change (tree.get fid_cmp old fid)) (tree.get fid_cmp old q)
+
 -- the directory's node binds the name too, and all else stays
 abbrev pub BindsAt : BTreeMap Fid Node → BTreeMap Fid Node → Fid → Name → Fid → Type 0
-BindsAt old new dir name fid = (q : Fid) → tree.get fid_cmp new q ≡ cond (tree.is_at (fid_cmp dir) q) (option_map (λ node. bind_in node name fid) (tree.get fid_cmp old dir)) (tree.get fid_cmp old q)
+BindsAt old new dir name fid = ChangesAt old new dir (λ node. bind_in node name fid)
 
 -- the directory's node binds nothing at the name, and all else stays
 abbrev pub UnbindsAt : BTreeMap Fid Node → BTreeMap Fid Node → Fid → Name → Type 0
-UnbindsAt old new dir name = (q : Fid) → tree.get fid_cmp new q ≡ cond (tree.is_at (fid_cmp dir) q) (option_map (λ node. unbind_in node name) (tree.get fid_cmp old dir)) (tree.get fid_cmp old q)
+UnbindsAt old new dir name = ChangesAt old new dir (λ node. unbind_in node name)
 
 -- the first node, or else the second
 abbrev pub or_node : Option Node → Option Node → Option Node

@@ -220,6 +220,11 @@ replacements old from name to new f = TakeOut old ∷ moves from name to new f
 unfoldable pub replaced : Nodes → Fid → Fid → Name → Fid → Name → Fid → Nodes
 replaced m old from name to new f = edited_all m (replacements old from name to new f)
 
+-- the second node binds what the first does, and is a directory where the first is one
+pub record BindsAsMuch (was : Node) (node : Node) : Type 0 where
+  pub same : bindings was.kind ≡ bindings node.kind
+  pub dir : IsDir was.kind → IsDir node.kind
+
 -- what a move may rely on: the object is bound at the old name, the new directory is there and does not stand at or below the object, and the new name is free
 pub record MayMove (m : Nodes) (from : Fid) (name : Name) (to : Fid) (new : Name) : Type 0 where
   pub fid : Fid

@@ -1,4 +1,4 @@
-ghost use Rattle.std.specs.Prelude.{◌≡◌, ◌≤◌, ◌<◌, ◌==◌, IfOk, IfErr, IfSome, IfNone, OnOk, OnErr, IsTrue, Some, None, option_map, slice_get};
+ghost use Rattle.std.specs.Prelude.{◌≡◌, ◌≤◌, ◌<◌, ◌==◌, IfOk, IfErr, IfSome, IfNone, IsSome, OnOk, OnErr, IsTrue, Some, None, option_map, slice_get};
 ghost use Rattle.std.specs.FinMap as map;
 ghost use Rattle.std.specs.FinMap.Entries.{is_sorted};
 ghost use Rattle.coda_fid.specs.Name.{name_cmp};
@@ -91,6 +91,17 @@ impl Entries {
         match search(&self.items, &name) {
             Ok(_) => Ok(()),
             Err(at) => Ok(self.items.insert(at, (name, fid))?),
+        }
+    }
+
+    /// Binds a bound name to another fid. Takes no memory.
+    pub fn rebind(&mut self, name: &Name, fid: Fid)
+        requires { IsSome (map.get self.old name.now) }
+        ensures { self.new ≡ map.insert self.old name.now fid }
+    {
+        match search(&self.items, name) {
+            Ok(at) => self.items[at].1 = fid,
+            Err(_) => {}
         }
     }
 

@@ -1,9 +1,10 @@
-ghost use Rattle.std.specs.Prelude.{◌≡◌, None, OnOk, OnErr, IfOk};
+ghost use Rattle.std.specs.Prelude.{◌≡◌, ◌<◌, ◌^◌, None, Some, OnOk, OnErr, IfOk, IsSome};
 ghost use Rattle.std.specs.FinMap as map;
-ghost use Rattle.coda_tree.specs.Volume.{bindings, bind_in, unbind_in, IsDir};
+ghost use Rattle.coda_tree.specs.Blocks.{blocks_of};
+ghost use Rattle.coda_tree.specs.Volume.{bindings, bind_in, unbind_in, with_content, written, content_patch, attrs_patch, IsDir};
 
 use crate::Entries;
-use coda_fid::{Bytes, Fid, Name, Sid};
+use coda_fid::{Attrs, Bytes, Fid, Name, Sid};
 use std::alloc::AllocError;
 
 /// What kind of object a node is, with what it holds.
@@ -55,6 +56,17 @@ impl NodeKind {
             }
         }
     }
+
+    // Sets the content of a file. Links and directories have none.
+    fn set_content(&mut self, content: Bytes)
+        ensures { self.new ≡ with_content (Some content) self.old }
+    {
+        match self {
+            NodeKind::File(held) => *held = content,
+            NodeKind::Link(_) => {}
+            NodeKind::Dir(_) => {}
+        }
+    }
 }
 
 impl Node {
@@ -71,6 +83,20 @@ impl Node {
             sid: self.sid,
             marked: self.marked,
         })
+    }
+
+    /// How many blocks of a cache the node takes: one, and a file one more for each 1024 bytes begun, a directory one
+    /// more for each 32 names that it binds.
+    pub fn blocks(&self) -> u32
+        requires { blocks_of self.now.kind < 2 ^ 32 }
+        ensures { result ≡ blocks_of self.now.kind }
+    {
+        let more = match &self.kind {
+            NodeKind::File(content) => content.len().div_ceil(1024),
+            NodeKind::Link(_) => 0,
+            NodeKind::Dir(entries) => entries.len() / 32,
+        };
+        1 + more as u32
     }
 
     // Binds a name that is free in a directory. Fails for want of memory alone, and then changes nothing.
@@ -95,5 +121,36 @@ impl Node {
             NodeKind::Dir(entries) => entries.remove(name),
             NodeKind::File(_) | NodeKind::Link(_) => {}
         }
+    }
+
+    // Binds a bound name of a directory to another fid.
+    pub(crate) fn rebind(&mut self, name: &Name, fid: Fid)
+        requires dir { IsDir self.old.kind }
+        requires bound { IsSome (map.get (bindings self.old.kind) name.now) }
+        ensures { self.new ≡ bind_in self.old name.now fid }
+    {
+        match &mut self.kind {
+            NodeKind::Dir(entries) => entries.rebind(name, fid),
+            NodeKind::File(_) | NodeKind::Link(_) => {}
+        }
+    }
+
+    // Sets the content of a file, the time, and the version that this leaves.
+    pub(crate) fn store(&mut self, content: Bytes, mtime: u64, sid: Sid)
+        ensures { self.new ≡ written (content_patch content mtime) sid self.old }
+    {
+        self.kind.set_content(content);
+        self.mtime = mtime;
+        self.sid = sid;
+    }
+
+    // Sets attributes, and the version that this leaves.
+    pub(crate) fn set_attributes(&mut self, attrs: &Attrs, sid: Sid)
+        ensures { self.new ≡ written (attrs_patch attrs.now) sid self.old }
+    {
+        self.mode = attrs.mode.unwrap_or(self.mode);
+        self.owner = attrs.owner.unwrap_or(self.owner);
+        self.mtime = attrs.mtime.unwrap_or(self.mtime);
+        self.sid = sid;
     }
 }

@@ -1,12 +1,12 @@
-ghost use Rattle.std.specs.Prelude.{◌≡◌, None, IfOk, IfSome, OnOk, OnErr, option_copied};
+ghost use Rattle.std.specs.Prelude.{◌≡◌, ◌↔◌, Some, None, IfOk, IfSome, IsSome, IsTrue, OnOk, OnErr, option_copied};
 ghost use Rattle.std.specs.FinMap as map;
 ghost use Rattle.std.specs.BTreeMap as tree;
 ghost use Rattle.coda_fid.specs.Fid.{fid_cmp};
-ghost use Rattle.coda_tree.specs.Volume.{child, added, detached, bound, unbound, IsDir, IsDirAt, bindings};
-ghost use Rattle.coda_tree.specs.Table.{nodes_of, BindsAt, UnbindsAt, IsSame};
+ghost use Rattle.coda_tree.specs.Volume.{child, added, detached, moved, replaced, changed, bound, unbound, written, content_patch, attrs_patch, IsDir, IsDirAt, bindings};
+ghost use Rattle.coda_tree.specs.Table.{nodes_of, ChangesAt, BindsAt, UnbindsAt, IsSame};
 
 use crate::{Node, NodeKind};
-use coda_fid::{Fid, Name};
+use coda_fid::{Attrs, Bytes, Fid, Name, Sid};
 use std::alloc::{AllocError, Global};
 use std::collections::BTreeMap;
 use std::marker::Model;
@@ -53,6 +53,50 @@ fn unbind(nodes: &mut BTreeMap<Fid, Node>, dir: Fid, name: &Name)
     if let Some(node) = nodes.get_mut(&dir) {
         node.unbind(name);
     }
+}
+
+// Binds a bound name of the directory at a fid to another fid.
+fn rebind(nodes: &mut BTreeMap<Fid, Node>, dir: Fid, name: &Name, fid: Fid)
+    requires { IfSome (tree.get fid_cmp nodes.old dir) (λ node. IsDir node.kind × IsSome (map.get (bindings node.kind) name.now)) }
+    ensures { BindsAt nodes.old nodes.new dir name.now fid }
+{
+    if let Some(node) = nodes.get_mut(&dir) {
+        node.rebind(name, fid);
+    }
+}
+
+// Writes a content with its time to the node at a fid, where there is one.
+fn store(nodes: &mut BTreeMap<Fid, Node>, fid: Fid, content: Bytes, mtime: u64, sid: Sid)
+    ensures { ChangesAt nodes.old nodes.new fid (written (content_patch content mtime) sid) }
+{
+    if let Some(node) = nodes.get_mut(&fid) {
+        node.store(content, mtime, sid);
+    }
+}
+
+// Sets attributes of the node at a fid, where there is one.
+fn set_attributes(nodes: &mut BTreeMap<Fid, Node>, fid: Fid, attrs: &Attrs, sid: Sid)
+    ensures { ChangesAt nodes.old nodes.new fid (written (attrs_patch attrs.now) sid) }
+{
+    if let Some(node) = nodes.get_mut(&fid) {
+        node.set_attributes(attrs, sid);
+    }
+}
+
+// Puts a node in the place of the one at a fid, where there is one.
+fn set(nodes: &mut BTreeMap<Fid, Node>, fid: Fid, node: Node)
+    ensures { ChangesAt nodes.old nodes.new fid (λ _. node) }
+{
+    if let Some(held) = nodes.get_mut(&fid) {
+        *held = node;
+    }
+}
+
+// Whether two places in directories are one.
+fn is_same_place(from: Fid, name: &Name, to: Fid, new: &Name) -> bool
+    ensures { IsTrue result ↔ ((from ≡ to) × (name.now ≡ new.now)) }
+{
+    from == to && name.compare(new).is_eq()
 }
 
 // A copy of each node.
@@ -134,21 +178,73 @@ impl NodeTable {
         }
     }
 
-    /// A copy with all content. Fails for want of memory alone.
-    pub fn copy(&self) -> Result<NodeTable, AllocError>
-        ensures { IfOk result (λ t. t ≡ self.now) }
-    {
-        copy_nodes(self.alloc, &self.nodes)
-    }
-
-    // Unbinds a name in a directory and takes out the node at a fid.
+    /// Unbinds a name in a directory and takes out the node at a fid.
     #[tactic(auto, unfolding(crate::specs::Volume::detached))]
-    pub(crate) fn detach(&mut self, dir: Fid, name: &Name, fid: Fid)
+    pub fn detach(&mut self, dir: Fid, name: &Name, fid: Fid)
         requires { IsDirAt self.old dir }
         ensures { self.new ≡ detached self.old dir name.now fid }
     {
         self.unbind(dir, name);
         self.take_out(fid);
+    }
+
+    /// Binds a fid at a free name of a directory and unbinds its old name. Fails for want of memory alone, and then
+    /// changes nothing.
+    pub fn move_to(
+        &mut self,
+        from: Fid,
+        name: &Name,
+        to: Fid,
+        new: Name,
+        fid: Fid,
+    ) -> Result<(), AllocError>
+        requires from_there { IsDirAt self.old from }
+        requires to_there { IsDirAt self.old to }
+        requires name_free { child self.old to new ≡ None }
+        ensures ok { OnOk result (self.new ≡ moved self.old from name.now to new fid) }
+        ensures err { OnErr result (self.new ≡ self.old) }
+    {
+        if is_same_place(from, name, to, &new) {
+            return self.bind(to, new, fid);
+        }
+        self.bind(to, new, fid)?;
+        self.unbind(from, name);
+        Ok(())
+    }
+
+    /// Binds a fid at the name that another has in a directory, unbinds its old name, and takes out the node of the
+    /// other. Takes no memory.
+    pub fn replace(&mut self, old: Fid, from: Fid, name: &Name, to: Fid, new: &Name, fid: Fid)
+        requires from_there { IsDirAt self.old from }
+        requires to_there { IsDirAt self.old to }
+        requires had { child self.old to new.now ≡ Some old }
+        ensures { self.new ≡ replaced self.old old from name.now to new.now fid }
+    {
+        self.move_over(from, name, to, new, fid);
+        self.take_out(old);
+    }
+
+    /// Sets the content of the file at a fid, the time, and the version that this leaves. A link or a directory keeps
+    /// what it holds. Takes no memory, and does nothing where there is no node.
+    pub fn store(&mut self, fid: Fid, content: Bytes, mtime: u64, sid: Sid)
+        ensures { self.new ≡ changed self.old fid (written (content_patch content mtime) sid) }
+    {
+        store(&mut self.nodes, fid, content, mtime, sid);
+    }
+
+    /// Sets attributes of the node at a fid, and the version that this leaves. Takes no memory, and does nothing where
+    /// there is no node.
+    pub fn set_attributes(&mut self, fid: Fid, attrs: &Attrs, sid: Sid)
+        ensures { self.new ≡ changed self.old fid (written (attrs_patch attrs.now) sid) }
+    {
+        set_attributes(&mut self.nodes, fid, attrs, sid);
+    }
+
+    /// A copy with all content. Fails for want of memory alone.
+    pub fn copy(&self) -> Result<NodeTable, AllocError>
+        ensures { IfOk result (λ t. t ≡ self.now) }
+    {
+        copy_nodes(self.alloc, &self.nodes)
     }
 
     // Binds a name in a directory.
@@ -159,6 +255,35 @@ impl NodeTable {
         ensures err { OnErr result (self.new ≡ self.old) }
     {
         bind(&mut self.nodes, dir, name, fid)
+    }
+
+    // Puts a node in the place of the one at a fid, where there is one.
+    pub(crate) fn set(&mut self, fid: Fid, node: Node)
+        ensures { self.new ≡ changed self.old fid (λ _. node) }
+    {
+        set(&mut self.nodes, fid, node);
+    }
+
+    // Binds a fid at a bound name of a directory, and unbinds its old name.
+    fn move_over(&mut self, from: Fid, name: &Name, to: Fid, new: &Name, fid: Fid)
+        requires from_there { IsDirAt self.old from }
+        requires to_there { IsDirAt self.old to }
+        requires name_bound { IsSome (child self.old to new.now) }
+        ensures { self.new ≡ moved self.old from name.now to new.now fid }
+    {
+        self.rebind(to, new, fid);
+        if !is_same_place(from, name, to, new) {
+            self.unbind(from, name);
+        }
+    }
+
+    // Binds a bound name of a directory to another fid.
+    fn rebind(&mut self, dir: Fid, name: &Name, fid: Fid)
+        requires dir_there { IsDirAt self.old dir }
+        requires name_bound { IsSome (child self.old dir name.now) }
+        ensures { self.new ≡ bound self.old dir name.now fid }
+    {
+        rebind(&mut self.nodes, dir, name, fid);
     }
 
     // Unbinds a name in a directory.

@@ -1,13 +1,14 @@
-ghost use Rattle.std.specs.Prelude.{◌<◌, ℕ, ◌≡◌, ◌↔◌, true, List, Some, None, IfOk, OnOk, OnErr, IsSomeAnd, IsTrue, option_copied};
+ghost use Rattle.std.specs.Prelude.{◌<◌, ℕ, ◌≡◌, ◌↔◌, true, cond, List, Some, None, IfOk, OnOk, OnErr, IsSomeAnd, IsTrue, option_map, option_copied};
 ghost use Rattle.std.specs.FinMap as map;
-ghost use Rattle.coda_fid.specs.Fid.{root_of};
+ghost use Rattle.std.specs.BTreeMap as tree;
+ghost use Rattle.coda_fid.specs.Fid.{root_of, fid_cmp};
 ghost use Rattle.coda_fid.specs.declared.fid.Fid.{Fid};
 ghost use Rattle.coda_tree.specs.Tree.{IsBelow, AtDepth};
-ghost use Rattle.coda_tree.specs.Volume.{child, has, added, detached, fresh, fresh_root, parent_of, below_within, is_below, IsVolume, IsDirAt, IsLeaf};
+ghost use Rattle.coda_tree.specs.Volume.{child, has, added, detached, moved, replaced, changed, written, content_patch, attrs_patch, fresh, fresh_root, parent_of, below_within, is_below, IsVolume, IsDirAt, IsLeaf, BindsAsMuch, MayMove, MayReplace};
 ghost use Rattle.coda_tree.specs.Lookup.{lookup_of, step_from};
 
 use crate::{Entries, Node, NodeKind, NodeTable};
-use coda_fid::{Fid, Name, Path, Sid};
+use coda_fid::{Attrs, Bytes, Fid, Name, Path, Sid};
 use std::alloc::{AllocError, Global};
 use std::collections::BTreeMap;
 use std::marker::Model;
@@ -76,6 +77,15 @@ fn root_node(alloc: Global) -> Node
             number: 0,
         },
         marked: false,
+    }
+}
+
+// Keeps another directory as the one that binds a node, where one is kept.
+fn set_parent(parents: &mut BTreeMap<Fid, Fid>, fid: Fid, dir: Fid)
+    ensures { (q : Fid) → tree.get fid_cmp parents.new q ≡ cond (tree.is_at (fid_cmp fid) q) (option_map (λ _. dir) (tree.get fid_cmp parents.old fid)) (tree.get fid_cmp parents.old q) }
+{
+    if let Some(kept) = parents.get_mut(&fid) {
+        *kept = dir;
     }
 }
 
@@ -174,6 +184,57 @@ impl Volume {
             self.nodes.detach(dir, name, fid);
             let _ = self.parents.remove(&fid);
         }
+    }
+
+    /// Moves a node to a free name of a directory that does not stand at or below it. Fails for want of memory alone,
+    /// and then changes nothing.
+    pub fn move_to(&mut self, from: Fid, name: &Name, to: Fid, new: Name) -> Result<(), AllocError>
+        requires { MayMove self.old.nodes from name.now to new }
+        ensures ok { (f : Fid) → child self.old.nodes from name.now ≡ Some f → OnOk result (self.new ≡ record self.old { nodes = moved self.old.nodes from name.now to new f }) }
+        ensures err { OnErr result (self.new ≡ self.old) }
+    {
+        if let Some(fid) = self.child(from, name) {
+            self.nodes.move_to(from, name, to, new, fid)?;
+            set_parent(&mut self.parents, fid, to);
+        }
+        Ok(())
+    }
+
+    /// Moves a node that binds nothing to the name of another that binds nothing, which is taken out of the volume.
+    /// Takes no memory.
+    pub fn replace(&mut self, old: Fid, from: Fid, name: &Name, to: Fid, new: &Name)
+        requires { MayReplace self.old.nodes old from name.now to new.now }
+        ensures { (f : Fid) → child self.old.nodes from name.now ≡ Some f → self.new ≡ record self.old { nodes = replaced self.old.nodes old from name.now to new.now f } }
+    {
+        if let Some(fid) = self.child(from, name) {
+            self.nodes.replace(old, from, name, to, new, fid);
+            let _ = self.parents.remove(&old);
+            set_parent(&mut self.parents, fid, to);
+        }
+    }
+
+    /// Sets the content of the file at a fid, the time, and the version that this leaves. A link or a directory keeps
+    /// what it holds. Takes no memory, and does nothing where there is no node.
+    pub fn store(&mut self, fid: Fid, content: Bytes, mtime: u64, sid: Sid)
+        ensures { self.new ≡ record self.old { nodes = changed self.old.nodes fid (written (content_patch content mtime) sid) } }
+    {
+        self.nodes.store(fid, content, mtime, sid);
+    }
+
+    /// Sets attributes of the node at a fid, and the version that this leaves. Takes no memory, and does nothing where
+    /// there is no node.
+    pub fn set_attributes(&mut self, fid: Fid, attrs: &Attrs, sid: Sid)
+        ensures { self.new ≡ record self.old { nodes = changed self.old.nodes fid (written (attrs_patch attrs.now) sid) } }
+    {
+        self.nodes.set_attributes(fid, attrs, sid);
+    }
+
+    /// Puts a node in the place of one that binds the same, where a directory stays one. Takes no memory.
+    pub fn set(&mut self, fid: Fid, node: Node)
+        requires { IsSomeAnd (map.get self.old.nodes fid) (λ was. BindsAsMuch was node) }
+        ensures { self.new ≡ record self.old { nodes = changed self.old.nodes fid (λ _. node) } }
+    {
+        self.nodes.set(fid, node);
     }
 
     /// A copy with all content. Fails for want of memory alone.

@@ -1,7 +1,7 @@
 use Rattle.std.proofs.Common.{sym, ap, ◌∙◌, subst}
 use Rattle.std.proofs.lemmas.Result.{on_ok_weaker, on_err_weaker}
-use Rattle.coda_tree.specs.Volume.{Nodes, child, bound, IsDirAt}
-use Rattle.coda_tree.proofs.TableMap.{may_bind, nodes_bound, nodes_same}
+use Rattle.coda_tree.specs.Volume.{Nodes, child, bind_in, bound, IsDirAt}
+use Rattle.coda_tree.proofs.TableMap.{may_bind, nodes_changed, nodes_same}
 use Rattle.coda_tree.proofs.table.NodeTable.bind.Goals as goal
 
 pub bind-requires : goal.bind-requires
@@ -11,7 +11,7 @@ bind-requires c =
 
 pub returns-clause-ok : goal.returns-clause-ok
 returns-clause-ok c = on_ok_weaker c.bind.result (λ binds.
-    nodes_bound c.self.inside.nodes.entries c.bind.new.nodes.entries c.args.dir c.args.name c.args.fid (subst (λ (m : Nodes). IsDirAt m c.args.dir) (sym c.self.view_is) c.requires.dir_there) binds
+    nodes_changed c.self.inside.nodes.entries c.bind.new.nodes.entries c.args.dir (λ node. bind_in node c.args.name c.args.fid) binds
     ∙ ap (λ (m : Nodes). bound m c.args.dir c.args.name c.args.fid) c.self.view_is) c.bind.ensures.ok
 
 pub returns-clause-err : goal.returns-clause-err

@@ -1,6 +1,6 @@
 use Rattle.std.proofs.Common.{sym, ap, ◌∙◌, subst}
-use Rattle.coda_tree.specs.Volume.{Nodes, unbound, IsDirAt}
-use Rattle.coda_tree.proofs.TableMap.{kept_dir, nodes_unbound}
+use Rattle.coda_tree.specs.Volume.{Nodes, unbind_in, unbound, IsDirAt}
+use Rattle.coda_tree.proofs.TableMap.{kept_dir, nodes_changed}
 use Rattle.coda_tree.proofs.table.NodeTable.unbind.Goals as goal
 
 pub unbind-requires : goal.unbind-requires
@@ -8,5 +8,5 @@ unbind-requires c = kept_dir c.self.inside.nodes.entries c.args.dir (subst (λ (
 
 pub returns : goal.returns
 returns c =
-    nodes_unbound c.self.inside.nodes.entries c.unbind.new.nodes.entries c.args.dir c.args.name.now (subst (λ (m : Nodes). IsDirAt m c.args.dir) (sym c.self.view_is) c.requires) c.unbind.ensures
+    nodes_changed c.self.inside.nodes.entries c.unbind.new.nodes.entries c.args.dir (λ node. unbind_in node c.args.name.now) c.unbind.ensures
     ∙ ap (λ (m : Nodes). unbound m c.args.dir c.args.name.now) c.self.view_is
