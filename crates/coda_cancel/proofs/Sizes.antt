@@ -80,7 +80,7 @@ fits_added count weight rs o = sym (fits_same count weight (add rs o) (undropped
 abbrev pub Scanned : ℕ → ℕ → ℕ → ℕ → List Record → Record → Bool → ℕ → Type 0
 Scanned most_count most_weight count room rs o b i = fits count room (undropped (goes b o.op) (drop i rs) ++ new_last b o) ≡ fits most_count most_weight (undropped (goes b o.op) rs ++ new_last b o)
 
-too_much : (count room : ℕ) (r : Record) (rs : List Record) → (count ≡ 0) ⊎ (room < weight_of r.op) → fits count room (r ∷ rs) ≡ false
+pub too_much : (count room : ℕ) (r : Record) (rs : List Record) → (count ≡ 0) ⊎ (room < weight_of r.op) → fits count room (r ∷ rs) ≡ false
 too_much count room r rs (inl h) = let e : nat_le (suc (length rs)) count ≡ false = grind (arith, nat_tests) in ap (λ b. b && nat_le (weight_of r.op + total_weight rs) room) e
 too_much count room r rs (inr h) = let e : nat_le (weight_of r.op + total_weight rs) room ≡ false = grind (arith, nat_tests) in go (nat_le (suc (length rs)) count) (nat_le (weight_of r.op + total_weight rs) room) e
   where

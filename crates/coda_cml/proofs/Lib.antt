@@ -10,3 +10,4 @@ pub mod Joins
 pub mod Stays
 pub mod Cuts
 pub mod Suffix
+pub mod Regroup

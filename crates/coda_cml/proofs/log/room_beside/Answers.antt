@@ -1,0 +1,2 @@
+use Rattle.coda_cml.proofs.log.room_beside.Goals as goal
+

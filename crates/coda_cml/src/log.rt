@@ -1,0 +1,191 @@
+ghost use Rattle.std.specs.Prelude.{◌≡◌, ◌++◌, List};
+ghost use Rattle.coda_fid.specs.declared.op.Record.{Record};
+ghost use Rattle.coda_cancel.specs.Joins.{noted};
+ghost use Rattle.coda_cancel.specs.Weights.{fits};
+ghost use Rattle.coda_cml.specs.Regrouping.{is_inside, rejoined, recounted};
+ghost use Rattle.coda_cml.specs.Room.{room_fits};
+
+use crate::choosing::{age, chunk_length, filled};
+use crate::regrouping::{leading, recount, rejoin};
+use crate::{FreezeFault, Frozen, LogFault, Segment};
+use coda_cancel::{Join, Tail};
+use coda_fid::Record;
+use std::alloc::{AllocError, Global};
+use std::marker::Model;
+use std::mem;
+
+/// The most records that a log holds.
+const MOST_RECORDS: usize = 4_096;
+
+/// The most that the records of a log weigh.
+const MOST_WEIGHT: u64 = 16_777_216;
+
+/// The log of a client on one volume: the operations that no server has yet, as far as later ones leave
+/// them.
+///
+/// Its front may be frozen as a chunk, which is on its way to a server; new operations go to the tail
+/// (Mummert, Ebling and Satyanarayanan 1995). Contracts see both parts with their segments.
+#[derive(Debug, Drop)]
+pub struct Log {
+    frozen: Option<Frozen>,
+    chunk: Tail,
+    chunk_segments: Vec<Segment>,
+    tail: Tail,
+    segments: Vec<Segment>,
+    last: u64,
+    chunks: u64,
+}
+
+impl Model for Log {
+    ghost use Rattle.coda_cml.specs.State.{LogState};
+    ghost use Rattle.coda_cml.specs.Inside.{state_of, IsKept};
+
+    ghost Value = { LogState };
+
+    ghost view = { state_of };
+
+    ghost invariant = { IsKept };
+}
+
+impl Log {
+    ghost use Rattle.std.specs.Prelude.{◌≡◌, ◌≢◌, ◌↔◌, ◌<◌, ◌≤◌, ◌-◌, ◌^◌, List, [], ◌∷◌, ◌++◌, false, None, Some, IsSome, IfOk, OnOk, OnErr};
+    ghost use Rattle.coda_fid.specs.declared.op.Record.{Record};
+    ghost use Rattle.coda_cancel.specs.Cancel.{add};
+    ghost use Rattle.coda_cancel.specs.Weights.{fits};
+    ghost use Rattle.coda_cml.specs.Steady.{IsSteady};
+    ghost use Rattle.coda_cml.specs.State.{empty_log, IsLogOf};
+    ghost use Rattle.coda_cml.specs.Chunks.{chunk_length, freeze_refusal};
+    ghost use Rattle.coda_cml.specs.Steps.{appended_to, frozen_to, applied_to, thawed, given_up};
+
+    /// A log without operations.
+    pub fn new(alloc: Global) -> Log
+        ensures { result ≡ empty_log }
+    {
+        Log {
+            frozen: None,
+            chunk: Tail::new(alloc),
+            chunk_segments: Vec::new(alloc),
+            tail: Tail::new(alloc),
+            segments: Vec::new(alloc),
+            last: 0,
+            chunks: 0,
+        }
+    }
+
+    /// The number of the last operation; 0 where there was none.
+    pub fn last(&self) -> u64
+        ensures { result ≡ self.now.last }
+    {
+        self.last
+    }
+
+    /// The number of the last chunk; 0 where there was none.
+    pub fn chunks(&self) -> u64
+        ensures { result ≡ self.now.chunks }
+    {
+        self.chunks
+    }
+
+    /// The chunk that is on its way.
+    pub fn frozen(&self) -> Option<Frozen>
+        ensures { result ≡ self.now.frozen }
+    {
+        self.frozen
+    }
+
+    /// The records of the chunk; none where none is frozen.
+    pub fn chunk(&self) -> &[Record]
+        ensures { result.now ≡ self.now.chunk }
+    {
+        self.chunk.records()
+    }
+
+    /// The records of the chunk, and those of the tail.
+    pub fn records(&self) -> (&[Record], &[Record])
+        ensures chunk { result.0.now ≡ self.now.chunk }
+        ensures tail { result.1.now ≡ self.now.records }
+    {
+        (self.chunk.records(), self.tail.records())
+    }
+
+    /// The segments of the chunk, and those of the tail.
+    pub fn segments(&self) -> (&[Segment], &[Segment])
+        ensures chunk { result.0.now ≡ self.now.chunk_segments }
+        ensures tail { result.1.now ≡ self.now.segments }
+    {
+        (&self.chunk_segments, &self.segments)
+    }
+
+    // Whether the log would keep within its limits after an operation.
+    fn has_room(&self, rec: &Record) -> bool
+        ensures { result ≡ fits MOST_RECORDS MOST_WEIGHT (self.now.chunk ++ add self.now.records rec.now) }
+    {
+        match room_beside(self.chunk.records(), MOST_RECORDS, MOST_WEIGHT) {
+            Some((count, weight)) => self.tail.fits_after(rec, count, weight),
+            None => false,
+        }
+    }
+
+    /// Puts an operation into the tail, by cancellation. Its number is above all earlier ones.
+    ///
+    /// # Errors
+    ///
+    /// `LogFull` exactly where the log would then hold more than 4,096 records, or these would weigh more
+    /// than 16 MiB. An error leaves the log as it was.
+    pub fn append(&mut self, rec: Record) -> Result<(), LogFault>
+        requires later { self.old.last < rec.number }
+        ensures full { (result ≡ Err LogFault.LogFull) ↔ (fits MOST_RECORDS MOST_WEIGHT (self.old.chunk ++ add self.old.records rec) ≡ false) }
+        ensures log { OnOk result (self.new ≡ appended_to self.old rec) }
+        ensures run { (front back : List Record) → IsLogOf self.old front back → OnOk result (IsLogOf self.new front (back ++ rec ∷ [])) }
+        ensures err { OnErr result (self.new ≡ self.old) }
+    {
+        if !self.has_room(&rec) {
+            return Err(LogFault::LogFull);
+        }
+        if self.segments.reserve(1).is_err() {
+            return Err(LogFault::Memory);
+        }
+        let single = Segment {
+            first: rec.number,
+            last: rec.number,
+            count: 0,
+            newest: rec.time,
+        };
+        let Ok(least) = self.tail.add(rec) else {
+            return Err(LogFault::Memory);
+        };
+        self.last = single.last;
+        self.segments.push_reserved(single);
+        regroup_last(&mut self.segments, single.last, least, self.tail.records());
+        Ok(())
+    }
+}
+
+// What room the records leave, where there is enough for them.
+fn room_beside(records: &[Record], most: usize, heaviest: u64) -> Option<(usize, u64)>
+    ensures { (rest : List Record) → fits most heaviest (records.now ++ rest) ≡ room_fits result rest }
+{
+    let mut count = most;
+    let mut room = heaviest;
+    for record in records {
+        let weight = record.weight();
+        if count == 0 || weight > room {
+            return None;
+        }
+        count -= 1;
+        room -= weight;
+    }
+    Some((count, room))
+}
+
+// Joins the segment of a new operation with those of the records that it dropped, and counts the records
+// of all.
+fn regroup_last(segments: &mut Vec<Segment>, number: u64, least: Option<u64>, records: &[Record])
+    ensures { segments.new.items ≡ recounted records.now (rejoined (is_inside (noted number least)) segments.old.items) }
+{
+    match least {
+        Some(least) => rejoin(segments, &[Join { least, number }]),
+        None => rejoin(segments, &[]),
+    }
+    recount(segments, records);
+}
