@@ -113,11 +113,11 @@ pub rising_behind : (rs os : List Record) → IsRising (rs ++ os) → IsRising o
 rising_behind [] os h = h
 rising_behind (r ∷ rs) os h = rising_behind rs os h.1
 
-above_more : (n m : ℕ) → n ≤ m → (rs : List Record) → AreAbove m rs → AreAbove n rs
+pub above_more : (n m : ℕ) → n ≤ m → (rs : List Record) → AreAbove m rs → AreAbove n rs
 above_more n m l [] h = tt
 above_more n m l (r ∷ rs) h = (omega (arith, h.0), above_more n m l rs h.1)
 
-above_both : (n : ℕ) (rs os : List Record) → AreAbove n rs → AreAbove n os → AreAbove n (rs ++ os)
+pub above_both : (n : ℕ) (rs os : List Record) → AreAbove n rs → AreAbove n os → AreAbove n (rs ++ os)
 above_both n [] os a b = b
 above_both n (r ∷ rs) os a b = (a.0, above_both n rs os a.1 b)
 
@@ -126,11 +126,11 @@ pub rising_both : (n : ℕ) (rs os : List Record) → IsRising rs → AreUpTo n 
 rising_both n [] os a b d e = d
 rising_both n (r ∷ rs) os a b d e = (above_both r.number rs os a.0 (above_more r.number n b.0 os e), rising_both n rs os a.1 b.1 d e)
 
-upto_push : (n : ℕ) (rs : List Record) (o : Record) → AreBelow n rs → o.number ≡ n → AreUpTo n (rs ++ o ∷ [])
+pub upto_push : (n : ℕ) (rs : List Record) (o : Record) → AreBelow n rs → o.number ≡ n → AreUpTo n (rs ++ o ∷ [])
 upto_push n [] o h e = (omega arith, tt)
 upto_push n (r ∷ rs) o h e = (omega (arith, h.0), upto_push n rs o h.1 e)
 
-below_upto : (n : ℕ) (rs : List Record) → AreBelow n rs → AreUpTo n rs
+pub below_upto : (n : ℕ) (rs : List Record) → AreBelow n rs → AreUpTo n rs
 below_upto n [] h = tt
 below_upto n (r ∷ rs) h = (omega (arith, h.0), below_upto n rs h.1)
 

@@ -20,12 +20,12 @@ module _ (j : ℕ) where
   above_add : (rs : List Record) (o : Record) → AreAbove j rs → j < o.number → AreAbove j (add rs o)
   above_add rs o a h = cond_both (cancels o.op rs) (without (object (carried o.op)) rs) (appended rs o) (AreAbove j) (λ e. above_without j (object (carried o.op)) rs a) (λ e. above_append j (kept (drops o.op) nothing rs) (hand (debt (drops o.op) nothing rs) o ∷ []) (above_kept j (drops o.op) nothing rs a) (h, tt))
 
-  above_added : (rs os : List Record) → AreAbove j rs → AreAbove j os → AreAbove j (added rs os)
+  pub above_added : (rs os : List Record) → AreAbove j rs → AreAbove j os → AreAbove j (added rs os)
   above_added rs [] a b = a
   above_added rs (o ∷ os) a b = above_added (add rs o) os (above_add rs o a b.0) b.1
 
   -- no operation with a number up to j joins there
-  none_up : (rs os : List Record) → AreUpTo j os → IsJoined j rs os → ⊥
+  pub none_up : (rs os : List Record) → AreUpTo j os → IsJoined j rs os → ⊥
   none_up rs [] a x = x
   none_up rs (o ∷ os) a (inl x) = let h = x.3 in let k = a.0 in omega arith
   none_up rs (o ∷ os) a (inr x) = none_up (add rs o) os a.1 x
@@ -34,24 +34,24 @@ module _ (j : ℕ) where
   numbers_above t [] a i h = absurd h
   numbers_above t (r ∷ rs) a i h = cond_both (t r.op) (r.number ∷ numbers t rs) (numbers t rs) (λ l. In i l → j < i) (λ e. elim [ inl n ↦ (let k = a.0 in omega arith) | inr m ↦ numbers_above t rs a.1 i m ]) (λ e m. numbers_above t rs a.1 i m) h
 
-  none_above : (rs os : List Record) → AreAbove j rs → AreAbove j os → IsJoined j rs os → ⊥
+  pub none_above : (rs os : List Record) → AreAbove j rs → AreAbove j os → IsJoined j rs os → ⊥
   none_above rs [] a b x = x
   none_above rs (o ∷ os) a b (inl x) =
       let h : j < x.0 = cond_both (cancels o.op rs) (numbers (mentioning (object (carried o.op))) rs) (numbers (drops o.op) rs) (λ l. In x.0 l → j < x.0) (λ e. numbers_above (mentioning (object (carried o.op))) rs a x.0) (λ e. numbers_above (drops o.op) rs a x.0) x.1 in
       let k = x.2 in omega arith
   none_above rs (o ∷ os) a b (inr x) = none_above (add rs o) os (above_add rs o a b.0) b.1 x
 
-  parts : (rs front back : List Record) → IsJoined j rs (front ++ back) → IsJoined j rs front ⊎ IsJoined j (added rs front) back
+  pub parts : (rs front back : List Record) → IsJoined j rs (front ++ back) → IsJoined j rs front ⊎ IsJoined j (added rs front) back
   parts rs [] back x = inr x
   parts rs (o ∷ front) back (inl x) = inl (inl x)
   parts rs (o ∷ front) back (inr x) = ⊎_elim (λ (y : IsJoined j (add rs o) front). inl (inr y)) (λ (y : IsJoined j (added (add rs o) front) back). inr y) (parts (add rs o) front back x)
 
-  sooner : (rs front back : List Record) → IsJoined j rs front → IsJoined j rs (front ++ back)
+  pub sooner : (rs front back : List Record) → IsJoined j rs front → IsJoined j rs (front ++ back)
   sooner rs [] back x = absurd x
   sooner rs (o ∷ front) back (inl x) = inl x
   sooner rs (o ∷ front) back (inr x) = inr (sooner (add rs o) front back x)
 
-  past : (rs low high : List Record) → AreUpTo j low → IsJoined j rs (low ++ high) → IsJoined j (added rs low) high
+  pub past : (rs low high : List Record) → AreUpTo j low → IsJoined j rs (low ++ high) → IsJoined j (added rs low) high
   past rs low high a x = ⊎_elim (λ (y : IsJoined j rs low). absurd (none_up rs low a y)) (λ (y : IsJoined j (added rs low) high). y) (parts rs low high x)
 
   stays_upto : (front rs os : List Record) → AreUpTo j front → AreAbove j rs → AreAbove j os → (IsJoined j (front ++ rs) os → ⊥) → records_upto j (added (front ++ rs) os) ≡ records_upto j (front ++ rs)
@@ -148,7 +148,7 @@ module _ (j : ℕ) where
   above_more n h [] a = tt
   above_more n h (r ∷ rs) a = ((let k = a.0 in omega arith), above_more n h rs a.1)
 
-  halve : (rs : List Record) → IsRising rs → (lo : List Record) × (hi : List Record) × (rs ≡ lo ++ hi) × AreUpTo j lo × AreAbove j hi
+  pub halve : (rs : List Record) → IsRising rs → (lo : List Record) × (hi : List Record) × (rs ≡ lo ++ hi) × AreUpTo j lo × AreAbove j hi
   halve [] a = ([], [], refl, tt, tt)
   halve (r ∷ rs) a = ⊎_elim
       (λ (h : j < r.number). ([], r ∷ rs, refl, tt, (h, above_more r.number h rs a.0)))

@@ -11,3 +11,7 @@ pub mod Stays
 pub mod Cuts
 pub mod Suffix
 pub mod Regroup
+pub mod Ranges
+pub mod Left
+pub mod Counting
+pub mod Growing
