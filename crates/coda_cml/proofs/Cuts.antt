@@ -17,7 +17,7 @@ use Rattle.coda_cml.proofs.Stays.{Carry, carry_run, joined_too}
 use Rattle.coda_cml.proofs.Numbered.{In, IsJoined}
 
 module _ (j : ℕ) where
-  above_add : (rs : List Record) (o : Record) → AreAbove j rs → j < o.number → AreAbove j (add rs o)
+  pub above_add : (rs : List Record) (o : Record) → AreAbove j rs → j < o.number → AreAbove j (add rs o)
   above_add rs o a h = cond_both (cancels o.op rs) (without (object (carried o.op)) rs) (appended rs o) (AreAbove j) (λ e. above_without j (object (carried o.op)) rs a) (λ e. above_append j (kept (drops o.op) nothing rs) (hand (debt (drops o.op) nothing rs) o ∷ []) (above_kept j (drops o.op) nothing rs a) (h, tt))
 
   pub above_added : (rs os : List Record) → AreAbove j rs → AreAbove j os → AreAbove j (added rs os)

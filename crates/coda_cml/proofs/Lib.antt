@@ -15,3 +15,4 @@ pub mod Ranges
 pub mod Left
 pub mod Counting
 pub mod Growing
+pub mod Logs
