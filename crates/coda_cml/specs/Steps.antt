@@ -28,17 +28,18 @@ end_of (segment ∷ next ∷ rest) = end_of (next ∷ rest)
 abbrev pub records_in : ℕ → LogState → ℕ
 records_in length log = leading (end_of (take length log.segments)) log.records
 
--- the log whose first segments are frozen, so many
-abbrev pub frozen_to : LogState → ℕ → ℕ → LogState
-frozen_to log home length = record {
-  frozen = Some (record { number = log.chunks + 1; home = home });
+-- the log whose first segments, so many, are the chunk
+abbrev pub cut_at : LogState → ℕ → LogState
+cut_at log length = record log {
   chunk = take (records_in length log) log.records;
   chunk_segments = take length log.segments;
   records = drop (records_in length log) log.records;
   segments = drop length log.segments;
-  last = log.last;
-  chunks = log.chunks + 1;
 }
+
+-- the log whose first segments, so many, are frozen for a server
+abbrev pub frozen_to : LogState → ℕ → ℕ → LogState
+frozen_to log home length = record (cut_at log length) { frozen = Some (record { number = log.chunks + 1; home = home }); chunks = log.chunks + 1 }
 
 -- the log without the chunk
 abbrev pub applied_to : LogState → LogState

@@ -1,5 +1,5 @@
 // Choosing the segments of a chunk.
-ghost use Rattle.std.specs.Prelude.{◌≡◌};
+ghost use Rattle.std.specs.Prelude.{◌≡◌, ◌≤◌, length};
 ghost use Rattle.std.specs.List.{find};
 ghost use Rattle.coda_cml.specs.Chunks.{is_filled, age, is_old, old_front, first_filled, chunk_length};
 
@@ -21,37 +21,40 @@ pub fn age(segment: &Segment, now: u64) -> u64
 
 // How many segments of the front are old enough and have so many records at most together.
 fn old_front(segments: &[Segment], now: u64, window: u64, cap: usize) -> usize
-    ensures { result ≡ old_front now window cap segments.now }
+    ensures count { result ≡ old_front now window cap segments.now }
+    ensures within { result ≤ length segments.now }
 {
     let mut room = cap;
-    let mut length = 0;
+    let mut taken = 0;
     for segment in segments {
         if !is_old(segment, now, window) || segment.count > room {
-            return length;
+            return taken;
         }
         room -= segment.count;
-        length += 1;
+        taken += 1;
     }
-    length
+    taken
 }
 
 // How many segments there are up to the first with a record.
 fn first_filled(segments: &[Segment]) -> usize
-    ensures { result ≡ first_filled segments.now }
+    ensures count { result ≡ first_filled segments.now }
+    ensures within { result ≤ length segments.now }
 {
-    let mut length = 0;
+    let mut taken = 0;
     for segment in segments {
-        length += 1;
+        taken += 1;
         if segment.count != 0 {
-            return length;
+            return taken;
         }
     }
-    length
+    taken
 }
 
 /// How many segments a chunk has.
 pub fn chunk_length(segments: &[Segment], now: u64, window: u64, cap: usize) -> usize
-    ensures { result ≡ chunk_length now window cap segments.now }
+    ensures count { result ≡ chunk_length now window cap segments.now }
+    ensures within { result ≤ length segments.now }
 {
     old_front(segments, now, window, cap).max(first_filled(segments))
 }

@@ -4,6 +4,7 @@ ghost use Rattle.coda_cancel.specs.Joins.{noted};
 ghost use Rattle.coda_cancel.specs.Weights.{fits};
 ghost use Rattle.coda_cml.specs.Regrouping.{is_inside, rejoined, recounted};
 ghost use Rattle.coda_cml.specs.Room.{room_fits};
+ghost use Rattle.coda_cml.specs.Steps.{end_of};
 
 use crate::choosing::{age, chunk_length, filled};
 use crate::regrouping::{leading, recount, rejoin};
@@ -48,14 +49,16 @@ impl Model for Log {
 }
 
 impl Log {
-    ghost use Rattle.std.specs.Prelude.{◌≡◌, ◌≢◌, ◌↔◌, ◌<◌, ◌≤◌, ◌-◌, ◌^◌, List, [], ◌∷◌, ◌++◌, false, None, Some, IsSome, IfOk, OnOk, OnErr};
+    ghost use Rattle.std.specs.Prelude.{◌≡◌, ◌≢◌, ◌↔◌, ◌<◌, ◌≤◌, ◌+◌, ◌-◌, ◌^◌, List, [], ◌∷◌, ◌++◌, false, None, Some, IsSome, IfOk, OnOk, OnErr};
     ghost use Rattle.coda_fid.specs.declared.op.Record.{Record};
     ghost use Rattle.coda_cancel.specs.Cancel.{add};
     ghost use Rattle.coda_cancel.specs.Weights.{fits};
     ghost use Rattle.coda_cml.specs.Steady.{IsSteady};
     ghost use Rattle.coda_cml.specs.State.{empty_log, IsLogOf};
     ghost use Rattle.coda_cml.specs.Chunks.{chunk_length, freeze_refusal};
-    ghost use Rattle.coda_cml.specs.Steps.{appended_to, frozen_to, applied_to, thawed, given_up};
+    ghost use Rattle.std.specs.Prelude.{length as list_length};
+    ghost use Rattle.coda_cml.specs.declared.fault.FreezeFault.{FreezeFault};
+    ghost use Rattle.coda_cml.specs.Steps.{appended_to, cut_at, frozen_to, applied_to, thawed, given_up};
 
     /// A log without operations.
     pub fn new(alloc: Global) -> Log
@@ -158,6 +161,88 @@ impl Log {
         self.segments.push_reserved(single);
         regroup_last(&mut self.segments, single.last, least, self.tail.records());
         Ok(())
+    }
+
+    // The chosen segments as a chunk, so many. Fails for want of memory alone.
+    fn cut(&mut self, length: usize) -> Result<(), AllocError>
+        requires { length ≤ list_length self.old.segments }
+        ensures log { OnOk result (self.new ≡ cut_at self.old length) }
+        ensures err { OnErr result (self.new ≡ self.old) }
+    {
+        let later = Vec::from_slice(*self.segments.allocator(), &self.segments[length..])?;
+        let end = end_of(&self.segments[..length]);
+        let count = leading(self.tail.records(), end);
+        let front = self.tail.take_front(count)?;
+        self.segments.truncate(length);
+        self.chunk_segments = mem::replace(&mut self.segments, later);
+        self.chunk = Tail::from_records(front);
+        Ok(())
+    }
+
+    /// Freezes the front of the tail as a chunk for a server, and answers the chunk's number.
+    ///
+    /// A chunk is the longest run of segments from the front whose operations are all at least `window`
+    /// seconds old at the time `now` and that have at most `cap` records together, but it goes at least
+    /// up to the first segment with a record. A segment without records is old enough at any time.
+    /// Chunks are numbered in turn; there were fewer than 2^64 - 1.
+    ///
+    /// # Errors
+    ///
+    /// In this order: `Frozen` where a chunk is frozen already, with its number and server; `Nothing`
+    /// where no segment has a record; `Young` where the first that has one isn't old enough, with its age
+    /// and the window. An error leaves the log as it was.
+    pub fn freeze(
+        &mut self,
+        home: u8,
+        now: u64,
+        window: u64,
+        cap: usize,
+    ) -> Result<u64, FreezeFault>
+        requires { self.old.chunks < 2 ^ 64 - 1 }
+        ensures causes { (why : FreezeFault) → why ≢ FreezeFault.Memory → ((result ≡ Err why) ↔ (freeze_refusal self.old.frozen now window self.old.segments ≡ Some why)) }
+        ensures number { IfOk result (λ number. number ≡ self.old.chunks + 1) }
+        ensures log { OnOk result (self.new ≡ frozen_to self.old home (chunk_length now window cap self.old.segments)) }
+        ensures err { OnErr result (self.new ≡ self.old) }
+    {
+        if let Some(why) = self.refusal(now, window) {
+            return Err(why);
+        }
+        let length = chunk_length(&self.segments, now, window, cap);
+        if self.cut(length).is_err() {
+            return Err(FreezeFault::Memory);
+        }
+        self.chunks += 1;
+        self.frozen = Some(Frozen {
+            number: self.chunks,
+            home,
+        });
+        Ok(self.chunks)
+    }
+
+    // Why nothing is frozen.
+    fn refusal(&self, now: u64, window: u64) -> Option<FreezeFault>
+        ensures { result ≡ freeze_refusal self.now.frozen now window self.now.segments }
+    {
+        if let Some(chunk) = self.frozen {
+            return Some(FreezeFault::Frozen(chunk.number, chunk.home));
+        }
+        match filled(&self.segments) {
+            Some(first) if age(&first, now) < window => {
+                Some(FreezeFault::Young(age(&first, now), window))
+            }
+            Some(_) => None,
+            None => Some(FreezeFault::Nothing),
+        }
+    }
+}
+
+// The number of the last operation of the segments; 0 where there are none.
+fn end_of(segments: &[Segment]) -> u64
+    ensures { result ≡ end_of segments.now }
+{
+    match segments.last() {
+        Some(segment) => segment.last,
+        None => 0,
     }
 }
 

@@ -4,6 +4,6 @@ use Rattle.coda_cml.proofs.choosing.first_filled.Given as goal
 
 abbrev pub invariant-loop-segment : goal.invariant-loop-segment
 invariant-loop-segment l = record {
-  same : l.length + first_filled (drop l.segment-index l.segments) ≡ first_filled l.segments;
-  index : l.length ≡ l.segment-index;
+  same : l.taken + first_filled (drop l.segment-index l.segments) ≡ first_filled l.segments;
+  index : l.taken ≡ l.segment-index;
 }
