@@ -16,3 +16,4 @@ pub mod Left
 pub mod Counting
 pub mod Growing
 pub mod Logs
+pub mod Splitting

@@ -18,7 +18,7 @@ use Rattle.coda_cml.proofs.Without.{without-append, without_none}
 use Rattle.coda_cml.proofs.Numbered.{In, IsJoined}
 
 -- nothing dropped
-kept_none : (p : Op → Bool) (rs : List Record) → any_record p rs ≡ false → (kept p nothing rs ≡ rs) × (debt p nothing rs ≡ nothing)
+pub kept_none : (p : Op → Bool) (rs : List Record) → any_record p rs ≡ false → (kept p nothing rs ≡ rs) × (debt p nothing rs ≡ nothing)
 kept_none p [] e = (refl, refl)
 kept_none p (r ∷ rs) e =
     let k = or_parts (p r.op) (any_record p rs) e in let more = kept_none p rs k.1 in (
@@ -27,7 +27,7 @@ kept_none p (r ∷ rs) e =
     )
 
 -- a record of the front that passes has its number among those of the whole
-found : (t : Op → Bool) (j : ℕ) (front rs : List Record) → AreUpTo j front → any_record t front ≡ true → (i : ℕ) × In i (numbers t (front ++ rs)) × (i ≤ j)
+pub found : (t : Op → Bool) (j : ℕ) (front rs : List Record) → AreUpTo j front → any_record t front ≡ true → (i : ℕ) × In i (numbers t (front ++ rs)) × (i ≤ j)
 found t j [] rs a e = absurd (false≢true e)
 found t j (r ∷ front) rs a e = go (t r.op) refl e (found t j front rs a.1)
   where

@@ -63,7 +63,7 @@ red_add rs o a = cond_both (cancels o.op rs) (without (object (carried o.op)) rs
 
 -- ---- numbers
 
-numbers-append : (t : Op → Bool) (rs os : List Record) → numbers t (rs ++ os) ≡ numbers t rs ++ numbers t os
+pub numbers-append : (t : Op → Bool) (rs os : List Record) → numbers t (rs ++ os) ≡ numbers t rs ++ numbers t os
 numbers-append t [] os = refl
 numbers-append t (r ∷ rs) os = go (t r.op) (numbers-append t rs os)
   where

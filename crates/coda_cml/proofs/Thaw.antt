@@ -245,7 +245,7 @@ module _ (f : Fid) where
   added_without [] y m k s = (refl, tt, sym (append_nil (others f y)))
   added_without (r ∷ rs) y m k s = together_more r rs y m k s (added_without rs (add y r) (only_made_add y r m k.0) k.1 s.1)
 
-cancels_at : (o : Op) (y z : List Record) → others (object (carried o)) y ≡ others (object (carried o)) z → cancels o y ≡ cancels o z
+pub cancels_at : (o : Op) (y z : List Record) → others (object (carried o)) y ≡ others (object (carried o)) z → cancels o y ≡ cancels o z
 cancels_at (Remove d n f pre) y z e = ap is_true_alone e
 cancels_at (Rmdir d n f pre) y z e = ap is_true_alone e
 cancels_at _ y z e = refl
