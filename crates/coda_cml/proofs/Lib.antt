@@ -17,3 +17,4 @@ pub mod Counting
 pub mod Growing
 pub mod Logs
 pub mod Splitting
+pub mod Freezing

@@ -202,15 +202,16 @@ impl Log {
         ensures causes { (why : FreezeFault) → why ≢ FreezeFault.Memory → ((result ≡ Err why) ↔ (freeze_refusal self.old.frozen now window self.old.segments ≡ Some why)) }
         ensures number { IfOk result (λ number. number ≡ self.old.chunks + 1) }
         ensures log { OnOk result (self.new ≡ frozen_to self.old home (chunk_length now window cap self.old.segments)) }
+        ensures run { (run : List Record) → IsLogOf self.old [] run → IsSteady run → OnOk result ((front : List Record) × (back : List Record) × (run ≡ front ++ back) × IsLogOf self.new front back) }
         ensures err { OnErr result (self.new ≡ self.old) }
     {
         if let Some(why) = self.refusal(now, window) {
             return Err(why);
         }
         let length = chunk_length(&self.segments, now, window, cap);
-        if self.cut(length).is_err() {
+        let Ok(()) = self.cut(length) else {
             return Err(FreezeFault::Memory);
-        }
+        };
         self.chunks += 1;
         self.frozen = Some(Frozen {
             number: self.chunks,
