@@ -104,7 +104,7 @@ split_at c ks (o ∷ p ∷ os) e (suc k) = go (c o.number) refl (split_at c ks (
 
 -- ---- the end of the front
 
-last_number : Record → List Record → ℕ
+pub last_number : Record → List Record → ℕ
 last_number o [] = o.number
 last_number o (p ∷ os) = last_number p os
 
@@ -124,12 +124,12 @@ end_is c ks o (p ∷ os) =
     let s = some_segment c ks p os in
     ap (λ l. end_of (put_front (c o.number) (single ks o) l)) s.2 ∙ put_end (c o.number) (single ks o) s.0 s.1 ∙ ap end_of (sym s.2) ∙ end_is c ks p os
 
-last_upto : (o : Record) (os back : List Record) → IsRising ((o ∷ os) ++ back) → AreUpTo (last_number o os) (o ∷ os)
+pub last_upto : (o : Record) (os back : List Record) → IsRising ((o ∷ os) ++ back) → AreUpTo (last_number o os) (o ∷ os)
 unfolding last_number
 last_upto o [] back r = (omega arith, tt)
 last_upto o (p ∷ os) back r = let h = last_upto p os back r.1 in (omega (arith, h.0, r.0.0), h)
 
-last_above : (o : Record) (os back : List Record) → IsRising ((o ∷ os) ++ back) → AreAbove (last_number o os) back
+pub last_above : (o : Record) (os back : List Record) → IsRising ((o ∷ os) ++ back) → AreAbove (last_number o os) back
 unfolding last_number
 last_above o [] back r = r.0
 last_above o (p ∷ os) back r = last_above p os back r.1

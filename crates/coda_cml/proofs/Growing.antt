@@ -59,7 +59,7 @@ any_least n (x ∷ xs) = go (least xs) (any_least n xs)
     go (Some l) e = ap (λ b. nat_le x n || b) e ∙ either_least n x l (nat_le x l) refl
 
 -- an operation joins what its note says
-noted_joins : (o : Record) (rs : List Record) (n : ℕ) → is_inside (noted o.number (least (dropped rs o))) n ≡ (nat_lt n o.number && list_any (λ i. nat_le i n) (dropped rs o))
+pub noted_joins : (o : Record) (rs : List Record) (n : ℕ) → is_inside (noted o.number (least (dropped rs o))) n ≡ (nat_lt n o.number && list_any (λ i. nat_le i n) (dropped rs o))
 noted_joins o rs n = go (least (dropped rs o)) (any_least n (dropped rs o))
   where
     turn : (a b : Bool) → ((a && b) || false) ≡ (b && a)

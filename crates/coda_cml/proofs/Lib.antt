@@ -18,3 +18,4 @@ pub mod Growing
 pub mod Logs
 pub mod Splitting
 pub mod Freezing
+pub mod Thawing

@@ -1,4 +1,5 @@
-ghost use Rattle.std.specs.Prelude.{◌≡◌, ◌++◌, List};
+ghost use Rattle.std.specs.Prelude.{◌≡◌, ◌≤◌, ◌+◌, [], ◌++◌, List};
+ghost use Rattle.std.specs.Vec.{vec_len, vec_capacity};
 ghost use Rattle.coda_fid.specs.declared.op.Record.{Record};
 ghost use Rattle.coda_cancel.specs.Joins.{noted};
 ghost use Rattle.coda_cancel.specs.Weights.{fits};
@@ -49,7 +50,7 @@ impl Model for Log {
 }
 
 impl Log {
-    ghost use Rattle.std.specs.Prelude.{◌≡◌, ◌≢◌, ◌↔◌, ◌<◌, ◌≤◌, ◌+◌, ◌-◌, ◌^◌, List, [], ◌∷◌, ◌++◌, false, None, Some, IsSome, IfOk, OnOk, OnErr};
+    ghost use Rattle.std.specs.Prelude.{◌≡◌, ◌≢◌, ◌↔◌, ◌<◌, ◌≤◌, ◌+◌, ◌-◌, ◌^◌, ℕ, List, [], ◌∷◌, ◌++◌, false, None, Some, IsSome, IfOk, OnOk, OnErr};
     ghost use Rattle.coda_fid.specs.declared.op.Record.{Record};
     ghost use Rattle.coda_cancel.specs.Cancel.{add};
     ghost use Rattle.coda_cancel.specs.Weights.{fits};
@@ -235,6 +236,70 @@ impl Log {
             None => Some(FreezeFault::Nothing),
         }
     }
+
+    /// Puts the frozen chunk back in front of the tail: the records of the tail are added to it in turn,
+    /// and segments are joined as that drops records. The number of the chunk is used up.
+    ///
+    /// Costs the records of the tail times those of the log.
+    ///
+    /// # Errors
+    ///
+    /// Fails for want of memory alone, and then the chunk stays frozen.
+    pub fn thaw(&mut self) -> Result<(), AllocError>
+        requires { IsSome self.old.frozen }
+        ensures log { OnOk result (self.new ≡ thawed self.old) }
+        ensures run { (front back : List Record) → IsLogOf self.old front back → IsSteady (front ++ back) → OnOk result (IsLogOf self.new [] (front ++ back)) }
+        ensures err { OnErr result (self.new ≡ self.old) }
+    {
+        self.chunk_segments.reserve(self.segments.len())?;
+        let joins = self.chunk.add_all(*self.segments.allocator(), &mut self.tail)?;
+        regroup_all(
+            &mut self.chunk_segments,
+            &mut self.segments,
+            &joins,
+            self.chunk.records(),
+        );
+        mem::swap(&mut self.chunk, &mut self.tail);
+        mem::swap(&mut self.chunk_segments, &mut self.segments);
+        self.frozen = None;
+        Ok(())
+    }
+
+    // Drops the chunk.
+    fn apply(&mut self)
+        ensures log { self.new ≡ applied_to self.old }
+    {
+        let alloc = *self.segments.allocator();
+        self.frozen = None;
+        self.chunk = Tail::new(alloc);
+        self.chunk_segments.clear();
+    }
+
+    /// Hands out the records of a log of which no chunk is frozen, and empties it. Numbers of operations
+    /// and chunks go on.
+    ///
+    /// # Errors
+    ///
+    /// `Frozen` exactly where a chunk is frozen, with its number and server; else `Nothing` exactly where
+    /// there is no record. An error leaves the log as it was.
+    pub fn giveup(&mut self) -> Result<Vec<Record>, FreezeFault>
+        ensures frozen { (number home : ℕ) → ((result ≡ Err (FreezeFault.Frozen number home)) ↔ (self.old.frozen ≡ Some (record { number = number; home = home }))) }
+        ensures nothing { (result ≡ Err FreezeFault.Nothing) ↔ ((self.old.frozen ≡ None) × (self.old.records ≡ [])) }
+        ensures records { IfOk result (λ recs. recs.items ≡ self.old.records) }
+        ensures log { OnOk result (self.new ≡ given_up self.old) }
+        ensures err { OnErr result (self.new ≡ self.old) }
+    {
+        if let Some(chunk) = self.frozen {
+            return Err(FreezeFault::Frozen(chunk.number, chunk.home));
+        }
+        if self.tail.records().is_empty() {
+            return Err(FreezeFault::Nothing);
+        }
+        let alloc = *self.segments.allocator();
+        let tail = mem::replace(&mut self.tail, Tail::new(alloc));
+        self.segments.clear();
+        Ok(tail.into_records())
+    }
 }
 
 // The number of the last operation of the segments; 0 where there are none.
@@ -273,5 +338,25 @@ fn regroup_last(segments: &mut Vec<Segment>, number: u64, least: Option<u64>, re
         Some(least) => rejoin(segments, &[Join { least, number }]),
         None => rejoin(segments, &[]),
     }
+    recount(segments, records);
+}
+
+// Puts the segments of a tail behind those of a chunk, joins those between which operations dropped
+// records, and counts the records of all.
+fn regroup_all(
+    segments: &mut Vec<Segment>,
+    later: &mut Vec<Segment>,
+    joins: &[Join],
+    records: &[Record],
+)
+    requires { vec_len segments.old + vec_len later.old ≤ vec_capacity segments.old }
+    ensures segments { segments.new.items ≡ recounted records.now (rejoined (is_inside joins.now) (segments.old.items ++ later.old.items)) }
+    ensures later { later.new.items ≡ [] }
+{
+    for segment in later.iter() {
+        segments.push_reserved(*segment);
+    }
+    later.clear();
+    rejoin(segments, joins);
     recount(segments, records);
 }
