@@ -19,3 +19,4 @@ pub mod Logs
 pub mod Splitting
 pub mod Freezing
 pub mod Thawing
+pub mod Keeping

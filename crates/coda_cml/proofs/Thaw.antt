@@ -51,7 +51,7 @@ creates_idle f (Store g pre c) e = refl
 creates_idle f (Setattr g pre a) e = refl
 creates_idle f _ e = absurd (false≢true e)
 
-moves_idle : (f : Fid) (x : Op) → is_write x ≡ true → moves f x ≡ false
+pub moves_idle : (f : Fid) (x : Op) → is_write x ≡ true → moves f x ≡ false
 moves_idle f (Store g pre c) e = refl
 moves_idle f (Setattr g pre a) e = refl
 moves_idle f _ e = absurd (false≢true e)

@@ -1,9 +1,9 @@
 -- What holds of all runs.
-use Rattle.std.specs.Prelude.{◌≡◌, ◌↔◌, ℕ, List, [], ◌++◌}
+use Rattle.std.specs.Prelude.{◌≡◌, ◌↔◌, ℕ, List, [], ◌∷◌, ◌++◌}
 use Rattle.coda_fid.specs.declared.op.Record.{Record}
 use Rattle.coda_cancel.specs.Cancel.{added, fold}
 use Rattle.coda_cancel.specs.Numbers.{AreUpTo, AreAbove, IsRising}
-use Rattle.coda_cml.specs.Steady.{IsSteady}
+use Rattle.coda_cml.specs.Steady.{IsSteady, IsFresh, RemovesEmpty}
 use Rattle.coda_cml.specs.Segments.{IsCut, records_upto}
 
 -- the records of the back of a steady run, added to those of its front, are those of the whole
@@ -21,3 +21,7 @@ ThawHasTheSegments = (number : ℕ) (front back : List Record) → IsSteady (fro
 -- what is left of a steady run is steady
 abbrev pub RestIsSteady : Type 0
 RestIsSteady = (front rest : List Record) → IsSteady (front ++ rest) → IsSteady rest
+
+-- a steady run stays steady with one more operation, where this creates nothing that the run mentions, and removes nothing in which something is left that the run created there
+abbrev pub OperationsKeepSteady : Type 0
+OperationsKeepSteady = (run : List Record) (rec : Record) → IsSteady run → IsFresh rec.op run → RemovesEmpty rec.op run → IsSteady (run ++ rec ∷ [])

@@ -1,6 +1,7 @@
 -- Runs of operations that a client performs on a volume as it sees it.
-use Rattle.std.specs.Prelude.{◌≡◌, Bool, true, false, ◌&&◌, ◌||◌, List, [], ◌∷◌, ◌++◌}
+use Rattle.std.specs.Prelude.{◌≡◌, Bool, true, false, ◌&&◌, ◌||◌, Option, Some, None, List, [], ◌∷◌, ◌++◌}
 use Rattle.coda_fid.specs.declared.fid.Fid.{Fid}
+use Rattle.coda_fid.specs.declared.op.Over.{Over}
 use Rattle.coda_fid.specs.declared.op.Op.{Op}
 use Rattle.coda_fid.specs.declared.op.Op.TheVariants.{Create, Mkdir, Symlink, Store, Setattr, Remove, Rmdir, Rename}
 use Rattle.coda_fid.specs.declared.op.Record.{Record}
@@ -61,3 +62,31 @@ GoesOn before recs (rec ∷ run) = IsFresh rec.op before × SafeStep rec.op recs
 -- a steady run: each created object is new to it, and each removed one may be removed after what the operations before leave
 abbrev pub IsSteady : List Record → Type 0
 IsSteady run = GoesOn [] [] run
+
+-- ---- which operations keep a run steady
+
+-- whether the replaced object is this one
+abbrev pub is_over : Fid → Option Over → Bool
+is_over fid None = false
+is_over fid (Some over) = same_fid over.fid fid
+
+-- whether an operation takes the object from where it is bound: it removes, renames or replaces it
+abbrev pub unbinds : Fid → Op → Bool
+unbinds fid (Create dir name it mode owner) = false
+unbinds fid (Mkdir dir name it mode owner) = false
+unbinds fid (Symlink dir name it target mode owner) = false
+unbinds fid (Store it pre content) = false
+unbinds fid (Setattr it pre attrs) = false
+unbinds fid (Remove dir name it pre) = same_fid it fid
+unbinds fid (Rmdir dir name it pre) = same_fid it fid
+unbinds fid (Rename from_dir from to_dir to it over) = same_fid it fid || is_over fid over
+
+-- each object that the run creates in the directory is taken from where it is bound
+abbrev pub ChildrenLeft : Fid → List Record → Type 0
+ChildrenLeft dir run = (child : Fid) → any_record (makes_in dir child) run ≡ true → any_record (unbinds child) run ≡ true
+
+-- where the operation removes an object, nothing that the run created in it is left there
+abbrev pub RemovesEmpty : Op → List Record → Type 0
+RemovesEmpty (Remove dir name fid pre) run = ChildrenLeft fid run
+RemovesEmpty (Rmdir dir name fid pre) run = ChildrenLeft fid run
+RemovesEmpty _ run = Unit {0}

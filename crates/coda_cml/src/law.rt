@@ -1,4 +1,4 @@
-ghost use Rattle.coda_cml.specs.Laws.{ThawIsTheFold, SegmentsAreTheirFolds, ThawHasTheSegments, RestIsSteady};
+ghost use Rattle.coda_cml.specs.Laws.{ThawIsTheFold, SegmentsAreTheirFolds, ThawHasTheSegments, RestIsSteady, OperationsKeepSteady};
 
 /// A law of cancellation: the records of the back of a steady run, added to those of its front, are the
 /// records of the whole run.
@@ -20,4 +20,10 @@ pub fn a_thaw_has_the_segments()
 /// A law of steady runs: what is left of one is steady.
 pub fn the_rest_is_steady()
     ensures { RestIsSteady }
+{}
+
+/// A law of steady runs: one stays steady with one more operation, where this creates nothing that the
+/// run mentions, and removes nothing in which something is left that the run created there.
+pub fn operations_keep_steady()
+    ensures { OperationsKeepSteady }
 {}

@@ -13,6 +13,7 @@ pub use fault::{FreezeFault, LogFault};
 pub use frozen::Frozen;
 pub use log::Log;
 pub use law::{
-    a_thaw_has_the_segments, a_thaw_is_the_fold, segments_are_their_folds, the_rest_is_steady,
+    a_thaw_has_the_segments, a_thaw_is_the_fold, operations_keep_steady, segments_are_their_folds,
+    the_rest_is_steady,
 };
 pub use segment::Segment;
