@@ -144,4 +144,24 @@ impl Tail {
     {
         fits_after(&self.records, rec, count, weight)
     }
+
+    /// The same records, in memory of their own.
+    pub fn copy(&self, alloc: Global) -> Result<Tail, AllocError>
+        ensures { IfOk result (λ tail. tail ≡ self.now) }
+    {
+        let records = copy_records(alloc, &self.records)?;
+        Ok(Tail { records })
+    }
+}
+
+// The same records, in memory of their own.
+fn copy_records(alloc: Global, records: &[Record]) -> Result<Vec<Record>, AllocError>
+    ensures { IfOk result (λ copies. copies.items ≡ records.now) }
+{
+    let mut copies = Vec::with_capacity(alloc, records.len())?;
+    for record in records {
+        let copy = record.copy()?;
+        copies.push(copy)?;
+    }
+    Ok(copies)
 }

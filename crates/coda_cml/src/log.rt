@@ -287,6 +287,7 @@ impl Log {
         ensures nothing { (result ≡ Err FreezeFault.Nothing) ↔ ((self.old.frozen ≡ None) × (self.old.records ≡ [])) }
         ensures records { IfOk result (λ recs. recs.items ≡ self.old.records) }
         ensures log { OnOk result (self.new ≡ given_up self.old) }
+        ensures run { (run : List Record) → IsLogOf self.old [] run → OnOk result (IsLogOf self.new [] []) }
         ensures err { OnErr result (self.new ≡ self.old) }
     {
         if let Some(chunk) = self.frozen {
@@ -299,6 +300,26 @@ impl Log {
         let tail = mem::replace(&mut self.tail, Tail::new(alloc));
         self.segments.clear();
         Ok(tail.into_records())
+    }
+
+    /// The same log, in memory of its own.
+    pub fn copy(&self) -> Result<Log, AllocError>
+        ensures { IfOk result (λ log. log ≡ self.now) }
+    {
+        let alloc = *self.segments.allocator();
+        let chunk = self.chunk.copy(alloc)?;
+        let chunk_segments = self.chunk_segments.clone()?;
+        let tail = self.tail.copy(alloc)?;
+        let segments = self.segments.clone()?;
+        Ok(Log {
+            frozen: self.frozen,
+            chunk,
+            chunk_segments,
+            tail,
+            segments,
+            last: self.last,
+            chunks: self.chunks,
+        })
     }
 }
 
