@@ -3,26 +3,27 @@ use Rattle.std.proofs.Common.{◌≡◌, ◌≢◌, ℕ, ◌+◌, ◌≤◌, Boo
 use Rattle.std.specs.Prelude.{nat_le, cond}
 use Rattle.std.specs.Option.{option_map}
 use Rattle.std.proofs.lemmas.Bool.{false≢true}
+use Rattle.coda_fid.specs.Fid.{root_of}
 use Rattle.coda_fid.specs.declared.op.Record.{Record}
 use Rattle.coda_certify.specs.Verdicts.{verdict_of}
 use Rattle.coda_engine.specs.Run.{Runs}
 use Rattle.coda_main.specs.declared.line.Link.{Link as LinkState}
 use Rattle.coda_main.specs.declared.line.Link.TheVariants.{Strong, Down}
 use Rattle.coda_main.specs.declared.line.Line.{Line}
-use Rattle.coda_main.specs.declared.line.Line.TheVariants.{Volume, Client, Link, List as Listing, Operation, Drain, Show}
+use Rattle.coda_main.specs.declared.line.Line.TheVariants.{Volume, Client, Link, Tick, Operation, Read, List as Listing, Drain, Show}
 use Rattle.coda_main.specs.declared.reply.Refusal.TheVariants.{JournalFull}
 use Rattle.coda_main.specs.declared.reply.Reply.{Reply}
 use Rattle.coda_main.specs.declared.reply.Reply.TheVariants.{Refused}
 use Rattle.coda_main.specs.State.{ClientState, ClientEntry, client_after, decision, new_client, Froze, Settled, ReplicaState, ReplicaEntry, Decided, Event, VolumeMade, ClientMade, AtClient}
 use Rattle.coda_main.specs.Plain.{PlainCell, PlainClient, PlainReplica, client_of, state_of, client_with, grown, grown_all, empty_cell}
-use Rattle.coda_main.specs.Asking.{list_root, create}
+use Rattle.coda_main.specs.Asking.{operate, read, list}
 use Rattle.coda_main.specs.Steps.{is_built, Does, offers_of, drain, drained, sent, stays}
 use Rattle.coda_main.specs.PlainRun.{LineGives}
 use Rattle.coda_main.specs.Headline.{IsDecisionOf, AreDecidedOnce, ChunksAreDecidedOnce}
 use Rattle.coda_main.proofs.Bytes.{append-nil}
 use Rattle.coda_main.proofs.Entries.{client_after_both}
 use Rattle.coda_main.proofs.Histories.{client_pushed}
-use Rattle.coda_main.proofs.Calm.{AreCalm, chunks_kept_all, calm_list, calm_create}
+use Rattle.coda_main.proofs.Calm.{AreCalm, chunks_kept_all, calm_along, calm_operate}
 
 -- the number of the chunk that an entry decides
 abbrev number_of : ReplicaEntry → ℕ
@@ -92,16 +93,16 @@ abbrev with_entries : List ClientEntry → PlainClient → PlainClient
 with_entries entries p = record p { history = p.history ++ entries }
 
 grown_client : (cell : PlainCell) (entries : List ClientEntry) → grown_all cell (map AtClient entries) ≡ record cell { client = option_map (with_entries entries) cell.client }
-grown_client cell entries = go cell.replica cell.client cell.link entries
+grown_client cell entries = go cell.clock cell.replica cell.client cell.link entries
   where
-    go : (replica : Option PlainReplica) (client : Option PlainClient) (link : LinkState) (entries : List ClientEntry)
-        → (let cell : PlainCell = record { replica = replica; client = client; link = link } in grown_all cell (map AtClient entries) ≡ record cell { client = option_map (with_entries entries) client })
-    go replica None link [] = refl
-    go replica (Some p) link [] = ap (λ (h : List ClientEntry). let cell : PlainCell = record { replica = replica; client = Some (record p { history = h }); link = link } in cell) (sym (append-nil p.history))
-    go replica None link (entry ∷ entries) = go replica None link entries
-    go replica (Some p) link (entry ∷ entries) =
-        go replica (Some (with_entries (entry ∷ []) p)) link entries
-        ∙ ap (λ (h : List ClientEntry). let cell : PlainCell = record { replica = replica; client = Some (record p { history = h }); link = link } in cell) (append_assoc p.history (entry ∷ []) entries)
+    go : (clock : ℕ) (replica : Option PlainReplica) (client : Option PlainClient) (link : LinkState) (entries : List ClientEntry)
+        → (let cell : PlainCell = record { clock = clock; replica = replica; client = client; link = link } in grown_all cell (map AtClient entries) ≡ record cell { client = option_map (with_entries entries) client })
+    go clock replica None link [] = refl
+    go clock replica (Some p) link [] = ap (λ (h : List ClientEntry). let cell : PlainCell = record { clock = clock; replica = replica; client = Some (record p { history = h }); link = link } in cell) (sym (append-nil p.history))
+    go clock replica None link (entry ∷ entries) = go clock replica None link entries
+    go clock replica (Some p) link (entry ∷ entries) =
+        go clock replica (Some (with_entries (entry ∷ []) p)) link entries
+        ∙ ap (λ (h : List ClientEntry). let cell : PlainCell = record { clock = clock; replica = replica; client = Some (record p { history = h }); link = link } in cell) (append_assoc p.history (entry ∷ []) entries)
 
 keeps_calm : (replica : Option PlainReplica) (client : Option PlainClient) (entries : List ClientEntry) → AreCalm entries → Keeps replica client → Keeps replica (option_map (with_entries entries) client)
 keeps_calm None client entries calm k = tt
@@ -130,11 +131,11 @@ drain_or_not Down c r = inl refl
 drain_or_not Strong c r = drained_or_not c.log c r
 
 -- the chunk that is decided has a number above all that were
-keeps_sent : (replica : Option PlainReplica) (client : Option PlainClient) (link : LinkState) (c : ClientState) (r : ReplicaState) → option_map client_of client ≡ Some c → Keeps replica client
-    → (let cell : PlainCell = record { replica = replica; client = client; link = link } in IsKept (grown_all cell (sent c r).events))
-keeps_sent None client link c r is k = tt
-keeps_sent (Some q) None link c r is k = absurd cc
-keeps_sent (Some q) (Some p) link c r is k =
+keeps_sent : (clock : ℕ) (replica : Option PlainReplica) (client : Option PlainClient) (link : LinkState) (c : ClientState) (r : ReplicaState) → option_map client_of client ≡ Some c → Keeps replica client
+    → (let cell : PlainCell = record { clock = clock; replica = replica; client = client; link = link } in IsKept (grown_all cell (sent c r).events))
+keeps_sent clock None client link c r is k = tt
+keeps_sent clock (Some q) None link c r is k = absurd cc
+keeps_sent clock (Some q) (Some p) link c r is k =
     let same : client_of p ≡ c = cc in
     let counted : (client_of p).chunks ≡ c.chunks = ap (λ (x : ClientState). x.chunks) same in
     let frozen : ClientEntry = Froze (c.chunks + 1) r.server c.operations in
@@ -152,18 +153,18 @@ keeps_sent (Some q) (Some p) link c r is k =
 -- ---- each line
 
 -- the first volume
-kept_volume : (replica : Option PlainReplica) (client : Option PlainClient) (link : LinkState) (volume server : ℕ)
-    → (let cell : PlainCell = record { replica = replica; client = client; link = link } in is_built (state_of cell) (Volume volume server) ≡ true → IsKept (grown cell (VolumeMade volume server)))
-kept_volume None None link volume server built = refl
-kept_volume None (Some p) link volume server built = (tt, tt)
-kept_volume (Some r) client link volume server built = absurd (false≢true built)
+kept_volume : (clock : ℕ) (replica : Option PlainReplica) (client : Option PlainClient) (link : LinkState) (volume server : ℕ)
+    → (let cell : PlainCell = record { clock = clock; replica = replica; client = client; link = link } in is_built (state_of cell) (Volume volume server) ≡ true → IsKept (grown cell (VolumeMade volume server)))
+kept_volume clock None None link volume server built = refl
+kept_volume clock None (Some p) link volume server built = (tt, tt)
+kept_volume clock (Some r) client link volume server built = absurd (false≢true built)
 
 -- the first client
-kept_client : (replica : Option PlainReplica) (client : Option PlainClient) (link : LinkState) (number blocks : ℕ)
-    → (let cell : PlainCell = record { replica = replica; client = client; link = link } in is_built (state_of cell) (Client number blocks) ≡ true → IsKept cell → IsKept (grown cell (ClientMade number blocks)))
-kept_client None client link number blocks built k = tt
-kept_client (Some r) (Some p) link number blocks built k = absurd (false≢true built)
-kept_client (Some r) None link number blocks built k =
+kept_client : (clock : ℕ) (replica : Option PlainReplica) (client : Option PlainClient) (link : LinkState) (number blocks : ℕ)
+    → (let cell : PlainCell = record { clock = clock; replica = replica; client = client; link = link } in is_built (state_of cell) (Client number blocks) ≡ true → IsKept cell → IsKept (grown cell (ClientMade number blocks)))
+kept_client clock None client link number blocks built k = tt
+kept_client clock (Some r) (Some p) link number blocks built k = absurd (false≢true built)
+kept_client clock (Some r) None link number blocks built k =
     let New : List ReplicaEntry → Type 0 = λ h. AreUpTo 0 h × DoDiffer h in
     subst New (sym k) (tt, tt)
 
@@ -172,23 +173,28 @@ kept_drain cell link c r is k =
     let At : List Event → Type 0 = λ events. IsKept (grown_all cell events) in
     elim (drain_or_not link c r) [
       | inl none ↦ subst At (sym none) k
-      | inr all ↦ subst At (sym all) (keeps_sent cell.replica cell.client cell.link c r is k)
+      | inr all ↦ subst At (sym all) (keeps_sent cell.clock cell.replica cell.client cell.link c r is k)
     ]
 
 kept_line : (cell : PlainCell) (said : Line) (reply : Reply) (events : List Event) → is_built (state_of cell) said ≡ true → Does (state_of cell) said reply events → IsKept cell → IsKept (grown_all cell events)
 kept_line cell (Volume volume server) reply events built does k =
     let At : List Event → Type 0 = λ events. IsKept (grown_all cell events) in
-    subst At (sym does.1) (kept_volume cell.replica cell.client cell.link volume server built)
+    subst At (sym does.1) (kept_volume cell.clock cell.replica cell.client cell.link volume server built)
 kept_line cell (Client client blocks) reply events built does k =
     let At : List Event → Type 0 = λ events. IsKept (grown_all cell events) in
-    subst At (sym does.1) (kept_client cell.replica cell.client cell.link client blocks built k)
+    subst At (sym does.1) (kept_client cell.clock cell.replica cell.client cell.link client blocks built k)
 kept_line cell (Link client server link) reply events built does k =
     let At : List Event → Type 0 = λ events. IsKept (grown_all cell events) in
     subst At (sym does.1) k
-kept_line cell (Listing client volume) reply events built does k =
-    kept_calm cell (list_root (offers_of (state_of cell)) does.client volume).entries events (calm_list (offers_of (state_of cell)) does.client volume) does.happened k
+kept_line cell (Tick seconds) reply events built does k =
+    let At : List Event → Type 0 = λ events. IsKept (grown_all cell events) in
+    subst At (sym does.1) k
 kept_line cell (Operation client volume ask) reply events built does k =
-    kept_calm cell (create (offers_of (state_of cell)) does.client volume ask).entries events (calm_create (offers_of (state_of cell)) does.client volume ask) does.happened k
+    kept_calm cell (operate (offers_of (state_of cell)) does.client cell.clock volume ask).entries events (calm_operate (offers_of (state_of cell)) does.client cell.clock volume ask) does.happened k
+kept_line cell (Read client volume path) reply events built does k =
+    kept_calm cell (read (offers_of (state_of cell)) does.client volume path).entries events (calm_along (offers_of (state_of cell)) does.client (root_of volume) path) does.happened k
+kept_line cell (Listing client volume path) reply events built does k =
+    kept_calm cell (list (offers_of (state_of cell)) does.client volume path).entries events (calm_along (offers_of (state_of cell)) does.client (root_of volume) path) does.happened k
 kept_line cell (Drain client volume server) reply events built does k =
     let At : List Event → Type 0 = λ events. IsKept (grown_all cell events) in
     subst At (sym does.happened) (kept_drain cell cell.link does.client does.replica does.client_there k)

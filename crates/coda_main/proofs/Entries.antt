@@ -1,17 +1,18 @@
--- Entries that follow others, and the answers that add them.
-use Rattle.std.proofs.Common.{◌≡◌, ℕ, List, [], ◌∷◌, ◌++◌, length, Option, Some, None, Result, Ok, Err, IfOk, refl, sym, ap, subst, ◌∙◌, arith}
-use Rattle.std.specs.Option.{option_map}
+-- Entries that follow others, what a path ends with, and the answers to what a client is asked.
+use Rattle.std.proofs.Common.{◌≡◌, ℕ, List, [], ◌∷◌, ◌++◌, length, Option, Some, None, option_map, Ok, refl, sym, ap, subst, ◌∙◌, arith}
 use Rattle.coda_fid.specs.Fid.{root_of}
 use Rattle.coda_fid.specs.declared.fid.Fid.{Fid}
+use Rattle.coda_fid.specs.declared.op.Op.{Op}
 use Rattle.coda_tree.specs.Bindings.{Name}
 use Rattle.coda_tree.specs.Volume.{Nodes}
 use Rattle.coda_main.specs.declared.line.Ask.{Ask}
-use Rattle.coda_main.specs.declared.reply.Refusal.{Refusal}
 use Rattle.coda_main.specs.declared.reply.Reply.{Reply}
-use Rattle.coda_main.specs.Ask.{ending}
-use Rattle.coda_main.specs.State.{ClientState, ClientEntry, client_after, client_after_all}
-use Rattle.coda_main.specs.Asking.{Walked, Answer, answer_after, walk, create_from, create_along, at_outcome, at_end_of}
-use Rattle.coda_main.specs.Code.{Reaches, Gives}
+use Rattle.coda_main.specs.Ask.{ending, too_big}
+use Rattle.coda_main.specs.State.{ClientState, ClientEntry, Operated, client_after, client_after_all}
+use Rattle.coda_main.specs.Fetching.{resolve, look_on, look_along}
+use Rattle.coda_main.specs.Accepting.{accept}
+use Rattle.coda_main.specs.Asking.{Answer, rename_look_ups, look_ups, next_record, answer_to, operate_unless, operate}
+use Rattle.coda_main.specs.Code.{Gives}
 
 -- the first names and the last one
 pub ending_is : (names front : List Name) (last : Name) → names ≡ front ++ last ∷ [] → ending names ≡ Some (front, last)
@@ -31,27 +32,31 @@ pub client_after_both : (c : ClientState) (first then_ : List ClientEntry) → c
 client_after_both c [] then_ = refl
 client_after_both c (entry ∷ first) then_ = client_after_both (client_after c entry) first then_
 
--- an answer that was given after entries
-pub given_after : (old mid new : ClientState) (entries : List ClientEntry) (answer : Answer) (reply : Reply) → mid ≡ client_after_all old entries → Gives answer mid reply new → Gives (answer_after entries answer) old reply new
-given_after old mid new entries answer reply is given = record {
-  answered = given.answered;
-  left = given.left ∙ ap (λ c. client_after_all c answer.entries) is ∙ sym (client_after_both old entries answer.entries);
-}
+-- the look-ups of both paths of a rename
+pub renamed : (offers : Option Nodes) (old mid new : ClientState) (volume : ℕ) (from to first second third : List Name) (root fid : Fid) → root ≡ root_of volume → first ≡ from → second ≡ from → third ≡ to
+    → mid ≡ client_after_all old (look_along offers old root first) → resolve mid.nodes root second ≡ Ok fid → new ≡ client_after_all mid (look_along offers mid root third)
+    → new ≡ client_after_all old (rename_look_ups offers old volume from to)
+renamed offers old mid new volume from to first second third root fid at_root a b d left led right =
+    let top = root_of volume in
+    let entries = look_along offers old top from in
+    let after = client_after_all old entries in
+    let next : Fid → List ClientEntry = λ f. look_along offers after top to in
+    let mid_is : mid ≡ after = left ∙ (λ i. client_after_all old (look_along offers old (at_root i) (a i))) in
+    let led' : resolve after.nodes top from ≡ Ok fid = sym (λ i. resolve (mid_is i).nodes (at_root i) (b i)) ∙ led in
+    right ∙ (λ i. client_after_all (mid_is i) (look_along offers (mid_is i) (at_root i) (d i))) ∙ sym (client_after_both old entries (next fid))
+    ∙ ap (λ o. client_after_all old (entries ++ look_on o next)) (sym led')
 
--- a creation in the directory to which its path leads
-pub created_along : (offers : Option Nodes) (old mid : ClientState) (volume : ℕ) (ask : Ask) (front : List Name) (name : Name) (outcome : Result Fid Refusal) (dir : Fid) (reply : Reply) (new : ClientState) (root : Fid)
-    → root ≡ root_of volume → Reaches (walk offers old root front) old outcome mid → outcome ≡ Ok dir
-    → Gives (create_from offers mid volume ask name dir) mid reply new → Gives (create_along offers old volume ask (Some (front, name))) old reply new
-created_along offers old mid volume ask front name outcome dir reply new root at_root reached is given =
-    let walked : Walked = walk offers old root front in
-    let led : walked.outcome ≡ Ok dir = sym reached.reached ∙ is in
-    let next : Fid → Answer = λ dir. create_from offers (client_after_all old walked.entries) volume ask name dir in
-    let Given : Result Fid Refusal → Type 0 = λ o. Gives (at_outcome walked.entries o next) old reply new in
-    let From : ClientState → Type 0 = λ c. Gives (create_from offers c volume ask name dir) mid reply new in
-    let At : Fid → Type 0 = λ root. Gives (at_end_of old (walk offers old root front) (λ after dir. create_from offers after volume ask name dir)) old reply new in
-    subst At at_root (subst Given (sym led) (given_after old mid new walked.entries (next dir) reply reached.left (subst From reached.left given)))
-
--- what holds of an answer holds of it as another answer
-pub if_given : {E : Type 0} (a b : Answer) (c d new : ClientState) (r : Result Reply E) → ((reply : Reply) → Gives a c reply new → Gives b d reply new) → IfOk r (λ reply. Gives a c reply new) → IfOk r (λ reply. Gives b d reply new)
-if_given a b c d new (Ok reply) so given = so reply given
-if_given a b c d new (Err e) so given = given
+-- an operation that was accepted after look-ups
+pub operated : (offers : Option Nodes) (old mid new : ClientState) (time volume : ℕ) (ask : Ask) (op : Op) (reply : Reply) → too_big ask ≡ None → mid ≡ client_after_all old (look_ups offers old volume ask) → accept mid volume ask ≡ Ok op
+    → Gives (answer_to [] mid time (Ok op)) mid reply new → Gives (operate offers old time volume ask) old reply new
+unfolding operate
+operated offers old mid new time volume ask op reply short mid_is accepted given =
+    let entries = look_ups offers old volume ask in
+    let back = sym mid_is in
+    let whole : operate_unless (too_big ask) offers old time volume ask ≡ answer_to entries mid time (Ok op) =
+    ap (λ o. operate_unless o offers old time volume ask) short ∙ (λ i. answer_to entries (back i) time (accept (back i) volume ask)) ∙ ap (answer_to entries mid time) accepted in
+    let Of : Answer → Type 0 = λ a. Gives a old reply new in
+    subst Of (sym whole) (record {
+      answered = given.answered;
+      left = given.left ∙ ap (λ c. client_after_all c (Operated (next_record mid time op) ∷ [])) mid_is ∙ sym (client_after_both old entries (Operated (next_record mid time op) ∷ []));
+    })

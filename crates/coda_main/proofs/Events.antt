@@ -6,15 +6,15 @@ use Rattle.coda_fid.specs.declared.op.Record.{Record}
 use Rattle.coda_tree.specs.Volume.{Nodes}
 use Rattle.coda_certify.specs.declared.verdict.Verdict.{Verdict}
 use Rattle.coda_certify.specs.Verdicts.{verdict_of}
-use Rattle.coda_main.specs.declared.line.Ask.{Ask}
 use Rattle.coda_main.specs.declared.line.Link.{Link as LinkState}
 use Rattle.coda_main.specs.declared.line.Link.TheVariants.{Strong}
-use Rattle.coda_main.specs.declared.line.Line.TheVariants.{List as Listing, Operation, Drain}
+use Rattle.coda_main.specs.declared.line.Line.{Line}
+use Rattle.coda_main.specs.declared.line.Line.TheVariants.{Drain}
 use Rattle.coda_main.specs.declared.reply.Reply.{Reply}
 use Rattle.coda_main.specs.declared.reply.Reply.TheVariants.{Chunk}
 use Rattle.coda_main.specs.State.{ClientState, ClientEntry, client_after, client_after_all, ReplicaState, replica_after, decision, Froze, Settled, Decided, CellState, Event, AtClient, after, after_all}
-use Rattle.coda_main.specs.Asking.{Answer, list_root, create}
-use Rattle.coda_main.specs.Steps.{Outcome, ByClient, offers_of, drain, drained, sent}
+use Rattle.coda_main.specs.Asking.{Answer}
+use Rattle.coda_main.specs.Steps.{Outcome, ByClient, Does, offers_of, drain, drained, sent}
 use Rattle.coda_main.specs.Code.{Gives}
 use Rattle.coda_main.specs.Cells.{Runs, Act, pair}
 
@@ -35,19 +35,19 @@ client_acts ask s new c c' reply offers there left are given =
       left ∙ ap (λ (x : ClientState). let t : CellState = record s { client = Some x } in t) now.left ∙ sym (after_client s c answer.entries there),
     )
 
-pub list_runs : {E : Type 0} (s new : CellState) (c c' : ClientState) (volume : ℕ) (offers : Option Nodes) (r : Result Reply E) → s.client ≡ Some c → new ≡ record s { client = Some c' } → offers ≡ offers_of s
-    → IfOk r (λ reply. Gives (list_root offers c volume) c reply c') → IfOk r (λ reply. (client : ℕ) → Runs s (Listing client volume) reply new)
-list_runs s new c c' volume offers (Err e) there left are given = given
-list_runs s new c c' volume offers (Ok reply) there left are given = λ client.
-    let acts = client_acts (λ o c. list_root o c volume) s new c c' reply offers there left are given in
-    record { events = acts.0; does = acts.1; left = acts.2 }
+-- a client's answer, as what a line does
+pub answer_runs : {E : Type 0} (said : Line) (ask : Option Nodes → ClientState → Answer) (s new : CellState) (c c' : ClientState) (offers : Option Nodes) (r : Result Reply E)
+    → ((reply : Reply) (events : List Event) → ByClient s ask reply events → Does s said reply events) → s.client ≡ Some c → new ≡ record s { client = Some c' } → offers ≡ offers_of s
+    → IfOk r (λ reply. Gives (ask offers c) c reply c') → IfOk r (λ reply. Runs s said reply new)
+answer_runs said ask s new c c' offers (Err e) does there left are given = given
+answer_runs said ask s new c c' offers (Ok reply) does there left are given =
+    let acts = client_acts ask s new c c' reply offers there left are given in
+    record { events = acts.0; does = does reply acts.0 acts.1; left = acts.2 }
 
-pub create_runs : {E : Type 0} (s new : CellState) (c c' : ClientState) (volume : ℕ) (ask : Ask) (offers : Option Nodes) (r : Result Reply E) → s.client ≡ Some c → new ≡ record s { client = Some c' } → offers ≡ offers_of s
-    → IfOk r (λ reply. Gives (create offers c volume ask) c reply c') → IfOk r (λ reply. (client : ℕ) → Runs s (Operation client volume ask) reply new)
-create_runs s new c c' volume ask offers (Err e) there left are given = given
-create_runs s new c c' volume ask offers (Ok reply) there left are given = λ client.
-    let acts = client_acts (λ o c. create o c volume ask) s new c c' reply offers there left are given in
-    record { events = acts.0; does = acts.1; left = acts.2 }
+-- whoever the client is
+pub any_client : {E : Type 0} (s new : CellState) (say : ℕ → Line) (r : Result Reply E) → ((client : ℕ) → IfOk r (λ reply. Runs s (say client) reply new)) → IfOk r (λ reply. (client : ℕ) → Runs s (say client) reply new)
+any_client s new say (Err e) h = h 0
+any_client s new say (Ok reply) h = λ client. h client
 
 -- a log with records is sent
 drained_some : (log : List Record) (c : ClientState) (r : ReplicaState) → length log ≢ 0 → nat_le 4294967295 c.chunks ≡ false → drained log c r ≡ sent c r
@@ -65,18 +65,18 @@ sent_acts link c c' r r' verdict up some few is decided settled =
     let settled_by : Verdict → ClientState = λ v. client_after_all c (Froze (c.chunks + 1) r.server c.operations ∷ Settled (c.chunks + 1) v ∷ []) in
     subst At (sym up) (subst Of (sym all) (record {
       answered = ap (λ v. Chunk (c.chunks + 1) v) is;
-      left = ap (λ x. pair Strong x r') (settled ∙ ap settled_by is) ∙ ap (λ x. pair Strong (settled_by (verdict_of (decision r.tree.nodes c.number c.log))) x) decided;
+      left = λ clock. ap (λ x. pair clock Strong x r') (settled ∙ ap settled_by is) ∙ ap (λ x. pair clock Strong (settled_by (verdict_of (decision r.tree.nodes c.number c.log))) x) decided;
     }))
 
 -- both acted
-pub drain_runs : {E : Type 0} (s new : CellState) (link : LinkState) (c c' : ClientState) (r r' : ReplicaState) (result : Result Reply E) → s ≡ pair link c r → new ≡ pair link c' r'
+pub drain_runs : {E : Type 0} (s new : CellState) (clock : ℕ) (link : LinkState) (c c' : ClientState) (r r' : ReplicaState) (result : Result Reply E) → s ≡ pair clock link c r → new ≡ pair clock link c' r'
     → IfOk result (λ reply. Act (drain link c r) link c r reply c' r') → IfOk result (λ reply. (client volume server : ℕ) → Runs s (Drain client volume server) reply new)
-drain_runs s new link c c' r r' (Err e) was is act = act
-drain_runs s new link c c' r r' (Ok reply) was is act = λ client volume server.
+drain_runs s new clock link c c' r r' (Err e) was is act = act
+drain_runs s new clock link c c' r r' (Ok reply) was is act = λ client volume server.
     let From : CellState → Type 0 = λ t. Runs t (Drain client volume server) reply new in
-    let To : CellState → Type 0 = λ t. Runs (pair link c r) (Drain client volume server) reply t in
+    let To : CellState → Type 0 = λ t. Runs (pair clock link c r) (Drain client volume server) reply t in
     subst From (sym was) (subst To (sym is) (record {
       events = (drain link c r).events;
       does = record { client = c; replica = r; client_there = refl; replica_there = refl; answered = act.answered; happened = refl };
-      left = act.left;
+      left = act.left clock;
     }))

@@ -6,7 +6,7 @@ use Rattle.coda_main.specs.declared.line.Line.{Line}
 use Rattle.coda_main.specs.declared.reply.Reply.{Reply}
 use Rattle.coda_main.specs.Words.{is_silent}
 use Rattle.coda_main.specs.Forms.{line_in}
-use Rattle.coda_main.specs.State.{ClientState, ClientEntry, client_after, client_after_all, new_client, ReplicaState, ReplicaEntry, replica_after, replica_after_all, new_replica, CellState, Event, VolumeMade, ClientMade, LinkSet, AtClient, AtReplica, after, after_all}
+use Rattle.coda_main.specs.State.{ClientState, ClientEntry, client_after, client_after_all, new_client, ReplicaState, ReplicaEntry, replica_after, replica_after_all, new_replica, CellState, Event, VolumeMade, ClientMade, Ticked, LinkSet, AtClient, AtReplica, after, after_all}
 use Rattle.coda_main.specs.Plain.{PlainCell, PlainClient, PlainReplica, client_of, replica_of, state_of, client_with, replica_with, grown, grown_all}
 use Rattle.coda_main.specs.Steps.{is_built, Does}
 use Rattle.coda_main.specs.PlainRun.{takes, LineGives, LineRefused}
@@ -35,6 +35,7 @@ replica_grown (Some p) entry = ap Some (replica_pushed (new_replica p.server p.v
 state_grown : (cell : PlainCell) (event : Event) → state_of (grown cell event) ≡ after (state_of cell) event
 state_grown cell (VolumeMade volume server) = refl
 state_grown cell (ClientMade client blocks) = refl
+state_grown cell (Ticked seconds) = refl
 state_grown cell (LinkSet link) = refl
 state_grown cell (AtClient entry) = ap (λ (o : Option ClientState). let s : CellState = record (state_of cell) { client = o } in s) (client_grown cell.client entry)
 state_grown cell (AtReplica entry) = ap (λ (o : Option ReplicaState). let s : CellState = record (state_of cell) { replica = o } in s) (replica_grown cell.replica entry)

@@ -9,12 +9,12 @@ use Rattle.coda_engine.specs.Exact.{TellsApart}
 use Rattle.coda_main.specs.declared.line.Link.{Link as LinkState}
 use Rattle.coda_main.specs.declared.line.Link.TheVariants.{Strong, Down}
 use Rattle.coda_main.specs.declared.line.Line.{Line}
-use Rattle.coda_main.specs.declared.line.Line.TheVariants.{Volume, Client, Link, List as Listing, Operation, Drain, Show}
+use Rattle.coda_main.specs.declared.line.Line.TheVariants.{Volume, Client, Link, Tick, Operation, Read, List as Listing, Drain, Show}
 use Rattle.coda_main.specs.declared.reply.Refusal.TheVariants.{JournalFull}
 use Rattle.coda_main.specs.declared.reply.Reply.{Reply}
 use Rattle.coda_main.specs.declared.reply.Reply.TheVariants.{Refused}
 use Rattle.coda_main.specs.Forms.{line_in}
-use Rattle.coda_main.specs.State.{ClientState, ClientEntry, Fetched, Operated, Froze, Settled, client_after, ReplicaState, ReplicaEntry, Decided, replica_after, CellState, Event, VolumeMade, ClientMade, LinkSet, AtClient, AtReplica, after, after_all}
+use Rattle.coda_main.specs.State.{ClientState, ClientEntry, Fetched, Operated, Froze, Settled, client_after, ReplicaState, ReplicaEntry, Decided, replica_after, CellState, Event, VolumeMade, ClientMade, Ticked, LinkSet, AtClient, AtReplica, after, after_all}
 use Rattle.coda_main.specs.Plain.{PlainCell, state_of}
 use Rattle.coda_main.specs.Steps.{is_built, Does, drain, drained, sent, stays}
 use Rattle.coda_main.specs.PlainRun.{LineGives, LineRefused, takes}
@@ -45,51 +45,62 @@ abbrev built_by : Made → Line → Bool
 built_by m (Volume volume server) = option_map_or (λ (r : ℕ × ℕ). false) m.replica true
 built_by m (Client client blocks) = option_map_or (λ (c : ℕ). false) m.client true
 built_by m (Link client server link) = is_made_client m client && is_made_server m server
-built_by m (Listing client volume) = is_made_client m client && is_made_volume m volume
+built_by m (Tick seconds) = true
+built_by m (Read client volume path) = is_made_client m client && is_made_volume m volume
+built_by m (Listing client volume path) = is_made_client m client && is_made_volume m volume
 built_by m (Operation client volume ask) = is_made_client m client && is_made_volume m volume
 built_by m (Drain client volume server) = is_made_client m client && (is_made_volume m volume && is_made_server m server)
 built_by m (Show server volume) = is_made_volume m volume && is_made_server m server
 
-built_is : (replica : Option ReplicaState) (client : Option ClientState) (link : LinkState) (said : Line)
-    → (let s : CellState = record { replica = replica; client = client; link = link } in is_built s said ≡ built_by (made_in s) said)
-built_is None None link (Volume volume server) = refl
-built_is None None link (Client c n) = refl
-built_is None None link (Link c s l) = refl
-built_is None None link (Listing c v) = refl
-built_is None None link (Operation c v a) = refl
-built_is None None link (Drain c v s) = refl
-built_is None None link (Show s v) = refl
-built_is (Some r) None link (Volume volume server) = refl
-built_is (Some r) None link (Client c n) = refl
-built_is (Some r) None link (Link c s l) = refl
-built_is (Some r) None link (Listing c v) = refl
-built_is (Some r) None link (Operation c v a) = refl
-built_is (Some r) None link (Drain c v s) = refl
-built_is (Some r) None link (Show s v) = refl
-built_is None (Some x) link (Volume volume server) = refl
-built_is None (Some x) link (Client c n) = refl
-built_is None (Some x) link (Link c s l) = refl
-built_is None (Some x) link (Listing c v) = refl
-built_is None (Some x) link (Operation c v a) = refl
-built_is None (Some x) link (Drain c v s) = refl
-built_is None (Some x) link (Show s v) = refl
-built_is (Some r) (Some x) link (Volume volume server) = refl
-built_is (Some r) (Some x) link (Client c n) = refl
-built_is (Some r) (Some x) link (Link c s l) = refl
-built_is (Some r) (Some x) link (Listing c v) = refl
-built_is (Some r) (Some x) link (Operation c v a) = refl
-built_is (Some r) (Some x) link (Drain c v s) = refl
-built_is (Some r) (Some x) link (Show s v) = refl
+built_is : (clock : ℕ) (replica : Option ReplicaState) (client : Option ClientState) (link : LinkState) (said : Line)
+    → (let s : CellState = record { clock = clock; replica = replica; client = client; link = link } in is_built s said ≡ built_by (made_in s) said)
+built_is clock None None link (Volume volume server) = refl
+built_is clock None None link (Client c n) = refl
+built_is clock None None link (Link c s l) = refl
+built_is clock None None link (Tick n) = refl
+built_is clock None None link (Operation c v a) = refl
+built_is clock None None link (Read c v p) = refl
+built_is clock None None link (Listing c v p) = refl
+built_is clock None None link (Drain c v s) = refl
+built_is clock None None link (Show s v) = refl
+built_is clock (Some r) None link (Volume volume server) = refl
+built_is clock (Some r) None link (Client c n) = refl
+built_is clock (Some r) None link (Link c s l) = refl
+built_is clock (Some r) None link (Tick n) = refl
+built_is clock (Some r) None link (Operation c v a) = refl
+built_is clock (Some r) None link (Read c v p) = refl
+built_is clock (Some r) None link (Listing c v p) = refl
+built_is clock (Some r) None link (Drain c v s) = refl
+built_is clock (Some r) None link (Show s v) = refl
+built_is clock None (Some x) link (Volume volume server) = refl
+built_is clock None (Some x) link (Client c n) = refl
+built_is clock None (Some x) link (Link c s l) = refl
+built_is clock None (Some x) link (Tick n) = refl
+built_is clock None (Some x) link (Operation c v a) = refl
+built_is clock None (Some x) link (Read c v p) = refl
+built_is clock None (Some x) link (Listing c v p) = refl
+built_is clock None (Some x) link (Drain c v s) = refl
+built_is clock None (Some x) link (Show s v) = refl
+built_is clock (Some r) (Some x) link (Volume volume server) = refl
+built_is clock (Some r) (Some x) link (Client c n) = refl
+built_is clock (Some r) (Some x) link (Link c s l) = refl
+built_is clock (Some r) (Some x) link (Tick n) = refl
+built_is clock (Some r) (Some x) link (Operation c v a) = refl
+built_is clock (Some r) (Some x) link (Read c v p) = refl
+built_is clock (Some r) (Some x) link (Listing c v p) = refl
+built_is clock (Some r) (Some x) link (Drain c v s) = refl
+built_is clock (Some r) (Some x) link (Show s v) = refl
 
 -- cells in which the same was made take the same lines
 built_alike : (a b : CellState) (said : Line) → made_in a ≡ made_in b → is_built a said ≡ is_built b said
-built_alike a b said same = built_is a.replica a.client a.link said ∙ ap (λ m. built_by m said) same ∙ sym (built_is b.replica b.client b.link said)
+built_alike a b said same = built_is a.clock a.replica a.client a.link said ∙ ap (λ m. built_by m said) same ∙ sym (built_is b.clock b.replica b.client b.link said)
 
 -- ---- entries make nothing
 
 abbrev Makes : Event → Type 0
 Makes (VolumeMade volume server) = Unit {0}
 Makes (ClientMade client blocks) = Unit {0}
+Makes (Ticked seconds) = ⊥
 Makes (LinkSet link) = ⊥
 Makes (AtClient entry) = ⊥
 Makes (AtReplica entry) = ⊥
@@ -113,6 +124,7 @@ volume_kept (Some r) (Decided client number span) = refl
 made_kept : (s : CellState) (event : Event) → (Makes event → ⊥) → made_in (after s event) ≡ made_in s
 made_kept s (VolumeMade volume server) quiet = absurd (quiet tt)
 made_kept s (ClientMade client blocks) quiet = absurd (quiet tt)
+made_kept s (Ticked seconds) quiet = refl
 made_kept s (LinkSet link) quiet = refl
 made_kept s (AtClient entry) quiet = ap (λ (o : Option ℕ). let m : Made = record { replica = (made_in s).replica; client = o } in m) (number_kept s.client entry)
 made_kept s (AtReplica entry) quiet = ap (λ (o : Option (ℕ × ℕ)). let m : Made = record { replica = o; client = (made_in s).client } in m) (volume_kept s.replica entry)
@@ -142,7 +154,9 @@ abbrev made_after : Line → Made → Made
 made_after (Volume volume server) m = record m { replica = Some (volume, server) }
 made_after (Client client blocks) m = record m { client = Some client }
 made_after (Link client server link) m = m
-made_after (Listing client volume) m = m
+made_after (Tick seconds) m = m
+made_after (Read client volume path) m = m
+made_after (Listing client volume path) m = m
 made_after (Operation client volume ask) m = m
 made_after (Drain client volume server) m = m
 made_after (Show server volume) m = m
@@ -154,7 +168,9 @@ made_by : (s : CellState) (said : Line) (reply : Reply) (events : List Event) �
 made_by s (Volume volume server) reply events does = ap (λ es. made_in (after_all s es)) does.1
 made_by s (Client client blocks) reply events does = ap (λ es. made_in (after_all s es)) does.1
 made_by s (Link client server link) reply events does = quiet_at s events (LinkSet link ∷ []) does.1 (λ h. h, tt)
-made_by s (Listing client volume) reply events does = quiet_at s events _ does.happened (quiet_client _)
+made_by s (Tick seconds) reply events does = quiet_at s events (Ticked seconds ∷ []) does.1 (λ h. h, tt)
+made_by s (Read client volume path) reply events does = quiet_at s events _ does.happened (quiet_client _)
+made_by s (Listing client volume path) reply events does = quiet_at s events _ does.happened (quiet_client _)
 made_by s (Operation client volume ask) reply events does = quiet_at s events _ does.happened (quiet_client _)
 made_by s (Drain client volume server) reply events does = quiet_at s events _ does.happened (quiet_drain s.link does.client does.replica)
 made_by s (Show server volume) reply events does = quiet_at s events [] does.1 tt

@@ -9,10 +9,9 @@ use Rattle.coda_main.specs.Words.{first_words}
 use Rattle.coda_main.specs.Numbers.{number_between}
 use Rattle.coda_main.specs.declared.line.Link.{Link as LinkState}
 use Rattle.coda_main.specs.declared.line.Link.TheVariants.{Strong, Down}
-use Rattle.coda_main.specs.declared.line.Ask.{Ask}
 use Rattle.coda_main.specs.declared.line.Ask.TheVariants.{Create, Mkdir}
 use Rattle.coda_main.specs.declared.line.Line.{Line}
-use Rattle.coda_main.specs.declared.line.Line.TheVariants.{Volume, Client, Link, List as Listing, Operation, Drain, Show}
+use Rattle.coda_main.specs.declared.line.Line.TheVariants.{Volume, Client, Link, Operation, List as Listing, Drain, Show}
 
 -- both are the same bytes
 abbrev pub is_word : List ℕ → List ℕ → Bool
@@ -67,14 +66,6 @@ link_form (keyword ∷ client ∷ server ∷ link ∷ []) =
     else None
 link_form words = None
 
--- `list C V /`
-abbrev pub list_form : List (List ℕ) → Option Line
-list_form (keyword ∷ client ∷ volume ∷ path ∷ []) =
-    if is_word keyword (codes "list") && is_word path (codes "/")
-    then with_client client (λ c. with_volume volume (λ v. Some (Listing c v)))
-    else None
-list_form words = None
-
 -- the line by which a client sends its log on a volume to a server
 abbrev pub drain_of : List ℕ → List ℕ → List ℕ → Option Line
 drain_of client volume server = with_client client (λ c. with_volume volume (λ v. with_server server (λ s. Some (Drain c v s))))
@@ -101,31 +92,35 @@ abbrev pub place_in : List ℕ → List ℕ → List ℕ → Option (ℕ × ℕ 
 place_in client volume path =
     option_map_or (λ c. option_map_or (λ v. option_map_or (λ p. Some (c, v, p)) (path_in path) None) (number_between 1 4294967295 volume) None) (number_between 1 255 client) None
 
--- the creation of an object at such a place
-abbrev pub creation_of : (List (List ℕ) → Ask) → Option (ℕ × ℕ × List (List ℕ)) → Option Line
-creation_of ask None = None
-creation_of ask (Some place) = Some (Operation place.0 place.1 (ask place.2))
+-- a line about such a place
+abbrev pub line_at : (ℕ → ℕ → List (List ℕ) → Line) → Option (ℕ × ℕ × List (List ℕ)) → Option Line
+line_at say None = None
+line_at say (Some place) = Some (say place.0 place.1 place.2)
 
 -- the words where they are four
 abbrev pub four : List (List ℕ) → Option (List ℕ × List ℕ × List ℕ × List ℕ)
 four (first ∷ second ∷ third ∷ fourth ∷ []) = Some (first, second, third, fourth)
 four words = None
 
--- the creation that four words are: its keyword, a client, a volume and a path
-abbrev pub creation_in : List ℕ → (List (List ℕ) → Ask) → Option (List ℕ × List ℕ × List ℕ × List ℕ) → Option Line
-creation_in text ask None = None
-creation_in text ask (Some words) = if is_word words.0 text then creation_of ask (place_in words.1 words.2 words.3) else None
+-- the line that four words are: its keyword, a client, a volume and a path
+abbrev pub place_line : List ℕ → (ℕ → ℕ → List (List ℕ) → Line) → Option (List ℕ × List ℕ × List ℕ × List ℕ) → Option Line
+place_line text say None = None
+place_line text say (Some words) = if is_word words.0 text then line_at say (place_in words.1 words.2 words.3) else None
 
-abbrev pub creation_form : List ℕ → (List (List ℕ) → Ask) → List (List ℕ) → Option Line
-creation_form text ask words = creation_in text ask (four words)
+abbrev pub place_form : List ℕ → (ℕ → ℕ → List (List ℕ) → Line) → List (List ℕ) → Option Line
+place_form text say words = place_line text say (four words)
+
+-- `list C V P`
+abbrev pub list_form : List (List ℕ) → Option Line
+list_form = place_form (codes "list") Listing
 
 -- `create C V P`: a file with mode 0644
 abbrev pub create_form : List (List ℕ) → Option Line
-create_form = creation_form (codes "create") (λ p. Create p 420 0)
+create_form = place_form (codes "create") (λ c v p. Operation c v (Create p 420 0))
 
 -- `mkdir C V P`: a directory with mode 0755
 abbrev pub mkdir_form : List (List ℕ) → Option Line
-mkdir_form = creation_form (codes "mkdir") (λ p. Mkdir p 493 0)
+mkdir_form = place_form (codes "mkdir") (λ c v p. Operation c v (Mkdir p 493 0))
 
 infixr 5 ◌or_form◌
 -- the first form that the words have
@@ -135,11 +130,11 @@ None or_form other = other
 
 -- the forms that name no path to be kept
 unfoldable pub plain_form : List (List ℕ) → Option Line
-plain_form words = volume_form words or_form client_form words or_form link_form words or_form list_form words or_form drain_form words or_form show_form words
+plain_form words = volume_form words or_form client_form words or_form link_form words or_form drain_form words or_form show_form words
 
 -- the line that some words spell
 unfoldable pub form_of : List (List ℕ) → Option Line
-form_of words = plain_form words or_form create_form words or_form mkdir_form words
+form_of words = plain_form words or_form list_form words or_form create_form words or_form mkdir_form words
 
 -- the line that some bytes spell; no form has more than six words
 abbrev pub line_in : List ℕ → Option Line

@@ -1,9 +1,11 @@
 pub mod Words
 pub mod Numbers
 pub mod Forms
+pub mod Ask
 pub mod State
 pub mod Plain
-pub mod Ask
+pub mod Fetching
+pub mod Accepting
 pub mod Asking
 pub mod Code
 pub mod Steps

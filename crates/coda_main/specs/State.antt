@@ -1,5 +1,5 @@
 -- What a cell is at a moment, and what an entry of a history makes of it.
-use Rattle.std.specs.Prelude.{ℕ, ◌+◌, List, [], ◌∷◌, ◌++◌, Option, Some, None, Ok, Err}
+use Rattle.std.specs.Prelude.{ℕ, ◌+◌, min, ◌==◌, ◌&&◌, if◌then◌else◌, List, [], ◌∷◌, ◌++◌, Option, Some, None, Ok, Err}
 use Rattle.std.specs.Option.{option_map}
 use Rattle.std.specs.FinMap as map
 use Rattle.coda_fid.specs.declared.fid.Fid.{Fid}
@@ -10,36 +10,57 @@ use Rattle.coda_certify.specs.declared.verdict.Verdict.{Verdict}
 use Rattle.coda_certify.specs.declared.verdict.Verdict.TheVariants.{Applied, Conflict}
 use Rattle.coda_certify.specs.Replay.{Replayed, applied, replay}
 use Rattle.coda_certify.specs.Verdicts.{nodes_left}
-use Rattle.coda_main.specs.declared.line.Link.{Link}
-use Rattle.coda_main.specs.declared.line.Link.TheVariants.{Down}
+use Rattle.coda_script.specs.declared.line.Strength.{Strength}
+use Rattle.coda_script.specs.declared.line.Strength.TheVariants.{Down}
+use Rattle.coda_main.specs.Ask.{created_by}
+
+-- the same for each key, but this at one of them
+abbrev pub put : {A : Type 0} → (ℕ → A) → ℕ → A → ℕ → A
+put f k x q = if q == k then x else f q
 
 -- ---- a client
 
--- what a client has: the blocks of its cache, the nodes that it holds, its log on the volume, and how many operations it
--- accepted, objects it created and chunks it froze there
-pub record ClientState : Type 0 where
-  pub number : ℕ
-  pub blocks : ℕ
-  pub nodes : Nodes
+-- what a client has of a volume: its log, and how many operations it accepted, objects it created and chunks it froze there
+pub record LogState : Type 0 where
   pub log : List Record
   pub operations : ℕ
   pub creations : ℕ
   pub chunks : ℕ
 
+-- what a client has: the blocks of its cache, the nodes that it holds, and its log of each volume
+pub record ClientState : Type 0 where
+  pub number : ℕ
+  pub blocks : ℕ
+  pub nodes : Nodes
+  pub logs : ℕ → LogState
+
 -- an entry of a client's history
 pub data ClientEntry : Type 0 where
   -- it fetched a node
   Fetched : (fid : Fid) (node : Node) → ClientEntry
-  -- it accepted an operation
-  Operated : (rec : Record) → ClientEntry
-  -- it froze a chunk for a server, up to the operation with the last number
-  Froze : (number server last : ℕ) → ClientEntry
+  -- it accepted an operation on a volume
+  Operated : (volume : ℕ) (rec : Record) → ClientEntry
+  -- it froze a chunk of its log of a volume for a server, up to the operation with the last number
+  Froze : (volume number server last : ℕ) → ClientEntry
   -- it learned what became of a chunk
-  Settled : (number : ℕ) (verdict : Verdict) → ClientEntry
+  Settled : (volume number : ℕ) (verdict : Verdict) → ClientEntry
+
+-- the log of a volume on which nothing was done
+abbrev pub new_log : LogState
+new_log = record { log = []; operations = 0; creations = 0; chunks = 0 }
 
 -- a client that was just made
 abbrev pub new_client : ℕ → ℕ → ClientState
-new_client number blocks = record { number = number; blocks = blocks; nodes = map.empty; log = []; operations = 0; creations = 0; chunks = 0 }
+new_client number blocks = record { number = number; blocks = blocks; nodes = map.empty; logs = λ volume. new_log }
+
+-- the log with one record more
+abbrev pub log_with : LogState → Record → LogState
+log_with s rec = record {
+  log = s.log ++ rec ∷ [];
+  operations = s.operations + 1;
+  creations = s.creations + created_by rec.op;
+  chunks = s.chunks;
+}
 
 -- the log after a verdict on the chunk that it was: applied, it is done with, and a conflict leaves it
 abbrev pub log_after : Verdict → List Record → List Record
@@ -49,14 +70,12 @@ log_after (Conflict n why) log = log
 -- a client after an entry
 abbrev pub client_after : ClientState → ClientEntry → ClientState
 client_after c (Fetched fid node) = record c { nodes = map.insert c.nodes fid node }
-client_after c (Operated rec) = record c {
+client_after c (Operated volume rec) = record c {
   nodes = applied c.nodes c.number rec;
-  log = c.log ++ rec ∷ [];
-  operations = c.operations + 1;
-  creations = c.creations + 1;
+  logs = put c.logs volume (log_with (c.logs volume) rec);
 }
-client_after c (Froze number server last) = record c { chunks = number }
-client_after c (Settled number verdict) = record c { log = log_after verdict c.log }
+client_after c (Froze volume number server last) = record c { logs = put c.logs volume (record (c.logs volume) { chunks = number }) }
+client_after c (Settled volume number verdict) = record c { logs = put c.logs volume (record (c.logs volume) { log = log_after verdict (c.logs volume).log }) }
 
 -- a client after entries in order
 abbrev pub client_after_all : ClientState → List ClientEntry → ClientState
@@ -106,11 +125,14 @@ replica_after_all r (entry ∷ entries) = replica_after_all (replica_after r ent
 
 -- ---- a cell
 
--- what a cell is at a moment: one replica of one volume, one client, and the link between them, each once it was made
+-- what a cell is at a moment: its clock in seconds, how many volumes were made and on which servers, the replica of each
+-- volume and each client once it was made, and the links between clients and servers
 pub record CellState : Type 0 where
-  pub replica : Option ReplicaState
-  pub client : Option ClientState
-  pub link : Link
+  pub clock : ℕ
+  pub servers : List ℕ
+  pub replicas : ℕ → Option ReplicaState
+  pub clients : ℕ → Option ClientState
+  pub links : ℕ → ℕ → Strength
 
 -- what happens in a cell
 pub data Event : Type 0 where
@@ -118,24 +140,35 @@ pub data Event : Type 0 where
   VolumeMade : (volume server : ℕ) → Event
   -- a client is made, with so many blocks of cache
   ClientMade : (client blocks : ℕ) → Event
-  -- the link changes
-  LinkSet : (link : Link) → Event
-  -- the client's history has one more entry
-  AtClient : (entry : ClientEntry) → Event
-  -- the replica's history has one more entry
-  AtReplica : (entry : ReplicaEntry) → Event
+  -- time passes
+  Ticked : (seconds : ℕ) → Event
+  -- the link between a client and a server changes
+  LinkSet : (client server : ℕ) (strength : Strength) → Event
+  -- a client's history has one more entry
+  AtClient : (client : ℕ) (entry : ClientEntry) → Event
+  -- the history of a volume's replica has one more entry
+  AtReplica : (volume : ℕ) (entry : ReplicaEntry) → Event
 
--- a cell in which nothing was made
+-- a cell in which nothing was made; all links are down
 abbrev pub empty_state : CellState
-empty_state = record { replica = None; client = None; link = Down }
+empty_state = record { clock = 0; servers = []; replicas = λ volume. None; clients = λ client. None; links = λ client server. Down }
+
+-- a clock some seconds later; it stops at the last number of 64 bits
+abbrev pub later : ℕ → ℕ → ℕ
+later clock seconds = min (clock + seconds) 18446744073709551615
+
+-- the links, with another strength between a client and a server
+abbrev pub linked : (ℕ → ℕ → Strength) → ℕ → ℕ → Strength → ℕ → ℕ → Strength
+linked links client server strength c s = if (c == client) && (s == server) then strength else links c s
 
 -- a cell after an event
 abbrev pub after : CellState → Event → CellState
-after s (VolumeMade volume server) = record s { replica = Some (new_replica server volume) }
-after s (ClientMade client blocks) = record s { client = Some (new_client client blocks) }
-after s (LinkSet link) = record s { link = link }
-after s (AtClient entry) = record s { client = option_map (λ c. client_after c entry) s.client }
-after s (AtReplica entry) = record s { replica = option_map (λ r. replica_after r entry) s.replica }
+after s (VolumeMade volume server) = record s { servers = s.servers ++ server ∷ []; replicas = put s.replicas volume (Some (new_replica server volume)) }
+after s (ClientMade client blocks) = record s { clients = put s.clients client (Some (new_client client blocks)) }
+after s (Ticked seconds) = record s { clock = later s.clock seconds }
+after s (LinkSet client server strength) = record s { links = linked s.links client server strength }
+after s (AtClient client entry) = record s { clients = put s.clients client (option_map (λ c. client_after c entry) (s.clients client)) }
+after s (AtReplica volume entry) = record s { replicas = put s.replicas volume (option_map (λ r. replica_after r entry) (s.replicas volume)) }
 
 -- a cell after events in order
 abbrev pub after_all : CellState → List Event → CellState

@@ -1,60 +1,158 @@
 -- What a line does in a cell: a relation of the state before, the line, its reply, and what happens.
-use Rattle.std.specs.Prelude.{◌≡◌, ℕ, ◌+◌, Bool, true, false, ◌&&◌, ◌==◌, nat_le, if◌then◌else◌, List, [], ◌∷◌, map, Option, Some, None}
-use Rattle.std.specs.Option.{option_map, option_map_or}
+use Rattle.std.specs.Prelude.{◌≡◌, ℕ, ◌+◌, Bool, true, false, ◌||◌, ◌==◌, nat_le, is_some, if◌then◌else◌, List, [], ◌∷◌, length, map, Option, Some, None}
+use Rattle.std.specs.Option.{option_map, option_map_or, option_and_then, unwrap_or}
+use Rattle.std.specs.List.{list_any, repeat}
+use Rattle.coda_fid.specs.declared.op.Attrs.{Attrs}
 use Rattle.coda_fid.specs.declared.op.Record.{Record}
+use Rattle.coda_tree.specs.Bindings.{Name}
 use Rattle.coda_tree.specs.Volume.{Nodes}
 use Rattle.coda_certify.specs.Verdicts.{verdict_of}
-use Rattle.coda_main.specs.declared.line.Link.{Link as LinkState}
-use Rattle.coda_main.specs.declared.line.Link.TheVariants.{Strong, Down}
-use Rattle.coda_main.specs.declared.line.Line.{Line}
-use Rattle.coda_main.specs.declared.line.Line.TheVariants.{Volume, Client, Link, List as Listing, Operation, Drain, Show}
-use Rattle.coda_main.specs.declared.reply.Refusal.TheVariants.{Nothing, LinkDown, JournalFull}
-use Rattle.coda_main.specs.declared.reply.Reply.{Reply}
-use Rattle.coda_main.specs.declared.reply.Reply.TheVariants.{Opened, Accepted, Chunk, Shown, Refused}
-use Rattle.coda_main.specs.State.{ClientState, Froze, Settled, ReplicaState, Decided, decision, CellState, Event, VolumeMade, ClientMade, LinkSet, AtClient, AtReplica}
-use Rattle.coda_main.specs.Asking.{Answer, list_root, create}
+use Rattle.coda_script.specs.declared.line.Strength.{Strength}
+use Rattle.coda_script.specs.declared.line.Strength.TheVariants.{Strong, Weak, Down}
+use Rattle.coda_script.specs.declared.line.Content.{Content}
+use Rattle.coda_script.specs.declared.line.Content.TheVariants as content
+use Rattle.coda_script.specs.declared.line.Task.{Task}
+use Rattle.coda_script.specs.declared.line.Task.TheVariants as task
+use Rattle.coda_script.specs.declared.line.Line.{Line}
+use Rattle.coda_script.specs.declared.line.Line.TheVariants as line
+use Rattle.coda_script.specs.declared.reply.Answer.TheVariants.{Decided as DecidedAs}
+use Rattle.coda_script.specs.declared.reply.Reply.{Reply}
+use Rattle.coda_script.specs.declared.reply.Reply.TheVariants.{Opened, Accepted, Drained, ShowVolume}
+use Rattle.coda_main.specs.declared.line.Ask.{Ask}
+use Rattle.coda_main.specs.declared.line.Ask.TheVariants.{Create, Mkdir, Symlink, Store, Setattr, Remove, Rmdir, Rename}
+use Rattle.coda_main.specs.declared.refused.Refused.{Refused}
+use Rattle.coda_main.specs.declared.refused.Refused.TheVariants.{Nothing, LinkDown, JournalFull, NoSuchActor, AlreadyThere, CellFull}
+use Rattle.coda_main.specs.Refusing.{refusal}
+use Rattle.coda_main.specs.State.{LogState, ClientState, Froze, Settled, ReplicaState, Decided, decision, CellState, Event, VolumeMade, ClientMade, Ticked, LinkSet, AtClient, AtReplica}
+use Rattle.coda_main.specs.Asking.{Answer, operate, read, list}
 
--- ---- which lines a cell takes
+-- ---- which lines are built
 
--- the client of this number was made
-abbrev pub is_client : CellState → ℕ → Bool
-is_client s number = option_map_or (λ (c : ClientState). c.number == number) s.client false
+-- a window of no seconds, by which a whole log is sent
+abbrev pub is_whole : Option ℕ → Bool
+is_whole None = false
+is_whole (Some window) = window == 0
 
--- the volume of this number was made
-abbrev pub is_volume : CellState → ℕ → Bool
-is_volume s volume = option_map_or (λ (r : ReplicaState). r.tree.number == volume) s.replica false
+-- one server alone
+abbrev pub is_alone : List ℕ → Bool
+is_alone [] = false
+is_alone (server ∷ []) = true
+is_alone (server ∷ other ∷ servers) = false
 
--- a volume was made on this server
-abbrev pub is_server : CellState → ℕ → Bool
-is_server s server = option_map_or (λ (r : ReplicaState). r.server == server) s.replica false
+-- a link that is as good as can be, or down
+abbrev pub is_plain : Strength → Bool
+is_plain Strong = true
+is_plain Weak = false
+is_plain Down = true
 
--- no volume was made, and no client
-abbrev pub has_no_volume : CellState → Bool
-has_no_volume s = option_map_or (λ (r : ReplicaState). false) s.replica true
+abbrev pub is_built_task : Task → Bool
+is_built_task (task.Create client volume path mode owner) = true
+is_built_task (task.Mkdir client volume path mode owner) = true
+is_built_task (task.Symlink client volume path target) = true
+is_built_task (task.Store client volume path content) = true
+is_built_task (task.Setattr client volume path attrs) = true
+is_built_task (task.Remove client volume path) = true
+is_built_task (task.Rmdir client volume path) = true
+is_built_task (task.Rename client volume from to) = true
+is_built_task (task.Read client volume path) = true
+is_built_task (task.List client volume path) = true
+is_built_task (task.Drain client volume server window) = is_whole window
+is_built_task _ = false
 
-abbrev pub has_no_client : CellState → Bool
-has_no_client s = option_map_or (λ (c : ClientState). false) s.client true
+-- the lines that have a meaning so far; of a volume or client no area may be given, since there are no disks
+abbrev pub is_built : Line → Bool
+is_built (line.Volume volume servers None) = is_alone servers
+is_built (line.Client client blocks None) = true
+is_built (line.Link client server strength) = is_plain strength
+is_built (line.Tick seconds) = true
+is_built (line.Task t) = is_built_task t
+is_built (line.ShowVolume server volume) = true
+is_built _ = false
 
--- whether a line names only actors that were made, and makes no second volume and no second client
-abbrev pub is_built : CellState → Line → Bool
-is_built s (Volume volume server) = has_no_volume s
-is_built s (Client client blocks) = has_no_client s
-is_built s (Link client server link) = is_client s client && is_server s server
-is_built s (Listing client volume) = is_client s client && is_volume s volume
-is_built s (Operation client volume ask) = is_client s client && is_volume s volume
-is_built s (Drain client volume server) = is_client s client && (is_volume s volume && is_server s server)
-is_built s (Show server volume) = is_volume s volume && is_server s server
+-- ---- which actors a line names
+
+-- an actor that a line names, and whether it is there
+pub record Named : Type 0 where
+  pub number : ℕ
+  pub there : Bool
+
+-- the client of this number, and whether it was made
+abbrev pub client_named : CellState → ℕ → Named
+client_named s client = record { number = client; there = is_some (s.clients client) }
+
+-- the volume of this number likewise
+abbrev pub volume_named : CellState → ℕ → Named
+volume_named s volume = record { number = volume; there = is_some (s.replicas volume) }
+
+-- the server of this number, and whether a volume was made there
+abbrev pub server_named : CellState → ℕ → Named
+server_named s server = record { number = server; there = list_any (λ other. other == server) s.servers }
+
+-- the server of this number, and whether it holds the volume
+abbrev pub holder_named : CellState → ℕ → ℕ → Named
+holder_named s server volume = record { number = server; there = option_map_or (λ (r : ReplicaState). r.server == server) (s.replicas volume) false }
+
+-- the actors that a client's task names, from left to right
+abbrev pub on_volume : CellState → ℕ → ℕ → List Named
+on_volume s client volume = client_named s client ∷ volume_named s volume ∷ []
+
+abbrev pub named_by_task : CellState → Task → List Named
+named_by_task s (task.Create client volume path mode owner) = on_volume s client volume
+named_by_task s (task.Mkdir client volume path mode owner) = on_volume s client volume
+named_by_task s (task.Symlink client volume path target) = on_volume s client volume
+named_by_task s (task.Store client volume path content) = on_volume s client volume
+named_by_task s (task.Setattr client volume path attrs) = on_volume s client volume
+named_by_task s (task.Remove client volume path) = on_volume s client volume
+named_by_task s (task.Rmdir client volume path) = on_volume s client volume
+named_by_task s (task.Rename client volume from to) = on_volume s client volume
+named_by_task s (task.Read client volume path) = on_volume s client volume
+named_by_task s (task.List client volume path) = on_volume s client volume
+named_by_task s (task.Drain client volume server window) = client_named s client ∷ volume_named s volume ∷ holder_named s server volume ∷ []
+named_by_task s _ = []
+
+-- the actors that a line names, from left to right
+abbrev pub named : CellState → Line → List Named
+named s (line.Link client server strength) = client_named s client ∷ server_named s server ∷ []
+named s (line.Task t) = named_by_task s t
+named s (line.ShowVolume server volume) = holder_named s server volume ∷ []
+named s _ = []
+
+-- the first that isn't there
+abbrev pub first_missing : List Named → Option Refused
+first_missing [] = None
+first_missing (n ∷ ns) = if n.there then first_missing ns else Some (NoSuchActor n.number)
+
+-- why a volume can't be made: it is there, or 64 volumes are
+abbrev pub no_room : Bool → Bool → Option Refused
+no_room true full = Some AlreadyThere
+no_room false true = Some CellFull
+no_room false false = None
+
+-- why a line that makes an actor is refused; there are never more clients than numbers for them
+abbrev pub not_made : CellState → Line → Option Refused
+not_made s (line.Volume volume servers area) = no_room (is_some (s.replicas volume)) (nat_le 64 (length s.servers))
+not_made s (line.Client client blocks area) = no_room (is_some (s.clients client)) false
+not_made s _ = None
+
+-- the first refusal that a line has before its own
+abbrev pub or_refused : Option Refused → Option Refused → Option Refused
+or_refused None other = other
+or_refused (Some why) other = Some why
+
+abbrev pub common_refusal : CellState → Line → Option Refused
+common_refusal s l = or_refused (first_missing (named s l)) (not_made s l)
 
 -- ---- what a client can fetch
 
--- the nodes of the volume, where its server can be reached
-abbrev pub reached : LinkState → Option ReplicaState → Option Nodes
-reached Down replica = None
-reached Strong replica = option_map (λ (r : ReplicaState). r.tree.nodes) replica
+-- the nodes of a replica, where its server can be reached
+abbrev pub reached : Strength → ReplicaState → Option Nodes
+reached Strong r = Some r.tree.nodes
+reached Weak r = Some r.tree.nodes
+reached Down r = None
 
--- what the client can fetch in a cell
-abbrev pub offers_of : CellState → Option Nodes
-offers_of s = reached s.link s.replica
+-- what a client can fetch of a volume
+abbrev pub offers_of : CellState → ℕ → ℕ → Option Nodes
+offers_of s client volume = option_and_then (λ (r : ReplicaState). reached (s.links client r.server) r) (s.replicas volume)
 
 -- ---- sending a log
 
@@ -64,53 +162,96 @@ pub record Outcome : Type 0 where
   pub events : List Event
 
 -- the chunk of a whole log is frozen, decided by the replica, and settled
-abbrev pub sent : ClientState → ReplicaState → Outcome
-sent c r = record {
-  reply = Chunk (c.chunks + 1) (verdict_of (decision r.tree.nodes c.number c.log));
-  events = AtClient (Froze (c.chunks + 1) r.server c.operations)
-      ∷ AtReplica (Decided c.number (c.chunks + 1) c.log)
-      ∷ AtClient (Settled (c.chunks + 1) (verdict_of (decision r.tree.nodes c.number c.log)))
+abbrev pub sent_from : ℕ → ℕ → LogState → ReplicaState → Outcome
+sent_from number volume l r = record {
+  reply = Drained (l.chunks + 1) (DecidedAs (verdict_of (decision r.tree.nodes number l.log)));
+  events = AtClient number (Froze volume (l.chunks + 1) r.server l.operations)
+      ∷ AtReplica volume (Decided number (l.chunks + 1) l.log)
+      ∷ AtClient number (Settled volume (l.chunks + 1) (verdict_of (decision r.tree.nodes number l.log)))
       ∷ [];
 }
 
 -- a refusal, by which nothing happens
-abbrev pub stays : Reply → Outcome
-stays reply = record { reply = reply; events = [] }
+abbrev pub stays : Refused → Outcome
+stays why = record { reply = refusal why; events = [] }
 
--- a log without records is nothing to send, and a client freezes at most 2^32 - 1 chunks
-abbrev pub drained : List Record → ClientState → ReplicaState → Outcome
-drained [] c r = stays (Refused Nothing)
-drained (rec ∷ recs) c r = if nat_le 4294967295 c.chunks then stays (Refused JournalFull) else sent c r
+-- a log without records is nothing to send, and a client freezes at most 2^32 - 1 chunks of a volume
+abbrev pub drained : List Record → ℕ → ℕ → LogState → ReplicaState → Outcome
+drained [] number volume l r = stays Nothing
+drained (rec ∷ recs) number volume l r = if nat_le 4294967295 l.chunks then stays JournalFull else sent_from number volume l r
 
--- the client sends its log to the replica, where the link is up
-abbrev pub drain : LinkState → ClientState → ReplicaState → Outcome
-drain Down c r = stays (Refused LinkDown)
-drain Strong c r = drained c.log c r
+-- the client of this number sends its log of a volume to the replica, where the link is up
+abbrev pub drain : Strength → ℕ → ℕ → LogState → ReplicaState → Outcome
+drain Strong number volume l r = drained l.log number volume l r
+drain Weak number volume l r = drained l.log number volume l r
+drain Down number volume l r = stays LinkDown
 
 -- ---- what a line does
 
--- the client answers
-pub record ByClient (s : CellState) (ask : Option Nodes → ClientState → Answer) (reply : Reply) (events : List Event) : Type 0 where
+-- a client answers
+pub record ByClient (s : CellState) (number volume : ℕ) (ask : Option Nodes → ClientState → Answer) (reply : Reply) (events : List Event) : Type 0 where
   pub client : ClientState
-  pub there : s.client ≡ Some client
-  pub answered : reply ≡ (ask (offers_of s) client).reply
-  pub happened : events ≡ map AtClient (ask (offers_of s) client).entries
+  pub there : s.clients number ≡ Some client
+  pub answered : reply ≡ (ask (offers_of s number volume) client).reply
+  pub happened : events ≡ map (AtClient number) (ask (offers_of s number volume) client).entries
 
--- the client and the replica act together
-pub record ByBoth (s : CellState) (act : ClientState → ReplicaState → Outcome) (reply : Reply) (events : List Event) : Type 0 where
+-- a client and the replica of a volume act together
+pub record ByBoth (s : CellState) (number volume : ℕ) (reply : Reply) (events : List Event) : Type 0 where
   pub client : ClientState
   pub replica : ReplicaState
-  pub client_there : s.client ≡ Some client
-  pub replica_there : s.replica ≡ Some replica
-  pub answered : reply ≡ (act client replica).reply
-  pub happened : events ≡ (act client replica).events
+  pub client_there : s.clients number ≡ Some client
+  pub replica_there : s.replicas volume ≡ Some replica
+  pub answered : reply ≡ (drain (s.links number replica.server) number volume (client.logs volume) replica).reply
+  pub happened : events ≡ (drain (s.links number replica.server) number volume (client.logs volume) replica).events
 
--- In a state, a line that the cell takes has this reply, and this happens.
+-- the bytes of content: a text as it is, or one byte so many times
+abbrev pub bytes_of : Content → List ℕ
+bytes_of (content.Text text) = text
+bytes_of (content.Fill length byte) = repeat length byte
+
+-- a client is asked for an operation
+abbrev pub Operates : CellState → ℕ → ℕ → Ask → Reply → List Event → Type 0
+Operates s client volume ask = ByClient s client volume (λ offers c. operate offers c s.clock volume ask)
+
+-- what a task does; a new file has mode 0644 and a new directory mode 0755 where no other is given, and the owner is then 0
+abbrev pub DoesTask : CellState → Task → Reply → List Event → Type 0
+DoesTask s (task.Create client volume path mode owner) = Operates s client volume (Create path (unwrap_or mode 420) (unwrap_or owner 0))
+DoesTask s (task.Mkdir client volume path mode owner) = Operates s client volume (Mkdir path (unwrap_or mode 493) (unwrap_or owner 0))
+DoesTask s (task.Symlink client volume path target) = Operates s client volume (Symlink path target)
+DoesTask s (task.Store client volume path content) = Operates s client volume (Store path (bytes_of content))
+DoesTask s (task.Setattr client volume path attrs) = Operates s client volume (Setattr path attrs)
+DoesTask s (task.Remove client volume path) = Operates s client volume (Remove path)
+DoesTask s (task.Rmdir client volume path) = Operates s client volume (Rmdir path)
+DoesTask s (task.Rename client volume from to) = Operates s client volume (Rename from to)
+DoesTask s (task.Read client volume path) = ByClient s client volume (λ offers c. read offers c volume path)
+DoesTask s (task.List client volume path) = ByClient s client volume (λ offers c. list offers c volume path)
+DoesTask s (task.Drain client volume server window) = ByBoth s client volume
+DoesTask s _ = λ reply events. ⊥
+
+-- a reply, and one thing that happens
+abbrev pub Happens : Reply → Event → Reply → List Event → Type 0
+Happens said event reply events = (reply ≡ said) × (events ≡ event ∷ [])
+
+-- the server of a volume that is on one alone
+abbrev pub alone : List ℕ → ℕ
+alone [] = 0
+alone (server ∷ servers) = server
+
+-- what a line does where it has no refusal before its own
+abbrev pub DoesOwn : CellState → Line → Reply → List Event → Type 0
+DoesOwn s (line.Volume volume servers area) = Happens (Opened (0 ∷ [])) (VolumeMade volume (alone servers))
+DoesOwn s (line.Client client blocks area) = Happens (Opened (0 ∷ [])) (ClientMade client blocks)
+DoesOwn s (line.Link client server strength) = Happens Accepted (LinkSet client server strength)
+DoesOwn s (line.Tick seconds) = Happens Accepted (Ticked seconds)
+DoesOwn s (line.Task t) = DoesTask s t
+DoesOwn s (line.ShowVolume server volume) = λ reply events. (reply ≡ ShowVolume server volume) × (events ≡ [])
+DoesOwn s _ = λ reply events. ⊥
+
+-- a refusal that a line has before its own, by which nothing happens
+abbrev pub DoesUnless : Option Refused → CellState → Line → Reply → List Event → Type 0
+DoesUnless (Some why) s l reply events = (reply ≡ refusal why) × (events ≡ [])
+DoesUnless None s l reply events = DoesOwn s l reply events
+
+-- In a state, a line that is built has this reply, and this happens.
 abbrev pub Does : CellState → Line → Reply → List Event → Type 0
-Does s (Volume volume server) reply events = (reply ≡ Opened) × (events ≡ VolumeMade volume server ∷ [])
-Does s (Client client blocks) reply events = (reply ≡ Opened) × (events ≡ ClientMade client blocks ∷ [])
-Does s (Link client server link) reply events = (reply ≡ Accepted) × (events ≡ LinkSet link ∷ [])
-Does s (Listing client volume) reply events = ByClient s (λ offers c. list_root offers c volume) reply events
-Does s (Operation client volume ask) reply events = ByClient s (λ offers c. create offers c volume ask) reply events
-Does s (Drain client volume server) reply events = ByBoth s (drain s.link) reply events
-Does s (Show server volume) reply events = (reply ≡ Shown server volume) × (events ≡ [])
+Does s l = DoesUnless (common_refusal s l) s l

@@ -16,9 +16,9 @@ use Rattle.coda_certify.specs.Texts.{reason_text}
 use Rattle.coda_main.specs.Printing.{printed, text_of_content, mode_text}
 use Rattle.coda_main.specs.State.{CellState, ReplicaState}
 use Rattle.coda_main.specs.declared.reply.Refusal.{Refusal}
-use Rattle.coda_main.specs.declared.reply.Refusal.TheVariants.{NotFound, NotDir, Nothing, JournalFull, Exists, Miss, LinkDown}
+use Rattle.coda_main.specs.declared.reply.Refusal.TheVariants.{NotFound, NotDir, Nothing, JournalFull, Exists, IsDir, NotEmpty, Loop, Miss, TooBig, LinkDown, NotFile}
 use Rattle.coda_main.specs.declared.reply.Reply.{Reply}
-use Rattle.coda_main.specs.declared.reply.Reply.TheVariants.{Opened, Accepted, Done, Listed, Chunk, Shown, Refused}
+use Rattle.coda_main.specs.declared.reply.Reply.TheVariants.{Opened, Accepted, Done, Content, Target, Listed, Chunk, Shown, Refused}
 
 -- a newline behind a text
 abbrev pub line : List ℕ → List ℕ
@@ -104,8 +104,13 @@ refusal_text NotDir = codes "4 not-dir"
 refusal_text Nothing = codes "6 nothing"
 refusal_text JournalFull = codes "13 journal-full"
 refusal_text Exists = codes "18 exists"
+refusal_text IsDir = codes "19 is-dir"
+refusal_text NotEmpty = codes "20 not-empty"
+refusal_text Loop = codes "21 loop"
 refusal_text (Miss fid) = codes "22 miss " ++ fid_text fid
+refusal_text (TooBig length) = codes "25 too-big " ++ decimal length
 refusal_text LinkDown = codes "31 link-down"
+refusal_text NotFile = codes "44 not-file"
 
 -- the volume of a replica
 abbrev pub shown_of : Option ReplicaState → List ℕ
@@ -117,6 +122,8 @@ abbrev pub text_of : CellState → Reply → List ℕ
 text_of s Opened = line (codes "opened 0")
 text_of s Accepted = line (codes "ok")
 text_of s (Done number fid) = line (codes "done " ++ decimal number ++ 32 ∷ fid_text fid)
+text_of s (Content fetched length front) = line (source_text fetched ++ decimal length ++ 32 ∷ text_of_content front)
+text_of s (Target fetched target) = line (source_text fetched ++ codes "link " ++ text_of_content target)
 text_of s (Listed fetched entries) = listing_text fetched entries
 text_of s (Chunk number verdict) = line (codes "chunk " ++ decimal number ++ 32 ∷ verdict_text verdict)
 text_of s (Shown server volume) = shown_of s.replica

@@ -9,7 +9,7 @@ use crate::client::Client;
 use crate::line::{Ask, Line, Link};
 use crate::reply::{Refusal, Reply};
 use coda_certify::{Verdict, replay};
-use coda_fid::Record;
+use coda_fid::{Path, Record};
 use coda_tree::Volume;
 use std::alloc::{AllocError, Global};
 
@@ -27,6 +27,8 @@ pub struct Replica {
 #[derive(Drop)]
 pub struct Cell {
     pub alloc: Global,
+    /// The seconds that have passed.
+    pub clock: u64,
     pub replica: Option<Replica>,
     pub client: Option<Client>,
     pub link: Link,
@@ -112,6 +114,7 @@ impl Cell {
     {
         Cell {
             alloc,
+            clock: 0,
             replica: None,
             client: None,
             link: Link::Down,
@@ -153,7 +156,9 @@ impl Cell {
             Line::Volume { .. } => self.replica.is_none(),
             Line::Client { .. } => self.client.is_none(),
             Line::Link { client, server, .. } => self.is_client(*client) && self.is_server(*server),
-            Line::List { client, volume } => self.is_client(*client) && self.is_volume(*volume),
+            Line::Tick { .. } => true,
+            Line::Read { client, volume, .. } => self.is_client(*client) && self.is_volume(*volume),
+            Line::List { client, volume, .. } => self.is_client(*client) && self.is_volume(*volume),
             Line::Operation { client, volume, .. } => {
                 self.is_client(*client) && self.is_volume(*volume)
             }
@@ -188,24 +193,42 @@ impl Cell {
         Reply::Accepted
     }
 
-    fn list(&mut self, volume: u32) -> Result<Reply, AllocError>
+    fn tick(&mut self, seconds: u64) -> Reply
+        ensures { Runs (cell_state self.old) (Line.Tick seconds) result (cell_state self.new) }
+    {
+        self.clock = self.clock.saturating_add(seconds);
+        Reply::Accepted
+    }
+
+    fn read(&mut self, volume: u32, path: &Path) -> Result<Reply, AllocError>
         requires { IsSome self.old.client }
-        ensures { IfOk result (λ reply. (client : ℕ) → Runs (cell_state self.old) (Line.List client volume) reply (cell_state self.new)) }
+        ensures { IfOk result (λ reply. (client : ℕ) → Runs (cell_state self.old) (Line.Read client volume path.now) reply (cell_state self.new)) }
     {
         let offers = offers(self.link, &self.replica);
         match &mut self.client {
-            Some(client) => client.list(offers, volume),
+            Some(client) => client.read(self.alloc, offers, volume, path),
             None => Ok(Reply::Accepted),
         }
     }
 
-    fn create(&mut self, volume: u32, ask: &Ask) -> Result<Reply, AllocError>
+    fn list(&mut self, volume: u32, path: &Path) -> Result<Reply, AllocError>
+        requires { IsSome self.old.client }
+        ensures { IfOk result (λ reply. (client : ℕ) → Runs (cell_state self.old) (Line.List client volume path.now) reply (cell_state self.new)) }
+    {
+        let offers = offers(self.link, &self.replica);
+        match &mut self.client {
+            Some(client) => client.list(self.alloc, offers, volume, path),
+            None => Ok(Reply::Accepted),
+        }
+    }
+
+    fn operate(&mut self, volume: u32, ask: &Ask) -> Result<Reply, AllocError>
         requires { IsSome self.old.client }
         ensures { IfOk result (λ reply. (client : ℕ) → Runs (cell_state self.old) (Line.Operation client volume ask.now) reply (cell_state self.new)) }
     {
         let offers = offers(self.link, &self.replica);
         match &mut self.client {
-            Some(client) => client.create(self.alloc, offers, volume, ask),
+            Some(client) => client.operate(self.alloc, offers, self.clock, volume, ask),
             None => Ok(Reply::Accepted),
         }
     }
@@ -233,8 +256,10 @@ impl Cell {
             Line::Volume { volume, server } => self.make_volume(*volume, *server),
             Line::Client { client, blocks } => Ok(self.make_client(*client, *blocks)),
             Line::Link { link, .. } => Ok(self.set_link(*link)),
-            Line::List { volume, .. } => self.list(*volume),
-            Line::Operation { volume, ask, .. } => self.create(*volume, ask),
+            Line::Tick { seconds } => Ok(self.tick(*seconds)),
+            Line::Operation { volume, ask, .. } => self.operate(*volume, ask),
+            Line::Read { volume, path, .. } => self.read(*volume, path),
+            Line::List { volume, path, .. } => self.list(*volume, path),
             Line::Drain { .. } => self.drain(),
             Line::Show { server, volume } => Ok(Reply::Shown {
                 server: *server,

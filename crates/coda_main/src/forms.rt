@@ -137,20 +137,6 @@ fn link_form(words: &[&[u8]]) -> Option<Line>
     })
 }
 
-fn list_form(words: &[&[u8]]) -> Option<Line>
-    ensures { result ≡ list_form (map (λ word. word.now) words.now) }
-{
-    let [keyword, client, volume, path] = words else {
-        return None;
-    };
-    if !are_words(keyword, b"list", path, b"/") {
-        return None;
-    }
-    let client = client_number(client)?;
-    let volume = volume_number(volume)?;
-    Some(Line::List { client, volume })
-}
-
 // The client, the volume and the path that three words name.
 fn place_in(
     alloc: Global,
@@ -180,6 +166,25 @@ fn four<'a>(words: &[&'a [u8]]) -> Option<(&'a [u8], &'a [u8], &'a [u8], &'a [u8
         return None;
     };
     Some((first, second, third, fourth))
+}
+
+fn list_form(alloc: Global, words: &[&[u8]]) -> Result<Option<Line>, AllocError>
+    ensures { IfOk result (λ found. found ≡ list_form (map (λ word. word.now) words.now)) }
+{
+    let Some((keyword, client, volume, path)) = four(words) else {
+        return Ok(None);
+    };
+    if !is_word(keyword, b"list") {
+        return Ok(None);
+    }
+    match place_in(alloc, client, volume, path)? {
+        Some((client, volume, path)) => Ok(Some(Line::List {
+            client,
+            volume,
+            path,
+        })),
+        None => Ok(None),
+    }
 }
 
 fn create_form(alloc: Global, words: &[&[u8]]) -> Result<Option<Line>, AllocError>
@@ -288,7 +293,6 @@ fn plain_form(words: &[&[u8]]) -> Option<Line>
     volume_form(words)
         .or_else(|| client_form(words))
         .or_else(|| link_form(words))
-        .or_else(|| list_form(words))
         .or_else(|| drain_form(words))
         .or_else(|| show_form(words))
 }
@@ -298,6 +302,9 @@ fn form_of(alloc: Global, words: &[&[u8]]) -> Result<Option<Line>, AllocError>
     ensures { IfOk result (λ found. found ≡ form_of (map (λ word. word.now) words.now)) }
 {
     if let Some(line) = plain_form(words) {
+        return Ok(Some(line));
+    }
+    if let Some(line) = list_form(alloc, words)? {
         return Ok(Some(line));
     }
     if let Some(line) = create_form(alloc, words)? {

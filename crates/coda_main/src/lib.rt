@@ -1,6 +1,7 @@
 //! A Coda cell in one process, and the call that runs a script in it.
 #![tactic(auto)]
 
+mod accepting;
 mod cell;
 mod client;
 mod forms;

@@ -3,7 +3,8 @@ ghost use Rattle.std.specs.Prelude.{◌≡◌, ◌∷◌, [], ◌++◌, IfOk, On
 ghost use Rattle.std.specs.Fmt.{decimal};
 ghost use Rattle.std.specs.List.{flat_map};
 ghost use Rattle.std.specs.FinMap as map;
-ghost use Rattle.coda_main.specs.Texts.{line, kind_text, content_text, mark_text, shown_path, attributes_text, object_line, object_lines, volume_line, volume_text, entry_line, listing_text, verdict_text, refusal_text, shown_of, text_of};
+ghost use Rattle.coda_main.specs.Texts.{line, kind_text, content_text, mark_text, shown_path, attributes_text, object_line, object_lines, volume_line, volume_text, entry_line, source_text, listing_text, verdict_text, refusal_text, shown_of, text_of};
+ghost use Rattle.coda_main.specs.Printing.{text_of_content};
 ghost use Rattle.coda_main.specs.Lines.{object_head, bound_lines, entry_text};
 ghost use Rattle.coda_main.specs.Cells.{cell_state, replica_state};
 
@@ -208,6 +209,37 @@ fn put_listing(out: &mut String, fetched: bool, entries: &Entries) -> Result<(),
     put_entries(out, entries)
 }
 
+// Puts whether an object was fetched in this line or held before.
+fn put_source(out: &mut String, fetched: bool) -> Result<(), AllocError>
+    ensures { OnOk result (string_bytes out.new ≡ string_bytes out.old ++ source_text fetched) }
+{
+    if fetched {
+        out.push_str("fetched ")
+    } else {
+        out.push_str("cached ")
+    }
+}
+
+// Puts the length of a file's content and what is shown of it.
+fn put_file(out: &mut String, fetched: bool, length: u64, front: &[u8]) -> Result<(), AllocError>
+    ensures { OnOk result (string_bytes out.new ≡ string_bytes out.old ++ line (source_text fetched ++ decimal length ++ 32 ∷ text_of_content front.now)) }
+{
+    put_source(out, fetched)?;
+    write!(out, "{length} ")?;
+    put_content(out, front)?;
+    put_byte(out, b'\n')
+}
+
+// Puts the target of a link.
+fn put_target(out: &mut String, fetched: bool, target: &[u8]) -> Result<(), AllocError>
+    ensures { OnOk result (string_bytes out.new ≡ string_bytes out.old ++ line (source_text fetched ++ codes "link " ++ text_of_content target.now)) }
+{
+    put_source(out, fetched)?;
+    out.push_str("link ")?;
+    put_content(out, target)?;
+    put_byte(out, b'\n')
+}
+
 // Puts what became of the chunk of a number.
 fn put_chunk(out: &mut String, number: u64, verdict: Verdict) -> Result<(), AllocError>
     ensures { OnOk result (string_bytes out.new ≡ string_bytes out.old ++ line (codes "chunk " ++ decimal number ++ 32 ∷ verdict_text verdict)) }
@@ -230,8 +262,13 @@ fn put_refusal(out: &mut String, refusal: Refusal) -> Result<(), AllocError>
         Refusal::Nothing => out.push_str("6 nothing"),
         Refusal::JournalFull => out.push_str("13 journal-full"),
         Refusal::Exists => out.push_str("18 exists"),
+        Refusal::IsDir => out.push_str("19 is-dir"),
+        Refusal::NotEmpty => out.push_str("20 not-empty"),
+        Refusal::Loop => out.push_str("21 loop"),
         Refusal::Miss(fid) => write!(out, "22 miss {fid}"),
+        Refusal::TooBig(length) => write!(out, "25 too-big {length}"),
         Refusal::LinkDown => out.push_str("31 link-down"),
+        Refusal::NotFile => out.push_str("44 not-file"),
     }
 }
 
@@ -259,6 +296,12 @@ fn put_reply(out: &mut String, cell: &Cell, reply: &Reply) -> Result<(), AllocEr
         Reply::Opened => out.push_str("opened 0\n"),
         Reply::Accepted => out.push_str("ok\n"),
         Reply::Done { number, fid } => writeln!(out, "done {number} {fid}"),
+        Reply::Content {
+            fetched,
+            length,
+            front,
+        } => put_file(out, *fetched, *length, front.bytes()),
+        Reply::Target { fetched, target } => put_target(out, *fetched, target.bytes()),
         Reply::Listed { fetched, entries } => put_listing(out, *fetched, entries),
         Reply::Chunk { number, verdict } => put_chunk(out, *number, *verdict),
         Reply::Shown { .. } => put_shown(out, cell),

@@ -1,0 +1,13 @@
+pub mod Binding
+pub mod ServerLists
+pub mod ServerSteps
+pub mod TurnSteps
+pub mod LineBytes
+pub mod AnyForm
+pub mod Avoiding
+pub mod Possible
+pub mod Clear
+pub mod Tabled
+pub mod InRanges
+pub mod WholeLines
+pub mod EveryLine

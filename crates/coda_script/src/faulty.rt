@@ -1,0 +1,488 @@
+// Lines of a script, with their first wrong column: each form with each of its parts missing or wrong, and a word too many.
+use coda_engine::Kind;
+
+/// A line, its first wrong column, and what is wrong there.
+pub type Faulty = (&'static [u8], u32, Kind);
+
+/// Lines that create and make directories.
+#[rattlefmt::skip]
+pub fn creations() -> &'static [Faulty] {
+    &[
+        (b"create", 7, Kind::Count),
+        (b"create 0", 8, Kind::Number),
+        (b"create 256", 8, Kind::Number),
+        (b"create 3", 9, Kind::Count),
+        (b"create 3 0", 10, Kind::Number),
+        (b"create 3 4294967296", 10, Kind::Number),
+        (b"create 3 4294967295", 20, Kind::Count),
+        (b"create 3 4294967295 a", 21, Kind::Path),
+        (b"create 3 4294967295 /d/f3 zz", 27, Kind::Word),
+        (b"create 3 4294967295 /d/f3 mode", 31, Kind::Count),
+        (b"create 3 4294967295 /d/f3 mode 10000", 32, Kind::Number),
+        (b"create 3 4294967295 /d/f3 mode 8", 32, Kind::Number),
+        (b"create 3 4294967295 /d/f3 mode 0640 zz", 37, Kind::Word),
+        (b"create 3 4294967295 /d/f3 mode 0640 owner", 42, Kind::Count),
+        (b"create 3 4294967295 /d/f3 mode 0640 owner 4294967296", 43, Kind::Number),
+        (b"create 3 4294967295 /d/f3 mode 0640 owner 4294967295 x", 54, Kind::Count),
+        (b"mkdir", 6, Kind::Count),
+        (b"mkdir 0", 7, Kind::Number),
+        (b"mkdir 256", 7, Kind::Number),
+        (b"mkdir 255", 10, Kind::Count),
+        (b"mkdir 255 0", 11, Kind::Number),
+        (b"mkdir 255 4294967296", 11, Kind::Number),
+        (b"mkdir 255 7", 12, Kind::Count),
+        (b"mkdir 255 7 a", 13, Kind::Path),
+        (b"mkdir 255 7 \"/a b4\" zz", 21, Kind::Word),
+        (b"mkdir 255 7 \"/a b4\" mode", 25, Kind::Count),
+        (b"mkdir 255 7 \"/a b4\" mode 10000", 26, Kind::Number),
+        (b"mkdir 255 7 \"/a b4\" mode 8", 26, Kind::Number),
+        (b"mkdir 255 7 \"/a b4\" mode 7777 zz", 31, Kind::Word),
+        (b"mkdir 255 7 \"/a b4\" mode 7777 owner", 36, Kind::Count),
+        (b"mkdir 255 7 \"/a b4\" mode 7777 owner 4294967296", 37, Kind::Number),
+        (b"mkdir 255 7 \"/a b4\" mode 7777 owner 0 x", 39, Kind::Count),
+    ]
+}
+
+/// Lines that make links and store.
+#[rattlefmt::skip]
+pub fn symlinks_and_stores() -> &'static [Faulty] {
+    &[
+        (b"symlink", 8, Kind::Count),
+        (b"symlink 0", 9, Kind::Number),
+        (b"symlink 256", 9, Kind::Number),
+        (b"symlink 3", 10, Kind::Count),
+        (b"symlink 3 0", 11, Kind::Number),
+        (b"symlink 3 4294967296", 11, Kind::Number),
+        (b"symlink 3 4294967295", 21, Kind::Count),
+        (b"symlink 3 4294967295 a", 22, Kind::Path),
+        (b"symlink 3 4294967295 /d/f5", 27, Kind::Count),
+        (b"symlink 3 4294967295 /d/f5 bare", 28, Kind::Text),
+        (b"symlink 3 4294967295 /d/f5 \"\"", 28, Kind::Text),
+        (b"symlink 3 4294967295 /d/f5 \"t u\" x", 34, Kind::Count),
+        (b"store", 6, Kind::Count),
+        (b"store 0", 7, Kind::Number),
+        (b"store 256", 7, Kind::Number),
+        (b"store 255", 10, Kind::Count),
+        (b"store 255 0", 11, Kind::Number),
+        (b"store 255 4294967296", 11, Kind::Number),
+        (b"store 255 7", 12, Kind::Count),
+        (b"store 255 7 a", 13, Kind::Path),
+        (b"store 255 7 \"/a b6\"", 20, Kind::Count),
+        (b"store 255 7 \"/a b6\" x", 21, Kind::Word),
+        (b"store 255 7 \"/a b6\" text", 25, Kind::Count),
+        (b"store 255 7 \"/a b6\" text bare", 26, Kind::Text),
+        (b"store 255 7 \"/a b6\" text \"t u\" x", 32, Kind::Count),
+        (b"store 3", 8, Kind::Count),
+        (b"store 3 0", 9, Kind::Number),
+        (b"store 3 4294967296", 9, Kind::Number),
+        (b"store 3 4294967295", 19, Kind::Count),
+        (b"store 3 4294967295 a", 20, Kind::Path),
+        (b"store 3 4294967295 /d/f7", 25, Kind::Count),
+        (b"store 3 4294967295 /d/f7 x", 26, Kind::Word),
+        (b"store 3 4294967295 /d/f7 fill", 30, Kind::Count),
+        (b"store 3 4294967295 /d/f7 fill 2000001", 31, Kind::Number),
+        (b"store 3 4294967295 /d/f7 fill 2000000", 38, Kind::Count),
+        (b"store 3 4294967295 /d/f7 fill 2000000 256", 39, Kind::Number),
+        (b"store 3 4294967295 /d/f7 fill 2000000 0 x", 41, Kind::Count),
+    ]
+}
+
+/// Lines that set attributes.
+#[rattlefmt::skip]
+pub fn attributes() -> &'static [Faulty] {
+    &[
+        (b"setattr", 8, Kind::Count),
+        (b"setattr 0", 9, Kind::Number),
+        (b"setattr 256", 9, Kind::Number),
+        (b"setattr 255", 12, Kind::Count),
+        (b"setattr 255 0", 13, Kind::Number),
+        (b"setattr 255 4294967296", 13, Kind::Number),
+        (b"setattr 255 7", 14, Kind::Count),
+        (b"setattr 255 7 a", 15, Kind::Path),
+        (b"setattr 255 7 \"/a b8\"", 22, Kind::Count),
+        (b"setattr 255 7 \"/a b8\" x", 23, Kind::Word),
+        (b"setattr 255 7 \"/a b8\" mode", 27, Kind::Count),
+        (b"setattr 255 7 \"/a b8\" mode 10000", 28, Kind::Number),
+        (b"setattr 255 7 \"/a b8\" mode 8", 28, Kind::Number),
+        (b"setattr 255 7 \"/a b8\" mode 0640 zz", 33, Kind::Word),
+        (b"setattr 255 7 \"/a b8\" mode 0640 owner", 38, Kind::Count),
+        (b"setattr 255 7 \"/a b8\" mode 0640 owner 4294967296", 39, Kind::Number),
+        (b"setattr 255 7 \"/a b8\" mode 0640 owner 4294967295 zz", 50, Kind::Word),
+        (b"setattr 255 7 \"/a b8\" mode 0640 owner 4294967295 mtime", 55, Kind::Count),
+        (b"setattr 255 7 \"/a b8\" mode 0640 owner 4294967295 mtime 18446744073709551616", 56, Kind::Number),
+        (b"setattr 255 7 \"/a b8\" mode 0640 owner 4294967295 mtime 0 x", 58, Kind::Count),
+        (b"setattr 3", 10, Kind::Count),
+        (b"setattr 3 0", 11, Kind::Number),
+        (b"setattr 3 4294967296", 11, Kind::Number),
+        (b"setattr 3 4294967295", 21, Kind::Count),
+        (b"setattr 3 4294967295 a", 22, Kind::Path),
+        (b"setattr 3 4294967295 /d/f9", 27, Kind::Count),
+        (b"setattr 3 4294967295 /d/f9 x", 28, Kind::Word),
+        (b"setattr 3 4294967295 /d/f9 owner", 33, Kind::Count),
+        (b"setattr 3 4294967295 /d/f9 owner 4294967296", 34, Kind::Number),
+        (b"setattr 3 4294967295 /d/f9 owner 4294967295 zz", 45, Kind::Word),
+        (b"setattr 3 4294967295 /d/f9 owner 4294967295 mtime", 50, Kind::Count),
+        (b"setattr 3 4294967295 /d/f9 owner 4294967295 mtime 18446744073709551616", 51, Kind::Number),
+        (b"setattr 3 4294967295 /d/f9 owner 4294967295 mtime 0 x", 53, Kind::Count),
+        (b"setattr 255 7 \"/a b10\"", 23, Kind::Count),
+        (b"setattr 255 7 \"/a b10\" x", 24, Kind::Word),
+        (b"setattr 255 7 \"/a b10\" mtime", 29, Kind::Count),
+        (b"setattr 255 7 \"/a b10\" mtime 18446744073709551616", 30, Kind::Number),
+        (b"setattr 255 7 \"/a b10\" mtime 0 x", 32, Kind::Count),
+    ]
+}
+
+/// Lines that remove.
+#[rattlefmt::skip]
+pub fn removals() -> &'static [Faulty] {
+    &[
+        (b"remove", 7, Kind::Count),
+        (b"remove 0", 8, Kind::Number),
+        (b"remove 256", 8, Kind::Number),
+        (b"remove 3", 9, Kind::Count),
+        (b"remove 3 0", 10, Kind::Number),
+        (b"remove 3 4294967296", 10, Kind::Number),
+        (b"remove 3 4294967295", 20, Kind::Count),
+        (b"remove 3 4294967295 a", 21, Kind::Path),
+        (b"remove 3 4294967295 /d/f11 x", 28, Kind::Count),
+        (b"rmdir", 6, Kind::Count),
+        (b"rmdir 0", 7, Kind::Number),
+        (b"rmdir 256", 7, Kind::Number),
+        (b"rmdir 255", 10, Kind::Count),
+        (b"rmdir 255 0", 11, Kind::Number),
+        (b"rmdir 255 4294967296", 11, Kind::Number),
+        (b"rmdir 255 7", 12, Kind::Count),
+        (b"rmdir 255 7 a", 13, Kind::Path),
+        (b"rmdir 255 7 \"/a b12\" x", 22, Kind::Count),
+    ]
+}
+
+/// Lines that rename.
+#[rattlefmt::skip]
+pub fn renames() -> &'static [Faulty] {
+    &[
+        (b"rename", 7, Kind::Count),
+        (b"rename 0", 8, Kind::Number),
+        (b"rename 256", 8, Kind::Number),
+        (b"rename 3", 9, Kind::Count),
+        (b"rename 3 0", 10, Kind::Number),
+        (b"rename 3 4294967296", 10, Kind::Number),
+        (b"rename 3 4294967295", 20, Kind::Count),
+        (b"rename 3 4294967295 a", 21, Kind::Path),
+        (b"rename 3 4294967295 /d/f13", 27, Kind::Count),
+        (b"rename 3 4294967295 /d/f13 a", 28, Kind::Path),
+        (b"rename 3 4294967295 /d/f13 \"/a b14\" x", 37, Kind::Count),
+    ]
+}
+
+/// Lines that read and list.
+#[rattlefmt::skip]
+pub fn looks() -> &'static [Faulty] {
+    &[
+        (b"read", 5, Kind::Count),
+        (b"read 0", 6, Kind::Number),
+        (b"read 256", 6, Kind::Number),
+        (b"read 255", 9, Kind::Count),
+        (b"read 255 0", 10, Kind::Number),
+        (b"read 255 4294967296", 10, Kind::Number),
+        (b"read 255 7", 11, Kind::Count),
+        (b"read 255 7 a", 12, Kind::Path),
+        (b"read 255 7 \"/a b14\" x", 21, Kind::Count),
+        (b"list", 5, Kind::Count),
+        (b"list 0", 6, Kind::Number),
+        (b"list 256", 6, Kind::Number),
+        (b"list 3", 7, Kind::Count),
+        (b"list 3 0", 8, Kind::Number),
+        (b"list 3 4294967296", 8, Kind::Number),
+        (b"list 3 4294967295", 18, Kind::Count),
+        (b"list 3 4294967295 a", 19, Kind::Path),
+        (b"list 3 4294967295 /d/f15 x", 26, Kind::Count),
+    ]
+}
+
+/// Lines that send, or give up.
+#[rattlefmt::skip]
+pub fn sends() -> &'static [Faulty] {
+    &[
+        (b"drain", 6, Kind::Count),
+        (b"drain 0", 7, Kind::Number),
+        (b"drain 256", 7, Kind::Number),
+        (b"drain 255", 10, Kind::Count),
+        (b"drain 255 0", 11, Kind::Number),
+        (b"drain 255 4294967296", 11, Kind::Number),
+        (b"drain 255 7", 12, Kind::Count),
+        (b"drain 255 7 0", 13, Kind::Number),
+        (b"drain 255 7 9", 13, Kind::Number),
+        (b"drain 255 7 1 zz", 15, Kind::Word),
+        (b"drain 255 7 1 window", 21, Kind::Count),
+        (b"drain 255 7 1 window 18446744073709551616", 22, Kind::Number),
+        (b"drain 255 7 1 window 18446744073709551615 x", 43, Kind::Count),
+        (b"refresh", 8, Kind::Count),
+        (b"refresh 0", 9, Kind::Number),
+        (b"refresh 256", 9, Kind::Number),
+        (b"refresh 3", 10, Kind::Count),
+        (b"refresh 3 0", 11, Kind::Number),
+        (b"refresh 3 4294967296", 11, Kind::Number),
+        (b"refresh 3 4294967295", 21, Kind::Count),
+        (b"refresh 3 4294967295 0", 22, Kind::Number),
+        (b"refresh 3 4294967295 9", 22, Kind::Number),
+        (b"refresh 3 4294967295 8 x", 24, Kind::Count),
+        (b"giveup", 7, Kind::Count),
+        (b"giveup 0", 8, Kind::Number),
+        (b"giveup 256", 8, Kind::Number),
+        (b"giveup 255", 11, Kind::Count),
+        (b"giveup 255 0", 12, Kind::Number),
+        (b"giveup 255 4294967296", 12, Kind::Number),
+        (b"giveup 255 7 x", 14, Kind::Count),
+        (b"send", 5, Kind::Count),
+        (b"send 0", 6, Kind::Number),
+        (b"send 256", 6, Kind::Number),
+        (b"send 255", 9, Kind::Count),
+        (b"send 255 0", 10, Kind::Number),
+        (b"send 255 4294967296", 10, Kind::Number),
+        (b"send 255 7", 11, Kind::Count),
+        (b"send 255 7 0", 12, Kind::Number),
+        (b"send 255 7 9", 12, Kind::Number),
+        (b"send 255 7 1 zz", 14, Kind::Word),
+        (b"send 255 7 1 window", 20, Kind::Count),
+        (b"send 255 7 1 window 18446744073709551616", 21, Kind::Number),
+        (b"send 255 7 1 window 18446744073709551615 x", 42, Kind::Count),
+    ]
+}
+
+/// Lines that make actors.
+#[rattlefmt::skip]
+pub fn volumes_and_clients() -> &'static [Faulty] {
+    &[
+        (b"volume", 7, Kind::Count),
+        (b"volume 0", 8, Kind::Number),
+        (b"volume 4294967296", 8, Kind::Number),
+        (b"volume 7", 9, Kind::Count),
+        (b"volume 7 x", 10, Kind::Word),
+        (b"volume 7 on", 12, Kind::Count),
+        (b"volume 7 on 9", 13, Kind::Number),
+        (b"volume 7 on 1 2 8 zz", 19, Kind::Word),
+        (b"volume 7 on 1 2 8 area", 23, Kind::Count),
+        (b"volume 7 on 1 2 8 area 0", 24, Kind::Number),
+        (b"volume 7 on 1 2 8 area 65", 24, Kind::Number),
+        (b"volume 7 on 1 2 8 area 1 x", 26, Kind::Count),
+        (b"client", 7, Kind::Count),
+        (b"client 0", 8, Kind::Number),
+        (b"client 256", 8, Kind::Number),
+        (b"client 255", 11, Kind::Count),
+        (b"client 255 x", 12, Kind::Word),
+        (b"client 255 cache", 17, Kind::Count),
+        (b"client 255 cache 0", 18, Kind::Number),
+        (b"client 255 cache 32769", 18, Kind::Number),
+        (b"client 255 cache 1 zz", 20, Kind::Word),
+        (b"client 255 cache 1 area", 24, Kind::Count),
+        (b"client 255 cache 1 area 0", 25, Kind::Number),
+        (b"client 255 cache 1 area 65", 25, Kind::Number),
+        (b"client 255 cache 1 area 64 x", 28, Kind::Count),
+    ]
+}
+
+/// Lines of links and the clock.
+#[rattlefmt::skip]
+pub fn links_and_ticks() -> &'static [Faulty] {
+    &[
+        (b"link", 5, Kind::Count),
+        (b"link 0", 6, Kind::Number),
+        (b"link 256", 6, Kind::Number),
+        (b"link 3", 7, Kind::Count),
+        (b"link 3 0", 8, Kind::Number),
+        (b"link 3 9", 8, Kind::Number),
+        (b"link 3 1", 9, Kind::Count),
+        (b"link 3 1 x", 10, Kind::Word),
+        (b"link 3 1 strong x", 17, Kind::Count),
+        (b"link 255", 9, Kind::Count),
+        (b"link 255 0", 10, Kind::Number),
+        (b"link 255 9", 10, Kind::Number),
+        (b"link 255 8", 11, Kind::Count),
+        (b"link 255 8 x", 12, Kind::Word),
+        (b"link 255 8 weak x", 17, Kind::Count),
+        (b"link 3 1 down x", 15, Kind::Count),
+        (b"tick", 5, Kind::Count),
+        (b"tick 1000000001", 6, Kind::Number),
+        (b"tick 0 x", 8, Kind::Count),
+    ]
+}
+
+/// Lines of hoarding.
+#[rattlefmt::skip]
+pub fn hoards() -> &'static [Faulty] {
+    &[
+        (b"hoard", 6, Kind::Count),
+        (b"hoard x", 7, Kind::Word),
+        (b"hoard add", 10, Kind::Count),
+        (b"hoard add 0", 11, Kind::Number),
+        (b"hoard add 256", 11, Kind::Number),
+        (b"hoard add 255", 14, Kind::Count),
+        (b"hoard add 255 0", 15, Kind::Number),
+        (b"hoard add 255 4294967296", 15, Kind::Number),
+        (b"hoard add 255 7", 16, Kind::Count),
+        (b"hoard add 255 7 a", 17, Kind::Path),
+        (b"hoard add 255 7 \"/a b26\"", 25, Kind::Count),
+        (b"hoard add 255 7 \"/a b26\" 0", 26, Kind::Number),
+        (b"hoard add 255 7 \"/a b26\" 1001", 26, Kind::Number),
+        (b"hoard add 3", 12, Kind::Count),
+        (b"hoard add 3 0", 13, Kind::Number),
+        (b"hoard add 3 4294967296", 13, Kind::Number),
+        (b"hoard add 3 4294967295", 23, Kind::Count),
+        (b"hoard add 3 4294967295 a", 24, Kind::Path),
+        (b"hoard add 3 4294967295 /d/f27", 30, Kind::Count),
+        (b"hoard add 3 4294967295 /d/f27 0", 31, Kind::Number),
+        (b"hoard add 3 4294967295 /d/f27 1001", 31, Kind::Number),
+        (b"hoard add 3 4294967295 /d/f27 1 childre", 33, Kind::Word),
+        (b"hoard add 3 4294967295 /d/f27 1 children x", 42, Kind::Count),
+        (b"hoard add 255 7 \"/a b28\"", 25, Kind::Count),
+        (b"hoard add 255 7 \"/a b28\" 0", 26, Kind::Number),
+        (b"hoard add 255 7 \"/a b28\" 1001", 26, Kind::Number),
+        (b"hoard add 255 7 \"/a b28\" 1000 childre", 31, Kind::Word),
+        (b"hoard add 255 7 \"/a b28\" 1000 descendants x", 43, Kind::Count),
+        (b"hoard remove", 13, Kind::Count),
+        (b"hoard remove 0", 14, Kind::Number),
+        (b"hoard remove 256", 14, Kind::Number),
+        (b"hoard remove 3", 15, Kind::Count),
+        (b"hoard remove 3 0", 16, Kind::Number),
+        (b"hoard remove 3 4294967296", 16, Kind::Number),
+        (b"hoard remove 3 4294967295", 26, Kind::Count),
+        (b"hoard remove 3 4294967295 a", 27, Kind::Path),
+        (b"hoard remove 3 4294967295 /d/f29 x", 34, Kind::Count),
+        (b"hoard clear", 12, Kind::Count),
+        (b"hoard clear 0", 13, Kind::Number),
+        (b"hoard clear 256", 13, Kind::Number),
+        (b"hoard clear 255 x", 17, Kind::Count),
+        (b"hoard list", 11, Kind::Count),
+        (b"hoard list 0", 12, Kind::Number),
+        (b"hoard list 256", 12, Kind::Number),
+        (b"hoard list 3 x", 14, Kind::Count),
+        (b"walk", 5, Kind::Count),
+        (b"walk 0", 6, Kind::Number),
+        (b"walk 256", 6, Kind::Number),
+        (b"walk 3", 7, Kind::Count),
+        (b"walk 3 0", 8, Kind::Number),
+        (b"walk 3 4294967296", 8, Kind::Number),
+        (b"walk 3 4294967295 x", 19, Kind::Count),
+        (b"hoard add 255 7 \"/a b26\" 1000 x", 31, Kind::Word),
+    ]
+}
+
+/// Lines of messages and callbacks.
+#[rattlefmt::skip]
+pub fn messages() -> &'static [Faulty] {
+    &[
+        (b"deliver", 8, Kind::Count),
+        (b"deliver 18446744073709551616", 9, Kind::Number),
+        (b"deliver 18446744073709551615 x", 30, Kind::Count),
+        (b"lose", 5, Kind::Count),
+        (b"lose 18446744073709551616", 6, Kind::Number),
+        (b"lose 0 x", 8, Kind::Count),
+        (b"breaks", 7, Kind::Count),
+        (b"breaks 0", 8, Kind::Number),
+        (b"breaks 9", 8, Kind::Number),
+        (b"breaks 8", 9, Kind::Count),
+        (b"breaks 8 0", 10, Kind::Number),
+        (b"breaks 8 4294967296", 10, Kind::Number),
+        (b"breaks 8 4294967295 x", 21, Kind::Count),
+    ]
+}
+
+/// Lines of crashes and disks.
+#[rattlefmt::skip]
+pub fn disks() -> &'static [Faulty] {
+    &[
+        (b"crash", 6, Kind::Count),
+        (b"crash x", 7, Kind::Word),
+        (b"crash client", 13, Kind::Count),
+        (b"crash client 0", 14, Kind::Number),
+        (b"crash client 256", 14, Kind::Number),
+        (b"crash client 3", 15, Kind::Count),
+        (b"crash client 3 18446744073709551616", 16, Kind::Number),
+        (b"crash client 3 0 x", 18, Kind::Count),
+        (b"crash replica", 14, Kind::Count),
+        (b"crash replica 0", 15, Kind::Number),
+        (b"crash replica 9", 15, Kind::Number),
+        (b"crash replica 1", 16, Kind::Count),
+        (b"crash replica 1 0", 17, Kind::Number),
+        (b"crash replica 1 4294967296", 17, Kind::Number),
+        (b"crash replica 1 7", 18, Kind::Count),
+        (b"crash replica 1 7 18446744073709551616", 19, Kind::Number),
+        (b"crash replica 1 7 0 x", 21, Kind::Count),
+        (b"recover", 8, Kind::Count),
+        (b"recover x", 9, Kind::Word),
+        (b"recover client", 15, Kind::Count),
+        (b"recover client 0", 16, Kind::Number),
+        (b"recover client 256", 16, Kind::Number),
+        (b"recover client 3 x", 18, Kind::Count),
+        (b"recover replica", 16, Kind::Count),
+        (b"recover replica 0", 17, Kind::Number),
+        (b"recover replica 9", 17, Kind::Number),
+        (b"recover replica 1", 18, Kind::Count),
+        (b"recover replica 1 0", 19, Kind::Number),
+        (b"recover replica 1 4294967296", 19, Kind::Number),
+        (b"recover replica 1 7 x", 21, Kind::Count),
+        (b"arm", 4, Kind::Count),
+        (b"arm x", 5, Kind::Word),
+        (b"arm client", 11, Kind::Count),
+        (b"arm client 0", 12, Kind::Number),
+        (b"arm client 256", 12, Kind::Number),
+        (b"arm client 3", 13, Kind::Count),
+        (b"arm client 3 18446744073709551616", 14, Kind::Number),
+        (b"arm client 3 0 x", 16, Kind::Count),
+        (b"arm replica", 12, Kind::Count),
+        (b"arm replica 0", 13, Kind::Number),
+        (b"arm replica 9", 13, Kind::Number),
+        (b"arm replica 1", 14, Kind::Count),
+        (b"arm replica 1 0", 15, Kind::Number),
+        (b"arm replica 1 4294967296", 15, Kind::Number),
+        (b"arm replica 1 7", 16, Kind::Count),
+        (b"arm replica 1 7 18446744073709551616", 17, Kind::Number),
+        (b"arm replica 1 7 0 x", 19, Kind::Count),
+    ]
+}
+
+/// Lines of replicas, and of what is shown.
+#[rattlefmt::skip]
+pub fn replicas() -> &'static [Faulty] {
+    &[
+        (b"resolve", 8, Kind::Count),
+        (b"resolve 0", 9, Kind::Number),
+        (b"resolve 4294967296", 9, Kind::Number),
+        (b"resolve 4294967295", 19, Kind::Count),
+        (b"resolve 4294967295 9", 20, Kind::Number),
+        (b"resolve 4294967295 1 8 x", 24, Kind::Number),
+        (b"repair", 7, Kind::Count),
+        (b"repair 0", 8, Kind::Number),
+        (b"repair 4294967296", 8, Kind::Number),
+        (b"repair 7", 9, Kind::Count),
+        (b"repair 7 0", 10, Kind::Number),
+        (b"repair 7 9", 10, Kind::Number),
+        (b"repair 7 1", 11, Kind::Count),
+        (b"repair 7 1 a", 12, Kind::Path),
+        (b"repair 7 1 /d/f43 x", 19, Kind::Count),
+        (b"show", 5, Kind::Count),
+        (b"show x", 6, Kind::Word),
+        (b"show volume", 12, Kind::Count),
+        (b"show volume 0", 13, Kind::Number),
+        (b"show volume 9", 13, Kind::Number),
+        (b"show volume 8", 14, Kind::Count),
+        (b"show volume 8 0", 15, Kind::Number),
+        (b"show volume 8 4294967296", 15, Kind::Number),
+        (b"show volume 8 4294967295 x", 26, Kind::Count),
+        (b"show log", 9, Kind::Count),
+        (b"show log 0", 10, Kind::Number),
+        (b"show log 256", 10, Kind::Number),
+        (b"show log 255", 13, Kind::Count),
+        (b"show log 255 0", 14, Kind::Number),
+        (b"show log 255 4294967296", 14, Kind::Number),
+        (b"show log 255 7 x", 16, Kind::Count),
+        (b"show state", 11, Kind::Count),
+        (b"show state 0", 12, Kind::Number),
+        (b"show state 256", 12, Kind::Number),
+        (b"show state 3", 13, Kind::Count),
+        (b"show state 3 0", 14, Kind::Number),
+        (b"show state 3 4294967296", 14, Kind::Number),
+        (b"show state 3 4294967295 x", 25, Kind::Count),
+    ]
+}

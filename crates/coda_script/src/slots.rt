@@ -1,0 +1,198 @@
+// One word of a line.
+ghost use Rattle.std.specs.Prelude.{◌≡◌, ◌≤◌, ◌<◌, ◌+◌, IfOk, IfSome, option_and_then, if◌then◌else◌};
+ghost use Rattle.coda_engine.specs.declared.status.Kind.TheVariants as kinds;
+ghost use Rattle.coda_text.specs.Words.{rest_of};
+ghost use Rattle.coda_script.specs.Slots.{within, between, octal, any, sized, number_in, path_of, path_in, text_in, is_word};
+ghost use Rattle.coda_script.specs.Reading.{slot_at, is_next, wrong_at, end_at, read};
+ghost use Rattle.coda_script.specs.Form.{nothing};
+ghost use Rattle.coda_script.specs.Outcome.{Gives};
+
+use crate::{Line, LineFault};
+use coda_engine::Kind;
+use coda_fid::{Bytes, NameFault, Path};
+use coda_text::{Cursor, Head, is_quoted, unquote};
+use std::alloc::{AllocError, Global};
+
+// The fault at a byte of the line, counted from 0.
+fn fault(at: usize, kind: Kind) -> LineFault
+    requires { at < 4294967295 }
+    ensures { result ≡ LineFault.BadLine (at + 1) kind }
+{
+    LineFault::BadLine {
+        column: at as u32 + 1,
+        kind,
+    }
+}
+
+// The number, where it lies in the range.
+fn within(number: Option<u64>, low: u64, high: u64) -> Option<u64>
+    ensures value { result ≡ option_and_then (within low high) number }
+    ensures bound { IfSome result (λ n. (low ≤ n) × (n ≤ high)) }
+{
+    match number {
+        Some(number) if low <= number && number <= high => Some(number),
+        _ => None,
+    }
+}
+
+/// A number from one to another.
+#[tactic(auto, unfolding(crate::specs::Reading::slot_at))]
+pub fn number(cursor: &mut Cursor, low: u64, high: u64) -> Result<u64, LineFault>
+    ensures gives { Gives (λ n. (n, cursor.new)) result (slot_at kinds.Number (number_in (between low high)) cursor.old) }
+    ensures bound { IfOk result (λ n. (low ≤ n) × (n ≤ high)) }
+{
+    match cursor.head() {
+        Head::End { at } => Err(fault(at, Kind::Count)),
+        Head::Bad { at } => Err(fault(at, Kind::Text)),
+        Head::Word { at, text } => match within(coda_text::number(text), low, high) {
+            Some(number) => {
+                cursor.advance();
+                Ok(number)
+            }
+            None => Err(fault(at, Kind::Number)),
+        },
+    }
+}
+
+/// A mode, in octal.
+#[tactic(auto, unfolding(crate::specs::Reading::slot_at))]
+pub fn mode(cursor: &mut Cursor) -> Result<u16, LineFault>
+    ensures { Gives (λ m. (m, cursor.new)) result (slot_at kinds.Number (number_in octal) cursor.old) }
+{
+    match cursor.head() {
+        Head::End { at } => Err(fault(at, Kind::Count)),
+        Head::Bad { at } => Err(fault(at, Kind::Text)),
+        Head::Word { at, text } => match coda_text::octal(text) {
+            Some(mode) => {
+                cursor.advance();
+                Ok(mode)
+            }
+            None => Err(fault(at, Kind::Number)),
+        },
+    }
+}
+
+// The path that the bytes are, if they are one.
+fn path_of(alloc: Global, bytes: &[u8]) -> Result<Option<Path>, AllocError>
+    ensures { IfOk result (λ found. found ≡ path_of bytes.now) }
+{
+    match Path::read(alloc, bytes) {
+        Ok(path) => Ok(Some(path)),
+        Err(NameFault::BadName) => Ok(None),
+        Err(NameFault::Memory) => Err(AllocError),
+    }
+}
+
+// The path that the word is, if it is one.
+fn path_in(alloc: Global, word: &[u8]) -> Result<Option<Path>, AllocError>
+    ensures { IfOk result (λ found. found ≡ path_in word.now) }
+{
+    if !is_quoted(word) {
+        return path_of(alloc, word);
+    }
+    let bytes = unquote(alloc, word)?;
+    path_of(alloc, bytes.bytes())
+}
+
+/// A path, bare or quoted.
+#[tactic(auto, unfolding(crate::specs::Reading::slot_at))]
+pub fn path(alloc: Global, cursor: &mut Cursor) -> Result<Path, LineFault>
+    ensures { Gives (λ p. (p, cursor.new)) result (slot_at kinds.Path path_in cursor.old) }
+{
+    match cursor.head() {
+        Head::End { at } => Err(fault(at, Kind::Count)),
+        Head::Bad { at } => Err(fault(at, Kind::Text)),
+        Head::Word { at, text } => match path_in(alloc, text)? {
+            Some(path) => {
+                cursor.advance();
+                Ok(path)
+            }
+            None => Err(fault(at, Kind::Path)),
+        },
+    }
+}
+
+/// A quoted text of any length.
+#[tactic(auto, unfolding(crate::specs::Reading::slot_at))]
+pub fn text(alloc: Global, cursor: &mut Cursor) -> Result<Bytes, LineFault>
+    ensures { Gives (λ t. (t, cursor.new)) result (slot_at kinds.Text (text_in any) cursor.old) }
+{
+    match cursor.head() {
+        Head::End { at } => Err(fault(at, Kind::Count)),
+        Head::Bad { at } => Err(fault(at, Kind::Text)),
+        Head::Word { at, text } => {
+            if !is_quoted(text) {
+                return Err(fault(at, Kind::Text));
+            }
+            let bytes = unquote(alloc, text)?;
+            cursor.advance();
+            Ok(bytes)
+        }
+    }
+}
+
+/// A quoted text of so many bytes at least, and so many at most.
+#[tactic(auto, unfolding(crate::specs::Reading::slot_at))]
+pub fn sized_text(
+    alloc: Global,
+    cursor: &mut Cursor,
+    low: usize,
+    high: usize,
+) -> Result<Bytes, LineFault>
+    ensures { Gives (λ t. (t, cursor.new)) result (slot_at kinds.Text (text_in (sized low high)) cursor.old) }
+{
+    match cursor.head() {
+        Head::End { at } => Err(fault(at, Kind::Count)),
+        Head::Bad { at } => Err(fault(at, Kind::Text)),
+        Head::Word { at, text } => {
+            if !is_quoted(text) {
+                return Err(fault(at, Kind::Text));
+            }
+            let bytes = unquote(alloc, text)?;
+            if bytes.len() < low || bytes.len() > high {
+                return Err(fault(at, Kind::Text));
+            }
+            cursor.advance();
+            Ok(bytes)
+        }
+    }
+}
+
+/// Goes past the word, if it comes next.
+pub fn takes(cursor: &mut Cursor, word: &[u8]) -> bool
+    ensures { (result ≡ is_next (is_word word.now) cursor.old.words) × (cursor.new ≡ (if result then rest_of cursor.old else cursor.old)) }
+{
+    match cursor.head() {
+        Head::End { .. } => false,
+        Head::Bad { .. } => false,
+        Head::Word { text, .. } => {
+            let same = text == word;
+            if same {
+                cursor.advance();
+            }
+            same
+        }
+    }
+}
+
+/// The line is wrong here: some word was wanted.
+pub fn wrong(cursor: &Cursor) -> Result<Line, LineFault>
+    ensures { Gives (λ l. l) result (read nothing cursor.now) }
+{
+    match cursor.head() {
+        Head::End { at } => Err(fault(at, Kind::Count)),
+        Head::Bad { at } => Err(fault(at, Kind::Text)),
+        Head::Word { at, .. } => Err(fault(at, Kind::Word)),
+    }
+}
+
+/// The line ends here and says that; a further word is a fault of this kind.
+pub fn ends(cursor: &Cursor, kind: Kind, line: Line) -> Result<Line, LineFault>
+    ensures { Gives (λ l. l) result (end_at kind line cursor.now cursor.now.words) }
+{
+    match cursor.head() {
+        Head::End { .. } => Ok(line),
+        Head::Bad { at } => Err(fault(at, Kind::Text)),
+        Head::Word { at, .. } => Err(fault(at, kind)),
+    }
+}
