@@ -8,6 +8,8 @@ mod law;
 mod log;
 mod regrouping;
 mod segment;
+#[cfg(test)]
+mod tests;
 
 pub use fault::{FreezeFault, LogFault};
 pub use frozen::Frozen;
