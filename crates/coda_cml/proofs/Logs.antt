@@ -6,7 +6,7 @@ use Rattle.coda_cancel.specs.Numbers.{AreBelow, AreUpTo, AreAbove, IsRising}
 use Rattle.coda_cancel.proofs.Rising.{rising_before, rising_behind, rising_push, rising_add, upto_add, upto_push, below_upto, above_more}
 use Rattle.coda_cml.specs.State.{LogState, IsLogOf}
 use Rattle.coda_cml.specs.Segments.{segments_of}
-use Rattle.coda_cml.specs.Steps.{appended_to, segments_after}
+use Rattle.coda_cml.specs.Steps.{appended_to, applied_to, segments_after}
 use Rattle.coda_cml.proofs.Thaw.{added-append}
 use Rattle.coda_cml.proofs.Cuts.{above_add}
 use Rattle.coda_cml.proofs.Growing.{segments-after}
@@ -65,3 +65,16 @@ appended_log log front back o l h =
       records = ap (λ l. add l o) h.records ∙ sym (added-append [] back (o ∷ []));
       segments = (λ i. segments_after (h.segments i) (h.records i) o) ∙ segments-after back o (rising_behind front (back ++ o ∷ []) rising);
     }
+
+-- ---- without the chunk
+
+pub applied_log : (log : LogState) (front back : List Record) → IsLogOf log front back → IsLogOf (applied_to log) [] back
+applied_log log front back h = record {
+  rising = rising_behind front back h.rising;
+  reached = upto_back log.last front back h.reached;
+  thawed = λ e. refl;
+  chunk = refl;
+  chunk_segments = refl;
+  records = h.records;
+  segments = h.segments;
+}

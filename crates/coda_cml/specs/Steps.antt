@@ -1,9 +1,13 @@
 -- What each call makes of a log.
-use Rattle.std.specs.Prelude.{ℕ, ◌+◌, Bool, Option, Some, None, List, [], ◌∷◌, ◌++◌, take, drop}
+use Rattle.std.specs.Prelude.{ℕ, ◌+◌, Bool, ◌==◌, if◌then◌else◌, Option, Some, None, List, [], ◌∷◌, ◌++◌, take, drop}
 use Rattle.coda_fid.specs.declared.op.Record.{Record}
 use Rattle.coda_cancel.specs.Cancel.{add, added}
 use Rattle.coda_cancel.specs.Numbers.{dropped, least}
 use Rattle.coda_cancel.specs.Joins.{noted, joins_of}
+use Rattle.coda_certify.specs.declared.verdict.Verdict.{Verdict}
+use Rattle.coda_certify.specs.declared.verdict.Verdict.TheVariants.{Applied, Conflict}
+use Rattle.coda_cml.specs.declared.fault.SettleFault.{SettleFault}
+use Rattle.coda_cml.specs.declared.fault.SettleFault.TheVariants.{NotFrozen, WrongNumber}
 use Rattle.coda_cml.specs.declared.segment.Segment.{Segment}
 use Rattle.coda_cml.specs.declared.frozen.Frozen.{Frozen}
 use Rattle.coda_cml.specs.Segments.{single}
@@ -60,3 +64,18 @@ thawed log = record {
 -- the log without the tail
 abbrev pub given_up : LogState → LogState
 given_up log = record log { records = []; segments = [] }
+
+-- the log after a verdict on its chunk: applied, the chunk is done with, and a conflict puts it back
+abbrev pub settled : Verdict → LogState → LogState
+settled Applied log = applied_to log
+settled (Conflict number why) log = thawed log
+
+-- what is left of a run after a verdict on its front
+abbrev pub pending_after : Verdict → List Record → List Record → List Record
+pending_after Applied front back = back
+pending_after (Conflict number why) front back = front ++ back
+
+-- why a verdict is not taken: no chunk is frozen, or one of another number
+abbrev pub settle_refusal : Option Frozen → ℕ → Option SettleFault
+settle_refusal None number = Some (NotFrozen number)
+settle_refusal (Some chunk) number = if chunk.number == number then None else Some (WrongNumber chunk.number number)

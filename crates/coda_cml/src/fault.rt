@@ -27,3 +27,17 @@ pub enum FreezeFault {
     #[error("out of memory for a chunk")]
     Memory,
 }
+
+/// Why a verdict was not taken.
+#[derive(Clone, Copy, Debug, PartialEq, Eq, Error)]
+pub enum SettleFault {
+    /// No chunk is frozen; the verdict is on the chunk of this number.
+    #[error("chunk {0} is not frozen")]
+    NotFrozen(u64),
+    /// The chunk of the first number is frozen, and the verdict is on the second.
+    #[error("chunk {0} is frozen, not {1}")]
+    WrongNumber(u64, u64),
+    /// There was no memory to put the chunk back.
+    #[error("out of memory for a thaw")]
+    Memory,
+}

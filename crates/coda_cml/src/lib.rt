@@ -11,7 +11,7 @@ mod segment;
 #[cfg(test)]
 mod tests;
 
-pub use fault::{FreezeFault, LogFault};
+pub use fault::{FreezeFault, LogFault, SettleFault};
 pub use frozen::Frozen;
 pub use log::Log;
 pub use law::{

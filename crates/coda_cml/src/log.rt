@@ -9,8 +9,9 @@ ghost use Rattle.coda_cml.specs.Steps.{end_of};
 
 use crate::choosing::{age, chunk_length, filled};
 use crate::regrouping::{leading, recount, rejoin};
-use crate::{FreezeFault, Frozen, LogFault, Segment};
+use crate::{FreezeFault, Frozen, LogFault, Segment, SettleFault};
 use coda_cancel::{Join, Tail};
+use coda_certify::Verdict;
 use coda_fid::Record;
 use std::alloc::{AllocError, Global};
 use std::marker::Model;
@@ -50,7 +51,7 @@ impl Model for Log {
 }
 
 impl Log {
-    ghost use Rattle.std.specs.Prelude.{◌≡◌, ◌≢◌, ◌↔◌, ◌<◌, ◌≤◌, ◌+◌, ◌-◌, ◌^◌, ℕ, List, [], ◌∷◌, ◌++◌, false, None, Some, IsSome, IfOk, OnOk, OnErr};
+    ghost use Rattle.std.specs.Prelude.{◌≡◌, ◌≢◌, ◌↔◌, ◌<◌, ◌≤◌, ◌+◌, ◌-◌, ◌^◌, ℕ, List, [], ◌∷◌, ◌++◌, false, None, Some, IsSome, IsOk, IfOk, OnOk, OnErr};
     ghost use Rattle.coda_fid.specs.declared.op.Record.{Record};
     ghost use Rattle.coda_cancel.specs.Cancel.{add};
     ghost use Rattle.coda_cancel.specs.Weights.{fits};
@@ -59,11 +60,13 @@ impl Log {
     ghost use Rattle.coda_cml.specs.Chunks.{chunk_length, freeze_refusal};
     ghost use Rattle.std.specs.Prelude.{length as list_length};
     ghost use Rattle.coda_cml.specs.declared.fault.FreezeFault.{FreezeFault};
-    ghost use Rattle.coda_cml.specs.Steps.{appended_to, cut_at, frozen_to, applied_to, thawed, given_up};
+    ghost use Rattle.coda_cml.specs.Steps.{appended_to, cut_at, frozen_to, applied_to, thawed, settled, pending_after, settle_refusal, given_up};
+    ghost use Rattle.coda_cml.specs.declared.fault.SettleFault.{SettleFault};
 
     /// A log without operations.
     pub fn new(alloc: Global) -> Log
-        ensures { result ≡ empty_log }
+        ensures log { result ≡ empty_log }
+        ensures run { IsLogOf result [] [] }
     {
         Log {
             frozen: None,
@@ -268,11 +271,56 @@ impl Log {
     // Drops the chunk.
     fn apply(&mut self)
         ensures log { self.new ≡ applied_to self.old }
+        ensures run { (front back : List Record) → IsLogOf self.old front back → IsLogOf self.new [] back }
     {
         let alloc = *self.segments.allocator();
         self.frozen = None;
         self.chunk = Tail::new(alloc);
         self.chunk_segments.clear();
+    }
+
+    // Takes the verdict on the chunk.
+    fn take(&mut self, verdict: &Verdict) -> Result<(), AllocError>
+        requires { IsSome self.old.frozen }
+        ensures applied { verdict.now ≡ Verdict.Applied → IsOk result }
+        ensures log { OnOk result (self.new ≡ settled verdict.now self.old) }
+        ensures run { (front back : List Record) → IsLogOf self.old front back → IsSteady (front ++ back) → OnOk result (IsLogOf self.new [] (pending_after verdict.now front back)) }
+        ensures err { OnErr result (self.new ≡ self.old) }
+    {
+        match verdict {
+            Verdict::Applied => {
+                self.apply();
+                Ok(())
+            }
+            Verdict::Conflict(_, _) => self.thaw(),
+        }
+    }
+
+    /// Takes the verdict on the chunk of a number. Applied, the chunk is done with, which takes no memory;
+    /// a conflict thaws it.
+    ///
+    /// # Errors
+    ///
+    /// `NotFrozen` exactly where no chunk is frozen, with the number given; `WrongNumber` exactly where one
+    /// of another number is, with both. `Memory` comes of a conflict alone. An error leaves the log as it
+    /// was.
+    pub fn settle(&mut self, number: u64, verdict: &Verdict) -> Result<(), SettleFault>
+        ensures causes { (why : SettleFault) → why ≢ SettleFault.Memory → ((result ≡ Err why) ↔ (settle_refusal self.old.frozen number ≡ Some why)) }
+        ensures applied { verdict.now ≡ Verdict.Applied → result ≢ Err SettleFault.Memory }
+        ensures log { OnOk result (self.new ≡ settled verdict.now self.old) }
+        ensures run { (front back : List Record) → IsLogOf self.old front back → IsSteady (front ++ back) → OnOk result (IsLogOf self.new [] (pending_after verdict.now front back)) }
+        ensures err { OnErr result (self.new ≡ self.old) }
+    {
+        match self.frozen {
+            None => Err(SettleFault::NotFrozen(number)),
+            Some(chunk) if chunk.number != number => {
+                Err(SettleFault::WrongNumber(chunk.number, number))
+            }
+            Some(_) => match self.take(verdict) {
+                Ok(()) => Ok(()),
+                Err(_) => Err(SettleFault::Memory),
+            },
+        }
     }
 
     /// Hands out the records of a log of which no chunk is frozen, and empties it. Numbers of operations
