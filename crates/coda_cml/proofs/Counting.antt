@@ -1,12 +1,12 @@
 -- The records of a run, counted along its segments.
-use Rattle.std.proofs.Common.{◌≡◌, ℕ, zero, suc, ◌+◌, ◌<◌, ◌≤◌, Bool, true, false, cond, List, [], ◌∷◌, ◌==◌, ◌⊎◌, inl, inr, drop, refl, sym, ap, ◌∙◌, subst, zero-add, arith}
+use Rattle.std.proofs.Common.{◌≡◌, ℕ, suc, ◌+◌, ◌<◌, ◌≤◌, Bool, true, false, cond, List, [], ◌∷◌, ◌==◌, inl, inr, drop, refl, sym, ap, ◌∙◌, subst, zero-add, arith}
 use Rattle.std.specs.Prelude.{nat_le, max}
 use Rattle.std.proofs.lemmas.Bool.Decides.{nat_tests}
 use Rattle.coda_fid.specs.declared.op.Record.{Record}
 use Rattle.coda_cancel.specs.Numbers.{AreAbove, IsRising}
 use Rattle.coda_cml.specs.declared.segment.Segment.{Segment}
-use Rattle.coda_cml.specs.Segments.{joined, put_front, single, count_of, segments_by}
-use Rattle.coda_cml.specs.Regrouping.{widened, widen_front, leading, recounted}
+use Rattle.coda_cml.specs.Segments.{put_front, single, count_of, segments_by}
+use Rattle.coda_cml.specs.Regrouping.{widen_front, leading, recounted}
 use Rattle.coda_cml.proofs.Ranges.{bare, ranges_by}
 use Rattle.coda_cml.proofs.Left.{IsLeft, left_above}
 
@@ -98,6 +98,6 @@ recounted-ranges c (o ∷ os) ks (inl h) r = count_gone (c o.number) o ks (range
 recounted-ranges c (o ∷ os) ks (inr h) r =
     let k = h.0 in let rest = h.1 in
     let step : recounted (k ∷ rest) (ranges_by c (o ∷ os)) ≡ segments_by c (k ∷ rest) (o ∷ os) =
-        count_left (c o.number) o k rest (ranges_by c os) h.3 (left_above o.number rest os h.4 r.0) (lasts_above o.number c os r.0)
-        ∙ ap (put_front (c o.number) (single (k ∷ rest) o)) (recounted-ranges c os rest h.4 r.1 ∙ sym (segments_past c k rest os (subst (λ m. AreAbove m os) (sym h.3) r.0))) in
+    count_left (c o.number) o k rest (ranges_by c os) h.3 (left_above o.number rest os h.4 r.0) (lasts_above o.number c os r.0)
+    ∙ ap (put_front (c o.number) (single (k ∷ rest) o)) (recounted-ranges c os rest h.4 r.1 ∙ sym (segments_past c k rest os (subst (λ m. AreAbove m os) (sym h.3) r.0))) in
     ap (λ l. recounted l (ranges_by c (o ∷ os))) h.2 ∙ step ∙ ap (λ l. segments_by c l (o ∷ os)) (sym h.2)

@@ -1,8 +1,8 @@
 -- The log after its first segments are frozen.
-use Rattle.std.proofs.Common.{◌≡◌, ℕ, zero, suc, ◌+◌, ◌<◌, ◌≤◌, ◌==◌, Bool, true, false, cond, not, ◌&&◌, ◌||◌, List, [], ◌∷◌, ◌++◌, Option, Some, None, take, drop, length, refl, sym, ap, ◌∙◌, subst, arith, ⊎_elim, inl, inr}
-use Rattle.std.specs.Prelude.{nat_le, max}
+use Rattle.std.proofs.Common.{◌≡◌, ℕ, zero, suc, ◌+◌, ◌<◌, ◌≤◌, ◌==◌, Bool, true, false, cond, not, ◌||◌, List, [], ◌∷◌, ◌++◌, Option, Some, None, take, drop, length, refl, sym, ap, ◌∙◌, subst, arith, inl, inr}
+use Rattle.std.specs.Prelude.{nat_le}
 use Rattle.std.specs.List.{find}
-use Rattle.std.proofs.lemmas.Bool.{false_from_ne_true, false≢true, true≢false, cases_Bool}
+use Rattle.std.proofs.lemmas.Bool.{false_from_ne_true, false≢true}
 use Rattle.std.proofs.lemmas.Bool.Decides.{nat_tests}
 use Rattle.std.proofs.lemmas.Option.{none-some}
 use Rattle.std.proofs.Math.Seq.{take-append_seam, drop-append_seam}
@@ -18,7 +18,7 @@ use Rattle.coda_cml.specs.declared.fault.FreezeFault.TheVariants.{Nothing}
 use Rattle.coda_cml.specs.Chunks.{is_filled, too_young, freeze_refusal, first_filled, chunk_length}
 use Rattle.coda_cml.specs.Regrouping.{leading}
 use Rattle.coda_cml.specs.State.{LogState, IsLogOf}
-use Rattle.coda_cml.specs.Steps.{end_of, records_in, frozen_to}
+use Rattle.coda_cml.specs.Steps.{end_of, frozen_to}
 use Rattle.coda_cml.proofs.Numbered.{IsJoined, joined_fact, cut_fact, cut_test}
 use Rattle.coda_cml.proofs.Near.{append_nil}
 use Rattle.coda_cml.proofs.Thaw.{added-append}
@@ -27,7 +27,6 @@ use Rattle.coda_cml.proofs.Cuts.{none_up, above_added}
 use Rattle.coda_cml.proofs.Ranges.{EndsAt}
 use Rattle.coda_cml.proofs.Growing.{ends, run_ends, joined-append}
 use Rattle.coda_cml.proofs.Splitting.{run_alone, back_fresh}
-use Rattle.coda_cml.proofs.Logs.{upto_front, upto_back}
 
 -- ---- the operations of the first segments
 
@@ -74,26 +73,34 @@ split_at c ks (o ∷ p ∷ os) e (suc k) = go (c o.number) refl (split_at c ks (
 
     go : (b : Bool) → c o.number ≡ b → (front : List Record) × (back : List Record) × IsSplit c ks (p ∷ os) k front back → (front : List Record) × (back : List Record) × IsSplit c ks (p ∷ os) (suc k) front back →
         (front : List Record) × (back : List Record) × IsSplit c ks (o ∷ p ∷ os) (suc k) front back
-    go true h m n = (o ∷ m.0, m.1, record {
-      run_is = ap (λ l. o ∷ l) m.2.run_is;
-      taken = ap (λ b. take (suc k) (put_front b (single ks o) (segments_by c ks (p ∷ os)))) h ∙ ap (λ l. single ks o ∷ l) m.2.taken ∙ sym (ap (λ b. put_front b (single ks o) (segments_by c ks m.0)) h);
-      left = ap (λ b. drop (suc k) (put_front b (single ks o) (segments_by c ks (p ∷ os)))) h ∙ m.2.left;
-      ended = more m.0 m.2.ended;
-    })
+    go true h m n = (
+      o ∷ m.0,
+      m.1,
+      record {
+        run_is = ap (λ l. o ∷ l) m.2.run_is;
+        taken = ap (λ b. take (suc k) (put_front b (single ks o) (segments_by c ks (p ∷ os)))) h ∙ ap (λ l. single ks o ∷ l) m.2.taken ∙ sym (ap (λ b. put_front b (single ks o) (segments_by c ks m.0)) h);
+        left = ap (λ b. drop (suc k) (put_front b (single ks o) (segments_by c ks (p ∷ os)))) h ∙ m.2.left;
+        ended = more m.0 m.2.ended;
+      },
+    )
       where
         more : (f : List Record) → EndsAt c f → EndsAt c (o ∷ f)
         more [] x = h
         more (q ∷ f) x = x
-    go false h m n = (o ∷ n.0, n.1, record {
-      run_is = ap (λ l. o ∷ l) n.2.run_is;
-      taken = ap (λ b. take (suc k) (put_front b (single ks o) (segments_by c ks (p ∷ os)))) h
-          ∙ ap (λ l. take (suc k) (put_front false (single ks o) l)) s.2
-          ∙ ap (put_front false (single ks o)) (ap (take (suc k)) (sym s.2) ∙ n.2.taken)
-          ∙ sym (ap (λ b. put_front b (single ks o) (segments_by c ks n.0)) h);
-      left = ap (λ b. drop (suc k) (put_front b (single ks o) (segments_by c ks (p ∷ os)))) h
-          ∙ ap (λ l. drop (suc k) (put_front false (single ks o) l)) s.2 ∙ ap (drop (suc k)) (sym s.2) ∙ n.2.left;
-      ended = more n.0 (sym n.2.taken ∙ ap (take (suc k)) s.2) n.2.ended;
-    })
+    go false h m n = (
+      o ∷ n.0,
+      n.1,
+      record {
+        run_is = ap (λ l. o ∷ l) n.2.run_is;
+        taken = ap (λ b. take (suc k) (put_front b (single ks o) (segments_by c ks (p ∷ os)))) h
+            ∙ ap (λ l. take (suc k) (put_front false (single ks o) l)) s.2
+            ∙ ap (put_front false (single ks o)) (ap (take (suc k)) (sym s.2) ∙ n.2.taken)
+            ∙ sym (ap (λ b. put_front b (single ks o) (segments_by c ks n.0)) h);
+        left = ap (λ b. drop (suc k) (put_front b (single ks o) (segments_by c ks (p ∷ os)))) h
+            ∙ ap (λ l. drop (suc k) (put_front false (single ks o) l)) s.2 ∙ ap (drop (suc k)) (sym s.2) ∙ n.2.left;
+        ended = more n.0 (sym n.2.taken ∙ ap (take (suc k)) s.2) n.2.ended;
+      },
+    )
       where
         s : (t : Segment) × (ts : List Segment) × (segments_by c ks (p ∷ os) ≡ t ∷ ts)
         s = some_segment c ks p os
@@ -267,16 +274,20 @@ frozen_log log run home (suc k) h s p q = go m.0 m.1 m.2
         let first : take (suc k) log.segments ≡ segments_of (o ∷ os) = ap (take (suc k)) h.segments ∙ d.taken ∙ ap (λ l. segments_by (ends l) (fold l) (o ∷ os)) d.run_is ∙ front_segments (last_number o os) (o ∷ os) back t a b n in
         let rest : drop (suc k) log.segments ≡ segments_of back = ap (drop (suc k)) h.segments ∙ d.left ∙ ap (λ l. segments_by (ends l) (fold l) back) d.run_is ∙ back_segments (last_number o os) (o ∷ os) back t a b n in
         let at : end_of (take (suc k) log.segments) ≡ last_number o os = ap end_of first ∙ end_is (ends (o ∷ os)) (fold (o ∷ os)) o os in
-        let whole : log.records ≡ fold ((o ∷ os) ++ back) = h.records ∙ ap fold d.run_is in
-        (o ∷ os, back, d.run_is, record {
-          rising = r;
-          reached = subst (AreUpTo log.last) d.run_is h.reached;
-          thawed = λ x. absurd (none-some _ (sym x));
-          chunk = ap (λ x. take (leading x log.records) log.records) at ∙ front_records (last_number o os) (o ∷ os) back t a b n log.records whole;
-          chunk_segments = first;
-          records = ap (λ x. drop (leading x log.records) log.records) at ∙ back_records (last_number o os) (o ∷ os) back t a b n log.records whole;
-          segments = rest;
-        })
+        let whole : log.records ≡ fold ((o ∷ os) ++ back) = h.records ∙ ap fold d.run_is in (
+          o ∷ os,
+          back,
+          d.run_is,
+          record {
+            rising = r;
+            reached = subst (AreUpTo log.last) d.run_is h.reached;
+            thawed = λ x. absurd (none-some _ (sym x));
+            chunk = ap (λ x. take (leading x log.records) log.records) at ∙ front_records (last_number o os) (o ∷ os) back t a b n log.records whole;
+            chunk_segments = first;
+            records = ap (λ x. drop (leading x log.records) log.records) at ∙ back_records (last_number o os) (o ∷ os) back t a b n log.records whole;
+            segments = rest;
+          },
+        )
 
 -- ---- what may go
 

@@ -1,18 +1,17 @@
 -- The segments of a run that goes on.
-use Rattle.std.proofs.Common.{◌≡◌, ℕ, ◌+◌, ◌<◌, ◌≤◌, Bool, true, false, cond, not, ◌&&◌, ◌||◌, List, [], ◌∷◌, ◌++◌, Option, Some, None, map, refl, sym, ap, ◌∙◌, subst, append_assoc, arith}
+use Rattle.std.proofs.Common.{◌≡◌, ℕ, Bool, true, false, cond, not, ◌&&◌, ◌||◌, List, [], ◌∷◌, ◌++◌, Option, Some, None, map, refl, sym, ap, ◌∙◌, subst, append_assoc, arith}
 use Rattle.std.specs.Prelude.{nat_le, nat_lt}
 use Rattle.std.specs.List.{list_any}
 use Rattle.std.proofs.lemmas.Bool.Decides.{nat_tests}
 use Rattle.coda_fid.specs.declared.op.Record.{Record}
 use Rattle.coda_cancel.specs.Cancel.{add, added, fold}
-use Rattle.coda_cancel.specs.Numbers.{dropped, lesser, least, AreBelow, AreUpTo, AreAbove, IsRising}
+use Rattle.coda_cancel.specs.Numbers.{dropped, lesser, least, AreUpTo, IsRising}
 use Rattle.coda_cancel.specs.Joins.{noted}
-use Rattle.coda_cancel.proofs.Rising.{rising_before, upto_push, below_upto}
+use Rattle.coda_cancel.proofs.Rising.{rising_before, upto_push}
 use Rattle.coda_cml.specs.declared.segment.Segment.{Segment}
-use Rattle.coda_cml.specs.Segments.{is_joined, single, segments_by, segments_of}
+use Rattle.coda_cml.specs.Segments.{is_joined, single, segments_of}
 use Rattle.coda_cml.specs.Regrouping.{is_inside, widen_front, rejoined, recounted}
 use Rattle.coda_cml.specs.Steps.{segments_after}
-use Rattle.coda_cml.proofs.Near.{append_nil}
 use Rattle.coda_cml.proofs.Thaw.{added-append}
 use Rattle.coda_cml.proofs.Numbered.{cut_test}
 use Rattle.coda_cml.proofs.Cuts.{none_up}
@@ -113,7 +112,7 @@ segments-after os o r =
     let g : ℕ → Bool = is_inside (noted o.number (least (dropped (fold os) o))) in
     let ks : List Record = add (fold os) o in
     let e : map bared (segments_of os ++ single [] o ∷ []) ≡ ranges_by (ends os) (os ++ o ∷ []) =
-        bared-append (segments_of os) (single [] o ∷ []) ∙ ap (λ l. l ++ bare o ∷ []) (bared-segments (ends os) (fold os) os) ∙ last_range os o r in
+    bared-append (segments_of os) (single [] o ∷ []) ∙ ap (λ l. l ++ bare o ∷ []) (bared-segments (ends os) (fold os) os) ∙ last_range os o r in
     let folded : fold (os ++ o ∷ []) ≡ add (fold os) o = added-append [] os (o ∷ []) in
     regrouped ks (os ++ o ∷ []) (ends os) g (segments_of os ++ single [] o ∷ []) e
     ∙ (λ i. recounted (sym folded i) (ranges_by (ends_after os o i) (os ++ o ∷ [])))

@@ -1,6 +1,6 @@
 -- which segments are joined: a count of the records with small numbers
-use Rattle.std.proofs.Common.{◌≡◌, ◌≢◌, ℕ, ◌+◌, ◌-◌, ◌≤◌, ◌<◌, Bool, true, false, cond, List, [], ◌∷◌, ◌++◌, Option, Some, None, refl, sym, ap, ◌∙◌, subst, leb, ltb, ⊎_elim, inl, inr, ◌⊎◌, is_some, ◌&&◌, ◌||◌, not, append_assoc, arith, length}
-use Rattle.std.proofs.lemmas.Bool.{cases_Bool, cases_lt, cond_both, and_parts, and_from, or_parts, or_cases, or_left, or_right, false≢true, true≢false, false_from_ne_true, le-leb, lt-leb, leb-true, leb-false}
+use Rattle.std.proofs.Common.{◌≡◌, ℕ, ◌+◌, ◌≤◌, ◌<◌, Bool, true, false, cond, List, [], ◌∷◌, ◌++◌, refl, sym, ap, ◌∙◌, subst, leb, inl, inr, not, arith, length}
+use Rattle.std.proofs.lemmas.Bool.{le-leb, lt-leb}
 use Rattle.coda_fid.specs.declared.fid.Fid.{Fid}
 use Rattle.coda_fid.specs.declared.op.Op.{Op}
 use Rattle.coda_fid.specs.declared.op.Record.{Record}

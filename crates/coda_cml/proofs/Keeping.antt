@@ -1,25 +1,23 @@
 -- Which operations keep a run steady.
-use Rattle.std.proofs.Common.{◌≡◌, Bool, true, false, cond, ◌&&◌, ◌||◌, List, [], ◌∷◌, ◌++◌, Option, Some, None, refl, sym, ap, ◌∙◌, subst, ⊎_elim, append_assoc}
-use Rattle.std.proofs.lemmas.Bool.{cases_Bool, cond_both, and_parts, and_from, or_parts, or_cases, or_left, or_right, false≢true, false_from_ne_true}
+use Rattle.std.proofs.Common.{◌≡◌, Bool, true, false, cond, ◌||◌, List, [], ◌∷◌, ◌++◌, Some, None, refl, sym, ap, ◌∙◌, subst, ⊎_elim, append_assoc}
+use Rattle.std.proofs.lemmas.Bool.{cases_Bool, cond_both, and_parts, or_cases, or_left, or_right, false≢true, false_from_ne_true}
 use Rattle.coda_fid.specs.declared.fid.Fid.{Fid}
-use Rattle.coda_fid.specs.declared.fid.Sid.{Sid}
-use Rattle.coda_fid.specs.declared.op.Over.{Over}
 use Rattle.coda_fid.specs.declared.op.Op.{Op}
-use Rattle.coda_fid.specs.declared.op.Op.TheVariants.{Create, Mkdir, Symlink, Store, Setattr, Remove, Rmdir, Rename}
+use Rattle.coda_fid.specs.declared.op.Op.TheVariants.{Create, Mkdir, Symlink, Remove, Rmdir, Rename}
 use Rattle.coda_fid.specs.declared.op.Record.{Record}
 use Rattle.coda_fid.specs.Fid.{same_fid}
-use Rattle.coda_fid.specs.Op.{carried, over_fids}
+use Rattle.coda_fid.specs.Op.{carried}
 use Rattle.coda_cancel.specs.Handing.{nothing, hand, sid_or}
 use Rattle.coda_cancel.specs.Dropping.{mentioning, creates, drops}
 use Rattle.coda_cancel.specs.Cancel.{kept, debt, without, cancels, object, appended, add, added, fold}
-use Rattle.coda_cancel.proofs.Keys.{fid_true, fid_same}
+use Rattle.coda_cancel.proofs.Keys.{fid_true}
 use Rattle.coda_cancel.proofs.Debts.{Blind, creates-with_pre}
-use Rattle.coda_cml.specs.Steady.{any_record, is_move, moves, makes_in, unbinds, is_over, IsSafe, SafeStep, IsFresh, GoesOn, IsSteady, ChildrenLeft, RemovesEmpty}
+use Rattle.coda_cml.specs.Steady.{any_record, is_move, moves, makes_in, unbinds, IsSafe, SafeStep, IsFresh, GoesOn, IsSteady, ChildrenLeft, RemovesEmpty}
 use Rattle.coda_cml.proofs.Near.{drops_write, append_nil}
 use Rattle.coda_cml.proofs.Others.{any-kept}
 use Rattle.coda_cml.proofs.Sim.{add_stays, add_goes, only_made_of, cancels_seen}
 use Rattle.coda_cml.proofs.Without.{any-append, any_same, made_moves, makes_parts}
-use Rattle.coda_cml.proofs.Thaw.{moves-with_pre, makes-with_pre, any_in_add, moves_idle, added-append}
+use Rattle.coda_cml.proofs.Thaw.{moves-with_pre, makes-with_pre, any_in_add, moves_idle}
 
 -- what takes an object from its place moves it
 unbinds_moves : (g : Fid) (o : Op) → unbinds g o ≡ true → moves g o ≡ true

@@ -1,11 +1,10 @@
 -- Logs of runs, step by step.
-use Rattle.std.proofs.Common.{◌≡◌, ℕ, ◌<◌, ◌≤◌, List, [], ◌∷◌, ◌++◌, refl, sym, ap, ◌∙◌, subst, append_assoc, arith}
+use Rattle.std.proofs.Common.{ℕ, ◌<◌, ◌≤◌, List, [], ◌∷◌, ◌++◌, refl, sym, ap, ◌∙◌, subst, append_assoc, arith}
 use Rattle.coda_fid.specs.declared.op.Record.{Record}
-use Rattle.coda_cancel.specs.Cancel.{add, added, fold}
+use Rattle.coda_cancel.specs.Cancel.{add}
 use Rattle.coda_cancel.specs.Numbers.{AreBelow, AreUpTo, AreAbove, IsRising}
-use Rattle.coda_cancel.proofs.Rising.{rising_before, rising_behind, rising_push, rising_add, upto_add, upto_push, below_upto, above_more}
+use Rattle.coda_cancel.proofs.Rising.{rising_behind, rising_push, rising_add, upto_add, upto_push, below_upto}
 use Rattle.coda_cml.specs.State.{LogState, IsLogOf}
-use Rattle.coda_cml.specs.Segments.{segments_of}
 use Rattle.coda_cml.specs.Steps.{appended_to, applied_to, segments_after}
 use Rattle.coda_cml.proofs.Thaw.{added-append}
 use Rattle.coda_cml.proofs.Cuts.{above_add}

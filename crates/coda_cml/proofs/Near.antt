@@ -1,6 +1,6 @@
 -- two lists that one operation makes equal
-use Rattle.std.proofs.Common.{◌≡◌, ◌≢◌, ℕ, ◌+◌, Bool, true, false, cond, List, [], ◌∷◌, ◌++◌, Option, Some, None, refl, sym, ap, ◌∙◌, subst, ⊎_elim, is_some, ◌&&◌, ◌||◌, not}
-use Rattle.std.proofs.lemmas.Bool.{cases_Bool, cond_both, and_parts, and_from, or_parts, false≢true, true≢false, false_from_ne_true}
+use Rattle.std.proofs.Common.{◌≡◌, ℕ, Bool, true, false, cond, List, [], ◌∷◌, ◌++◌, Option, Some, None, refl, sym, ap, ◌∙◌, subst}
+use Rattle.std.proofs.lemmas.Bool.{and_parts, and_from, false≢true}
 use Rattle.coda_fid.specs.declared.fid.Fid.{Fid}
 use Rattle.coda_fid.specs.declared.op.Over.{Over}
 use Rattle.coda_fid.specs.declared.op.Attrs.{Attrs}
@@ -11,8 +11,8 @@ use Rattle.coda_fid.specs.Fid.{same_fid}
 use Rattle.coda_fid.specs.Op.{carried}
 use Rattle.coda_cancel.specs.Handing.{Debt, earlier, hand, nothing, owe, paid, sid_or, with_over}
 use Rattle.coda_cancel.specs.Dropping.{covers, drops, is_covered, part_covers, stores, writes}
-use Rattle.coda_cancel.specs.Cancel.{added, appended, cancels, debt, kept, object}
-use Rattle.coda_cancel.proofs.Keys.{fid_false, fid_other, fid_same, fid_true, is_write, over_is}
+use Rattle.coda_cancel.specs.Cancel.{appended, cancels, debt, kept, object}
+use Rattle.coda_cancel.proofs.Keys.{fid_false, fid_other, fid_true, is_write, over_is}
 use Rattle.coda_cancel.proofs.Debts.{Blind, both, both-nothing, both_assoc, carried-with_pre, debt-append, debt_all, debt_twice, dropped-with_pre, drops-with_pre, either, either_covered, either_turned, hand-both, kept-append, kept_twice, no_change, owe_inner, owe_outer, paid-with_pre, paid_both}
 use Rattle.coda_cancel.proofs.Additions.{nothing_dropped}
 use Rattle.coda_cancel.proofs.Passing.{dropped_carries}

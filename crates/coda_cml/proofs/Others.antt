@@ -1,6 +1,6 @@
 -- dropping Stores and Setattrs does not change what is undone
-use Rattle.std.proofs.Common.{◌≡◌, ◌≢◌, ℕ, ◌+◌, Bool, true, false, cond, List, [], ◌∷◌, ◌++◌, Option, Some, None, refl, sym, ap, ◌∙◌, subst, ⊎_elim, is_some, ◌&&◌, ◌||◌, not}
-use Rattle.std.proofs.lemmas.Bool.{cases_Bool, cond_both, and_parts, and_from, or_parts, false≢true, true≢false, false_from_ne_true}
+use Rattle.std.proofs.Common.{◌≡◌, ◌≢◌, Bool, true, false, cond, List, [], ◌∷◌, ◌++◌, Option, Some, None, refl, sym, ap, ◌∙◌, ◌&&◌, ◌||◌, not}
+use Rattle.std.proofs.lemmas.Bool.{cond_both, or_parts, false≢true}
 use Rattle.coda_fid.specs.declared.fid.Fid.{Fid}
 use Rattle.coda_fid.specs.declared.fid.Sid.{Sid}
 use Rattle.coda_fid.specs.declared.op.Over.{Over}
@@ -9,10 +9,10 @@ use Rattle.coda_fid.specs.declared.op.Record.{Record}
 use Rattle.coda_fid.specs.declared.op.Op.TheVariants.{Create, Mkdir, Remove, Rename, Rmdir, Setattr, Store, Symlink}
 use Rattle.coda_fid.specs.Fid.{same_fid}
 use Rattle.coda_fid.specs.Op.{carried}
-use Rattle.coda_cancel.specs.Handing.{Debt, earlier, hand, nothing, owe, paid, sid_or, with_pre}
+use Rattle.coda_cancel.specs.Handing.{Debt, earlier, hand, owe, paid, sid_or, with_pre}
 use Rattle.coda_cancel.specs.Dropping.{creates, mentioning, writes}
-use Rattle.coda_cancel.specs.Cancel.{debt, kept, object, others, without}
-use Rattle.coda_cancel.proofs.Keys.{carries, fid_false, fid_other, fid_true, is_write, over_is}
+use Rattle.coda_cancel.specs.Cancel.{debt, kept, others, without}
+use Rattle.coda_cancel.proofs.Keys.{fid_false, fid_other, fid_true, is_write, over_is}
 use Rattle.coda_cml.specs.Steady.{any_record}
 use Rattle.coda_cancel.proofs.Debts.{Blind, creates-with_pre, mentioning-with_pre, no_change, writes-with_pre}
 

@@ -1,6 +1,6 @@
 -- a prefix of segments has the records of its own fold
-use Rattle.std.proofs.Common.{◌≡◌, ◌≢◌, ℕ, ◌+◌, ◌≤◌, ◌<◌, Bool, true, false, cond, List, [], ◌∷◌, ◌++◌, Option, Some, None, refl, sym, ap, ◌∙◌, subst, leb, ⊎_elim, inl, inr, ◌⊎◌, is_some, ◌&&◌, ◌||◌, not, append_assoc, arith}
-use Rattle.std.proofs.lemmas.Bool.{cases_Bool, cond_both, or_parts, or_cases, false≢true, true≢false, false_from_ne_true, le-leb, lt-leb}
+use Rattle.std.proofs.Common.{◌≡◌, ℕ, ◌≤◌, ◌<◌, Bool, true, false, cond, List, [], ◌∷◌, ◌++◌, refl, sym, ap, ◌∙◌, subst, inl, inr, ◌||◌, append_assoc}
+use Rattle.std.proofs.lemmas.Bool.{cond_both, or_parts, false≢true, false_from_ne_true, le-leb, lt-leb}
 use Rattle.coda_fid.specs.declared.fid.Fid.{Fid}
 use Rattle.coda_fid.specs.declared.op.Op.{Op}
 use Rattle.coda_fid.specs.declared.op.Record.{Record}

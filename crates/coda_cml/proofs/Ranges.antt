@@ -1,9 +1,9 @@
 -- Segments without their counts: joining some of them is cutting the run at fewer places.
-use Rattle.std.proofs.Common.{◌≡◌, ℕ, ◌+◌, ◌<◌, Bool, true, false, not, ◌&&◌, ◌||◌, List, [], ◌∷◌, ◌++◌, drop, map, refl, sym, ap, ◌∙◌, arith}
+use Rattle.std.proofs.Common.{◌≡◌, ℕ, Bool, true, false, not, ◌&&◌, List, [], ◌∷◌, ◌++◌, drop, map, refl, sym, ap, ◌∙◌, arith}
 use Rattle.std.specs.Prelude.{max}
 use Rattle.coda_fid.specs.declared.op.Record.{Record}
 use Rattle.coda_cml.specs.declared.segment.Segment.{Segment}
-use Rattle.coda_cml.specs.Segments.{joined, put_front, single, segments_by}
+use Rattle.coda_cml.specs.Segments.{put_front, single, segments_by}
 use Rattle.coda_cml.specs.Regrouping.{widened, widen_front, rejoined, leading, recounted}
 
 -- a segment that counts nothing

@@ -1,5 +1,5 @@
 -- Where joining ends.
-use Rattle.std.proofs.Common.{◌≡◌, ℕ, zero, suc, ◌+◌, ◌<◌, ◌≤◌, Bool, true, false, not, List, [], ◌∷◌, ◌++◌, refl, sym, ap, ◌∙◌, arith, drop, get_or, take, length, add-one, ◌-◌}
+use Rattle.std.proofs.Common.{◌≡◌, ℕ, zero, suc, ◌+◌, ◌<◌, Bool, true, false, not, List, [], ◌∷◌, ◌++◌, refl, sym, ap, ◌∙◌, arith, drop, get_or, take, length, add-one, ◌-◌}
 use Rattle.std.proofs.lemmas.List.{append-nil}
 use Rattle.coda_cml.specs.declared.segment.Segment.{Segment}
 use Rattle.coda_cml.specs.Regrouping.{widen_front, rejoined}

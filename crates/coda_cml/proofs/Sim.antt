@@ -1,6 +1,6 @@
 -- the step of a thaw where nothing is undone
-use Rattle.std.proofs.Common.{◌≡◌, ◌≢◌, ℕ, ◌+◌, Bool, true, false, cond, List, [], ◌∷◌, ◌++◌, Option, Some, None, refl, sym, ap, ◌∙◌, subst, ⊎_elim, is_some, ◌&&◌, ◌||◌, not}
-use Rattle.std.proofs.lemmas.Bool.{cases_Bool, cond_both, and_parts, and_from, or_parts, false≢true, true≢false, false_from_ne_true}
+use Rattle.std.proofs.Common.{◌≡◌, Bool, true, false, cond, List, [], ◌∷◌, Some, None, refl, sym, ap, ◌∙◌, subst, ◌||◌, not}
+use Rattle.std.proofs.lemmas.Bool.{and_parts, false≢true}
 use Rattle.coda_fid.specs.declared.fid.Fid.{Fid}
 use Rattle.coda_fid.specs.declared.fid.Sid.{Sid}
 use Rattle.coda_fid.specs.declared.op.Op.{Op}
@@ -11,7 +11,7 @@ use Rattle.coda_fid.specs.Op.{carried}
 use Rattle.coda_cancel.specs.Handing.{Debt, hand, nothing, owe, paid, sid_or, with_pre}
 use Rattle.coda_cancel.specs.Dropping.{creates, drops, mentioning, writes}
 use Rattle.coda_cancel.specs.Cancel.{add, added, appended, cancels, debt, is_true_alone, is_undone, kept, object, others, without}
-use Rattle.coda_cancel.proofs.Keys.{carries, fid_false, fid_true}
+use Rattle.coda_cancel.proofs.Keys.{fid_false, fid_true}
 use Rattle.coda_cancel.proofs.Debts.{both, cancels-with_pre, or_sid}
 use Rattle.coda_cml.proofs.Near.{Near, drops_write, near_dropped, near_kept, write_stays}
 use Rattle.coda_cml.proofs.Others.{OnlyMade, SameBut, debt-without, others-kept, without-kept}

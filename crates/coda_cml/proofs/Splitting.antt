@@ -1,28 +1,26 @@
 -- Where a run may be cut, what is behind goes on as if it stood alone.
-use Rattle.std.proofs.Common.{◌≡◌, ℕ, ◌+◌, ◌<◌, ◌≤◌, Bool, true, false, cond, not, ◌&&◌, ◌||◌, List, [], ◌∷◌, ◌++◌, refl, sym, ap, ◌∙◌, subst, append_assoc, arith, ⊎_elim, inl, inr}
+use Rattle.std.proofs.Common.{◌≡◌, ℕ, ◌≤◌, Bool, true, false, cond, ◌&&◌, ◌||◌, List, [], ◌∷◌, ◌++◌, refl, sym, ap, ◌∙◌, subst, append_assoc, ⊎_elim, inl, inr}
 use Rattle.std.specs.Prelude.{nat_le, nat_lt}
 use Rattle.std.specs.List.{list_any}
-use Rattle.std.proofs.lemmas.Bool.{false_from_ne_true, false≢true, or_parts, or_cases, cases_Bool}
+use Rattle.std.proofs.lemmas.Bool.{false_from_ne_true, false≢true, or_parts, or_cases}
 use Rattle.coda_fid.specs.declared.fid.Fid.{Fid}
 use Rattle.coda_fid.specs.declared.op.Op.{Op}
 use Rattle.coda_fid.specs.declared.op.Record.{Record}
 use Rattle.coda_fid.specs.Op.{carried}
 use Rattle.coda_cancel.specs.Handing.{nothing, hand}
 use Rattle.coda_cancel.specs.Dropping.{mentioning, creates, drops}
-use Rattle.coda_cancel.specs.Cancel.{kept, debt, without, cancels, object, others, appended, add, added, fold}
-use Rattle.coda_cancel.specs.Numbers.{numbers, dropped, AreUpTo, AreAbove, IsRising}
+use Rattle.coda_cancel.specs.Cancel.{kept, debt, without, cancels, object, others, add, added, fold}
+use Rattle.coda_cancel.specs.Numbers.{numbers, dropped, AreUpTo, AreAbove}
 use Rattle.coda_cancel.proofs.Debts.{kept-append, debt-append}
 use Rattle.coda_cml.specs.Steady.{any_record, GoesOn, IsSteady}
 use Rattle.coda_cml.specs.Segments.{is_joined}
 use Rattle.coda_cml.proofs.Numbered.{In, IsJoined}
-use Rattle.coda_cml.proofs.Near.{append_nil}
 use Rattle.coda_cml.proofs.Others.{others-append}
 use Rattle.coda_cml.proofs.Sim.{add_stays, add_goes}
 use Rattle.coda_cml.proofs.Without.{any-append, without-append, without_none}
-use Rattle.coda_cml.proofs.Thaw.{added-append, goes_split, mentions_in_added, cancels_at, cancels_created, creates_in_add}
-use Rattle.coda_cml.proofs.Prefix.{found, kept_none, up_added, above_append, above_kept, above_without}
+use Rattle.coda_cml.proofs.Thaw.{goes_split, mentions_in_added, cancels_at, cancels_created, creates_in_add}
+use Rattle.coda_cml.proofs.Prefix.{found, kept_none}
 use Rattle.coda_cml.proofs.Stays.{numbers-append}
-use Rattle.coda_cml.proofs.Cuts.{above_add}
 
 -- no operation creates what the front mentions
 abbrev pub AreFresh : List Record → List Record → Type 0
@@ -78,7 +76,7 @@ module _ (j : ℕ) where
   run_alone front rs (o ∷ os) a b n fresh new =
       let k : (add (front ++ rs) o ≡ front ++ add rs o) × (dropped (front ++ rs) o ≡ dropped rs o) = add_alone front rs o a (λ i x y. n (inl (i, x, y, b.0))) fresh in
       let later : (f : Fid) → any_record (creates f) (add rs o) ≡ true → any_record (mentioning f) front ≡ false =
-          λ f h. ⊎_elim (λ (c : any_record (creates f) rs ≡ true). fresh f c) (λ (c : creates f o.op ≡ true). new.0 f c) (or_cases (any_record (creates f) rs) (creates f o.op) (creates_in_add f rs o h)) in
+      λ f h. ⊎_elim (λ (c : any_record (creates f) rs ≡ true). fresh f c) (λ (c : creates f o.op ≡ true). new.0 f c) (or_cases (any_record (creates f) rs) (creates f o.op) (creates_in_add f rs o h)) in
       let m = run_alone front (add rs o) os a b.1 (λ x. n (inr (subst (λ l. IsJoined j l os) (sym k.0) x))) later new.1 in (
         ap (λ l. added l os) k.0 ∙ m.0,
         λ i. (λ z. (nat_lt i o.number && list_any (λ gone. nat_le gone i) (k.1 z)) || is_joined i (k.0 z) os) ∙ ap (λ x. (nat_lt i o.number && list_any (λ gone. nat_le gone i) (dropped rs o)) || x) (m.1 i),

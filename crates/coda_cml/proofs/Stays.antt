@@ -1,6 +1,6 @@
 -- what an operation of the tail drops in the tail's own fold, it drops in the fold of the whole
-use Rattle.std.proofs.Common.{◌≡◌, ◌≢◌, ℕ, ◌+◌, ◌≤◌, ◌<◌, Bool, true, false, cond, List, [], ◌∷◌, ◌++◌, Option, Some, None, refl, sym, ap, ◌∙◌, subst, ⊎_elim, inl, inr, ◌⊎◌, is_some, ◌&&◌, ◌||◌, not, append_assoc, arith}
-use Rattle.std.proofs.lemmas.Bool.{cases_Bool, cond_both, and_parts, and_from, or_parts, or_cases, or_left, or_right, not-true, not_from_false, false≢true, true≢false, false_from_ne_true}
+use Rattle.std.proofs.Common.{◌≡◌, ◌≢◌, ℕ, Bool, true, false, cond, List, [], ◌∷◌, ◌++◌, refl, sym, ap, ◌∙◌, subst, ⊎_elim, inl, inr, ◌⊎◌, ◌&&◌, ◌||◌, not, append_assoc}
+use Rattle.std.proofs.lemmas.Bool.{cond_both, and_parts, and_from, or_parts, or_cases, or_left, or_right, not-true, false≢true, false_from_ne_true}
 use Rattle.coda_fid.specs.declared.fid.Fid.{Fid}
 use Rattle.coda_fid.specs.declared.op.Op.{Op}
 use Rattle.coda_fid.specs.declared.op.Record.{Record}
@@ -9,7 +9,7 @@ use Rattle.coda_fid.specs.Fid.{same_fid}
 use Rattle.coda_fid.specs.Op.{carried}
 use Rattle.coda_cancel.specs.Handing.{Debt, hand, nothing, owe, paid, sid_or}
 use Rattle.coda_cancel.specs.Dropping.{creates, drops, mentioning, writes}
-use Rattle.coda_cancel.specs.Cancel.{add, added, appended, cancels, debt, fold, kept, object, without}
+use Rattle.coda_cancel.specs.Cancel.{add, added, appended, cancels, debt, kept, object, without}
 use Rattle.coda_cancel.specs.Numbers.{dropped, numbers}
 use Rattle.coda_cancel.proofs.Keys.{fid_same, fid_true, is_write}
 use Rattle.coda_cml.specs.Steady.{GoesOn, any_record, makes_in}
@@ -186,7 +186,6 @@ creates_mentions f _ e = absurd (false≢true e)
 
 creation_apart : (d h f g : Fid) → f ≢ g → same_fid h f ≡ true → (same_fid d g || (same_fid h g || false)) ≡ true → (same_fid d g && same_fid h f) ≡ true
 creation_apart d h f g ne e m = ⊎_elim (λ (a : same_fid d g ≡ true). and_from (same_fid d g) (same_fid h f) a e) (λ (b : (same_fid h g || false) ≡ true). absurd (ne (sym (fid_true h f e) ∙ fid_true h g (only_left (same_fid h g) b)))) (or_cases (same_fid d g) (same_fid h g || false) m)
-
 
 -- a creation of f that mentions g creates f in g
 pub creates_in : (f g : Fid) → f ≢ g → (o : Op) → creates f o ≡ true → mentioning g o ≡ true → makes_in g f o ≡ true

@@ -1,6 +1,6 @@
 -- the records of a tail, added to those of a chunk
-use Rattle.std.proofs.Common.{◌≡◌, ◌≢◌, ℕ, ◌+◌, Bool, true, false, cond, List, [], ◌∷◌, ◌++◌, Option, Some, None, refl, sym, ap, ◌∙◌, subst, ⊎_elim, is_some, ◌&&◌, ◌||◌, not, append_assoc}
-use Rattle.std.proofs.lemmas.Bool.{cases_Bool, cond_both, and_parts, and_from, or_parts, or_cases, or_left, or_right, false≢true, true≢false, false_from_ne_true}
+use Rattle.std.proofs.Common.{◌≡◌, ◌≢◌, Bool, true, false, cond, List, [], ◌∷◌, ◌++◌, Some, None, refl, sym, ap, ◌∙◌, subst, ⊎_elim, ◌&&◌, ◌||◌, not, append_assoc}
+use Rattle.std.proofs.lemmas.Bool.{cond_both, or_parts, or_cases, or_left, or_right, false≢true, false_from_ne_true}
 use Rattle.coda_fid.specs.declared.fid.Fid.{Fid}
 use Rattle.coda_fid.specs.declared.fid.Sid.{Sid}
 use Rattle.coda_fid.specs.declared.op.Op.{Op}

@@ -1,16 +1,14 @@
 -- The log after a thaw.
-use Rattle.std.proofs.Common.{◌≡◌, ℕ, ◌+◌, ◌<◌, ◌≤◌, Bool, true, false, cond, not, ◌&&◌, ◌||◌, List, [], ◌∷◌, ◌++◌, Option, Some, None, map, refl, sym, ap, ◌∙◌, subst, arith}
+use Rattle.std.proofs.Common.{◌≡◌, ℕ, ◌<◌, Bool, true, false, not, ◌&&◌, ◌||◌, List, [], ◌∷◌, ◌++◌, map, refl, sym, ap, ◌∙◌, arith}
 use Rattle.std.specs.Prelude.{nat_le, nat_lt}
-use Rattle.std.specs.List.{list_any}
 use Rattle.std.proofs.lemmas.Bool.{false≢true, true≢false}
 use Rattle.coda_fid.specs.declared.op.Record.{Record}
 use Rattle.coda_cancel.specs.declared.join.Join.{Join}
 use Rattle.coda_cancel.specs.Cancel.{add, added, fold}
 use Rattle.coda_cancel.specs.Numbers.{dropped, least, AreUpTo, AreAbove, IsRising}
 use Rattle.coda_cancel.specs.Joins.{noted, joins_of}
-use Rattle.coda_cml.specs.declared.segment.Segment.{Segment}
 use Rattle.coda_cml.specs.Steady.{IsSteady}
-use Rattle.coda_cml.specs.Segments.{is_joined, IsCut, segments_of}
+use Rattle.coda_cml.specs.Segments.{is_joined, segments_of}
 use Rattle.coda_cml.specs.Regrouping.{is_inside, widen_front, rejoined, recounted}
 use Rattle.coda_cml.specs.State.{LogState, IsLogOf}
 use Rattle.coda_cml.specs.Steps.{thawed}
@@ -104,8 +102,8 @@ all_ends front back s r i n = at n i
         let k = cuts n front back s r in
         ap (λ b. both_ends front back n && not b) (inside_joins (fold front) (fold back) n)
         ∙ four (is_joined n [] (front ++ back)) (is_joined n [] front) (is_joined n [] back) (is_joined n (fold front) (fold back))
-            (λ h. let m = k.0 (cut_fact n [] (front ++ back) h) in (cut_test n [] front m.0, cut_test n [] back m.1, cut_test n (fold front) (fold back) m.2))
-            (λ h. cut_test n [] (front ++ back) (k.1 (cut_fact n [] front h.0, cut_fact n [] back h.1, cut_fact n (fold front) (fold back) h.2)))
+        (λ h. let m = k.0 (cut_fact n [] (front ++ back) h) in (cut_test n [] front m.0, cut_test n [] back m.1, cut_test n (fold front) (fold back) m.2))
+        (λ h. cut_test n [] (front ++ back) (k.1 (cut_fact n [] front h.0, cut_fact n [] back h.1, cut_fact n (fold front) (fold back) h.2)))
 
 pub rising_front : (front back : List Record) → IsRising (front ++ back) → IsRising front
 rising_front [] back r = tt

@@ -4,9 +4,8 @@ use Rattle.std.proofs.lemmas.Bool.{false≢true}
 use Rattle.coda_fid.specs.declared.fid.Fid.{Fid}
 use Rattle.coda_fid.specs.declared.op.Op.{Op}
 use Rattle.coda_fid.specs.declared.op.Record.{Record}
-use Rattle.coda_cancel.specs.Handing.{nothing}
 use Rattle.coda_cancel.specs.Dropping.{creates, mentioning, writes}
-use Rattle.coda_cancel.specs.Cancel.{is_true_alone, is_undone, object, others}
+use Rattle.coda_cancel.specs.Cancel.{is_true_alone, is_undone, others}
 use Rattle.coda_cml.specs.Steady.{any_record}
 
 abbrev pub all_records : (Op → Bool) → List Record → Bool
@@ -42,4 +41,3 @@ undone_parts f (r ∷ rs) e = go (mentioning f r.op) (writes f r.op) (creates f 
     go true false false more e = absurd (false≢true (is_true_alone-only false (others f rs) e).0)
     go false w true more e = (refl, (more e).1)
     go false w false more e = more e
-

@@ -1,6 +1,6 @@
 -- taking out what mentions an object, and what is undone
-use Rattle.std.proofs.Common.{◌≡◌, ◌≢◌, ℕ, ◌+◌, Bool, true, false, cond, List, [], ◌∷◌, ◌++◌, Option, Some, None, refl, sym, ap, ◌∙◌, subst, ⊎_elim, is_some, ◌&&◌, ◌||◌, not}
-use Rattle.std.proofs.lemmas.Bool.{cases_Bool, cond_both, and_parts, and_from, or_parts, or_cases, or_left, or_right, false≢true, true≢false, false_from_ne_true}
+use Rattle.std.proofs.Common.{◌≡◌, ◌≢◌, Bool, true, false, cond, List, [], ◌∷◌, ◌++◌, refl, sym, ap, ◌∙◌, ⊎_elim, ◌&&◌, ◌||◌, not}
+use Rattle.std.proofs.lemmas.Bool.{cond_both, and_parts, or_parts, or_cases, or_left, or_right, false≢true}
 use Rattle.coda_fid.specs.declared.fid.Fid.{Fid}
 use Rattle.coda_fid.specs.declared.op.Op.{Op}
 use Rattle.coda_fid.specs.declared.op.Record.{Record}
@@ -9,7 +9,7 @@ use Rattle.coda_fid.specs.Fid.{same_fid}
 use Rattle.coda_fid.specs.Op.{carried}
 use Rattle.coda_cancel.specs.Handing.{Debt, hand, nothing, owe, paid, sid_or}
 use Rattle.coda_cancel.specs.Dropping.{creates, mentioning, writes}
-use Rattle.coda_cancel.specs.Cancel.{kept, object, others, without}
+use Rattle.coda_cancel.specs.Cancel.{kept, others, without}
 use Rattle.coda_cancel.proofs.Keys.{fid_other, fid_true}
 use Rattle.coda_cml.specs.Steady.{any_record, is_move, makes_in, moves}
 use Rattle.coda_cancel.proofs.Debts.{Blind, creates-with_pre, hand-nothing, mentioning-with_pre, paid-nothing, writes-with_pre}

@@ -13,9 +13,9 @@ mod tests;
 
 pub use fault::{FreezeFault, LogFault, SettleFault};
 pub use frozen::Frozen;
-pub use log::Log;
 pub use law::{
     a_thaw_has_the_segments, a_thaw_is_the_fold, operations_keep_steady, segments_are_their_folds,
     the_rest_is_steady,
 };
+pub use log::Log;
 pub use segment::Segment;

@@ -125,7 +125,7 @@ impl Log {
 
     // Whether the log would keep within its limits after an operation.
     fn has_room(&self, rec: &Record) -> bool
-        ensures { result ≡ fits MOST_RECORDS MOST_WEIGHT (self.now.chunk ++ add self.now.records rec.now) }
+        ensures { result ≡ fits 4096 16777216 (self.now.chunk ++ add self.now.records rec.now) }
     {
         match room_beside(self.chunk.records(), MOST_RECORDS, MOST_WEIGHT) {
             Some((count, weight)) => self.tail.fits_after(rec, count, weight),
@@ -141,7 +141,7 @@ impl Log {
     /// than 16 MiB. An error leaves the log as it was.
     pub fn append(&mut self, rec: Record) -> Result<(), LogFault>
         requires later { self.old.last < rec.number }
-        ensures full { (result ≡ Err LogFault.LogFull) ↔ (fits MOST_RECORDS MOST_WEIGHT (self.old.chunk ++ add self.old.records rec) ≡ false) }
+        ensures full { (result ≡ Err LogFault.LogFull) ↔ (fits 4096 16777216 (self.old.chunk ++ add self.old.records rec) ≡ false) }
         ensures log { OnOk result (self.new ≡ appended_to self.old rec) }
         ensures run { (front back : List Record) → IsLogOf self.old front back → OnOk result (IsLogOf self.new front (back ++ rec ∷ [])) }
         ensures err { OnErr result (self.new ≡ self.old) }
@@ -255,7 +255,9 @@ impl Log {
         ensures err { OnErr result (self.new ≡ self.old) }
     {
         self.chunk_segments.reserve(self.segments.len())?;
-        let joins = self.chunk.add_all(*self.segments.allocator(), &mut self.tail)?;
+        let joins = self
+            .chunk
+            .add_all(*self.segments.allocator(), &mut self.tail)?;
         regroup_all(
             &mut self.chunk_segments,
             &mut self.segments,

@@ -1,2 +1,0 @@
-use Rattle.coda_cml.proofs.log.room_beside.Goals as goal
-

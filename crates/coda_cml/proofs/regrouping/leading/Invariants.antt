@@ -1,4 +1,4 @@
-use Rattle.std.proofs.Common.{◌≡◌, ◌+◌, ◌≤◌, drop}
+use Rattle.std.proofs.Common.{◌≡◌, ◌+◌, drop}
 use Rattle.coda_cml.specs.Regrouping.{leading}
 use Rattle.coda_cml.proofs.regrouping.leading.Given as goal
 

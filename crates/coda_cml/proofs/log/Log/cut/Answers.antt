@@ -1,4 +1,4 @@
-use Rattle.std.proofs.Common.{◌++◌, sym, ◌∙◌, ap, subst}
+use Rattle.std.proofs.Common.{◌++◌, sym, ◌∙◌, subst}
 use Rattle.std.proofs.lemmas.List.{take-append-drop}
 use Rattle.coda_cancel.specs.Numbers.{AreUpTo, IsRising}
 use Rattle.coda_cancel.proofs.Rising.{rising_behind, rising_take}

@@ -1,4 +1,4 @@
-use Rattle.std.proofs.Common.{◌≡◌, [], ◌++◌, sym, ap, ◌∙◌, subst}
+use Rattle.std.proofs.Common.{◌≡◌, ◌++◌, sym, ap, ◌∙◌, subst}
 use Rattle.coda_cancel.specs.Numbers.{AreUpTo, IsRising}
 use Rattle.coda_cml.proofs.Near.{append_nil}
 use Rattle.coda_cml.proofs.Logs.{upto_front}

@@ -29,8 +29,8 @@ returns-clause-run c front back h s =
     let counted : c.records.result.now ≡ added c.self.inside.chunk c.self.inside.tail = c.records.ensures.same ∙ c.in_ok-joins.ensures.records in
     let joins : c.deref.result.now ≡ joins_of c.self.inside.chunk c.self.inside.tail = c.deref.ensures.value ∙ c.in_ok-joins.ensures.joins in
     let segments : c.swap-2.new.y.items ≡ recounted (added c.self.inside.chunk c.self.inside.tail) (rejoined (is_inside (joins_of c.self.inside.chunk c.self.inside.tail)) (c.self.inside.chunk_segments.items ++ c.self.inside.segments.items)) =
-        ap (λ v. v.items) c.swap-2.ensures.y_after ∙ c.regroup_all.ensures.segments
-        ∙ (λ i. recounted (counted i) (rejoined (is_inside (joins i)) (c.in_ok-reserve.ensures.items i ++ c.self.inside.segments.items))) in
+    ap (λ v. v.items) c.swap-2.ensures.y_after ∙ c.regroup_all.ensures.segments
+    ∙ (λ i. recounted (counted i) (rejoined (is_inside (joins i)) (c.in_ok-reserve.ensures.items i ++ c.self.inside.segments.items))) in
     let new : LogState = record { frozen = None; chunk = c.swap.new.x; chunk_segments = c.swap-2.new.x.items; records = c.swap.new.y; segments = c.swap-2.new.y.items; last = c.self.inside.last; chunks = c.self.inside.chunks } in
     let same : new ≡ thawed (state_of c.self.inside) = λ i. record { frozen = None; chunk = chunk i; chunk_segments = none i; records = tail i; segments = segments i; last = c.self.inside.last; chunks = c.self.inside.chunks } in
     subst (λ log. IsLogOf log [] (front ++ back)) (sym same) (thawed_log (state_of c.self.inside) front back (subst (λ log. IsLogOf log front back) (sym c.self.view_is) h) s)
