@@ -1,0 +1,5 @@
+use Rattle.coda_cml.proofs.Thaw.{thaw}
+use Rattle.coda_cml.proofs.law.a_thaw_is_the_fold.Goals as goal
+
+pub returns : goal.returns
+returns c = thaw

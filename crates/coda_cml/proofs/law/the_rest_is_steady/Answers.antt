@@ -1,0 +1,5 @@
+use Rattle.coda_cml.proofs.Suffix.{suffix}
+use Rattle.coda_cml.proofs.law.the_rest_is_steady.Goals as goal
+
+pub returns : goal.returns
+returns c = suffix

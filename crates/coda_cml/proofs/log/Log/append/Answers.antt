@@ -1,0 +1,38 @@
+use Rattle.std.proofs.Common.{◌≡◌, ◌<◌, ◌∷◌, [], ◌++◌, sym, ap, ◌∙◌, subst}
+use Rattle.coda_cancel.specs.Cancel.{add}
+use Rattle.coda_cancel.specs.Numbers.{AreUpTo, IsRising, dropped, least}
+use Rattle.coda_cancel.specs.Joins.{noted}
+use Rattle.coda_cml.specs.State.{LogState, IsLogOf}
+use Rattle.coda_cml.specs.Inside.{state_of}
+use Rattle.coda_cml.specs.Segments.{single}
+use Rattle.coda_cml.specs.Regrouping.{is_inside, rejoined, recounted}
+use Rattle.coda_cml.specs.Steps.{appended_to, segments_after}
+use Rattle.coda_cml.proofs.Logs.{below_later, upto_back, rising_add_behind, upto_add_behind, appended_log}
+use Rattle.coda_cml.proofs.log.Log.append.Goals as goal
+
+pub add-requires : goal.add-requires
+add-requires c =
+    let later : c.self.inside.last < c.args.rec.number = subst (λ (log : LogState). log.last < c.args.rec.number) (sym c.self.view_is) c.requires.later in
+    below_later c.self.inside.last c.args.rec.number later c.self.inside.tail (upto_back c.self.inside.last c.self.inside.chunk c.self.inside.tail c.self.invariant.reached)
+
+pub invariant_of-self-2 : goal.invariant_of-self-2
+invariant_of-self-2 c =
+    let later : c.self.inside.last < c.args.rec.number = subst (λ (log : LogState). log.last < c.args.rec.number) (sym c.self.view_is) c.requires.later in
+    record {
+      rising = subst (λ l. IsRising (c.self.inside.chunk ++ l)) (sym c.in-Ok.ensures.ok) (rising_add_behind c.self.inside.chunk c.self.inside.tail c.args.rec c.self.invariant.rising (below_later c.self.inside.last c.args.rec.number later (c.self.inside.chunk ++ c.self.inside.tail) c.self.invariant.reached));
+      reached = subst (λ l. AreUpTo c.args.rec.number (c.self.inside.chunk ++ l)) (sym c.in-Ok.ensures.ok) (upto_add_behind c.self.inside.last c.self.inside.chunk c.self.inside.tail c.args.rec c.self.invariant.reached later);
+    }
+
+pub returns-clause-run : goal.returns-clause-run
+returns-clause-run c front back h =
+    let later : c.self.inside.last < c.args.rec.number = subst (λ (log : LogState). log.last < c.args.rec.number) (sym c.self.view_is) c.requires.later in
+    let records : c.add.new.self ≡ add c.self.inside.tail c.args.rec = c.in-Ok.ensures.ok in
+    let counted : c.records.result.now ≡ add c.self.inside.tail c.args.rec = c.records.ensures.same ∙ records in
+    let dropping : c.in-Ok.least ≡ least (dropped c.self.inside.tail c.args.rec) = c.in-Ok.ensures.least in
+    let pushed : c.push_reserved.new.self.items ≡ c.self.inside.segments.items ++ single [] c.args.rec ∷ [] = c.push_reserved.ensures.items ∙ ap (λ l. l ++ single [] c.args.rec ∷ []) c.reserve.ensures.items in
+    let segments : c.regroup_last.new.segments.items ≡ segments_after c.self.inside.segments.items c.self.inside.tail c.args.rec =
+    c.regroup_last.ensures ∙ (λ i. recounted (counted i) (rejoined (is_inside (noted c.args.rec.number (dropping i))) (pushed i))) in
+    let new : LogState = record { frozen = c.self.inside.frozen; chunk = c.self.inside.chunk; chunk_segments = c.self.inside.chunk_segments.items; records = c.add.new.self; segments = c.regroup_last.new.segments.items; last = c.args.rec.number; chunks = c.self.inside.chunks } in
+    let same : new ≡ appended_to (state_of c.self.inside) c.args.rec =
+    λ i. record { frozen = c.self.inside.frozen; chunk = c.self.inside.chunk; chunk_segments = c.self.inside.chunk_segments.items; records = records i; segments = segments i; last = c.args.rec.number; chunks = c.self.inside.chunks } in
+    subst (λ log. IsLogOf log front (back ++ c.args.rec ∷ [])) (sym same) (appended_log (state_of c.self.inside) front back c.args.rec later (subst (λ log. IsLogOf log front back) (sym c.self.view_is) h))

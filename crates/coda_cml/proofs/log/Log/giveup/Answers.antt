@@ -1,0 +1,14 @@
+use Rattle.std.proofs.Common.{◌≡◌, ◌++◌, sym, ap, ◌∙◌, subst}
+use Rattle.coda_cancel.specs.Numbers.{AreUpTo, IsRising}
+use Rattle.coda_cml.proofs.Near.{append_nil}
+use Rattle.coda_cml.proofs.Logs.{upto_front}
+use Rattle.coda_cml.proofs.Thawing.{rising_front}
+use Rattle.coda_cml.proofs.log.Log.giveup.Goals as goal
+
+pub invariant_of-self : goal.invariant_of-self
+invariant_of-self c =
+    let left : c.self.inside.chunk ++ c.replace-tail.new.dest ≡ c.self.inside.chunk = ap (λ l. c.self.inside.chunk ++ l) (c.replace-tail.ensures.after ∙ c.new.ensures) ∙ append_nil c.self.inside.chunk in
+    record {
+      rising = subst IsRising (sym left) (rising_front c.self.inside.chunk c.self.inside.tail c.self.invariant.rising);
+      reached = subst (AreUpTo c.self.inside.last) (sym left) (upto_front c.self.inside.last c.self.inside.chunk c.self.inside.tail c.self.invariant.reached);
+    }

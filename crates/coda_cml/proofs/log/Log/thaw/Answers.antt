@@ -1,0 +1,36 @@
+use Rattle.std.proofs.Common.{◌≡◌, [], ◌++◌, None, sym, ap, ◌∙◌, subst}
+use Rattle.coda_cancel.specs.Cancel.{added}
+use Rattle.coda_cancel.specs.Numbers.{AreUpTo, IsRising}
+use Rattle.coda_cancel.specs.Joins.{joins_of}
+use Rattle.coda_cancel.proofs.Turns.{rising_added}
+use Rattle.coda_cml.specs.State.{LogState, IsLogOf}
+use Rattle.coda_cml.specs.Inside.{state_of}
+use Rattle.coda_cml.specs.Regrouping.{is_inside, rejoined, recounted}
+use Rattle.coda_cml.specs.Steps.{thawed}
+use Rattle.coda_cml.proofs.Prefix.{up_added}
+use Rattle.coda_cml.proofs.Logs.{upto_front, upto_back}
+use Rattle.coda_cml.proofs.Thawing.{thawed_log}
+use Rattle.coda_cml.proofs.log.Log.thaw.Goals as goal
+
+pub invariant_of-self-2 : goal.invariant_of-self-2
+invariant_of-self-2 c =
+    let whole : c.swap.new.x ++ c.swap.new.y ≡ added c.self.inside.chunk c.self.inside.tail = λ i. (c.swap.ensures.x_after ∙ c.in_ok-joins.ensures.later) i ++ (c.swap.ensures.y_after ∙ c.in_ok-joins.ensures.records) i in
+    record {
+      rising = subst IsRising (sym whole) (rising_added c.self.inside.chunk c.self.inside.tail c.self.invariant.rising);
+      reached = subst (AreUpTo c.self.inside.last) (sym whole) (up_added c.self.inside.last c.self.inside.chunk c.self.inside.tail
+          (upto_front c.self.inside.last c.self.inside.chunk c.self.inside.tail c.self.invariant.reached) (upto_back c.self.inside.last c.self.inside.chunk c.self.inside.tail c.self.invariant.reached));
+    }
+
+pub returns-clause-run : goal.returns-clause-run
+returns-clause-run c front back h s =
+    let chunk : c.swap.new.x ≡ [] = c.swap.ensures.x_after ∙ c.in_ok-joins.ensures.later in
+    let tail : c.swap.new.y ≡ added c.self.inside.chunk c.self.inside.tail = c.swap.ensures.y_after ∙ c.in_ok-joins.ensures.records in
+    let none : c.swap-2.new.x.items ≡ [] = ap (λ v. v.items) c.swap-2.ensures.x_after ∙ c.regroup_all.ensures.later in
+    let counted : c.records.result.now ≡ added c.self.inside.chunk c.self.inside.tail = c.records.ensures.same ∙ c.in_ok-joins.ensures.records in
+    let joins : c.deref.result.now ≡ joins_of c.self.inside.chunk c.self.inside.tail = c.deref.ensures.value ∙ c.in_ok-joins.ensures.joins in
+    let segments : c.swap-2.new.y.items ≡ recounted (added c.self.inside.chunk c.self.inside.tail) (rejoined (is_inside (joins_of c.self.inside.chunk c.self.inside.tail)) (c.self.inside.chunk_segments.items ++ c.self.inside.segments.items)) =
+    ap (λ v. v.items) c.swap-2.ensures.y_after ∙ c.regroup_all.ensures.segments
+    ∙ (λ i. recounted (counted i) (rejoined (is_inside (joins i)) (c.in_ok-reserve.ensures.items i ++ c.self.inside.segments.items))) in
+    let new : LogState = record { frozen = None; chunk = c.swap.new.x; chunk_segments = c.swap-2.new.x.items; records = c.swap.new.y; segments = c.swap-2.new.y.items; last = c.self.inside.last; chunks = c.self.inside.chunks } in
+    let same : new ≡ thawed (state_of c.self.inside) = λ i. record { frozen = None; chunk = chunk i; chunk_segments = none i; records = tail i; segments = segments i; last = c.self.inside.last; chunks = c.self.inside.chunks } in
+    subst (λ log. IsLogOf log [] (front ++ back)) (sym same) (thawed_log (state_of c.self.inside) front back (subst (λ log. IsLogOf log front back) (sym c.self.view_is) h) s)

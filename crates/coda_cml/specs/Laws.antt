@@ -1,0 +1,27 @@
+-- What holds of all runs.
+use Rattle.std.specs.Prelude.{◌≡◌, ◌↔◌, ℕ, List, [], ◌∷◌, ◌++◌}
+use Rattle.coda_fid.specs.declared.op.Record.{Record}
+use Rattle.coda_cancel.specs.Cancel.{added, fold}
+use Rattle.coda_cancel.specs.Numbers.{AreUpTo, AreAbove, IsRising}
+use Rattle.coda_cml.specs.Steady.{IsSteady, IsFresh, RemovesEmpty}
+use Rattle.coda_cml.specs.Segments.{IsCut, records_upto}
+
+-- the records of the back of a steady run, added to those of its front, are those of the whole
+abbrev pub ThawIsTheFold : Type 0
+ThawIsTheFold = (front back : List Record) → IsSteady (front ++ back) → added (fold front) (fold back) ≡ fold (front ++ back)
+
+-- where a run may be cut, the records up to there are those of its front alone
+abbrev pub SegmentsAreTheirFolds : Type 0
+SegmentsAreTheirFolds = (number : ℕ) (front back : List Record) → AreUpTo number front → AreAbove number back → IsCut number [] (front ++ back) → records_upto number (fold (front ++ back)) ≡ fold front
+
+-- a steady run may be cut exactly where its front and its back may be, and where the records of the back join nothing as they are added to those of the front
+abbrev pub ThawHasTheSegments : Type 0
+ThawHasTheSegments = (number : ℕ) (front back : List Record) → IsSteady (front ++ back) → IsRising (front ++ back) → IsCut number [] (front ++ back) ↔ (IsCut number [] front × IsCut number [] back × IsCut number (fold front) (fold back))
+
+-- what is left of a steady run is steady
+abbrev pub RestIsSteady : Type 0
+RestIsSteady = (front rest : List Record) → IsSteady (front ++ rest) → IsSteady rest
+
+-- a steady run stays steady with one more operation, where this creates nothing that the run mentions, and removes nothing in which something is left that the run created there
+abbrev pub OperationsKeepSteady : Type 0
+OperationsKeepSteady = (run : List Record) (rec : Record) → IsSteady run → IsFresh rec.op run → RemovesEmpty rec.op run → IsSteady (run ++ rec ∷ [])

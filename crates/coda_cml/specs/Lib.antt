@@ -1,0 +1,9 @@
+pub mod Steady
+pub mod Segments
+pub mod Laws
+pub mod State
+pub mod Regrouping
+pub mod Chunks
+pub mod Steps
+pub mod Inside
+pub mod Room

@@ -1,0 +1,35 @@
+-- How the code keeps segments: it joins neighbours, and counts their records again.
+use Rattle.std.specs.Prelude.{ℕ, ◌+◌, Bool, true, false, not, cond, ◌&&◌, nat_le, nat_lt, max, List, [], ◌∷◌, drop}
+use Rattle.std.specs.List.{list_any}
+use Rattle.coda_fid.specs.declared.op.Record.{Record}
+use Rattle.coda_cancel.specs.declared.join.Join.{Join}
+use Rattle.coda_cml.specs.declared.segment.Segment.{Segment}
+
+-- whether an operation above the number dropped a record up to it
+abbrev pub is_inside : List Join → ℕ → Bool
+is_inside joins number = list_any (λ join. nat_le join.least number && nat_lt number join.number) joins
+
+-- a segment with the next one, as to its ends and times
+abbrev pub widened : Segment → Segment → Segment
+widened segment next = record { first = segment.first; last = next.last; count = segment.count; newest = max segment.newest next.newest }
+
+-- a segment in front of others, by whether it ends there
+abbrev pub widen_front : Bool → Segment → List Segment → List Segment
+widen_front true segment rest = segment ∷ rest
+widen_front false segment [] = segment ∷ []
+widen_front false segment (next ∷ rest) = widened segment next ∷ rest
+
+-- the segments without the ends that pass a test
+abbrev pub rejoined : (ℕ → Bool) → List Segment → List Segment
+rejoined is_gone [] = []
+rejoined is_gone (segment ∷ rest) = widen_front (not (is_gone segment.last)) segment (rejoined is_gone rest)
+
+-- how many records stand in front of the first with a greater number
+abbrev pub leading : ℕ → List Record → ℕ
+leading number [] = 0
+leading number (rec ∷ recs) = cond (nat_le rec.number number) (1 + leading number recs) 0
+
+-- the segments with the counts of these records
+abbrev pub recounted : List Record → List Segment → List Segment
+recounted recs [] = []
+recounted recs (segment ∷ rest) = record segment { count = leading segment.last recs } ∷ recounted (drop (leading segment.last recs) recs) rest

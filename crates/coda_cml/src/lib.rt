@@ -1,0 +1,21 @@
+//! The log of a client on a volume: frozen records on their way to a server, and those after them.
+#![tactic(auto)]
+
+mod choosing;
+mod fault;
+mod frozen;
+mod law;
+mod log;
+mod regrouping;
+mod segment;
+#[cfg(test)]
+mod tests;
+
+pub use fault::{FreezeFault, LogFault, SettleFault};
+pub use frozen::Frozen;
+pub use law::{
+    a_thaw_has_the_segments, a_thaw_is_the_fold, operations_keep_steady, segments_are_their_folds,
+    the_rest_is_steady,
+};
+pub use log::Log;
+pub use segment::Segment;

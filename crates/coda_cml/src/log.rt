@@ -1,0 +1,433 @@
+ghost use Rattle.std.specs.Prelude.{◌≡◌, ◌≤◌, ◌+◌, [], ◌++◌, List};
+ghost use Rattle.std.specs.Vec.{vec_len, vec_capacity};
+ghost use Rattle.coda_fid.specs.declared.op.Record.{Record};
+ghost use Rattle.coda_cancel.specs.Joins.{noted};
+ghost use Rattle.coda_cancel.specs.Weights.{fits};
+ghost use Rattle.coda_cml.specs.Regrouping.{is_inside, rejoined, recounted};
+ghost use Rattle.coda_cml.specs.Room.{room_fits};
+ghost use Rattle.coda_cml.specs.Steps.{end_of};
+
+use crate::choosing::{age, chunk_length, filled};
+use crate::regrouping::{leading, recount, rejoin};
+use crate::{FreezeFault, Frozen, LogFault, Segment, SettleFault};
+use coda_cancel::{Join, Tail};
+use coda_certify::Verdict;
+use coda_fid::Record;
+use std::alloc::{AllocError, Global};
+use std::marker::Model;
+use std::mem;
+
+/// The most records that a log holds.
+const MOST_RECORDS: usize = 4_096;
+
+/// The most that the records of a log weigh.
+const MOST_WEIGHT: u64 = 16_777_216;
+
+/// The log of a client on one volume: the operations that no server has yet, as far as later ones leave
+/// them.
+///
+/// Its front may be frozen as a chunk, which is on its way to a server; new operations go to the tail
+/// (Mummert, Ebling and Satyanarayanan 1995). Contracts see both parts with their segments.
+#[derive(Debug, Drop)]
+pub struct Log {
+    frozen: Option<Frozen>,
+    chunk: Tail,
+    chunk_segments: Vec<Segment>,
+    tail: Tail,
+    segments: Vec<Segment>,
+    last: u64,
+    chunks: u64,
+}
+
+impl Model for Log {
+    ghost use Rattle.coda_cml.specs.State.{LogState};
+    ghost use Rattle.coda_cml.specs.Inside.{state_of, IsKept};
+
+    ghost Value = { LogState };
+
+    ghost view = { state_of };
+
+    ghost invariant = { IsKept };
+}
+
+impl Log {
+    ghost use Rattle.std.specs.Prelude.{◌≡◌, ◌≢◌, ◌↔◌, ◌<◌, ◌≤◌, ◌+◌, ◌-◌, ◌^◌, ℕ, List, [], ◌∷◌, ◌++◌, false, None, Some, IsSome, IsOk, IfOk, OnOk, OnErr};
+    ghost use Rattle.coda_fid.specs.declared.op.Record.{Record};
+    ghost use Rattle.coda_cancel.specs.Cancel.{add};
+    ghost use Rattle.coda_cancel.specs.Weights.{fits};
+    ghost use Rattle.coda_cml.specs.Steady.{IsSteady};
+    ghost use Rattle.coda_cml.specs.State.{empty_log, IsLogOf};
+    ghost use Rattle.coda_cml.specs.Chunks.{chunk_length, freeze_refusal};
+    ghost use Rattle.std.specs.Prelude.{length as list_length};
+    ghost use Rattle.coda_cml.specs.declared.fault.FreezeFault.{FreezeFault};
+    ghost use Rattle.coda_cml.specs.Steps.{appended_to, cut_at, frozen_to, applied_to, thawed, settled, pending_after, settle_refusal, given_up};
+    ghost use Rattle.coda_cml.specs.declared.fault.SettleFault.{SettleFault};
+
+    /// A log without operations.
+    pub fn new(alloc: Global) -> Log
+        ensures log { result ≡ empty_log }
+        ensures run { IsLogOf result [] [] }
+    {
+        Log {
+            frozen: None,
+            chunk: Tail::new(alloc),
+            chunk_segments: Vec::new(alloc),
+            tail: Tail::new(alloc),
+            segments: Vec::new(alloc),
+            last: 0,
+            chunks: 0,
+        }
+    }
+
+    /// The number of the last operation; 0 where there was none.
+    pub fn last(&self) -> u64
+        ensures { result ≡ self.now.last }
+    {
+        self.last
+    }
+
+    /// The number of the last chunk; 0 where there was none.
+    pub fn chunks(&self) -> u64
+        ensures { result ≡ self.now.chunks }
+    {
+        self.chunks
+    }
+
+    /// The chunk that is on its way.
+    pub fn frozen(&self) -> Option<Frozen>
+        ensures { result ≡ self.now.frozen }
+    {
+        self.frozen
+    }
+
+    /// The records of the chunk; none where none is frozen.
+    pub fn chunk(&self) -> &[Record]
+        ensures { result.now ≡ self.now.chunk }
+    {
+        self.chunk.records()
+    }
+
+    /// The records of the chunk, and those of the tail.
+    pub fn records(&self) -> (&[Record], &[Record])
+        ensures chunk { result.0.now ≡ self.now.chunk }
+        ensures tail { result.1.now ≡ self.now.records }
+    {
+        (self.chunk.records(), self.tail.records())
+    }
+
+    /// The segments of the chunk, and those of the tail.
+    pub fn segments(&self) -> (&[Segment], &[Segment])
+        ensures chunk { result.0.now ≡ self.now.chunk_segments }
+        ensures tail { result.1.now ≡ self.now.segments }
+    {
+        (&self.chunk_segments, &self.segments)
+    }
+
+    // Whether the log would keep within its limits after an operation.
+    fn has_room(&self, rec: &Record) -> bool
+        ensures { result ≡ fits 4096 16777216 (self.now.chunk ++ add self.now.records rec.now) }
+    {
+        match room_beside(self.chunk.records(), MOST_RECORDS, MOST_WEIGHT) {
+            Some((count, weight)) => self.tail.fits_after(rec, count, weight),
+            None => false,
+        }
+    }
+
+    /// Puts an operation into the tail, by cancellation. Its number is above all earlier ones.
+    ///
+    /// # Errors
+    ///
+    /// `LogFull` exactly where the log would then hold more than 4,096 records, or these would weigh more
+    /// than 16 MiB. An error leaves the log as it was.
+    pub fn append(&mut self, rec: Record) -> Result<(), LogFault>
+        requires later { self.old.last < rec.number }
+        ensures full { (result ≡ Err LogFault.LogFull) ↔ (fits 4096 16777216 (self.old.chunk ++ add self.old.records rec) ≡ false) }
+        ensures log { OnOk result (self.new ≡ appended_to self.old rec) }
+        ensures run { (front back : List Record) → IsLogOf self.old front back → OnOk result (IsLogOf self.new front (back ++ rec ∷ [])) }
+        ensures err { OnErr result (self.new ≡ self.old) }
+    {
+        if !self.has_room(&rec) {
+            return Err(LogFault::LogFull);
+        }
+        if self.segments.reserve(1).is_err() {
+            return Err(LogFault::Memory);
+        }
+        let single = Segment {
+            first: rec.number,
+            last: rec.number,
+            count: 0,
+            newest: rec.time,
+        };
+        let Ok(least) = self.tail.add(rec) else {
+            return Err(LogFault::Memory);
+        };
+        self.last = single.last;
+        self.segments.push_reserved(single);
+        regroup_last(&mut self.segments, single.last, least, self.tail.records());
+        Ok(())
+    }
+
+    // The chosen segments as a chunk, so many. Fails for want of memory alone.
+    fn cut(&mut self, length: usize) -> Result<(), AllocError>
+        requires { length ≤ list_length self.old.segments }
+        ensures log { OnOk result (self.new ≡ cut_at self.old length) }
+        ensures err { OnErr result (self.new ≡ self.old) }
+    {
+        let later = Vec::from_slice(*self.segments.allocator(), &self.segments[length..])?;
+        let end = end_of(&self.segments[..length]);
+        let count = leading(self.tail.records(), end);
+        let front = self.tail.take_front(count)?;
+        self.segments.truncate(length);
+        self.chunk_segments = mem::replace(&mut self.segments, later);
+        self.chunk = Tail::from_records(front);
+        Ok(())
+    }
+
+    /// Freezes the front of the tail as a chunk for a server, and answers the chunk's number.
+    ///
+    /// A chunk is the longest run of segments from the front whose operations are all at least `window`
+    /// seconds old at the time `now` and that have at most `cap` records together, but it goes at least
+    /// up to the first segment with a record. A segment without records is old enough at any time.
+    /// Chunks are numbered in turn; there were fewer than 2^64 - 1.
+    ///
+    /// # Errors
+    ///
+    /// In this order: `Frozen` where a chunk is frozen already, with its number and server; `Nothing`
+    /// where no segment has a record; `Young` where the first that has one isn't old enough, with its age
+    /// and the window. An error leaves the log as it was.
+    pub fn freeze(
+        &mut self,
+        home: u8,
+        now: u64,
+        window: u64,
+        cap: usize,
+    ) -> Result<u64, FreezeFault>
+        requires { self.old.chunks < 2 ^ 64 - 1 }
+        ensures causes { (why : FreezeFault) → why ≢ FreezeFault.Memory → ((result ≡ Err why) ↔ (freeze_refusal self.old.frozen now window self.old.segments ≡ Some why)) }
+        ensures number { IfOk result (λ number. number ≡ self.old.chunks + 1) }
+        ensures log { OnOk result (self.new ≡ frozen_to self.old home (chunk_length now window cap self.old.segments)) }
+        ensures run { (run : List Record) → IsLogOf self.old [] run → IsSteady run → OnOk result ((front : List Record) × (back : List Record) × (run ≡ front ++ back) × IsLogOf self.new front back) }
+        ensures err { OnErr result (self.new ≡ self.old) }
+    {
+        if let Some(why) = self.refusal(now, window) {
+            return Err(why);
+        }
+        let length = chunk_length(&self.segments, now, window, cap);
+        let Ok(()) = self.cut(length) else {
+            return Err(FreezeFault::Memory);
+        };
+        self.chunks += 1;
+        self.frozen = Some(Frozen {
+            number: self.chunks,
+            home,
+        });
+        Ok(self.chunks)
+    }
+
+    // Why nothing is frozen.
+    fn refusal(&self, now: u64, window: u64) -> Option<FreezeFault>
+        ensures { result ≡ freeze_refusal self.now.frozen now window self.now.segments }
+    {
+        if let Some(chunk) = self.frozen {
+            return Some(FreezeFault::Frozen(chunk.number, chunk.home));
+        }
+        match filled(&self.segments) {
+            Some(first) if age(&first, now) < window => {
+                Some(FreezeFault::Young(age(&first, now), window))
+            }
+            Some(_) => None,
+            None => Some(FreezeFault::Nothing),
+        }
+    }
+
+    /// Puts the frozen chunk back in front of the tail: the records of the tail are added to it in turn,
+    /// and segments are joined as that drops records. The number of the chunk is used up.
+    ///
+    /// Costs the records of the tail times those of the log.
+    ///
+    /// # Errors
+    ///
+    /// Fails for want of memory alone, and then the chunk stays frozen.
+    pub fn thaw(&mut self) -> Result<(), AllocError>
+        requires { IsSome self.old.frozen }
+        ensures log { OnOk result (self.new ≡ thawed self.old) }
+        ensures run { (front back : List Record) → IsLogOf self.old front back → IsSteady (front ++ back) → OnOk result (IsLogOf self.new [] (front ++ back)) }
+        ensures err { OnErr result (self.new ≡ self.old) }
+    {
+        self.chunk_segments.reserve(self.segments.len())?;
+        let joins = self
+            .chunk
+            .add_all(*self.segments.allocator(), &mut self.tail)?;
+        regroup_all(
+            &mut self.chunk_segments,
+            &mut self.segments,
+            &joins,
+            self.chunk.records(),
+        );
+        mem::swap(&mut self.chunk, &mut self.tail);
+        mem::swap(&mut self.chunk_segments, &mut self.segments);
+        self.frozen = None;
+        Ok(())
+    }
+
+    // Drops the chunk.
+    fn apply(&mut self)
+        ensures log { self.new ≡ applied_to self.old }
+        ensures run { (front back : List Record) → IsLogOf self.old front back → IsLogOf self.new [] back }
+    {
+        let alloc = *self.segments.allocator();
+        self.frozen = None;
+        self.chunk = Tail::new(alloc);
+        self.chunk_segments.clear();
+    }
+
+    // Takes the verdict on the chunk.
+    fn take(&mut self, verdict: &Verdict) -> Result<(), AllocError>
+        requires { IsSome self.old.frozen }
+        ensures applied { verdict.now ≡ Verdict.Applied → IsOk result }
+        ensures log { OnOk result (self.new ≡ settled verdict.now self.old) }
+        ensures run { (front back : List Record) → IsLogOf self.old front back → IsSteady (front ++ back) → OnOk result (IsLogOf self.new [] (pending_after verdict.now front back)) }
+        ensures err { OnErr result (self.new ≡ self.old) }
+    {
+        match verdict {
+            Verdict::Applied => {
+                self.apply();
+                Ok(())
+            }
+            Verdict::Conflict(_, _) => self.thaw(),
+        }
+    }
+
+    /// Takes the verdict on the chunk of a number. Applied, the chunk is done with, which takes no memory;
+    /// a conflict thaws it.
+    ///
+    /// # Errors
+    ///
+    /// `NotFrozen` exactly where no chunk is frozen, with the number given; `WrongNumber` exactly where one
+    /// of another number is, with both. `Memory` comes of a conflict alone. An error leaves the log as it
+    /// was.
+    pub fn settle(&mut self, number: u64, verdict: &Verdict) -> Result<(), SettleFault>
+        ensures causes { (why : SettleFault) → why ≢ SettleFault.Memory → ((result ≡ Err why) ↔ (settle_refusal self.old.frozen number ≡ Some why)) }
+        ensures applied { verdict.now ≡ Verdict.Applied → result ≢ Err SettleFault.Memory }
+        ensures log { OnOk result (self.new ≡ settled verdict.now self.old) }
+        ensures run { (front back : List Record) → IsLogOf self.old front back → IsSteady (front ++ back) → OnOk result (IsLogOf self.new [] (pending_after verdict.now front back)) }
+        ensures err { OnErr result (self.new ≡ self.old) }
+    {
+        match self.frozen {
+            None => Err(SettleFault::NotFrozen(number)),
+            Some(chunk) if chunk.number != number => {
+                Err(SettleFault::WrongNumber(chunk.number, number))
+            }
+            Some(_) => match self.take(verdict) {
+                Ok(()) => Ok(()),
+                Err(_) => Err(SettleFault::Memory),
+            },
+        }
+    }
+
+    /// Hands out the records of a log of which no chunk is frozen, and empties it. Numbers of operations
+    /// and chunks go on.
+    ///
+    /// # Errors
+    ///
+    /// `Frozen` exactly where a chunk is frozen, with its number and server; else `Nothing` exactly where
+    /// there is no record. An error leaves the log as it was.
+    pub fn giveup(&mut self) -> Result<Vec<Record>, FreezeFault>
+        ensures frozen { (number home : ℕ) → ((result ≡ Err (FreezeFault.Frozen number home)) ↔ (self.old.frozen ≡ Some (record { number = number; home = home }))) }
+        ensures nothing { (result ≡ Err FreezeFault.Nothing) ↔ ((self.old.frozen ≡ None) × (self.old.records ≡ [])) }
+        ensures records { IfOk result (λ recs. recs.items ≡ self.old.records) }
+        ensures log { OnOk result (self.new ≡ given_up self.old) }
+        ensures run { (run : List Record) → IsLogOf self.old [] run → OnOk result (IsLogOf self.new [] []) }
+        ensures err { OnErr result (self.new ≡ self.old) }
+    {
+        if let Some(chunk) = self.frozen {
+            return Err(FreezeFault::Frozen(chunk.number, chunk.home));
+        }
+        if self.tail.records().is_empty() {
+            return Err(FreezeFault::Nothing);
+        }
+        let alloc = *self.segments.allocator();
+        let tail = mem::replace(&mut self.tail, Tail::new(alloc));
+        self.segments.clear();
+        Ok(tail.into_records())
+    }
+
+    /// The same log, in memory of its own.
+    pub fn copy(&self) -> Result<Log, AllocError>
+        ensures { IfOk result (λ log. log ≡ self.now) }
+    {
+        let alloc = *self.segments.allocator();
+        let chunk = self.chunk.copy(alloc)?;
+        let chunk_segments = self.chunk_segments.clone()?;
+        let tail = self.tail.copy(alloc)?;
+        let segments = self.segments.clone()?;
+        Ok(Log {
+            frozen: self.frozen,
+            chunk,
+            chunk_segments,
+            tail,
+            segments,
+            last: self.last,
+            chunks: self.chunks,
+        })
+    }
+}
+
+// The number of the last operation of the segments; 0 where there are none.
+fn end_of(segments: &[Segment]) -> u64
+    ensures { result ≡ end_of segments.now }
+{
+    match segments.last() {
+        Some(segment) => segment.last,
+        None => 0,
+    }
+}
+
+// What room the records leave, where there is enough for them.
+fn room_beside(records: &[Record], most: usize, heaviest: u64) -> Option<(usize, u64)>
+    ensures { (rest : List Record) → fits most heaviest (records.now ++ rest) ≡ room_fits result rest }
+{
+    let mut count = most;
+    let mut room = heaviest;
+    for record in records {
+        let weight = record.weight();
+        if count == 0 || weight > room {
+            return None;
+        }
+        count -= 1;
+        room -= weight;
+    }
+    Some((count, room))
+}
+
+// Joins the segment of a new operation with those of the records that it dropped, and counts the records
+// of all.
+fn regroup_last(segments: &mut Vec<Segment>, number: u64, least: Option<u64>, records: &[Record])
+    ensures { segments.new.items ≡ recounted records.now (rejoined (is_inside (noted number least)) segments.old.items) }
+{
+    match least {
+        Some(least) => rejoin(segments, &[Join { least, number }]),
+        None => rejoin(segments, &[]),
+    }
+    recount(segments, records);
+}
+
+// Puts the segments of a tail behind those of a chunk, joins those between which operations dropped
+// records, and counts the records of all.
+fn regroup_all(
+    segments: &mut Vec<Segment>,
+    later: &mut Vec<Segment>,
+    joins: &[Join],
+    records: &[Record],
+)
+    requires { vec_len segments.old + vec_len later.old ≤ vec_capacity segments.old }
+    ensures segments { segments.new.items ≡ recounted records.now (rejoined (is_inside joins.now) (segments.old.items ++ later.old.items)) }
+    ensures later { later.new.items ≡ [] }
+{
+    for segment in later.iter() {
+        segments.push_reserved(*segment);
+    }
+    later.clear();
+    rejoin(segments, joins);
+    recount(segments, records);
+}
