@@ -3,5 +3,10 @@ pub mod Tree
 pub mod Volume
 pub mod Lookup
 pub mod Table
+pub mod Slots
+pub mod SlotSteps
+pub mod SlotEdits
 pub mod Keeping
+pub mod Bodies
+pub mod Volumes
 pub mod Blocks

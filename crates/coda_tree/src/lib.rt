@@ -1,11 +1,15 @@
 //! Volumes: trees of nodes whose root is a directory, and tables of nodes that are no tree.
 #![tactic(auto)]
 
+mod body;
 mod entries;
 mod node;
+mod slot;
+mod slots;
 mod table;
 mod volume;
 
+pub use body::Body;
 pub use entries::Entries;
 pub use node::{Node, NodeKind};
 pub use table::NodeTable;
