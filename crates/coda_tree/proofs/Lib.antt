@@ -13,3 +13,5 @@ pub mod Below
 pub mod KeptParents
 pub mod KeptMoved
 pub mod KeptSlots
+pub mod Undone
+pub mod UndoneAll

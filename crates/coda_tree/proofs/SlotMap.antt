@@ -12,7 +12,8 @@ use Rattle.coda_tree.specs.declared.slot.Held.{Held}
 use Rattle.coda_tree.specs.Bindings.{Name}
 use Rattle.coda_tree.specs.Volume.{Nodes, child, child_of, has, changed, changed_at, IsDirAt, IsDirNode}
 use Rattle.coda_tree.specs.Slots.{Slots, keyed, held_in, node_held, parent_held, parent_in, with_slot, nodes_among, nodes_in, altered, slot_changed, slot_moved, slot_with, purged, purged_at}
-use Rattle.coda_tree.specs.SlotSteps.{IsDirSlot, MayBindSlot, MayRebindSlot}
+use Rattle.coda_tree.specs.SlotSteps.{IsDirSlot, MayBindSlot, MayRebindSlot, MayTakeBackSlot}
+use Rattle.coda_tree.specs.Undoing.{count_of, MayTakeBack}
 use Rattle.coda_tree.proofs.Order.{fid_cases, get_here, get_else, gone_here, gone_else}
 use Rattle.coda_tree.proofs.Changes.{at_changed, off_changed}
 use Rattle.coda_tree.proofs.Keyed.{kept_at, get_keyed, at_altered, off_altered}
@@ -260,6 +261,16 @@ held_rebind (Some held) name is bound = (is, bound)
 -- and may be bound anew
 pub rebind_slot : (s : Slots) (dir : Fid) (name : Name) → IsDirAt (nodes_in s) dir → IsSome (child (nodes_in s) dir name) → MayRebindSlot (held_in (map.get s dir)) name
 rebind_slot s dir name is bound = held_rebind (held_in (map.get s dir)) name (subst IsDirNode (get_nodes_in s dir) is) (subst (λ o. IsSome (child_of o name)) (get_nodes_in s dir) bound)
+
+held_take_back : (slot : Option Held) (name : Name) (room : ℕ) → IsDirNode (node_held slot) → child_of (node_held slot) name ≡ None → count_of (node_held slot) < room → MayTakeBackSlot slot name room
+held_take_back None name room is free enough = absurd is
+held_take_back (Some held) name room is free enough = (is, free, enough)
+
+-- and may be taken back
+pub take_back_slot : (s : Slots) (dir : Fid) (name : Name) (room : ℕ) → MayTakeBack s dir name room → MayTakeBackSlot (held_in (map.get s dir)) name room
+take_back_slot s dir name room may =
+    held_take_back (held_in (map.get s dir)) name room (subst IsDirNode (get_nodes_in s dir) may.there) (ap (λ o. child_of o name) (sym (get_nodes_in s dir)) ∙ may.free)
+    (subst (λ o. count_of o < room) (get_nodes_in s dir) may.enough)
 
 -- ---- what is kept in a list of entries
 

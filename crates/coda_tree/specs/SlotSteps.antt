@@ -1,5 +1,5 @@
 -- How slots are kept, and what the private changes of them do.
-use Rattle.std.specs.Prelude.{◌≡◌, Option, None, cond, option_map, IfSome, IsSome}
+use Rattle.std.specs.Prelude.{◌≡◌, ℕ, ◌<◌, Option, None, cond, option_map, IfSome, IsSome}
 use Rattle.std.specs.FinMap as map
 use Rattle.std.specs.BTreeMap as tree
 use Rattle.std.specs.BTreeMap.{BTreeMap}
@@ -38,3 +38,7 @@ MayBindSlot slot name = IfSome slot (λ (held : Held). IsDir held.node.kind × (
 -- or binds it
 abbrev pub MayRebindSlot : Option Held → Name → Type 0
 MayRebindSlot slot name = IfSome slot (λ (held : Held). IsDir held.node.kind × IsSome (map.get (bindings held.node.kind) name))
+
+-- and a name that it does not bind can come back to it
+abbrev pub MayTakeBackSlot : Option Held → Name → ℕ → Type 0
+MayTakeBackSlot slot name room = IfSome slot (λ (held : Held). IsDir held.node.kind × (map.get (bindings held.node.kind) name ≡ None) × (map.len (bindings held.node.kind) < room))

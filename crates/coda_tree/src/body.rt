@@ -1,13 +1,20 @@
-ghost use Rattle.std.specs.Prelude.{◌<◌, ℕ, ◌≡◌, ◌↔◌, true, List, Some, None, IfOk, OnOk, OnErr, IsSome, IsSomeAnd, IsTrue, is_some, option_copied};
+ghost use Rattle.std.specs.Prelude.{◌+◌, option_map, ◌<◌, ℕ, ◌≡◌, ◌↔◌, true, List, Some, None, IfOk, OnOk, OnErr, IsSome, IsSomeAnd, IsTrue, is_some, option_copied};
 ghost use Rattle.std.specs.FinMap as map;
 ghost use Rattle.coda_fid.specs.Fid.{root_of};
 ghost use Rattle.coda_tree.specs.Tree.{IsBelow, AtDepth};
 ghost use Rattle.coda_tree.specs.Volume.{child, has, written, content_patch, attrs_patch, fresh_root, parent_of, below_within, is_below, IsVolume, IsDirAt, IsLeaf, BindsAsMuch, MayMove, MayReplace};
 ghost use Rattle.coda_tree.specs.Slots.{nodes_in, held_in, altered, slot_changed, purged, Slotted};
+ghost use Rattle.coda_tree.specs.Parts.{parts_before};
+ghost use Rattle.coda_tree.specs.Keeping.{IsKeptIn};
+ghost use Rattle.coda_tree.specs.Undoing.{Undoes, count_of, MayUndoAll, undone_all, purged_all};
+ghost use Rattle.coda_tree.specs.declared.undo.Undo.TheVariants.{Added, Detached, Moved, Replaced};
 ghost use Rattle.coda_tree.specs.SlotEdits.{slots_bound, slots_unbound, slots_added, slots_detached, slots_moved, slots_replaced};
 
+use crate::entries::Room;
+use crate::node::Parts;
 use crate::slot::Held;
 use crate::slots::SlotTable;
+use crate::undo::Undo;
 use crate::{Entries, Node, NodeKind};
 use coda_fid::{Attrs, Bytes, Fid, Name, Sid};
 use std::alloc::{AllocError, Global};
@@ -85,6 +92,7 @@ impl Body {
     pub fn number(&self) -> u32
         ensures number { result ≡ self.now.number }
         ensures volume { IsVolume (root_of self.now.number) (nodes_in self.now.slots) }
+        ensures kept { IsKeptIn self.now.number self.now.slots }
     {
         self.number
     }
@@ -135,6 +143,7 @@ impl Body {
         requires fid_free { map.get (nodes_in self.old.slots) fid ≡ None }
         requires leaf { IsLeaf node }
         ensures ok { OnOk result (self.new ≡ record self.old { slots = slots_added self.old.slots dir name fid node }) }
+        ensures back { IfOk result (λ fresh. Undoes self.old.slots self.new.slots (Added dir name fid fresh)) }
         ensures fresh { IfOk result (λ fresh. IsTrue fresh ↔ (map.get self.old.slots fid ≡ None)) }
         ensures err { OnErr result (self.new ≡ self.old) }
     {
@@ -158,6 +167,7 @@ impl Body {
         requires bound { child (nodes_in self.old.slots) dir name.now ≡ Some fid }
         requires leaf { (n : List ℕ) → child (nodes_in self.old.slots) fid n ≡ None }
         ensures held { result ≡ held_in (map.get (slots_unbound self.old.slots dir name.now) fid) }
+        ensures back { (room : ℕ) → count_of (map.get (nodes_in self.old.slots) dir) + 1 < room → Undoes self.old.slots self.new.slots (Detached dir name.now fid result room) }
         ensures slots { self.new ≡ record self.old { slots = slots_detached self.old.slots dir name.now fid } }
     {
         self.slots.unbind(dir, name);
@@ -176,6 +186,7 @@ impl Body {
     ) -> Result<(), AllocError>
         requires may { MayMove (nodes_in self.old.slots) from name.now to new }
         requires bound { child (nodes_in self.old.slots) from name.now ≡ Some fid }
+        ensures back { (room : ℕ) → count_of (map.get (nodes_in self.old.slots) from) + 1 < room → OnOk result (Undoes self.old.slots self.new.slots (Moved from name.now to new fid room)) }
         ensures ok { OnOk result (self.new ≡ record self.old { slots = slots_moved self.old.slots from name.now to new fid }) }
         ensures err { OnErr result (self.new ≡ self.old) }
     {
@@ -199,6 +210,7 @@ impl Body {
         requires may { MayReplace (nodes_in self.old.slots) old from name.now to new.now }
         requires bound { child (nodes_in self.old.slots) from name.now ≡ Some fid }
         ensures held { result ≡ held_in (map.get (slots_unbound (slots_bound self.old.slots to new.now fid) from name.now) old) }
+        ensures back { (room : ℕ) → count_of (map.get (nodes_in self.old.slots) from) + 1 < room → Undoes self.old.slots self.new.slots (Replaced old result from name.now to new.now fid room) }
         ensures slots { self.new ≡ record self.old { slots = slots_replaced self.old.slots old from name.now to new.now fid } }
     {
         self.slots.rebind(to, new, fid);
@@ -208,11 +220,56 @@ impl Body {
         held
     }
 
-    // Sets the content of the file at a fid, the time, and the version that this leaves. Takes no memory.
-    pub(crate) fn store(&mut self, fid: Fid, content: Bytes, mtime: u64, sid: Sid)
-        ensures { self.new ≡ record self.old { slots = altered self.old.slots fid (slot_changed (written (content_patch content mtime) sid)) } }
+    // Sets the content of the file at a fid, the time, and the version that this leaves, and answers what these parts
+    // were. Takes no memory.
+    pub(crate) fn exchange(
+        &mut self,
+        fid: Fid,
+        content: Bytes,
+        mtime: u64,
+        sid: Sid,
+    ) -> Option<Parts>
+        ensures content { self.new ≡ record self.old { slots = altered self.old.slots fid (slot_changed (written (content_patch content mtime) sid)) } }
+        ensures before { result ≡ option_map (parts_before (Some content)) (map.get (nodes_in self.old.slots) fid) }
     {
-        self.slots.store(fid, content, mtime, sid);
+        self.slots.exchange(fid, content, mtime, sid)
+    }
+
+    // The parts of the node at a fid that a change of attributes sets.
+    pub(crate) fn parts(&self, fid: Fid) -> Option<Parts>
+        ensures { result ≡ option_map (parts_before None) (map.get (nodes_in self.now.slots) fid) }
+    {
+        match self.slots.get(fid) {
+            Some(node) => Some(node.parts()),
+            None => None,
+        }
+    }
+
+    // Memory in which a directory can take back a name that it is to lose.
+    pub(crate) fn room(&self, dir: Fid) -> Result<Room, AllocError>
+        requires { IsDirAt (nodes_in self.now.slots) dir }
+        ensures { IfOk result (λ room. count_of (map.get (nodes_in self.now.slots) dir) + 1 < room) }
+    {
+        match self.slots.get(dir) {
+            Some(node) => node.room(),
+            None => unreachable!(),
+        }
+    }
+
+    // Undoes edits that were made in this order: the last of them first. Takes no memory.
+    pub(crate) fn undo_all(&mut self, undos: Vec<Undo>)
+        requires may { MayUndoAll self.old.slots undos.items }
+        requires kept { IsKeptIn self.old.number (undone_all self.old.slots undos.items) }
+        ensures { self.new ≡ record self.old { slots = undone_all self.old.slots undos.items } }
+    {
+        self.slots.undo_all(undos);
+    }
+
+    // Takes the slots away that edits emptied, where they are empty still.
+    pub(crate) fn purge_all(&mut self, undos: Vec<Undo>)
+        ensures { self.new ≡ record self.old { slots = purged_all self.old.slots undos.items } }
+    {
+        self.slots.purge_all(undos);
     }
 
     // Sets attributes of the node at a fid, and the version that this leaves. Takes no memory.

@@ -1,9 +1,12 @@
-ghost use Rattle.std.specs.Prelude.{◌≡◌, Some, None, IfOk, OnOk, OnErr};
+ghost use Rattle.std.specs.Prelude.{option_map, ◌≡◌, Some, None, IfOk, OnOk, OnErr};
 ghost use Rattle.coda_tree.specs.Volume.{written, content_patch, attrs_patch, bind_in, unbind_in};
-ghost use Rattle.coda_tree.specs.Slots.{slot_changed, slot_moved, slot_with};
-ghost use Rattle.coda_tree.specs.SlotSteps.{IsDirSlot, MayBindSlot, MayRebindSlot};
+ghost use Rattle.coda_tree.specs.Slots.{node_held, slot_changed, slot_moved, slot_with};
+ghost use Rattle.coda_tree.specs.Parts.{parts_before, given_back};
+ghost use Rattle.coda_tree.specs.SlotSteps.{IsDirSlot, MayBindSlot, MayRebindSlot, MayTakeBackSlot};
 
 use crate::Node;
+use crate::entries::Room;
+use crate::node::Parts;
 use coda_fid::{Attrs, Bytes, Fid, Name, Sid};
 use std::alloc::AllocError;
 
@@ -46,12 +49,38 @@ pub(crate) fn rebind(slot: &mut Option<Held>, name: &Name, fid: Fid)
     }
 }
 
-// Writes a content with its time to the node that is held.
-pub(crate) fn store(slot: &mut Option<Held>, content: Bytes, mtime: u64, sid: Sid)
-    ensures { slot.new ≡ slot_changed (written (content_patch content mtime) sid) slot.old }
+// Binds a free name in the directory that is held. Takes no memory but the room.
+pub(crate) fn take_back(slot: &mut Option<Held>, name: Name, fid: Fid, room: Room)
+    requires { MayTakeBackSlot slot.old name room }
+    ensures { slot.new ≡ slot_changed (λ node. bind_in node name fid) slot.old }
 {
     if let Some(held) = slot {
-        held.node.store(content, mtime, sid);
+        held.node.take_back(name, fid, room);
+    }
+}
+
+// Writes a content with its time to the node that is held, and answers what these parts were.
+pub(crate) fn exchange(
+    slot: &mut Option<Held>,
+    content: Bytes,
+    mtime: u64,
+    sid: Sid,
+) -> Option<Parts>
+    ensures content { slot.new ≡ slot_changed (written (content_patch content mtime) sid) slot.old }
+    ensures before { result ≡ option_map (parts_before (Some content)) (node_held slot.old) }
+{
+    match slot {
+        Some(held) => Some(held.node.exchange(content, mtime, sid)),
+        None => None,
+    }
+}
+
+// Sets these parts of the node that is held.
+pub(crate) fn give_back(slot: &mut Option<Held>, parts: Parts)
+    ensures { slot.new ≡ slot_changed (given_back parts) slot.old }
+{
+    if let Some(held) = slot {
+        held.node.give_back(parts);
     }
 }
 

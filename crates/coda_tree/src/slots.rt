@@ -1,12 +1,18 @@
-ghost use Rattle.std.specs.Prelude.{◌↔◌, IsTrue, ◌≡◌, ◌+◌, ◌<◌, ◌^◌, true, cond, Some, None, IfOk, IfSome, IsSome, OnOk, OnErr, is_some, option_copied};
+ghost use Rattle.std.specs.Prelude.{option_map, ◌↔◌, IsTrue, ◌≡◌, ◌+◌, ◌<◌, ◌^◌, true, cond, Some, None, IfOk, IfSome, IsSome, OnOk, OnErr, is_some, option_copied};
 ghost use Rattle.std.specs.FinMap as map;
 ghost use Rattle.std.specs.BTreeMap as tree;
 ghost use Rattle.coda_fid.specs.Fid.{fid_cmp};
 ghost use Rattle.coda_tree.specs.Volume.{child, written, content_patch, attrs_patch, bind_in, unbind_in, IsDir, IsDirAt, bindings};
-ghost use Rattle.coda_tree.specs.Slots.{keyed, nodes_in, parent_in, parent_held, held_in, altered, slot_changed, slot_moved, slot_with, purged, withdrawn};
-ghost use Rattle.coda_tree.specs.SlotSteps.{AltersAt, IsSameSlots, IsDirSlot, MayBindSlot, MayRebindSlot};
+ghost use Rattle.coda_tree.specs.Slots.{node_held, keyed, nodes_in, parent_in, parent_held, held_in, altered, slot_changed, slot_moved, slot_with, purged, withdrawn};
+ghost use Rattle.coda_tree.specs.Parts.{parts_before, given_back};
+ghost use Rattle.coda_tree.specs.SlotEdits.{slots_bound};
+ghost use Rattle.coda_tree.specs.Undoing.{HasSlot, MayTakeBack, MayUndo, undone, MayUndoAll, undone_all, purged_after, purged_all};
+ghost use Rattle.coda_tree.specs.SlotSteps.{MayTakeBackSlot, AltersAt, IsSameSlots, IsDirSlot, MayBindSlot, MayRebindSlot};
 
+use crate::entries::Room;
+use crate::node::Parts;
 use crate::slot::{self, Held};
+use crate::undo::Undo;
 use crate::{Node, NodeKind};
 use coda_fid::{Attrs, Bytes, Fid, Name, Sid};
 use std::alloc::{AllocError, Global};
@@ -74,12 +80,39 @@ fn rebind(slots: &mut BTreeMap<Fid, Option<Held>>, dir: Fid, name: &Name, fid: F
     }
 }
 
-// Writes a content with its time to the node at a fid, where there is one.
-fn store(slots: &mut BTreeMap<Fid, Option<Held>>, fid: Fid, content: Bytes, mtime: u64, sid: Sid)
-    ensures { AltersAt slots.old slots.new fid (slot_changed (written (content_patch content mtime) sid)) }
+// Binds a free name in the directory at a fid. Takes no memory but the room.
+fn take_back(slots: &mut BTreeMap<Fid, Option<Held>>, dir: Fid, name: Name, fid: Fid, room: Room)
+    requires { MayTakeBackSlot (held_in (tree.get fid_cmp slots.old dir)) name room }
+    ensures { AltersAt slots.old slots.new dir (slot_changed (λ node. bind_in node name fid)) }
+{
+    if let Some(slot) = slots.get_mut(&dir) {
+        slot::take_back(slot, name, fid, room);
+    }
+}
+
+// Writes a content with its time to the node at a fid, where there is one, and answers what these parts were.
+fn exchange(
+    slots: &mut BTreeMap<Fid, Option<Held>>,
+    fid: Fid,
+    content: Bytes,
+    mtime: u64,
+    sid: Sid,
+) -> Option<Parts>
+    ensures content { AltersAt slots.old slots.new fid (slot_changed (written (content_patch content mtime) sid)) }
+    ensures before { result ≡ option_map (parts_before (Some content)) (node_held (held_in (tree.get fid_cmp slots.old fid))) }
+{
+    match slots.get_mut(&fid) {
+        Some(slot) => slot::exchange(slot, content, mtime, sid),
+        None => None,
+    }
+}
+
+// Sets these parts of the node at a fid, where there is one.
+fn give_back(slots: &mut BTreeMap<Fid, Option<Held>>, fid: Fid, parts: Parts)
+    ensures { AltersAt slots.old slots.new fid (slot_changed (given_back parts)) }
 {
     if let Some(slot) = slots.get_mut(&fid) {
-        slot::store(slot, content, mtime, sid);
+        slot::give_back(slot, parts);
     }
 }
 
@@ -311,11 +344,132 @@ impl SlotTable {
         rebind(&mut self.slots, dir, name, fid);
     }
 
-    // Writes a content with its time to the node at a fid, where there is one.
-    pub(crate) fn store(&mut self, fid: Fid, content: Bytes, mtime: u64, sid: Sid)
-        ensures { self.new ≡ altered self.old fid (slot_changed (written (content_patch content mtime) sid)) }
+    // Binds a free name in a directory. Takes no memory but the room.
+    pub(crate) fn take_back(&mut self, dir: Fid, name: Name, fid: Fid, room: Room)
+        requires { MayTakeBack self.old dir name room }
+        ensures { self.new ≡ slots_bound self.old dir name fid }
     {
-        store(&mut self.slots, fid, content, mtime, sid);
+        take_back(&mut self.slots, dir, name, fid, room);
+    }
+
+    // Writes a content with its time to the node at a fid, where there is one, and answers what these parts were.
+    pub(crate) fn exchange(
+        &mut self,
+        fid: Fid,
+        content: Bytes,
+        mtime: u64,
+        sid: Sid,
+    ) -> Option<Parts>
+        ensures content { self.new ≡ altered self.old fid (slot_changed (written (content_patch content mtime) sid)) }
+        ensures before { result ≡ option_map (parts_before (Some content)) (map.get (nodes_in self.old) fid) }
+    {
+        exchange(&mut self.slots, fid, content, mtime, sid)
+    }
+
+    // Sets these parts of the node at a fid, where there is one.
+    pub(crate) fn give_back(&mut self, fid: Fid, parts: Parts)
+        ensures { self.new ≡ altered self.old fid (slot_changed (given_back parts)) }
+    {
+        give_back(&mut self.slots, fid, parts);
+    }
+
+    // Puts this into a slot that is there. Takes no memory.
+    pub(crate) fn fill(&mut self, fid: Fid, slot: Option<Held>)
+        requires { HasSlot self.old fid }
+        ensures { self.new ≡ map.insert self.old fid slot }
+    {
+        let put = self.put(fid, slot).is_ok();
+        prove!(put);
+    }
+
+    // Undoes the edit that was made last. Takes no memory.
+    pub(crate) fn undo(&mut self, undo: Undo)
+        requires { MayUndo self.old undo }
+        ensures { self.new ≡ undone self.old undo }
+    {
+        match undo {
+            Undo::Added {
+                dir,
+                name,
+                fid,
+                fresh,
+            } => {
+                self.unbind(dir, &name);
+                self.withdraw(fid, fresh);
+            }
+            Undo::Detached {
+                dir,
+                name,
+                fid,
+                held,
+                room,
+            } => {
+                self.fill(fid, held);
+                self.take_back(dir, name, fid, room);
+            }
+            Undo::Moved {
+                from,
+                name,
+                to,
+                new,
+                fid,
+                room,
+            } => {
+                self.set_parent(fid, from);
+                self.take_back(from, name, fid, room);
+                self.unbind(to, &new);
+            }
+            Undo::Replaced {
+                old,
+                held,
+                from,
+                name,
+                to,
+                new,
+                fid,
+                room,
+            } => {
+                self.set_parent(fid, from);
+                self.fill(old, held);
+                self.take_back(from, name, fid, room);
+                self.rebind(to, &new, old);
+            }
+            Undo::Written { fid, parts } => self.give_back(fid, parts),
+        }
+    }
+
+    // Undoes edits that were made in this order: the last of them first. Takes no memory.
+    pub(crate) fn undo_all(&mut self, undos: Vec<Undo>)
+        requires { MayUndoAll self.old undos.items }
+        ensures { self.new ≡ undone_all self.old undos.items }
+    {
+        let mut undos = undos;
+        while let Some(undo) = undos.pop() {
+            self.undo(undo);
+        }
+    }
+
+    // Takes the slots away that edits emptied, where they are empty still.
+    pub(crate) fn purge_all(&mut self, undos: Vec<Undo>)
+        ensures { self.new ≡ purged_all self.old undos.items }
+    {
+        let mut undos = undos;
+        while let Some(undo) = undos.pop() {
+            self.purge_after(undo);
+        }
+    }
+
+    // Takes the slot away that an edit emptied, where it is empty still.
+    fn purge_after(&mut self, undo: Undo)
+        ensures { self.new ≡ purged_after self.old undo }
+    {
+        match undo {
+            Undo::Added { .. } => {}
+            Undo::Detached { fid, .. } => self.purge(fid),
+            Undo::Moved { .. } => {}
+            Undo::Replaced { old, .. } => self.purge(old),
+            Undo::Written { .. } => {}
+        }
     }
 
     // Sets attributes of the node at a fid, where there is one.

@@ -5,6 +5,9 @@ ghost use Rattle.coda_fid.specs.Fid.{root_of, fid_cmp};
 ghost use Rattle.coda_fid.specs.declared.fid.Fid.{Fid};
 ghost use Rattle.coda_tree.specs.Tree.{IsBelow, AtDepth};
 ghost use Rattle.coda_tree.specs.Volume.{child, has, added, detached, moved, replaced, changed, written, content_patch, attrs_patch, fresh, fresh_root, parent_of, below_within, is_below, IsVolume, IsDirAt, IsLeaf, BindsAsMuch, MayMove, MayReplace};
+ghost use Rattle.coda_tree.specs.Slots.{nodes_in, IsWhole};
+ghost use Rattle.coda_tree.specs.Volumes.{seen};
+ghost use Rattle.coda_tree.specs.Keeping.{IsKeptIn};
 ghost use Rattle.coda_tree.specs.Lookup.{lookup_of, step_from};
 
 use crate::body::{Body, root_fid};
@@ -58,6 +61,32 @@ impl Volume {
     {
         let body = Body::new(alloc, number)?;
         Ok(Volume { body })
+    }
+
+    // The volume of objects without empty slots.
+    pub(crate) fn from_body(body: Body) -> Volume
+        requires { IsWhole body.slots }
+        ensures { result ≡ seen body }
+    {
+        Volume { body }
+    }
+
+    // Its objects.
+    pub(crate) fn into_body(self) -> Body
+        ensures body { seen result ≡ self }
+        ensures kept { IsKeptIn result.number result.slots }
+        ensures whole { IsWhole result.slots }
+    {
+        let _number = self.body.number();
+        self.body
+    }
+
+    /// Its objects.
+    pub fn body(&self) -> &Body
+        ensures number { result.now.number ≡ self.now.number }
+        ensures nodes { nodes_in result.now.slots ≡ self.now.nodes }
+    {
+        &self.body
     }
 
     /// The volume's number, which gives its root's fid.
@@ -166,7 +195,7 @@ impl Volume {
     pub fn store(&mut self, fid: Fid, content: Bytes, mtime: u64, sid: Sid)
         ensures { self.new ≡ record self.old { nodes = changed self.old.nodes fid (written (content_patch content mtime) sid) } }
     {
-        self.body.store(fid, content, mtime, sid);
+        drop(self.body.exchange(fid, content, mtime, sid));
     }
 
     /// Sets attributes of the node at a fid, and the version that this leaves. Takes no memory, and does nothing where

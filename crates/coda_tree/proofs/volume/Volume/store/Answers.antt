@@ -7,9 +7,9 @@ use Rattle.coda_tree.proofs.KeptSlots.{whole_changed}
 use Rattle.coda_tree.proofs.volume.Volume.store.Goals as goal
 
 pub invariant_of-self : goal.invariant_of-self
-invariant_of-self c = subst (λ (b : Slotted). IsWhole b.slots) (sym c.store.ensures) (whole_changed c.self.inside.body.slots c.self.invariant c.args.fid (written (content_patch c.args.content c.args.mtime) c.args.sid))
+invariant_of-self c = subst (λ (b : Slotted). IsWhole b.slots) (sym c.exchange.ensures.content) (whole_changed c.self.inside.body.slots c.self.invariant c.args.fid (written (content_patch c.args.content c.args.mtime) c.args.sid))
 
 pub returns : goal.returns
 returns c =
     let whole : Nodes → Tree = λ m. record { number = c.self.inside.body.number; nodes = m } in
-    ap seen c.store.ensures ∙ ap whole (nodes_changed c.self.inside.body.slots c.args.fid (written (content_patch c.args.content c.args.mtime) c.args.sid)) ∙ ap (λ (t : Tree). let r : Tree = record { number = t.number; nodes = changed t.nodes c.args.fid (written (content_patch c.args.content c.args.mtime) c.args.sid) } in r) c.self.view_is
+    ap seen c.exchange.ensures.content ∙ ap whole (nodes_changed c.self.inside.body.slots c.args.fid (written (content_patch c.args.content c.args.mtime) c.args.sid)) ∙ ap (λ (t : Tree). let r : Tree = record { number = t.number; nodes = changed t.nodes c.args.fid (written (content_patch c.args.content c.args.mtime) c.args.sid) } in r) c.self.view_is
