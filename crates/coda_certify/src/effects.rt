@@ -1,11 +1,13 @@
 ghost use Rattle.std.specs.Prelude.{◌≡◌, None, Some, IfOk, OnOk, OnErr};
 ghost use Rattle.coda_tree.specs.Volume.{child, added, detached, moved, replaced, changed, written, content_patch, edited_all, IsLeaf, MayMove, MayReplace};
+ghost use Rattle.coda_tree.specs.Drafted.{with_nodes, fresh_draft};
 ghost use Rattle.coda_certify.specs.Checks.{rename_checks, first_reason, certify as certify_op};
 ghost use Rattle.coda_certify.specs.Replay.{made, empty_file, empty_dir, new_link, rename_effects, applied, sid_of, MayCreate, MayRemove, MayRename, MayApply};
 
 use coda_fid::{Bytes, Fid, Name, Op, Over, Record, Sid};
-use coda_tree::{Entries, Node, NodeKind, NodeTable, Volume};
+use coda_tree::{Draft, Entries, Node, NodeKind, NodeTable, Volume};
 use std::alloc::{AllocError, Global};
+use std::mem;
 
 // The name of a client's operation.
 fn sid_for(client: u8, rec: &Record) -> Sid
@@ -63,86 +65,79 @@ fn make_link(
     Ok(make(NodeKind::Link(target), mode, owner, mtime, sid))
 }
 
-// Puts a new node into a volume. Fails for want of memory alone, and then changes nothing.
-fn create(
-    volume: &mut Volume,
-    dir: Fid,
-    name: &Name,
-    fid: Fid,
-    node: Node,
-) -> Result<(), AllocError>
-    requires free { MayCreate volume.old.nodes dir name.now fid }
-    requires leaf { IsLeaf node }
-    ensures ok { OnOk result (volume.new ≡ record volume.old { nodes = added volume.old.nodes dir name.now fid node }) }
-    ensures err { OnErr result (volume.new ≡ volume.old) }
-{
-    let name = name.copy()?;
-    volume.add(dir, name, fid, node)
-}
-
 // Gives a file new content. Fails for want of memory alone, and then changes nothing.
 fn store(
-    volume: &mut Volume,
+    draft: &mut Draft,
     fid: Fid,
     content: &Bytes,
     time: u64,
     sid: Sid,
 ) -> Result<(), AllocError>
-    ensures ok { OnOk result (volume.new ≡ record volume.old { nodes = changed volume.old.nodes fid (written (content_patch content.now time) sid) }) }
-    ensures err { OnErr result (volume.new ≡ volume.old) }
+    ensures ok { OnOk result (draft.new ≡ with_nodes draft.old (changed draft.old.nodes fid (written (content_patch content.now time) sid))) }
+    ensures err { OnErr result (draft.new ≡ draft.old) }
 {
     let content = content.copy()?;
-    volume.store(fid, content, time, sid);
-    Ok(())
+    draft.store(fid, content, time, sid)
 }
 
-// Takes an object out of a volume.
-fn remove(volume: &mut Volume, dir: Fid, name: &Name, fid: Fid)
-    requires { MayRemove volume.old.nodes dir name.now fid }
-    ensures { volume.new ≡ record volume.old { nodes = detached volume.old.nodes dir name.now fid } }
+// Puts a new node into a volume. Fails for want of memory alone, and then changes nothing.
+fn create(draft: &mut Draft, dir: Fid, name: &Name, fid: Fid, node: Node) -> Result<(), AllocError>
+    requires free { MayCreate draft.old.nodes dir name.now fid }
+    requires leaf { IsLeaf node }
+    ensures ok { OnOk result (draft.new ≡ with_nodes draft.old (added draft.old.nodes dir name.now fid node)) }
+    ensures err { OnErr result (draft.new ≡ draft.old) }
 {
-    volume.detach(dir, name);
+    draft.add(dir, name, fid, node)
+}
+
+// Takes an object out of a volume. Fails for want of memory alone, and then changes nothing.
+fn remove(draft: &mut Draft, dir: Fid, name: &Name, fid: Fid) -> Result<(), AllocError>
+    requires { MayRemove draft.old.nodes dir name.now fid }
+    ensures ok { OnOk result (draft.new ≡ with_nodes draft.old (detached draft.old.nodes dir name.now fid)) }
+    ensures err { OnErr result (draft.new ≡ draft.old) }
+{
+    draft.detach(dir, name, fid)
 }
 
 // Moves an object to a free name. Fails for want of memory alone, and then changes nothing.
 fn move_to(
-    volume: &mut Volume,
+    draft: &mut Draft,
     from_dir: Fid,
     from: &Name,
     to_dir: Fid,
     to: &Name,
     fid: Fid,
 ) -> Result<(), AllocError>
-    requires may { MayMove volume.old.nodes from_dir from.now to_dir to.now }
-    requires bound { child volume.old.nodes from_dir from.now ≡ Some fid }
-    ensures ok { OnOk result (volume.new ≡ record volume.old { nodes = moved volume.old.nodes from_dir from.now to_dir to.now fid }) }
-    ensures err { OnErr result (volume.new ≡ volume.old) }
+    requires may { MayMove draft.old.nodes from_dir from.now to_dir to.now }
+    requires bound { child draft.old.nodes from_dir from.now ≡ Some fid }
+    ensures ok { OnOk result (draft.new ≡ with_nodes draft.old (moved draft.old.nodes from_dir from.now to_dir to.now fid)) }
+    ensures err { OnErr result (draft.new ≡ draft.old) }
 {
-    let to = to.copy()?;
-    volume.move_to(from_dir, from, to_dir, to)
+    draft.move_to(from_dir, from, to_dir, to, fid)
 }
 
-// Moves an object to the name of another, which is taken out.
+// Moves an object to the name of another, which is taken out. Fails for want of memory alone, and then changes nothing.
 fn replace(
-    volume: &mut Volume,
+    draft: &mut Draft,
     old: Fid,
     from_dir: Fid,
     from: &Name,
     to_dir: Fid,
     to: &Name,
     fid: Fid,
-)
-    requires may { MayReplace volume.old.nodes old from_dir from.now to_dir to.now }
-    requires bound { child volume.old.nodes from_dir from.now ≡ Some fid }
-    ensures { volume.new ≡ record volume.old { nodes = replaced volume.old.nodes old from_dir from.now to_dir to.now fid } }
+) -> Result<(), AllocError>
+    requires may { MayReplace draft.old.nodes old from_dir from.now to_dir to.now }
+    requires bound { child draft.old.nodes from_dir from.now ≡ Some fid }
+    ensures ok { OnOk result (draft.new ≡ with_nodes draft.old (replaced draft.old.nodes old from_dir from.now to_dir to.now fid)) }
+    ensures err { OnErr result (draft.new ≡ draft.old) }
 {
-    volume.replace(old, from_dir, from, to_dir, to);
+    draft.replace(old, from_dir, from, to_dir, to, fid)
 }
 
 // Renames an object. Fails for want of memory alone, and then changes nothing.
 #[tactic(auto, unfolding(coda_tree::specs::Volume::moved, coda_tree::specs::Volume::replaced))]
 fn rename(
-    volume: &mut Volume,
+    draft: &mut Draft,
     from_dir: Fid,
     from: &Name,
     to_dir: Fid,
@@ -150,16 +145,13 @@ fn rename(
     fid: Fid,
     over: Option<Over>,
 ) -> Result<(), AllocError>
-    requires { first_reason volume.old.nodes (rename_checks from_dir from.now to_dir to.now fid over) ≡ None }
-    ensures ok { OnOk result (volume.new ≡ record volume.old { nodes = edited_all volume.old.nodes (rename_effects from_dir from.now to_dir to.now fid over) }) }
-    ensures err { OnErr result (volume.new ≡ volume.old) }
+    requires { first_reason draft.old.nodes (rename_checks from_dir from.now to_dir to.now fid over) ≡ None }
+    ensures ok { OnOk result (draft.new ≡ with_nodes draft.old (edited_all draft.old.nodes (rename_effects from_dir from.now to_dir to.now fid over))) }
+    ensures err { OnErr result (draft.new ≡ draft.old) }
 {
     match over {
-        None => move_to(volume, from_dir, from, to_dir, to, fid),
-        Some(over) => {
-            replace(volume, over.fid, from_dir, from, to_dir, to, fid);
-            Ok(())
-        }
+        None => move_to(draft, from_dir, from, to_dir, to, fid),
+        Some(over) => replace(draft, over.fid, from_dir, from, to_dir, to, fid),
     }
 }
 
@@ -206,21 +198,18 @@ fn create_in_table(
     table.create(dir, name, fid, node)
 }
 
-/// Applies a client's operation that certification does not refuse.
-///
-/// A creation puts its object into the volume, with the record's time and the version that client and number name, and
-/// binds it. A store sets content, time and version, and a change of attributes the given ones and the version. A removal
-/// unbinds its object and takes it out. A rename binds its object under the new name alone and changes no version; a
-/// replaced object is taken out.
-///
-/// # Errors
-///
-/// Fails for want of memory alone, and then changes nothing.
+// Applies a client's operation that certification does not refuse, in a draft of the volume. Fails for want of memory
+// alone, and then changes nothing.
 #[tactic(auto, unfolding(crate::specs::Replay::applied, coda_tree::specs::Volume::added, coda_tree::specs::Volume::detached, coda_tree::specs::Volume::moved, coda_tree::specs::Volume::replaced))]
-pub fn apply(alloc: Global, volume: &mut Volume, client: u8, rec: &Record) -> Result<(), AllocError>
-    requires { certify_op volume.old.nodes rec.now.op ≡ None }
-    ensures ok { OnOk result (volume.new ≡ record volume.old { nodes = applied volume.old.nodes client rec.now }) }
-    ensures err { OnErr result (volume.new ≡ volume.old) }
+pub(crate) fn apply_in(
+    alloc: Global,
+    draft: &mut Draft,
+    client: u8,
+    rec: &Record,
+) -> Result<(), AllocError>
+    requires { certify_op draft.old.nodes rec.now.op ≡ None }
+    ensures ok { OnOk result (draft.new ≡ with_nodes draft.old (applied draft.old.nodes client rec.now)) }
+    ensures err { OnErr result (draft.new ≡ draft.old) }
 {
     let sid = sid_for(client, rec);
     match &rec.op {
@@ -232,7 +221,7 @@ pub fn apply(alloc: Global, volume: &mut Volume, client: u8, rec: &Record) -> Re
             owner,
         } => {
             let file = new_file(alloc, *mode, *owner, rec.time, sid)?;
-            create(volume, *dir, name, *fid, file)
+            create(draft, *dir, name, *fid, file)
         }
         Op::Mkdir {
             dir,
@@ -242,7 +231,7 @@ pub fn apply(alloc: Global, volume: &mut Volume, client: u8, rec: &Record) -> Re
             owner,
         } => {
             let new = new_dir(alloc, *mode, *owner, rec.time, sid);
-            create(volume, *dir, name, *fid, new)
+            create(draft, *dir, name, *fid, new)
         }
         Op::Symlink {
             dir,
@@ -253,21 +242,12 @@ pub fn apply(alloc: Global, volume: &mut Volume, client: u8, rec: &Record) -> Re
             owner,
         } => {
             let link = make_link(target, *mode, *owner, rec.time, sid)?;
-            create(volume, *dir, name, *fid, link)
+            create(draft, *dir, name, *fid, link)
         }
-        Op::Store { fid, content, .. } => store(volume, *fid, content, rec.time, sid),
-        Op::Setattr { fid, attrs, .. } => {
-            volume.set_attributes(*fid, attrs, sid);
-            Ok(())
-        }
-        Op::Remove { dir, name, fid, .. } => {
-            remove(volume, *dir, name, *fid);
-            Ok(())
-        }
-        Op::Rmdir { dir, name, fid, .. } => {
-            remove(volume, *dir, name, *fid);
-            Ok(())
-        }
+        Op::Store { fid, content, .. } => store(draft, *fid, content, rec.time, sid),
+        Op::Setattr { fid, attrs, .. } => { draft.set_attributes(*fid, attrs, sid) }
+        Op::Remove { dir, name, fid, .. } => { remove(draft, *dir, name, *fid) }
+        Op::Rmdir { dir, name, fid, .. } => { remove(draft, *dir, name, *fid) }
         Op::Rename {
             from_dir,
             from,
@@ -275,8 +255,42 @@ pub fn apply(alloc: Global, volume: &mut Volume, client: u8, rec: &Record) -> Re
             to,
             fid,
             over,
-        } => rename(volume, *from_dir, from, *to_dir, to, *fid, *over),
+        } => rename(draft, *from_dir, from, *to_dir, to, *fid, *over),
     }
+}
+
+/// Applies a client's operation that certification does not refuse.
+///
+/// A creation puts its object into the volume, with the record's time and the version that client and number name, and
+/// binds it. A store sets content, time and version, and a change of attributes the given ones and the version. A removal
+/// unbinds its object and takes it out. A rename binds its object under the new name alone and changes no version; a
+/// replaced object is taken out.
+///
+/// # Errors
+///
+/// Fails for want of memory alone, and then changes nothing.
+pub fn apply(alloc: Global, volume: &mut Volume, client: u8, rec: &Record) -> Result<(), AllocError>
+    requires { certify_op volume.old.nodes rec.now.op ≡ None }
+    ensures ok { OnOk result (volume.new ≡ record volume.old { nodes = applied volume.old.nodes client rec.now }) }
+    ensures err { OnErr result (volume.new ≡ volume.old) }
+{
+    let mut draft = start(alloc, volume)?;
+    let applied = apply_in(alloc, &mut draft, client, rec);
+    *volume = match applied {
+        Ok(()) => draft.commit(),
+        Err(_) => draft.roll_back(),
+    };
+    applied
+}
+
+// A draft of the volume, in whose place an empty one stands until the draft ends. Fails for want of memory alone, and
+// then changes nothing.
+pub(crate) fn start(alloc: Global, volume: &mut Volume) -> Result<Draft, AllocError>
+    ensures ok { IfOk result (λ draft. draft ≡ fresh_draft volume.old) }
+    ensures err { OnErr result (volume.new ≡ volume.old) }
+{
+    let empty = Volume::new(alloc, volume.number())?;
+    Ok(Draft::of(alloc, mem::replace(volume, empty)))
 }
 
 /// Applies a client's operation to the copies of nodes that the client has, as [`apply`] does to a

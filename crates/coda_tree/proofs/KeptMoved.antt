@@ -1,7 +1,6 @@
 -- How the parents that a volume keeps follow a move.
-use Rattle.std.proofs.Common.{◌≡◌, ◌≢◌, true, cond, Some, None, option_map, is_some, refl, sym, ap, ◌∙◌, subst, inl, inr}
+use Rattle.std.proofs.Common.{◌≡◌, ◌≢◌, true, cond, Option, Some, None, is_some, refl, sym, ap, ◌∙◌, subst, inl, inr}
 use Rattle.std.specs.BTreeMap as tree
-use Rattle.std.specs.BTreeMap.{BTreeMap}
 use Rattle.std.proofs.lemmas.Option.{none-some, same_Some}
 use Rattle.coda_fid.specs.Fid.{fid_cmp}
 use Rattle.coda_fid.specs.declared.fid.Fid.{Fid}
@@ -14,9 +13,9 @@ use Rattle.coda_tree.proofs.Trees.{IsMove, IsRemoval, below_leaf, kept_edge, lef
 use Rattle.coda_tree.proofs.Changes.{dir_node, dir_changed, binder_is_dir, binder_differs, bound_there, bound_else, dir_left, has_changed, removal, unbound_else, unbound_here}
 use Rattle.coda_tree.proofs.Moved.{moved_apart, replaced_detached}
 use Rattle.coda_tree.proofs.KeptParents.{kept_detached}
-use Rattle.coda_tree.proofs.TableMap.{changed_here, changed_else}
+use Rattle.coda_tree.proofs.Keyed.{changed_here, changed_else}
 
-module _ {root : Fid} (m : Nodes) (old new : BTreeMap Fid Fid) (from : Fid) (name : Name) (to : Fid) (at : Name) (f : Fid) (sets : (q : Fid) → tree.get fid_cmp new q ≡ cond (tree.is_at (fid_cmp f) q) (option_map (λ _. to) (tree.get fid_cmp old f)) (tree.get fid_cmp old q))
+module _ {root : Fid} (m : Nodes) (old new : Fid → Option Fid) (from : Fid) (name : Name) (to : Fid) (at : Name) (f : Fid) (here : new f ≡ Some to) (other : (q : Fid) → q ≢ f → new q ≡ old q)
     (k : IsKept root m old) (was : child m from name ≡ Some f) (to_dir : IsDirAt m to) (free : child m to at ≡ None) (apart : IsBelow (child m) f to → ⊥) where
   places : ((from ≡ to) × (name ≡ at)) → ⊥
   places both = none-some f (sym free ∙ sym (λ i. child m (both.0 i) (both.1 i)) ∙ was)
@@ -44,26 +43,20 @@ module _ {root : Fid} (m : Nodes) (old new : BTreeMap Fid Fid) (from : Fid) (nam
   to_there : has m to ≡ true
   to_there = let there = dir_node m to to_dir in ap is_some there.1
 
-  here : tree.get fid_cmp new f ≡ Some to
-  here = sets f ∙ changed_here f (option_map (λ _. to) (tree.get fid_cmp old f)) (tree.get fid_cmp old f) ∙ ap (option_map (λ _. to)) (k.kept.binds from name f was)
-
-  other : (q : Fid) → q ≢ f → tree.get fid_cmp new q ≡ tree.get fid_cmp old q
-  other q differs = sets q ∙ changed_else f q (option_map (λ _. to) (tree.get fid_cmp old f)) (tree.get fid_cmp old q) differs
-
   kept_left : IsKept root left new
   kept_left = record {
     volume = record { tree = tree_moved k.volume.tree as_many to_there facts; top = dirs root k.volume.top };
     kept = record {
       parent = λ q p is. elim (fid_cases q f) [
         | inl same ↦
-            let p_is : to ≡ p = same_Some to p (sym here ∙ ap (tree.get fid_cmp new) (sym same) ∙ is) in
+            let p_is : to ≡ p = same_Some to p (sym here ∙ ap new (sym same) ∙ is) in
             (at, ap (λ e. child left e at) (sym p_is) ∙ facts.here ∙ ap Some (sym same))
         | inr differs ↦
             let bound = k.kept.parent q p (sym (other q differs) ∙ is) in
             (bound.0, elim (old_edge k.volume.tree as_many to_there facts p bound.0 q bound.1) [ inl stays ↦ stays | inr same ↦ absurd (differs same) ])
       ];
       binds = λ p n q is. elim (moved_edge k.volume.tree as_many to_there facts p n q is) [
-        | inl at ↦ ap (tree.get fid_cmp new) at.2 ∙ here ∙ ap Some (sym at.0)
+        | inl at ↦ ap new at.2 ∙ here ∙ ap Some (sym at.0)
         | inr stays ↦ other q stays.1 ∙ k.kept.binds p n q stays.0
       ];
     };
@@ -73,9 +66,18 @@ module _ {root : Fid} (m : Nodes) (old new : BTreeMap Fid Fid) (from : Fid) (nam
   pub kept_moved : IsKept root (moved m from name to at f) new
   kept_moved = subst (λ (n : Nodes). IsKept root n new) (sym (moved_apart m from name to at f places)) kept_left
 
-module _ {root : Fid} (m : Nodes) (old less new : BTreeMap Fid Fid) (gone from : Fid) (name : Name) (to : Fid) (at : Name) (f : Fid) (out : (q : Fid) → tree.get fid_cmp less q ≡ cond (tree.is_at (fid_cmp gone) q) None (tree.get fid_cmp old q))
-    (sets : (q : Fid) → tree.get fid_cmp new q ≡ cond (tree.is_at (fid_cmp f) q) (option_map (λ _. to) (tree.get fid_cmp less f)) (tree.get fid_cmp less q))
+module _ {root : Fid} (m : Nodes) (old new : Fid → Option Fid) (gone from : Fid) (name : Name) (to : Fid) (at : Name) (f : Fid) (here : new f ≡ Some to) (out : new gone ≡ None) (others : (q : Fid) → q ≢ f → q ≢ gone → new q ≡ old q)
     (k : IsKept root m old) (was : child m from name ≡ Some f) (had : child m to at ≡ Some gone) (differ : gone ≢ f) (leaf : (n : Name) → child m f n ≡ None) (old_leaf : (n : Name) → child m gone n ≡ None) where
+  -- the parents without that of what is taken out
+  abbrev less : Fid → Option Fid
+  less q = cond (tree.is_at (fid_cmp gone) q) None (old q)
+
+  less_here : less gone ≡ None
+  less_here = changed_here gone None (old gone)
+
+  less_else : (q : Fid) → q ≢ gone → less q ≡ old q
+  less_else q apart = changed_else gone q None (old q) apart
+
   there : IsDirAt m to
   there = binder_is_dir m to at gone had
 
@@ -98,6 +100,10 @@ module _ {root : Fid} (m : Nodes) (old less new : BTreeMap Fid Fid) (gone from :
   pub kept_replaced : IsKept root (replaced m gone from name to at f) new
   kept_replaced =
       subst (λ (n : Nodes). IsKept root n new) (replaced_detached m gone from name to at f)
-      (kept_moved (detached m to at gone) less new from name to at f sets (kept_detached m old less to at gone out k had old_leaf)
+      (kept_moved (detached m to at gone) less new from name to at f here
+      (λ q apart. elim (fid_cases q gone) [
+        | inl same ↦ ap new same ∙ out ∙ sym (ap less same ∙ less_here)
+        | inr stays ↦ others q apart stays ∙ sym (less_else q stays)
+      ]) (kept_detached m old less to at gone less_here less_else k had old_leaf)
       (kept_edge k.volume.tree removed from name f (λ same. differ (sym same)) was) still_dir removed.here
       (λ below. none-some gone (sym (leaf at) ∙ ap (λ e. child m e at) (sym (below_leaf still_leaf to below)) ∙ had)))

@@ -1,8 +1,6 @@
 -- How the parents that a volume keeps follow its nodes.
-use Rattle.std.proofs.Common.{◌≡◌, ◌≢◌, ℕ, true, false, cond, List, Option, Some, None, option_map, is_some, refl, sym, ap, ◌∙◌, subst, inl, inr}
+use Rattle.std.proofs.Common.{◌≡◌, ◌≢◌, ℕ, true, false, List, Option, Some, None, option_map, is_some, refl, sym, ap, ◌∙◌, subst, inl, inr}
 use Rattle.std.specs.FinMap as map
-use Rattle.std.specs.BTreeMap as tree
-use Rattle.std.specs.BTreeMap.{BTreeMap}
 use Rattle.std.proofs.lemmas.Option.{none-some, same_Some}
 use Rattle.coda_fid.specs.Fid.{fid_cmp}
 use Rattle.coda_fid.specs.declared.fid.Fid.{Fid}
@@ -19,12 +17,11 @@ use Rattle.coda_tree.proofs.Order.{fid_cases, get_here, get_else}
 use Rattle.coda_tree.proofs.Changes.{dir_node, at_changed, off_changed, has_changed, binder_is_dir, addition, volume_added, removal, volume_detached}
 use Rattle.coda_tree.proofs.Trees.{added_edge, more, not_new, left_edge, kept_edge, tree_same}
 use Rattle.coda_tree.proofs.Parents.{parent_is, parent_sound}
-use Rattle.coda_tree.proofs.TableMap.{changed_here, changed_else}
 
 -- the kept parent is the directory that binds the fid
-pub kept_is_parent : {root : Fid} (m : Nodes) (parents : BTreeMap Fid Fid) → IsKept root m parents → (f : Fid) → tree.get fid_cmp parents f ≡ parent_of m f
+pub kept_is_parent : {root : Fid} (m : Nodes) (parents : Fid → Option Fid) → IsKept root m parents → (f : Fid) → parents f ≡ parent_of m f
 kept_is_parent m parents k f =
-    elim (tree.get fid_cmp parents f) as (λ o. tree.get fid_cmp parents f ≡ o → o ≡ parent_of m f) [
+    elim (parents f) as (λ o. parents f ≡ o → o ≡ parent_of m f) [
       | Some p ↦ λ e. let bound = k.kept.parent f p e in sym (parent_is m k.volume p bound.0 f bound.1)
       | None ↦ λ e. elim (parent_of m f) as (λ o. parent_of m f ≡ o → None ≡ o) [
         | None ↦ λ _. refl
@@ -33,9 +30,9 @@ kept_is_parent m parents k f =
     ] refl
 
 -- nothing is kept beside a free fid
-pub no_parent : {root : Fid} (m : Nodes) (parents : BTreeMap Fid Fid) → IsKept root m parents → (f : Fid) → map.get m f ≡ None → tree.get fid_cmp parents f ≡ None
+pub no_parent : {root : Fid} (m : Nodes) (parents : Fid → Option Fid) → IsKept root m parents → (f : Fid) → map.get m f ≡ None → parents f ≡ None
 no_parent m parents k f free =
-    elim (tree.get fid_cmp parents f) as (λ o. tree.get fid_cmp parents f ≡ o → o ≡ None) [
+    elim (parents f) as (λ o. parents f ≡ o → o ≡ None) [
       | None ↦ λ _. refl
       | Some p ↦ λ e.
           let bound = k.kept.parent f p e in
@@ -45,7 +42,7 @@ no_parent m parents k f free =
     ] refl
 
 -- parents that are the same at each fid serve as well
-pub parents_same : (m : Nodes) (old new : BTreeMap Fid Fid) → ((q : Fid) → tree.get fid_cmp new q ≡ tree.get fid_cmp old q) → AreParents m old → AreParents m new
+pub parents_same : (m : Nodes) (old new : Fid → Option Fid) → ((q : Fid) → new q ≡ old q) → AreParents m old → AreParents m new
 parents_same m old new same k = record {
   parent = λ f p is. k.parent f p (sym (same f) ∙ is);
   binds = λ p n f is. same f ∙ k.binds p n f is;
@@ -53,57 +50,45 @@ parents_same m old new same k = record {
 
 -- ---- a node added
 
-module _ {root : Fid} (m : Nodes) (old new : BTreeMap Fid Fid) (dir : Fid) (name : Name) (f : Fid) (node : Node) (put : (q : Fid) → tree.get fid_cmp new q ≡ cond (tree.is_at (fid_cmp f) q) (Some dir) (tree.get fid_cmp old q)) where
+module _ {root : Fid} (m : Nodes) (old new : Fid → Option Fid) (dir : Fid) (name : Name) (f : Fid) (node : Node) (here : new f ≡ Some dir) (other : (q : Fid) → q ≢ f → new q ≡ old q) where
   pub kept_added : IsKept root m old → IsDirAt m dir → child m dir name ≡ None → map.get m f ≡ None → IsLeaf node → IsKept root (added m dir name f node) new
   kept_added k dir_there name_free free leaf =
       let there = dir_node m dir dir_there in
       let facts = addition m dir name f node there.0 there.1 free name_free leaf in
-      let here : tree.get fid_cmp new f ≡ Some dir = put f ∙ changed_here f (Some dir) (tree.get fid_cmp old f) in
-      let other : (q : Fid) → q ≢ f → tree.get fid_cmp new q ≡ tree.get fid_cmp old q = λ q differs. put q ∙ changed_else f q (Some dir) (tree.get fid_cmp old q) differs in
       record {
         volume = volume_added m dir name f node there.0 there.1 free k.volume name_free leaf;
         kept = record {
           parent = λ q p is. elim (fid_cases q f) [
             | inl same ↦
-                let p_is : dir ≡ p = same_Some dir p (sym here ∙ ap (tree.get fid_cmp new) (sym same) ∙ is) in
+                let p_is : dir ≡ p = same_Some dir p (sym here ∙ ap new (sym same) ∙ is) in
                 (name, ap (λ e. child (added m dir name f node) e name) (sym p_is) ∙ facts.here ∙ ap Some (sym same))
             | inr differs ↦
                 let was = k.kept.parent q p (sym (other q differs) ∙ is) in
                 (was.0, more k.volume.tree facts p was.0 q was.1)
           ];
           binds = λ p n q is. elim (added_edge k.volume.tree facts p n q is) [
-            | inl at ↦ ap (tree.get fid_cmp new) at.2 ∙ here ∙ ap Some (sym at.0)
+            | inl at ↦ ap new at.2 ∙ here ∙ ap Some (sym at.0)
             | inr was ↦ other q (not_new k.volume.tree facts q (k.volume.tree.there p n q was)) ∙ k.kept.binds p n q was
           ];
         };
       }
 
--- a parent that was put beside a free fid and taken out again
-pub parent_taken_out : {root : Fid} (m : Nodes) (old more less : BTreeMap Fid Fid) (dir f : Fid) → IsKept root m old → map.get m f ≡ None
-    → ((q : Fid) → tree.get fid_cmp more q ≡ cond (tree.is_at (fid_cmp f) q) (Some dir) (tree.get fid_cmp old q))
-    → ((q : Fid) → tree.get fid_cmp less q ≡ cond (tree.is_at (fid_cmp f) q) None (tree.get fid_cmp more q)) → IsKept root m less
-parent_taken_out m old more less dir f k free put out = record {
-  volume = k.volume;
-  kept = parents_same m old less (λ q. elim (fid_cases q f) [
-    | inl same ↦ ap (tree.get fid_cmp less) same ∙ out f ∙ changed_here f None (tree.get fid_cmp more f) ∙ sym (ap (tree.get fid_cmp old) same ∙ no_parent m old k f free)
-    | inr other ↦ out q ∙ changed_else f q None (tree.get fid_cmp more q) other ∙ put q ∙ changed_else f q (Some dir) (tree.get fid_cmp old q) other
-  ]) k.kept;
-}
+-- nodes with the same parents
+pub kept_same : {root : Fid} (m n : Nodes) (old new : Fid → Option Fid) → n ≡ m → ((q : Fid) → new q ≡ old q) → IsKept root m old → IsKept root n new
+kept_same {root} m n old new is same k = subst (λ (x : Nodes). IsKept root x new) (sym is) (record { volume = k.volume; kept = parents_same m old new same k.kept })
 
 -- ---- a node taken out
 
-module _ {root : Fid} (m : Nodes) (old new : BTreeMap Fid Fid) (dir : Fid) (name : Name) (f : Fid) (out : (q : Fid) → tree.get fid_cmp new q ≡ cond (tree.is_at (fid_cmp f) q) None (tree.get fid_cmp old q)) where
+module _ {root : Fid} (m : Nodes) (old new : Fid → Option Fid) (dir : Fid) (name : Name) (f : Fid) (here : new f ≡ None) (other : (q : Fid) → q ≢ f → new q ≡ old q) where
   pub kept_detached : IsKept root m old → child m dir name ≡ Some f → ((n : Name) → child m f n ≡ None) → IsKept root (detached m dir name f) new
   kept_detached k was leaf =
       let there = dir_node m dir (binder_is_dir m dir name f was) in
       let facts = removal m dir name f there.0 there.1 was leaf in
-      let here : tree.get fid_cmp new f ≡ None = out f ∙ changed_here f None (tree.get fid_cmp old f) in
-      let other : (q : Fid) → q ≢ f → tree.get fid_cmp new q ≡ tree.get fid_cmp old q = λ q differs. out q ∙ changed_else f q None (tree.get fid_cmp old q) differs in
       record {
         volume = volume_detached m dir name f there.0 there.1 k.volume was leaf;
         kept = record {
           parent = λ q p is. elim (fid_cases q f) [
-            | inl same ↦ absurd (none-some p (sym here ∙ ap (tree.get fid_cmp new) (sym same) ∙ is))
+            | inl same ↦ absurd (none-some p (sym here ∙ ap new (sym same) ∙ is))
             | inr differs ↦
                 let bound = k.kept.parent q p (sym (other q differs) ∙ is) in
                 (bound.0, kept_edge k.volume.tree facts p bound.0 q differs bound.1)
@@ -116,7 +101,7 @@ module _ {root : Fid} (m : Nodes) (old new : BTreeMap Fid Fid) (dir : Fid) (name
 
 -- ---- a root alone
 
-pub kept_root : (root : Fid) (node : Node) (parents : BTreeMap Fid Fid) → ((q : Fid) → tree.get fid_cmp parents q ≡ None) → IsDir node.kind → IsLeaf node → IsKept root (map.insert map.empty root node) parents
+pub kept_root : (root : Fid) (node : Node) (parents : Fid → Option Fid) → ((q : Fid) → parents q ≡ None) → IsDir node.kind → IsLeaf node → IsKept root (map.insert map.empty root node) parents
 kept_root root node parents none dir leaf =
     let m : Nodes = map.insert map.empty root node in
     let here : map.get m root ≡ Some node = get_here fids_total map.empty root node in
@@ -150,7 +135,7 @@ kept_root root node parents none dir leaf =
 -- ---- a node changed
 
 -- nodes that bind the same, with directories where they were, are those of a volume with the same parents
-module _ {root : Fid} (m n : Nodes) (parents : BTreeMap Fid Fid) (there : (q : Fid) → has n q ≡ has m q) (same : (d : Fid) (k : Name) → child n d k ≡ child m d k) (dirs : (q : Fid) → IsDirAt m q → IsDirAt n q) where
+module _ {root : Fid} (m n : Nodes) (parents : Fid → Option Fid) (there : (q : Fid) → has n q ≡ has m q) (same : (d : Fid) (k : Name) → child n d k ≡ child m d k) (dirs : (q : Fid) → IsDirAt m q → IsDirAt n q) where
   kept_alike : IsKept root m parents → IsKept root n parents
   kept_alike k = record {
     volume = record { tree = tree_same there same k.volume.tree; top = dirs root k.volume.top };
@@ -169,7 +154,7 @@ dir_as_much a None much is = is
 dir_as_much a (Some node) much is = (much node refl).dir is
 
 -- a node may change where it binds the same, and stays a directory where it is one
-pub kept_changed : {root : Fid} (m : Nodes) (parents : BTreeMap Fid Fid) (d : Fid) (change : Node → Node) → ((node : Node) → map.get m d ≡ Some node → BindsAsMuch node (change node)) → IsKept root m parents → IsKept root (changed m d change) parents
+pub kept_changed : {root : Fid} (m : Nodes) (parents : Fid → Option Fid) (d : Fid) (change : Node → Node) → ((node : Node) → map.get m d ≡ Some node → BindsAsMuch node (change node)) → IsKept root m parents → IsKept root (changed m d change) parents
 kept_changed m parents d change much = kept_alike m (changed m d change) parents
     (has_changed m d change)
     (λ q name. elim (fid_cases q d) [
@@ -194,7 +179,7 @@ dir_written (Some new) (File content) is = is
 dir_written (Some new) (Link target) is = is
 dir_written (Some new) (Dir entries) is = is
 
-pub kept_written : {root : Fid} (m : Nodes) (parents : BTreeMap Fid Fid) (d : Fid) (patch : Patch) (sid : Sid) → IsKept root m parents → IsKept root (changed m d (written patch sid)) parents
+pub kept_written : {root : Fid} (m : Nodes) (parents : Fid → Option Fid) (d : Fid) (patch : Patch) (sid : Sid) → IsKept root m parents → IsKept root (changed m d (written patch sid)) parents
 kept_written m parents d patch sid = kept_changed m parents d (written patch sid) (λ node _. record {
   same = kind_written patch.content node.kind;
   dir = dir_written patch.content node.kind;

@@ -5,8 +5,13 @@ pub mod Trees
 pub mod Pairs
 pub mod Changes
 pub mod Moved
+pub mod Keyed
 pub mod TableMap
+pub mod SlotMap
 pub mod Parents
 pub mod Below
 pub mod KeptParents
 pub mod KeptMoved
+pub mod KeptSlots
+pub mod Undone
+pub mod UndoneAll

@@ -94,7 +94,7 @@ unbound_order m d name e other = elim (fid_cases d e) [
 
 -- ---- a move
 
-moved_is : (m : Nodes) (from : Fid) (name : Name) (to : Fid) (new : Name) (f : Fid) → moved m from name to new f ≡ bound (unbound m from name) to new f
+pub moved_is : (m : Nodes) (from : Fid) (name : Name) (to : Fid) (new : Name) (f : Fid) → moved m from name to new f ≡ bound (unbound m from name) to new f
 unfolding moved
 moved_is m from name to new f = refl
 
@@ -123,7 +123,7 @@ replaced_last m old from name to new f =
     ∙ ap (λ (n : Nodes). bound n to new f) (remove_changed m from (λ node. unbind_in node name) old)
     ∙ sym (replaced_is m old from name to new f)
 
-detached_is : (m : Nodes) (d : Fid) (name : Name) (f : Fid) → detached m d name f ≡ map.remove (unbound m d name) f
+pub detached_is : (m : Nodes) (d : Fid) (name : Name) (f : Fid) → detached m d name f ≡ map.remove (unbound m d name) f
 unfolding detached
 detached_is m d name f = refl
 

@@ -3,5 +3,14 @@ pub mod Tree
 pub mod Volume
 pub mod Lookup
 pub mod Table
+pub mod Parts
+pub mod Slots
+pub mod SlotSteps
+pub mod SlotEdits
+pub mod Undoing
 pub mod Keeping
+pub mod Bodies
+pub mod Volumes
+pub mod Drafted
+pub mod Drafts
 pub mod Blocks

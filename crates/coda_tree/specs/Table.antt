@@ -29,7 +29,7 @@ BindsAt old new dir name fid = ChangesAt old new dir (λ node. bind_in node name
 abbrev pub UnbindsAt : BTreeMap Fid Node → BTreeMap Fid Node → Fid → Name → Type 0
 UnbindsAt old new dir name = ChangesAt old new dir (λ node. unbind_in node name)
 
--- the first node, or else the second
-abbrev pub or_node : Option Node → Option Node → Option Node
-or_node None o = o
-or_node (Some node) o = Some node
+-- the first value, or else the second
+abbrev pub or_else : {X : Type 0} → Option X → Option X → Option X
+or_else None o = o
+or_else (Some x) o = Some x

@@ -1,4 +1,4 @@
-ghost use Rattle.std.specs.Prelude.{◌≡◌, ◌≤◌, ◌<◌, ◌==◌, IfOk, IfErr, IfSome, IfNone, IsSome, OnOk, OnErr, IsTrue, Some, None, option_map, slice_get};
+ghost use Rattle.std.specs.Prelude.{◌≡◌, ◌≤◌, ◌<◌, ◌+◌, ◌==◌, vec_len, vec_capacity, insert, IfOk, IfErr, IfSome, IfNone, IsSome, OnOk, OnErr, IsTrue, Some, None, option_map, slice_get};
 ghost use Rattle.std.specs.FinMap as map;
 ghost use Rattle.std.specs.FinMap.Entries.{is_sorted};
 ghost use Rattle.coda_fid.specs.Name.{name_cmp};
@@ -33,6 +33,22 @@ impl Model for Entries {
     ghost view = { λ a. map.from_sorted a.items.items };
 
     ghost invariant = { λ a. IsTrue (is_sorted name_cmp a.items.items) };
+}
+
+// Memory for pairs, in which a directory can take back a name that it lost.
+#[derive(Drop)]
+pub(crate) struct Room {
+    pairs: Vec<(Name, Fid)>,
+}
+
+impl Model for Room {
+    ghost use Rattle.std.specs.Prelude.{ℕ, ◌≡◌, [], vec_capacity};
+
+    ghost Value = { ℕ };
+
+    ghost view = { λ a. vec_capacity a.pairs };
+
+    ghost invariant = { λ a. a.pairs.items ≡ [] };
 }
 
 impl Entries {
@@ -117,6 +133,27 @@ impl Entries {
         }
     }
 
+    // Memory in which these bindings and two more have room. Nothing is copied.
+    pub(crate) fn room(&self) -> Result<Room, AllocError>
+        ensures { IfOk result (λ room. map.len self.now + 1 < room) }
+    {
+        let pairs = Vec::with_capacity(*self.items.allocator(), self.items.len() + 2)?;
+        Ok(Room { pairs })
+    }
+
+    // Binds a name that is free. Takes no memory but the room.
+    pub(crate) fn take_back(&mut self, name: Name, fid: Fid, room: Room)
+        requires free { map.get self.old name ≡ None }
+        requires room { map.len self.old < room }
+        ensures { self.new ≡ map.insert self.old name fid }
+    {
+        make_room(&mut self.items, room);
+        match search(&self.items, &name) {
+            Ok(_) => {}
+            Err(at) => insert_within(&mut self.items, at, name, fid),
+        }
+    }
+
     /// A copy. Fails for want of memory alone.
     pub fn copy(&self) -> Result<Entries, AllocError>
         ensures { IfOk result (λ e. e ≡ self.now) }
@@ -124,6 +161,33 @@ impl Entries {
         let items = copy_pairs(*self.items.allocator(), &self.items)?;
         Ok(Entries { items })
     }
+}
+
+// Sees to it that one more pair can be put in, by the room where the vector itself has none.
+fn make_room(items: &mut Vec<(Name, Fid)>, room: Room)
+    requires { vec_len items.old < room }
+    ensures items { items.new.items ≡ items.old.items }
+    ensures len { vec_len items.new ≡ vec_len items.old }
+    ensures room { vec_len items.new < vec_capacity items.new }
+{
+    if items.len() < items.capacity() {
+        return;
+    }
+    let mut pairs = room.pairs;
+    match pairs.append(items) {
+        Ok(()) => *items = pairs,
+        Err(_) => unreachable!(),
+    }
+}
+
+// Puts a pair in at a place. There is room for it.
+fn insert_within(items: &mut Vec<(Name, Fid)>, at: usize, name: Name, fid: Fid)
+    requires place { at ≤ vec_len items.old }
+    requires room { vec_len items.old < vec_capacity items.old }
+    ensures { items.new.items ≡ insert items.old.items at (name, fid) }
+{
+    let put = items.insert(at, (name, fid)).is_ok();
+    prove!(put);
 }
 
 // A copy of names with what they are bound to.

@@ -1,11 +1,18 @@
 //! Volumes: trees of nodes whose root is a directory, and tables of nodes that are no tree.
 #![tactic(auto)]
 
+mod body;
+mod draft;
 mod entries;
 mod node;
+mod slot;
+mod slots;
 mod table;
+mod undo;
 mod volume;
 
+pub use body::Body;
+pub use draft::Draft;
 pub use entries::Entries;
 pub use node::{Node, NodeKind};
 pub use table::NodeTable;

@@ -1,11 +1,14 @@
-ghost use Rattle.std.specs.Prelude.{◌≡◌, ◌<◌, ◌^◌, None, Some, OnOk, OnErr, IfOk, IsSome};
+ghost use Rattle.std.specs.Prelude.{◌≡◌, ◌<◌, ◌+◌, ◌^◌, None, Some, OnOk, OnErr, IfOk, IsSome};
 ghost use Rattle.std.specs.FinMap as map;
 ghost use Rattle.coda_tree.specs.Blocks.{blocks_of};
 ghost use Rattle.coda_tree.specs.Volume.{bindings, bind_in, unbind_in, with_content, written, content_patch, attrs_patch, IsDir};
+ghost use Rattle.coda_tree.specs.Parts.{displaced, parts_before, given_back};
 
 use crate::Entries;
+use crate::entries::Room;
 use coda_fid::{Attrs, Bytes, Fid, Name, Sid};
 use std::alloc::AllocError;
+use std::mem::replace;
 
 /// What kind of object a node is, with what it holds.
 #[derive(Debug, Drop)]
@@ -36,6 +39,16 @@ pub struct Node {
     pub marked: bool,
 }
 
+// The parts of a node that a write sets, with the content where it sets that of a file.
+#[derive(Drop)]
+pub(crate) struct Parts {
+    pub(crate) content: Option<Bytes>,
+    pub(crate) mode: u16,
+    pub(crate) owner: u32,
+    pub(crate) mtime: u64,
+    pub(crate) sid: Sid,
+}
+
 impl NodeKind {
     /// A copy with all content. Fails for want of memory alone.
     pub fn copy(&self) -> Result<NodeKind, AllocError>
@@ -54,6 +67,27 @@ impl NodeKind {
                 let entries = entries.copy()?;
                 Ok(NodeKind::Dir(entries))
             }
+        }
+    }
+
+    // Sets the content of a file, and answers the one that it had. Links and directories have none.
+    fn exchange(&mut self, content: Bytes) -> Option<Bytes>
+        ensures content { self.new ≡ with_content (Some content) self.old }
+        ensures before { result ≡ displaced (Some content) self.old }
+    {
+        match self {
+            NodeKind::File(held) => Some(replace(held, content)),
+            NodeKind::Link(_) => None,
+            NodeKind::Dir(_) => None,
+        }
+    }
+
+    // Sets the content of a file, where there is a new one.
+    fn give_back(&mut self, content: Option<Bytes>)
+        ensures { self.new ≡ with_content content self.old }
+    {
+        if let Some(content) = content {
+            self.set_content(content);
         }
     }
 
@@ -133,6 +167,74 @@ impl Node {
             NodeKind::Dir(entries) => entries.rebind(name, fid),
             NodeKind::File(_) | NodeKind::Link(_) => {}
         }
+    }
+
+    // Memory in which the directory can take back a name that it is to lose.
+    pub(crate) fn room(&self) -> Result<Room, AllocError>
+        requires { IsDir self.now.kind }
+        ensures { IfOk result (λ room. map.len (bindings self.now.kind) + 1 < room) }
+    {
+        match &self.kind {
+            NodeKind::Dir(entries) => entries.room(),
+            NodeKind::File(_) => unreachable!(),
+            NodeKind::Link(_) => unreachable!(),
+        }
+    }
+
+    // Binds a name that is free in a directory. Takes no memory but the room.
+    pub(crate) fn take_back(&mut self, name: Name, fid: Fid, room: Room)
+        requires dir { IsDir self.old.kind }
+        requires free { map.get (bindings self.old.kind) name ≡ None }
+        requires room { map.len (bindings self.old.kind) < room }
+        ensures { self.new ≡ bind_in self.old name fid }
+    {
+        match &mut self.kind {
+            NodeKind::Dir(entries) => entries.take_back(name, fid, room),
+            NodeKind::File(_) => {}
+            NodeKind::Link(_) => {}
+        }
+    }
+
+    // The parts that a change of attributes sets.
+    pub(crate) fn parts(&self) -> Parts
+        ensures { result ≡ parts_before None self.now }
+    {
+        Parts {
+            content: None,
+            mode: self.mode,
+            owner: self.owner,
+            mtime: self.mtime,
+            sid: self.sid,
+        }
+    }
+
+    // Sets the content of a file, the time, and the version that this leaves, and answers what these parts were.
+    pub(crate) fn exchange(&mut self, content: Bytes, mtime: u64, sid: Sid) -> Parts
+        ensures content { self.new ≡ written (content_patch content mtime) sid self.old }
+        ensures before { result ≡ parts_before (Some content) self.old }
+    {
+        let was = self.kind.exchange(content);
+        let parts = Parts {
+            content: was,
+            mode: self.mode,
+            owner: self.owner,
+            mtime: self.mtime,
+            sid: self.sid,
+        };
+        self.mtime = mtime;
+        self.sid = sid;
+        parts
+    }
+
+    // Sets these parts.
+    pub(crate) fn give_back(&mut self, parts: Parts)
+        ensures { self.new ≡ given_back parts self.old }
+    {
+        self.kind.give_back(parts.content);
+        self.mode = parts.mode;
+        self.owner = parts.owner;
+        self.mtime = parts.mtime;
+        self.sid = parts.sid;
     }
 
     // Sets the content of a file, the time, and the version that this leaves.

@@ -5,12 +5,15 @@ ghost use Rattle.coda_fid.specs.Fid.{root_of, fid_cmp};
 ghost use Rattle.coda_fid.specs.declared.fid.Fid.{Fid};
 ghost use Rattle.coda_tree.specs.Tree.{IsBelow, AtDepth};
 ghost use Rattle.coda_tree.specs.Volume.{child, has, added, detached, moved, replaced, changed, written, content_patch, attrs_patch, fresh, fresh_root, parent_of, below_within, is_below, IsVolume, IsDirAt, IsLeaf, BindsAsMuch, MayMove, MayReplace};
+ghost use Rattle.coda_tree.specs.Slots.{nodes_in, IsWhole};
+ghost use Rattle.coda_tree.specs.Volumes.{seen};
+ghost use Rattle.coda_tree.specs.Keeping.{IsKeptIn};
 ghost use Rattle.coda_tree.specs.Lookup.{lookup_of, step_from};
 
-use crate::{Entries, Node, NodeKind, NodeTable};
+use crate::body::{Body, root_fid};
+use crate::{Node, NodeKind};
 use coda_fid::{Attrs, Bytes, Fid, Name, Path, Sid};
 use std::alloc::{AllocError, Global};
-use std::collections::BTreeMap;
 use std::marker::Model;
 use thiserror::Error;
 
@@ -33,60 +36,22 @@ pub enum PathFault {
 /// that binds it.
 #[derive(Drop)]
 pub struct Volume {
-    number: u32,
-    nodes: NodeTable,
-    parents: BTreeMap<Fid, Fid>,
+    body: Body,
 }
 
 impl Model for Volume {
     ghost use Rattle.coda_tree.specs.Volume.{Tree, coded_tree};
-    ghost use Rattle.coda_tree.specs.Keeping.{tree_of, IsKeptVolume};
     ghost use Rattle.coda_tree.specs.contracts.node.Node as node_row;
 
     ghost Value = { Tree };
 
     ghost coded = { coded_tree node_row.the_row.coded };
 
+    ghost use Rattle.coda_tree.specs.Volumes.{tree_of, IsWholeVolume};
+
     ghost view = { tree_of };
 
-    ghost invariant = { IsKeptVolume };
-}
-
-// The fid of a volume's root.
-fn root_fid(number: u32) -> Fid
-    ensures { result ≡ root_of number }
-{
-    Fid {
-        volume: number,
-        vnode: 0,
-        uniq: 1,
-    }
-}
-
-// The root of a fresh volume.
-fn root_node(alloc: Global) -> Node
-    ensures { result ≡ fresh_root }
-{
-    Node {
-        kind: NodeKind::Dir(Entries::new(alloc)),
-        mode: 0o755,
-        owner: 0,
-        mtime: 0,
-        sid: Sid {
-            client: 0,
-            number: 0,
-        },
-        marked: false,
-    }
-}
-
-// Keeps another directory as the one that binds a node, where one is kept.
-fn set_parent(parents: &mut BTreeMap<Fid, Fid>, fid: Fid, dir: Fid)
-    ensures { (q : Fid) → tree.get fid_cmp parents.new q ≡ cond (tree.is_at (fid_cmp fid) q) (option_map (λ _. dir) (tree.get fid_cmp parents.old fid)) (tree.get fid_cmp parents.old q) }
-{
-    if let Some(kept) = parents.get_mut(&fid) {
-        *kept = dir;
-    }
+    ghost invariant = { IsWholeVolume };
 }
 
 impl Volume {
@@ -94,13 +59,34 @@ impl Volume {
     pub fn new(alloc: Global, number: u32) -> Result<Volume, AllocError>
         ensures { IfOk result (λ v. v ≡ fresh number) }
     {
-        let mut nodes = NodeTable::new(alloc);
-        nodes.put(root_fid(number), root_node(alloc))?;
-        Ok(Volume {
-            number,
-            nodes,
-            parents: BTreeMap::new(alloc),
-        })
+        let body = Body::new(alloc, number)?;
+        Ok(Volume { body })
+    }
+
+    // The volume of objects without empty slots.
+    pub(crate) fn from_body(body: Body) -> Volume
+        requires { IsWhole body.slots }
+        ensures { result ≡ seen body }
+    {
+        Volume { body }
+    }
+
+    // Its objects.
+    pub(crate) fn into_body(self) -> Body
+        ensures body { seen result ≡ self }
+        ensures kept { IsKeptIn result.number result.slots }
+        ensures whole { IsWhole result.slots }
+    {
+        let _number = self.body.number();
+        self.body
+    }
+
+    /// Its objects.
+    pub fn body(&self) -> &Body
+        ensures number { result.now.number ≡ self.now.number }
+        ensures nodes { nodes_in result.now.slots ≡ self.now.nodes }
+    {
+        &self.body
     }
 
     /// The volume's number, which gives its root's fid.
@@ -108,7 +94,7 @@ impl Volume {
         ensures number { result ≡ self.now.number }
         ensures volume { IsVolume (root_of self.now.number) self.now.nodes }
     {
-        self.number
+        self.body.number()
     }
 
     /// How many nodes there are, the root among them. Each is reached from the root by fewer bindings than that.
@@ -117,28 +103,28 @@ impl Volume {
         ensures volume { IsVolume (root_of self.now.number) self.now.nodes }
         ensures depth { (depth : ℕ) (f : Fid) → AtDepth (child self.now.nodes) (root_of self.now.number) depth f → depth < result }
     {
-        self.nodes.len()
+        self.body.len()
     }
 
     /// The node at a fid.
     pub fn get(&self, fid: Fid) -> Option<&Node>
         ensures { option_copied result ≡ map.get self.now.nodes fid }
     {
-        self.nodes.get(fid)
+        self.body.get(fid)
     }
 
     /// What the directory at a fid binds at a name; `None` too where no directory stands there.
     pub fn child(&self, dir: Fid, name: &Name) -> Option<Fid>
         ensures { result ≡ child self.now.nodes dir name.now }
     {
-        self.nodes.child(dir, name)
+        self.body.child(dir, name)
     }
 
     /// What a path leads to from the root, or the first component at which it stops.
     pub fn lookup(&self, path: &Path) -> Result<Fid, PathFault>
         ensures { result ≡ lookup_of self.now.nodes (root_of self.now.number) 0 path.now }
     {
-        let mut at = root_fid(self.number);
+        let mut at = root_fid(self.number());
         let names = path.names();
         for (component, name) in names.iter().enumerate() {
             at = self.step(at, name, component)?;
@@ -147,12 +133,11 @@ impl Volume {
     }
 
     /// Whether a node is another or stands below it. Takes time in the depth of the first.
-    #[tactic(auto, unfolding(crate::specs::Volume::is_below))]
     pub fn is_below(&self, fid: Fid, of: Fid) -> bool
         ensures exact { result ≡ is_below self.now.nodes fid of }
         ensures below { has self.now.nodes fid ≡ true → (IsTrue result ↔ IsBelow (child self.now.nodes) of fid) }
     {
-        self.climbs_to(fid, of, self.len())
+        self.body.is_below(fid, of)
     }
 
     /// Puts a node that binds nothing at a free fid and binds it in a directory at a free name. Fails for want of
@@ -165,14 +150,8 @@ impl Volume {
         ensures ok { OnOk result (self.new ≡ record self.old { nodes = added self.old.nodes dir name fid node }) }
         ensures err { OnErr result (self.new ≡ self.old) }
     {
-        self.parents.insert(fid, dir)?;
-        match self.nodes.create(dir, name, fid, node) {
-            Ok(()) => Ok(()),
-            Err(e) => {
-                let _ = self.parents.remove(&fid);
-                Err(e)
-            }
-        }
+        let _ = self.body.add(dir, name, fid, node)?;
+        Ok(())
     }
 
     /// Takes a node that binds nothing out of the directory that binds it, and out of the volume.
@@ -181,8 +160,8 @@ impl Volume {
         ensures { (f : Fid) → child self.old.nodes dir name.now ≡ Some f → self.new ≡ record self.old { nodes = detached self.old.nodes dir name.now f } }
     {
         if let Some(fid) = self.child(dir, name) {
-            self.nodes.detach(dir, name, fid);
-            let _ = self.parents.remove(&fid);
+            let _ = self.body.detach(dir, name, fid);
+            self.body.purge(fid);
         }
     }
 
@@ -194,8 +173,7 @@ impl Volume {
         ensures err { OnErr result (self.new ≡ self.old) }
     {
         if let Some(fid) = self.child(from, name) {
-            self.nodes.move_to(from, name, to, new, fid)?;
-            set_parent(&mut self.parents, fid, to);
+            self.body.move_to(from, name, to, new, fid)?;
         }
         Ok(())
     }
@@ -207,9 +185,8 @@ impl Volume {
         ensures { (f : Fid) → child self.old.nodes from name.now ≡ Some f → self.new ≡ record self.old { nodes = replaced self.old.nodes old from name.now to new.now f } }
     {
         if let Some(fid) = self.child(from, name) {
-            self.nodes.replace(old, from, name, to, new, fid);
-            let _ = self.parents.remove(&old);
-            set_parent(&mut self.parents, fid, to);
+            let _ = self.body.replace(old, from, name, to, new, fid);
+            self.body.purge(old);
         }
     }
 
@@ -218,7 +195,7 @@ impl Volume {
     pub fn store(&mut self, fid: Fid, content: Bytes, mtime: u64, sid: Sid)
         ensures { self.new ≡ record self.old { nodes = changed self.old.nodes fid (written (content_patch content mtime) sid) } }
     {
-        self.nodes.store(fid, content, mtime, sid);
+        drop(self.body.exchange(fid, content, mtime, sid));
     }
 
     /// Sets attributes of the node at a fid, and the version that this leaves. Takes no memory, and does nothing where
@@ -226,7 +203,7 @@ impl Volume {
     pub fn set_attributes(&mut self, fid: Fid, attrs: &Attrs, sid: Sid)
         ensures { self.new ≡ record self.old { nodes = changed self.old.nodes fid (written (attrs_patch attrs.now) sid) } }
     {
-        self.nodes.set_attributes(fid, attrs, sid);
+        self.body.set_attributes(fid, attrs, sid);
     }
 
     /// Puts a node in the place of one that binds the same, where a directory stays one. Takes no memory.
@@ -234,20 +211,15 @@ impl Volume {
         requires { IsSomeAnd (map.get self.old.nodes fid) (λ was. BindsAsMuch was node) }
         ensures { self.new ≡ record self.old { nodes = changed self.old.nodes fid (λ _. node) } }
     {
-        self.nodes.set(fid, node);
+        self.body.set(fid, node);
     }
 
     /// A copy with all content. Fails for want of memory alone.
     pub fn copy(&self) -> Result<Volume, AllocError>
         ensures { IfOk result (λ v. v ≡ self.now) }
     {
-        let nodes = self.nodes.copy()?;
-        let parents = self.parents.clone()?;
-        Ok(Volume {
-            number: self.number,
-            nodes,
-            parents,
-        })
+        let body = self.body.copy()?;
+        Ok(Volume { body })
     }
 
     // What one component of a path leads to.
@@ -264,32 +236,5 @@ impl Volume {
             },
             None => Err(PathFault::NotDir(component)),
         }
-    }
-
-    // The directory that binds a node.
-    fn parent(&self, fid: Fid) -> Option<Fid>
-        ensures { result ≡ parent_of self.now.nodes fid }
-    {
-        match self.parents.get(&fid) {
-            Some(dir) => Some(*dir),
-            None => None,
-        }
-    }
-
-    // Whether the way up from a node meets another within so many steps.
-    fn climbs_to(&self, fid: Fid, of: Fid, steps: usize) -> bool
-        ensures { result ≡ below_within self.now.nodes steps fid of }
-    {
-        let mut at = fid;
-        for _step in 0..steps {
-            if at == of {
-                return true;
-            }
-            match self.parent(at) {
-                Some(up) => at = up,
-                None => return false,
-            }
-        }
-        at == of
     }
 }

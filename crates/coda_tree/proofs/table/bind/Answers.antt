@@ -4,7 +4,7 @@ use Rattle.std.specs.BTreeMap as tree
 use Rattle.coda_fid.specs.Fid.{fid_cmp}
 use Rattle.coda_fid.specs.declared.fid.Fid.{Fid}
 use Rattle.coda_tree.proofs.Order.{fid_cases}
-use Rattle.coda_tree.proofs.TableMap.{changed_here, changed_else}
+use Rattle.coda_tree.proofs.Keyed.{changed_here, changed_else}
 use Rattle.coda_tree.proofs.table.bind.Goals as goal
 
 pub returns-in-Some-clause-err : goal.returns-in-Some-clause-err

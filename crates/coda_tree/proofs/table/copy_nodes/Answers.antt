@@ -5,8 +5,8 @@ use Rattle.coda_fid.specs.Fid.{fid_cmp}
 use Rattle.coda_fid.specs.declared.fid.Fid.{Fid}
 use Rattle.coda_tree.specs.declared.node.Node.{Node}
 use Rattle.coda_tree.specs.Volume.{Nodes}
-use Rattle.coda_tree.specs.Table.{or_node}
-use Rattle.coda_tree.proofs.TableMap.{kept_at, or_none, copy_step, copied}
+use Rattle.coda_tree.specs.Table.{or_else}
+use Rattle.coda_tree.proofs.Keyed.{kept_at, or_none, copy_step, copied}
 use Rattle.coda_tree.proofs.table.copy_nodes.Goals as goal
 
 pub loop-fid-preserved : goal.loop-fid-preserved
@@ -22,8 +22,8 @@ loop-fid-init c =
     record {
       sorted = search rules;
       same = λ q. ap (λ (l : List (Fid × Node)). kept_at l q) (sym given.0)
-          ∙ sym (ap (or_node (kept_at c.into_iter-fid-iterator.result q)) (ap (λ (m : Nodes). map.get m q) c.new-copy.ensures ∙ map.get-empty fid_cmp q) ∙ or_none (kept_at c.into_iter-fid-iterator.result q));
+          ∙ sym (ap (or_else (kept_at c.into_iter-fid-iterator.result q)) (ap (λ (m : Nodes). map.get m q) c.new-copy.ensures ∙ map.get-empty fid_cmp q) ∙ or_none (kept_at c.into_iter-fid-iterator.result q));
     }
 
 pub returns : goal.returns
-returns c = copied c.args.nodes.now.entries c.loop-fid.copy (λ q. c.loop-fid.invariant.same q ∙ ap (λ (l : List (Fid × Node)). or_node (kept_at l q) (map.get c.loop-fid.copy q)) c.in-None.ensures.steps.0)
+returns c = copied c.args.nodes.now.entries c.loop-fid.copy (λ q. c.loop-fid.invariant.same q ∙ ap (λ (l : List (Fid × Node)). or_else (kept_at l q) (map.get c.loop-fid.copy q)) c.in-None.ensures.steps.0)

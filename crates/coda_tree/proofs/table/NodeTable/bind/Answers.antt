@@ -1,7 +1,8 @@
 use Rattle.std.proofs.Common.{sym, ap, ◌∙◌, subst}
 use Rattle.std.proofs.lemmas.Result.{on_ok_weaker, on_err_weaker}
 use Rattle.coda_tree.specs.Volume.{Nodes, child, bind_in, bound, IsDirAt}
-use Rattle.coda_tree.proofs.TableMap.{may_bind, nodes_changed, nodes_same}
+use Rattle.coda_tree.proofs.Keyed.{keyed_same}
+use Rattle.coda_tree.proofs.TableMap.{may_bind, nodes_changed}
 use Rattle.coda_tree.proofs.table.NodeTable.bind.Goals as goal
 
 pub bind-requires : goal.bind-requires
@@ -15,4 +16,4 @@ returns-clause-ok c = on_ok_weaker c.bind.result (λ binds.
     ∙ ap (λ (m : Nodes). bound m c.args.dir c.args.name c.args.fid) c.self.view_is) c.bind.ensures.ok
 
 pub returns-clause-err : goal.returns-clause-err
-returns-clause-err c = on_err_weaker c.bind.result (λ same. nodes_same c.self.inside.nodes.entries c.bind.new.nodes.entries same ∙ c.self.view_is) c.bind.ensures.err
+returns-clause-err c = on_err_weaker c.bind.result (λ same. keyed_same c.self.inside.nodes.entries c.bind.new.nodes.entries same ∙ c.self.view_is) c.bind.ensures.err

@@ -1,21 +1,19 @@
 use Rattle.std.proofs.Common.{sym, ap, ◌∙◌, subst}
 use Rattle.std.specs.FinMap as map
-use Rattle.coda_fid.specs.Fid.{root_of}
-use Rattle.coda_tree.specs.Volume.{Tree, Nodes, child, IsDirAt}
-use Rattle.coda_tree.specs.Keeping.{IsKept}
-use Rattle.coda_tree.proofs.KeptParents.{kept_added, parent_taken_out}
+use Rattle.coda_tree.specs.Volume.{Tree, Nodes, added, IsDirAt}
+use Rattle.coda_tree.specs.Slots.{Slotted, IsWhole}
+use Rattle.coda_tree.specs.Volumes.{seen}
+use Rattle.coda_tree.proofs.KeptSlots.{whole_added, nodes_added}
 use Rattle.coda_tree.proofs.volume.Volume.add.Goals as goal
 
-pub invariant_of-self-in-Ok : goal.invariant_of-self-in-Ok
-invariant_of-self-in-Ok c =
-    let dir_there = subst (λ (t : Tree). IsDirAt t.nodes c.args.dir) (sym c.self.view_is) c.requires.dir_there in
-    let name_free = ap (λ (t : Tree). child t.nodes c.args.dir c.args.name) c.self.view_is ∙ c.requires.name_free in
-    let free = ap (λ (t : Tree). map.get t.nodes c.args.fid) c.self.view_is ∙ c.requires.fid_free in
-    subst (λ (m : Nodes). IsKept (root_of c.self.inside.number) m c.insert.new.self) (sym c.in-Ok.ensures.ok)
-    (kept_added c.self.inside.nodes c.self.inside.parents c.insert.new.self c.args.dir c.args.name c.args.fid c.args.node c.in_ok-insert.ensures.updates.0 c.self.invariant dir_there name_free free c.requires.leaf)
+pub invariant_of-self-2 : goal.invariant_of-self-2
+invariant_of-self-2 c = subst (λ (b : Slotted). IsWhole b.slots) (sym c.in_ok-add.ensures.ok) (whole_added c.self.inside.body.slots c.self.invariant c.args.dir c.args.name c.args.fid c.args.node)
 
-pub invariant_of-self-in-Err : goal.invariant_of-self-in-Err
-invariant_of-self-in-Err c =
+pub returns-clause-ok : goal.returns-clause-ok
+returns-clause-ok c =
+    let s = c.self.inside.body.slots in
+    let whole : Nodes → Tree = λ m. record { number = c.self.inside.body.number; nodes = m } in
+    let dir_there = subst (λ (t : Tree). IsDirAt t.nodes c.args.dir) (sym c.self.view_is) c.requires.dir_there in
     let free = ap (λ (t : Tree). map.get t.nodes c.args.fid) c.self.view_is ∙ c.requires.fid_free in
-    subst (λ (m : Nodes). IsKept (root_of c.self.inside.number) m c.remove.new.self) (sym c.in-Err.ensures.err)
-    (parent_taken_out c.self.inside.nodes c.self.inside.parents c.insert.new.self c.remove.new.self c.args.dir c.args.fid c.self.invariant free c.in_ok-insert.ensures.updates.0 c.remove.ensures.updates.0)
+    ap seen c.in_ok-add.ensures.ok ∙ ap whole (nodes_added s c.args.dir c.args.name c.args.fid c.args.node dir_there free)
+    ∙ ap (λ (t : Tree). let r : Tree = record { number = t.number; nodes = added t.nodes c.args.dir c.args.name c.args.fid c.args.node } in r) c.self.view_is

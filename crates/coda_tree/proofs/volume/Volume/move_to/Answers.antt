@@ -1,28 +1,23 @@
-use Rattle.std.proofs.Common.{◌≡◌, true, is_some, sym, ap, ◌∙◌, subst}
+use Rattle.std.proofs.Common.{◌≡◌, sym, ap, ◌∙◌, subst}
 use Rattle.std.proofs.lemmas.Option.{same_Some}
-use Rattle.coda_fid.specs.Fid.{root_of}
 use Rattle.coda_fid.specs.declared.fid.Fid.{Fid}
-use Rattle.coda_tree.specs.Volume.{Tree, Nodes, child, has, is_below, MayMove}
-use Rattle.coda_tree.specs.Keeping.{IsKept}
-use Rattle.coda_tree.proofs.Below.{is_below_complete}
-use Rattle.coda_tree.proofs.Changes.{binder_is_dir, dir_node}
-use Rattle.coda_tree.proofs.KeptMoved.{kept_moved}
+use Rattle.coda_tree.specs.Volume.{Tree, Nodes, child, moved, MayMove}
+use Rattle.coda_tree.specs.Slots.{Slotted, nodes_in, IsWhole}
+use Rattle.coda_tree.specs.Volumes.{seen}
+use Rattle.coda_tree.proofs.KeptSlots.{whole_moved, nodes_moved_over, places_free}
 use Rattle.coda_tree.proofs.volume.Volume.move_to.Goals as goal
 
-pub move_to-requires-clause-from_there : goal.move_to-requires-clause-from_there
-move_to-requires-clause-from_there c =
-    let may = subst (λ (t : Tree). MayMove t.nodes c.args.from c.args.name.now c.args.to c.args.new) (sym c.self.view_is) c.requires in
-    binder_is_dir c.self.inside.nodes c.args.from c.args.name.now may.fid may.was
+pub invariant_of-self : goal.invariant_of-self
+invariant_of-self c = subst (λ (b : Slotted). IsWhole b.slots) (sym c.in_ok-move_to.ensures.ok) (whole_moved c.self.inside.body.slots c.self.invariant c.args.from c.args.name.now c.args.to c.args.new c.in-Some.fid)
 
-pub invariant_of-self-in-Some : goal.invariant_of-self-in-Some
-invariant_of-self-in-Some c =
-    let m = c.self.inside.nodes in
-    let fid = c.in-Some.fid in
-    let may = subst (λ (t : Tree). MayMove t.nodes c.args.from c.args.name.now c.args.to c.args.new) (sym c.self.view_is) c.requires in
+pub returns-in_ok-move_to-clause-ok : goal.returns-in_ok-move_to-clause-ok
+returns-in_ok-move_to-clause-ok c f is =
+    let s = c.self.inside.body.slots in
+    let same : c.in-Some.fid ≡ f = same_Some c.in-Some.fid f (c.in-Some.ensures ∙ is) in
+    let whole : Nodes → Tree = λ m. record { number = c.self.inside.body.number; nodes = m } in
     let was = ap (λ (t : Tree). child t.nodes c.args.from c.args.name.now) c.self.view_is ∙ sym c.in-Some.ensures in
-    let same : may.fid ≡ fid = same_Some may.fid fid (sym may.was ∙ was) in
-    let there : has m c.args.to ≡ true = let node = dir_node m c.args.to may.to_dir in ap is_some node.1 in
-    let apart = ap (λ (f : Fid). is_below m c.args.to f) (sym same) ∙ may.apart in
-    subst (λ (n : Nodes). IsKept (root_of c.self.inside.number) n c.set_parent.new.parents) (sym c.in_ok-move_to.ensures.ok)
-    (kept_moved m c.self.inside.parents c.set_parent.new.parents c.args.from c.args.name.now c.args.to c.args.new fid c.set_parent.ensures c.self.invariant was may.to_dir may.free
-    (λ below. let found = is_below_complete m c.self.invariant.volume c.args.to fid there below in cc))
+    let may = subst (λ (t : Tree). MayMove t.nodes c.args.from c.args.name.now c.args.to c.args.new) (sym c.self.view_is) c.requires in
+    ap seen c.in_ok-move_to.ensures.ok
+    ∙ ap whole (nodes_moved_over s c.args.from c.args.name.now c.args.to c.args.new c.in-Some.fid (places_free (nodes_in s) c.args.from c.args.name.now c.args.to c.args.new c.in-Some.fid was may.free))
+    ∙ ap (λ (t : Tree). let r : Tree = record { number = t.number; nodes = moved t.nodes c.args.from c.args.name.now c.args.to c.args.new c.in-Some.fid } in r) c.self.view_is
+    ∙ ap (λ (g : Fid). let r : Tree = record { number = c.args.self.now.number; nodes = moved c.args.self.now.nodes c.args.from c.args.name.now c.args.to c.args.new g } in r) same

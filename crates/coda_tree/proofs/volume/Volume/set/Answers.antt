@@ -1,16 +1,15 @@
-use Rattle.std.proofs.Common.{IsSomeAnd, sym, subst}
-use Rattle.std.specs.FinMap as map
-use Rattle.coda_fid.specs.Fid.{root_of}
-use Rattle.coda_tree.specs.declared.node.Node.{Node}
-use Rattle.coda_tree.specs.Volume.{Tree, Nodes, BindsAsMuch}
-use Rattle.coda_tree.specs.Keeping.{IsKept}
-use Rattle.coda_tree.proofs.KeptParents.{kept_changed}
+use Rattle.std.proofs.Common.{sym, ap, ◌∙◌, subst}
+use Rattle.coda_tree.specs.Volume.{Tree, Nodes, changed}
+use Rattle.coda_tree.specs.Slots.{Slotted, IsWhole}
+use Rattle.coda_tree.specs.Volumes.{seen}
+use Rattle.coda_tree.proofs.SlotMap.{nodes_changed}
+use Rattle.coda_tree.proofs.KeptSlots.{whole_changed}
 use Rattle.coda_tree.proofs.volume.Volume.set.Goals as goal
 
 pub invariant_of-self : goal.invariant_of-self
-invariant_of-self c =
-    let m = c.self.inside.nodes in
-    let allowed = subst (λ (t : Tree). IsSomeAnd (map.get t.nodes c.args.fid) (λ (was : Node). BindsAsMuch was c.args.node)) (sym c.self.view_is) c.requires in
-    subst (λ (n : Nodes). IsKept (root_of c.self.inside.number) n c.self.inside.parents) (sym c.set.ensures)
-    (kept_changed m c.self.inside.parents c.args.fid (λ _. c.args.node)
-    (λ was is. subst (λ o. IsSomeAnd o (λ (old : Node). BindsAsMuch old c.args.node)) is allowed) c.self.invariant)
+invariant_of-self c = subst (λ (b : Slotted). IsWhole b.slots) (sym c.set.ensures) (whole_changed c.self.inside.body.slots c.self.invariant c.args.fid (λ _. c.args.node))
+
+pub returns : goal.returns
+returns c =
+    let whole : Nodes → Tree = λ m. record { number = c.self.inside.body.number; nodes = m } in
+    ap seen c.set.ensures ∙ ap whole (nodes_changed c.self.inside.body.slots c.args.fid (λ _. c.args.node)) ∙ ap (λ (t : Tree). let r : Tree = record { number = t.number; nodes = changed t.nodes c.args.fid (λ _. c.args.node) } in r) c.self.view_is

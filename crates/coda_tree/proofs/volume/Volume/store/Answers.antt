@@ -1,11 +1,15 @@
-use Rattle.std.proofs.Common.{sym, subst}
-use Rattle.coda_fid.specs.Fid.{root_of}
-use Rattle.coda_tree.specs.Volume.{Nodes, content_patch}
-use Rattle.coda_tree.specs.Keeping.{IsKept}
-use Rattle.coda_tree.proofs.KeptParents.{kept_written}
+use Rattle.std.proofs.Common.{sym, ap, ◌∙◌, subst}
+use Rattle.coda_tree.specs.Volume.{Tree, Nodes, changed, written, content_patch}
+use Rattle.coda_tree.specs.Slots.{Slotted, IsWhole}
+use Rattle.coda_tree.specs.Volumes.{seen}
+use Rattle.coda_tree.proofs.SlotMap.{nodes_changed}
+use Rattle.coda_tree.proofs.KeptSlots.{whole_changed}
 use Rattle.coda_tree.proofs.volume.Volume.store.Goals as goal
 
 pub invariant_of-self : goal.invariant_of-self
-invariant_of-self c =
-    subst (λ (m : Nodes). IsKept (root_of c.self.inside.number) m c.self.inside.parents) (sym c.store.ensures)
-    (kept_written c.self.inside.nodes c.self.inside.parents c.args.fid (content_patch c.args.content c.args.mtime) c.args.sid c.self.invariant)
+invariant_of-self c = subst (λ (b : Slotted). IsWhole b.slots) (sym c.exchange.ensures.content) (whole_changed c.self.inside.body.slots c.self.invariant c.args.fid (written (content_patch c.args.content c.args.mtime) c.args.sid))
+
+pub returns : goal.returns
+returns c =
+    let whole : Nodes → Tree = λ m. record { number = c.self.inside.body.number; nodes = m } in
+    ap seen c.exchange.ensures.content ∙ ap whole (nodes_changed c.self.inside.body.slots c.args.fid (written (content_patch c.args.content c.args.mtime) c.args.sid)) ∙ ap (λ (t : Tree). let r : Tree = record { number = t.number; nodes = changed t.nodes c.args.fid (written (content_patch c.args.content c.args.mtime) c.args.sid) } in r) c.self.view_is

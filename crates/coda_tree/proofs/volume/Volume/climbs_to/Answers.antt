@@ -1,7 +1,0 @@
-use Rattle.std.proofs.Common.{◌+◌, ◌-◌, sym, ◌∙◌, arith}
-use Rattle.coda_tree.proofs.Below.{below_step}
-use Rattle.coda_tree.proofs.volume.Volume.climbs_to.Goals as goal
-
-pub loop-step-preserved : goal.loop-step-preserved
-loop-step-preserved c =
-    sym (below_step c.args.self.now.nodes (c.args.steps - c.loop-step._step) (c.args.steps - (c.loop-step._step + 1)) c.loop-step.at c.args.of c.in-Some.up (sym c.eq.ensures ∙ c.if-eq.false) (sym c.in-Some.ensures) (omega arith)) ∙ c.loop-step.invariant
