@@ -18,7 +18,7 @@ use Rattle.coda_script.specs.declared.reply.Reply.{Reply}
 use Rattle.coda_main.specs.declared.line.Ask.{Ask}
 use Rattle.coda_main.specs.declared.refused.Refused.{Refused}
 use Rattle.coda_main.specs.declared.refused.Refused.TheVariants.{Nothing, JournalFull}
-use Rattle.coda_main.specs.State.{put, LogState, log_after, ClientState, ClientEntry, client_after, client_after_all, decision, new_client, Froze, Settled, ReplicaState, ReplicaEntry, Decided, CellState, Event, VolumeMade, ClientMade, Ticked, LinkSet, AtClient, AtReplica, after, after_all}
+use Rattle.coda_main.specs.State.{put, LogState, log_after, ClientState, ClientEntry, client_after, client_after_all, decision, new_client, Froze, Settled, ReplicaState, ReplicaEntry, Decided, CellState, Event, VolumeMade, ClientMade, AtClient, AtReplica, after, after_all}
 use Rattle.coda_main.specs.Plain.{PlainCell, PlainReplica, state_of, replica_with, grown, grown_all, empty_cell}
 use Rattle.coda_main.specs.Asking.{Answer, operate, read, list}
 use Rattle.coda_main.specs.Steps.{Doing, Unless, Naming, ByClient, ByBoth, first_missing, on_volume, no_room, no_client, no_volume, Operates, Does, DoesTask, offers_of, drain, drained, sent_from, stays, client_named, server_named, volume_named, holder_named}
@@ -189,7 +189,7 @@ module _ (cell : PlainCell) (n volume : ℕ) (c : ClientState) (r : ReplicaState
       let there1 : second.clients n ≡ Some c1 = put_here s.clients n (option_map (λ (x : ClientState). client_after x froze) (s.clients n)) ∙ ap (option_map (λ (x : ClientState). client_after x froze)) there in
       let settles : ((client_after c1 settled).logs v).chunks ≡ (c1.logs v).chunks = put_chunks c1.logs volume (record (c1.logs volume) { log = log_after (verdict_of (decision r.tree.nodes n l.log)) (c1.logs volume).log }) refl v in
       let freezes : (c1.logs v).chunks ≡ cond (v == volume) chunk (c.logs v).chunks =
-          elim (v == volume) as (λ b. let lc : LogState = record l { chunks = chunk } in (cond b lc (c.logs v)).chunks ≡ cond b chunk (c.logs v).chunks) [ true ↦ refl | false ↦ refl ] in
+      elim (v == volume) as (λ b. let lc : LogState = record l { chunks = chunk } in (cond b lc (c.logs v)).chunks ≡ cond b chunk (c.logs v).chunks) [ true ↦ refl | false ↦ refl ] in
       frozen_at second n settled c1 there1 v client
       ∙ ap (λ z. cond (client == n) ((client_after c1 settled).logs v).chunks z) (frozen_at s n froze c there v client)
       ∙ twice (client == n) ((client_after c1 settled).logs v).chunks (c1.logs v).chunks (frozen (s.clients client) v)

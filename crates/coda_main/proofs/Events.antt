@@ -1,10 +1,9 @@
 -- What entries and events make of a cell, and what is carried out.
-use Rattle.std.proofs.Common.{◌≡◌, ◌≢◌, ℕ, ◌+◌, ◌==◌, Bool, true, false, cond, List, [], ◌∷◌, length, map, Option, Some, None, is_some, Result, Ok, Err, IfOk, refl, sym, ap, subst, ◌∙◌, arith}
+use Rattle.std.proofs.Common.{◌≡◌, ℕ, ◌+◌, ◌==◌, Bool, true, false, cond, List, [], ◌∷◌, length, map, Option, Some, None, refl, sym, ap, subst, ◌∙◌, arith}
 use Rattle.std.specs.Prelude.{nat_le}
 use Rattle.std.specs.Option.{option_map}
 use Rattle.std.proofs.lemmas.Bool.{eqb-true}
 use Rattle.std.proofs.lemmas.Bool.Decides.{nat_tests}
-use Rattle.coda_fid.specs.declared.op.Record.{Record}
 use Rattle.coda_tree.specs.Volume.{Nodes}
 use Rattle.coda_certify.specs.declared.verdict.Verdict.{Verdict}
 use Rattle.coda_certify.specs.Verdicts.{verdict_of}
@@ -15,9 +14,9 @@ use Rattle.coda_main.specs.declared.refused.Refused.{Refused}
 use Rattle.coda_main.specs.declared.refused.Refused.TheVariants.{Nothing, JournalFull, LinkDown}
 use Rattle.coda_script.specs.declared.line.Strength.TheVariants.{Down}
 use Rattle.coda_main.specs.Refusing.{refusal}
-use Rattle.coda_main.specs.State.{put, LogState, new_log, log_after, ClientState, ClientEntry, client_after, client_after_all, ReplicaState, replica_after, decision, Froze, Settled, Decided, CellState, Event, AtClient, AtReplica, after, after_all}
+use Rattle.coda_main.specs.State.{put, LogState, new_log, log_after, ClientState, ClientEntry, client_after, client_after_all, ReplicaState, replica_after, decision, Froze, Settled, Decided, CellState, AtClient, after, after_all}
 use Rattle.coda_main.specs.Asking.{Answer}
-use Rattle.coda_main.specs.Steps.{Named, Outcome, Doing, Unless, Naming, first_missing, ByClient, ByBoth, offers_of, on_volume, holder_named, client_named, volume_named, drain, drained, sent_from, stays}
+use Rattle.coda_main.specs.Steps.{Named, Doing, Unless, first_missing, ByClient, ByBoth, offers_of, drain, drained, sent_from, stays}
 use Rattle.coda_main.specs.Code.{Gives}
 use Rattle.coda_main.specs.Cells.{Carried, Acted, Sends}
 
@@ -155,7 +154,7 @@ module _ (number volume : ℕ) (l l' : LogState) (r r' : ReplicaState) (verdict 
         let first = froze (s.clients number) in
         let second = settle (put s.clients number first number) in
         let client_is : second ≡ Some (record c { logs = put c.logs volume l' }) =
-            ap settle (put_here s.clients number first) ∙ ap (λ o. settle (froze o)) there ∙ (λ j. Some (record c { logs = λ v. log_settled c is v j })) in
+        ap settle (put_here s.clients number first) ∙ ap (λ o. settle (froze o)) there ∙ (λ j. Some (record c { logs = λ v. log_settled c is v j })) in
         let replica_at : decide (s.replicas volume) ≡ Some r' = ap decide at ∙ ap Some (sym replica_is) in
         sym (λ i. record s {
           clients = λ q. (put_put s.clients number first second q ∙ ap (λ o. put s.clients number o q) client_is) i;

@@ -1,5 +1,5 @@
 -- Whether a line is refused, and where, depends on its bytes alone.
-use Rattle.std.proofs.Common.{◌≡◌, ℕ, true, false, List, Option, Some, None, Ok, Err, Result, sym, ap, ◌∙◌, inl, inr}
+use Rattle.std.proofs.Common.{◌≡◌, ℕ, List, Option, Some, None, Ok, Err, Result, sym, ap, ◌∙◌, inl, inr}
 use Rattle.std.proofs.lemmas.Bool.{false≢true}
 use Rattle.coda_engine.specs.declared.status.Kind.{Kind}
 use Rattle.coda_engine.specs.Exact.{TellsApart}

@@ -6,7 +6,6 @@ use Rattle.std.specs.Ordering.{nat_cmp, ordering_then}
 use Rattle.std.specs.declared.cmp.Ordering.{Ordering}
 use Rattle.coda_script.specs.declared.line.Line.{Line}
 use Rattle.coda_script.specs.declared.line.Task.{Task}
-use Rattle.coda_script.specs.declared.line.Strength.{Strength}
 use Rattle.coda_script.specs.declared.line.Strength.TheVariants.{Down}
 use Rattle.coda_script.specs.declared.reply.Reply.{Reply}
 use Rattle.coda_main.specs.declared.cell.Cell.{Cell}

@@ -1,5 +1,5 @@
 -- What a refusal is in a reply: its number and name, and what it names.
-use Rattle.std.specs.Prelude.{List, [], ◌∷◌, Option, Some, None, option_to_list}
+use Rattle.std.specs.Prelude.{Option, Some, None, option_to_list}
 use Rattle.coda_script.specs.declared.refusal.Refusal.{Refusal}
 use Rattle.coda_script.specs.declared.refusal.Refusal.TheVariants as named
 use Rattle.coda_script.specs.declared.reply.Arg.{Arg}

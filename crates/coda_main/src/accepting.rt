@@ -196,11 +196,14 @@ impl Client {
             Some(node) => match &node.kind {
                 NodeKind::File(_) => {
                     let content = content.copy()?;
-                    Ok(self.unless_full(volume, Op::Store {
-                        fid,
-                        pre: node.sid,
-                        content,
-                    }))
+                    Ok(self.unless_full(
+                        volume,
+                        Op::Store {
+                            fid,
+                            pre: node.sid,
+                            content,
+                        },
+                    ))
                 }
                 NodeKind::Link(_) => Ok(Err(Refused::NotFile)),
                 NodeKind::Dir(_) => Ok(Err(Refused::IsDir)),
@@ -214,35 +217,50 @@ impl Client {
         ensures { result ≡ setattr_at (client_state self.now) volume (map.get self.now.nodes fid) fid attrs.now }
     {
         match self.nodes.get(fid) {
-            Some(node) => self.unless_full(volume, Op::Setattr {
-                fid,
-                pre: node.sid,
-                attrs: *attrs,
-            }),
+            Some(node) => self.unless_full(
+                volume,
+                Op::Setattr {
+                    fid,
+                    pre: node.sid,
+                    attrs: *attrs,
+                },
+            ),
             None => Err(Refused::Miss(fid)),
         }
     }
 
     // A removal of an object that was found.
-    fn remove_at(&self, volume: u32, dir: Fid, name: &Name, fid: Fid) -> Result<Accepted, AllocError>
+    fn remove_at(
+        &self,
+        volume: u32,
+        dir: Fid,
+        name: &Name,
+        fid: Fid,
+    ) -> Result<Accepted, AllocError>
         ensures { IfOk result (λ accepted. accepted ≡ remove_at (client_state self.now) volume (map.get self.now.nodes fid) dir name.now fid) }
     {
         let name = name.copy()?;
         Ok(match self.nodes.get(fid) {
             Some(node) => match &node.kind {
                 NodeKind::Dir(_) => Err(Refused::IsDir),
-                NodeKind::File(_) => self.unless_full(volume, Op::Remove {
-                    dir,
-                    name,
-                    fid,
-                    pre: node.sid,
-                }),
-                NodeKind::Link(_) => self.unless_full(volume, Op::Remove {
-                    dir,
-                    name,
-                    fid,
-                    pre: node.sid,
-                }),
+                NodeKind::File(_) => self.unless_full(
+                    volume,
+                    Op::Remove {
+                        dir,
+                        name,
+                        fid,
+                        pre: node.sid,
+                    },
+                ),
+                NodeKind::Link(_) => self.unless_full(
+                    volume,
+                    Op::Remove {
+                        dir,
+                        name,
+                        fid,
+                        pre: node.sid,
+                    },
+                ),
             },
             None => Err(Refused::Miss(fid)),
         })
@@ -257,12 +275,15 @@ impl Client {
             Some(node) => match &node.kind {
                 NodeKind::Dir(entries) => {
                     if entries.is_empty() {
-                        self.unless_full(volume, Op::Rmdir {
-                            dir,
-                            name,
-                            fid,
-                            pre: node.sid,
-                        })
+                        self.unless_full(
+                            volume,
+                            Op::Rmdir {
+                                dir,
+                                name,
+                                fid,
+                                pre: node.sid,
+                            },
+                        )
                     } else {
                         Err(Refused::NotEmpty)
                     }
@@ -448,14 +469,17 @@ impl Client {
             Ok(over) => {
                 let from = from.copy()?;
                 let to = to.copy()?;
-                Ok(self.unless_full(volume, Op::Rename {
-                    from_dir,
-                    from,
-                    to_dir,
-                    to,
-                    fid,
-                    over,
-                }))
+                Ok(self.unless_full(
+                    volume,
+                    Op::Rename {
+                        from_dir,
+                        from,
+                        to_dir,
+                        to,
+                        fid,
+                        over,
+                    },
+                ))
             }
             Err(refusal) => Ok(Err(refusal)),
         }

@@ -372,12 +372,7 @@ impl Cell {
         opened(self.alloc)
     }
 
-    fn set_link(
-        &mut self,
-        client: u8,
-        server: u8,
-        strength: Strength,
-    ) -> Result<Reply, AllocError>
+    fn set_link(&mut self, client: u8, server: u8, strength: Strength) -> Result<Reply, AllocError>
         ensures { IfOk result (λ reply. Carried (Naming (client_named (cell_state self.old) client ∷ server_named (cell_state self.old) server ∷ []) (Happens Reply.Accepted (LinkSet client server strength))) (cell_state self.old) reply (cell_state self.new)) }
     {
         if let Some(why) = self.missing_end(client, server) {

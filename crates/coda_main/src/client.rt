@@ -139,11 +139,7 @@ pub struct Client {
 }
 
 // The log of a volume, which is made where there is none.
-fn log_at(
-    alloc: Global,
-    logs: &mut BTreeMap<u32, VolumeLog>,
-    volume: u32,
-) -> Result<(), AllocError>
+fn log_at(alloc: Global, logs: &mut BTreeMap<u32, VolumeLog>, volume: u32) -> Result<(), AllocError>
     ensures { OnOk result (IsSome (tree.get nat_cmp logs.new volume) × ((v : ℕ) → log_state (tree.get nat_cmp logs.new v) ≡ log_state (tree.get nat_cmp logs.old v))) }
 {
     if logs.contains_key(&volume) {
@@ -335,12 +331,7 @@ impl Client {
     }
 
     // Looks up what an ask names.
-    fn look_up(
-        &mut self,
-        offers: Option<&Volume>,
-        volume: u32,
-        ask: &Ask,
-    ) -> Result<(), AllocError>
+    fn look_up(&mut self, offers: Option<&Volume>, volume: u32, ask: &Ask) -> Result<(), AllocError>
         ensures { OnOk result (client_state self.new ≡ client_after_all (client_state self.old) (look_ups (nodes_offered offers.entry) (client_state self.old) volume ask.now)) }
     {
         let root = root_fid(volume);

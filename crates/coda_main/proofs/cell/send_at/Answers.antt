@@ -1,7 +1,5 @@
-use Rattle.std.proofs.Common.{◌≡◌, ℕ, Some, refl, sym, ap, subst, rules}
+use Rattle.std.proofs.Common.{sym, ap, rules}
 use Rattle.std.specs.Option.{option_map}
-use Rattle.std.specs.BTreeMap as tree
-use Rattle.std.specs.Ordering.{nat_cmp}
 use Rattle.std.proofs.lemmas.Result.{IfOk-weaker}
 use Rattle.coda_main.specs.Code.{client_state}
 use Rattle.coda_main.proofs.cell.send_at.Goals as goal

@@ -1,4 +1,3 @@
-use Rattle.std.proofs.Common.{refl}
 use Rattle.coda_engine.proofs.OneStatus.{one_status}
 use Rattle.coda_main.specs.Plain.{empty_cell}
 use Rattle.coda_main.proofs.Made.{cells_tell}

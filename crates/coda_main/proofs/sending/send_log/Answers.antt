@@ -1,9 +1,9 @@
-use Rattle.std.proofs.Common.{◌≡◌, ◌==◌, ◌+◌, ℕ, Bool, true, false, length, List, sym, ap, ◌∙◌, rules, tests}
+use Rattle.std.proofs.Common.{◌≡◌, ◌==◌, ◌+◌, true, false, length, List, sym, ap, ◌∙◌, rules, tests}
 use Rattle.std.specs.Prelude.{nat_le}
 use Rattle.std.proofs.lemmas.Result.{IfOk-weaker}
 use Rattle.coda_fid.specs.declared.op.Record.{Record}
 use Rattle.coda_certify.specs.Verdicts.{verdict_of}
-use Rattle.coda_main.specs.State.{decision, replica_after, Decided, log_after, LogState}
+use Rattle.coda_main.specs.State.{decision, replica_after, Decided, LogState}
 use Rattle.coda_main.specs.Cells.{replica_state}
 use Rattle.coda_main.proofs.Events.{empty_acted, full_acted, drained_acted}
 use Rattle.coda_main.proofs.sending.send_log.Goals as goal

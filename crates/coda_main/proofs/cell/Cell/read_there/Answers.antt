@@ -1,4 +1,3 @@
-use Rattle.std.proofs.Common.{◌≡◌, ℕ}
 use Rattle.std.proofs.lemmas.Result.{IfOk-weaker}
 use Rattle.coda_main.specs.State.{CellState}
 use Rattle.coda_main.specs.Asking.{read}
