@@ -1,5 +1,5 @@
 // Each reason to refuse an operation, for each kind of operation that can give it, on one small volume.
-use coda_certify::{Reason, Verdict, certify, replay};
+use coda_certify::{Reason, certify, replay};
 use coda_fid::{Attrs, Bytes, Fid, Name, Op, Over, Record, Sid};
 use coda_tree::Volume;
 use std::alloc::{AllocError, Global};
@@ -46,8 +46,102 @@ const LOW_DIR: u32 = 8;
 /// An object that isn't there.
 const NOTHING: u32 = 99;
 
-/// What is asked: a name for the row, the operation, and the reason to refuse it.
-type Row = (&'static str, Op, Option<Reason>);
+/// The object that isn't there.
+const GONE: Fid = Fid {
+    volume: 7,
+    vnode: 1,
+    uniq: NOTHING,
+};
+
+/// The directory that binds something.
+const FULL: Fid = Fid {
+    volume: 7,
+    vnode: 1,
+    uniq: FULL_DIR,
+};
+
+/// The file in it.
+const THE_FILE: Fid = Fid {
+    volume: 7,
+    vnode: 1,
+    uniq: FILE,
+};
+
+/// The directory in it.
+const LOW: Fid = Fid {
+    volume: 7,
+    vnode: 1,
+    uniq: LOW_DIR,
+};
+
+/// The link.
+const THE_LINK: Fid = Fid {
+    volume: 7,
+    vnode: 1,
+    uniq: LINK,
+};
+
+/// The directory that binds nothing.
+const EMPTY: Fid = Fid {
+    volume: 7,
+    vnode: 1,
+    uniq: EMPTY_DIR,
+};
+
+/// The marked directory.
+const MARKED: Fid = Fid {
+    volume: 7,
+    vnode: 1,
+    uniq: MARKED_DIR,
+};
+
+/// The marked file.
+const THE_MARKED_FILE: Fid = Fid {
+    volume: 7,
+    vnode: 1,
+    uniq: MARKED_FILE,
+};
+
+/// The version of the full directory.
+const V1: Sid = Sid {
+    client: 1,
+    number: 1,
+};
+
+/// The version of the file.
+const V2: Sid = Sid {
+    client: 1,
+    number: 2,
+};
+
+/// The version of the link.
+const V3: Sid = Sid {
+    client: 1,
+    number: 3,
+};
+
+/// The version of the empty directory.
+const V4: Sid = Sid {
+    client: 1,
+    number: 4,
+};
+
+/// An operation of the table. Objects are told by the number of their creation.
+#[derive(Clone, Copy)]
+enum Asked {
+    Create(Fid, &'static [u8], u32),
+    Mkdir(Fid, &'static [u8], u32),
+    Symlink(Fid, &'static [u8], u32),
+    Store(u32, Sid),
+    Setattr(u32, Sid),
+    Remove(Fid, &'static [u8], u32, Sid),
+    Rmdir(Fid, &'static [u8], u32, Sid),
+    Move(Fid, &'static [u8], Fid, &'static [u8], u32),
+    Replace(Fid, &'static [u8], Fid, &'static [u8], u32, u32, Sid),
+}
+
+/// A name for the row, the operation, and the reason to refuse it.
+type Row = (&'static str, Asked, Option<Reason>);
 
 // The object that client 1 created as its creation of this number.
 fn object(uniq: u32) -> Fid {
@@ -58,12 +152,7 @@ fn object(uniq: u32) -> Fid {
     }
 }
 
-// The version that client 1 left with its operation of this number.
-fn version(number: u64) -> Sid {
-    Sid { client: 1, number }
-}
-
-fn create(alloc: Global, dir: Fid, name: &[u8], uniq: u32) -> Result<Op, Fail> {
+fn creation(alloc: Global, dir: Fid, name: &[u8], uniq: u32) -> Result<Op, Fail> {
     Ok(Op::Create {
         dir,
         name: Name::read(alloc, name)?,
@@ -73,7 +162,7 @@ fn create(alloc: Global, dir: Fid, name: &[u8], uniq: u32) -> Result<Op, Fail> {
     })
 }
 
-fn mkdir(alloc: Global, dir: Fid, name: &[u8], uniq: u32) -> Result<Op, Fail> {
+fn new_directory(alloc: Global, dir: Fid, name: &[u8], uniq: u32) -> Result<Op, Fail> {
     Ok(Op::Mkdir {
         dir,
         name: Name::read(alloc, name)?,
@@ -83,38 +172,19 @@ fn mkdir(alloc: Global, dir: Fid, name: &[u8], uniq: u32) -> Result<Op, Fail> {
     })
 }
 
-fn symlink(alloc: Global, dir: Fid, name: &[u8], uniq: u32) -> Result<Op, Fail> {
+fn new_link(alloc: Global, dir: Fid, name: &[u8], uniq: u32) -> Result<Op, Fail> {
+    let target = Bytes::of(alloc, b"t")?;
     Ok(Op::Symlink {
         dir,
         name: Name::read(alloc, name)?,
         fid: object(uniq),
-        target: Bytes::of(alloc, b"t")?,
+        target,
         mode: 0o777,
         owner: 0,
     })
 }
 
-fn store(alloc: Global, uniq: u32, pre: Sid) -> Result<Op, Fail> {
-    Ok(Op::Store {
-        fid: object(uniq),
-        pre,
-        content: Bytes::of(alloc, b"x")?,
-    })
-}
-
-fn setattr(uniq: u32, pre: Sid) -> Op {
-    Op::Setattr {
-        fid: object(uniq),
-        pre,
-        attrs: Attrs {
-            mode: Some(0o600),
-            owner: None,
-            mtime: None,
-        },
-    }
-}
-
-fn remove(alloc: Global, dir: Fid, name: &[u8], uniq: u32, pre: Sid) -> Result<Op, Fail> {
+fn removal(alloc: Global, dir: Fid, name: &[u8], uniq: u32, pre: Sid) -> Result<Op, Fail> {
     Ok(Op::Remove {
         dir,
         name: Name::read(alloc, name)?,
@@ -123,7 +193,13 @@ fn remove(alloc: Global, dir: Fid, name: &[u8], uniq: u32, pre: Sid) -> Result<O
     })
 }
 
-fn rmdir(alloc: Global, dir: Fid, name: &[u8], uniq: u32, pre: Sid) -> Result<Op, Fail> {
+fn removal_of_a_directory(
+    alloc: Global,
+    dir: Fid,
+    name: &[u8],
+    uniq: u32,
+    pre: Sid,
+) -> Result<Op, Fail> {
     Ok(Op::Rmdir {
         dir,
         name: Name::read(alloc, name)?,
@@ -133,24 +209,60 @@ fn rmdir(alloc: Global, dir: Fid, name: &[u8], uniq: u32, pre: Sid) -> Result<Op
 }
 
 // A move of an object between two names, to the place of another where one is given.
-fn rename(
+fn renaming(
     alloc: Global,
     from: (Fid, &[u8]),
     to: (Fid, &[u8]),
     uniq: u32,
-    over: Option<(u32, Sid)>,
+    over: Option<Over>,
 ) -> Result<Op, Fail> {
+    let old = Name::read(alloc, from.1)?;
     Ok(Op::Rename {
         from_dir: from.0,
-        from: Name::read(alloc, from.1)?,
+        from: old,
         to_dir: to.0,
         to: Name::read(alloc, to.1)?,
         fid: object(uniq),
-        over: over.map(|(uniq, pre)| Over {
+        over,
+    })
+}
+
+fn op_of(alloc: Global, asked: Asked) -> Result<Op, Fail> {
+    match asked {
+        Asked::Create(dir, name, uniq) => creation(alloc, dir, name, uniq),
+        Asked::Mkdir(dir, name, uniq) => new_directory(alloc, dir, name, uniq),
+        Asked::Symlink(dir, name, uniq) => new_link(alloc, dir, name, uniq),
+        Asked::Store(uniq, pre) => Ok(Op::Store {
             fid: object(uniq),
             pre,
+            content: Bytes::of(alloc, b"x")?,
         }),
-    })
+        Asked::Setattr(uniq, pre) => Ok(Op::Setattr {
+            fid: object(uniq),
+            pre,
+            attrs: Attrs {
+                mode: Some(0o600),
+                owner: None,
+                mtime: None,
+            },
+        }),
+        Asked::Remove(dir, name, uniq, pre) => removal(alloc, dir, name, uniq, pre),
+        Asked::Rmdir(dir, name, uniq, pre) => removal_of_a_directory(alloc, dir, name, uniq, pre),
+        Asked::Move(dir, name, to, new, uniq) => renaming(
+            alloc,
+            (dir, name),
+            (to, new),
+            uniq,
+            None,
+        ),
+        Asked::Replace(dir, name, to, new, uniq, old, pre) => {
+            let over = Over {
+                fid: object(old),
+                pre,
+            };
+            renaming(alloc, (dir, name), (to, new), uniq, Some(over))
+        }
+    }
 }
 
 // Marks an object, where it is there.
@@ -163,22 +275,27 @@ fn mark(volume: &mut Volume, fid: Fid) -> Result<(), AllocError> {
     Ok(())
 }
 
-// The volume of all rows. Each object has the version of the operation that created it, of its own number.
+// What makes the volume of all rows. Each object has the version of the operation that created it, of its own number.
+#[rattlefmt::skip]
+fn making() -> [Asked; 8] {
+    [
+        Asked::Mkdir(ROOT, b"d", FULL_DIR),
+        Asked::Create(FULL, b"f", FILE),
+        Asked::Symlink(ROOT, b"l", LINK),
+        Asked::Mkdir(ROOT, b"e", EMPTY_DIR),
+        Asked::Mkdir(ROOT, b"m", MARKED_DIR),
+        Asked::Create(MARKED, b"g", INNER),
+        Asked::Create(ROOT, b"h", MARKED_FILE),
+        Asked::Mkdir(FULL, b"s", LOW_DIR),
+    ]
+}
+
 fn small_volume(alloc: Global) -> Result<Volume, Fail> {
-    let ops = [
-        mkdir(alloc, ROOT, b"d", FULL_DIR)?,
-        create(alloc, object(FULL_DIR), b"f", FILE)?,
-        symlink(alloc, ROOT, b"l", LINK)?,
-        mkdir(alloc, ROOT, b"e", EMPTY_DIR)?,
-        mkdir(alloc, ROOT, b"m", MARKED_DIR)?,
-        create(alloc, object(MARKED_DIR), b"g", INNER)?,
-        create(alloc, ROOT, b"h", MARKED_FILE)?,
-        mkdir(alloc, object(FULL_DIR), b"s", LOW_DIR)?,
-    ];
     let mut volume = Volume::new(alloc, 7)?;
     let mut records = Vec::new(alloc);
     let mut number = 0u64;
-    for op in ops {
+    for asked in making() {
+        let op = op_of(alloc, asked)?;
         number = number.saturating_add(1);
         records.push(Record {
             number,
@@ -187,490 +304,140 @@ fn small_volume(alloc: Global) -> Result<Volume, Fail> {
         })?;
     }
     let _ = replay(alloc, &mut volume, 1, &records)?;
-    mark(&mut volume, object(MARKED_DIR))?;
-    mark(&mut volume, object(MARKED_FILE))?;
+    mark(&mut volume, MARKED)?;
+    mark(&mut volume, THE_MARKED_FILE)?;
     Ok(volume)
 }
 
-// Certifies each operation on the small volume, and replays it alone.
-fn check_rows<const N: usize>(rt: &impl Abort, alloc: Global, rows: [Row; N]) -> Result<(), Fail> {
-    let volume = small_volume(alloc)?;
-    assert_eq!(rt; volume.len(), 9, "the small volume is made");
-    for (name, op, want) in rows {
+#[rattlefmt::skip]
+fn creations() -> [Row; 16] {
+    [
+        ("create: no directory", Asked::Create(GONE, b"n", 20), Some(Reason::NoDir(GONE))),
+        ("create: a file as directory", Asked::Create(THE_FILE, b"n", 20), Some(Reason::NoDir(THE_FILE))),
+        ("mkdir: no directory", Asked::Mkdir(GONE, b"n", 20), Some(Reason::NoDir(GONE))),
+        ("symlink: no directory", Asked::Symlink(GONE, b"n", 20), Some(Reason::NoDir(GONE))),
+        ("create: marked", Asked::Create(MARKED, b"n", 20), Some(Reason::Marked(MARKED))),
+        ("mkdir: marked, and the name is taken", Asked::Mkdir(MARKED, b"g", 20), Some(Reason::Marked(MARKED))),
+        ("symlink: marked", Asked::Symlink(MARKED, b"n", 20), Some(Reason::Marked(MARKED))),
+        ("create: the name is taken, and the fid", Asked::Create(FULL, b"f", LINK), Some(Reason::NameTaken(THE_FILE))),
+        ("mkdir: the name is taken", Asked::Mkdir(FULL, b"f", 20), Some(Reason::NameTaken(THE_FILE))),
+        ("symlink: the name is taken", Asked::Symlink(FULL, b"f", 20), Some(Reason::NameTaken(THE_FILE))),
+        ("create: the fid is used", Asked::Create(FULL, b"n", LINK), Some(Reason::FidUsed(THE_LINK))),
+        ("mkdir: the fid is used", Asked::Mkdir(FULL, b"n", LINK), Some(Reason::FidUsed(THE_LINK))),
+        ("symlink: the fid is used", Asked::Symlink(FULL, b"n", LINK), Some(Reason::FidUsed(THE_LINK))),
+        ("create: nothing wrong", Asked::Create(FULL, b"n", 20), None),
+        ("mkdir: nothing wrong", Asked::Mkdir(FULL, b"n", 20), None),
+        ("symlink: nothing wrong", Asked::Symlink(FULL, b"n", 20), None),
+    ]
+}
+
+#[rattlefmt::skip]
+fn writes() -> [Row; 12] {
+    [
+        ("store: marked, and of another version", Asked::Store(MARKED_FILE, OLD), Some(Reason::Marked(THE_MARKED_FILE))),
+        ("store: no object", Asked::Store(NOTHING, V2), Some(Reason::NoObject(GONE))),
+        ("store: a directory", Asked::Store(FULL_DIR, OLD), Some(Reason::WrongKind(FULL))),
+        ("store: a link", Asked::Store(LINK, OLD), Some(Reason::WrongKind(THE_LINK))),
+        ("store: another version", Asked::Store(FILE, OLD), Some(Reason::Changed { kept: OLD, found: V2 })),
+        ("store: nothing wrong", Asked::Store(FILE, V2), None),
+        ("setattr: marked", Asked::Setattr(MARKED_FILE, OLD), Some(Reason::Marked(THE_MARKED_FILE))),
+        ("setattr: no object", Asked::Setattr(NOTHING, V2), Some(Reason::NoObject(GONE))),
+        ("setattr: a file of another version", Asked::Setattr(FILE, OLD), Some(Reason::Changed { kept: OLD, found: V2 })),
+        ("setattr: a link of another version", Asked::Setattr(LINK, OLD), Some(Reason::Changed { kept: OLD, found: V3 })),
+        ("setattr: a directory of another version", Asked::Setattr(FULL_DIR, OLD), Some(Reason::AttrChanged { kept: OLD, found: V1 })),
+        ("setattr: nothing wrong", Asked::Setattr(FILE, V2), None),
+    ]
+}
+
+#[rattlefmt::skip]
+fn removals() -> [Row; 21] {
+    [
+        ("remove: no directory", Asked::Remove(GONE, b"f", FILE, V2), Some(Reason::NoDir(GONE))),
+        ("remove: a file as directory", Asked::Remove(THE_FILE, b"f", FILE, V2), Some(Reason::NoDir(THE_FILE))),
+        ("remove: marked directory", Asked::Remove(MARKED, b"g", INNER, OLD), Some(Reason::Marked(MARKED))),
+        ("remove: marked file", Asked::Remove(ROOT, b"h", MARKED_FILE, OLD), Some(Reason::Marked(THE_MARKED_FILE))),
+        ("remove: no object", Asked::Remove(FULL, b"f", NOTHING, V2), Some(Reason::NoObject(GONE))),
+        ("remove: a directory", Asked::Remove(ROOT, b"e", EMPTY_DIR, OLD), Some(Reason::WrongKind(EMPTY))),
+        ("remove: another is bound", Asked::Remove(FULL, b"f", LINK, OLD), Some(Reason::NameOther(Some(THE_FILE)))),
+        ("remove: none is bound", Asked::Remove(FULL, b"n", FILE, OLD), Some(Reason::NameOther(None))),
+        ("remove: another version", Asked::Remove(FULL, b"f", FILE, OLD), Some(Reason::Changed { kept: OLD, found: V2 })),
+        ("remove: nothing wrong", Asked::Remove(FULL, b"f", FILE, V2), None),
+        ("rmdir: no directory", Asked::Rmdir(GONE, b"e", EMPTY_DIR, V4), Some(Reason::NoDir(GONE))),
+        ("rmdir: a file as directory", Asked::Rmdir(THE_FILE, b"e", EMPTY_DIR, V4), Some(Reason::NoDir(THE_FILE))),
+        ("rmdir: in a marked one", Asked::Rmdir(MARKED, b"e", EMPTY_DIR, V4), Some(Reason::Marked(MARKED))),
+        ("rmdir: marked", Asked::Rmdir(ROOT, b"m", MARKED_DIR, OLD), Some(Reason::Marked(MARKED))),
+        ("rmdir: no object", Asked::Rmdir(ROOT, b"e", NOTHING, V4), Some(Reason::NoObject(GONE))),
+        ("rmdir: a link", Asked::Rmdir(ROOT, b"l", LINK, OLD), Some(Reason::WrongKind(THE_LINK))),
+        ("rmdir: another is bound", Asked::Rmdir(ROOT, b"d", EMPTY_DIR, OLD), Some(Reason::NameOther(Some(FULL)))),
+        ("rmdir: none is bound", Asked::Rmdir(ROOT, b"n", EMPTY_DIR, OLD), Some(Reason::NameOther(None))),
+        ("rmdir: another version", Asked::Rmdir(ROOT, b"e", EMPTY_DIR, OLD), Some(Reason::AttrChanged { kept: OLD, found: V4 })),
+        ("rmdir: not empty", Asked::Rmdir(ROOT, b"d", FULL_DIR, V1), Some(Reason::NotEmpty)),
+        ("rmdir: nothing wrong", Asked::Rmdir(ROOT, b"e", EMPTY_DIR, V4), None),
+    ]
+}
+
+#[rattlefmt::skip]
+fn moves() -> [Row; 13] {
+    [
+        ("move: from no directory", Asked::Move(GONE, b"f", EMPTY, b"n", FILE), Some(Reason::NoDir(GONE))),
+        ("move: to a file", Asked::Move(FULL, b"f", THE_FILE, b"n", FILE), Some(Reason::NoDir(THE_FILE))),
+        ("move: from a marked one", Asked::Move(MARKED, b"g", EMPTY, b"n", INNER), Some(Reason::Marked(MARKED))),
+        ("move: to a marked one", Asked::Move(FULL, b"f", MARKED, b"n", FILE), Some(Reason::Marked(MARKED))),
+        ("move: marked", Asked::Move(ROOT, b"h", EMPTY, b"n", MARKED_FILE), Some(Reason::Marked(THE_MARKED_FILE))),
+        ("move: no object", Asked::Move(FULL, b"f", EMPTY, b"n", NOTHING), Some(Reason::NoObject(GONE))),
+        ("move: the name is taken", Asked::Move(FULL, b"f", ROOT, b"l", FILE), Some(Reason::NameTaken(THE_LINK))),
+        ("move: the old name binds another", Asked::Move(FULL, b"s", EMPTY, b"n", FILE), Some(Reason::NameOther(Some(LOW)))),
+        ("move: the old name binds none", Asked::Move(FULL, b"z", EMPTY, b"n", FILE), Some(Reason::NameOther(None))),
+        ("move: into itself", Asked::Move(ROOT, b"d", FULL, b"n", FULL_DIR), Some(Reason::Loop)),
+        ("move: below itself", Asked::Move(ROOT, b"d", LOW, b"n", FULL_DIR), Some(Reason::Loop)),
+        ("move: nothing wrong", Asked::Move(FULL, b"f", EMPTY, b"n", FILE), None),
+        ("move: a directory", Asked::Move(ROOT, b"d", EMPTY, b"n", FULL_DIR), None),
+    ]
+}
+
+#[rattlefmt::skip]
+fn replacements() -> [Row; 16] {
+    [
+        ("replace: from no directory", Asked::Replace(GONE, b"f", ROOT, b"l", FILE, LINK, V3), Some(Reason::NoDir(GONE))),
+        ("replace: to no directory", Asked::Replace(FULL, b"f", GONE, b"l", FILE, LINK, V3), Some(Reason::NoDir(GONE))),
+        ("replace: from a marked one", Asked::Replace(MARKED, b"g", ROOT, b"l", INNER, LINK, V3), Some(Reason::Marked(MARKED))),
+        ("replace: to a marked one", Asked::Replace(FULL, b"f", MARKED, b"g", FILE, LINK, V3), Some(Reason::Marked(MARKED))),
+        ("replace: marked", Asked::Replace(ROOT, b"h", ROOT, b"l", MARKED_FILE, LINK, V3), Some(Reason::Marked(THE_MARKED_FILE))),
+        ("replace: over a marked one", Asked::Replace(FULL, b"f", ROOT, b"h", FILE, MARKED_FILE, OLD), Some(Reason::Marked(THE_MARKED_FILE))),
+        ("replace: no object", Asked::Replace(FULL, b"f", ROOT, b"l", NOTHING, LINK, V3), Some(Reason::NoObject(GONE))),
+        ("replace: over no object", Asked::Replace(FULL, b"f", ROOT, b"l", FILE, NOTHING, OLD), Some(Reason::NoObject(GONE))),
+        ("replace: over a directory", Asked::Replace(FULL, b"f", ROOT, b"e", FILE, EMPTY_DIR, OLD), Some(Reason::WrongKind(EMPTY))),
+        ("replace: with a directory", Asked::Replace(FULL, b"s", ROOT, b"l", LOW_DIR, LINK, V3), Some(Reason::WrongKind(LOW))),
+        ("replace: over itself", Asked::Replace(FULL, b"f", FULL, b"f", FILE, FILE, V2), Some(Reason::WrongKind(THE_FILE))),
+        ("replace: the old name binds another", Asked::Replace(FULL, b"s", ROOT, b"l", FILE, LINK, V3), Some(Reason::NameOther(Some(LOW)))),
+        ("replace: the new name binds another", Asked::Replace(FULL, b"f", ROOT, b"e", FILE, LINK, V3), Some(Reason::NameOther(Some(EMPTY)))),
+        ("replace: the new name binds none", Asked::Replace(FULL, b"f", ROOT, b"n", FILE, LINK, V3), Some(Reason::NameOther(None))),
+        ("replace: another version", Asked::Replace(FULL, b"f", ROOT, b"l", FILE, LINK, OLD), Some(Reason::Changed { kept: OLD, found: V3 })),
+        ("replace: nothing wrong", Asked::Replace(FULL, b"f", ROOT, b"l", FILE, LINK, V3), None),
+    ]
+}
+
+// Certifies each operation of a table on the volume.
+fn check_rows(rt: &impl Abort, alloc: Global, volume: &Volume, rows: &[Row]) -> Result<(), Fail> {
+    for (name, asked, want) in rows {
         let record = Record {
             number: 41,
             time: 5,
-            op,
+            op: op_of(alloc, *asked)?,
         };
-        assert_eq!(rt; certify(&volume, &record), want, "{name}");
-        let mut other = volume.copy()?;
-        let verdict = match want {
-            Some(why) => Verdict::Conflict(41, why),
-            None => Verdict::Applied,
-        };
-        assert_eq!(rt; replay(alloc, &mut other, 2, &[record])?, verdict, "{name}");
+        assert_eq!(rt; certify(volume, &record), *want, "{name}");
     }
     Ok(())
 }
 
 #[test]
-fn creations_are_certified(rt: HostRuntime) -> Result<(), Fail> {
-    let a = rt.alloc();
-    let (full, file) = (object(FULL_DIR), object(FILE));
-    let gone = object(NOTHING);
-    let marked = object(MARKED_DIR);
-    let no_dir = |fid: Fid| Some(Reason::NoDir(fid));
-    let taken = Some(Reason::NameTaken(file));
-    let used = Some(Reason::FidUsed(object(LINK)));
-    let in_conflict = Some(Reason::Marked(marked));
-    check_rows(
-        &rt,
-        a,
-        [
-            (
-                "create: no directory",
-                create(a, gone, b"n", 20)?,
-                no_dir(gone),
-            ),
-            (
-                "create: a file as directory",
-                create(a, file, b"n", 20)?,
-                no_dir(file),
-            ),
-            (
-                "mkdir: no directory",
-                mkdir(a, gone, b"n", 20)?,
-                no_dir(gone),
-            ),
-            (
-                "symlink: no directory",
-                symlink(a, gone, b"n", 20)?,
-                no_dir(gone),
-            ),
-            ("create: marked", create(a, marked, b"n", 20)?, in_conflict),
-            (
-                "mkdir: marked, and the name is taken",
-                mkdir(a, marked, b"g", 20)?,
-                in_conflict,
-            ),
-            (
-                "symlink: marked",
-                symlink(a, marked, b"n", 20)?,
-                in_conflict,
-            ),
-            (
-                "create: the name is taken",
-                create(a, full, b"f", LINK)?,
-                taken,
-            ),
-            ("mkdir: the name is taken", mkdir(a, full, b"f", 20)?, taken),
-            (
-                "symlink: the name is taken",
-                symlink(a, full, b"f", 20)?,
-                taken,
-            ),
-            (
-                "create: the fid is used",
-                create(a, full, b"n", LINK)?,
-                used,
-            ),
-            ("mkdir: the fid is used", mkdir(a, full, b"n", LINK)?, used),
-            (
-                "symlink: the fid is used",
-                symlink(a, full, b"n", LINK)?,
-                used,
-            ),
-            ("create: nothing wrong", create(a, full, b"n", 20)?, None),
-            ("mkdir: nothing wrong", mkdir(a, full, b"n", 20)?, None),
-            ("symlink: nothing wrong", symlink(a, full, b"n", 20)?, None),
-        ],
-    )
-}
-
-#[test]
-fn stores_and_attributes_are_certified(rt: HostRuntime) -> Result<(), Fail> {
-    let a = rt.alloc();
-    let kept = version(2);
-    let missing = Some(Reason::NoObject(object(NOTHING)));
-    let marked = Some(Reason::Marked(object(MARKED_FILE)));
-    let wrong = |uniq: u32| Some(Reason::WrongKind(object(uniq)));
-    let changed = |number: u64| {
-        Some(Reason::Changed {
-            kept: OLD,
-            found: version(number),
-        })
-    };
-    let attributes = Some(Reason::AttrChanged {
-        kept: OLD,
-        found: version(1),
-    });
-    check_rows(
-        &rt,
-        a,
-        [
-            (
-                "store: marked, and of another version",
-                store(a, MARKED_FILE, OLD)?,
-                marked,
-            ),
-            ("store: no object", store(a, NOTHING, kept)?, missing),
-            (
-                "store: a directory",
-                store(a, FULL_DIR, OLD)?,
-                wrong(FULL_DIR),
-            ),
-            ("store: a link", store(a, LINK, OLD)?, wrong(LINK)),
-            ("store: another version", store(a, FILE, OLD)?, changed(2)),
-            ("store: nothing wrong", store(a, FILE, kept)?, None),
-            ("setattr: marked", setattr(MARKED_FILE, OLD), marked),
-            ("setattr: no object", setattr(NOTHING, kept), missing),
-            (
-                "setattr: a file of another version",
-                setattr(FILE, OLD),
-                changed(2),
-            ),
-            (
-                "setattr: a link of another version",
-                setattr(LINK, OLD),
-                changed(3),
-            ),
-            (
-                "setattr: a directory of another version",
-                setattr(FULL_DIR, OLD),
-                attributes,
-            ),
-            ("setattr: nothing wrong", setattr(FILE, kept), None),
-        ],
-    )
-}
-
-#[test]
-fn removals_are_certified(rt: HostRuntime) -> Result<(), Fail> {
-    let a = rt.alloc();
-    let (full, gone, file) = (object(FULL_DIR), object(NOTHING), object(FILE));
-    let (kept, marked) = (version(2), object(MARKED_DIR));
-    let changed = Some(Reason::Changed {
-        kept: OLD,
-        found: kept,
-    });
-    let no_dir = |fid: Fid| Some(Reason::NoDir(fid));
-    let in_conflict = |fid: Fid| Some(Reason::Marked(fid));
-    let wrong = |uniq: u32| Some(Reason::WrongKind(object(uniq)));
-    let other = |found: Option<Fid>| Some(Reason::NameOther(found));
-    check_rows(
-        &rt,
-        a,
-        [
-            (
-                "remove: no directory",
-                remove(a, gone, b"f", FILE, kept)?,
-                no_dir(gone),
-            ),
-            (
-                "remove: a file as directory",
-                remove(a, file, b"f", FILE, kept)?,
-                no_dir(file),
-            ),
-            (
-                "remove: marked directory",
-                remove(a, marked, b"g", INNER, OLD)?,
-                in_conflict(marked),
-            ),
-            (
-                "remove: marked file",
-                remove(a, ROOT, b"h", MARKED_FILE, OLD)?,
-                in_conflict(object(MARKED_FILE)),
-            ),
-            (
-                "remove: no object",
-                remove(a, full, b"f", NOTHING, kept)?,
-                Some(Reason::NoObject(gone)),
-            ),
-            (
-                "remove: a directory",
-                remove(a, ROOT, b"e", EMPTY_DIR, OLD)?,
-                wrong(EMPTY_DIR),
-            ),
-            (
-                "remove: another is bound",
-                remove(a, full, b"f", LINK, OLD)?,
-                other(Some(file)),
-            ),
-            (
-                "remove: none is bound",
-                remove(a, full, b"n", FILE, OLD)?,
-                other(None),
-            ),
-            (
-                "remove: another version",
-                remove(a, full, b"f", FILE, OLD)?,
-                changed,
-            ),
-            (
-                "remove: nothing wrong",
-                remove(a, full, b"f", FILE, kept)?,
-                None,
-            ),
-        ],
-    )
-}
-
-#[test]
-fn removals_of_directories_are_certified(rt: HostRuntime) -> Result<(), Fail> {
-    let a = rt.alloc();
-    let (gone, file, marked) = (object(NOTHING), object(FILE), object(MARKED_DIR));
-    let kept = version(4);
-    let changed = Some(Reason::AttrChanged {
-        kept: OLD,
-        found: kept,
-    });
-    let no_dir = |fid: Fid| Some(Reason::NoDir(fid));
-    let in_conflict = Some(Reason::Marked(marked));
-    let other = |found: Option<Fid>| Some(Reason::NameOther(found));
-    check_rows(
-        &rt,
-        a,
-        [
-            (
-                "rmdir: no directory",
-                rmdir(a, gone, b"e", EMPTY_DIR, kept)?,
-                no_dir(gone),
-            ),
-            (
-                "rmdir: a file as directory",
-                rmdir(a, file, b"e", EMPTY_DIR, kept)?,
-                no_dir(file),
-            ),
-            (
-                "rmdir: in a marked one",
-                rmdir(a, marked, b"e", EMPTY_DIR, kept)?,
-                in_conflict,
-            ),
-            (
-                "rmdir: marked",
-                rmdir(a, ROOT, b"m", MARKED_DIR, OLD)?,
-                in_conflict,
-            ),
-            (
-                "rmdir: no object",
-                rmdir(a, ROOT, b"e", NOTHING, kept)?,
-                Some(Reason::NoObject(gone)),
-            ),
-            (
-                "rmdir: a link",
-                rmdir(a, ROOT, b"l", LINK, OLD)?,
-                Some(Reason::WrongKind(object(LINK))),
-            ),
-            (
-                "rmdir: another is bound",
-                rmdir(a, ROOT, b"d", EMPTY_DIR, OLD)?,
-                other(Some(object(FULL_DIR))),
-            ),
-            (
-                "rmdir: none is bound",
-                rmdir(a, ROOT, b"n", EMPTY_DIR, OLD)?,
-                other(None),
-            ),
-            (
-                "rmdir: another version",
-                rmdir(a, ROOT, b"e", EMPTY_DIR, OLD)?,
-                changed,
-            ),
-            (
-                "rmdir: not empty",
-                rmdir(a, ROOT, b"d", FULL_DIR, version(1))?,
-                Some(Reason::NotEmpty),
-            ),
-            (
-                "rmdir: nothing wrong",
-                rmdir(a, ROOT, b"e", EMPTY_DIR, kept)?,
-                None,
-            ),
-        ],
-    )
-}
-
-#[test]
-fn moves_are_certified(rt: HostRuntime) -> Result<(), Fail> {
-    let a = rt.alloc();
-    let (full, gone, marked) = (object(FULL_DIR), object(NOTHING), object(MARKED_DIR));
-    let (low, file) = (object(LOW_DIR), object(FILE));
-    let no_dir = |fid: Fid| Some(Reason::NoDir(fid));
-    let in_conflict = |fid: Fid| Some(Reason::Marked(fid));
-    let to = (object(EMPTY_DIR), b"n".as_slice());
-    let from = (full, b"f".as_slice());
-    let dir = (ROOT, b"d".as_slice());
-    check_rows(
-        &rt,
-        a,
-        [
-            (
-                "move: from no directory",
-                rename(a, (gone, b"f"), to, FILE, None)?,
-                no_dir(gone),
-            ),
-            (
-                "move: to a file",
-                rename(a, from, (file, b"n"), FILE, None)?,
-                no_dir(file),
-            ),
-            (
-                "move: from a marked one",
-                rename(a, (marked, b"g"), to, INNER, None)?,
-                in_conflict(marked),
-            ),
-            (
-                "move: to a marked one",
-                rename(a, from, (marked, b"n"), FILE, None)?,
-                in_conflict(marked),
-            ),
-            (
-                "move: marked",
-                rename(a, (ROOT, b"h"), to, MARKED_FILE, None)?,
-                in_conflict(object(MARKED_FILE)),
-            ),
-            (
-                "move: no object",
-                rename(a, from, to, NOTHING, None)?,
-                Some(Reason::NoObject(gone)),
-            ),
-            (
-                "move: the name is taken",
-                rename(a, from, (ROOT, b"l"), FILE, None)?,
-                Some(Reason::NameTaken(object(LINK))),
-            ),
-            (
-                "move: the old name binds another",
-                rename(a, (full, b"s"), to, FILE, None)?,
-                Some(Reason::NameOther(Some(low))),
-            ),
-            (
-                "move: the old name binds none",
-                rename(a, (full, b"z"), to, FILE, None)?,
-                Some(Reason::NameOther(None)),
-            ),
-            (
-                "move: to itself",
-                rename(a, dir, (full, b"n"), FULL_DIR, None)?,
-                Some(Reason::Loop),
-            ),
-            (
-                "move: below itself",
-                rename(a, dir, (low, b"n"), FULL_DIR, None)?,
-                Some(Reason::Loop),
-            ),
-            (
-                "move: nothing wrong",
-                rename(a, from, to, FILE, None)?,
-                None,
-            ),
-            (
-                "move: a directory",
-                rename(a, dir, to, FULL_DIR, None)?,
-                None,
-            ),
-        ],
-    )
-}
-
-#[test]
-fn replacements_are_certified(rt: HostRuntime) -> Result<(), Fail> {
-    let a = rt.alloc();
-    let (full, gone, marked) = (object(FULL_DIR), object(NOTHING), object(MARKED_DIR));
-    let in_conflict = |fid: Fid| Some(Reason::Marked(fid));
-    let wrong = |uniq: u32| Some(Reason::WrongKind(object(uniq)));
-    let other = |found: Option<Fid>| Some(Reason::NameOther(found));
-    let from = (full, b"f".as_slice());
-    let to = (ROOT, b"l".as_slice());
-    let link = Some((LINK, version(3)));
-    let changed = Some(Reason::Changed {
-        kept: OLD,
-        found: version(3),
-    });
-    check_rows(
-        &rt,
-        a,
-        [
-            (
-                "replace: from no directory",
-                rename(a, (gone, b"f"), to, FILE, link)?,
-                Some(Reason::NoDir(gone)),
-            ),
-            (
-                "replace: to no directory",
-                rename(a, from, (gone, b"l"), FILE, link)?,
-                Some(Reason::NoDir(gone)),
-            ),
-            (
-                "replace: from a marked one",
-                rename(a, (marked, b"g"), to, INNER, link)?,
-                in_conflict(marked),
-            ),
-            (
-                "replace: to a marked one",
-                rename(a, from, (marked, b"g"), FILE, link)?,
-                in_conflict(marked),
-            ),
-            (
-                "replace: marked",
-                rename(a, (ROOT, b"h"), to, MARKED_FILE, link)?,
-                in_conflict(object(MARKED_FILE)),
-            ),
-            (
-                "replace: over a marked one",
-                rename(a, from, (ROOT, b"h"), FILE, Some((MARKED_FILE, OLD)))?,
-                in_conflict(object(MARKED_FILE)),
-            ),
-            (
-                "replace: no object",
-                rename(a, from, to, NOTHING, link)?,
-                Some(Reason::NoObject(gone)),
-            ),
-            (
-                "replace: over no object",
-                rename(a, from, to, FILE, Some((NOTHING, OLD)))?,
-                Some(Reason::NoObject(gone)),
-            ),
-            (
-                "replace: over a directory",
-                rename(a, from, (ROOT, b"e"), FILE, Some((EMPTY_DIR, OLD)))?,
-                wrong(EMPTY_DIR),
-            ),
-            (
-                "replace: with a directory",
-                rename(a, (full, b"s"), to, LOW_DIR, link)?,
-                wrong(LOW_DIR),
-            ),
-            (
-                "replace: over itself",
-                rename(a, from, from, FILE, Some((FILE, version(2))))?,
-                wrong(FILE),
-            ),
-            (
-                "replace: the old name binds another",
-                rename(a, (full, b"s"), to, FILE, link)?,
-                other(Some(object(LOW_DIR))),
-            ),
-            (
-                "replace: the new name binds another",
-                rename(a, from, (ROOT, b"e"), FILE, link)?,
-                other(Some(object(EMPTY_DIR))),
-            ),
-            (
-                "replace: the new name binds none",
-                rename(a, from, (ROOT, b"n"), FILE, link)?,
-                other(None),
-            ),
-            (
-                "replace: another version",
-                rename(a, from, to, FILE, Some((LINK, OLD)))?,
-                changed,
-            ),
-            (
-                "replace: nothing wrong",
-                rename(a, from, to, FILE, link)?,
-                None,
-            ),
-        ],
-    )
+fn each_reason_is_found(rt: HostRuntime) -> Result<(), Fail> {
+    let alloc = rt.alloc();
+    let volume = small_volume(alloc)?;
+    assert_eq!(rt; volume.len(), 9, "the small volume is made");
+    check_rows(&rt, alloc, &volume, &creations())?;
+    check_rows(&rt, alloc, &volume, &writes())?;
+    check_rows(&rt, alloc, &volume, &removals())?;
+    check_rows(&rt, alloc, &volume, &moves())?;
+    check_rows(&rt, alloc, &volume, &replacements())
 }
