@@ -79,6 +79,29 @@ fn sixteen_mebibytes_run(rt: HostRuntime) -> Result<(), Fail> {
     Ok(())
 }
 
+#[test]
+fn a_cell_has_at_most_64_volumes(rt: HostRuntime) -> Result<(), Fail> {
+    let alloc = rt.alloc();
+    let mut script = Vec::new(alloc);
+    for volume in 1..66u32 {
+        let line = format!(in alloc; "volume {volume} on 8\n")?;
+        script.extend_from_slice(line.as_bytes())?;
+    }
+    script.extend_from_slice(b"volume 64 on 8\nshow volume 8 65\n")?;
+    let mut report = Vec::new(alloc);
+    put_lines(&mut report, 64, b"opened 0\n")?;
+    report.extend_from_slice(
+        b"refused 40 cell-full\nrefused 33 already-there\nrefused 32 no-such-actor 8\n",
+    )?;
+    let (status, sink) = run_script(alloc, script)?;
+    assert_eq!(rt; status, Status::Done);
+    assert!(rt;
+        sink.bytes() == report.as_slice(),
+        "the 65th volume is refused"
+    );
+    Ok(())
+}
+
 // The root is an object too, so a client may add 99,999.
 #[test]
 fn a_volume_has_at_most_a_hundred_thousand_objects(rt: HostRuntime) -> Result<(), Fail> {

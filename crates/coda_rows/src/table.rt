@@ -519,6 +519,7 @@ list 2 7 /
 show volume 1 7
 ", "opened 0
 opened 0
+opened 0
 ok
 ok
 done 1 7.1.1
@@ -676,7 +677,7 @@ link 1 1 strong
 tick 5
 mkdir 1 7 /d mode 0750 owner 4294967295
 create 1 7 /d/f mode 7777
-symlink 1 7 /d/l \"a b\" owner 3
+symlink 1 7 /d/l \"a b\"
 tick 10
 store 1 7 /d/f text \"x\\n\"
 setattr 1 7 /d mode 1 mtime 99
@@ -763,6 +764,7 @@ drain 1 7 1 window 0
 read 1 7 /d/f
 show volume 1 7
 ", "opened 0
+opened 0
 opened 0
 ok
 ok
