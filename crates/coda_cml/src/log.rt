@@ -326,7 +326,7 @@ impl Log {
     }
 
     /// Hands out the records of a log of which no chunk is frozen, and empties it. Numbers of operations
-    /// and chunks go on.
+    /// and chunks go on. Takes no memory.
     ///
     /// # Errors
     ///
@@ -335,6 +335,7 @@ impl Log {
     pub fn giveup(&mut self) -> Result<Vec<Record>, FreezeFault>
         ensures frozen { (number home : ℕ) → ((result ≡ Err (FreezeFault.Frozen number home)) ↔ (self.old.frozen ≡ Some (record { number = number; home = home }))) }
         ensures nothing { (result ≡ Err FreezeFault.Nothing) ↔ ((self.old.frozen ≡ None) × (self.old.records ≡ [])) }
+        ensures done { self.old.frozen ≡ None → self.old.records ≢ [] → IsOk result }
         ensures records { IfOk result (λ recs. recs.items ≡ self.old.records) }
         ensures log { OnOk result (self.new ≡ given_up self.old) }
         ensures run { (run : List Record) → IsLogOf self.old [] run → OnOk result (IsLogOf self.new [] []) }
