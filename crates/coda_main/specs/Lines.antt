@@ -5,7 +5,7 @@ use Rattle.coda_fid.specs.declared.fid.Fid.{Fid}
 use Rattle.coda_tree.specs.declared.node.NodeKind.{NodeKind}
 use Rattle.coda_tree.specs.Bindings.{Name}
 use Rattle.coda_tree.specs.Volume.{Nodes}
-use Rattle.coda_main.specs.Printing.{printed}
+use Rattle.coda_text.specs.Texts.{printed}
 use Rattle.coda_main.specs.Texts.{kind_text, shown_path, object_lines, entry_line}
 
 -- what the line of an object begins with

@@ -13,7 +13,8 @@ use Rattle.coda_tree.specs.Volume.{Nodes, Tree, bindings}
 use Rattle.coda_certify.specs.declared.verdict.Verdict.{Verdict}
 use Rattle.coda_certify.specs.declared.verdict.Verdict.TheVariants.{Applied, Conflict}
 use Rattle.coda_certify.specs.Texts.{reason_text}
-use Rattle.coda_main.specs.Printing.{printed, text_of_content, mode_text}
+use Rattle.coda_text.specs.Texts.{printed}
+use Rattle.coda_main.specs.Printing.{text_of_content, mode_text}
 use Rattle.coda_main.specs.State.{CellState, ReplicaState}
 use Rattle.coda_script.specs.Refusals.{number_of_refusal, refusal_name}
 use Rattle.coda_script.specs.declared.refusal.Refusal.{Refusal}

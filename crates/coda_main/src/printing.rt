@@ -1,7 +1,8 @@
 // How bytes are printed.
 ghost use Rattle.std.specs.Prelude.{◌≡◌, ◌<◌, ◌∷◌, [], ◌++◌, ◌/◌, ◌%◌, OnOk, string_bytes};
 ghost use Rattle.std.specs.List.{flat_map, list_all};
-ghost use Rattle.coda_main.specs.Printing.{hex_digit, escaped, quoted, is_open_byte, is_open, printed, text_of_content, mode_text};
+ghost use Rattle.coda_text.specs.Texts.{hex_digit, escaped, quoted, is_open_byte, is_open, printed};
+ghost use Rattle.coda_main.specs.Printing.{text_of_content, mode_text};
 
 use std::alloc::AllocError;
 use std::fmt::Write;

@@ -1,6 +1,6 @@
 use Rattle.std.proofs.Common.{◌≡◌, drop}
 use Rattle.std.specs.List.{list_all}
-use Rattle.coda_main.specs.Printing.{is_open_byte}
+use Rattle.coda_text.specs.Texts.{is_open_byte}
 use Rattle.coda_main.proofs.printing.all_open.Given as goal
 
 abbrev pub invariant-loop-byte : goal.invariant-loop-byte

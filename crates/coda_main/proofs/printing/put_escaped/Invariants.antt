@@ -1,7 +1,7 @@
 use Rattle.std.proofs.Common.{◌≡◌, ◌++◌, take}
 use Rattle.std.specs.List.{flat_map}
 use Rattle.std.specs.Prelude.{string_bytes}
-use Rattle.coda_main.specs.Printing.{escaped}
+use Rattle.coda_text.specs.Texts.{escaped}
 use Rattle.coda_main.proofs.printing.put_escaped.Given as goal
 
 abbrev pub invariant-loop-byte : goal.invariant-loop-byte
