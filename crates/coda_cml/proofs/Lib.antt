@@ -20,3 +20,8 @@ pub mod Splitting
 pub mod Freezing
 pub mod Thawing
 pub mod Keeping
+pub mod KeptVolumes
+pub mod Places
+pub mod Veiled
+pub mod Certifying
+pub mod Versions
