@@ -25,3 +25,6 @@ pub mod Places
 pub mod Veiled
 pub mod Certifying
 pub mod Versions
+pub mod HandingOn
+pub mod Applying
+pub mod Appending
