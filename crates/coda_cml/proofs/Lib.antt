@@ -28,3 +28,5 @@ pub mod Versions
 pub mod HandingOn
 pub mod Applying
 pub mod Appending
+pub mod Erasing
+pub mod Omitting
