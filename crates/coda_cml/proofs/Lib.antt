@@ -30,3 +30,5 @@ pub mod Applying
 pub mod Appending
 pub mod Erasing
 pub mod Omitting
+pub mod NeverMade
+pub mod Cancelling

@@ -1,6 +1,10 @@
 -- What holds of all runs.
-use Rattle.std.specs.Prelude.{◌≡◌, ◌↔◌, ℕ, List, [], ◌∷◌, ◌++◌}
+use Rattle.std.specs.Prelude.{◌≡◌, ◌≢◌, ◌↔◌, ℕ, Ok, Err, List, [], ◌∷◌, ◌++◌}
+use Rattle.coda_fid.specs.declared.fid.Fid.{Fid}
 use Rattle.coda_fid.specs.declared.op.Record.{Record}
+use Rattle.coda_tree.specs.Volume.{Nodes, IsVolume}
+use Rattle.coda_certify.specs.declared.reason.Reason.{Reason}
+use Rattle.coda_certify.specs.Replay.{replay}
 use Rattle.coda_cancel.specs.Cancel.{added, fold}
 use Rattle.coda_cancel.specs.Numbers.{AreUpTo, AreAbove, IsRising}
 use Rattle.coda_cml.specs.Steady.{IsSteady, IsFresh, RemovesEmpty}
@@ -25,3 +29,11 @@ RestIsSteady = (front rest : List Record) → IsSteady (front ++ rest) → IsSte
 -- a steady run stays steady with one more operation, where this creates nothing that the run mentions, and removes nothing in which something is left that the run created there
 abbrev pub OperationsKeepSteady : Type 0
 OperationsKeepSteady = (run : List Record) (rec : Record) → IsSteady run → IsFresh rec.op run → RemovesEmpty rec.op run → IsSteady (run ++ rec ∷ [])
+
+-- where a run of operations is applied to a volume, so is what cancellation leaves of it, and it leaves the same volume
+abbrev pub CancellationIsSound : Type 0
+CancellationIsSound = (root : Fid) (m left : Nodes) (client : ℕ) (run : List Record) → IsVolume root m → replay m client run ≡ Ok left → replay m client (fold run) ≡ Ok left
+
+-- where what cancellation leaves of a run is refused, the whole run is not applied either
+abbrev pub ConflictsOfFoldsAreReal : Type 0
+ConflictsOfFoldsAreReal = (root : Fid) (m left : Nodes) (client : ℕ) (run : List Record) (number : ℕ) (why : Reason) → IsVolume root m → replay m client (fold run) ≡ Err (number, why) → replay m client run ≢ Ok left
