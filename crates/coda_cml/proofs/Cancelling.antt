@@ -17,7 +17,7 @@ use Rattle.coda_cancel.specs.Dropping.{drops}
 use Rattle.coda_cancel.specs.Cancel.{cancels, without, object, appended, add, added}
 use Rattle.coda_cancel.proofs.Keys.{fid_same, over_is}
 use Rattle.coda_cancel.proofs.Debts.{kept_all, debt_all, hand-nothing}
-use Rattle.coda_cml.specs.Laws.{CancellationIsSound, ConflictsOfFoldsAreReal}
+use Rattle.coda_cml.specs.Laws.{AdditionsAreSound, CancellationIsSound, ConflictsOfFoldsAreReal}
 use Rattle.coda_cml.proofs.Certifying.{certified_checks}
 use Rattle.coda_cml.proofs.Applying.{Applies, applies_from_replay, replay_from_applies, applies_joined}
 use Rattle.coda_cml.proofs.Appending.{appended_applies}
@@ -74,6 +74,9 @@ add_applies m before client recs rec volume h c = replay_from_applies client m (
 -- where records are applied to a volume, and a run after them, the list with the run added is applied, and leaves what the run leaves
 pub added_applies : {root : Fid} (m middle left : Nodes) (client : ℕ) (recs run : List Record) → IsVolume root m → replay m client recs ≡ Ok middle → replay middle client run ≡ Ok left → replay m client (added recs run) ≡ Ok left
 added_applies m middle left client recs run volume h k = replay_from_applies client m left (added recs run) (run_applies client m middle left recs run volume (applies_from_replay client m middle recs h) (applies_from_replay client middle left run k))
+
+pub additions_sound : AdditionsAreSound
+additions_sound root m before client recs rec = add_applies m before client recs rec
 
 pub sound : CancellationIsSound
 sound root m left client run volume h = added_applies m m left client [] run volume refl h

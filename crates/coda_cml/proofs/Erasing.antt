@@ -17,6 +17,7 @@ use Rattle.coda_tree.specs.declared.node.NodeKind.TheVariants.{File, Link, Dir}
 use Rattle.coda_tree.specs.Bindings.{Name, Bindings}
 use Rattle.coda_tree.specs.Volume.{Nodes, bindings, child_of, is_at_fid, IsDirNode, with_kind, bind_in, unbind_in, Patch, with_content, written, Edit, Put, Bind, TakeOut, Unbind, Write, edited, edited_all}
 use Rattle.coda_cancel.proofs.Keys.{fid_true, fid_same, fid_other}
+use Rattle.coda_cml.proofs.Veiled.{bindings-content}
 use Rattle.coda_cml.proofs.Places.{place, act, point, get-edited, count_after, len-edited}
 
 -- ---- names
@@ -264,12 +265,6 @@ module _ (f : Fid) where
   kind_written (Some c) (Link d) = refl
   kind_written (Some c) (Dir d) = refl
 
-  binds_written : (p : Option (List ℕ)) (kind : NodeKind) → bindings (with_content p kind) ≡ bindings kind
-  binds_written None kind = refl
-  binds_written (Some c) (File d) = refl
-  binds_written (Some c) (Link d) = refl
-  binds_written (Some c) (Dir d) = refl
-
   pub aside_written : (g : Fid) (p : Patch) (s : Sid) → g ≢ f → IsAside (Write g p s)
   aside_written g p s ne = record { elsewhere = ne; erases = erases; binds = binds; somes = somes }
     where
@@ -279,7 +274,7 @@ module _ (f : Fid) where
 
       binds : (o : Option Node) (n : Name) → child_of (act (Write g p s) o) n ≡ Some f → child_of o n ≡ Some f
       binds None n e = e
-      binds (Some node) n e = sym (ap (λ (b : Bindings). map.get b n) (binds_written p.content node.kind)) ∙ e
+      binds (Some node) n e = sym (ap (λ (b : Bindings). map.get b n) (bindings-content p.content node.kind)) ∙ e
 
       somes : (o : Option Node) → is_some (act (Write g p s) (erase f o)) ≡ is_some (act (Write g p s) o)
       somes None = refl

@@ -14,22 +14,15 @@ use Rattle.coda_certify.specs.Checks.{certify}
 use Rattle.coda_certify.specs.Replay.{effects}
 use Rattle.coda_cancel.specs.Handing.{Debt, earlier, owe, paid, sid_or, with_pre}
 use Rattle.coda_cancel.specs.Dropping.{creates}
-use Rattle.coda_cancel.proofs.Keys.{fid_true, fid_false, fid_same, fid_other, over_is, carries}
+use Rattle.coda_cancel.proofs.Keys.{fid_true, fid_false, fid_other, over_is, carries}
 use Rattle.coda_cml.proofs.Veiled.{IsCovered, veiled, veiled_over, edits_alike, look_alike, len_alike}
 use Rattle.coda_cml.proofs.Certifying.{version_at, fid_was_free}
-use Rattle.coda_cml.proofs.Versions.{version_after, version-edits, settled, kept_version, effects-with_pre, some_alike, certified_with_pre}
+use Rattle.coda_cml.proofs.Versions.{turned, version_after, version-edits, settled, kept_version, effects-with_pre, some_alike, certified_with_pre}
 
 -- the shorter list leaves the object with the version that is owed, and with the same as the whole where none is
 abbrev pub OwesAt : Fid → Option Sid → Nodes → Nodes → Type 0
 OwesAt f None v u = version_at v f ≡ version_at u f
 OwesAt f (Some owed) v u = version_at u f ≡ Some owed
-
-turned : (a b : Fid) → same_fid a b ≡ same_fid b a
-turned a b = go (same_fid a b) refl
-  where
-    go : (x : Bool) → same_fid a b ≡ x → x ≡ same_fid b a
-    go true e = sym (fid_same b a (sym (fid_true a b e)))
-    go false e = sym (fid_other b a (λ h. fid_false a b e (sym h)))
 
 present : {A : Type 0} (o : Option A) → is_some o ≡ true → (x : A) × (o ≡ Some x)
 present (Some x) e = (x, refl)

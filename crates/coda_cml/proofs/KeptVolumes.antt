@@ -57,10 +57,10 @@ module _ {root : Fid} (m : Nodes) (v : IsVolume root m) where
       let apart : is_below m to f ≡ false = subst (λ (g : Fid). is_below m to g ≡ false) same may.apart in
       let new : Fid → Option Fid = λ q. cond (same_fid q f) (Some to) (parent_of m q) in
       let k = kept_moved m (parent_of m) new from name to at f
-        (ap (λ b. cond b (Some to) (parent_of m f)) (fid_same f f refl))
-        (λ q other. ap (λ b. cond b (Some to) (parent_of m q)) (fid_other q f other))
-        with_parents was may.to_dir may.free
-        (λ below. true≢false (sym (is_below_complete m v to f (ap is_some there.1) below) ∙ apart)) in
+      (ap (λ b. cond b (Some to) (parent_of m f)) (fid_same f f refl))
+      (λ q other. ap (λ b. cond b (Some to) (parent_of m q)) (fid_other q f other))
+      with_parents was may.to_dir may.free
+      (λ below. true≢false (sym (is_below_complete m v to f (ap is_some there.1) below) ∙ apart)) in
       subst (IsVolume root) (moved_is m from name to at f) k.volume
 
   took_over : (gone from : Fid) (name : Name) (to : Fid) (at : Name) (f : Fid) → MayReplace m gone from name to at → child m from name ≡ Some f → IsVolume root (edited_all m (replacements gone from name to at f))
@@ -70,10 +70,10 @@ module _ {root : Fid} (m : Nodes) (v : IsVolume root m) where
       let leaf : (n : Name) → child m f n ≡ None = subst (λ (g : Fid). (n : Name) → child m g n ≡ None) same may.leaf in
       let new : Fid → Option Fid = λ q. cond (same_fid q f) (Some to) (cond (same_fid q gone) None (parent_of m q)) in
       let k = kept_replaced m (parent_of m) new gone from name to at f
-        (ap (λ b. cond b (Some to) (cond (same_fid f gone) None (parent_of m f))) (fid_same f f refl))
-        (ap (λ b. cond b (Some to) (cond (same_fid gone gone) None (parent_of m gone))) (fid_other gone f differ) ∙ ap (λ b. cond b None (parent_of m gone)) (fid_same gone gone refl))
-        (λ q other stays. ap (λ b. cond b (Some to) (cond (same_fid q gone) None (parent_of m q))) (fid_other q f other) ∙ ap (λ b. cond b None (parent_of m q)) (fid_other q gone stays))
-        with_parents was may.had differ leaf may.old_leaf in
+      (ap (λ b. cond b (Some to) (cond (same_fid f gone) None (parent_of m f))) (fid_same f f refl))
+      (ap (λ b. cond b (Some to) (cond (same_fid gone gone) None (parent_of m gone))) (fid_other gone f differ) ∙ ap (λ b. cond b None (parent_of m gone)) (fid_same gone gone refl))
+      (λ q other stays. ap (λ b. cond b (Some to) (cond (same_fid q gone) None (parent_of m q))) (fid_other q f other) ∙ ap (λ b. cond b None (parent_of m q)) (fid_other q gone stays))
+      with_parents was may.had differ leaf may.old_leaf in
       subst (IsVolume root) (edits_of_replaced m gone from name to at f) k.volume
 
   -- the edits of a certified operation

@@ -89,6 +89,9 @@ module _ (f : Fid) where
   empty-erase : (o : Option Node) → not_empty_of o ≡ None → not_empty_of (erase f o) ≡ None
   empty-erase o h = ap not_empty_of (erase-none f o (λ n is. none-some f (sym (empty_from_check o h n) ∙ is))) ∙ h
 
+  not_one : (q : Fid) → (same_fid q f || false) ≡ false → q ≢ f
+  not_one q h = fid_false q f (or_parts _ _ h).0
+
   -- ---- the checks
 
   module _ {root : Fid} (v u : Nodes) (volume : IsVolume root v) (g : IsWithout f v u) where
@@ -168,9 +171,6 @@ module _ (f : Fid) where
     all_pass [] a h = tt
     all_pass (c ∷ cs) a h = (passes c a.0 h.0, all_pass cs a.1 h.1)
 
-    not_one : (q : Fid) → (same_fid q f || false) ≡ false → q ≢ f
-    not_one q h = fid_false q f (or_parts _ _ h).0
-
     all_away : (op : Op) → mentioning f op ≡ false → AreAway (checks op)
     all_away (Create d n q mode owner) m = let h = or_parts _ _ m in let a = fid_false d f h.0 in (a, (a, (tt, (not_one q h.1, (tt, tt)))))
     all_away (Mkdir d n q mode owner) m = let h = or_parts _ _ m in let a = fid_false d f h.0 in (a, (a, (tt, (not_one q h.1, (tt, tt)))))
@@ -193,23 +193,20 @@ module _ (f : Fid) where
 
   -- ---- the edits
 
-  only_one : (q : Fid) → (same_fid q f || false) ≡ false → q ≢ f
-  only_one q h = fid_false q f (or_parts _ _ h).0
-
   new_aside : (d : Fid) (n : Name) (q : Fid) (node : Node) → ((k : Name) → child_of (Some node) k ≡ Some f → ⊥) → (same_fid d f || (same_fid q f || false)) ≡ false → AreAside f (Bind d n q ∷ Put q node ∷ [])
-  new_aside d n q node never m = let h = or_parts _ _ m in let a = fid_false d f h.0 in let b = only_one q h.1 in (aside_bound f d n q a b, (aside_put f q node b never, tt))
+  new_aside d n q node never m = let h = or_parts _ _ m in let a = fid_false d f h.0 in let b = not_one q h.1 in (aside_bound f d n q a b, (aside_put f q node b never, tt))
 
   pub all_aside : (t : ℕ) (s : Sid) (op : Op) → mentioning f op ≡ false → AreAside f (effects t s op)
   all_aside t s (Create d n q mode owner) m = new_aside d n q (empty_file mode owner t s) (none_bound f) m
   all_aside t s (Mkdir d n q mode owner) m = new_aside d n q (empty_dir mode owner t s) (none_bound f) m
   all_aside t s (Symlink d n q target mode owner) m = new_aside d n q (new_link target mode owner t s) (none_bound f) m
-  all_aside t s (Store q pre c) m = (aside_written f q (content_patch c t) s (only_one q m), tt)
-  all_aside t s (Setattr q pre a) m = (aside_written f q (attrs_patch a) s (only_one q m), tt)
-  all_aside t s (Remove d n q pre) m = let h = or_parts _ _ m in (aside_unbound f d n (fid_false d f h.0), (aside_taken_out f q (only_one q h.1), tt))
-  all_aside t s (Rmdir d n q pre) m = let h = or_parts _ _ m in (aside_unbound f d n (fid_false d f h.0), (aside_taken_out f q (only_one q h.1), tt))
+  all_aside t s (Store q pre c) m = (aside_written f q (content_patch c t) s (not_one q m), tt)
+  all_aside t s (Setattr q pre a) m = (aside_written f q (attrs_patch a) s (not_one q m), tt)
+  all_aside t s (Remove d n q pre) m = let h = or_parts _ _ m in (aside_unbound f d n (fid_false d f h.0), (aside_taken_out f q (not_one q h.1), tt))
+  all_aside t s (Rmdir d n q pre) m = let h = or_parts _ _ m in (aside_unbound f d n (fid_false d f h.0), (aside_taken_out f q (not_one q h.1), tt))
   all_aside t s (Rename d n e x q None) m =
       let h = or_parts _ _ m in let k = or_parts _ _ h.1 in
-      (aside_unbound f d n (fid_false d f h.0), (aside_bound f e x q (fid_false e f k.0) (only_one q k.1), tt))
+      (aside_unbound f d n (fid_false d f h.0), (aside_bound f e x q (fid_false e f k.0) (not_one q k.1), tt))
   all_aside t s (Rename d n e x q (Some w)) m =
       let h = or_parts _ _ m in let k = or_parts _ _ h.1 in let l = or_parts _ _ k.1 in
-      (aside_taken_out f w.fid (only_one w.fid l.1), (aside_unbound f d n (fid_false d f h.0), (aside_bound f e x q (fid_false e f k.0) (fid_false q f l.0), tt)))
+      (aside_taken_out f w.fid (not_one w.fid l.1), (aside_unbound f d n (fid_false d f h.0), (aside_bound f e x q (fid_false e f k.0) (fid_false q f l.0), tt)))

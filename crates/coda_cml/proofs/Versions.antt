@@ -63,11 +63,16 @@ pub version-edits : (f : Fid) (es : List Edit) (m : Nodes) → version_at (edite
 version-edits f [] m = refl
 version-edits f (e ∷ es) m = version-edits f es (edited m e) ∙ ap (version_after f es) (version-edited f e m)
 
-turned_true : (a b : Fid) → same_fid a b ≡ true → same_fid b a ≡ true
-turned_true a b e = fid_same b a (sym (fid_true a b e))
+-- the test of fids may be turned
+pub turned : (a b : Fid) → same_fid a b ≡ same_fid b a
+turned a b = go (same_fid a b) refl
+  where
+    go : (x : Bool) → same_fid a b ≡ x → x ≡ same_fid b a
+    go true e = sym (fid_same b a (sym (fid_true a b e)))
+    go false e = sym (fid_other b a (λ h. fid_false a b e (sym h)))
 
-turned_false : (a b : Fid) → same_fid a b ≡ false → same_fid b a ≡ false
-turned_false a b e = fid_other b a (λ h. fid_false a b e (sym h))
+turned_to : (a b : Fid) (x : Bool) → same_fid a b ≡ x → same_fid b a ≡ x
+turned_to a b x e = sym (turned a b) ∙ e
 
 one_of : {A : Type 0} (b : Bool) (x y z : A) → b ≡ true → cond b x y ≡ cond b x z
 one_of b x y z e = ap (λ c. cond c x y) e ∙ sym (ap (λ c. cond c x z) e)
@@ -80,24 +85,24 @@ pub settled : (f : Fid) (t : ℕ) (s : Sid) (op : Op) → carries f op ≡ true 
 settled f t s (Create d n g mode owner) c a b = absurd (false≢true c)
 settled f t s (Mkdir d n g mode owner) c a b = absurd (false≢true c)
 settled f t s (Symlink d n g target mode owner) c a b = absurd (false≢true c)
-settled f t s (Store g pre content) c a b = one_of (same_fid f g) (Some s) (Some a) (Some b) (turned_true g f c)
-settled f t s (Setattr g pre x) c a b = one_of (same_fid f g) (Some s) (Some a) (Some b) (turned_true g f c)
-settled f t s (Remove d n g pre) c a b = one_of (same_fid f g) None (version_after f (Unbind d n ∷ []) (Some a)) (version_after f (Unbind d n ∷ []) (Some b)) (turned_true g f c)
-settled f t s (Rmdir d n g pre) c a b = one_of (same_fid f g) None (version_after f (Unbind d n ∷ []) (Some a)) (version_after f (Unbind d n ∷ []) (Some b)) (turned_true g f c)
+settled f t s (Store g pre content) c a b = one_of (same_fid f g) (Some s) (Some a) (Some b) (turned_to g f true c)
+settled f t s (Setattr g pre x) c a b = one_of (same_fid f g) (Some s) (Some a) (Some b) (turned_to g f true c)
+settled f t s (Remove d n g pre) c a b = one_of (same_fid f g) None (version_after f (Unbind d n ∷ []) (Some a)) (version_after f (Unbind d n ∷ []) (Some b)) (turned_to g f true c)
+settled f t s (Rmdir d n g pre) c a b = one_of (same_fid f g) None (version_after f (Unbind d n ∷ []) (Some a)) (version_after f (Unbind d n ∷ []) (Some b)) (turned_to g f true c)
 settled f t s (Rename d n e m g None) c a b = absurd (false≢true c)
-settled f t s (Rename d n e m g (Some v)) c a b = ap (version_after f (Unbind d n ∷ Bind e m g ∷ [])) (one_of (same_fid f v.fid) None (Some a) (Some b) (turned_true v.fid f c))
+settled f t s (Rename d n e m g (Some v)) c a b = ap (version_after f (Unbind d n ∷ Bind e m g ∷ [])) (one_of (same_fid f v.fid) None (Some a) (Some b) (turned_to v.fid f true c))
 
 -- one that does not, and that does not create f, leaves it its version
 pub kept_version : (f : Fid) (t : ℕ) (s : Sid) (op : Op) → carries f op ≡ false → creates f op ≡ false → (a : Sid) → version_after f (effects t s op) (Some a) ≡ Some a
-kept_version f t s (Create d n g mode owner) c k a = none_of (same_fid f g) (Some s) _ (turned_false g f k) ∙ no_change (same_fid f d) (Some a)
-kept_version f t s (Mkdir d n g mode owner) c k a = none_of (same_fid f g) (Some s) _ (turned_false g f k) ∙ no_change (same_fid f d) (Some a)
-kept_version f t s (Symlink d n g target mode owner) c k a = none_of (same_fid f g) (Some s) _ (turned_false g f k) ∙ no_change (same_fid f d) (Some a)
-kept_version f t s (Store g pre content) c k a = none_of (same_fid f g) (Some s) (Some a) (turned_false g f c)
-kept_version f t s (Setattr g pre x) c k a = none_of (same_fid f g) (Some s) (Some a) (turned_false g f c)
-kept_version f t s (Remove d n g pre) c k a = none_of (same_fid f g) None _ (turned_false g f c) ∙ no_change (same_fid f d) (Some a)
-kept_version f t s (Rmdir d n g pre) c k a = none_of (same_fid f g) None _ (turned_false g f c) ∙ no_change (same_fid f d) (Some a)
+kept_version f t s (Create d n g mode owner) c k a = none_of (same_fid f g) (Some s) _ (turned_to g f false k) ∙ no_change (same_fid f d) (Some a)
+kept_version f t s (Mkdir d n g mode owner) c k a = none_of (same_fid f g) (Some s) _ (turned_to g f false k) ∙ no_change (same_fid f d) (Some a)
+kept_version f t s (Symlink d n g target mode owner) c k a = none_of (same_fid f g) (Some s) _ (turned_to g f false k) ∙ no_change (same_fid f d) (Some a)
+kept_version f t s (Store g pre content) c k a = none_of (same_fid f g) (Some s) (Some a) (turned_to g f false c)
+kept_version f t s (Setattr g pre x) c k a = none_of (same_fid f g) (Some s) (Some a) (turned_to g f false c)
+kept_version f t s (Remove d n g pre) c k a = none_of (same_fid f g) None _ (turned_to g f false c) ∙ no_change (same_fid f d) (Some a)
+kept_version f t s (Rmdir d n g pre) c k a = none_of (same_fid f g) None _ (turned_to g f false c) ∙ no_change (same_fid f d) (Some a)
 kept_version f t s (Rename d n e m g None) c k a = no_change (same_fid f e) _ ∙ no_change (same_fid f d) (Some a)
-kept_version f t s (Rename d n e m g (Some v)) c k a = no_change (same_fid f e) _ ∙ (no_change (same_fid f d) _ ∙ none_of (same_fid f v.fid) None (Some a) (turned_false v.fid f c))
+kept_version f t s (Rename d n e m g (Some v)) c k a = no_change (same_fid f e) _ ∙ (no_change (same_fid f d) _ ∙ none_of (same_fid f v.fid) None (Some a) (turned_to v.fid f false c))
 
 -- ---- handing on a version
 
