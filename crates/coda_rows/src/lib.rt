@@ -1,8 +1,10 @@
-//! Scripts, each with the report and the status that it must have.
+//! Tests of all crates: scripts with the report and the status that each must have, and tables of lines, words and logs.
 #![tactic(auto)]
 
 #[cfg(test)]
 mod certification;
+#[cfg(test)]
+mod conflicts;
 #[cfg(test)]
 mod faults;
 #[cfg(test)]
@@ -15,6 +17,8 @@ mod lines;
 mod logs;
 #[cfg(test)]
 mod memory;
+#[cfg(test)]
+mod mixed;
 #[cfg(test)]
 mod odd;
 #[cfg(test)]
