@@ -8,8 +8,6 @@ mod law;
 mod log;
 mod regrouping;
 mod segment;
-#[cfg(test)]
-mod tests;
 
 pub use fault::{FreezeFault, LogFault, SettleFault};
 pub use frozen::Frozen;

@@ -102,6 +102,30 @@ fn a_cell_has_at_most_64_volumes(rt: HostRuntime) -> Result<(), Fail> {
     Ok(())
 }
 
+#[test]
+fn a_cell_has_255_clients(rt: HostRuntime) -> Result<(), Fail> {
+    let alloc = rt.alloc();
+    let mut script = b"volume 7 on 1\n".to_vec(alloc)?;
+    let mut report = b"opened 0\n".to_vec(alloc)?;
+    for client in 1..256u32 {
+        let lines = format!(in alloc;
+            "client {client} cache 1\nlink {client} 1 strong\ncreate {client} 7 /f{client}\ndrain {client} 7 1 window 0\n"
+        )?;
+        script.extend_from_slice(lines.as_bytes())?;
+        let replies = format!(in alloc; "opened 0\nok\ndone 1 7.{client}.1\nchunk 1 applied\n")?;
+        report.extend_from_slice(replies.as_bytes())?;
+    }
+    script.extend_from_slice(b"client 255 cache 1\nlist 255 7 /f255/x\nlist 1 7 /\n")?;
+    report.extend_from_slice(b"refused 33 already-there\nrefused 4 not-dir\ncached 1\nf1 7.1.1\n")?;
+    let (status, sink) = run_script(alloc, script)?;
+    assert_eq!(rt; status, Status::Done);
+    assert!(rt;
+        sink.bytes() == report.as_slice(),
+        "each client has its own objects"
+    );
+    Ok(())
+}
+
 // The root is an object too, so a client may add 99,999.
 #[test]
 fn a_volume_has_at_most_a_hundred_thousand_objects(rt: HostRuntime) -> Result<(), Fail> {

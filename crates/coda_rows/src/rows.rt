@@ -1,7 +1,7 @@
 // The rows of the table, and small scripts that are built.
 use crate::running::{put_lines, run_script, run_word};
-use crate::table;
 use crate::table::OPENED;
+use crate::{mixed, table};
 use coda_io::{MemSink, MemSource};
 use coda_main::{Kind, Status, coda};
 use std::test::Fail;
@@ -27,6 +27,15 @@ fn each_row_has_its_report_and_its_status(rt: HostRuntime) -> Result<(), Fail> {
             assert_eq!(rt; ended, *status, "the status of {name}");
         }
     }
+    Ok(())
+}
+
+#[test]
+fn three_clients_mix_all_operations(rt: HostRuntime) -> Result<(), Fail> {
+    let alloc = rt.alloc();
+    let (status, sink) = run_script(alloc, mixed::SCRIPT.to_vec(alloc)?)?;
+    assert_eq!(rt; std::str::from_utf8(sink.bytes())?, mixed::REPORT);
+    assert_eq!(rt; status, Status::Done);
     Ok(())
 }
 

@@ -26,11 +26,3 @@ pub use reply::{
     Records, Reply, Why,
 };
 
-#[cfg(test)]
-mod faulty;
-#[cfg(test)]
-mod odd;
-#[cfg(test)]
-mod said;
-#[cfg(test)]
-mod tests;

@@ -19,5 +19,3 @@ pub use splitting::{TextFault, Token, tokens};
 pub use texts::{is_quoted, printed, unquote, what_is_printed_is_read_again};
 pub use words::is_separator;
 
-#[cfg(test)]
-mod tests;

@@ -1,4 +1,5 @@
-use crate::{Kind, Line, LineFault, faulty, odd, read_line, said};
+use crate::{faulty, odd, said};
+use coda_script::{Kind, Line, LineFault, read_line};
 use std::alloc::{AllocError, Global};
 use std::test::Fail;
 

@@ -1,4 +1,4 @@
-use crate::{TextFault, Token, number, octal, printed, tokens, unquote};
+use coda_text::{TextFault, Token, number, octal, printed, tokens, unquote};
 use std::test::Fail;
 
 // What the tokens of a line are: the first byte of each, the one behind its last, and whether it is quoted; or the span

@@ -1,6 +1,6 @@
 // Worked rows: what a client does, and what its log is then.
-use crate::{FreezeFault, Log, LogFault, Segment, SettleFault};
 use coda_certify::{Reason, Verdict, replay};
+use coda_cml::{FreezeFault, Log, LogFault, Segment, SettleFault};
 use coda_fid::{Attrs, Bytes, Fid, Name, Op, Over, Record, Sid};
 use coda_tree::Volume;
 use std::alloc::{AllocError, Global};
