@@ -41,13 +41,7 @@ fn put_made(
 }
 
 // Puts where an object that goes is bound, and its version.
-fn put_gone(
-    out: &mut String,
-    dir: Fid,
-    name: &Name,
-    fid: Fid,
-    pre: Sid,
-) -> Result<(), AllocError>
+fn put_gone(out: &mut String, dir: Fid, name: &Name, fid: Fid, pre: Sid) -> Result<(), AllocError>
     ensures { OnOk result (string_bytes out.new ≡ string_bytes out.old ++ gone_text dir name.now fid pre) }
 {
     put_place(out, dir, name)?;

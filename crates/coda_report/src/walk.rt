@@ -142,7 +142,7 @@ fn take_turn<'a>(
     requires { Nest path.old.items (frame ∷ reverse frames.old.items) }
     ensures turn { OnOk result ((turn : List ℕ) × (string_bytes out.new ≡ string_bytes out.old ++ turn)
         × (turns_of volume.now.nodes levels path.old.items (frame.entry ∷ reverse frames.old.items)
-            ≡ turn ∷ turns_of volume.now.nodes levels path.new.items (reverse frames.new.items))) }
+        ≡ turn ∷ turns_of volume.now.nodes levels path.new.items (reverse frames.new.items))) }
     ensures nest { OnOk result (Nest path.new.items (reverse frames.new.items)) }
 {
     path.truncate(frame.length);

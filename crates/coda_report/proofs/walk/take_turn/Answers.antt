@@ -13,10 +13,12 @@ of_both (Err e) p q f = tt
 
 pub returns-then-frame-len-clause-turn : goal.returns-then-frame-len-clause-turn
 returns-then-frame-len-clause-turn c =
-    let past : length (map.entries c.args.frame.entries.now) ≤ c.args.frame.next = omega (arith, c.len.ensures, map.len-entries c.args.frame.entries.now) in
-    ([], sym (append-nil (string_bytes c.args.out.now)),
+    let past : length (map.entries c.args.frame.entries.now) ≤ c.args.frame.next = omega (arith, c.len.ensures, map.len-entries c.args.frame.entries.now) in (
+      [],
+      sym (append-nil (string_bytes c.args.out.now)),
       frame_left c.args.volume.now.nodes c.args.levels c.args.path.now.items c.args.frame (reverse c.args.frames.now.items) past
-      ∙ ap (λ (p : List ℕ). [] ∷ turns_of c.args.volume.now.nodes c.args.levels p (reverse c.args.frames.now.items)) (sym c.truncate.ensures.items))
+          ∙ ap (λ (p : List ℕ). [] ∷ turns_of c.args.volume.now.nodes c.args.levels p (reverse c.args.frames.now.items)) (sym c.truncate.ensures.items),
+    )
 
 pub returns-then-frame-len-clause-nest : goal.returns-then-frame-len-clause-nest
 returns-then-frame-len-clause-nest c =
@@ -28,13 +30,15 @@ returns-clause-turn c =
     let levels = c.args.levels in
     let here = c.deref.result.now in
     let own = own_line m (levels - length c.push.new.self.items) here c.in-Some.fid in
-    of_both c.show_object.result c.show_object.ensures.line c.show_object.ensures.turns (λ line left.
-    (own, line,
+    of_both c.show_object.result c.show_object.ensures.line c.show_object.ensures.turns (λ line left. (
+      own,
+      line,
       turn_done m levels c.args.path.now.items here c.args.frames.now.items c.push.new.self.items c.show_object.new.frames.items c.args.frame _ (c.in-Some.name.now, c.in-Some.fid) (sym c.in-Some.ensures.pair)
-      refl refl refl (nest_left c.args.path.now.items c.args.frame (reverse c.args.frames.now.items) c.requires).0
-      (c.deref.ensures.value ∙ c.in_ok-push_name-in-Some.ensures ∙ ap (λ (p : List ℕ). p ++ 47 ∷ c.in-Some.name.now) c.truncate.ensures.items)
-      c.in_ok-push-in-Some.ensures.items left
-      ∙ ap (λ (p : List ℕ). own ∷ turns_of m levels p (reverse c.show_object.new.frames.items)) c.deref.ensures.value))
+          refl refl refl (nest_left c.args.path.now.items c.args.frame (reverse c.args.frames.now.items) c.requires).0
+          (c.deref.ensures.value ∙ c.in_ok-push_name-in-Some.ensures ∙ ap (λ (p : List ℕ). p ++ 47 ∷ c.in-Some.name.now) c.truncate.ensures.items)
+          c.in_ok-push-in-Some.ensures.items left
+          ∙ ap (λ (p : List ℕ). own ∷ turns_of m levels p (reverse c.show_object.new.frames.items)) c.deref.ensures.value,
+    ))
 
 pub returns-clause-nest : goal.returns-clause-nest
 returns-clause-nest c =
