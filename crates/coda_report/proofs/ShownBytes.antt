@@ -28,9 +28,9 @@ escaped_all (b ∷ bytes) h =
     let both = and_true (is_open_byte b) (list_all is_open_byte bytes) h in
     rw (escaped_open b both.0, escaped_all bytes both.1) refl
 
--- so open bytes are printed as they are escaped
-pub escaped_printed : (bytes : List ℕ) → is_open bytes ≡ true → flat_map escaped bytes ≡ printed bytes
-escaped_printed bytes h = escaped_all bytes (and_true (nat_le 1 (length bytes)) (list_all is_open_byte bytes) h).1 ∙ sym (ap (λ (b : Bool). if b then bytes else quoted bytes) h)
+-- so plain bytes are escaped as they are
+pub escaped_plain : (bytes : List ℕ) → is_open bytes ≡ true → flat_map escaped bytes ≡ bytes
+escaped_plain bytes h = escaped_all bytes (and_true (nat_le 1 (length bytes)) (list_all is_open_byte bytes) h).1
 
 -- one element more
 shown_suc : {X : Type 0} (f : X → List ℕ) (xs : List X) (i : ℕ) (x : X) → slice_get xs i ≡ Some x → flat_map f (take (suc i) xs) ≡ flat_map f (take i xs) ++ f x

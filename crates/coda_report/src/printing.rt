@@ -1,11 +1,12 @@
 // How bytes are printed.
-ghost use Rattle.std.specs.Prelude.{◌≡◌, ◌<◌, ◌∷◌, [], ◌++◌, ◌/◌, ◌%◌, OnOk, string_bytes};
+ghost use Rattle.std.specs.Prelude.{◌≡◌, ◌<◌, ◌∷◌, [], ◌++◌, ◌/◌, ◌%◌, OnOk, IsTrue, string_bytes};
 ghost use Rattle.std.specs.List.{flat_map, list_all};
 ghost use Rattle.coda_text.specs.Texts.{hex_digit, escaped, quoted, is_open_byte, is_open, printed};
 ghost use Rattle.coda_report.specs.Printing.{text_of_content, mode_text};
 
 use std::alloc::AllocError;
 use std::fmt::Write;
+use std::str;
 
 /// The most bytes of a file's content that are printed.
 const MOST_CONTENT: usize = 64;
@@ -92,13 +93,24 @@ fn is_open(bytes: &[u8]) -> bool
     !bytes.is_empty() && all_open(bytes)
 }
 
+// Puts plain bytes as they are.
+fn put_plain(out: &mut String, bytes: &[u8]) -> Result<(), AllocError>
+    requires { IsTrue (is_open bytes.now) }
+    ensures { OnOk result (string_bytes out.new ≡ string_bytes out.old ++ bytes.now) }
+{
+    match str::from_utf8(bytes) {
+        Ok(text) => out.push_str(text),
+        // It never comes to this; and plain bytes escape to themselves.
+        Err(_) => put_escaped(out, bytes),
+    }
+}
+
 /// Prints a name or a path: as it is where that is plain, and else between quotes.
 pub fn put_printed(out: &mut String, bytes: &[u8]) -> Result<(), AllocError>
     ensures { OnOk result (string_bytes out.new ≡ string_bytes out.old ++ printed bytes.now) }
 {
     if is_open(bytes) {
-        // Plain bytes escape to themselves.
-        put_escaped(out, bytes)
+        put_plain(out, bytes)
     } else {
         put_quoted(out, bytes)
     }
