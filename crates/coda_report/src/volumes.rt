@@ -1,8 +1,9 @@
 // The text of a volume.
-ghost use Rattle.std.specs.Prelude.{◌≡◌, ◌++◌, IfOk, OnOk, string_bytes};
+ghost use Rattle.std.specs.Prelude.{◌≡◌, ◌++◌, List, IfOk, OnOk, string_bytes};
 ghost use Rattle.std.specs.List.{flat_map};
 ghost use Rattle.coda_fid.specs.Fid.{root_of};
-ghost use Rattle.coda_report.specs.Volumes.{object_line, path_order, volume_line, volume_text};
+ghost use Rattle.coda_report.specs.Volumes.{object_line, path_order, volume_line, volume_text, Shown};
+ghost use Rattle.coda_report.specs.PathOrder.{IsInPathOrder};
 
 use crate::walk::put_objects;
 use coda_fid::{Bytes, Fid};
@@ -33,7 +34,10 @@ fn put_volume_line(out: &mut String, server: u8, volume: &Volume) -> Result<(), 
 ///
 /// Fails for want of memory alone. It uses no more of the machine's stack for a deep volume.
 pub fn volume_text(alloc: Global, volume: &Volume, server: u8) -> Result<Bytes, AllocError>
-    ensures { IfOk result (λ text. text ≡ volume_text server volume.now) }
+    ensures text { IfOk result (λ text. text ≡ volume_text server volume.now) }
+
+    // The lines behind the first are those of the objects in path order.
+    ensures order { IfOk result (λ text. (shown : List Shown) × IsInPathOrder (root_of volume.now.number) volume.now.nodes shown × (text ≡ volume_line server volume.now ++ flat_map object_line shown)) }
 {
     let mut text = String::new(alloc);
     put_volume_line(&mut text, server, volume)?;
