@@ -1,7 +1,7 @@
 -- What is shown of a volume stands in path order, each object once.
-use Rattle.std.proofs.Common.{◌≡◌, ◌≢◌, ℕ, zero, suc, ◌+◌, ◌<◌, ◌≤◌, Bool, true, false, cond, ◌⊎◌, inl, inr, List, [], ◌∷◌, ◌++◌, length, Option, Some, None, Ok, Ordering, refl, sym, ap, ◌∙◌, subst, add-one, append_assoc, arith}
+use Rattle.std.proofs.Common.{◌≡◌, ◌≢◌, ℕ, zero, suc, ◌+◌, ◌<◌, true, false, cond, ◌⊎◌, inl, inr, List, [], ◌∷◌, ◌++◌, length, Option, Some, None, Ok, refl, sym, ap, ◌∙◌, subst, append_assoc, arith}
 use Rattle.std.specs.Prelude.{slice_get, count_by, is_some}
-use Rattle.std.specs.declared.cmp.Ordering.TheVariants.{Less, Equal, Greater}
+use Rattle.std.specs.declared.cmp.Ordering.TheVariants.{Less, Equal}
 use Rattle.std.specs.Ordering.{ordering_then}
 use Rattle.std.specs.List.{flat_map, AllByRecursion}
 use Rattle.std.specs.FinMap as map
@@ -18,7 +18,6 @@ use Rattle.coda_fid.proofs.Fids.{same_fid_is, same_fid_refl}
 use Rattle.coda_tree.specs.declared.node.Node.{Node}
 use Rattle.coda_tree.specs.declared.node.NodeKind.{NodeKind}
 use Rattle.coda_tree.specs.declared.node.NodeKind.TheVariants.{File, Link, Dir}
-use Rattle.coda_tree.specs.declared.volume.PathFault.{PathFault}
 use Rattle.coda_tree.specs.Bindings.{Name}
 use Rattle.coda_tree.specs.Tree.{Child, IsBelow, itself, under, AtDepth, at_top, one_deeper}
 use Rattle.coda_tree.specs.Volume.{Nodes, bindings, child, child_of, has, IsVolume}
@@ -27,7 +26,7 @@ use Rattle.coda_tree.proofs.Below.{depth_lt}
 use Rattle.coda_tree.proofs.Booleans.{and_true, lt_less, from_T}
 use Rattle.coda_tree.proofs.MapEntries.{get_entry, entry_index}
 use Rattle.coda_report.specs.Volumes.{Shown, shown_from, shown_below, path_order}
-use Rattle.coda_report.specs.PathOrder.{names_cmp, BeginsAtRoot, PathsLead, PathsRise, EachOnce, IsInPathOrder}
+use Rattle.coda_report.specs.PathOrder.{names_cmp, IsInPathOrder}
 
 -- ---- all of a list
 

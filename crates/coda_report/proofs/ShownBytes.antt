@@ -6,7 +6,7 @@ use Rattle.std.proofs.lemmas.List.{take_all}
 use Rattle.std.proofs.lemmas.Option.{same_Some, none-some}
 use Rattle.std.proofs.lemmas.Bool.Decides.{nat_tests}
 use Rattle.coda_tree.proofs.Booleans.{and_true}
-use Rattle.coda_text.specs.Texts.{hex_digit, escaped, quoted, printed, is_open_byte, is_open}
+use Rattle.coda_text.specs.Texts.{hex_digit, escaped, is_open_byte, is_open}
 use Rattle.coda_report.proofs.Bytes.{append-nil}
 
 wider : (b : ℕ) → nat_le 33 b ≡ true → nat_le 32 b ≡ true

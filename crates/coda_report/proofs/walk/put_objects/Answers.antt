@@ -1,4 +1,4 @@
-use Rattle.std.proofs.Common.{◌≡◌, ◌<◌, ℕ, List, [], ◌++◌, length, reverse, string_bytes, sym, ap, subst, ◌∙◌, arith}
+use Rattle.std.proofs.Common.{ℕ, List, ◌++◌, reverse, string_bytes, sym, ap, subst, ◌∙◌, arith}
 use Rattle.coda_report.specs.Walking.{turns_of, Nest}
 use Rattle.coda_report.proofs.Turns.{walk_begins, walk_ends, turn_kept, last_first, nest_none, put_by}
 use Rattle.coda_report.proofs.walk.put_objects.Goals as goal

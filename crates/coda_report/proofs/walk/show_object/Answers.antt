@@ -1,5 +1,5 @@
-use Rattle.std.proofs.Common.{◌≡◌, ℕ, ◌-◌, ◌++◌, length, reverse, string_bytes, refl, sym, ap, subst, ◌∙◌, arith}
-use Rattle.coda_report.specs.Walking.{own_line, turns_of, Nest}
+use Rattle.std.proofs.Common.{◌-◌, ◌++◌, length, reverse, string_bytes, refl, sym, ap, subst, ◌∙◌, arith}
+use Rattle.coda_report.specs.Walking.{Nest}
 use Rattle.coda_report.proofs.Turns.{with_none, behind_none, no_levels, not_there, line_there, pushed, no_turns, last_first, nest_framed}
 use Rattle.coda_report.proofs.walk.show_object.Goals as goal
 

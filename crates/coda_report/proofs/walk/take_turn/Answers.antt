@@ -1,4 +1,4 @@
-use Rattle.std.proofs.Common.{◌≡◌, ℕ, List, [], ◌∷◌, ◌-◌, ◌++◌, ◌≤◌, length, reverse, Result, Ok, Err, OnOk, string_bytes, refl, sym, ap, subst, ◌∙◌, arith}
+use Rattle.std.proofs.Common.{ℕ, List, [], ◌∷◌, ◌-◌, ◌++◌, ◌≤◌, length, reverse, Result, Ok, Err, OnOk, string_bytes, refl, sym, ap, subst, ◌∙◌, arith}
 use Rattle.std.specs.FinMap as map
 use Rattle.std.proofs.lemmas.Result.{on_ok_weaker}
 use Rattle.coda_report.specs.Walking.{own_line, turns_of, Nest}
