@@ -20,3 +20,15 @@ pub mod Splitting
 pub mod Freezing
 pub mod Thawing
 pub mod Keeping
+pub mod KeptVolumes
+pub mod Places
+pub mod Veiled
+pub mod Certifying
+pub mod Versions
+pub mod HandingOn
+pub mod Applying
+pub mod Appending
+pub mod Erasing
+pub mod Omitting
+pub mod NeverMade
+pub mod Cancelling

@@ -1,4 +1,4 @@
-ghost use Rattle.coda_cml.specs.Laws.{ThawIsTheFold, SegmentsAreTheirFolds, ThawHasTheSegments, RestIsSteady, OperationsKeepSteady};
+ghost use Rattle.coda_cml.specs.Laws.{ThawIsTheFold, SegmentsAreTheirFolds, ThawHasTheSegments, RestIsSteady, OperationsKeepSteady, AdditionsAreSound, CancellationIsSound, ConflictsOfFoldsAreReal};
 
 /// A law of cancellation: the records of the back of a steady run, added to those of its front, are the
 /// records of the whole run.
@@ -26,4 +26,25 @@ pub fn the_rest_is_steady()
 /// run mentions, and removes nothing in which something is left that the run created there.
 pub fn operations_keep_steady()
     ensures { OperationsKeepSteady }
+{}
+
+/// A law of cancellation: where records are applied to a volume, and one more operation is certified after
+/// them, the records with this one added are applied, and leave what the operation leaves (Kistler and
+/// Satyanarayanan 1992: log optimizations).
+pub fn additions_are_sound()
+    ensures { AdditionsAreSound }
+{}
+
+/// A law of cancellation: where a run of operations is applied to a volume, so is what cancellation leaves
+/// of it, and it leaves the same volume (Kistler and Satyanarayanan 1992: log optimizations).
+///
+/// It holds of every run: fids may be used again, and numbers need not rise.
+pub fn cancellation_is_sound()
+    ensures { CancellationIsSound }
+{}
+
+/// A law of cancellation: where what it leaves of a run is refused on a volume, the whole run is not
+/// applied to it either (Kistler and Satyanarayanan 1992: log optimizations).
+pub fn conflicts_of_folds_are_real()
+    ensures { ConflictsOfFoldsAreReal }
 {}

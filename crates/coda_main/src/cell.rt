@@ -132,10 +132,8 @@ fn operate_at(
     requires { IsSome (tree.get nat_cmp clients.old client) }
     ensures { IfOk result (λ reply. (c c' : ClientState) × (option_map client_state (tree.get nat_cmp clients.old client) ≡ Some c) × Gives (operate (nodes_offered offers.entry) c time volume ask.now) c reply c' × ((n : ℕ) → option_map client_state (tree.get nat_cmp clients.new n) ≡ put (λ m. option_map client_state (tree.get nat_cmp clients.old m)) client (Some c') n)) }
 {
-    match clients.get_mut(&client) {
-        Some(found) => found.operate(offers, time, volume, ask),
-        None => Ok(Reply::Accepted),
-    }
+    let found = clients.get_mut(&client).unwrap();
+    found.operate(offers, time, volume, ask)
 }
 
 // Has a client read an object, where it is there.
@@ -149,10 +147,8 @@ fn read_at(
     requires { IsSome (tree.get nat_cmp clients.old client) }
     ensures { IfOk result (λ reply. (c c' : ClientState) × (option_map client_state (tree.get nat_cmp clients.old client) ≡ Some c) × Gives (read (nodes_offered offers.entry) c volume path.now) c reply c' × ((n : ℕ) → option_map client_state (tree.get nat_cmp clients.new n) ≡ put (λ m. option_map client_state (tree.get nat_cmp clients.old m)) client (Some c') n)) }
 {
-    match clients.get_mut(&client) {
-        Some(found) => found.read(offers, volume, path),
-        None => Ok(Reply::Accepted),
-    }
+    let found = clients.get_mut(&client).unwrap();
+    found.read(offers, volume, path)
 }
 
 // Has a client list a directory, where it is there.
@@ -166,10 +162,8 @@ fn list_at(
     requires { IsSome (tree.get nat_cmp clients.old client) }
     ensures { IfOk result (λ reply. (c c' : ClientState) × (option_map client_state (tree.get nat_cmp clients.old client) ≡ Some c) × Gives (list (nodes_offered offers.entry) c volume path.now) c reply c' × ((n : ℕ) → option_map client_state (tree.get nat_cmp clients.new n) ≡ put (λ m. option_map client_state (tree.get nat_cmp clients.old m)) client (Some c') n)) }
 {
-    match clients.get_mut(&client) {
-        Some(found) => found.list(offers, volume, path),
-        None => Ok(Reply::Accepted),
-    }
+    let found = clients.get_mut(&client).unwrap();
+    found.list(offers, volume, path)
 }
 
 // Sends a client's log of a volume to a replica, where the client is there.
@@ -184,10 +178,8 @@ fn send_at(
     requires { IsSome (tree.get nat_cmp clients.old client) }
     ensures { IfOk result (λ reply. (c c' : ClientState) × (option_map client_state (tree.get nat_cmp clients.old client) ≡ Some c) × Sends (drain strength client volume) client volume c c' (replica_state replica.old) (replica_state replica.new) reply × ((n : ℕ) → option_map client_state (tree.get nat_cmp clients.new n) ≡ put (λ m. option_map client_state (tree.get nat_cmp clients.old m)) client (Some c') n)) }
 {
-    match clients.get_mut(&client) {
-        Some(found) => send(alloc, strength, client, volume, found, replica),
-        None => Ok(Reply::Accepted),
-    }
+    let found = clients.get_mut(&client).unwrap();
+    send(alloc, strength, client, volume, found, replica)
 }
 
 // Sends a client's log of a volume to its replica, where both are there.
@@ -206,13 +198,9 @@ fn send_between(
         × ((n : ℕ) → option_map client_state (tree.get nat_cmp clients.new n) ≡ put (λ m. option_map client_state (tree.get nat_cmp clients.old m)) client (Some c') n)
         × ((v : ℕ) → option_map replica_state (tree.get nat_cmp replicas.new v) ≡ put (λ w. option_map replica_state (tree.get nat_cmp replicas.old w)) volume (Some r') v)) }
 {
-    match replicas.get_mut(&volume) {
-        Some(replica) => {
-            let strength = strength(links, client, replica.server);
-            send_at(alloc, strength, clients, client, volume, replica)
-        }
-        None => Ok(Reply::Accepted),
-    }
+    let replica = replicas.get_mut(&volume).unwrap();
+    let strength = strength(links, client, replica.server);
+    send_at(alloc, strength, clients, client, volume, replica)
 }
 
 // The reply that an actor's disk had no entries.

@@ -168,10 +168,8 @@ fn push_record(
     requires creations { ((log_state (tree.get nat_cmp logs.old volume)).creations < 4294967295) ⊎ (created_by rec.op ≡ 0) }
     ensures { OnOk result ((v : ℕ) → log_state (tree.get nat_cmp logs.new v) ≡ put (λ w. log_state (tree.get nat_cmp logs.old w)) volume (log_with (log_state (tree.get nat_cmp logs.old volume)) rec) v) }
 {
-    match logs.get_mut(&volume) {
-        Some(log) => log.push(rec),
-        None => Ok(()),
-    }
+    let log = logs.get_mut(&volume).unwrap();
+    log.push(rec)
 }
 
 impl VolumeLog {

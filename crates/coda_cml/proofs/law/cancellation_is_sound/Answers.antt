@@ -1,0 +1,5 @@
+use Rattle.coda_cml.proofs.Cancelling.{sound}
+use Rattle.coda_cml.proofs.law.cancellation_is_sound.Goals as goal
+
+pub returns : goal.returns
+returns c = sound
