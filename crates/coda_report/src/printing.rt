@@ -98,11 +98,7 @@ fn put_plain(out: &mut String, bytes: &[u8]) -> Result<(), AllocError>
     requires { IsTrue (is_open bytes.now) }
     ensures { OnOk result (string_bytes out.new ≡ string_bytes out.old ++ bytes.now) }
 {
-    match str::from_utf8(bytes) {
-        Ok(text) => out.push_str(text),
-        // It never comes to this; and plain bytes escape to themselves.
-        Err(_) => put_escaped(out, bytes),
-    }
+    out.push_str(str::from_utf8(bytes).unwrap())
 }
 
 /// Prints a name or a path: as it is where that is plain, and else between quotes.

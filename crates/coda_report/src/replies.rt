@@ -30,9 +30,8 @@ fn put_entries(out: &mut String, entries: &Entries) -> Result<(), AllocError>
     ensures { OnOk result (string_bytes out.new ≡ string_bytes out.old ++ flat_map entry_line (map.entries entries.now)) }
 {
     for index in 0..entries.len() {
-        if let Some((name, fid)) = entries.at(index) {
-            put_entry(out, name, fid)?;
-        }
+        let (name, fid) = entries.at(index).unwrap();
+        put_entry(out, name, fid)?;
     }
     Ok(())
 }

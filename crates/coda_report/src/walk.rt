@@ -149,18 +149,14 @@ fn take_turn<'a>(
     if frame.next >= frame.entries.len() {
         return Ok(());
     }
-    match frame.entries.at(frame.next) {
-        Some((name, fid)) => {
-            frames.push(Frame {
-                entries: frame.entries,
-                next: frame.next + 1,
-                length: frame.length,
-            })?;
-            push_name(path, name)?;
-            show_object(out, volume, levels, path, frames, fid)
-        }
-        None => unreachable!(),
-    }
+    let (name, fid) = frame.entries.at(frame.next).unwrap();
+    frames.push(Frame {
+        entries: frame.entries,
+        next: frame.next + 1,
+        length: frame.length,
+    })?;
+    push_name(path, name)?;
+    show_object(out, volume, levels, path, frames, fid)
 }
 
 /// Puts the lines of an object of a volume and of all that stands below it, in path order.

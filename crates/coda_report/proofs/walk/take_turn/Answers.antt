@@ -29,20 +29,20 @@ returns-clause-turn c =
     let m = c.args.volume.now.nodes in
     let levels = c.args.levels in
     let here = c.deref.result.now in
-    let own = own_line m (levels - length c.push.new.self.items) here c.in-Some.fid in
+    let own = own_line m (levels - length c.push.new.self.items) here c.unwrap.result.1 in
     of_both c.show_object.result c.show_object.ensures.line c.show_object.ensures.turns (λ line left. (
       own,
       line,
-      turn_done m levels c.args.path.now.items here c.args.frames.now.items c.push.new.self.items c.show_object.new.frames.items c.args.frame _ (c.in-Some.name.now, c.in-Some.fid) (sym c.in-Some.ensures.pair)
+      turn_done m levels c.args.path.now.items here c.args.frames.now.items c.push.new.self.items c.show_object.new.frames.items c.args.frame _ (c.unwrap.result.0.now, c.unwrap.result.1) (sym (rw c.unwrap.ensures at c.at.ensures.pair))
           refl refl refl (nest_left c.args.path.now.items c.args.frame (reverse c.args.frames.now.items) c.requires).0
-          (c.deref.ensures.value ∙ c.in_ok-push_name-in-Some.ensures ∙ ap (λ (p : List ℕ). p ++ 47 ∷ c.in-Some.name.now) c.truncate.ensures.items)
-          c.in_ok-push-in-Some.ensures.items left
+          (c.deref.ensures.value ∙ c.in_ok-push_name.ensures ∙ ap (λ (p : List ℕ). p ++ 47 ∷ c.unwrap.result.0.now) c.truncate.ensures.items)
+          c.in_ok-push.ensures.items left
           ∙ ap (λ (p : List ℕ). own ∷ turns_of m levels p (reverse c.show_object.new.frames.items)) c.deref.ensures.value,
     ))
 
 pub returns-clause-nest : goal.returns-clause-nest
 returns-clause-nest c =
-    let named = c.deref.ensures.value ∙ c.in_ok-push_name-in-Some.ensures ∙ ap (λ (p : List ℕ). p ++ 47 ∷ c.in-Some.name.now) c.truncate.ensures.items in
-    let before = nest_turn c.args.path.now.items c.deref.result.now (47 ∷ c.in-Some.name.now) c.args.frame _ (reverse c.args.frames.now.items) refl named c.requires in
-    let first = last_first c.args.frames.now.items c.push.new.self.items _ c.in_ok-push-in-Some.ensures.items in
+    let named = c.deref.ensures.value ∙ c.in_ok-push_name.ensures ∙ ap (λ (p : List ℕ). p ++ 47 ∷ c.unwrap.result.0.now) c.truncate.ensures.items in
+    let before = nest_turn c.args.path.now.items c.deref.result.now (47 ∷ c.unwrap.result.0.now) c.args.frame _ (reverse c.args.frames.now.items) refl named c.requires in
+    let first = last_first c.args.frames.now.items c.push.new.self.items _ c.in_ok-push.ensures.items in
     on_ok_weaker c.show_object.result (λ after. subst (λ (p : List ℕ). Nest p (reverse c.show_object.new.frames.items)) c.deref.ensures.value (after (subst (Nest c.deref.result.now) (sym first) before))) c.show_object.ensures.nest
