@@ -21,7 +21,6 @@ pub enum LineStop {
 /// What runs the lines of a script, one after another.
 pub trait Machine {
     ghost use Rattle.std.specs.Prelude.{ℕ, List, IfOk, IfErr};
-    ghost use Rattle.std.specs.String.{string_bytes};
     ghost use Rattle.coda_engine.specs.declared.status.Kind.{Kind};
     ghost use Rattle.coda_engine.specs.Machine.{HasReason};
 
@@ -32,13 +31,13 @@ pub trait Machine {
     // In this state the line is refused at this column, for this.
     ghost refuses: { Self → List ℕ → ℕ → Kind → Type 0 };
 
-    /// Runs a line, which has no newline, and answers the text of its reply: nothing, or lines that each have their
+    /// Runs a line, which has no newline, and answers the bytes of its reply: none, or lines that each have their
     /// newline.
     ///
     /// # Errors
     ///
     /// `Refused` where the machine refuses the line; nothing has changed then. `Memory` where there was no memory.
-    fn run(&mut self, alloc: Global, line: &[u8]) -> Result<String, LineStop>
-        ensures ok { IfOk result (λ text. (outside : List (List ℕ)) × gives self.old line.now (string_bytes text) outside self.new) }
+    fn run(&mut self, alloc: Global, line: &[u8]) -> Result<Vec<u8>, LineStop>
+        ensures ok { IfOk result (λ text. (outside : List (List ℕ)) × gives self.old line.now text.items outside self.new) }
         ensures reason { IfErr result (HasReason refuses self.old line.now self.new) };
 }

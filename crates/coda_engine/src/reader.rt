@@ -55,7 +55,7 @@ fn run_line<M: Machine, K: Sink>(
     ensures sink_fault { result ≡ Err Status.SinkFault → Rose (K.faults sink.old) (K.faults sink.new) }
 {
     match machine.run(alloc, line) {
-        Ok(text) => match write_all(sink, text.as_bytes()) {
+        Ok(text) => match write_all(sink, &text) {
             Ok(()) => Ok(()),
             Err(_) => Err(Status::SinkFault),
         },

@@ -10,10 +10,7 @@ pub mod Code
 pub mod Steps
 pub mod Errands
 pub mod Cells
-pub mod Printing
-pub mod Lines
 pub mod Texts
-pub mod ShownWhole
 pub mod PlainRun
 pub mod Shows
 pub mod Headline

@@ -2,7 +2,6 @@
 ghost use Rattle.coda_engine.specs.Exact.{CleanScriptsRun, OneStatus};
 ghost use Rattle.coda_main.specs.Headline.{ChunksAreDecidedOnce, CertifiedChunksAreApplied, ConflictsNameASentRecord};
 ghost use Rattle.coda_main.specs.Plain.{empty_cell};
-ghost use Rattle.coda_main.specs.ShownWhole.{VolumesAreShownWhole};
 ghost use Rattle.coda_main.specs.PlainRun.{LineGives, LineRefused};
 
 /// A script that the cell can run from its first line to its last, within the limits, never ends as one with a bad line
@@ -31,9 +30,4 @@ pub fn certified_chunks_are_applied()
 /// either, and the volume is as it was.
 pub fn conflicts_name_a_sent_record()
     ensures { ConflictsNameASentRecord }
-{}
-
-/// A law of the text of a volume: as many levels as there are objects show all of it, and more show no more.
-pub fn volumes_are_shown_whole()
-    ensures { VolumesAreShownWhole }
 {}

@@ -8,7 +8,6 @@ mod errand;
 mod laws;
 mod line;
 mod machine;
-mod printing;
 mod refused;
 mod replica;
 mod report;
@@ -16,8 +15,9 @@ mod sending;
 mod top;
 
 pub use coda_engine::{Kind, Status};
+pub use coda_report::volumes_are_shown_in_path_order;
 pub use laws::{
     certified_chunks_are_applied, chunks_are_decided_once, clean_scripts_run,
-    conflicts_name_a_sent_record, one_status, volumes_are_shown_whole,
+    conflicts_name_a_sent_record, one_status,
 };
 pub use top::{coda, run_script};

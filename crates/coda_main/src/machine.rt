@@ -35,13 +35,13 @@ impl Machine for Cell {
 
     ghost refuses = { CellRefuses };
 
-    fn run(&mut self, alloc: Global, line: &[u8]) -> Result<String, LineStop> {
+    fn run(&mut self, alloc: Global, line: &[u8]) -> Result<Vec<u8>, LineStop> {
         if line.len() >= LONGEST_LINE {
             return Err(LineStop::Memory);
         }
         let said = match read_line(alloc, line) {
             Ok(Some(said)) => said,
-            Ok(None) => return Ok(String::new(alloc)),
+            Ok(None) => return Ok(Vec::new(alloc)),
             Err(fault) => return Err(stop_of(fault)),
         };
         let reply = match self.step(said) {
@@ -50,7 +50,7 @@ impl Machine for Cell {
             Err(_) => return Err(LineStop::Memory),
         };
         match text_of(alloc, self, &reply) {
-            Ok(text) => Ok(text),
+            Ok(text) => Ok(text.into_vec()),
             Err(_) => Err(LineStop::Memory),
         }
     }

@@ -1,6 +1,5 @@
 use Rattle.std.proofs.Common.{◌≡◌, [], Ok, ap, subst, ◌∙◌}
 use Rattle.std.specs.Prelude.{IfNone}
-use Rattle.std.specs.String.{string_bytes}
 use Rattle.coda_main.specs.Cells.{cell_state, Stepped}
 use Rattle.coda_main.proofs.Histories.{line_gives, unbuilt_refused}
 use Rattle.coda_main.proofs.machine.CellMachine.run.Goals as goal
@@ -23,4 +22,4 @@ returns-in-Ok-clause-ok c =
     let reply = c.in-Ok-Some-step.reply in
     let spelled = c.in-Ok-Some.ensures.exact ∙ ap Ok c.in-Ok-Some.field-0-is in
     let stepped = subst (λ o. Stepped old said o new) c.in-Ok-Some-step.field-0-is c.in-Ok-Some-step.ensures.stepped in
-    ([], line_gives old new c.args.line.now (string_bytes c.in-Ok.text) said reply spelled stepped.0 stepped.1 c.in-Ok.ensures)
+    ([], line_gives old new c.args.line.now c.into_vec.result.items said reply spelled stepped.0 stepped.1 (c.into_vec.ensures ∙ c.in-Ok.ensures))

@@ -1,0 +1,6 @@
+pub mod Bytes
+pub mod InOrder
+pub mod Parts
+pub mod Slashes
+pub mod ShownBytes
+pub mod Turns

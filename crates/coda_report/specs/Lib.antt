@@ -1,0 +1,6 @@
+pub mod Printing
+pub mod Volumes
+pub mod Walking
+pub mod Records
+pub mod Texts
+pub mod PathOrder

@@ -1,0 +1,179 @@
+// The lines of a volume's objects in path order, by a stack of the directories whose entries are left.
+ghost use Rattle.std.specs.Prelude.{◌≡◌, ◌≤◌, ◌∷◌, [], ◌++◌, ◌-◌, ℕ, List, OnOk, length, reverse, string_bytes};
+ghost use Rattle.std.specs.List.{flat_map};
+ghost use Rattle.coda_report.specs.Volumes.{kind_text, content_text, mark_text, attributes_text, line_at, object_line, path_order};
+ghost use Rattle.coda_report.specs.Walking.{shown_path, object_head, own_line, turns_below, turns_of, Nest};
+
+use crate::paths::{push_name, shown_path};
+use crate::printing::{put_byte, put_content, put_mode, put_printed};
+use coda_fid::Fid;
+use coda_tree::{Entries, Node, NodeKind, Volume};
+use std::alloc::{AllocError, Global};
+use std::fmt::Write;
+
+/// A directory whose entries are being shown.
+#[derive(Clone, Copy)]
+pub struct Frame<'a> {
+    /// What it binds.
+    pub entries: &'a Entries,
+    /// The index of the next entry.
+    pub next: usize,
+    /// The length of the directory's path.
+    pub length: usize,
+}
+
+// The word for a kind.
+fn kind_word(kind: &NodeKind) -> &'static str
+    ensures { result.now ≡ kind_text kind.now }
+{
+    match kind {
+        NodeKind::File(_) => "file",
+        NodeKind::Link(_) => "link",
+        NodeKind::Dir(_) => "dir",
+    }
+}
+
+fn put_attributes(out: &mut String, node: &Node) -> Result<(), AllocError>
+    ensures { OnOk result (string_bytes out.new ≡ string_bytes out.old ++ attributes_text node.now) }
+{
+    put_mode(out, node.mode)?;
+    let (owner, mtime, sid) = (node.owner, node.mtime, node.sid);
+    write!(out, " {owner} {mtime} {sid}")
+}
+
+fn put_kind_content(out: &mut String, kind: &NodeKind) -> Result<(), AllocError>
+    ensures { OnOk result (string_bytes out.new ≡ string_bytes out.old ++ content_text kind.now) }
+{
+    match kind {
+        NodeKind::File(content) => {
+            let length = content.len();
+            write!(out, " {length} ")?;
+            put_content(out, content.bytes())
+        }
+        NodeKind::Link(target) => {
+            put_byte(out, b' ')?;
+            put_content(out, target.bytes())
+        }
+        NodeKind::Dir(_) => Ok(()),
+    }
+}
+
+fn put_mark(out: &mut String, marked: bool) -> Result<(), AllocError>
+    ensures { OnOk result (string_bytes out.new ≡ string_bytes out.old ++ mark_text marked) }
+{
+    if marked {
+        out.push_str(" marked")
+    } else {
+        Ok(())
+    }
+}
+
+// What the line of an object begins with: its path, kind and fid.
+fn put_object_head(
+    out: &mut String,
+    path: &[u8],
+    fid: Fid,
+    kind: &NodeKind,
+) -> Result<(), AllocError>
+    ensures { OnOk result (string_bytes out.new ≡ string_bytes out.old ++ object_head path.now fid kind.now) }
+{
+    put_printed(out, shown_path(path))?;
+    let kind = kind_word(kind);
+    write!(out, " {kind} {fid} ")
+}
+
+fn put_object_line(out: &mut String, path: &[u8], fid: Fid, node: &Node) -> Result<(), AllocError>
+    ensures { OnOk result (string_bytes out.new ≡ string_bytes out.old ++ line_at (shown_path path.now) fid node.now) }
+{
+    put_object_head(out, path, fid, &node.kind)?;
+    put_attributes(out, node)?;
+    put_kind_content(out, &node.kind)?;
+    put_mark(out, node.marked)?;
+    put_byte(out, b'\n')
+}
+
+// Puts the line of the object at a path, where levels are left and a node stands there, and a frame for the entries of a
+// directory.
+fn show_object<'a>(
+    out: &mut String,
+    volume: &'a Volume,
+    levels: usize,
+    path: &[u8],
+    frames: &mut Vec<Frame<'a>>,
+    fid: Fid,
+) -> Result<(), AllocError>
+    ensures line { OnOk result (string_bytes out.new ≡ string_bytes out.old ++ own_line volume.now.nodes (levels - length frames.old.items) path.now fid) }
+    ensures turns { OnOk result (turns_of volume.now.nodes levels path.now (reverse frames.new.items)
+        ≡ turns_below volume.now.nodes (levels - length frames.old.items) path.now fid ++ turns_of volume.now.nodes levels path.now (reverse frames.old.items)) }
+    ensures nest { OnOk result (Nest path.now (reverse frames.old.items) → Nest path.now (reverse frames.new.items)) }
+{
+    if frames.len() >= levels {
+        return Ok(());
+    }
+    match volume.get(fid) {
+        Some(node) => {
+            put_object_line(out, path, fid, node)?;
+            match &node.kind {
+                NodeKind::Dir(entries) => {
+                    frames.push(Frame {
+                        entries,
+                        next: 0,
+                        length: path.len(),
+                    })?;
+                    Ok(())
+                }
+                NodeKind::File(_) => Ok(()),
+                NodeKind::Link(_) => Ok(()),
+            }
+        }
+        None => Ok(()),
+    }
+}
+
+// Takes a turn of the topmost frame, which was taken off: shows its next entry and puts it back, or leaves the directory.
+fn take_turn<'a>(
+    out: &mut String,
+    volume: &'a Volume,
+    levels: usize,
+    path: &mut Vec<u8>,
+    frames: &mut Vec<Frame<'a>>,
+    frame: Frame<'a>,
+) -> Result<(), AllocError>
+    requires { Nest path.old.items (frame ∷ reverse frames.old.items) }
+    ensures turn { OnOk result ((turn : List ℕ) × (string_bytes out.new ≡ string_bytes out.old ++ turn)
+        × (turns_of volume.now.nodes levels path.old.items (frame.entry ∷ reverse frames.old.items)
+        ≡ turn ∷ turns_of volume.now.nodes levels path.new.items (reverse frames.new.items))) }
+    ensures nest { OnOk result (Nest path.new.items (reverse frames.new.items)) }
+{
+    path.truncate(frame.length);
+    if frame.next >= frame.entries.len() {
+        return Ok(());
+    }
+    let (name, fid) = frame.entries.at(frame.next).unwrap();
+    frames.push(Frame {
+        entries: frame.entries,
+        next: frame.next + 1,
+        length: frame.length,
+    })?;
+    push_name(path, name)?;
+    show_object(out, volume, levels, path, frames, fid)
+}
+
+/// Puts the lines of an object of a volume and of all that stands below it, in path order.
+pub fn put_objects(
+    out: &mut String,
+    alloc: Global,
+    volume: &Volume,
+    root: Fid,
+) -> Result<(), AllocError>
+    ensures { OnOk result (string_bytes out.new ≡ string_bytes out.old ++ flat_map object_line (path_order root volume.now.nodes)) }
+{
+    let levels = volume.len();
+    let mut path = Vec::new(alloc);
+    let mut frames = Vec::new(alloc);
+    show_object(out, volume, levels, &path, &mut frames, root)?;
+    while let Some(frame) = frames.pop() {
+        take_turn(out, volume, levels, &mut path, &mut frames, frame)?;
+    }
+    Ok(())
+}
