@@ -13,8 +13,3 @@ mod walk;
 pub use laws::volumes_are_shown_in_path_order;
 pub use replies::reply_text;
 pub use volumes::volume_text;
-
-#[cfg(test)]
-mod rows;
-#[cfg(test)]
-mod tests;

@@ -22,6 +22,10 @@ mod mixed;
 #[cfg(test)]
 mod odd;
 #[cfg(test)]
+mod replies;
+#[cfg(test)]
+mod reports;
+#[cfg(test)]
 mod rows;
 #[cfg(test)]
 mod running;

@@ -25,4 +25,3 @@ pub use reply::{
     Answer, Arg, Args, ClientState, HoardEntries, HoardEntry, Mark, Marks, Numbers, Readable,
     Records, Reply, Why,
 };
-

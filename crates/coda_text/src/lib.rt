@@ -18,4 +18,3 @@ pub use numbers::{number, octal};
 pub use splitting::{TextFault, Token, tokens};
 pub use texts::{is_quoted, printed, unquote, what_is_printed_is_read_again};
 pub use words::is_separator;
-

@@ -2,9 +2,11 @@
 ghost use Rattle.std.specs.Prelude.{IfOk};
 ghost use Rattle.coda_report.specs.Texts.{IsWhole};
 
-use crate::rows::{Bound, Cause, Hoard, Made, Row, Said, client_rows, message_rows, record_rows};
-use crate::{reply_text, volume_text};
+use crate::replies::{
+    Bound, Cause, Hoard, Made, Row, Said, client_rows, message_rows, record_rows,
+};
 use coda_fid::{Bytes, Fid, Name, Op, Path, Record};
+use coda_report::{reply_text, volume_text};
 use coda_script::{
     Arg, Args, HoardEntries, HoardEntry, Mark, Marks, Numbers, Readable, Records, Reply, Why,
 };
