@@ -1,4 +1,3 @@
-pub mod Bytes
 pub mod InOrder
 pub mod Parts
 pub mod Slashes

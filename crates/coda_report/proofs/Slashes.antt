@@ -3,7 +3,7 @@ use Rattle.std.proofs.Common.{◌≡◌, ℕ, List, [], ◌∷◌, ◌++◌, ref
 use Rattle.std.specs.List.{flat_map}
 use Rattle.coda_fid.specs.Path.{behind_slashes, path_text}
 use Rattle.coda_report.specs.Walking.{shown_path}
-use Rattle.coda_report.proofs.Bytes.{append-nil}
+use Rattle.std.proofs.lemmas.List.{append-nil}
 
 -- one name more
 pub slashes_push : (names : List (List ℕ)) (name : List ℕ) → behind_slashes (names ++ name ∷ []) ≡ behind_slashes names ++ 47 ∷ name

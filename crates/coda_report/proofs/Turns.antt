@@ -18,7 +18,7 @@ use Rattle.coda_tree.specs.Volume.{Nodes, bindings}
 use Rattle.coda_report.specs.declared.walk.Frame.{Frame}
 use Rattle.coda_report.specs.Volumes.{Shown, shown_from, shown_below, path_order, line_at, object_line}
 use Rattle.coda_report.specs.Walking.{shown_path, own_from, own_line, turns_in, turns_from, turns_below, entry_turns, turns_left, entries_left, turns_of, Nest}
-use Rattle.coda_report.proofs.Bytes.{append-nil}
+use Rattle.std.proofs.lemmas.List.{append-nil}
 use Rattle.coda_report.proofs.Slashes.{slashes_push, shown_names}
 
 -- what turns put, one behind the other

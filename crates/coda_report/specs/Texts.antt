@@ -28,6 +28,8 @@ use Rattle.coda_script.specs.declared.reply.Readable.{Readable}
 use Rattle.coda_script.specs.declared.reply.Readable.TheVariants.{File, Link}
 use Rattle.coda_script.specs.declared.reply.Why.{Why}
 use Rattle.coda_script.specs.declared.reply.Why.TheVariants.{Wrapped, CrossRename, NameName, DoubleName, RemoveUpdate, AttrAttr, FileFile, Kept}
+use Rattle.coda_script.specs.declared.reply.Undecided.{Undecided}
+use Rattle.coda_script.specs.declared.reply.Undecided.TheVariants.{Behind as BehindOf, Old as OldOf}
 use Rattle.coda_script.specs.declared.reply.Reply.{Reply}
 use Rattle.coda_script.specs.declared.reply.Reply.TheVariants.{Opened, Accepted, Done, Read, Listed, Hoarded, Walked, Sent, Drained, Delivered, Settled, StillFrozen, Broken, Lost, Posted, GaveUp, Crashed, Recovered, Resolved, Repaired, ShowVolume, ShowLog, State, Refused}
 use Rattle.coda_report.specs.Printing.{line, text_of_content}
@@ -98,6 +100,11 @@ answer_text (Decided verdict) = verdict_text verdict
 answer_text (Behind last) = codes "behind " ++ decimal last
 answer_text (Old last) = codes "old " ++ decimal last
 
+-- why a chunk was not decided
+abbrev pub undecided_text : Undecided → List ℕ
+undecided_text (BehindOf last) = codes "behind " ++ decimal last
+undecided_text (OldOf last) = codes "old " ++ decimal last
+
 -- a chunk of a number and its answer
 abbrev pub chunk_text : ℕ → Answer → List ℕ
 chunk_text chunk answer = codes "chunk " ++ decimal chunk ++ 32 ∷ answer_text answer
@@ -165,7 +172,7 @@ reply_text (Sent message chunk) = line (codes "message " ++ decimal message ++ c
 reply_text (Drained chunk answer) = line (chunk_text chunk answer)
 reply_text (Delivered chunk answer message) = line (chunk_text chunk answer ++ codes " message " ++ decimal message)
 reply_text (Settled chunk verdict) = line (codes "settled " ++ decimal chunk ++ 32 ∷ verdict_text verdict)
-reply_text (StillFrozen chunk answer) = line (codes "frozen " ++ decimal chunk ++ 32 ∷ answer_text answer)
+reply_text (StillFrozen chunk why) = line (codes "frozen " ++ decimal chunk ++ 32 ∷ undecided_text why)
 reply_text (Broken copies) = line (codes "broken " ++ decimal copies)
 reply_text (Lost message) = line (codes "lost " ++ decimal message)
 reply_text (Posted messages) = line (codes "posted" ++ numbers_text messages)

@@ -3,12 +3,12 @@ ghost use Rattle.std.specs.Prelude.{◌≡◌, ◌++◌, ◌∷◌, [], OnOk, le
 ghost use Rattle.std.specs.List.{flat_map};
 ghost use Rattle.std.specs.Fmt.{decimal};
 ghost use Rattle.coda_report.specs.Printing.{line};
-ghost use Rattle.coda_report.specs.Texts.{answer_text, blocks_text, chunk_text, expansion_text, hoard_line, hoarded_text, mark_line, planned_text, resolved_text, verdict_text, walked_text, why_text, state_text};
+ghost use Rattle.coda_report.specs.Texts.{answer_text, blocks_text, chunk_text, expansion_text, hoard_line, hoarded_text, mark_line, planned_text, resolved_text, undecided_text, verdict_text, walked_text, why_text, state_text};
 
 use crate::paths::put_path;
-use crate::printing::{put_byte, put_printed};
 use coda_certify::Verdict;
-use coda_script::{Answer, ClientState, Expansion, HoardEntry, Mark, Why};
+use coda_script::{Answer, ClientState, Expansion, HoardEntry, Mark, Undecided, Why};
+use coda_text::{put_byte, put_printed};
 use std::alloc::{AllocError, Global};
 use std::fmt::Write;
 
@@ -72,12 +72,13 @@ pub fn put_settled(out: &mut String, chunk: u64, verdict: Verdict) -> Result<(),
 }
 
 /// Puts a chunk that stays frozen.
-pub fn put_frozen(out: &mut String, chunk: u64, answer: Answer) -> Result<(), AllocError>
-    ensures { OnOk result (string_bytes out.new ≡ string_bytes out.old ++ line (codes "frozen " ++ decimal chunk ++ 32 ∷ answer_text answer)) }
+pub fn put_frozen(out: &mut String, chunk: u64, why: Undecided) -> Result<(), AllocError>
+    ensures { OnOk result (string_bytes out.new ≡ string_bytes out.old ++ line (codes "frozen " ++ decimal chunk ++ 32 ∷ undecided_text why)) }
 {
-    write!(out, "frozen {chunk} ")?;
-    put_answer(out, answer)?;
-    put_byte(out, b'\n')
+    match why {
+        Undecided::Behind(last) => writeln!(out, "frozen {chunk} behind {last}"),
+        Undecided::Old(last) => writeln!(out, "frozen {chunk} old {last}"),
+    }
 }
 
 // The word for what a hoard entry takes.

@@ -4,8 +4,8 @@ ghost use Rattle.coda_fid.specs.Path.{behind_slashes, path_text};
 ghost use Rattle.coda_text.specs.Texts.{printed};
 ghost use Rattle.coda_report.specs.Walking.{shown_path};
 
-use crate::printing::put_printed;
 use coda_fid::{Name, Path};
+use coda_text::put_printed;
 use std::alloc::{AllocError, Global};
 
 /// Puts a name behind the path of its directory.

@@ -3,8 +3,9 @@ ghost use Rattle.std.specs.Prelude.{◌≡◌, ◌++◌, ◌∷◌, [], OnOk, st
 ghost use Rattle.std.specs.List.{flat_map};
 ghost use Rattle.coda_report.specs.Records.{place_text, version_text, made_text, gone_text, move_text, set_mode_text, set_owner_text, set_mtime_text, attrs_text, over_text, op_text, record_line};
 
-use crate::printing::{put_byte, put_content, put_mode, put_printed};
+use crate::printing::{put_content, put_mode};
 use coda_fid::{Attrs, Bytes, Fid, Name, Op, Over, Record, Sid};
+use coda_text::{put_byte, put_printed};
 use std::alloc::AllocError;
 use std::fmt::Write;
 

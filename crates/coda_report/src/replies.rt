@@ -11,10 +11,11 @@ use crate::outcomes::{
     put_delivered, put_drained, put_frozen, put_hoarded, put_resolved, put_settled, put_walked,
     state_word,
 };
-use crate::printing::{put_byte, put_content, put_printed};
+use crate::printing::put_content;
 use crate::records::put_records;
 use coda_fid::{Bytes, Fid, Name, Record};
 use coda_script::{Arg, Args, ClientState, Numbers, Readable, Refusal, Reply};
+use coda_text::{put_byte, put_printed};
 use coda_tree::Entries;
 use std::alloc::{AllocError, Global};
 use std::fmt::Write;
@@ -183,7 +184,7 @@ fn put_reply(out: &mut String, alloc: Global, reply: &Reply) -> Result<(), Alloc
             message,
         } => put_delivered(out, *chunk, *answer, *message),
         Reply::Settled { chunk, verdict } => put_settled(out, *chunk, *verdict),
-        Reply::StillFrozen { chunk, answer } => put_frozen(out, *chunk, *answer),
+        Reply::StillFrozen { chunk, why } => put_frozen(out, *chunk, *why),
         Reply::Broken { copies } => writeln!(out, "broken {copies}"),
         Reply::Lost { message } => writeln!(out, "lost {message}"),
         Reply::Posted(messages) => put_numbered(out, "posted", messages),

@@ -11,17 +11,6 @@ use coda_tree::Volume;
 use std::alloc::{AllocError, Global};
 use std::fmt::Write;
 
-// The fid of a volume's root.
-fn root_fid(volume: u32) -> Fid
-    ensures { result ≡ root_of volume }
-{
-    Fid {
-        volume,
-        vnode: 0,
-        uniq: 1,
-    }
-}
-
 // Puts the first line of a volume.
 fn put_volume_line(out: &mut String, server: u8, volume: &Volume) -> Result<(), AllocError>
     ensures { OnOk result (string_bytes out.new ≡ string_bytes out.old ++ volume_line server volume.now) }
@@ -41,6 +30,6 @@ pub fn volume_text(alloc: Global, volume: &Volume, server: u8) -> Result<Bytes, 
 {
     let mut text = String::new(alloc);
     put_volume_line(&mut text, server, volume)?;
-    put_objects(&mut text, alloc, volume, root_fid(volume.number()))?;
+    put_objects(&mut text, alloc, volume, Fid::root(volume.number()))?;
     Ok(Bytes::from_vec(text.into_bytes()))
 }

@@ -5,8 +5,9 @@ ghost use Rattle.coda_report.specs.Volumes.{kind_text, content_text, mark_text, 
 ghost use Rattle.coda_report.specs.Walking.{shown_path, object_head, own_line, turns_below, turns_of, Nest};
 
 use crate::paths::{push_name, shown_path};
-use crate::printing::{put_byte, put_content, put_mode, put_printed};
+use crate::printing::{put_content, put_mode};
 use coda_fid::Fid;
+use coda_text::{put_byte, put_printed};
 use coda_tree::{Entries, Node, NodeKind, Volume};
 use std::alloc::{AllocError, Global};
 use std::fmt::Write;

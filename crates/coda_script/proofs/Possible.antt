@@ -8,7 +8,7 @@ use Rattle.coda_fid.proofs.Paths.{names_in-path_text, test_from_path}
 use Rattle.coda_text.specs.Numbers.{number_of, octal_of}
 use Rattle.coda_text.specs.Texts.{printed, quoted, value_of}
 use Rattle.coda_text.specs.Printed.{AreBytes}
-use Rattle.coda_text.proofs.Printing.{printed_word}
+use Rattle.coda_text.proofs.OneWord.{printed_word}
 use Rattle.coda_text.proofs.Joining.{IsOneWord, AreWords, are_words, is_bare_word, bare_word, number_again, decimal_word, decimal_begins, octal_text, octal_again, octal_word, printed_one_word, quoted_one_word, quoted_again}
 use Rattle.coda_script.specs.declared.line.Line.{Line}
 use Rattle.coda_script.specs.Slots.{NumberSlot, between, octal, TextSlot, any, sized, number_in, path_of, path_in, text_in, has_room, is_word, is_server}

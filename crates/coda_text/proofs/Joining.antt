@@ -17,7 +17,7 @@ use Rattle.coda_text.specs.declared.words.Part.TheVariants.{Bare, Inside, Closed
 use Rattle.coda_text.specs.Numbers.{with_digit, number_from, number_of, with_octal, octal_from, octal_of, begins_with_digit}
 use Rattle.coda_text.specs.Texts.{quoted, printed, is_open, is_open_byte, value_of, decoded}
 use Rattle.coda_text.specs.Printed.{AreBytes}
-use Rattle.coda_text.proofs.Printing.{runs, one_word, one_word_more, bare_apart, open_is_bare, open_runs, open_unquoted, quoted_runs, quoted_decodes, and_left, and_right, cases_bool}
+use Rattle.coda_text.proofs.OneWord.{runs, one_word, one_word_more, bare_apart, open_is_bare, open_runs, open_unquoted, quoted_runs, quoted_decodes, and_left, and_right, cases_bool}
 
 -- the bytes b ∷ bs are one word
 pub record IsWord (b : ℕ) (bs : List ℕ) : Type 0 where

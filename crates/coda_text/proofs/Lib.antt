@@ -1,6 +1,7 @@
 pub mod Scan
 pub mod Digits
 pub mod Decoding
-pub mod Printing
+pub mod OneWord
+pub mod Ascii
 pub mod ReadAgain
 pub mod Joining

@@ -8,7 +8,7 @@ use Rattle.coda_text.specs.Words.{Split, word, split_of}
 use Rattle.coda_text.specs.Texts.{printed, value_of}
 use Rattle.coda_text.specs.Printed.{AreBytes, IsWordFor}
 use Rattle.coda_text.specs.Tokens.{token_of, Splits, IsOneToken}
-use Rattle.coda_text.proofs.Printing.{printed_word}
+use Rattle.coda_text.proofs.OneWord.{printed_word}
 
 -- each element fits in a byte
 pub are_bytes : (bytes : List ℕ) → ((i : ℕ) → get_or bytes i 0 < 256) → AreBytes bytes

@@ -9,12 +9,14 @@
 
 mod cursor;
 mod numbers;
+mod printing;
 mod splitting;
 mod texts;
 mod words;
 
 pub use cursor::{Cursor, Head};
 pub use numbers::{number, octal};
+pub use printing::{printed, put_byte, put_printed, put_quoted};
 pub use splitting::{TextFault, Token, tokens};
-pub use texts::{is_quoted, printed, unquote, what_is_printed_is_read_again};
+pub use texts::{is_quoted, unquote, what_is_printed_is_read_again};
 pub use words::is_separator;

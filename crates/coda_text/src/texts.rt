@@ -1,7 +1,7 @@
 ghost use Rattle.std.specs.Prelude.{◌≡◌, ◌++◌, ◌<◌, List, ℕ, IfOk, OnOk, length};
 ghost use Rattle.std.specs.Option.{option_to_list};
 ghost use Rattle.std.specs.List.{list_all, AllByRecursion, flat_map};
-ghost use Rattle.coda_text.specs.Texts.{hex_value, gives, after, value_of, hex_digit, escaped, quoted, is_open_byte, is_open, is_quoted, printed, decoded};
+ghost use Rattle.coda_text.specs.Texts.{hex_value, gives, after, value_of, is_quoted, printed, decoded};
 ghost use Rattle.coda_text.specs.Printed.{AreBytes, IsWordFor};
 
 use coda_fid::Bytes;
@@ -140,88 +140,6 @@ pub fn unquote(alloc: Global, word: &[u8]) -> Result<Bytes, AllocError>
     ensures printed { IfOk result (λ bytes. (was : List ℕ) → AreBytes was → printed was ≡ word.now → bytes ≡ was) }
 {
     read_word(alloc, word)
-}
-
-fn hex_digit(number: u8) -> u8
-    requires { number < 16 }
-    ensures { result ≡ hex_digit number }
-{
-    if number <= 9 {
-        48 + number
-    } else {
-        87 + number
-    }
-}
-
-fn put_escaped(out: &mut Vec<u8>, byte: u8) -> Result<(), AllocError>
-    ensures { OnOk result (out.new.items ≡ out.old.items ++ escaped byte) }
-{
-    if byte == b'"' || byte == b'\\' {
-        out.extend_from_slice(&[b'\\', byte])
-    } else if byte >= 32 && byte <= 126 {
-        out.push(byte)?;
-        Ok(())
-    } else {
-        out.extend_from_slice(&[b'\\', b'x', hex_digit(byte / 16), hex_digit(byte % 16)])
-    }
-}
-
-fn put_quoted(out: &mut Vec<u8>, bytes: &[u8]) -> Result<(), AllocError>
-    ensures { OnOk result (out.new.items ≡ out.old.items ++ quoted bytes.now) }
-{
-    out.push(b'"')?;
-    for byte in bytes {
-        put_escaped(out, *byte)?;
-    }
-    out.push(b'"')?;
-    Ok(())
-}
-
-fn is_open_byte(byte: u8) -> bool
-    ensures { result ≡ is_open_byte byte }
-{
-    byte >= 33 && byte <= 126 && byte != b'"' && byte != b'\\'
-}
-
-fn all_open(bytes: &[u8]) -> bool
-    ensures { result ≡ list_all is_open_byte bytes.now }
-{
-    for byte in bytes {
-        if !is_open_byte(*byte) {
-            return false;
-        }
-    }
-    true
-}
-
-// Whether the bytes are printed as they are.
-fn is_open(bytes: &[u8]) -> bool
-    ensures { result ≡ is_open bytes.now }
-{
-    !bytes.is_empty() && all_open(bytes)
-}
-
-// How bytes are printed.
-fn print(alloc: Global, bytes: &[u8]) -> Result<Bytes, AllocError>
-    ensures { IfOk result (λ text. text ≡ printed bytes.now) }
-{
-    if is_open(bytes) {
-        return Bytes::of(alloc, bytes);
-    }
-    let mut out = Vec::new(alloc);
-    put_quoted(&mut out, bytes)?;
-    Ok(Bytes::from_vec(out))
-}
-
-/// How bytes are printed: as they are where there is at least one and each is of 0x21 to 0x7E other than `"` and `\`;
-/// else between quotes, with `"` and `\` behind a `\`, and bytes outside 0x20 to 0x7E as `\xhh` in lower case.
-pub fn printed(alloc: Global, bytes: &[u8]) -> Result<Bytes, AllocError>
-    ensures text { IfOk result (λ text. text ≡ printed bytes.now) }
-
-    // It is one word of a line, which stands for the bytes.
-    ensures word { IfOk result (λ text. IsWordFor text bytes.now) }
-{
-    print(alloc, bytes)
 }
 
 /// What is printed is one word of a line, and stands for the bytes that were printed.

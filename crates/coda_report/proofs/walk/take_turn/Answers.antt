@@ -2,7 +2,7 @@ use Rattle.std.proofs.Common.{ℕ, List, [], ◌∷◌, ◌-◌, ◌++◌, ◌�
 use Rattle.std.specs.FinMap as map
 use Rattle.std.proofs.lemmas.Result.{on_ok_weaker}
 use Rattle.coda_report.specs.Walking.{own_line, turns_of, Nest}
-use Rattle.coda_report.proofs.Bytes.{append-nil}
+use Rattle.std.proofs.lemmas.List.{append-nil}
 use Rattle.coda_report.proofs.Turns.{frame_left, nest_left, nest_turn, turn_done, last_first}
 use Rattle.coda_report.proofs.walk.take_turn.Goals as goal
 

@@ -1,4 +1,4 @@
-use Rattle.coda_text.proofs.Printing.{printed_word}
+use Rattle.coda_text.proofs.OneWord.{printed_word}
 use Rattle.coda_text.proofs.texts.what_is_printed_is_read_again.Goals as goal
 
 pub returns : goal.returns

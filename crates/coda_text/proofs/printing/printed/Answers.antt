@@ -3,7 +3,7 @@ use Rattle.std.proofs.lemmas.Result.{IfOk-weaker}
 use Rattle.coda_text.specs.Texts.{printed}
 use Rattle.coda_text.specs.Printed.{IsWordFor}
 use Rattle.coda_text.proofs.ReadAgain.{are_bytes, printed_is_word}
-use Rattle.coda_text.proofs.texts.printed.Goals as goal
+use Rattle.coda_text.proofs.printing.printed.Goals as goal
 
 pub returns-clause-word : goal.returns-clause-word
 returns-clause-word c =

@@ -1,7 +1,7 @@
 use Rattle.std.proofs.Common.{Result, Ok, Err, MatchResult, rules}
 use Rattle.std.specs.Result.{IsOk}
-use Rattle.coda_report.proofs.ShownBytes.{plain_utf8}
-use Rattle.coda_report.proofs.printing.put_plain.Goals as goal
+use Rattle.coda_text.proofs.Ascii.{plain_utf8}
+use Rattle.coda_text.proofs.printing.put_plain.Goals as goal
 
 -- a result that can't be bad is good
 only_ok : {A E : Type 0} (r : Result A E) (P : A → Type 0) (Q : E → Type 0) → MatchResult r P Q → ((e : E) → Q e → ⊥) → IsOk r

@@ -1,7 +1,0 @@
-use Rattle.std.proofs.Common.{◌≡◌, ◌++◌, ◌∷◌, take}
-use Rattle.std.specs.List.{flat_map}
-use Rattle.coda_text.specs.Texts.{escaped}
-use Rattle.coda_text.proofs.texts.put_quoted.Given as goal
-
-abbrev pub invariant-loop-byte : goal.invariant-loop-byte
-invariant-loop-byte l = l.out.items ≡ l.fn.out.items ++ 34 ∷ flat_map escaped (take l.byte-index l.bytes)
