@@ -19,11 +19,15 @@ ThawIsTheFold = (front back : List Record) → IsSteady (front ++ back) → adde
 abbrev pub SegmentsAreTheirFolds : Type 0
 SegmentsAreTheirFolds = (number : ℕ) (front back : List Record) → AreUpTo number front → AreAbove number back → IsCut number [] (front ++ back) → records_upto number (fold (front ++ back)) ≡ fold front
 
--- a steady run may be cut exactly where its front and its back may be, and where the records of the back join nothing as they are added to those of the front
+-- where a steady run may be cut, what is left of it is what is left of its front alone, and then what is left of its back alone
+abbrev pub CutsPartTheFold : Type 0
+CutsPartTheFold = (number : ℕ) (front back : List Record) → IsSteady (front ++ back) → AreUpTo number front → AreAbove number back → IsCut number [] (front ++ back) → fold (front ++ back) ≡ fold front ++ fold back
+
+-- a steady run may be cut exactly where its front and its back may be, and where, as the records of the back are added to those of the front, they join nothing across that number
 abbrev pub ThawHasTheSegments : Type 0
 ThawHasTheSegments = (number : ℕ) (front back : List Record) → IsSteady (front ++ back) → IsRising (front ++ back) → IsCut number [] (front ++ back) ↔ (IsCut number [] front × IsCut number [] back × IsCut number (fold front) (fold back))
 
--- what is left of a steady run is steady
+-- the back of a steady run is steady
 abbrev pub RestIsSteady : Type 0
 RestIsSteady = (front rest : List Record) → IsSteady (front ++ rest) → IsSteady rest
 

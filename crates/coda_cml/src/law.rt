@@ -1,4 +1,4 @@
-ghost use Rattle.coda_cml.specs.Laws.{ThawIsTheFold, SegmentsAreTheirFolds, ThawHasTheSegments, RestIsSteady, OperationsKeepSteady, AdditionsAreSound, CancellationIsSound, ConflictsOfFoldsAreReal};
+ghost use Rattle.coda_cml.specs.Laws.{ThawIsTheFold, SegmentsAreTheirFolds, CutsPartTheFold, ThawHasTheSegments, RestIsSteady, OperationsKeepSteady, AdditionsAreSound, CancellationIsSound, ConflictsOfFoldsAreReal};
 
 /// A law of cancellation: the records of the back of a steady run, added to those of its front, are the
 /// records of the whole run.
@@ -11,13 +11,19 @@ pub fn segments_are_their_folds()
     ensures { SegmentsAreTheirFolds }
 {}
 
-/// A law of cancellation: a steady run may be cut exactly where its front and its back may be, and where
-/// the records of the back join nothing as they are added to those of the front.
+/// A law of cancellation: where a steady run may be cut, what is left of it is what is left of its front alone, and then
+/// what is left of its back alone. So each segment holds the fold of its own operations.
+pub fn cuts_part_the_fold()
+    ensures { CutsPartTheFold }
+{}
+
+/// A law of cancellation: a steady run may be cut exactly where its front and its back may be, and where the
+/// records of the back, as they are added to those of the front, join nothing across that number.
 pub fn a_thaw_has_the_segments()
     ensures { ThawHasTheSegments }
 {}
 
-/// A law of steady runs: what is left of one is steady.
+/// A law of steady runs: the back of one is steady.
 pub fn the_rest_is_steady()
     ensures { RestIsSteady }
 {}
