@@ -1,7 +1,7 @@
 // Replies of every kind, as plain values, each with the text that it must have.
 use coda_certify::{Reason, Verdict};
 use coda_fid::{Attrs, Fid, Over, Sid};
-use coda_script::{Answer, Arg, ClientState, Expansion, Refusal};
+use coda_script::{Answer, Arg, ClientState, Expansion, Refusal, Undecided};
 
 /// The root of a volume.
 pub const ROOT: Fid = Fid {
@@ -83,7 +83,7 @@ pub enum Said {
     Drained(u64, Answer),
     Delivered(u64, Answer, u64),
     Settled(u64, Verdict),
-    StillFrozen(u64, Answer),
+    StillFrozen(u64, Undecided),
     Broken(u64),
     Lost(u64),
     Posted(Option<u64>, Option<u64>),
@@ -142,8 +142,8 @@ pub fn message_rows() -> [Row; 23] {
         (Said::Delivered(2, Answer::Behind(0), 6), "chunk 2 behind 0 message 6\n"),
         (Said::Settled(1, Verdict::Applied), "settled 1 applied\n"),
         (Said::Settled(1, Verdict::Conflict(3, Reason::NotEmpty)), "settled 1 conflict 3 not-empty\n"),
-        (Said::StillFrozen(4, Answer::Behind(2)), "frozen 4 behind 2\n"),
-        (Said::StillFrozen(4, Answer::Old(6)), "frozen 4 old 6\n"),
+        (Said::StillFrozen(4, Undecided::Behind(2)), "frozen 4 behind 2\n"),
+        (Said::StillFrozen(4, Undecided::Old(6)), "frozen 4 old 6\n"),
         (Said::Broken(0), "broken 0\n"),
         (Said::Lost(17), "lost 17\n"),
         (Said::Posted(Some(3), Some(4)), "posted 3 4\n"),

@@ -221,7 +221,7 @@ fn reply_of(alloc: Global, said: Said) -> Result<Reply, Fail>
             message,
         }),
         Said::Settled(chunk, verdict) => Ok(Reply::Settled { chunk, verdict }),
-        Said::StillFrozen(chunk, answer) => Ok(Reply::StillFrozen { chunk, answer }),
+        Said::StillFrozen(chunk, why) => Ok(Reply::StillFrozen { chunk, why }),
         Said::Broken(copies) => Ok(Reply::Broken { copies }),
         Said::Lost(message) => Ok(Reply::Lost { message }),
         Said::Posted(a, b) => Ok(Reply::Posted(numbers_of(alloc, [a, b])?)),

@@ -23,5 +23,5 @@ pub use reading::read_line;
 pub use refusal::Refusal;
 pub use reply::{
     Answer, Arg, Args, ClientState, HoardEntries, HoardEntry, Mark, Marks, Numbers, Readable,
-    Records, Reply, Why,
+    Records, Reply, Undecided, Why,
 };

@@ -91,6 +91,15 @@ pub enum Answer {
     Old(u64),
 }
 
+/// Why a chunk was not decided by the message that brought it.
+#[derive(Clone, Copy, Debug, PartialEq, Eq)]
+pub enum Undecided {
+    /// It isn't the next one; the last decided has this number.
+    Behind(u64),
+    /// It was decided before; the last decided has this number.
+    Old(u64),
+}
+
 /// What was read of an object that is no directory.
 #[derive(Debug, Drop)]
 pub enum Readable {
@@ -297,10 +306,10 @@ pub enum Reply {
         chunk: u64,
         verdict: Verdict,
     },
-    /// The answer of a chunk was delivered, and the chunk stays frozen: the last decided has this number.
+    /// The answer of a chunk was delivered, and the chunk stays frozen, since it was not decided.
     StillFrozen {
         chunk: u64,
-        answer: Answer,
+        why: Undecided,
     },
     /// So many cached copies became not valid.
     Broken {
