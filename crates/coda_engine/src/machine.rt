@@ -5,7 +5,9 @@ use std::alloc::Global;
 /// A line is refused: its first wrong column, from 1, and what is wrong there.
 #[derive(Clone, Copy, Debug, PartialEq, Eq)]
 pub struct LineFault {
+    /// The column of the first byte that is wrong, from 1.
     pub column: u32,
+    /// What is wrong there.
     pub kind: Kind,
 }
 

@@ -1,5 +1,5 @@
 // Acceptance: what a client was asked for becomes an operation on the nodes that it holds, or is refused.
-use crate::client::{Client, ending, root_fid};
+use crate::client::{Client, ending};
 use crate::line::Ask;
 use crate::refused::Refused;
 use coda_fid::{Attrs, Bytes, Fid, Name, Op, Over, Path, Sid};
@@ -50,7 +50,7 @@ impl Client {
     fn at_root(&self, volume: u32, refusal: Refused) -> Accepted
         ensures { result ≡ at_root (client_state self.now) volume refusal }
     {
-        match self.held(root_fid(volume)) {
+        match self.held(Fid::root(volume)) {
             Ok(_) => Err(refusal),
             Err(miss) => Err(miss),
         }
@@ -97,7 +97,7 @@ impl Client {
     fn new_place(&self, volume: u32, front: &[Name], name: &Name) -> Result<(Fid, Fid), Refused>
         ensures { result ≡ new_place (client_state self.now) volume (front.now, name.now) }
     {
-        match self.resolve(root_fid(volume), front) {
+        match self.resolve(Fid::root(volume), front) {
             Ok(dir) => match self.new_under(volume, dir, name) {
                 Ok(fid) => Ok((dir, fid)),
                 Err(refusal) => Err(refusal),
@@ -299,7 +299,7 @@ impl Client {
     fn spot(&self, volume: u32, front: &[Name], name: &Name) -> Result<(Fid, Fid), Refused>
         ensures { result ≡ spot self.now.nodes volume (front.now, name.now) }
     {
-        match self.resolve(root_fid(volume), front) {
+        match self.resolve(Fid::root(volume), front) {
             Ok(dir) => match self.step(dir, name) {
                 Ok(fid) => match self.held(fid) {
                     Ok(there) => Ok((dir, there)),
@@ -359,7 +359,7 @@ impl Client {
     fn place(&self, volume: u32, front: &[Name], name: &Name) -> Result<(Fid, Option<Fid>), Refused>
         ensures { result ≡ place self.now.nodes volume (front.now, name.now) }
     {
-        match self.resolve(root_fid(volume), front) {
+        match self.resolve(Fid::root(volume), front) {
             Ok(dir) => match self.bound_at(dir, name) {
                 Ok(bound) => Ok((dir, bound)),
                 Err(refusal) => Err(refusal),
@@ -462,7 +462,7 @@ impl Client {
     ) -> Result<Accepted, AllocError>
         ensures { IfOk result (λ accepted. accepted ≡ move_to (client_state self.now) volume from_dir from.now fid (front.now, to.now) (to_dir, bound)) }
     {
-        if self.is_met(root_fid(volume), front, fid) {
+        if self.is_met(Fid::root(volume), front, fid) {
             return Ok(Err(Refused::Loop));
         }
         match self.replaced_by(fid, bound) {
@@ -506,7 +506,7 @@ impl Client {
                 Ok((dir, fid)) => self.rename_to(volume, dir, name, fid, to),
                 Err(refusal) => Ok(Err(refusal)),
             },
-            None => match self.held(root_fid(volume)) {
+            None => match self.held(Fid::root(volume)) {
                 Ok(_) => Ok(self.rename_root(volume, to)),
                 Err(miss) => Ok(Err(miss)),
             },
@@ -521,7 +521,7 @@ impl Client {
     ) -> Result<Accepted, AllocError>
         ensures { IfOk result (λ accepted. accepted ≡ then_find (resolve self.now.nodes (root_of volume) path.now) (λ fid. store_at (client_state self.now) volume (map.get self.now.nodes fid) fid content.now)) }
     {
-        match self.resolve(root_fid(volume), path.names()) {
+        match self.resolve(Fid::root(volume), path.names()) {
             Ok(fid) => self.store_at(volume, fid, content),
             Err(refusal) => Ok(Err(refusal)),
         }
@@ -530,7 +530,7 @@ impl Client {
     fn accept_setattr(&self, volume: u32, path: &Path, attrs: &Attrs) -> Accepted
         ensures { result ≡ then_find (resolve self.now.nodes (root_of volume) path.now) (λ fid. setattr_at (client_state self.now) volume (map.get self.now.nodes fid) fid attrs.now) }
     {
-        match self.resolve(root_fid(volume), path.names()) {
+        match self.resolve(Fid::root(volume), path.names()) {
             Ok(fid) => self.setattr_at(volume, fid, attrs),
             Err(refusal) => Err(refusal),
         }

@@ -21,17 +21,6 @@ use std::collections::BTreeMap;
 /// The most bytes of a file's content: 1 MiB.
 const MOST_CONTENT: usize = 1_048_576;
 
-/// The fid of a volume's root.
-pub fn root_fid(volume: u32) -> Fid
-    ensures { result ≡ root_of volume }
-{
-    Fid {
-        volume,
-        vnode: 0,
-        uniq: 1,
-    }
-}
-
 /// The first names of a path and its last one.
 pub fn ending(names: &[Name]) -> Option<(&[Name], &Name)>
     ensures { option_map (λ e. (e.0.now, e.1.now)) result ≡ ending names.now }
@@ -320,7 +309,7 @@ impl Client {
     ) -> Result<(), AllocError>
         ensures { OnOk result (client_state self.new ≡ client_after_all (client_state self.old) (rename_look_ups (nodes_offered offers.entry) (client_state self.old) volume from.now to.now)) }
     {
-        let root = root_fid(volume);
+        let root = Fid::root(volume);
         self.look_along(offers, root, from.names(), fetched)?;
         match self.resolve(root, from.names()) {
             Ok(_) => self.look_along(offers, root, to.names(), fetched),
@@ -332,7 +321,7 @@ impl Client {
     fn look_up(&mut self, offers: Option<&Volume>, volume: u32, ask: &Ask) -> Result<(), AllocError>
         ensures { OnOk result (client_state self.new ≡ client_after_all (client_state self.old) (look_ups (nodes_offered offers.entry) (client_state self.old) volume ask.now)) }
     {
-        let root = root_fid(volume);
+        let root = Fid::root(volume);
         let mut fetched = Vec::new(self.alloc);
         match ask {
             Ask::Create { path, .. } => {
@@ -446,7 +435,7 @@ impl Client {
     ) -> Result<Result<(Fid, bool), Refused>, AllocError>
         ensures { IfOk result (λ outcome. Finds (look_along (nodes_offered offers.entry) (client_state self.old) (root_of volume) path.now) (client_state self.old) volume path.now outcome (client_state self.new)) }
     {
-        let root = root_fid(volume);
+        let root = Fid::root(volume);
         let mut fetched = Vec::new(self.alloc);
         self.look_along(offers, root, path.names(), &mut fetched)?;
         match self.resolve(root, path.names()) {

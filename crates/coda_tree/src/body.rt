@@ -46,17 +46,6 @@ impl Model for Body {
     ghost invariant = { IsKeptBody };
 }
 
-// The fid of a volume's root.
-pub(crate) fn root_fid(number: u32) -> Fid
-    ensures { result ≡ root_of number }
-{
-    Fid {
-        volume: number,
-        vnode: 0,
-        uniq: 1,
-    }
-}
-
 // The root of a fresh volume.
 fn root_node(alloc: Global) -> Node
     ensures { result ≡ fresh_root }
@@ -84,7 +73,7 @@ impl Body {
             node: root_node(alloc),
             parent: None,
         };
-        let _ = slots.put(root_fid(number), Some(root))?;
+        let _ = slots.put(Fid::root(number), Some(root))?;
         Ok(Body { number, slots })
     }
 

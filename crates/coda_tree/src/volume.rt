@@ -10,7 +10,7 @@ ghost use Rattle.coda_tree.specs.Volumes.{seen};
 ghost use Rattle.coda_tree.specs.Keeping.{IsKeptIn};
 ghost use Rattle.coda_tree.specs.Lookup.{lookup_of, step_from};
 
-use crate::body::{Body, root_fid};
+use crate::body::Body;
 use crate::{Node, NodeKind};
 use coda_fid::{Attrs, Bytes, Fid, Name, Path, Sid};
 use std::alloc::{AllocError, Global};
@@ -124,7 +124,7 @@ impl Volume {
     pub fn lookup(&self, path: &Path) -> Result<Fid, PathFault>
         ensures { result ≡ lookup_of self.now.nodes (root_of self.now.number) 0 path.now }
     {
-        let mut at = root_fid(self.number());
+        let mut at = Fid::root(self.number());
         let names = path.names();
         for (component, name) in names.iter().enumerate() {
             at = self.step(at, name, component)?;

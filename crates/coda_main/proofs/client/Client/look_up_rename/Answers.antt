@@ -8,6 +8,6 @@ pub returns-in-Ok : goal.returns-in-Ok
 returns-in-Ok c =
     on_ok_weaker c.look_along-in-Ok.result
     (λ looked. renamed (nodes_offered c.args.offers) (client_state c.args.self.now) (client_state c.look_along.new.self) (client_state c.look_along-in-Ok.new.self) c.args.volume c.args.from.now c.args.to.now
-    c.names.result.now c.names-2.result.now c.names-in-Ok.result.now c.root_fid-root.result c.in-Ok.field-0 c.root_fid-root.ensures c.names.ensures.same c.names-2.ensures.same c.names-in-Ok.ensures.same
+    c.names.result.now c.names-2.result.now c.names-in-Ok.result.now c.root-root.result c.in-Ok.field-0 c.root-root.ensures c.names.ensures.same c.names-2.ensures.same c.names-in-Ok.ensures.same
     (c.in_ok-look_along.ensures).left (sym c.resolve.ensures ∙ c.in-Ok.is) looked.left)
     c.look_along-in-Ok.ensures

@@ -12,5 +12,5 @@ held_root node = record { node = node; parent = None }
 
 pub invariant_of-result : goal.invariant_of-result
 invariant_of-result c =
-    let is = c.in_ok-put.ensures.ok ∙ (λ i. map.insert (c.new-slots.ensures i) (c.root_fid.ensures i) (Some (record { node = c.root_node.ensures i; parent = None }))) in
+    let is = c.in_ok-put.ensures.ok ∙ (λ i. map.insert (c.new-slots.ensures i) (c.root.ensures i) (Some (record { node = c.root_node.ensures i; parent = None }))) in
     subst (λ (s : Slots). IsKeptIn c.args.number s) (sym is) (kept_fresh c.args.number)
