@@ -137,7 +137,7 @@ impl Log {
     ///
     /// # Errors
     ///
-    /// `LogFull` exactly where the log would then hold more than 4,096 records, or these would weigh more
+    /// `LogFull` exactly where the records of the log would be more than 4,096 with it, or would weigh more
     /// than 16 MiB. An error leaves the log as it was.
     pub fn append(&mut self, rec: Record) -> Result<(), LogFault>
         requires later { self.old.last < rec.number }
@@ -187,7 +187,7 @@ impl Log {
     ///
     /// A chunk is the longest run of segments from the front whose operations are all at least `window`
     /// seconds old at the time `now` and that have at most `cap` records together, but it goes at least
-    /// up to the first segment with a record. A segment without records is old enough at any time.
+    /// up to the first segment with a record. A segment of which no record is left counts as old.
     /// Chunks are numbered in turn; there were fewer than 2^64 - 1.
     ///
     /// # Errors

@@ -29,13 +29,16 @@ const MOST_VOLUMES: usize = 64;
 /// The two ends of a link.
 #[derive(Clone, Copy, Debug, PartialEq, Eq, PartialOrd, Ord)]
 pub struct Ends {
+    /// The number of the client.
     pub client: u8,
+    /// The number of the server.
     pub server: u8,
 }
 
 /// A cell, with what was made so far.
 #[derive(Drop)]
 pub struct Cell {
+    /// Where its memory comes from.
     pub alloc: Global,
     /// The seconds that have passed.
     pub clock: u64,
@@ -43,6 +46,7 @@ pub struct Cell {
     pub servers: Vec<u8>,
     /// The replica of each volume.
     pub replicas: BTreeMap<u32, Replica>,
+    /// The clients, by their numbers.
     pub clients: BTreeMap<u8, Client>,
     /// The links that were set; the others are down.
     pub links: BTreeMap<Ends, Strength>,

@@ -111,19 +111,28 @@ fn is_noted(noted: &[Fid], fid: Fid) -> bool
 /// What a client has of a volume: its log, and how many operations it accepted, objects it created and chunks it froze.
 #[derive(Debug, Drop)]
 pub struct VolumeLog {
+    /// The operations that no server has applied yet.
     pub log: Vec<Record>,
+    /// How many operations there were.
     pub operations: u64,
+    /// How many of them created an object.
     pub creations: u32,
+    /// How many chunks were sent.
     pub chunks: u64,
 }
 
 /// A client: the nodes that it holds, of whatever volume, and its log of each volume that it worked on.
 #[derive(Drop)]
 pub struct Client {
+    /// Where its memory comes from.
     pub alloc: Global,
+    /// The client's number.
     pub number: u8,
+    /// The size of its cache, in blocks.
     pub blocks: u32,
+    /// The nodes that it holds.
     pub nodes: NodeTable,
+    /// Its log of each volume that it worked on.
     pub logs: BTreeMap<u32, VolumeLog>,
 }
 

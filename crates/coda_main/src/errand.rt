@@ -19,9 +19,13 @@ const FILE_MODE: u16 = 0o644;
 /// What a client is asked for in a volume, by a task that is built.
 #[derive(Drop)]
 pub enum Errand {
+    /// A client is to accept an operation in a volume.
     Operate { client: u8, volume: u32, ask: Ask },
+    /// A client is to show the file or link at a path.
     Read { client: u8, volume: u32, path: Path },
+    /// A client is to list the directory at a path.
     List { client: u8, volume: u32, path: Path },
+    /// A client is to send its log of a volume to a server.
     Drain { client: u8, volume: u32, server: u8 },
 }
 

@@ -7,7 +7,9 @@ use std::alloc::{AllocError, Global};
 /// One server's copy of a volume.
 #[derive(Drop)]
 pub struct Replica {
+    /// The server that has it.
     pub server: u8,
+    /// The volume as this server has it.
     pub volume: Volume,
 }
 

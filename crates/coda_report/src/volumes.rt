@@ -21,7 +21,7 @@ fn put_volume_line(out: &mut String, server: u8, volume: &Volume) -> Result<(), 
 
 /// The text of a volume at a server: its first line, and then each object on a line, in path order.
 ///
-/// Fails for want of memory alone. It uses no more of the machine's stack for a deep volume.
+/// Fails for want of memory alone. The directories under way stand in a vector, and not on the machine's stack.
 pub fn volume_text(alloc: Global, volume: &Volume, server: u8) -> Result<Bytes, AllocError>
     ensures text { IfOk result (λ text. text ≡ volume_text server volume.now) }
 

@@ -80,7 +80,7 @@ store_form =
     either (codes "fill") (a_number (between 0 2000000) (λ n. a_number (between 0 255) (λ b. says (Task (tasks.Store c v p (contents.Fill n b))))))
     nothing))
 
--- setattr C V P, then at least one of mode M, owner O, mtime N, in this order
+-- setattr C V P, and behind it one or more of mode M, owner O and mtime N, in the order in which they stand here
 unfoldable pub setattr_form : Form
 setattr_form =
     place (λ c v p.

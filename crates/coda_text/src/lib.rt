@@ -1,10 +1,10 @@
 //! The words of a line of a script, the numbers and texts that they stand for, and how bytes are printed so that they
 //! are read again.
 //!
-//! Spaces and tabs separate words. A bare word is one or more bytes of 0x21 to 0xFF other than 0x7F and `"`. A quoted
-//! word begins and ends with `"`; inside stand bytes of 0x20 to 0xFF other than 0x7F, `"` and `\`, and the escapes
-//! `\"`, `\\`, `\n` and `\xHH`, whose digits are of either case. Behind a closing quote comes a separator or the line's
-//! end.
+//! Words are what stands between spaces and tabs. A bare word is made of bytes above the blank, but for delete (0x7F) and `"`.
+//! A quoted word stands between two `"`; it is made of the blank and of bytes above it, but for delete, and `"` and `\` are
+//! written `\"` and `\\`, a newline `\n`, and any byte `\xHH`, with digits of either case. The next thing behind a quoted word
+//! is a separator or the end of the line.
 #![tactic(auto)]
 
 mod cursor;
