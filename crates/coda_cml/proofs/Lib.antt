@@ -32,3 +32,4 @@ pub mod Erasing
 pub mod Omitting
 pub mod NeverMade
 pub mod Cancelling
+pub mod LongestFront

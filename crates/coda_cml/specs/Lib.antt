@@ -7,3 +7,4 @@ pub mod Chunks
 pub mod Steps
 pub mod Inside
 pub mod Room
+pub mod Longest

@@ -1,3 +1,4 @@
+ghost use Rattle.coda_cml.specs.Longest.{ChunksAreLongest};
 ghost use Rattle.coda_cml.specs.Laws.{ThawIsTheFold, SegmentsAreTheirFolds, CutsPartTheFold, ThawHasTheSegments, RestIsSteady, OperationsKeepSteady, AdditionsAreSound, CancellationIsSound, ConflictsOfFoldsAreReal};
 
 /// A law of cancellation: the records of the back of a steady run, added to those of its front, are the
@@ -53,4 +54,10 @@ pub fn cancellation_is_sound()
 /// applied to it either (Kistler and Satyanarayanan 1992: log optimizations).
 pub fn conflicts_of_folds_are_real()
     ensures { ConflictsOfFoldsAreReal }
+{}
+
+/// A law of chunks: the front that goes is the longest that may go, but reaches at least up to the first segment with a record
+/// (Mummert, Ebling and Satyanarayanan 1995: a chunk is a prefix of the log).
+pub fn chunks_are_the_longest()
+    ensures { ChunksAreLongest }
 {}

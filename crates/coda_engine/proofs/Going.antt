@@ -1,5 +1,5 @@
 -- A run goes on by a piece, and ends.
-use Rattle.std.proofs.Common.{◌≡◌, ◌≢◌, ℕ, ◌+◌, Bool, true, false, List, [], ◌∷◌, ◌++◌, length, refl, sym, subst, inl, arith, length-append, Option, None, Some}
+use Rattle.std.proofs.Common.{◌≡◌, ◌≢◌, ℕ, ◌+◌, ◌≤◌, Bool, true, false, List, [], ◌∷◌, ◌++◌, length, refl, sym, subst, inl, arith, length-append, Option, None, Some}
 use Rattle.std.specs.Io.KnownBytes.{Consumes, Keeps, IsAtEnd}
 use Rattle.std.proofs.lemmas.List.{append-nil}
 use Rattle.std.proofs.lemmas.List.Elements.{All-nil}
@@ -54,9 +54,9 @@ goes_counted {start = start} l0 l1 h0 h1 h2 p q piece go step =
     rw (s.size, length-append go.0 piece, go.5.size) refl
 
 pub goes_stop : {M : Type 0} (gives : Gives M) (refuses : Refuses M) (start new : M) (l0 l1 l2 h0 h1 h2 : Option (List ℕ)) (p : Place M) (piece : List ℕ) (status : Status)
-    → Goes gives start l0 l1 h0 h1 p → Consumes l1 l2 piece → Stops gives refuses h1 h2 p new piece status
+    → Goes gives start l0 l1 h0 h1 p → Consumes l1 l2 piece → p.bytes + length piece ≤ 16777217 → Stops gives refuses h1 h2 p new piece status
     → (outside : List (List ℕ)) × Reports gives refuses start new l0 l2 h0 h2 outside status
-goes_stop gives refuses start new l0 l1 l2 h0 h1 h2 p piece status go took stop = (
+goes_stop gives refuses start new l0 l1 l2 h0 h1 h2 p piece status go took few stop = (
   go.2 ++ stop.1,
   (
     go.0 ++ piece,
@@ -64,6 +64,7 @@ goes_stop gives refuses start new l0 l1 l2 h0 h1 h2 p piece status go took stop 
     Consumes-trans l0 l1 l2 go.0 piece go.3 took,
     Appends-trans h0 h1 h2 go.1 stop.0 go.4 stop.2,
     answers_all gives refuses start new (is_at_end l2) (go.0 ++ piece) (go.1 ++ stop.0) (go.2 ++ stop.1) status (stop.3 start go.0 go.1 go.2 go.5),
+    (let read = length-append go.0 piece in let size = go.5.size in omega (arith, read, size, few)),
   ),
 )
 
@@ -90,6 +91,7 @@ goes_end gives refuses start new l0 l1 l2 h0 h1 h2 p status go took at_end end =
         (let Took : List ℕ → Type 0 = λ read. Consumes l0 l2 read in subst Took (append-nil go.0) (Consumes-trans l0 l1 l2 go.0 [] go.3 took)),
         Appends-trans h0 h1 h2 go.1 end.0 go.4 end.2,
         subst Answer (sym (at_end_is l2 at_end)) (end.3 start go.0 go.1 go.2 go.5),
+        (let few = go.5.within.bytes in omega (arith, few)),
       ),
     )
 
@@ -97,10 +99,10 @@ pub goes_fault : {M : Type 0} (gives : Gives M) (refuses : Refuses M) (start : M
     → Goes gives start l0 l1 h0 h1 p → Keeps l1 l2 → (outside : List (List ℕ)) × Reports gives refuses start p.state l0 l2 h0 h1 outside SourceFault
 goes_fault gives refuses start l0 l1 l2 h0 h1 p go kept =
     let s = go.5 in
-    (go.2, (go.0, go.1, Consumes-kept l0 l1 l2 go.0 go.3 kept, go.4, (s.front, p.pending, s.ran, s.partial, s.within)))
+    (go.2, (go.0, go.1, Consumes-kept l0 l1 l2 go.0 go.3 kept, go.4, (s.front, p.pending, s.ran, s.partial, s.within), (let few = s.within.bytes in omega (arith, few))))
 
 -- no memory for the buffer: nothing was read
 pub memory_at_start : {M : Type 0} (gives : Gives M) (refuses : Refuses M) (start : M) (left held : Option (List ℕ))
     → (outside : List (List ℕ)) × Reports gives refuses start start left left held held outside Memory
 memory_at_start gives refuses start left held =
-    ([], ([], [], Consumes-nil left, Appends-nil held, (start, ([], [], [], none_ran (is_at_end left) gives start, ([], refl)))))
+    ([], ([], [], Consumes-nil left, Appends-nil held, (start, ([], [], [], none_ran (is_at_end left) gives start, ([], refl))), omega arith))

@@ -93,4 +93,4 @@ pub reports_shown : {P M : Type 0} {Shows : P → M → Type 0} {plain : Gives P
     → (p' : P) × Reports plain plain_refuses p p' left_old left_new held_old held_new outside status × (status ≢ Memory → Shows p' m')
 reports_shown sim p m m' left_old left_new held_old held_new outside status shows r =
     let a = answers_shown sim p m m' (is_at_end left_new) r.0 r.1 outside status shows r.4 in
-    (a.0, (r.0, r.1, r.2, r.3, a.1), a.2)
+    (a.0, (r.0, r.1, r.2, r.3, a.1, r.5), a.2)

@@ -1,5 +1,5 @@
 -- What a run of a script reads and writes, and how it ends.
-use Rattle.std.specs.Prelude.{◌≡◌, ◌≢◌, ℕ, ◌+◌, ◌⊎◌, Bool, true, false, IsTrue, List, [], ◌∷◌, ◌++◌, length, Option, None, Some}
+use Rattle.std.specs.Prelude.{◌≡◌, ◌≢◌, ℕ, ◌+◌, ◌≤◌, ◌⊎◌, Bool, true, false, IsTrue, List, [], ◌∷◌, ◌++◌, length, Option, None, Some}
 use Rattle.std.specs.Io.KnownBytes.{Appends, Consumes}
 use Rattle.std.specs.Str.Lines.{lines, strip_carriage_return}
 use Rattle.coda_engine.specs.Lines.{HasNoNewline, IsWholeLines, IsWithinLimits}
@@ -95,8 +95,8 @@ is_at_end (Some []) = true
 is_at_end (Some (b ∷ bs)) = false
 
 -- What a run from start to new took from the source and gave to the sink, where these tell it, and what the outside
--- answered, fit its status.
+-- answered, fit its status; and it took no byte behind the first that passes the limit.
 abbrev pub Reports : {M : Type 0} → Gives M → Refuses M → M → M → Option (List ℕ) → Option (List ℕ) → Option (List ℕ) → Option (List ℕ) → List (List ℕ) → Status → Type 0
 Reports gives refuses start new left_old left_new held_old held_new outside status =
     (read : List ℕ) × (written : List ℕ) × Consumes left_old left_new read × Appends held_old held_new written
-    × Answers gives refuses start new (is_at_end left_new) read written outside status
+    × Answers gives refuses start new (is_at_end left_new) read written outside status × (length read ≤ 16777217)

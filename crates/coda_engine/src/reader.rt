@@ -69,7 +69,7 @@ fn run_line<M: Machine, K: Sink>(
 }
 
 impl Reader {
-    ghost use Rattle.std.specs.Prelude.{◌≡◌, ◌≤◌, ◌∷◌, [], IfErr, OnOk, Err, MatchBool};
+    ghost use Rattle.std.specs.Prelude.{◌≡◌, ◌<◌, ◌≤◌, ◌+◌, ◌∷◌, [], IfErr, OnOk, Err, MatchBool};
     ghost use Rattle.coda_io.specs.Faults.{Rose};
     ghost use Rattle.coda_engine.specs.Reading.{HasRoom, IsFull, Advances, Stops, Ends};
     ghost use Rattle.coda_engine.specs.Place.{place};
@@ -86,6 +86,16 @@ impl Reader {
             lines: 0,
             bytes: 0,
         }
+    }
+
+    /// How many bytes the run may read into a buffer of this length: none behind the first that passes the limit.
+    pub fn room(&self, len: usize) -> usize
+        requires { 0 < len }
+        ensures some { 0 < result }
+        ensures within { result ≤ len }
+        ensures few { self.now.bytes + result ≤ 16777217 }
+    {
+        len.min((MAX_BYTES - self.bytes) as usize + 1)
     }
 
     // Whether a byte more passes a limit.

@@ -35,12 +35,14 @@ fn run_pieces<M: Machine, S: Source, K: Sink>(
 {
     let mut reader = Reader::new(alloc);
     loop {
-        let count = match source.read(buffer) {
+        let room = reader.room(buffer.len());
+        let window = &mut buffer[..room];
+        let count = match source.read(window) {
             Ok(0) => return reader.finish(machine, sink),
             Ok(count) => count,
             Err(_) => return Status::SourceFault,
         };
-        match reader.feed(machine, &buffer[..count], sink) {
+        match reader.feed(machine, &window[..count], sink) {
             Ok(()) => {}
             Err(status) => return status,
         }

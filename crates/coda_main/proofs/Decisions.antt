@@ -239,7 +239,7 @@ drained_or_not n volume l r = go (length l.log == 0) (nat_le 4294967295 l.chunks
     go false true = inl refl
     go false false = inr refl
 
-drain_or_not : (link : Strength) (n volume : ℕ) (l : LogState) (r : ReplicaState) → ((drain link n volume l r).events ≡ []) ⊎ ((drain link n volume l r).events ≡ (sent_from n volume l r).events)
+pub drain_or_not : (link : Strength) (n volume : ℕ) (l : LogState) (r : ReplicaState) → ((drain link n volume l r).events ≡ []) ⊎ ((drain link n volume l r).events ≡ (sent_from n volume l r).events)
 drain_or_not Down n volume l r = inl refl
 drain_or_not Strong n volume l r = drained_or_not n volume l r
 drain_or_not Weak n volume l r = drained_or_not n volume l r

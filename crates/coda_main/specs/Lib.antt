@@ -14,3 +14,6 @@ pub mod Texts
 pub mod PlainRun
 pub mod Shows
 pub mod Headline
+pub mod Complete
+pub mod Cached
+pub mod Pending

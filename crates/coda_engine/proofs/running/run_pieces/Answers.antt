@@ -13,10 +13,11 @@ loop-reader-init g c =
 pub returns-in-Ok-eq0-clause-report : goal.returns-in-Ok-eq0-clause-report
 returns-in-Ok-eq0-clause-report g c =
     let bytes = c.in-Ok-eq0.ensures.bytes in
+    let room = length-take-le c.room-room.result c.loop-reader.buffer c.room-room.ensures.within in
     let zero : c.in-Ok-eq0.field-0 ≡ 0 = search rules in
     let Took : ℕ → Type 0 = λ n. Consumes (g.S.Source.left c.loop-reader.source) (g.S.Source.left c.read.new.self) (take n c.read.new.buf) in
     goes_end g.M.Machine.gives g.M.Machine.refuses c.args.machine.now _ _ _ _ _ _ _ (place c.loop-reader.machine c.loop-reader.reader) _ c.loop-reader.invariant.0
-    (subst Took zero bytes.0) (bytes.1 zero (omega (arith, c.requires, c.read.auto.buf))) c.finish.ensures.ends
+    (subst Took zero bytes.0) (bytes.1 zero (omega (arith, room, c.room-room.ensures.some, c.read.auto.buf))) c.finish.ensures.ends
 
 pub loop-reader-smaller : goal.loop-reader-smaller
 loop-reader-smaller g c =
@@ -36,7 +37,10 @@ loop-reader-preserved g c = (
 
 pub returns-in-Err-feed-clause-report : goal.returns-in-Err-feed-clause-report
 returns-in-Err-feed-clause-report g c =
-    goes_stop g.M.Machine.gives g.M.Machine.refuses c.args.machine.now _ _ _ _ _ _ _ (place c.loop-reader.machine c.loop-reader.reader) _ _ c.loop-reader.invariant.0 c.in-Ok.ensures.bytes.0 c.in-Err-feed.ensures.stops
+    let whole : c.in-Ok.count ≤ length c.read.new.buf = c.in-Ok.ensures.bound.0 in
+    let taken = length-take-le c.in-Ok.count c.read.new.buf whole in
+    let room = length-take-le c.room-room.result c.loop-reader.buffer c.room-room.ensures.within in
+    goes_stop g.M.Machine.gives g.M.Machine.refuses c.args.machine.now _ _ _ _ _ _ _ (place c.loop-reader.machine c.loop-reader.reader) _ _ c.loop-reader.invariant.0 c.in-Ok.ensures.bytes.0 (omega (arith, taken, whole, room, c.room-room.ensures.few, c.read.auto.buf)) c.in-Err-feed.ensures.stops
 
 pub returns-in-Err-feed-clause-source_fault : goal.returns-in-Err-feed-clause-source_fault
 returns-in-Err-feed-clause-source_fault g c =
