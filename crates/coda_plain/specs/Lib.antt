@@ -1,0 +1,9 @@
+pub mod Histories
+pub mod Deeds
+pub mod Decisions
+pub mod Cell
+pub mod Moves
+pub mod Logs
+pub mod Sound
+pub mod Laws
+pub mod Promises
