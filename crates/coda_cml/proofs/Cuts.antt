@@ -63,7 +63,7 @@ module _ (j : ℕ) where
   stays_low front os a c n = subst (λ l. records_upto j (added l os) ≡ records_upto j l) (append_nil front) (stays_upto front [] os a tt c (λ x. n (subst (λ l. IsJoined j l os) (append_nil front) x)))
 
   pub begun : (x : List Record) → Carry (fold x) x []
-  begun x = record { about = λ f h. mentions_in_added f [] x refl h; fresh = λ f h. absurd (false≢true h); safe = tt; red = tt }
+  begun x = record { about = λ f h. mentions_in_added f [] x refl h; fresh = λ f h. absurd (false≢true h); safe = tt; lean = tt }
 
   abbrev Cut : List Record → List Record → Type 0
   Cut rs os = IsJoined j rs os → ⊥

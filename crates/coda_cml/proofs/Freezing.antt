@@ -11,14 +11,14 @@ use Rattle.coda_cancel.specs.Cancel.{added, fold}
 use Rattle.coda_cancel.specs.Numbers.{AreUpTo, AreAbove, IsRising}
 use Rattle.coda_cml.specs.declared.segment.Segment.{Segment}
 use Rattle.coda_cml.specs.Steady.{IsSteady}
-use Rattle.coda_cml.specs.Segments.{is_joined, joined, put_front, single, count_of, segments_by, segments_of}
+use Rattle.coda_cml.specs.Segments.{is_joined, joined, put_front, single, count_of, segments_by, segments_of, end_of, last_in}
 use Rattle.coda_cml.specs.declared.frozen.Frozen.{Frozen}
 use Rattle.coda_cml.specs.declared.fault.FreezeFault.{FreezeFault}
 use Rattle.coda_cml.specs.declared.fault.FreezeFault.TheVariants.{Nothing}
 use Rattle.coda_cml.specs.Chunks.{is_filled, too_young, freeze_refusal, first_filled, chunk_length}
 use Rattle.coda_cml.specs.Regrouping.{leading}
 use Rattle.coda_cml.specs.State.{LogState, IsLogOf}
-use Rattle.coda_cml.specs.Steps.{end_of, frozen_to}
+use Rattle.coda_cml.specs.Steps.{frozen_to}
 use Rattle.coda_cml.proofs.Numbered.{IsJoined, joined_fact, cut_fact, cut_test}
 use Rattle.coda_cml.proofs.Near.{append_nil}
 use Rattle.coda_cml.proofs.Thaw.{added-append}
@@ -30,7 +30,7 @@ use Rattle.coda_cml.proofs.Splitting.{run_alone, back_fresh}
 
 -- ---- the operations of the first segments
 
-some_segment : (c : ℕ → Bool) (ks : List Record) (o : Record) (os : List Record) → (t : Segment) × (ts : List Segment) × (segments_by c ks (o ∷ os) ≡ t ∷ ts)
+pub some_segment : (c : ℕ → Bool) (ks : List Record) (o : Record) (os : List Record) → (t : Segment) × (ts : List Segment) × (segments_by c ks (o ∷ os) ≡ t ∷ ts)
 some_segment c ks o os = go (c o.number) (segments_by c ks os)
   where
     go : (b : Bool) (ss : List Segment) → (t : Segment) × (ts : List Segment) × (put_front b (single ks o) ss ≡ t ∷ ts)
@@ -53,13 +53,13 @@ one_taken k s true = (ap (λ l. s ∷ l) (take_none k [] refl), drop_none k [] r
 one_taken k s false = (ap (λ l. s ∷ l) (take_none k [] refl), drop_none k [] refl)
 
 -- where the first segments, so many, end
-record IsSplit (c : ℕ → Bool) (ks run : List Record) (k : ℕ) (front back : List Record) : Type 0 where
-  run_is : run ≡ front ++ back
-  taken : take k (segments_by c ks run) ≡ segments_by c ks front
-  left : drop k (segments_by c ks run) ≡ segments_by c ks back
-  ended : EndsAt c front
+pub record IsSplit (c : ℕ → Bool) (ks run : List Record) (k : ℕ) (front back : List Record) : Type 0 where
+  pub run_is : run ≡ front ++ back
+  pub taken : take k (segments_by c ks run) ≡ segments_by c ks front
+  pub left : drop k (segments_by c ks run) ≡ segments_by c ks back
+  pub ended : EndsAt c front
 
-split_at : (c : ℕ → Bool) (ks run : List Record) → EndsAt c run → (k : ℕ) → (front : List Record) × (back : List Record) × IsSplit c ks run k front back
+pub split_at : (c : ℕ → Bool) (ks run : List Record) → EndsAt c run → (k : ℕ) → (front : List Record) × (back : List Record) × IsSplit c ks run k front back
 split_at c ks run e zero = ([], run, record { run_is = refl; taken = refl; left = refl; ended = tt })
 split_at c ks [] e (suc k) = ([], [], record { run_is = refl; taken = refl; left = refl; ended = tt })
 split_at c ks (o ∷ []) e (suc k) = (o ∷ [], [], record { run_is = refl; taken = one.0; left = one.1; ended = e })
@@ -115,6 +115,11 @@ pub last_number : Record → List Record → ℕ
 last_number o [] = o.number
 last_number o (p ∷ os) = last_number p os
 
+pub last_is : (o : Record) (os : List Record) → last_in (o ∷ os) ≡ Some (last_number o os)
+unfolding last_number
+last_is o [] = refl
+last_is o (p ∷ os) = last_is p os
+
 put_end : (b : Bool) (s t : Segment) (ts : List Segment) → end_of (put_front b s (t ∷ ts)) ≡ end_of (t ∷ ts)
 put_end true s t ts = refl
 put_end false s t [] = refl
@@ -124,7 +129,7 @@ one_end : (b : Bool) (s : Segment) → end_of (put_front b s []) ≡ s.last
 one_end true s = refl
 one_end false s = refl
 
-end_is : (c : ℕ → Bool) (ks : List Record) (o : Record) (os : List Record) → end_of (segments_by c ks (o ∷ os)) ≡ last_number o os
+pub end_is : (c : ℕ → Bool) (ks : List Record) (o : Record) (os : List Record) → end_of (segments_by c ks (o ∷ os)) ≡ last_number o os
 unfolding last_number
 end_is c ks o [] = one_end (c o.number) (single ks o)
 end_is c ks o (p ∷ os) =
@@ -141,7 +146,7 @@ unfolding last_number
 last_above o [] back r = r.0
 last_above o (p ∷ os) back r = last_above p os back r.1
 
-last_cut : (c : ℕ → Bool) (o : Record) (os : List Record) → EndsAt c (o ∷ os) → c (last_number o os) ≡ true
+pub last_cut : (c : ℕ → Bool) (o : Record) (os : List Record) → EndsAt c (o ∷ os) → c (last_number o os) ≡ true
 unfolding last_number
 last_cut c o [] e = e
 last_cut c o (p ∷ os) e = last_cut c p os e
@@ -188,7 +193,7 @@ upto_greater : (e n : ℕ) → e ≤ n → (rs : List Record) → AreUpTo e rs �
 upto_greater e n l [] a = tt
 upto_greater e n l (r ∷ rs) a = (omega (arith, a.0), upto_greater e n l rs a.1)
 
-leading_split : (e : ℕ) (ks js : List Record) → AreUpTo e ks → AreAbove e js → leading e (ks ++ js) ≡ length ks
+pub leading_split : (e : ℕ) (ks js : List Record) → AreUpTo e ks → AreAbove e js → leading e (ks ++ js) ≡ length ks
 leading_split e [] [] a b = refl
 leading_split e [] (j ∷ js) a b = let t : nat_le j.number e ≡ false = grind (arith, nat_tests, b.0) in ap (λ x. cond x (1 + leading e js) 0) t
 leading_split e (k ∷ ks) js a b = let t : nat_le k.number e ≡ true = grind (arith, nat_tests, a.0) in let m = leading_split e ks js a.1 b in ap (λ x. cond x (1 + leading e (ks ++ js)) 0) t ∙ omega (arith, m)
@@ -249,7 +254,7 @@ not_false : (b : Bool) → not b ≡ true → b ≡ false
 not_false true h = absurd (false≢true h)
 not_false false h = refl
 
-taken_some : (k : ℕ) (ss : List Segment) → 0 < length ss → take (suc k) ss ≡ [] → ⊥
+pub taken_some : (k : ℕ) (ss : List Segment) → 0 < length ss → take (suc k) ss ≡ [] → ⊥
 taken_some k [] h e = absurd (omega (arith, h))
 taken_some k (s ∷ ss) h e = absurd (cc)
 
@@ -282,6 +287,7 @@ frozen_log log run home (suc k) h s p q = go m.0 m.1 m.2
             rising = r;
             reached = subst (AreUpTo log.last) d.run_is h.reached;
             thawed = λ x. absurd (none-some _ (sym x));
+            sent = λ x. absurd (cc);
             chunk = ap (λ x. take (leading x log.records) log.records) at ∙ front_records (last_number o os) (o ∷ os) back t a b n log.records whole;
             chunk_segments = first;
             records = ap (λ x. drop (leading x log.records) log.records) at ∙ back_records (last_number o os) (o ∷ os) back t a b n log.records whole;

@@ -33,3 +33,6 @@ pub mod Omitting
 pub mod NeverMade
 pub mod Cancelling
 pub mod LongestFront
+pub mod Parting
+pub mod Fronts
+pub mod Temporary

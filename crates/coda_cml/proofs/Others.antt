@@ -17,7 +17,7 @@ use Rattle.coda_cml.specs.Steady.{any_record}
 use Rattle.coda_cancel.proofs.Debts.{Blind, creates-with_pre, mentioning-with_pre, no_change, writes-with_pre}
 
 -- a Store or Setattr is no other record of f
-write_is_none : (f : Fid) (r : Op) → is_write r ≡ true → (mentioning f r && not (writes f r)) ≡ false
+pub write_is_none : (f : Fid) (r : Op) → is_write r ≡ true → (mentioning f r && not (writes f r)) ≡ false
 write_is_none f (Store g pre c) e = go (same_fid g f)
   where
     go : (b : Bool) → ((b || false) && not b) ≡ false

@@ -3,7 +3,7 @@ use Rattle.std.proofs.Common.{◌≡◌, ℕ, zero, suc, ◌+◌, ◌<◌, Bool,
 use Rattle.std.proofs.lemmas.List.{append-nil}
 use Rattle.coda_cml.specs.declared.segment.Segment.{Segment}
 use Rattle.coda_cml.specs.Regrouping.{widen_front, rejoined}
-use Rattle.coda_cml.specs.Steps.{end_of}
+use Rattle.coda_cml.specs.Segments.{end_of}
 
 -- a segment alone stays alone
 pub rejoined_one : (g : ℕ → Bool) (s : Segment) → rejoined g (s ∷ []) ≡ s ∷ []

@@ -13,6 +13,7 @@ use Rattle.coda_cancel.specs.Cancel.{add, added, appended, cancels, debt, kept, 
 use Rattle.coda_cancel.specs.Numbers.{dropped, numbers}
 use Rattle.coda_cancel.proofs.Keys.{fid_same, fid_true, is_write}
 use Rattle.coda_cml.specs.Steady.{GoesOn, any_record, makes_in}
+use Rattle.coda_cml.specs.Lean.{IsLean, NothingNeedlessStays}
 use Rattle.coda_cancel.proofs.Debts.{Blind, creates-with_pre, dropped-with_pre, drops-with_pre, writes-with_pre}
 use Rattle.coda_cml.proofs.Near.{writes_write, append_nil, blind, drops_write, write_stays}
 use Rattle.coda_cml.proofs.Others.{OnlyMade}
@@ -21,25 +22,20 @@ use Rattle.coda_cml.proofs.Without.{any-append, any_kept_sub, any_sub, nothing_i
 use Rattle.coda_cml.proofs.Thaw.{SafeRun, cancels_created, cancels_drops, creates_in_add, safe_goes, safe_stays, step_goes, step_stays, still_goes, writes_mentions}
 use Rattle.coda_cml.proofs.Numbered.{In, IsJoined}
 
--- no record of the list is dropped by a later one
-abbrev pub Red : List Record → Type 0
-Red [] = Unit
-Red (r ∷ rs) = (any_record (λ x. drops x r.op) rs ≡ false) × Red rs
-
 blind_first : (r : Op) → Blind (λ x. drops x r)
 blind_first r h x = drops-with_pre h x r
 
-red_kept : (p : Op → Bool) (d : Debt) (rs : List Record) → Red rs → Red (kept p d rs)
-red_kept p d [] a = tt
-red_kept p d (r ∷ rs) a = cond_both (p r.op) (kept p (owe d (carried r.op)) rs) (hand d r ∷ kept p (paid d (carried r.op)) rs) Red
-    (λ e. red_kept p (owe d (carried r.op)) rs a.1)
-    (λ e. (false_from_ne_true _ (λ h. false≢true (sym a.0 ∙ (ap (λ t. any_record t rs) (λ i x. sym (dropped-with_pre (λ g q. sid_or (d g) q) x r.op) i) ∙ any_kept_sub (λ x. drops x (hand d r).op) (blind_first (hand d r).op) p (paid d (carried r.op)) rs h))), red_kept p (paid d (carried r.op)) rs a.1))
+lean_kept : (p : Op → Bool) (d : Debt) (rs : List Record) → IsLean rs → IsLean (kept p d rs)
+lean_kept p d [] a = tt
+lean_kept p d (r ∷ rs) a = cond_both (p r.op) (kept p (owe d (carried r.op)) rs) (hand d r ∷ kept p (paid d (carried r.op)) rs) IsLean
+    (λ e. lean_kept p (owe d (carried r.op)) rs a.1)
+    (λ e. (false_from_ne_true _ (λ h. false≢true (sym a.0 ∙ (ap (λ t. any_record t rs) (λ i x. sym (dropped-with_pre (λ g q. sid_or (d g) q) x r.op) i) ∙ any_kept_sub (λ x. drops x (hand d r).op) (blind_first (hand d r).op) p (paid d (carried r.op)) rs h))), lean_kept p (paid d (carried r.op)) rs a.1))
 
-red_without : (f : Fid) (rs : List Record) → Red rs → Red (without f rs)
-red_without f [] a = tt
-red_without f (r ∷ rs) a = cond_both (mentioning f r.op) (without f rs) (r ∷ without f rs) Red
-    (λ e. red_without f rs a.1)
-    (λ e. (false_from_ne_true _ (λ h. false≢true (sym a.0 ∙ any_sub (λ x. drops x r.op) f rs h)), red_without f rs a.1))
+lean_without : (f : Fid) (rs : List Record) → IsLean rs → IsLean (without f rs)
+lean_without f [] a = tt
+lean_without f (r ∷ rs) a = cond_both (mentioning f r.op) (without f rs) (r ∷ without f rs) IsLean
+    (λ e. lean_without f rs a.1)
+    (λ e. (false_from_ne_true _ (λ h. false≢true (sym a.0 ∙ any_sub (λ x. drops x r.op) f rs h)), lean_without f rs a.1))
 
 none_kept : (p : Op → Bool) → Blind p → (d : Debt) (rs : List Record) → any_record p (kept p d rs) ≡ false
 none_kept p b d [] = refl
@@ -49,17 +45,24 @@ none_kept p b d (r ∷ rs) = go (p r.op) refl (none_kept p b (owe d (carried r.o
     go true e x y = x
     go false e x y = λ i. (b (λ g q. sid_or (d g) q) r.op ∙ e) i || y i
 
-red_append : (rs : List Record) (o : Record) → Red rs → any_record (drops o.op) rs ≡ false → Red (rs ++ o ∷ [])
-red_append [] o a n = (refl, tt)
-red_append (r ∷ rs) o a n =
+lean_append : (rs : List Record) (o : Record) → IsLean rs → any_record (drops o.op) rs ≡ false → IsLean (rs ++ o ∷ [])
+lean_append [] o a n = (refl, tt)
+lean_append (r ∷ rs) o a n =
     let k = or_parts (drops o.op r.op) (any_record (drops o.op) rs) n in
-    (any-append (λ x. drops x r.op) rs (o ∷ []) ∙ (λ i. a.0 i || (k.0 i || false)), red_append rs o a.1 k.1)
+    (any-append (λ x. drops x r.op) rs (o ∷ []) ∙ (λ i. a.0 i || (k.0 i || false)), lean_append rs o a.1 k.1)
 
-pub red_add : (rs : List Record) (o : Record) → Red rs → Red (add rs o)
-red_add rs o a = cond_both (cancels o.op rs) (without (object (carried o.op)) rs) (appended rs o) Red
-    (λ e. red_without (object (carried o.op)) rs a)
-    (λ e. red_append (kept (drops o.op) nothing rs) (hand (debt (drops o.op) nothing rs) o) (red_kept (drops o.op) nothing rs a)
+pub lean_add : (rs : List Record) (o : Record) → IsLean rs → IsLean (add rs o)
+lean_add rs o a = cond_both (cancels o.op rs) (without (object (carried o.op)) rs) (appended rs o) IsLean
+    (λ e. lean_without (object (carried o.op)) rs a)
+    (λ e. lean_append (kept (drops o.op) nothing rs) (hand (debt (drops o.op) nothing rs) o) (lean_kept (drops o.op) nothing rs a)
     (ap (λ t. any_record t (kept (drops o.op) nothing rs)) (λ i x. drops-with_pre (λ g q. sid_or (debt (drops o.op) nothing rs g) q) o.op x i) ∙ none_kept (drops o.op) (blind o.op) nothing rs))
+
+lean_added : (rs os : List Record) → IsLean rs → IsLean (added rs os)
+lean_added rs [] a = a
+lean_added rs (o ∷ os) a = lean_added (add rs o) os (lean_add rs o a)
+
+pub nothing_needless : NothingNeedlessStays
+nothing_needless run = lean_added [] run tt
 
 -- ---- numbers
 
@@ -160,7 +163,7 @@ module _ (u : Op → Bool) (b : Blind u) (writing : (o : Op) → u o ≡ true �
   stays_all (x ∷ rs) y n h = stays_all rs (add y x) (λ o e. (or_parts (drops x.op o) (any_record (λ z. drops z o) rs) (n o e)).1) (stays_one x (λ o e. (or_parts (drops x.op o) (any_record (λ z. drops z o) rs) (n o e)).0) y h)
 
 -- a Store or Setattr of a reduced list is still there after the list is added
-pub write_there : (t : Op → Bool) → Blind t → ((o : Op) → t o ≡ true → is_write o ≡ true) → (i : ℕ) (rs y : List Record) → Red rs → In i (numbers t rs) → In i (numbers t (added y rs))
+pub write_there : (t : Op → Bool) → Blind t → ((o : Op) → t o ≡ true → is_write o ≡ true) → (i : ℕ) (rs y : List Record) → IsLean rs → In i (numbers t rs) → In i (numbers t (added y rs))
 write_there t b writing i [] y a h = absurd h
 write_there t b writing i (r ∷ rs) y a h = go (t r.op) refl h (write_there t b writing i rs (add y r) a.1)
   where
@@ -178,7 +181,7 @@ write_there t b writing i (r ∷ rs) y a h = go (t r.op) refl h (write_there t b
 
 -- ---- creations
 
-creates_mentions : (f : Fid) (o : Op) → creates f o ≡ true → mentioning f o ≡ true
+pub creates_mentions : (f : Fid) (o : Op) → creates f o ≡ true → mentioning f o ≡ true
 creates_mentions f (Create d n g mode owner) e = or_right (same_fid d f) (same_fid g f || false) (or_left (same_fid g f) false e)
 creates_mentions f (Mkdir d n g mode owner) e = or_right (same_fid d f) (same_fid g f || false) (or_left (same_fid g f) false e)
 creates_mentions f (Symlink d n g t mode owner) e = or_right (same_fid d f) (same_fid g f || false) (or_left (same_fid g f) false e)
@@ -268,7 +271,7 @@ blind_writes : (f : Fid) → Blind (writes f)
 blind_writes f h o = writes-with_pre h f o
 
 -- what is dropped from the tail's own fold is dropped from the fold of the whole
-dropped_go : (x rs : List Record) (o : Record) (i : ℕ) → cancels o.op rs ≡ true → any_record (mentioning (object (carried o.op))) x ≡ false → SafeRun x rs → Red rs → In i (dropped rs o) → In i (dropped (added x rs) o)
+dropped_go : (x rs : List Record) (o : Record) (i : ℕ) → cancels o.op rs ≡ true → any_record (mentioning (object (carried o.op))) x ≡ false → SafeRun x rs → IsLean rs → In i (dropped rs o) → In i (dropped (added x rs) o)
 dropped_go x rs o i e n s a h =
     let f : Fid = object (carried o.op) in
     let m : OnlyMade (object (carried o.op)) rs = only_made_of (object (carried o.op)) rs (cancels_seen o.op rs e).0 in
@@ -280,7 +283,7 @@ dropped_go x rs o i e n s a h =
     (write_there (writes (object (carried o.op))) (blind_writes (object (carried o.op))) (λ q k. writes_write (object (carried o.op)) q k) i rs x a w))
     (made_or_written (object (carried o.op)) i rs m h'))
 
-dropped_stay : (x rs : List Record) (o : Record) (i : ℕ) → cancels o.op rs ≡ false → Red rs → In i (dropped rs o) → In i (dropped (added x rs) o)
+dropped_stay : (x rs : List Record) (o : Record) (i : ℕ) → cancels o.op rs ≡ false → IsLean rs → In i (dropped rs o) → In i (dropped (added x rs) o)
 dropped_stay x rs o i e a h = go (cancels o.op (added x rs)) refl
   where
     there : In i (numbers (drops o.op) (added x rs))
@@ -296,7 +299,7 @@ pub record Carry (x before rs : List Record) : Type 0 where
   pub about : (f : Fid) → any_record (mentioning f) before ≡ false → any_record (mentioning f) x ≡ false
   pub fresh : (f : Fid) → any_record (creates f) rs ≡ true → any_record (mentioning f) x ≡ false
   pub safe : SafeRun x rs
-  pub red : Red rs
+  pub lean : IsLean rs
 
 pub carry_step : (x before rs : List Record) (o : Record) (os : List Record) → Carry x before rs → GoesOn before (added x rs) (o ∷ os) → (added x (add rs o) ≡ add (added x rs) o) × Carry x (before ++ o ∷ []) (add rs o) × ((i : ℕ) → In i (dropped rs o) → In i (dropped (added x rs) o))
 carry_step x before rs o os c g = (
@@ -305,14 +308,14 @@ carry_step x before rs o os c g = (
     about = λ f h. c.about f (or_parts (any_record (mentioning f) before) (any_record (mentioning f) (o ∷ [])) (sym (any-append (mentioning f) before (o ∷ [])) ∙ h)).0;
     fresh = λ f h. ⊎_elim (λ (k : any_record (creates f) rs ≡ true). c.fresh f k) (λ (k : creates f o.op ≡ true). c.about f (g.0 f k)) (or_cases (any_record (creates f) rs) (creates f o.op) (creates_in_add f rs o h));
     safe = eq.1;
-    red = red_add rs o c.red;
+    lean = lean_add rs o c.lean;
   },
   eq.2,
 )
   where
     next : (b : Bool) → cancels o.op rs ≡ b → (added x (add rs o) ≡ add (added x rs) o) × SafeRun x (add rs o) × ((i : ℕ) → In i (dropped rs o) → In i (dropped (added x rs) o))
-    next true e = let n : any_record (mentioning (object (carried o.op))) x ≡ false = c.fresh (object (carried o.op)) (cancels_created o.op rs e) in (step_goes x rs o e n c.safe, safe_goes x rs o e n c.safe, λ i h. dropped_go x rs o i e n c.safe c.red h)
-    next false e = (step_stays x rs o e, safe_stays x rs o e c.safe g.1, λ i h. dropped_stay x rs o i e c.red h)
+    next true e = let n : any_record (mentioning (object (carried o.op))) x ≡ false = c.fresh (object (carried o.op)) (cancels_created o.op rs e) in (step_goes x rs o e n c.safe, safe_goes x rs o e n c.safe, λ i h. dropped_go x rs o i e n c.safe c.lean h)
+    next false e = (step_stays x rs o e, safe_stays x rs o e c.safe g.1, λ i h. dropped_stay x rs o i e c.lean h)
 
     eq : (added x (add rs o) ≡ add (added x rs) o) × SafeRun x (add rs o) × ((i : ℕ) → In i (dropped rs o) → In i (dropped (added x rs) o))
     eq = next (cancels o.op rs) refl

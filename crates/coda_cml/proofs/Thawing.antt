@@ -126,6 +126,7 @@ thawed_log log front back h s = record {
   rising = h.rising;
   reached = h.reached;
   thawed = λ e. refl;
+  sent = λ e. refl;
   chunk = refl;
   chunk_segments = refl;
   records = (λ i. added (h.chunk i) (h.records i)) ∙ thaw front back s;

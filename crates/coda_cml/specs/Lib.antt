@@ -8,3 +8,6 @@ pub mod Steps
 pub mod Inside
 pub mod Room
 pub mod Longest
+pub mod Partition
+pub mod Fronts
+pub mod Lean

@@ -1,5 +1,5 @@
 -- How cancellation joins neighbouring operations of a run.
-use Rattle.std.specs.Prelude.{◌≡◌, ℕ, ◌+◌, Bool, true, false, not, cond, ◌==◌, ◌&&◌, ◌||◌, nat_le, nat_lt, max, List, [], ◌∷◌}
+use Rattle.std.specs.Prelude.{◌≡◌, ℕ, ◌+◌, Bool, true, false, not, cond, ◌==◌, ◌&&◌, ◌||◌, nat_le, nat_lt, max, if◌then◌else◌, Option, Some, None, List, [], ◌∷◌}
 use Rattle.std.specs.List.{list_any}
 use Rattle.coda_fid.specs.declared.op.Record.{Record}
 use Rattle.coda_cancel.specs.Cancel.{add, fold}
@@ -47,3 +47,20 @@ segments_of run = segments_by (λ number. not (is_joined number [] run)) (fold r
 abbrev pub records_upto : ℕ → List Record → List Record
 records_upto number [] = []
 records_upto number (rec ∷ recs) = cond (nat_le rec.number number) (rec ∷ records_upto number recs) (records_upto number recs)
+
+-- the records with numbers above this
+abbrev pub records_above : ℕ → List Record → List Record
+records_above number [] = []
+records_above number (rec ∷ recs) = if nat_lt number rec.number then rec ∷ records_above number recs else records_above number recs
+
+-- the number of the last operation of a run, if it has one
+abbrev pub last_in : List Record → Option ℕ
+last_in [] = None
+last_in (rec ∷ []) = Some rec.number
+last_in (rec ∷ next ∷ rest) = last_in (next ∷ rest)
+
+-- the number of the last operation of the segments, 0 where there are none
+abbrev pub end_of : List Segment → ℕ
+end_of [] = 0
+end_of (segment ∷ []) = segment.last
+end_of (segment ∷ next ∷ rest) = end_of (next ∷ rest)

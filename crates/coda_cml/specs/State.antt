@@ -21,11 +21,12 @@ pub record LogState : Type 0 where
 abbrev pub empty_log : LogState
 empty_log = record { frozen = None; chunk = []; chunk_segments = []; records = []; segments = []; last = 0; chunks = 0 }
 
--- the log of a run whose front is frozen: the records of each part, and its segments. Where nothing is frozen, the front is empty
+-- the log of a run whose front is frozen: the records of each part, and its segments. The front is empty exactly where nothing is frozen
 pub record IsLogOf (log : LogState) (front back : List Record) : Type 0 where
   pub rising : IsRising (front ++ back)
   pub reached : AreUpTo log.last (front ++ back)
   pub thawed : log.frozen ≡ None → front ≡ []
+  pub sent : front ≡ [] → log.frozen ≡ None
   pub chunk : log.chunk ≡ fold front
   pub chunk_segments : log.chunk_segments ≡ segments_of front
   pub records : log.records ≡ fold back

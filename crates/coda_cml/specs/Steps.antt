@@ -10,7 +10,7 @@ use Rattle.coda_cml.specs.declared.fault.SettleFault.{SettleFault}
 use Rattle.coda_cml.specs.declared.fault.SettleFault.TheVariants.{NotFrozen, WrongNumber}
 use Rattle.coda_cml.specs.declared.segment.Segment.{Segment}
 use Rattle.coda_cml.specs.declared.frozen.Frozen.{Frozen}
-use Rattle.coda_cml.specs.Segments.{single}
+use Rattle.coda_cml.specs.Segments.{single, end_of}
 use Rattle.coda_cml.specs.Regrouping.{is_inside, rejoined, leading, recounted}
 use Rattle.coda_cml.specs.State.{LogState}
 
@@ -21,12 +21,6 @@ segments_after segments recs rec = recounted (add recs rec) (rejoined (is_inside
 -- the log after an operation
 abbrev pub appended_to : LogState → Record → LogState
 appended_to log rec = record log { records = add log.records rec; segments = segments_after log.segments log.records rec; last = rec.number }
-
--- the number of the last operation of the segments, 0 where there are none
-abbrev pub end_of : List Segment → ℕ
-end_of [] = 0
-end_of (segment ∷ []) = segment.last
-end_of (segment ∷ next ∷ rest) = end_of (next ∷ rest)
 
 -- how many records the first segments have, so many
 abbrev pub records_in : ℕ → LogState → ℕ

@@ -1,4 +1,7 @@
 ghost use Rattle.coda_cml.specs.Longest.{ChunksAreLongest};
+ghost use Rattle.coda_cml.specs.Partition.{SegmentsPartTheFold};
+ghost use Rattle.coda_cml.specs.Fronts.{ChunksCutTheRun, NothingIsAnEmptyFold};
+ghost use Rattle.coda_cml.specs.Lean.{NothingNeedlessStays, TemporaryObjectsLeaveNothing};
 ghost use Rattle.coda_cml.specs.Laws.{ThawIsTheFold, SegmentsAreTheirFolds, CutsPartTheFold, ThawHasTheSegments, RestIsSteady, OperationsKeepSteady, AdditionsAreSound, CancellationIsSound, ConflictsOfFoldsAreReal};
 
 /// A law of cancellation: the records of the back of a steady run, added to those of its front, are the
@@ -60,4 +63,33 @@ pub fn conflicts_of_folds_are_real()
 /// (Mummert, Ebling and Satyanarayanan 1995: a chunk is a prefix of the log).
 pub fn chunks_are_the_longest()
     ensures { ChunksAreLongest }
+{}
+
+/// A law of chunks: where no refusal stands against it, the operations of a chunk are a front of the run, up to one behind
+/// which nothing drops a record of it.
+pub fn chunks_cut_the_run()
+    ensures { ChunksCutTheRun }
+{}
+
+/// A law of chunks: there is nothing to send exactly where cancellation leaves nothing of the run.
+pub fn nothing_is_an_empty_fold()
+    ensures { NothingIsAnEmptyFold }
+{}
+
+/// A law of segments: in turn, each has the records of its own numbers among what is left of the run, as many as it counts,
+/// and all are in one.
+pub fn segments_part_the_fold()
+    ensures { SegmentsPartTheFold }
+{}
+
+/// A law of cancellation: no record that is left of a run is made needless by a later one (Kistler and Satyanarayanan 1992:
+/// log optimizations).
+pub fn nothing_needless_stays()
+    ensures { NothingNeedlessStays }
+{}
+
+/// A law of cancellation: an object that is created, written any number of times and removed again leaves nothing in the log,
+/// where no record mentions it before (Kistler and Satyanarayanan 1992: identity cancellation).
+pub fn temporary_objects_leave_nothing()
+    ensures { TemporaryObjectsLeaveNothing }
 {}

@@ -5,7 +5,7 @@ ghost use Rattle.coda_cancel.specs.Joins.{noted};
 ghost use Rattle.coda_cancel.specs.Weights.{fits};
 ghost use Rattle.coda_cml.specs.Regrouping.{is_inside, rejoined, recounted};
 ghost use Rattle.coda_cml.specs.Room.{room_fits};
-ghost use Rattle.coda_cml.specs.Steps.{end_of};
+ghost use Rattle.coda_cml.specs.Segments.{end_of};
 
 use crate::choosing::{age, chunk_length, filled};
 use crate::regrouping::{leading, recount, rejoin};
@@ -53,12 +53,15 @@ impl Model for Log {
 impl Log {
     ghost use Rattle.std.specs.Prelude.{◌≡◌, ◌≢◌, ◌↔◌, ◌<◌, ◌≤◌, ◌+◌, ◌-◌, ◌^◌, ℕ, List, [], ◌∷◌, ◌++◌, false, None, Some, IsSome, IsOk, IfOk, OnOk, OnErr};
     ghost use Rattle.coda_fid.specs.declared.op.Record.{Record};
-    ghost use Rattle.coda_cancel.specs.Cancel.{add};
+    ghost use Rattle.coda_cancel.specs.Cancel.{add, fold};
     ghost use Rattle.coda_cancel.specs.Weights.{fits};
     ghost use Rattle.coda_cml.specs.Steady.{IsSteady};
     ghost use Rattle.coda_cml.specs.State.{empty_log, IsLogOf};
     ghost use Rattle.coda_cml.specs.Chunks.{chunk_length, freeze_refusal};
-    ghost use Rattle.std.specs.Prelude.{length as list_length};
+    ghost use Rattle.std.specs.Prelude.{length as list_length, option_map};
+    ghost use Rattle.coda_cml.specs.Segments.{segments_of, end_of, last_in, records_upto, records_above};
+    ghost use Rattle.coda_cml.specs.Fronts.{chunk_end};
+    ghost use Rattle.coda_cml.specs.Longest.{IsChunk};
     ghost use Rattle.coda_cml.specs.declared.fault.FreezeFault.{FreezeFault};
     ghost use Rattle.coda_cml.specs.Steps.{appended_to, cut_at, frozen_to, applied_to, thawed, settled, pending_after, settle_refusal, given_up};
     ghost use Rattle.coda_cml.specs.declared.fault.SettleFault.{SettleFault};
@@ -123,9 +126,22 @@ impl Log {
         (&self.chunk_segments, &self.segments)
     }
 
-    // Whether the log would keep within its limits after an operation.
-    fn has_room(&self, rec: &Record) -> bool
-        ensures { result ≡ fits 4096 16777216 (self.now.chunk ++ add self.now.records rec.now) }
+    /// The number of the last operation of the chunk that is on its way.
+    pub fn last_sent(&self) -> Option<u64>
+        ensures last { result ≡ option_map (λ chunk. end_of self.now.chunk_segments) self.now.frozen }
+        ensures run { (front back : List Record) → IsLogOf self.now front back → result ≡ last_in front }
+    {
+        match self.frozen {
+            Some(_) => Some(end_of(&self.chunk_segments)),
+            None => None,
+        }
+    }
+
+    /// Whether the log keeps within its limits with one more operation: whether its records are 4,096 at most then, and weigh
+    /// 16 MiB at most.
+    pub fn has_room(&self, rec: &Record) -> bool
+        ensures room { result ≡ fits 4096 16777216 (self.now.chunk ++ add self.now.records rec.now) }
+        ensures run { (front back : List Record) → IsLogOf self.now front back → result ≡ fits 4096 16777216 (fold front ++ fold (back ++ rec.now ∷ [])) }
     {
         match room_beside(self.chunk.records(), MOST_RECORDS, MOST_WEIGHT) {
             Some((count, weight)) => self.tail.fits_after(rec, count, weight),
@@ -206,7 +222,8 @@ impl Log {
         ensures causes { (why : FreezeFault) → why ≢ FreezeFault.Memory → ((result ≡ Err why) ↔ (freeze_refusal self.old.frozen now window self.old.segments ≡ Some why)) }
         ensures number { IfOk result (λ number. number ≡ self.old.chunks + 1) }
         ensures log { OnOk result (self.new ≡ frozen_to self.old home (chunk_length now window cap self.old.segments)) }
-        ensures run { (run : List Record) → IsLogOf self.old [] run → IsSteady run → OnOk result ((front : List Record) × (back : List Record) × (run ≡ front ++ back) × IsLogOf self.new front back) }
+        ensures longest { OnOk result (IsChunk now window cap self.old.segments (list_length self.new.chunk_segments)) }
+        ensures run { (run : List Record) → IsLogOf self.old [] run → IsSteady run → OnOk result (IsLogOf self.new (records_upto (chunk_end now window cap run) run) (records_above (chunk_end now window cap run) run)) }
         ensures err { OnErr result (self.new ≡ self.old) }
     {
         if let Some(why) = self.refusal(now, window) {
@@ -224,9 +241,11 @@ impl Log {
         Ok(self.chunks)
     }
 
-    // Why nothing is frozen.
-    fn refusal(&self, now: u64, window: u64) -> Option<FreezeFault>
-        ensures { result ≡ freeze_refusal self.now.frozen now window self.now.segments }
+    /// Why `freeze` would freeze nothing at this time with this window, if it would not: in this order `Frozen`, `Nothing`
+    /// or `Young`, as there.
+    pub fn refusal(&self, now: u64, window: u64) -> Option<FreezeFault>
+        ensures cause { result ≡ freeze_refusal self.now.frozen now window self.now.segments }
+        ensures run { (front back : List Record) → IsLogOf self.now front back → result ≡ freeze_refusal self.now.frozen now window (segments_of back) }
     {
         if let Some(chunk) = self.frozen {
             return Some(FreezeFault::Frozen(chunk.number, chunk.home));

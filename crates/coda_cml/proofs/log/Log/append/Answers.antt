@@ -23,16 +23,20 @@ invariant_of-self-2 c =
       reached = subst (λ l. AreUpTo c.args.rec.number (c.self.inside.chunk ++ l)) (sym c.in-Ok.ensures.ok) (upto_add_behind c.self.inside.last c.self.inside.chunk c.self.inside.tail c.args.rec c.self.invariant.reached later);
     }
 
-pub returns-clause-run : goal.returns-clause-run
-returns-clause-run c front back h =
-    let later : c.self.inside.last < c.args.rec.number = subst (λ (log : LogState). log.last < c.args.rec.number) (sym c.self.view_is) c.requires.later in
+pub returns-clause-log : goal.returns-clause-log
+returns-clause-log c =
     let records : c.add.new.self ≡ add c.self.inside.tail c.args.rec = c.in-Ok.ensures.ok in
     let counted : c.records.result.now ≡ add c.self.inside.tail c.args.rec = c.records.ensures.same ∙ records in
     let dropping : c.in-Ok.least ≡ least (dropped c.self.inside.tail c.args.rec) = c.in-Ok.ensures.least in
     let pushed : c.push_reserved.new.self.items ≡ c.self.inside.segments.items ++ single [] c.args.rec ∷ [] = c.push_reserved.ensures.items ∙ ap (λ l. l ++ single [] c.args.rec ∷ []) c.reserve.ensures.items in
     let segments : c.regroup_last.new.segments.items ≡ segments_after c.self.inside.segments.items c.self.inside.tail c.args.rec =
     c.regroup_last.ensures ∙ (λ i. recounted (counted i) (rejoined (is_inside (noted c.args.rec.number (dropping i))) (pushed i))) in
-    let new : LogState = record { frozen = c.self.inside.frozen; chunk = c.self.inside.chunk; chunk_segments = c.self.inside.chunk_segments.items; records = c.add.new.self; segments = c.regroup_last.new.segments.items; last = c.args.rec.number; chunks = c.self.inside.chunks } in
-    let same : new ≡ appended_to (state_of c.self.inside) c.args.rec =
+    let same : ◌≡◌ {A = LogState} (record { frozen = c.self.inside.frozen; chunk = c.self.inside.chunk; chunk_segments = c.self.inside.chunk_segments.items; records = c.add.new.self; segments = c.regroup_last.new.segments.items; last = c.args.rec.number; chunks = c.self.inside.chunks }) (appended_to (state_of c.self.inside) c.args.rec) =
     λ i. record { frozen = c.self.inside.frozen; chunk = c.self.inside.chunk; chunk_segments = c.self.inside.chunk_segments.items; records = records i; segments = segments i; last = c.args.rec.number; chunks = c.self.inside.chunks } in
-    subst (λ log. IsLogOf log front (back ++ c.args.rec ∷ [])) (sym same) (appended_log (state_of c.self.inside) front back c.args.rec later (subst (λ log. IsLogOf log front back) (sym c.self.view_is) h))
+    same ∙ ap (λ (log : LogState). appended_to log c.args.rec) c.self.view_is
+
+pub returns-clause-run : goal.returns-clause-run
+returns-clause-run c front back h =
+    let later : c.self.inside.last < c.args.rec.number = subst (λ (log : LogState). log.last < c.args.rec.number) (sym c.self.view_is) c.requires.later in
+    subst (λ log. IsLogOf log front (back ++ c.args.rec ∷ [])) (sym (returns-clause-log c ∙ ap (λ (log : LogState). appended_to log c.args.rec) (sym c.self.view_is)))
+    (appended_log (state_of c.self.inside) front back c.args.rec later (subst (λ log. IsLogOf log front back) (sym c.self.view_is) h))

@@ -1,0 +1,5 @@
+use Rattle.coda_cml.proofs.Parting.{segments_part}
+use Rattle.coda_cml.proofs.law.segments_part_the_fold.Goals as goal
+
+pub returns : goal.returns
+returns c = segments_part

@@ -1,0 +1,5 @@
+use Rattle.coda_cml.proofs.Temporary.{temporary}
+use Rattle.coda_cml.proofs.law.temporary_objects_leave_nothing.Goals as goal
+
+pub returns : goal.returns
+returns c = temporary
