@@ -7,7 +7,7 @@ use Rattle.coda_fid.specs.declared.op.Record.{Record}
 use Rattle.coda_certify.specs.declared.verdict.Verdict.{Verdict}
 use Rattle.coda_certify.specs.declared.verdict.Verdict.TheVariants.{Applied, Conflict}
 use Rattle.coda_cml.specs.Steady.{IsFresh, RemovesEmpty}
-use Rattle.coda_cml.specs.Segments.{IsCut, records_upto}
+use Rattle.coda_cml.specs.Segments.{IsCut, records_upto, records_above}
 use Rattle.coda_plain.specs.Histories.{left_by, told, DoFollow}
 
 -- an entry of a client's history, as one volume sees it
@@ -55,11 +55,6 @@ created_in (rec ∷ recs) = created_by rec.op + created_in recs
 abbrev pub IsMade : ℕ → List Deed → Fid → Type 0
 IsMade volume deeds fid = (fid.volume ≡ volume) × ((fid.vnode ≡ 0) ⊎ (fid.uniq ≤ created_in (full_of deeds)))
 
--- the records with numbers above this
-abbrev pub above : ℕ → List Record → List Record
-above number [] = []
-above number (rec ∷ recs) = if nat_le rec.number number then above number recs else rec ∷ above number recs
-
 -- ---- the course of the volume
 
 -- where a chunk goes, and the last operation in it
@@ -99,7 +94,7 @@ course_of deeds = left_by course_after no_course deeds
 
 -- the operations that are pending: those behind the last one that was applied or given up
 abbrev pub pending_of : List Deed → List Record
-pending_of deeds = above (course_of deeds).done (full_of deeds)
+pending_of deeds = records_above (course_of deeds).done (full_of deeds)
 
 -- ---- chunks
 

@@ -4,10 +4,10 @@ use Rattle.coda_fid.specs.declared.fid.Fid.{Fid}
 use Rattle.coda_fid.specs.declared.op.Op.{Op}
 use Rattle.coda_cancel.specs.Dropping.{creates}
 use Rattle.coda_cancel.specs.Cancel.{fold}
-use Rattle.coda_cml.specs.Segments.{records_upto}
+use Rattle.coda_cml.specs.Segments.{records_upto, records_above}
 use Rattle.coda_cml.specs.Steady.{IsFresh}
 use Rattle.coda_certify.specs.declared.verdict.Verdict.{Verdict}
-use Rattle.coda_plain.specs.Deeds.{Deed, settlements_of, pending_of, above, MayFreeze, MayDo, AreLawful}
+use Rattle.coda_plain.specs.Deeds.{Deed, settlements_of, pending_of, MayFreeze, MayDo, AreLawful}
 use Rattle.coda_plain.specs.Logs.{front_of, back_of, LogAfter, BeginsWith}
 use Rattle.coda_plain.specs.Cell.{Actor, PlainCell, empty_cell, Joins, found_in}
 use Rattle.coda_plain.specs.Moves.{TheClient, TheReplica, Move, Recovers, May, after, done_on, IsNext, Moved}
@@ -66,4 +66,4 @@ SomeChunkIsSettled =
 -- Where a chunk is frozen, what cancellation leaves of what is pending is what it leaves of the chunk, and then what it leaves of the rest.
 abbrev pub FreezesPartTheLog : Type 0
 FreezesPartTheLog = (past : List Deed) (number last : ℕ) → AreLawful past → MayFreeze past number last
-    → fold (pending_of past) ≡ fold (records_upto last (pending_of past)) ++ fold (above last (pending_of past))
+    → fold (pending_of past) ≡ fold (records_upto last (pending_of past)) ++ fold (records_above last (pending_of past))
