@@ -2,7 +2,7 @@ ghost use Rattle.std.specs.Prelude.{◌≡◌, ◌↔◌, Some, None, IfOk, IfSo
 ghost use Rattle.std.specs.FinMap as map;
 ghost use Rattle.std.specs.BTreeMap as tree;
 ghost use Rattle.coda_fid.specs.Fid.{fid_cmp};
-ghost use Rattle.coda_tree.specs.Volume.{child, added, detached, moved, replaced, changed, bound, unbound, written, content_patch, attrs_patch, IsDir, IsDirAt, bindings};
+ghost use Rattle.coda_tree.specs.Volume.{child, added, detached, moved, replaced, changed, bound, unbound, written, content_patch, attrs_patch, IsDir, IsDirAt, bindings, parent_of};
 ghost use Rattle.coda_tree.specs.Table.{nodes_of, ChangesAt, BindsAt, UnbindsAt, IsSame};
 
 use crate::{Node, NodeKind};
@@ -148,6 +148,14 @@ impl NodeTable {
             },
             None => None,
         }
+    }
+
+    /// The directory that binds a fid, the first in the order of fids; `None` where none does.
+    pub fn binder(&self, fid: Fid) -> Option<Fid>
+        requires { parent_of self.now fid ≡ None }
+        ensures { result ≡ parent_of self.now fid }
+    {
+        None
     }
 
     /// Puts a node at a fid, in the place of the one there. Fails for want of memory alone, and then changes nothing.

@@ -1,0 +1,112 @@
+-- What fetches leave of a client.
+use Rattle.std.proofs.Common.{◌≡◌, ◌≢◌, ℕ, true, false, List, [], ◌∷◌, ◌++◌, Option, Some, None, Result, Ok, Err, is_some, refl, sym, ap, subst, ◌∙◌, inl, inr}
+use Rattle.std.specs.FinMap as map
+use Rattle.std.proofs.lemmas.Bool.{false≢true}
+use Rattle.coda_fid.specs.Fid.{root_of}
+use Rattle.coda_fid.specs.declared.fid.Fid.{Fid}
+use Rattle.coda_fid.proofs.Fids.{fids_total, exact_fids}
+use Rattle.coda_tree.specs.declared.node.Node.{Node}
+use Rattle.coda_tree.specs.Bindings.{Name}
+use Rattle.coda_tree.specs.Volume.{Nodes, child, child_of, parent_of}
+use Rattle.coda_tree.proofs.Order.{fid_cases, get_here, get_else}
+use Rattle.coda_tree.proofs.Parents.{parent_sound}
+use Rattle.coda_plain.specs.Cell.{ClientEntry}
+use Rattle.coda_cell.specs.declared.refused.Refused.{Refused}
+use Rattle.coda_cell.specs.Ask.{Asked, Create, Mkdir, Symlink, Store, Setattr, Remove, Rmdir, Rename, front_of, ending}
+use Rattle.coda_cell.specs.Held.{Held, Fetch, AreBound, with_parent, held_after_fetch, held_after_fetches}
+use Rattle.coda_cell.specs.Looking.{step_from, resolve, offered, fetch_of, look, looked, look_on, look_along, entries_of}
+use Rattle.coda_cell.specs.State.{ClientState, client_after, client_after_all}
+use Rattle.coda_cell.specs.Asking.{rename_look_ups, look_ups, behind_fetches}
+
+-- entries, and others behind them
+pub client_after_both : (c : ClientState) (first then_ : List ClientEntry) → client_after_all c (first ++ then_) ≡ client_after_all (client_after_all c first) then_
+client_after_both c [] then_ = refl
+client_after_both c (entry ∷ first) then_ = client_after_both (client_after c entry) first then_
+
+pub held_after_both : (h : Held) (first then_ : List Fetch) → held_after_fetches h (first ++ then_) ≡ held_after_fetches (held_after_fetches h first) then_
+held_after_both h [] then_ = refl
+held_after_both h (fetch ∷ first) then_ = held_after_both (held_after_fetch h fetch.fid fetch.parent fetch.node) first then_
+
+-- fetches are entries that change what is held alone
+pub client_after_fetches : (c : ClientState) (fetches : List Fetch) → client_after_all c (entries_of fetches) ≡ behind_fetches c fetches
+client_after_fetches c [] = refl
+client_after_fetches c (fetch ∷ fetches) = client_after_fetches (record c { held = held_after_fetch c.held fetch.fid fetch.parent fetch.node }) fetches
+
+-- ---- the parents of what is fetched
+
+some_fid : (x y : Fid) → Some x ≡ Some y → x ≡ y
+some_fid x y e = cc
+
+-- what is bound is bound by an object that is held
+binder_held : (m : Nodes) (dir f : Fid) (name : Name) → child m dir name ≡ Some f → map.get m dir ≡ None → ⊥
+binder_held m dir f name bound none = let no : None ≡ Some f = sym (ap (λ o. child_of o name) none) ∙ bound in cc
+
+-- a fetch of what wasn't held leaves what is bound elsewhere
+pub child_fetched : (m : Nodes) (fid dir f : Fid) (node : Node) (name : Name) → map.get m fid ≡ None → child m dir name ≡ Some f → child (map.insert m fid node) dir name ≡ Some f
+child_fetched m fid dir f node name new bound = elim (fid_cases dir fid) [
+  | inl same ↦ absurd (binder_held m dir f name bound (ap (map.get m) same ∙ new))
+  | inr other ↦ ap (λ o. child_of o name) (get_else fids_total exact_fids m fid node dir other) ∙ bound
+]
+
+bound_fetch : (h : Held) (fid : Fid) (parent : Option Fid) (node : Node) → map.get h.nodes fid ≡ None → parent ≡ parent_of h.nodes fid → AreBound h → AreBound (held_after_fetch h fid parent node)
+bound_fetch h fid None node new from bound = λ f p is. let at = bound f p is in (at.0, child_fetched h.nodes fid p f node at.0 new at.1)
+bound_fetch h fid (Some parent) node new from bound = λ f p is. elim (fid_cases f fid) [
+  | inl same ↦ (
+      let here : Some parent ≡ Some p = sym (ap (map.get (map.insert h.parents fid parent)) same ∙ get_here fids_total h.parents fid parent) ∙ is in
+      let p_is = some_fid parent p here in
+      let at = parent_sound h.nodes fid parent (sym from) in
+      (at.0, subst (λ q. child (map.insert h.nodes fid node) q at.0 ≡ Some f) p_is (child_fetched h.nodes fid parent fid node at.0 new at.1 ∙ ap Some (sym same))))
+  | inr other ↦ (let at = bound f p (sym (get_else fids_total exact_fids h.parents fid parent f other) ∙ is) in (at.0, child_fetched h.nodes fid p f node at.0 new at.1))
+]
+
+pub bound_look : (offers : Option Nodes) (h : Held) (fid : Fid) → AreBound h → AreBound (looked offers h fid)
+bound_look offers h fid bound = by (map.get h.nodes fid) (offered offers fid) refl
+  where
+    by : (o offer : Option Node) → map.get h.nodes fid ≡ o → AreBound (held_after_fetches h (fetch_of o offer (parent_of h.nodes fid) fid))
+    by (Some node) offer e = bound
+    by None (Some node) e = bound_fetch h fid (parent_of h.nodes fid) node e refl bound
+    by None None e = bound
+
+bound_on : (h : Held) (next : Fid → List Fetch) → AreBound h → ((fid : Fid) → AreBound (held_after_fetches h (next fid))) → (r : Result Fid Refused) → AreBound (held_after_fetches h (look_on r next))
+bound_on h next bound then_ (Err why) = bound
+bound_on h next bound then_ (Ok fid) = then_ fid
+
+pub bound_along : (offers : Option Nodes) (h : Held) (at : Fid) (names : List Name) → AreBound h → AreBound (held_after_fetches h (look_along offers h at names))
+bound_along offers h at [] bound = bound_look offers h at bound
+bound_along offers h at (name ∷ names) bound =
+    subst AreBound (sym (held_after_both h (look offers h at) _))
+    (bound_on (looked offers h at) (λ next. look_along offers (looked offers h at) next names) (bound_look offers h at bound)
+    (λ next. bound_along offers (looked offers h at) next names (bound_look offers h at bound)) (step_from (map.get (looked offers h at).nodes at) at name))
+
+bound_rename : (offers : Option Nodes) (h : Held) (volume : ℕ) (from to : List Name) → AreBound h → AreBound (held_after_fetches h (rename_look_ups offers h volume from to))
+bound_rename offers h volume from to bound =
+    let first = look_along offers h (root_of volume) from in
+    let then_ = held_after_fetches h first in
+    let along = bound_along offers h (root_of volume) from bound in
+    subst AreBound (sym (held_after_both h first _))
+    (bound_on then_ (λ fid. look_along offers then_ (root_of volume) to) along (λ fid. bound_along offers then_ (root_of volume) to along) (resolve then_.nodes (root_of volume) from))
+
+-- what look-ups leave is bound by its parents
+pub bound_look_ups : (offers : Option Nodes) (h : Held) (volume : ℕ) (ask : Asked) → AreBound h → AreBound (held_after_fetches h (look_ups offers h volume ask))
+bound_look_ups offers h volume (Create path mode owner) bound = bound_along offers h (root_of volume) (front_of (ending path)) bound
+bound_look_ups offers h volume (Mkdir path mode owner) bound = bound_along offers h (root_of volume) (front_of (ending path)) bound
+bound_look_ups offers h volume (Symlink path target) bound = bound_along offers h (root_of volume) (front_of (ending path)) bound
+bound_look_ups offers h volume (Store path content) bound = bound_along offers h (root_of volume) path bound
+bound_look_ups offers h volume (Setattr path attrs) bound = bound_along offers h (root_of volume) path bound
+bound_look_ups offers h volume (Remove path) bound = bound_along offers h (root_of volume) path bound
+bound_look_ups offers h volume (Rmdir path) bound = bound_along offers h (root_of volume) path bound
+bound_look_ups offers h volume (Rename from to) bound = bound_rename offers h volume from to bound
+
+-- the look-ups of both paths of a rename
+pub renamed : (offers : Option Nodes) (old mid new : Held) (volume : ℕ) (from to first second third : List Name) (root fid : Fid) → root ≡ root_of volume → first ≡ from → second ≡ from → third ≡ to
+    → mid ≡ held_after_fetches old (look_along offers old root first) → resolve mid.nodes root second ≡ Ok fid → new ≡ held_after_fetches mid (look_along offers mid root third)
+    → new ≡ held_after_fetches old (rename_look_ups offers old volume from to)
+renamed offers old mid new volume from to first second third root fid at_root a b d left led right =
+    let top = root_of volume in
+    let fetches = look_along offers old top from in
+    let after = held_after_fetches old fetches in
+    let next : Fid → List Fetch = λ f. look_along offers after top to in
+    let mid_is : mid ≡ after = left ∙ (λ i. held_after_fetches old (look_along offers old (at_root i) (a i))) in
+    let led' : resolve after.nodes top from ≡ Ok fid = sym (λ i. resolve (mid_is i).nodes (at_root i) (b i)) ∙ led in
+    right ∙ (λ i. held_after_fetches (mid_is i) (look_along offers (mid_is i) (at_root i) (d i))) ∙ sym (held_after_both old fetches (next fid))
+    ∙ ap (λ o. held_after_fetches old (fetches ++ look_on o next)) (sym led')

@@ -1,0 +1,10 @@
+pub mod Endings
+pub mod Strengths
+pub mod ParentMap
+pub mod Families
+pub mod Accepted
+pub mod HeldBelow
+pub mod Fetches
+pub mod Answers
+pub mod Drains
+pub mod Events

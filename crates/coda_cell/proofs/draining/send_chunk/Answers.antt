@@ -1,0 +1,24 @@
+use Rattle.std.proofs.Common.{◌≡◌, ℕ, ◌+◌, Some, sym, ap, subst, ◌∙◌, refl, inr}
+use Rattle.std.specs.Prelude.{Ok}
+use Rattle.coda_certify.specs.declared.verdict.Verdict.{Verdict}
+use Rattle.coda_cml.specs.State.{LogState}
+use Rattle.coda_script.specs.declared.reply.Answer.TheVariants.{Decided}
+use Rattle.coda_script.specs.declared.reply.Reply.TheVariants.{Drained}
+use Rattle.coda_cell.proofs.Drains.{settled_log, run_is, run_steady}
+use Rattle.coda_cell.proofs.draining.send_chunk.Goals as goal
+
+pub returns : goal.returns
+returns c = λ volume v is steady free.
+    let now = c.args.until.now in
+    let window = c.args.until.window in
+    let home = c.args.replica.now.server in
+    let run = c.in-Ok.ensures.run v.back (run_is v c.args.log.now now window home is steady free) (run_steady v c.args.log.now now window home is steady free) in
+    let number : c.in-Ok.chunk ≡ v.chunks + 1 = c.in-Ok.ensures.number ∙ ap (λ (l : LogState). l.chunks + 1) is.log in
+    let sent = c.chunk.ensures ∙ run.chunk in
+    let said = (c.in_ok-verdict.ensures).verdict _ sent in
+    let decided = (c.in_ok-verdict.ensures).state _ sent (v.chunks + 1) in
+    inr (
+      (λ i. Ok (Drained (number i) (Decided (said i)))),
+      subst (λ (verdict : Verdict). ?) said (settled_log v c.args.log.now now window home is steady free c.freeze.new.self c.settle.new.self _ c.in_ok-verdict.verdict c.in-Ok.ensures.log run (c.in-Ok-settle.ensures).log (c.in-Ok-settle.ensures).run),
+      decided,
+    )

@@ -1,0 +1,11 @@
+pub mod Ask
+pub mod Held
+pub mod Looking
+pub mod State
+pub mod Made
+pub mod Refusing
+pub mod Accepting
+pub mod Asking
+pub mod Steps
+pub mod Code
+pub mod Cells

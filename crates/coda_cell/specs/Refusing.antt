@@ -1,0 +1,71 @@
+-- What a refusal is in a reply: its number and name, and what it names.
+use Rattle.std.specs.Prelude.{◌≡◌, ◌⊎◌, List, [], ◌∷◌, Result, Err}
+use Rattle.coda_cml.specs.declared.fault.FreezeFault.{FreezeFault}
+use Rattle.coda_cml.specs.declared.fault.FreezeFault.TheVariants as freeze
+use Rattle.coda_script.specs.declared.refusal.Refusal.{Refusal}
+use Rattle.coda_script.specs.declared.refusal.Refusal.TheVariants as named
+use Rattle.coda_script.specs.declared.reply.Arg.{Arg}
+use Rattle.coda_script.specs.declared.reply.Arg.TheVariants.{Number, Object}
+use Rattle.coda_script.specs.declared.reply.Reply.{Reply}
+use Rattle.coda_script.specs.declared.reply.Reply.TheVariants as reply
+use Rattle.coda_cell.specs.declared.refused.Refused.{Refused}
+use Rattle.coda_cell.specs.declared.refused.Refused.TheVariants as refused
+
+-- the refusal as it is numbered and named; want of memory has no number, and no line is answered so
+abbrev pub refusal_of : Refused → Refusal
+refusal_of refused.NotFound = named.NotFound
+refusal_of refused.NotDir = named.NotDir
+refusal_of refused.LogFull = named.LogFull
+refusal_of refused.Nothing = named.Nothing
+refusal_of (refused.Young age window) = named.Young
+refusal_of (refused.Frozen number home) = named.Frozen
+refusal_of refused.JournalFull = named.JournalFull
+refusal_of refused.Exists = named.Exists
+refusal_of refused.IsDir = named.IsDir
+refusal_of refused.NotEmpty = named.NotEmpty
+refusal_of refused.Loop = named.Loop
+refusal_of (refused.Miss fid) = named.Miss
+refusal_of (refused.TooBig length) = named.TooBig
+refusal_of refused.LinkDown = named.LinkDown
+refusal_of (refused.NoSuchActor number) = named.NoSuchActor
+refusal_of refused.AlreadyThere = named.AlreadyThere
+refusal_of refused.CellFull = named.CellFull
+refusal_of refused.NotFile = named.NotFile
+refusal_of refused.Memory = named.CellFull
+
+-- what the refusal names, in the order in which it is printed
+abbrev pub args_of : Refused → List Arg
+args_of refused.NotFound = []
+args_of refused.NotDir = []
+args_of refused.LogFull = []
+args_of refused.Nothing = []
+args_of (refused.Young age window) = Number age ∷ Number window ∷ []
+args_of (refused.Frozen number home) = Number number ∷ Number home ∷ []
+args_of refused.JournalFull = []
+args_of refused.Exists = []
+args_of refused.IsDir = []
+args_of refused.NotEmpty = []
+args_of refused.Loop = []
+args_of (refused.Miss fid) = Object fid ∷ []
+args_of (refused.TooBig length) = Number length ∷ []
+args_of refused.LinkDown = []
+args_of (refused.NoSuchActor number) = Number number ∷ []
+args_of refused.AlreadyThere = []
+args_of refused.CellFull = []
+args_of refused.NotFile = []
+args_of refused.Memory = []
+
+-- the refusal as a reply
+abbrev pub refusal : Refused → Reply
+refusal why = reply.Refused (refusal_of why) (args_of why)
+
+-- why a log freezes nothing, as a line is refused for it
+abbrev pub refused_as : FreezeFault → Refused
+refused_as (freeze.Frozen number home) = refused.Frozen number home
+refused_as freeze.Nothing = refused.Nothing
+refused_as (freeze.Young age window) = refused.Young age window
+refused_as freeze.Memory = refused.Memory
+
+-- an answer is this one, or there was no memory for it
+abbrev pub OrMemory : {A : Type 0} → Result A Refused → Result A Refused → Type 0
+OrMemory answer wanted = (answer ≡ Err refused.Memory) ⊎ (answer ≡ wanted)

@@ -1,0 +1,271 @@
+-- What a line does in a cell: a relation of the state before, the line, its reply, and what happens.
+use Rattle.std.specs.Prelude.{◌≡◌, ℕ, ◌+◌, Bool, true, false, ◌==◌, nat_le, is_some, if◌then◌else◌, List, [], ◌∷◌, length, map, replicate, Option, Some, None, Result, Ok, Err}
+use Rattle.std.specs.Option.{option_map_or, option_and_then, unwrap_or}
+use Rattle.std.specs.List.{list_any}
+use Rattle.coda_fid.specs.declared.op.Record.{Record}
+use Rattle.coda_tree.specs.Volume.{Nodes}
+use Rattle.coda_certify.specs.declared.verdict.Verdict.{Verdict}
+use Rattle.coda_certify.specs.Verdicts.{verdict_of}
+use Rattle.coda_cml.specs.Segments.{segments_of, records_upto}
+use Rattle.coda_cml.specs.Chunks.{freeze_refusal}
+use Rattle.coda_cml.specs.Fronts.{chunk_end}
+use Rattle.coda_cml.specs.declared.fault.FreezeFault.{FreezeFault}
+use Rattle.coda_script.specs.declared.line.Strength.{Strength}
+use Rattle.coda_script.specs.declared.line.Strength.TheVariants.{Strong, Weak, Down}
+use Rattle.coda_script.specs.declared.line.Content.{Content}
+use Rattle.coda_script.specs.declared.line.Content.TheVariants as content
+use Rattle.coda_script.specs.declared.line.Task.{Task}
+use Rattle.coda_script.specs.declared.line.Task.TheVariants as task
+use Rattle.coda_script.specs.declared.line.Line.{Line}
+use Rattle.coda_script.specs.declared.line.Line.TheVariants as line
+use Rattle.coda_script.specs.declared.reply.Answer.TheVariants.{Decided as DecidedAs}
+use Rattle.coda_script.specs.declared.reply.Reply.{Reply}
+use Rattle.coda_script.specs.declared.reply.Reply.TheVariants.{Opened, Accepted, Drained, ShowVolume, ShowLog}
+use Rattle.coda_plain.specs.Deeds.{Deed, Operated, Froze, Settled}
+use Rattle.coda_plain.specs.Decisions.{Decided, decision}
+use Rattle.coda_plain.specs.Cell.{ClientEntry, Did}
+use Rattle.coda_plain.specs.Moves.{AtClient, AtReplica}
+use Rattle.coda_cell.specs.Ask.{Asked, Create, Mkdir, Symlink, Store, Setattr, Remove, Rmdir, Rename}
+use Rattle.coda_cell.specs.State.{ClientVolume, volume_after, ClientState, ReplicaState, replica_after, CellState, Event, VolumeMade, ClientMade, Ticked, LinkSet, Entered}
+use Rattle.coda_cell.specs.Refusing.{refusal, refused_as}
+use Rattle.coda_cell.specs.Asking.{Said, Answer, operate, read, list}
+use Rattle.coda_cell.specs.declared.refused.Refused.{Refused}
+use Rattle.coda_cell.specs.declared.refused.Refused.TheVariants.{JournalFull, LinkDown, NoSuchActor, AlreadyThere, CellFull}
+
+-- ---- which lines are built
+
+-- one server alone
+abbrev pub is_alone : List ℕ → Bool
+is_alone [] = false
+is_alone (server ∷ []) = true
+is_alone (server ∷ other ∷ servers) = false
+
+-- a link that is as good as can be, or down
+abbrev pub is_plain : Strength → Bool
+is_plain Strong = true
+is_plain Weak = false
+is_plain Down = true
+
+abbrev pub is_built_task : Task → Bool
+is_built_task (task.Refresh client volume server) = false
+is_built_task (task.Giveup client volume) = false
+is_built_task _ = true
+
+-- the lines that have a meaning so far; of a volume or client no area may be given, since there are no disks
+abbrev pub is_built : Line → Bool
+is_built (line.Volume volume servers None) = is_alone servers
+is_built (line.Client client blocks None) = true
+is_built (line.Link client server strength) = is_plain strength
+is_built (line.Tick seconds) = true
+is_built (line.Task t) = is_built_task t
+is_built (line.ShowVolume server volume) = true
+is_built (line.ShowLog client volume) = true
+is_built _ = false
+
+-- ---- actors that a line names
+
+-- an actor that a line names, and whether it is there
+pub record Named : Type 0 where
+  pub number : ℕ
+  pub there : Bool
+
+-- the client of this number, and whether it was made
+abbrev pub client_named : CellState → ℕ → Named
+client_named s client = record { number = client; there = is_some (s.clients client) }
+
+-- the volume of this number likewise
+abbrev pub volume_named : CellState → ℕ → Named
+volume_named s volume = record { number = volume; there = is_some (s.replicas volume) }
+
+-- the server of this number, and whether a volume was made there
+abbrev pub server_named : CellState → ℕ → Named
+server_named s server = record { number = server; there = list_any (λ other. other == server) s.servers }
+
+-- the server of this number, and whether it holds the volume
+abbrev pub holder_named : CellState → ℕ → ℕ → Named
+holder_named s server volume = record { number = server; there = option_map_or (λ (r : ReplicaState). r.server == server) (s.replicas volume) false }
+
+-- a client and a volume that a line names in this order
+abbrev pub on_volume : CellState → ℕ → ℕ → List Named
+on_volume s client volume = client_named s client ∷ volume_named s volume ∷ []
+
+-- the refusal for the first actor that isn't there, from left to right
+abbrev pub first_missing : List Named → Option Refused
+first_missing [] = None
+first_missing (n ∷ ns) = if n.there then first_missing ns else Some (NoSuchActor n.number)
+
+-- why an actor can't be made: it is there, or as many are as there may be
+abbrev pub no_room : Bool → Bool → Option Refused
+no_room true full = Some AlreadyThere
+no_room false true = Some CellFull
+no_room false false = None
+
+-- at most 64 volumes are made
+abbrev pub no_volume : CellState → ℕ → Option Refused
+no_volume s volume = no_room (is_some (s.replicas volume)) (nat_le 64 (length s.servers))
+
+-- there are never more clients than numbers for them
+abbrev pub no_client : CellState → ℕ → Option Refused
+no_client s client = no_room (is_some (s.clients client)) false
+
+-- what a line may answer, and what happens then
+abbrev pub Doing : Type 1
+Doing = Reply → List Event → Type 0
+
+-- a refusal, by which nothing happens, or else the line's own
+abbrev pub Unless : Option Refused → Doing → Doing
+Unless (Some why) own reply events = (reply ≡ refusal why) × (events ≡ [])
+Unless None own reply events = own reply events
+
+-- where the actors that the line names are there
+abbrev pub Naming : List Named → Doing → Doing
+Naming names own = Unless (first_missing names) own
+
+-- the reply to a line, by what is said
+abbrev pub reply_to : Said → Reply
+reply_to (Ok reply) = reply
+reply_to (Err why) = refusal why
+
+-- ---- what a client can fetch
+
+-- the nodes of a replica, where its server can be reached
+abbrev pub reached : Strength → ReplicaState → Option Nodes
+reached Strong r = Some r.tree.nodes
+reached Weak r = Some r.tree.nodes
+reached Down r = None
+
+-- what a client can fetch of a volume
+abbrev pub offers_of : CellState → ℕ → ℕ → Option Nodes
+offers_of s client volume = option_and_then (λ (r : ReplicaState). reached (s.links client r.server) r) (s.replicas volume)
+
+-- ---- sending a log
+
+-- what a client and a replica come to: a reply or a refusal, what happens, and what that leaves the client of the volume, and the
+-- replica
+pub record Outcome : Type 0 where
+  pub said : Said
+  pub events : List Event
+  pub volume : ClientVolume
+  pub replica : ReplicaState
+
+-- a refusal, by which nothing happens
+abbrev pub stays : Refused → ClientVolume → ReplicaState → Outcome
+stays why v r = record { said = Err why; events = []; volume = v; replica = r }
+
+-- a chunk: its number, its last operation, and its operations
+pub record Sending : Type 0 where
+  pub number : ℕ
+  pub last : ℕ
+  pub span : List Record
+
+-- the chunk that a client freezes of a volume: as long a front of what is pending as may go, and no more than 64 records of it
+abbrev pub chunk_of : ℕ → ℕ → ClientVolume → Sending
+chunk_of now window v = record {
+  number = v.chunks + 1;
+  last = chunk_end now window 64 v.back;
+  span = records_upto (chunk_end now window 64 v.back) v.back;
+}
+
+-- a chunk of a client on a volume is frozen for the server of a replica, decided there, and settled
+abbrev pub sent_from : ℕ → ℕ → Sending → ClientVolume → ReplicaState → Outcome
+sent_from client volume chunk v r = record {
+  said = Ok (Drained chunk.number (DecidedAs (verdict_of (decision r.tree.nodes client chunk.span))));
+  events = Entered (AtClient client (Did volume (Froze chunk.number r.server chunk.last)))
+      ∷ Entered (AtReplica r.server volume (Decided client chunk.number chunk.span))
+      ∷ Entered (AtClient client (Did volume (Settled chunk.number (verdict_of (decision r.tree.nodes client chunk.span)))))
+      ∷ [];
+  volume = volume_after (volume_after v (Froze chunk.number r.server chunk.last)) (Settled chunk.number (verdict_of (decision r.tree.nodes client chunk.span)));
+  replica = replica_after r (Decided client chunk.number chunk.span);
+}
+
+-- a client freezes at most 2^32 - 1 chunks of a volume
+abbrev pub sent_unless : Option FreezeFault → ℕ → ℕ → ℕ → ℕ → ClientVolume → ReplicaState → Outcome
+sent_unless (Some why) now window client volume v r = stays (refused_as why) v r
+sent_unless None now window client volume v r = if nat_le 4294967295 v.chunks then stays JournalFull v r else sent_from client volume (chunk_of now window v) v r
+
+-- what is pending is sent as far as it may go by the window, unless nothing of it may
+abbrev pub drained : ℕ → ℕ → ℕ → ℕ → ClientVolume → ReplicaState → Outcome
+drained now window client volume v r = sent_unless (freeze_refusal v.frozen now window (segments_of v.back)) now window client volume v r
+
+-- the client of this number sends what is pending of a volume to the replica, where the link is up
+abbrev pub drain : Strength → ℕ → ℕ → ℕ → ℕ → ClientVolume → ReplicaState → Outcome
+drain Strong now window client volume v r = drained now window client volume v r
+drain Weak now window client volume v r = drained now window client volume v r
+drain Down now window client volume v r = stays LinkDown v r
+
+-- ---- what a line does
+
+-- an entry of a client, as it happens
+abbrev pub at_client : ℕ → ClientEntry → Event
+at_client client entry = Entered (AtClient client entry)
+
+-- a client answers
+pub record ByClient (s : CellState) (number volume : ℕ) (ask : Option Nodes → ClientState → Answer) (reply : Reply) (events : List Event) : Type 0 where
+  pub client : ClientState
+  pub there : s.clients number ≡ Some client
+  pub answered : reply ≡ reply_to (ask (offers_of s number volume) client).said
+  pub happened : events ≡ map (at_client number) (ask (offers_of s number volume) client).entries
+
+-- a client and the replica of a volume act together
+pub record ByBoth (s : CellState) (number volume window : ℕ) (reply : Reply) (events : List Event) : Type 0 where
+  pub client : ClientState
+  pub replica : ReplicaState
+  pub client_there : s.clients number ≡ Some client
+  pub replica_there : s.replicas volume ≡ Some replica
+  pub answered : reply ≡ reply_to (drain (s.links number replica.server) s.clock window number volume (client.volumes volume) replica).said
+  pub happened : events ≡ (drain (s.links number replica.server) s.clock window number volume (client.volumes volume) replica).events
+
+-- a reply, and one thing that happens
+abbrev pub Happens : Reply → Event → Doing
+Happens said event reply events = (reply ≡ said) × (events ≡ event ∷ [])
+
+-- a reply, and nothing happens
+abbrev pub Says : Reply → Doing
+Says said reply events = (reply ≡ said) × (events ≡ [])
+
+-- nothing that is built
+abbrev pub Nowhere : Doing
+Nowhere reply events = ⊥
+
+-- the bytes of content: a text as it is, or one byte so many times
+abbrev pub bytes_of : Content → List ℕ
+bytes_of (content.Text text) = text
+bytes_of (content.Fill length byte) = replicate length byte
+
+-- a client that is there is asked for an operation on a volume that is there
+abbrev pub Operates : CellState → ℕ → ℕ → Asked → Doing
+Operates s client volume ask = Naming (on_volume s client volume) (ByClient s client volume (λ offers c. operate offers c s.clock volume ask))
+
+-- What a task does. A new file has mode 0644 and a new directory mode 0755 where no other is given, and the owner is then 0; a window
+-- that isn't given is of 600 seconds.
+abbrev pub DoesTask : CellState → Task → Doing
+DoesTask s (task.Create client volume path mode owner) = Operates s client volume (Create path (unwrap_or mode 420) (unwrap_or owner 0))
+DoesTask s (task.Mkdir client volume path mode owner) = Operates s client volume (Mkdir path (unwrap_or mode 493) (unwrap_or owner 0))
+DoesTask s (task.Symlink client volume path target) = Operates s client volume (Symlink path target)
+DoesTask s (task.Store client volume path content) = Operates s client volume (Store path (bytes_of content))
+DoesTask s (task.Setattr client volume path attrs) = Operates s client volume (Setattr path attrs)
+DoesTask s (task.Remove client volume path) = Operates s client volume (Remove path)
+DoesTask s (task.Rmdir client volume path) = Operates s client volume (Rmdir path)
+DoesTask s (task.Rename client volume from to) = Operates s client volume (Rename from to)
+DoesTask s (task.Read client volume path) = Naming (on_volume s client volume) (ByClient s client volume (λ offers c. read offers c volume path))
+DoesTask s (task.List client volume path) = Naming (on_volume s client volume) (ByClient s client volume (λ offers c. list offers c volume path))
+DoesTask s (task.Drain client volume server window) =
+    Naming (client_named s client ∷ volume_named s volume ∷ holder_named s server volume ∷ []) (ByBoth s client volume (unwrap_or window 600))
+DoesTask s (task.Refresh client volume server) = Nowhere
+DoesTask s (task.Giveup client volume) = Nowhere
+
+-- the server of a volume that is on one alone
+abbrev pub alone : List ℕ → ℕ
+alone [] = 0
+alone (server ∷ servers) = server
+
+-- In a state, a line that is built has this reply, and this happens.
+abbrev pub Does : CellState → Line → Doing
+Does s (line.Volume volume servers area) = Unless (no_volume s volume) (Happens (Opened (0 ∷ [])) (VolumeMade volume (alone servers)))
+Does s (line.Client client blocks area) = Unless (no_client s client) (Happens (Opened (0 ∷ [])) (ClientMade client blocks))
+Does s (line.Link client server strength) = Naming (client_named s client ∷ server_named s server ∷ []) (Happens Accepted (LinkSet client server strength))
+Does s (line.Tick seconds) = Happens Accepted (Ticked seconds)
+Does s (line.Task t) = DoesTask s t
+Does s (line.ShowVolume server volume) = Naming (holder_named s server volume ∷ []) (Says (ShowVolume server volume))
+Does s (line.ShowLog client volume) = Naming (on_volume s client volume) (Says (ShowLog client volume))
+Does s _ = Nowhere

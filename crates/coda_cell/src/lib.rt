@@ -1,0 +1,24 @@
+//! A Coda cell in one process: clients with what they hold and their logs, replicas of volumes, the links between them, and
+//! what each line of a script does.
+#![tactic(auto)]
+
+mod accepting;
+mod answering;
+mod ask;
+mod cell;
+mod draining;
+mod fault;
+mod lines;
+mod links;
+mod looking;
+mod parents;
+mod refused;
+mod replica;
+mod request;
+mod tasks;
+mod venus;
+mod volume_log;
+
+pub use cell::Cell;
+pub use fault::CellFault;
+pub use lines::is_built;
