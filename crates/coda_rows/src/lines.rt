@@ -1,156 +1,66 @@
-use crate::{faulty, odd, said};
-use coda_script::{Kind, Line, LineFault, read_line};
+// Lines of a script, each with what is made of it on the line below.
+use coda_script::{LineFault, read_line};
+use coda_text::{TextFault, printed, tokens, unquote};
 use std::alloc::{AllocError, Global};
-use std::test::Fail;
 
-/// More bytes than any line of these tests has.
-const MOST_BYTES: usize = 1_000_000;
+/// More bytes than any line of a row has.
+const MOST_BYTES: usize = 4_000_000;
 
-fn read(alloc: Global, line: &[u8]) -> Result<Option<Line>, LineFault> {
+// What a line says, as the debug text of its value; nothing; or its first wrong column and what is wrong there.
+fn said_by(alloc: Global, line: &[u8]) -> Result<String, AllocError> {
     if line.len() > MOST_BYTES {
-        return Ok(None);
+        return "too long".to_string(alloc);
     }
-    read_line(alloc, line)
+    match read_line(alloc, line) {
+        Ok(Some(said)) => format!(in alloc; "{said:?}"),
+        Ok(None) => Ok(String::new(alloc)),
+        Err(LineFault::BadLine { column, kind }) => format!(in alloc; "{column} {kind}"),
+        Err(LineFault::Memory) => Err(AllocError),
+    }
 }
 
-// A line with a byte so many times between two parts.
-fn line_of(
+// The words of a line: of each the span, and in angles the bytes that it stands for, as they are printed; or the span of the first that
+// is none.
+fn words_of(alloc: Global, line: &[u8]) -> Result<String, AllocError> {
+    let words = match tokens(alloc, line) {
+        Ok(words) => words,
+        Err(TextFault::BadWord { start, end }) => return format!(in alloc; "no word {start} {end}"),
+        Err(TextFault::Memory) => return Err(AllocError),
+    };
+    let mut text = String::new(alloc);
+    for word in words {
+        let (start, end) = (word.start, word.end);
+        let bytes = unquote(alloc, line.get(start..end).unwrap_or(b""))?;
+        let shown = printed(alloc, bytes.bytes())?;
+        let shown = std::str::from_utf8(shown.bytes()).unwrap_or("");
+        write!(text, "{start} {end} <{shown}> ")?;
+    }
+    Ok(text)
+}
+
+// The odd lines of a text, each with what is made of it on the line below.
+fn answered(
     alloc: Global,
-    front: &[u8],
-    count: usize,
-    byte: u8,
-    back: &[u8],
+    text: &[u8],
+    answer: fn(Global, &[u8]) -> Result<String, AllocError>,
 ) -> Result<Vec<u8>, AllocError> {
-    let mut line = front.to_vec(alloc)?;
-    for _time in 0..count {
-        line.push(byte)?;
+    let mut whole = Vec::new(alloc);
+    let lines = text.strip_suffix(b"\n").unwrap_or(text);
+    for line in lines.split(|byte| *byte == b'\n').step_by(2) {
+        whole.extend_from_slice(line)?;
+        whole.push(b'\n')?;
+        whole.extend_from_slice(answer(alloc, line)?.as_bytes())?;
+        whole.push(b'\n')?;
     }
-    line.extend_from_slice(back)?;
-    Ok(line)
+    Ok(whole)
 }
 
-#[test]
-fn lines_say_what_they_spell(rt: HostRuntime) -> Result<(), Fail> {
-    let alloc = rt.alloc();
-    let table = [
-        said::tasks(),
-        said::lines(),
-        said::options_left_out(),
-        said::threads(),
-    ];
-    for rows in table {
-        for (line, text) in rows {
-            let shown = match read(alloc, line)? {
-                Some(said) => format!(in alloc; "{said:?}")?,
-                None => String::new(alloc),
-            };
-            assert_eq!(rt; shown.as_str(), *text, "{line:?}");
-        }
-    }
-    Ok(())
+/// The lines of a text with what each says.
+pub fn said(alloc: Global, text: &[u8]) -> Result<Vec<u8>, AllocError> {
+    answered(alloc, text, said_by)
 }
 
-#[test]
-fn faulty_lines_have_a_column_and_a_kind(rt: HostRuntime) {
-    let alloc = rt.alloc();
-    let table = [
-        faulty::creations(),
-        faulty::symlinks_and_stores(),
-        faulty::attributes(),
-        faulty::removals(),
-        faulty::renames(),
-        faulty::looks(),
-        faulty::sends(),
-        faulty::volumes_and_clients(),
-        faulty::links_and_ticks(),
-        faulty::hoards(),
-        faulty::messages(),
-        faulty::disks(),
-        faulty::replicas(),
-        odd::words(),
-        odd::numbers(),
-        odd::modes_and_options(),
-        odd::paths(),
-        odd::texts(),
-        odd::servers(),
-        odd::threads(),
-    ];
-    for rows in table {
-        for (line, column, kind) in rows {
-            let fault = LineFault::BadLine {
-                column: *column,
-                kind: *kind,
-            };
-            assert_eq!(rt; read(alloc, line).err(), Some(fault), "{line:?}");
-        }
-    }
-}
-
-#[test]
-fn silent_lines_say_nothing(rt: HostRuntime) -> Result<(), Fail> {
-    let alloc = rt.alloc();
-    let lines: [&[u8]; 7] = [
-        b"",
-        b" ",
-        b"\t \t",
-        b"#",
-        b"# \"x",
-        b" \t#\"x\x7f",
-        b"#at 1",
-    ];
-    for line in lines {
-        assert!(rt; read(alloc, line)?.is_none(), "{line:?}");
-    }
-    Ok(())
-}
-
-#[test]
-fn paths_and_texts_have_a_most_length(rt: HostRuntime) -> Result<(), Fail> {
-    let alloc = rt.alloc();
-    let rows: [(&[u8], usize, u8, &[u8], Option<(u32, Kind)>); 10] = [
-        (b"read 1 7 /", 255, b'n', b"", None),
-        (b"read 1 7 /", 256, b'n', b"", Some((10, Kind::Path))),
-        (b"read 1 7 \"/", 255, b'n', b"\"", None),
-        (b"read 1 7 \"/", 256, b'n', b"\"", Some((10, Kind::Path))),
-        (b"symlink 1 7 /l \"", 1024, b't', b"\"", None),
-        (
-            b"symlink 1 7 /l \"",
-            1025,
-            b't',
-            b"\"",
-            Some((16, Kind::Text)),
-        ),
-        (b"symlink 1 7 /l \"", 1023, b't', b"\\x41\"", None),
-        (
-            b"symlink 1 7 /l \"",
-            1024,
-            b't',
-            b"\\x41\"",
-            Some((16, Kind::Text)),
-        ),
-        (b"store 1 7 /f text \"", 100_000, b't', b"\"", None),
-        (b"tick ", 20, b'0', b"", None),
-    ];
-    for (front, count, byte, back, fault) in rows {
-        let line = line_of(alloc, front, count, byte, back)?;
-        let want = fault.map(|(column, kind)| LineFault::BadLine { column, kind });
-        assert_eq!(rt; read(alloc, &line).err(), want, "{front:?} {count}");
-    }
-    for (count, want) in [
-        (512, None),
-        (
-            513,
-            Some(LineFault::BadLine {
-                column: 10,
-                kind: Kind::Path,
-            }),
-        ),
-    ] {
-        let mut line = b"read 1 7 ".to_vec(alloc)?;
-        for _name in 0..count {
-            line.extend_from_slice(b"/n")?;
-        }
-        assert_eq!(rt; read(alloc, &line).err(), want, "{count} names");
-    }
-    Ok(())
+/// The lines of a text with the words of each.
+pub fn split(alloc: Global, text: &[u8]) -> Result<Vec<u8>, AllocError> {
+    answered(alloc, text, words_of)
 }
