@@ -1,4 +1,6 @@
 // Lines of a script, each with what is made of it on the line below.
+use crate::calls::Bench;
+use anyhow::Result;
 use coda_script::{LineFault, read_line};
 use coda_text::{TextFault, printed, tokens, unquote};
 use std::alloc::{AllocError, Global};
@@ -38,29 +40,48 @@ fn words_of(alloc: Global, line: &[u8]) -> Result<String, AllocError> {
     Ok(text)
 }
 
-// The odd lines of a text, each with what is made of it on the line below.
-fn answered(
-    alloc: Global,
-    text: &[u8],
-    answer: fn(Global, &[u8]) -> Result<String, AllocError>,
-) -> Result<Vec<u8>, AllocError> {
+// Puts a line and what is made of it.
+fn put_pair(whole: &mut Vec<u8>, line: &[u8], answer: String) -> Result<(), AllocError> {
+    whole.extend_from_slice(line)?;
+    whole.push(b'\n')?;
+    whole.extend_from_slice(answer.as_bytes())?;
+    whole.push(b'\n')?;
+    Ok(())
+}
+
+// A text without its last newline.
+fn without_end(text: &[u8]) -> &[u8] {
+    text.strip_suffix(b"\n").unwrap_or(text)
+}
+
+/// The odd lines of a text, each with what it says on the line below.
+pub fn said(alloc: Global, text: &[u8]) -> Result<Vec<u8>, AllocError> {
     let mut whole = Vec::new(alloc);
-    let lines = text.strip_suffix(b"\n").unwrap_or(text);
-    for line in lines.split(|byte| *byte == b'\n').step_by(2) {
-        whole.extend_from_slice(line)?;
-        whole.push(b'\n')?;
-        whole.extend_from_slice(answer(alloc, line)?.as_bytes())?;
-        whole.push(b'\n')?;
+    for line in without_end(text).split(|byte| *byte == b'\n').step_by(2) {
+        put_pair(&mut whole, line, said_by(alloc, line)?)?;
     }
     Ok(whole)
 }
 
-/// The lines of a text with what each says.
-pub fn said(alloc: Global, text: &[u8]) -> Result<Vec<u8>, AllocError> {
-    answered(alloc, text, said_by)
+/// The odd lines of a text, each with its words on the line below.
+pub fn split(alloc: Global, text: &[u8]) -> Result<Vec<u8>, AllocError> {
+    let mut whole = Vec::new(alloc);
+    for line in without_end(text).split(|byte| *byte == b'\n').step_by(2) {
+        put_pair(&mut whole, line, words_of(alloc, line)?)?;
+    }
+    Ok(whole)
 }
 
-/// The lines of a text with the words of each.
-pub fn split(alloc: Global, text: &[u8]) -> Result<Vec<u8>, AllocError> {
-    answered(alloc, text, words_of)
+/// The odd lines of a text, each a call, with its answer on the line below.
+pub fn answered(alloc: Global, text: &[u8]) -> Result<Vec<u8>> {
+    let mut whole = Vec::new(alloc);
+    let mut bench = Bench::new(alloc)?;
+    for line in without_end(text).split(|byte| *byte == b'\n').step_by(2) {
+        let mut words = Vec::new(alloc);
+        for word in std::str::from_utf8(line)?.split(' ') {
+            words.push(word)?;
+        }
+        put_pair(&mut whole, line, bench.answer(alloc, &words)?)?;
+    }
+    Ok(whole)
 }

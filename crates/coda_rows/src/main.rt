@@ -1,19 +1,27 @@
-//! The worked rows: each file of a folder has a script with its report, lines with what they say, or lines with their words. The
-//! program runs and reads them in the order of their names, and prints which are as they must be.
+//! The worked rows. Each file of a folder has a script, with its report in a file beside it, or lines of a script, or calls, each with
+//! what must be answered on the line below. The program goes through the folder in the order of names, and prints how each row
+//! compares.
 #![tactic(auto)]
 
+mod calls;
 mod comparing;
 mod header;
+#[cfg(test)]
+mod limits;
 mod lines;
+#[cfg(test)]
+mod memory;
+mod operations;
 mod outlets;
 mod repeats;
+#[cfg(test)]
+mod replies;
 mod scripts;
 
 use crate::comparing::comparison;
 use crate::repeats::repeated;
 use anyhow::{Context, Result};
-use std::io;
-use std::{env, fs};
+use std::{env, fs, io};
 
 // The names of the files of a folder, by their bytes.
 fn names_in(rt: &HostRuntime, folder: &str) -> io::Result<Vec<String>> {
@@ -50,6 +58,11 @@ fn row(rt: &HostRuntime, folder: &str, file: &str) -> Result<Option<String>> {
     if let Some(name) = file.strip_suffix(".words") {
         let wanted = file_in(rt, folder, name, ".words")?;
         let found = lines::split(alloc, &wanted)?;
+        return Ok(Some(comparison(alloc, name, &wanted, &found)?));
+    }
+    if let Some(name) = file.strip_suffix(".calls") {
+        let wanted = file_in(rt, folder, name, ".calls")?;
+        let found = lines::answered(alloc, &wanted)?;
         return Ok(Some(comparison(alloc, name, &wanted, &found)?));
     }
     Ok(None)

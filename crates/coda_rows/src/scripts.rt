@@ -20,7 +20,11 @@ fn ending(alloc: Global, status: Status) -> Result<String, AllocError> {
 }
 
 // Runs a script: how it ended, and what was written.
-fn outcome(alloc: Global, script: Vec<u8>, header: Header) -> Result<(Status, Vec<u8>), AllocError> {
+fn outcome(
+    alloc: Global,
+    script: Vec<u8>,
+    header: Header,
+) -> Result<(Status, Vec<u8>), AllocError> {
     let piece = header.piece.min(65_536) as usize;
     let mut source = Pieces::new(MemSource::new(script, header.failing_reads), piece);
     match header.room {
