@@ -4,6 +4,8 @@ use anyhow::{Result, bail};
 use coda_certify::{Reason, Verdict, certify, replay};
 use coda_cml::{FreezeFault, Log, Segment, SettleFault};
 use coda_fid::{Op, Record};
+use coda_report::{reply_text, volume_text};
+use coda_script::{Records, Reply};
 use coda_tree::Volume;
 use std::alloc::{AllocError, Global};
 
@@ -51,6 +53,16 @@ fn put_part(text: &mut String, segments: &[Segment], records: &[Record]) -> Resu
         }
     }
     Ok(())
+}
+
+// A text in one line: bars stand for its newlines.
+fn barred(alloc: Global, text: &[u8]) -> Result<String, AllocError> {
+    let mut line = String::new(alloc);
+    for part in std::str::from_utf8(text).unwrap_or("").lines() {
+        line.push_str(part)?;
+        line.push_str(" | ")?;
+    }
+    Ok(line)
 }
 
 fn verdict_text(alloc: Global, verdict: Verdict) -> Result<String, AllocError> {
@@ -179,14 +191,13 @@ impl Bench {
     }
 
     // `giveup`: the records.
-    fn give_up(&mut self, alloc: Global) -> Result<String, AllocError> {
+    fn give_up(&mut self, alloc: Global) -> Result<String> {
         match self.log.giveup() {
             Ok(records) => {
-                let mut text = "gave up".to_string(alloc)?;
-                put_part(&mut text, &[], &records)?;
-                Ok(text)
+                let text = reply_text(alloc, &Reply::GaveUp(Records::from_vec(records)))?;
+                Ok(barred(alloc, text.bytes())?)
             }
-            Err(fault) => format!(in alloc; "{fault}"),
+            Err(fault) => Ok(format!(in alloc; "{fault}")?),
         }
     }
 
@@ -201,8 +212,22 @@ impl Bench {
         Ok(text)
     }
 
+    // The volume, its lines behind bars.
+    fn show_volume(&self, alloc: Global) -> Result<String> {
+        let text = volume_text(alloc, &self.volume, 1)?;
+        Ok(barred(alloc, text.bytes())?)
+    }
+
     /// The answer to a call.
-    pub fn answer(&mut self, alloc: Global, words: &[&str]) -> Result<String> {
+    pub fn answer(&mut self, alloc: Global, line: &str) -> Result<String> {
+        let mut words = Vec::new(alloc);
+        for word in line.split(' ') {
+            words.push(word)?;
+        }
+        self.answer_words(alloc, &words)
+    }
+
+    fn answer_words(&mut self, alloc: Global, words: &[&str]) -> Result<String> {
         let behind = words.get(1..).unwrap_or(&[]);
         let text = match word(words, 0) {
             "new" => {
@@ -234,6 +259,7 @@ impl Bench {
             "settle" => self.settle(alloc, words)?,
             "giveup" => self.give_up(alloc)?,
             "log" => self.show(alloc)?,
+            "volume" => self.show_volume(alloc)?,
             _ => bail!("no call"),
         };
         Ok(text)

@@ -1,4 +1,5 @@
 // What the first lines of a script, which are comments, ask of its run.
+use crate::texts::lines;
 use anyhow::{Context, Result};
 use std::alloc::Global;
 
@@ -37,7 +38,7 @@ impl Header {
             status: "0: ".to_string(alloc)?,
         };
         header.words.push("run".to_string(alloc)?)?;
-        for line in script.split(|byte| *byte == b'\n') {
+        for line in lines(alloc, script)? {
             match std::str::from_utf8(line) {
                 Ok(text) if text.starts_with("# ") => header.put(alloc, text)?,
                 _ => break,

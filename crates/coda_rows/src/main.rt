@@ -3,23 +3,18 @@
 //! compares.
 #![tactic(auto)]
 
+mod answers;
 mod calls;
-mod comparing;
 mod header;
-#[cfg(test)]
-mod limits;
-mod lines;
-#[cfg(test)]
-mod memory;
 mod operations;
 mod outlets;
 mod repeats;
-#[cfg(test)]
-mod replies;
 mod scripts;
+mod texts;
 
-use crate::comparing::comparison;
+use crate::answers::{Kind, answered};
 use crate::repeats::repeated;
+use crate::texts::comparison;
 use anyhow::{Context, Result};
 use std::{env, fs, io};
 
@@ -34,9 +29,9 @@ fn names_in(rt: &HostRuntime, folder: &str) -> io::Result<Vec<String>> {
     Ok(names)
 }
 
-// A file of a folder, with its repetitions written out.
-fn file_in(rt: &HostRuntime, folder: &str, name: &str, ending: &str) -> Result<Vec<u8>> {
-    let path = format!(in rt.alloc(); "{folder}/{name}{ending}")?;
+// A file, with its repetitions written out.
+fn contents(rt: &HostRuntime, folder: &str, name: &str, ending: &str) -> Result<Vec<u8>> {
+    let path = format!(in rt.alloc(); "{folder}/{name}.{ending}")?;
     let bytes = fs::read(rt, path.as_str()).with_context(|| path.as_str())?;
     Ok(repeated(rt.alloc(), &bytes)?)
 }
@@ -44,28 +39,25 @@ fn file_in(rt: &HostRuntime, folder: &str, name: &str, ending: &str) -> Result<V
 // How the row of a file compares, where the file is one of a row.
 fn row(rt: &HostRuntime, folder: &str, file: &str) -> Result<Option<String>> {
     let alloc = rt.alloc();
-    if let Some(name) = file.strip_suffix(".coda") {
-        let script = file_in(rt, folder, name, ".coda")?;
-        let report = file_in(rt, folder, name, ".report")?;
-        let (wanted, found) = scripts::run(alloc, script, report)?;
-        return Ok(Some(comparison(alloc, name, &wanted, &found)?));
-    }
-    if let Some(name) = file.strip_suffix(".lines") {
-        let wanted = file_in(rt, folder, name, ".lines")?;
-        let found = lines::said(alloc, &wanted)?;
-        return Ok(Some(comparison(alloc, name, &wanted, &found)?));
-    }
-    if let Some(name) = file.strip_suffix(".words") {
-        let wanted = file_in(rt, folder, name, ".words")?;
-        let found = lines::split(alloc, &wanted)?;
-        return Ok(Some(comparison(alloc, name, &wanted, &found)?));
-    }
-    if let Some(name) = file.strip_suffix(".calls") {
-        let wanted = file_in(rt, folder, name, ".calls")?;
-        let found = lines::answered(alloc, &wanted)?;
-        return Ok(Some(comparison(alloc, name, &wanted, &found)?));
-    }
-    Ok(None)
+    let Some((name, ending)) = file.rsplit_once('.') else {
+        return Ok(None);
+    };
+    let kind = match ending {
+        "coda" => None,
+        "lines" => Some(Kind::Said),
+        "words" => Some(Kind::Words),
+        "calls" => Some(Kind::Calls),
+        _ => return Ok(None),
+    };
+    let text = contents(rt, folder, name, ending)?;
+    let (wanted, found) = match kind {
+        None => scripts::run(alloc, text, contents(rt, folder, name, "report")?)?,
+        Some(kind) => {
+            let found = answered(alloc, &text, kind)?;
+            (text, found)
+        }
+    };
+    Ok(Some(comparison(alloc, name, &wanted, &found)?))
 }
 
 fn main(rt: HostRuntime) -> Result<()> {

@@ -16,9 +16,9 @@ impl Pieces {
 }
 
 impl Source for Pieces {
-    ghost use Rattle.std.specs.Prelude.{Some};
+    ghost use Rattle.std.specs.Prelude.{None};
 
-    ghost left = { λ s. Some s.source.left };
+    ghost left = { λ _. None };
 
     ghost faults = { λ s. s.source.faults };
 

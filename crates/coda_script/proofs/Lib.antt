@@ -5,6 +5,7 @@ pub mod TurnSteps
 pub mod LineBytes
 pub mod AnyForm
 pub mod Avoiding
+pub mod Lettered
 pub mod Possible
 pub mod Clear
 pub mod Tabled

@@ -2,6 +2,7 @@
 #![tactic(auto)]
 
 mod actors;
+mod extras;
 mod fault;
 mod laws;
 mod line;
@@ -18,7 +19,7 @@ mod turns;
 pub use coda_engine::Kind;
 pub use fault::LineFault;
 pub use laws::each_line_has_a_spelling;
-pub use line::{Content, Expansion, Line, Servers, Strength, Task};
+pub use line::{Content, Expansion, Line, Rights, Rule, Servers, Strength, Task};
 pub use reading::read_line;
 pub use refusal::Refusal;
 pub use reply::{

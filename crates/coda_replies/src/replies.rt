@@ -1,14 +1,13 @@
 // Replies to lines that aren't built yet, with their texts.
 ghost use Rattle.coda_report.specs.Texts.{IsWhole};
 
-use crate::operations::operation;
 use anyhow::Result;
 use coda_certify::{Reason, Verdict};
-use coda_fid::{Fid, Name, Path, Record};
+use coda_fid::{Fid, Name, Path};
 use coda_report::reply_text;
 use coda_script::{
     Answer, Arg, Args, ClientState, Expansion, HoardEntries, HoardEntry, Mark, Marks, Numbers,
-    Records, Refusal, Reply, Undecided, Why,
+    Refusal, Reply, Undecided, Why,
 };
 use std::alloc::Global;
 use std::process::Abort;
@@ -249,41 +248,6 @@ fn replies_of_hoards_and_resolutions(rt: HostRuntime) -> Result<(), Fail> {
             touched: 9,
             marks: Marks::from_vec(marks),
         },
-        wanted,
-    )
-}
-
-/// Operations of every kind.
-const OPERATIONS: &str =
-    "create 0 f 1,mkdir 0 d 2,symlink 0 l 3,store 1 1.1,chmod 1 1.4 384,chown 1 1.5 6,remove 0 l 3 1.3,rmdir 0 d 2 1.2,\
-rename 0 f 0 g 1,rename 0 g 0 h 1 4 3.40";
-
-#[test]
-fn records_that_are_given_up(rt: HostRuntime) -> Result<(), Fail> {
-    let alloc = rt.alloc();
-    let mut records = Vec::new(alloc);
-    for (index, written) in OPERATIONS.split(',').enumerate() {
-        let mut words = Vec::new(alloc);
-        for word in written.split(' ') {
-            words.push(word)?;
-        }
-        let op = operation(alloc, &words)?;
-        let number = (index as u64).saturating_add(1);
-        records.push(Record {
-            number,
-            time: 5,
-            op,
-        })?;
-    }
-    let wanted =
-        "gave-up 10\n1 create 7.0.1 f 7.1.1 0644 0\n2 mkdir 7.0.1 d 7.1.2 0755 0\n3 symlink 7.0.1 l 7.1.3 0777 0 \"t\"\n\
-4 store 7.1.1 pre 1.1 7 \"content\"\n5 setattr 7.1.1 pre 1.4 mode 0600\n6 setattr 7.1.1 pre 1.5 owner 6\n\
-7 remove 7.0.1 l 7.1.3 pre 1.3\n8 rmdir 7.0.1 d 7.1.2 pre 1.2\n9 rename 7.0.1 f 7.0.1 g 7.1.1\n\
-10 rename 7.0.1 g 7.0.1 h 7.1.1 over 7.1.4 pre 3.40\n";
-    check(
-        &rt,
-        alloc,
-        Reply::GaveUp(Records::from_vec(records)),
         wanted,
     )
 }
