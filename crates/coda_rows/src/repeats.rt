@@ -23,7 +23,7 @@ fn bounds(text: &[u8]) -> Option<(u64, u64)> {
 }
 
 // The repetition at the front of what stands behind `{`; nothing where it is none.
-fn repetition(text: &[u8]) -> Option<Repetition<'_>> {
+fn first_repetition(text: &[u8]) -> Option<Repetition<'_>> {
     let end = text.iter().position(|byte| *byte == b'}')?;
     let (inside, rest) = text.split_at_checked(end)?;
     let blank = inside.iter().position(|byte| *byte == b' ')?;
@@ -73,7 +73,7 @@ pub fn repeated(alloc: Global, text: &[u8]) -> Result<Vec<u8>, AllocError> {
     let mut whole = Vec::new(alloc);
     let mut is_first = true;
     for part in text.split(|byte| *byte == b'{') {
-        match repetition(part) {
+        match first_repetition(part) {
             Some(repetition) if !is_first => put(alloc, &mut whole, &repetition)?,
             _ => {
                 if !is_first {

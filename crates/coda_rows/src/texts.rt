@@ -21,10 +21,8 @@ pub fn comparison(
         return format!(in alloc; "{name} ok");
     }
     let (wanted, found) = (lines(alloc, wanted)?, lines(alloc, found)?);
-    let mut at = 0;
-    while at < wanted.len() && wanted.get(at) == found.get(at) {
-        at += 1;
-    }
+    let pairs = wanted.iter().zip(found.iter());
+    let at = pairs.take_while(|pair| pair.0 == pair.1).count();
     let number = at.saturating_add(1);
     let wanted = String::from_utf8_lossy(alloc, wanted.get(at).copied().unwrap_or(b""))?;
     let found = String::from_utf8_lossy(alloc, found.get(at).copied().unwrap_or(b""))?;
