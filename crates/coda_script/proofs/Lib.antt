@@ -12,3 +12,4 @@ pub mod Tabled
 pub mod InRanges
 pub mod WholeLines
 pub mod EveryLine
+pub mod WrongColumns
