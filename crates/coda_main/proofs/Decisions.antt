@@ -321,6 +321,7 @@ kept_task cell (task.List client volume path) reply events does k = kept_shows c
 kept_task cell (task.Drain client volume server window) reply events does k =
     kept_unless (first_missing (client_named (state_of cell) client ∷ volume_named (state_of cell) volume ∷ holder_named (state_of cell) server volume ∷ [])) (ByBoth (state_of cell) client volume) cell reply events does
     (λ there own. kept_both cell client volume reply events own k) k
+kept_task cell (task.Hardlink client volume from to) reply events does k = absurd does
 kept_task cell (task.Refresh client volume server) reply events does k = absurd does
 kept_task cell (task.Giveup client volume) reply events does k = absurd does
 
@@ -354,6 +355,13 @@ kept_line cell (line.ArmReplica server volume passes) reply events does k = absu
 kept_line cell (line.Resolve volume servers) reply events does k = absurd does
 kept_line cell (line.Repair volume server path) reply events does k = absurd does
 kept_line cell (line.ShowLog client volume) reply events does k = absurd does
+kept_line cell (line.Trim message length) reply events does k = absurd does
+kept_line cell (line.Acl server volume path who plus minus) reply events does k = absurd does
+kept_line cell (line.Clone server volume) reply events does k = absurd does
+kept_line cell (line.Peek server volume number path) reply events does k = absurd does
+kept_line cell (line.Unclone server volume number) reply events does k = absurd does
+kept_line cell (line.Asr volume suffix rule) reply events does k = absurd does
+kept_line cell (line.Heal volume path) reply events does k = absurd does
 kept_line cell (line.ShowState client volume) reply events does k = absurd does
 
 kept_gives : (old new : PlainCell) (bytes text : List ℕ) (outside : List (List ℕ)) → LineGives old bytes text outside new → IsKept old → IsKept new

@@ -37,6 +37,7 @@ serves (task.Rename client volume from to) e h = record { built = refl; does = o
 serves (task.Read client volume path) e h = record { built = refl; does = of_same _ e h }
 serves (task.List client volume path) e h = record { built = refl; does = of_same _ e h }
 serves (task.Drain client volume server window) e h = let r = of_drain client volume server (is_whole window) e h in record { built = r.0; does = r.1 }
+serves (task.Hardlink client volume from to) e h = cc
 serves (task.Refresh client volume server) e h = cc
 serves (task.Giveup client volume) e h = cc
 
@@ -56,6 +57,7 @@ unserved (task.Rename client volume from to) h = cc
 unserved (task.Read client volume path) h = cc
 unserved (task.List client volume path) h = cc
 unserved (task.Drain client volume server window) h = not_whole (is_whole window) (errand.Drain client volume server) h
+unserved (task.Hardlink client volume from to) h = refl
 unserved (task.Refresh client volume server) h = refl
 unserved (task.Giveup client volume) h = refl
 

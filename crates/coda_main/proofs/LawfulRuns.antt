@@ -194,6 +194,7 @@ law_task cell (task.List client volume path) reply events does k =
 law_task cell (task.Drain client volume server window) reply events does k =
     law_unless (first_missing (client_named (state_of cell) client ∷ volume_named (state_of cell) volume ∷ holder_named (state_of cell) server volume ∷ [])) (ByBoth (state_of cell) client volume) cell reply events does
     (λ own. law_both cell client volume reply events own k) k
+law_task cell (task.Hardlink client volume from to) reply events does k = absurd does
 law_task cell (task.Refresh client volume server) reply events does k = absurd does
 law_task cell (task.Giveup client volume) reply events does k = absurd does
 

@@ -64,6 +64,7 @@ task_some s (task.Rename client volume from to) b = by_client s client volume _
 task_some s (task.Read client volume path) b = by_client s client volume _
 task_some s (task.List client volume path) b = by_client s client volume _
 task_some s (task.Drain client volume server window) b = by_both s client volume server
+task_some s (task.Hardlink client volume from to) b = absurd (false≢true b)
 task_some s (task.Refresh client volume server) b = absurd (false≢true b)
 task_some s (task.Giveup client volume) b = absurd (false≢true b)
 

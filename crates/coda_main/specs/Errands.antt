@@ -28,6 +28,7 @@ errand_of (task.Rename client volume from to) = Some (errand.Operate client volu
 errand_of (task.Read client volume path) = Some (errand.Read client volume path)
 errand_of (task.List client volume path) = Some (errand.List client volume path)
 errand_of (task.Drain client volume server window) = errand_unless (is_whole window) (errand.Drain client volume server)
+errand_of (task.Hardlink client volume from to) = None
 errand_of (task.Refresh client volume server) = None
 errand_of (task.Giveup client volume) = None
 

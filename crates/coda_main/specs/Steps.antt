@@ -220,6 +220,7 @@ DoesTask s (task.Rename client volume from to) = Operates s client volume (Renam
 DoesTask s (task.Read client volume path) = Naming (on_volume s client volume) (ByClient s client volume (λ offers c. read offers c volume path))
 DoesTask s (task.List client volume path) = Naming (on_volume s client volume) (ByClient s client volume (λ offers c. list offers c volume path))
 DoesTask s (task.Drain client volume server window) = Naming (client_named s client ∷ volume_named s volume ∷ holder_named s server volume ∷ []) (ByBoth s client volume)
+DoesTask s (task.Hardlink client volume from to) = Nowhere
 DoesTask s (task.Refresh client volume server) = Nowhere
 DoesTask s (task.Giveup client volume) = Nowhere
 

@@ -155,6 +155,7 @@ pub fn errand_of(alloc: Global, task: Task) -> Result<Option<Errand>, AllocError
             }));
         }
         Task::Drain { .. } => return Ok(None),
+        Task::Hardlink { .. } => return Ok(None),
         Task::Refresh { .. } => return Ok(None),
         Task::Giveup { .. } => return Ok(None),
     };

@@ -6,8 +6,8 @@ use Rattle.coda_engine.specs.declared.status.Kind.{Kind}
 use Rattle.coda_engine.specs.declared.status.Kind.TheVariants as kinds
 use Rattle.coda_text.specs.Words.{Split, Word, rest_of}
 use Rattle.coda_script.specs.declared.line.Line.{Line}
-use Rattle.coda_script.specs.Slots.{NumberSlot, number_in, path_in, text_in, is_word, is_server}
-use Rattle.coda_script.specs.Form.{Form, ends, nothing, either, a_number, a_path, a_text, perhaps, servers_above}
+use Rattle.coda_script.specs.Slots.{NumberSlot, number_in, path_in, name_in, rights_in, text_in, is_word, is_server}
+use Rattle.coda_script.specs.Form.{Form, ends, nothing, either, a_number, a_path, a_name, some_rights, a_text, perhaps, servers_above}
 use Rattle.coda_script.specs.Reading.{Fault, ◌>>=◌, value_at, slot_at, end_at, is_next, servers_at, option_at, read}
 use Rattle.coda_script.specs.Spelling.{begins, Spells}
 use Rattle.coda_script.proofs.Binding.{split, texts, ok_is, bind_ok, chosen, option_ok, next_begins, texts_cons, texts_nil, first_is, is_itself}
@@ -87,6 +87,16 @@ sound (a_path next) ws end breaks line e =
     let t = slot_took kinds.Path path_in ws end breaks b.0 b.1 in
     let s = sound (next b.0.0) t.1 end breaks line (rw t.4 at b.2) in
     (s.0, (t.0.text, texts t.1, ap texts t.2, b.0.0, t.3, s.1))
+sound (a_name next) ws end breaks line e =
+    let b = bind_ok (slot_at kinds.Path name_in (split ws end breaks)) (λ n. read (next n.0) n.1) line e in
+    let t = slot_took kinds.Path name_in ws end breaks b.0 b.1 in
+    let s = sound (next b.0.0) t.1 end breaks line (rw t.4 at b.2) in
+    (s.0, (t.0.text, texts t.1, ap texts t.2, b.0.0, t.3, s.1))
+sound (some_rights next) ws end breaks line e =
+    let b = bind_ok (slot_at kinds.Word rights_in (split ws end breaks)) (λ n. read (next n.0) n.1) line e in
+    let t = slot_took kinds.Word rights_in ws end breaks b.0 b.1 in
+    let s = sound (next b.0.0) t.1 end breaks line (rw t.4 at b.2) in
+    (s.0, (t.0.text, texts t.1, ap texts t.2, b.0.0, t.3, s.1))
 sound (a_text slot next) ws end breaks line e =
     let b = bind_ok (slot_at kinds.Text (text_in slot) (split ws end breaks)) (λ n. read (next n.0) n.1) line e in
     let t = slot_took kinds.Text (text_in slot) ws end breaks b.0 b.1 in
@@ -124,6 +134,12 @@ complete (a_number slot next) ws end line s =
 complete (a_path next) ws end line s =
     let w = texts_cons ws s.0 s.1 s.2 in
     rw (w.2, slot_again kinds.Path path_in w.0 w.1 end None s.3 (rw w.3 s.4)) (complete (next s.3) w.1 end line (spells_at (next s.3) line (texts w.1) s.1 w.4 s.5))
+complete (a_name next) ws end line s =
+    let w = texts_cons ws s.0 s.1 s.2 in
+    rw (w.2, slot_again kinds.Path name_in w.0 w.1 end None s.3 (rw w.3 s.4)) (complete (next s.3) w.1 end line (spells_at (next s.3) line (texts w.1) s.1 w.4 s.5))
+complete (some_rights next) ws end line s =
+    let w = texts_cons ws s.0 s.1 s.2 in
+    rw (w.2, slot_again kinds.Word rights_in w.0 w.1 end None s.3 (rw w.3 s.4)) (complete (next s.3) w.1 end line (spells_at (next s.3) line (texts w.1) s.1 w.4 s.5))
 complete (a_text slot next) ws end line s =
     let w = texts_cons ws s.0 s.1 s.2 in
     rw (w.2, slot_again kinds.Text (text_in slot) w.0 w.1 end None s.3 (rw w.3 s.4)) (complete (next s.3) w.1 end line (spells_at (next s.3) line (texts w.1) s.1 w.4 s.5))

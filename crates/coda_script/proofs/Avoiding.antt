@@ -3,8 +3,8 @@ use Rattle.std.proofs.Common.{◌≡◌, ℕ, Bool, true, false, ◌⊎◌, inl,
 use Rattle.std.specs.Prelude.{codes, ◌&&◌, not}
 use Rattle.coda_script.specs.declared.line.Line.{Line}
 use Rattle.coda_script.specs.Slots.{is_word}
-use Rattle.coda_script.specs.Form.{Form, ends, nothing, either, a_number, a_path, a_text, perhaps, servers_above}
-use Rattle.coda_script.specs.Table.{script, setup_forms, actor_forms, last_forms}
+use Rattle.coda_script.specs.Form.{Form, ends, nothing, either, a_number, a_path, a_name, some_rights, a_text, perhaps, servers_above}
+use Rattle.coda_script.specs.Table.{script, setup_forms, actor_forms, last_forms, extra_forms}
 use Rattle.coda_script.specs.Spelling.{begins, Spells}
 
 -- no spelling of the form begins with a word that the test holds of, as its words show
@@ -15,6 +15,8 @@ avoids test (either word so other) = not (test word) && avoids test other
 avoids test (perhaps word slot next) = not (test word) && avoids test (next None)
 avoids test (a_number slot next) = false
 avoids test (a_path next) = false
+avoids test (a_name next) = false
+avoids test (some_rights next) = false
 avoids test (a_text slot next) = false
 avoids test (servers_above all last next) = false
 
@@ -39,10 +41,12 @@ avoided (perhaps word slot next) test ws line a (inl s) = ap (begins test) s.2 �
 avoided (perhaps word slot next) test ws line a (inr s) = avoided (next None) test ws line (and_right (not (test word)) (avoids test (next None)) a) s.1
 avoided (a_number slot next) test ws line a s = absurd cc
 avoided (a_path next) test ws line a s = absurd cc
+avoided (a_name next) test ws line a s = absurd cc
+avoided (some_rights next) test ws line a s = absurd cc
 avoided (a_text slot next) test ws line a s = absurd cc
 avoided (servers_above all last next) test ws line a s = absurd cc
 
 -- no line of the table begins with `at`
 pub script_avoids_at : (ws : List (List ℕ)) (line : Line) → Spells script ws line → begins (is_word (codes "at")) ws ≡ false
-unfolding script setup_forms actor_forms last_forms
+unfolding script setup_forms actor_forms last_forms extra_forms
 script_avoids_at ws line s = avoided script (is_word (codes "at")) ws line refl s

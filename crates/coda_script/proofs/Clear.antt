@@ -1,6 +1,6 @@
 -- The words of the table are words, and none may be taken for another.
 use Rattle.std.proofs.Common.{refl}
-use Rattle.coda_script.specs.Table.{create_form, mkdir_form, symlink_form, store_form, setattr_form, remove_form, rmdir_form, rename_form, read_form, list_form, drain_form, refresh_form, giveup_form, volume_form, client_form, link_form, tick_form, hoard_add_form, hoard_form, walk_form, send_form, deliver_form, lose_form, breaks_form, crash_form, recover_form, arm_form, resolve_form, repair_form, show_form, script, setup_forms, actor_forms, last_forms}
+use Rattle.coda_script.specs.Table.{create_form, mkdir_form, symlink_form, store_form, setattr_form, remove_form, rmdir_form, rename_form, read_form, list_form, drain_form, refresh_form, giveup_form, volume_form, client_form, link_form, tick_form, hoard_add_form, hoard_form, walk_form, send_form, deliver_form, lose_form, breaks_form, crash_form, recover_form, arm_form, resolve_form, repair_form, show_form, trim_form, hardlink_form, acl_form, clone_form, peek_form, unclone_form, asr_form, heal_form, script, setup_forms, actor_forms, last_forms, extra_forms}
 use Rattle.coda_script.proofs.Possible.{IsClear}
 
 create_clear : IsClear create_form
@@ -123,18 +123,54 @@ show_clear : IsClear show_form
 unfolding show_form
 show_clear = (refl, refl, λ s v. tt, (refl, refl, λ c v. tt, (refl, refl, λ c v. tt, tt)))
 
+trim_clear : IsClear trim_form
+unfolding trim_form
+trim_clear = λ m n. tt
+
+hardlink_clear : IsClear hardlink_form
+unfolding hardlink_form
+hardlink_clear = λ c v p q. tt
+
+acl_clear : IsClear acl_form
+unfolding acl_form
+acl_clear = λ s v p n plus minus. tt
+
+clone_clear : IsClear clone_form
+unfolding clone_form
+clone_clear = λ s v. tt
+
+peek_clear : IsClear peek_form
+unfolding peek_form
+peek_clear = λ s v n p. tt
+
+unclone_clear : IsClear unclone_form
+unfolding unclone_form
+unclone_clear = λ s v n. tt
+
+asr_clear : IsClear asr_form
+unfolding asr_form
+asr_clear = λ v n. (refl, refl, tt, (refl, refl, tt, tt))
+
+heal_clear : IsClear heal_form
+unfolding heal_form
+heal_clear = λ v p. tt
+
+extra_clear : IsClear extra_forms
+unfolding extra_forms
+extra_clear = (refl, refl, trim_clear, (refl, refl, hardlink_clear, (refl, refl, acl_clear, (refl, refl, clone_clear, (refl, refl, peek_clear, (refl, refl, unclone_clear, (refl, refl, asr_clear, (refl, refl, heal_clear, tt))))))))
+
 last_clear : IsClear last_forms
-unfolding last_forms
-last_clear = (refl, refl, resolve_clear, (refl, refl, repair_clear, (refl, refl, show_clear, tt)))
+unfolding last_forms extra_forms
+last_clear = (refl, refl, resolve_clear, (refl, refl, repair_clear, (refl, refl, show_clear, extra_clear)))
 
 actor_clear : IsClear actor_forms
-unfolding actor_forms last_forms
+unfolding actor_forms last_forms extra_forms
 actor_clear = (refl, refl, hoard_clear, (refl, refl, walk_clear, (refl, refl, send_clear, (refl, refl, deliver_clear, (refl, refl, lose_clear, (refl, refl, breaks_clear, (refl, refl, crash_clear, (refl, refl, recover_clear, (refl, refl, arm_clear, last_clear)))))))))
 
 setup_clear : IsClear setup_forms
-unfolding setup_forms actor_forms last_forms
+unfolding setup_forms actor_forms last_forms extra_forms
 setup_clear = (refl, refl, volume_clear, (refl, refl, client_clear, (refl, refl, link_clear, (refl, refl, tick_clear, (refl, refl, list_clear, (refl, refl, drain_clear, (refl, refl, refresh_clear, (refl, refl, giveup_clear, actor_clear))))))))
 
 pub script_clear : IsClear script
-unfolding script setup_forms actor_forms last_forms
+unfolding script setup_forms actor_forms last_forms extra_forms
 script_clear = (refl, refl, create_clear, (refl, refl, mkdir_clear, (refl, refl, symlink_clear, (refl, refl, store_clear, (refl, refl, setattr_clear, (refl, refl, remove_clear, (refl, refl, rmdir_clear, (refl, refl, rename_clear, (refl, refl, read_clear, setup_clear)))))))))

@@ -10,8 +10,8 @@ use Rattle.coda_script.specs.declared.line.Task.{Task as ATask}
 use Rattle.coda_script.specs.declared.line.Line.{Line}
 use Rattle.coda_script.specs.declared.line.Line.TheVariants.{Task, At}
 use Rattle.coda_script.specs.Slots.{between, number_in}
-use Rattle.coda_script.specs.Form.{Form, ends, nothing, either, a_number, a_path, a_text, perhaps, servers_above}
-use Rattle.coda_script.specs.Table.{script, setup_forms, actor_forms, last_forms}
+use Rattle.coda_script.specs.Form.{Form, ends, nothing, either, a_number, a_path, a_name, some_rights, a_text, perhaps, servers_above}
+use Rattle.coda_script.specs.Table.{script, setup_forms, actor_forms, last_forms, extra_forms}
 use Rattle.coda_script.specs.Lines.{first_byte, is_silent}
 use Rattle.coda_script.specs.Spelling.{begins, Spells, SpellsAt, SpellsLine, words_of, Says}
 use Rattle.coda_script.specs.Ranges.{IsBetween, TaskInRange, InRange, TaskOfBytes, OfBytes}
@@ -34,6 +34,8 @@ wants_word nothing = true
 wants_word (either word so other) = wants_word other
 wants_word (a_number slot next) = true
 wants_word (a_path next) = true
+wants_word (a_name next) = true
+wants_word (some_rights next) = true
 wants_word (a_text slot next) = true
 wants_word (perhaps word slot next) = false
 wants_word (servers_above all last next) = false
@@ -45,6 +47,8 @@ word_wanted (either word so other) line w (inl s) = absurd (let e = s.1 in cc)
 word_wanted (either word so other) line w (inr s) = word_wanted other line w s.1
 word_wanted (a_number slot next) line w s = absurd (let e = s.2 in cc)
 word_wanted (a_path next) line w s = absurd (let e = s.2 in cc)
+word_wanted (a_name next) line w s = absurd (let e = s.2 in cc)
+word_wanted (some_rights next) line w s = absurd (let e = s.2 in cc)
 word_wanted (a_text slot next) line w s = absurd (let e = s.2 in cc)
 word_wanted (perhaps word slot next) line w s = absurd cc
 word_wanted (servers_above all last next) line w s = absurd cc
@@ -57,7 +61,7 @@ joined_loud ((b ∷ bs) ∷ []) are hash some = rw are.0.apart hash
 joined_loud ((b ∷ bs) ∷ u ∷ ts) are hash some = rw are.0.apart hash
 
 script_loud : (ws : List (List ℕ)) (line : Line) → AreWords ws → Spells script ws line → is_silent (join ws) ≡ false
-unfolding script setup_forms actor_forms last_forms
+unfolding script setup_forms actor_forms last_forms extra_forms
 script_loud ws line are s =
     joined_loud ws are (avoided script is_hash ws line refl s) (λ none. word_wanted script line refl (subst (λ (t : List (List ℕ)). Spells script t line) none s))
 

@@ -3,15 +3,17 @@ use Rattle.std.proofs.Common.{◌≡◌, ℕ, ◌+◌, ◌≤◌, Bool, true, fa
 use Rattle.std.specs.Prelude.{◌-◌, ◌*◌, ◌&&◌, if◌then◌else◌, IfSome, option_and_then}
 use Rattle.std.specs.Option.{option_map_or}
 use Rattle.std.proofs.lemmas.Bool.{leb-true, and_parts}
+use Rattle.coda_fid.specs.Name.{is_name}
 use Rattle.coda_fid.specs.Path.{is_path, names_in, ArePathNames}
 use Rattle.coda_fid.proofs.Paths.{path_names_in}
 use Rattle.coda_text.specs.Numbers.{number_of, with_octal, octal_from, octal_of}
 use Rattle.coda_text.specs.Texts.{value_of, is_quoted}
 use Rattle.coda_script.specs.declared.line.Line.{Line}
+use Rattle.coda_script.specs.declared.line.Rights.{Rights}
 use Rattle.coda_script.specs.declared.line.Line.TheVariants.{Task, At}
-use Rattle.coda_script.specs.Slots.{NumberSlot, between, octal, TextSlot, any, sized, within, number_in, path_of, path_in, text_in, has_room}
-use Rattle.coda_script.specs.Form.{Form, ends, nothing, either, a_number, a_path, a_text, perhaps, servers_above}
-use Rattle.coda_script.specs.Table.{create_form, mkdir_form, symlink_form, store_form, setattr_form, remove_form, rmdir_form, rename_form, read_form, list_form, drain_form, refresh_form, giveup_form, volume_form, client_form, link_form, tick_form, hoard_add_form, hoard_form, walk_form, send_form, deliver_form, lose_form, breaks_form, crash_form, recover_form, arm_form, resolve_form, repair_form, show_form, script, setup_forms, actor_forms, last_forms}
+use Rattle.coda_script.specs.Slots.{NumberSlot, between, octal, TextSlot, any, sized, within, number_in, path_of, path_in, name_in, text_in, has_room}
+use Rattle.coda_script.specs.Form.{Form, ends, nothing, either, a_number, a_path, a_name, some_rights, a_text, perhaps, servers_above}
+use Rattle.coda_script.specs.Table.{create_form, mkdir_form, symlink_form, store_form, setattr_form, remove_form, rmdir_form, rename_form, read_form, list_form, drain_form, refresh_form, giveup_form, volume_form, client_form, link_form, tick_form, hoard_add_form, hoard_form, walk_form, send_form, deliver_form, lose_form, breaks_form, crash_form, recover_form, arm_form, resolve_form, repair_form, show_form, trim_form, hardlink_form, acl_form, clone_form, peek_form, unclone_form, asr_form, heal_form, script, setup_forms, actor_forms, last_forms, extra_forms}
 use Rattle.coda_script.specs.Spelling.{SpellServers, Spells, SpellsLine, SpellsAt}
 use Rattle.coda_script.specs.Ranges.{IsBetween, AreServersAbove, InRange}
 use Rattle.coda_script.proofs.Possible.{HasRoom}
@@ -31,6 +33,8 @@ Lets P nothing = Unit {0}
 Lets P (either word so other) = Lets P so × Lets P other
 Lets P (a_number slot next) = (n : ℕ) → InSlot slot n → Lets P (next n)
 Lets P (a_path next) = (p : List (List ℕ)) → ArePathNames p → Lets P (next p)
+Lets P (a_name next) = (n : List ℕ) → is_name n ≡ true → Lets P (next n)
+Lets P (some_rights next) = (r : Rights) → Lets P (next r)
 Lets P (a_text slot next) = (t : List ℕ) → HasRoom slot (length t) → Lets P (next t)
 Lets P (perhaps word slot next) = (o : Option ℕ) → IfSome o (InSlot slot) → Lets P (next o)
 Lets P (servers_above all last next) = (ss : List ℕ) → AreServersAbove last ss → Lets P (next ss)
@@ -78,6 +82,11 @@ path_is w p e =
     let i = if_some (is_path (value_of w)) (names_in (value_of w)) p e in
     subst ArePathNames i.1 (path_names_in (value_of w) i.0)
 
+name_is : (w n : List ℕ) → name_in w ≡ Some n → is_name n ≡ true
+name_is w n e =
+    let i = if_some (is_name (value_of w)) (value_of w) n e in
+    subst (λ (x : List ℕ). is_name x ≡ true) i.1 i.0
+
 room_is : (slot : TextSlot) (n : ℕ) → has_room slot n ≡ true → HasRoom slot n
 room_is any n e = tt
 room_is (sized low high) n e = let p = and_parts (leb low n) (leb n high) e in (leb-true low n p.0, leb-true n high p.1)
@@ -102,6 +111,8 @@ meets P (either word so other) ws line l (inl s) = meets P so s.0 line l.0 s.2
 meets P (either word so other) ws line l (inr s) = meets P other ws line l.1 s.1
 meets P (a_number slot next) ws line l s = meets P (next s.3) s.1 line (l s.3 (number_is slot s.0 s.3 s.4)) s.5
 meets P (a_path next) ws line l s = meets P (next s.3) s.1 line (l s.3 (path_is s.0 s.3 s.4)) s.5
+meets P (a_name next) ws line l s = meets P (next s.3) s.1 line (l s.3 (name_is s.0 s.3 s.4)) s.5
+meets P (some_rights next) ws line l s = meets P (next s.3) s.1 line (l s.3) s.5
 meets P (a_text slot next) ws line l s = meets P (next s.3) s.1 line (l s.3 (text_is slot s.0 s.3 s.4)) s.5
 meets P (perhaps word slot next) ws line l (inl s) = meets P (next (Some s.3)) s.1 line (l (Some s.3) (number_is slot s.0 s.3 s.4)) s.5
 meets P (perhaps word slot next) ws line l (inr s) = meets P (next None) ws line (l None tt) s.1
@@ -133,9 +144,9 @@ place_lets : Lets InRange remove_form × Lets InRange rmdir_form × Lets InRange
 unfolding remove_form rmdir_form read_form list_form
 place_lets = (λ c ic v iv p ip. (ic, iv, ip), λ c ic v iv p ip. (ic, iv, ip), λ c ic v iv p ip. (ic, iv, ip), λ c ic v iv p ip. (ic, iv, ip))
 
-rename_lets : Lets InRange rename_form
-unfolding rename_form
-rename_lets = λ c ic v iv p ip q iq. (ic, iv, ip, iq)
+rename_lets : Lets InRange rename_form × Lets InRange hardlink_form
+unfolding rename_form hardlink_form
+rename_lets = (λ c ic v iv p ip q iq. (ic, iv, ip, iq), λ c ic v iv p ip q iq. (ic, iv, ip, iq))
 
 drain_lets : Lets InRange drain_form × Lets InRange send_form
 unfolding drain_form send_form
@@ -173,13 +184,30 @@ disk_lets = (
   (λ c ic n hn. (ic, hn), (λ s is v iv n hn. (is, iv, hn), tt)),
 )
 
+clone_lets : Lets InRange clone_form × Lets InRange peek_form × Lets InRange unclone_form
+unfolding clone_form peek_form unclone_form
+clone_lets = (λ s is v iv. (is, iv), λ s is v iv n hn p ip. (is, iv, hn, ip), λ s is v iv n hn. (is, iv, hn))
+
+extra_lets : Lets InRange extra_forms
+unfolding extra_forms trim_form acl_form asr_form heal_form
+extra_lets = (
+  λ m im n hn. (im, hn),
+  (
+    rename_lets.1,
+    (
+      λ s is v iv p ip n hn plus minus. (is, iv, ip, hn),
+      (clone_lets.0, (clone_lets.1, (clone_lets.2, (λ v iv n good. ((iv, good), ((iv, good), tt)), (λ v iv p ip. (iv, ip), tt))))),
+    ),
+  ),
+)
+
 last_lets : Lets InRange last_forms
 unfolding last_forms resolve_form repair_form show_form
 last_lets = (
   λ v iv s is t it us hu. (iv, (is, it, hu)),
   (
     λ v iv s is p ip. (iv, is, ip),
-    ((λ s is v iv. (is, iv), (λ c ic v iv. (ic, iv), (λ c ic v iv. (ic, iv), tt))), tt),
+    ((λ s is v iv. (is, iv), (λ c ic v iv. (ic, iv), (λ c ic v iv. (ic, iv), tt))), extra_lets),
   ),
 )
 
@@ -195,7 +223,7 @@ setup_lets = (volume_lets, (client_lets, (link_lets, (number_lets.0, (place_lets
 script_lets : Lets InRange script
 unfolding script
 script_lets =
-    (create_lets, (mkdir_lets, (symlink_lets, (store_lets, (setattr_lets, (place_lets.0, (place_lets.1, (rename_lets, (place_lets.2, setup_lets)))))))))
+    (create_lets, (mkdir_lets, (symlink_lets, (store_lets, (setattr_lets, (place_lets.0, (place_lets.1, (rename_lets.0, (place_lets.2, setup_lets)))))))))
 
 -- what some words spell is in its ranges
 pub spelled_in_range : (ws : List (List ℕ)) (line : Line) → SpellsLine ws line → InRange line

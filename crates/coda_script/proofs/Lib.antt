@@ -5,9 +5,11 @@ pub mod TurnSteps
 pub mod LineBytes
 pub mod AnyForm
 pub mod Avoiding
+pub mod Lettered
 pub mod Possible
 pub mod Clear
 pub mod Tabled
 pub mod InRanges
 pub mod WholeLines
 pub mod EveryLine
+pub mod WrongColumns

@@ -3,6 +3,7 @@ use Rattle.std.proofs.Common.{◌≡◌, ℕ, ◌+◌, ◌^◌, ◌<◌, ◌≤�
 use Rattle.std.specs.Prelude.{codes, ◌&&◌, IfSome}
 use Rattle.std.specs.Fmt.{decimal}
 use Rattle.std.proofs.lemmas.Bool.{le-leb, leb-true}
+use Rattle.coda_fid.specs.Name.{is_name}
 use Rattle.coda_fid.specs.Path.{path_text, is_path, names_in, ArePathNames}
 use Rattle.coda_fid.proofs.Paths.{names_in-path_text, test_from_path}
 use Rattle.coda_text.specs.Numbers.{number_of, octal_of}
@@ -11,11 +12,13 @@ use Rattle.coda_text.specs.Printed.{AreBytes}
 use Rattle.coda_text.proofs.OneWord.{printed_word}
 use Rattle.coda_text.proofs.Joining.{IsOneWord, AreWords, are_words, is_bare_word, bare_word, number_again, decimal_word, decimal_begins, octal_text, octal_again, octal_word, printed_one_word, quoted_one_word, quoted_again}
 use Rattle.coda_script.specs.declared.line.Line.{Line}
-use Rattle.coda_script.specs.Slots.{NumberSlot, between, octal, TextSlot, any, sized, number_in, path_of, path_in, text_in, has_room, is_word, is_server}
-use Rattle.coda_script.specs.Form.{Form, ends, nothing, either, a_number, a_path, a_text, perhaps, servers_above}
+use Rattle.coda_script.specs.declared.line.Rights.{Rights}
+use Rattle.coda_script.specs.Slots.{NumberSlot, between, octal, TextSlot, any, sized, number_in, path_of, path_in, name_in, rights_in, text_in, has_room, is_word, is_server}
+use Rattle.coda_script.specs.Form.{Form, ends, nothing, either, a_number, a_path, a_name, some_rights, a_text, perhaps, servers_above}
 use Rattle.coda_script.specs.Spelling.{begins, SpellServers, Spells}
 use Rattle.coda_script.specs.Ranges.{IsBetween, AreServersAbove}
 use Rattle.coda_script.proofs.Avoiding.{avoids, avoided}
+use Rattle.coda_script.proofs.Lettered.{rights_again}
 
 -- ---- what the slots hold
 
@@ -36,6 +39,8 @@ Has nothing line = ⊥
 Has (either word so other) line = Has so line ⊎ Has other line
 Has (a_number slot next) line = (n : ℕ) × Holds slot n × Has (next n) line
 Has (a_path next) line = (p : List (List ℕ)) × ArePathNames p × AreBytes (path_text p) × Has (next p) line
+Has (a_name next) line = (n : List ℕ) × (is_name n ≡ true) × AreBytes n × Has (next n) line
+Has (some_rights next) line = (r : Rights) × Has (next r) line
 Has (a_text slot next) line = (t : List ℕ) × HasRoom slot (length t) × AreBytes t × Has (next t) line
 Has (perhaps word slot next) line = (o : Option ℕ) × IfSome o (Holds slot) × Has (next o) line
 Has (servers_above all last next) line = (ss : List ℕ) × AreServersAbove last ss × Has (next ss) line
@@ -47,6 +52,8 @@ IsClear nothing = Unit {0}
 IsClear (either word so other) = (is_bare_word word ≡ true) × (avoids (is_word word) other ≡ true) × IsClear so × IsClear other
 IsClear (a_number slot next) = (n : ℕ) → IsClear (next n)
 IsClear (a_path next) = (p : List (List ℕ)) → IsClear (next p)
+IsClear (a_name next) = (n : List ℕ) → IsClear (next n)
+IsClear (some_rights next) = (r : Rights) → IsClear (next r)
 IsClear (a_text slot next) = (t : List ℕ) → IsClear (next t)
 IsClear (perhaps word slot next) = (is_bare_word word ≡ true) × (avoids (is_word word) (next None) ≡ true) × ((o : Option ℕ) → IsClear (next o))
 IsClear (servers_above all last next) = (ss : List ℕ) → (avoids (is_server all) (next ss) ≡ true) × IsClear (next ss)
@@ -71,6 +78,11 @@ path_again p names fits =
     let value : value_of (printed (path_text p)) ≡ path_text p = (printed_word (path_text p) fits).1 in
     let test : is_path (path_text p) ≡ true = test_from_path (path_text p) (p, (names, refl)) in
     rw (value, test) (ap (λ (q : List (List ℕ)). let o : Option (List (List ℕ)) = Some q in o) (names_in-path_text p names.names))
+
+name_again : (n : List ℕ) → is_name n ≡ true → AreBytes n → name_in (printed n) ≡ Some n
+name_again n good fits =
+    let value : value_of (printed n) ≡ n = (printed_word n fits).1 in
+    rw (value, good) refl
 
 room : (slot : TextSlot) (n : ℕ) → HasRoom slot n → has_room slot n ≡ true
 room any n h = refl
@@ -120,6 +132,14 @@ spelled (a_path next) line clear h =
     let s = spelled (next h.0) line (clear h.0) h.3 in
     let w = printed (path_text h.0) in
     (w ∷ s.0, (printed_one_word (path_text h.0) h.2, s.1), (w, s.0, refl, h.0, path_again h.0 h.1 h.2, s.2))
+spelled (a_name next) line clear h =
+    let s = spelled (next h.0) line (clear h.0) h.3 in
+    let w = printed h.0 in
+    (w ∷ s.0, (printed_one_word h.0 h.2, s.1), (w, s.0, refl, h.0, name_again h.0 h.1 h.2, s.2))
+spelled (some_rights next) line clear h =
+    let s = spelled (next h.0) line (clear h.0) h.1 in
+    let t = rights_again h.0 in
+    (t.0 ∷ s.0, (bare_word t.0 t.1, s.1), (t.0, s.0, refl, h.0, t.2, s.2))
 spelled (a_text slot next) line clear h =
     let s = spelled (next h.0) line (clear h.0) h.3 in
     let w = quoted h.0 in

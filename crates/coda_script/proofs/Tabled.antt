@@ -1,12 +1,15 @@
 -- Each line whose values are in their ranges is one of the table.
 use Rattle.std.proofs.Common.{◌≡◌, ℕ, ◌+◌, ◌^◌, ◌<◌, ◌≤◌, Bool, true, false, ◌⊎◌, inl, inr, List, [], ◌∷◌, length, Option, Some, None, refl, arith}
 use Rattle.std.specs.Prelude.{IfSome, is_some, ◌||◌}
+use Rattle.coda_fid.specs.Name.{is_name}
 use Rattle.coda_fid.specs.Path.{path_text, ArePathNames}
 use Rattle.coda_text.specs.Printed.{AreBytes}
 use Rattle.coda_script.specs.declared.line.Content.{Content}
 use Rattle.coda_script.specs.declared.line.Content.TheVariants as contents
 use Rattle.coda_script.specs.declared.line.Expansion.{Expansion}
 use Rattle.coda_script.specs.declared.line.Expansion.TheVariants.{Alone, Children, Descendants}
+use Rattle.coda_script.specs.declared.line.Rule.{Rule}
+use Rattle.coda_script.specs.declared.line.Rule.TheVariants.{Longer, Union}
 use Rattle.coda_script.specs.declared.line.Strength.{Strength}
 use Rattle.coda_script.specs.declared.line.Strength.TheVariants.{Strong, Weak, Down}
 use Rattle.coda_script.specs.declared.line.Task.{Task as ATask}
@@ -16,7 +19,7 @@ use Rattle.coda_script.specs.declared.line.Line.TheVariants as lines
 use Rattle.coda_script.specs.declared.line.Line.TheVariants.{Task}
 use Rattle.coda_script.specs.Slots.{between, octal}
 use Rattle.coda_script.specs.Form.{Form}
-use Rattle.coda_script.specs.Table.{place, create_form, mkdir_form, symlink_form, store_form, setattr_form, remove_form, rmdir_form, rename_form, read_form, list_form, drain_form, refresh_form, giveup_form, volume_form, client_form, link_form, tick_form, hoard_add_form, hoard_form, walk_form, send_form, deliver_form, lose_form, breaks_form, crash_form, recover_form, arm_form, resolve_form, repair_form, show_form, script, setup_forms, actor_forms, last_forms}
+use Rattle.coda_script.specs.Table.{place, create_form, mkdir_form, symlink_form, store_form, setattr_form, remove_form, rmdir_form, rename_form, read_form, list_form, drain_form, refresh_form, giveup_form, volume_form, client_form, link_form, tick_form, hoard_add_form, hoard_form, walk_form, send_form, deliver_form, lose_form, breaks_form, crash_form, recover_form, arm_form, resolve_form, repair_form, show_form, trim_form, hardlink_form, acl_form, clone_form, peek_form, unclone_form, asr_form, heal_form, script, setup_forms, actor_forms, last_forms, extra_forms}
 use Rattle.coda_script.specs.Ranges.{IsBetween, IsClient, IsVolume, IsServer, IsNumber, IsOwner, IsMode, AreServers, AreTwoServers, AreServersAbove, TaskInRange, InRange, TaskOfBytes, OfBytes}
 use Rattle.coda_script.proofs.Possible.{Holds, Has}
 
@@ -106,9 +109,18 @@ in_last : (line : Line) → Has last_forms line → Has script line
 unfolding actor_forms
 in_last line h = in_actors line (inr (inr (inr (inr (inr (inr (inr (inr (inr h)))))))))
 
+in_extra : (line : Line) → Has extra_forms line → Has script line
+unfolding last_forms
+in_extra line h = in_last line (inr (inr (inr h)))
+
+asr_has : (v : ℕ) (n : List ℕ) (rule : Rule) → IsVolume v → is_name n ≡ true → AreBytes n → Has asr_form (lines.Asr v n rule)
+unfolding asr_form
+asr_has v n Longer iv good fits = (v, volume v iv, (n, good, fits, inl refl))
+asr_has v n Union iv good fits = (v, volume v iv, (n, good, fits, inr (inl refl)))
+
 -- what a client does
 pub task_has : (task : ATask) → TaskInRange task → TaskOfBytes task → Has script (Task task)
-unfolding script setup_forms create_form mkdir_form symlink_form store_form setattr_form remove_form rmdir_form rename_form read_form list_form drain_form refresh_form giveup_form
+unfolding script setup_forms extra_forms hardlink_form create_form mkdir_form symlink_form store_form setattr_form remove_form rmdir_form rename_form read_form list_form drain_form refresh_form giveup_form
 task_has (tasks.Create c v p mode owner) h b = inl (c, client c h.0, (v, volume v h.1, (p, h.2, b, (mode, mode_if mode h.3, (owner, owner_if owner h.4, refl)))))
 task_has (tasks.Mkdir c v p mode owner) h b = inr (inl (c, client c h.0, (v, volume v h.1, (p, h.2, b, (mode, mode_if mode h.3, (owner, owner_if owner h.4, refl))))))
 task_has (tasks.Symlink c v p target) h b = inr (inr (inl (c, client c h.0, (v, volume v h.1, (p, h.2, b.0, (target, h.3, b.1, refl))))))
@@ -118,6 +130,7 @@ task_has (tasks.Setattr c v p attrs) h b = inr (inr (inr (inr (inl (setattr_has 
 task_has (tasks.Remove c v p) h b = inr (inr (inr (inr (inr (inl (c, client c h.0, (v, volume v h.1, (p, h.2, b, refl))))))))
 task_has (tasks.Rmdir c v p) h b = inr (inr (inr (inr (inr (inr (inl (c, client c h.0, (v, volume v h.1, (p, h.2, b, refl)))))))))
 task_has (tasks.Rename c v p q) h b = inr (inr (inr (inr (inr (inr (inr (inl (c, client c h.0, (v, volume v h.1, (p, h.2, b.0, (q, h.3, b.1, refl)))))))))))
+task_has (tasks.Hardlink c v p q) h b = in_extra (Task (tasks.Hardlink c v p q)) (inr (inl (c, client c h.0, (v, volume v h.1, (p, h.2, b.0, (q, h.3, b.1, refl))))))
 task_has (tasks.Read c v p) h b = inr (inr (inr (inr (inr (inr (inr (inr (inl (c, client c h.0, (v, volume v h.1, (p, h.2, b, refl)))))))))))
 task_has (tasks.List c v p) h b = in_setup (Task (tasks.List c v p)) (inr (inr (inr (inr (inl (c, client c h.0, (v, volume v h.1, (p, h.2, b, refl))))))))
 task_has (tasks.Drain c v s window) h b = in_setup (Task (tasks.Drain c v s window)) (inr (inr (inr (inr (inr (inl (c, client c h.0, (v, volume v h.1, (s, server s h.2, (window, number_if window h.3, refl))))))))))
@@ -131,7 +144,7 @@ IsPlain line = Unit {0}
 
 -- a line in its ranges is one of the table, or one of a thread
 pub line_has : (line : Line) → IsPlain line → InRange line → OfBytes line → Has script line
-unfolding script setup_forms actor_forms last_forms volume_form client_form link_form tick_form hoard_form walk_form send_form deliver_form lose_form breaks_form crash_form recover_form arm_form resolve_form repair_form show_form
+unfolding script setup_forms actor_forms last_forms extra_forms trim_form acl_form clone_form peek_form unclone_form heal_form volume_form client_form link_form tick_form hoard_form walk_form send_form deliver_form lose_form breaks_form crash_form recover_form arm_form resolve_form repair_form show_form
 line_has (lines.At thread task) plain h b = absurd plain
 line_has (Task task) plain h b = task_has task h b
 line_has (lines.Volume v ss area) plain h b = in_setup (lines.Volume v ss area) (inl (volume_has v ss area h.0 h.1 h.2))
@@ -158,3 +171,10 @@ line_has (lines.Repair v s p) plain h b = in_last (lines.Repair v s p) (inr (inl
 line_has (lines.ShowVolume s v) plain h b = in_last (lines.ShowVolume s v) (inr (inr (inl (inl (s, server s h.0, (v, volume v h.1, refl))))))
 line_has (lines.ShowLog c v) plain h b = in_last (lines.ShowLog c v) (inr (inr (inl (inr (inl (c, client c h.0, (v, volume v h.1, refl)))))))
 line_has (lines.ShowState c v) plain h b = in_last (lines.ShowState c v) (inr (inr (inl (inr (inr (inl (c, client c h.0, (v, volume v h.1, refl))))))))
+line_has (lines.Trim m n) plain h b = in_extra (lines.Trim m n) (inl (m, number m h.0, (n, number n h.1, refl)))
+line_has (lines.Acl s v p n plus minus) plain h b = in_extra (lines.Acl s v p n plus minus) (inr (inr (inl (s, server s h.0, (v, volume v h.1, (p, h.2, b, (n, held 0 255 n (omega arith) h.3, (plus, (minus, refl)))))))))
+line_has (lines.Clone s v) plain h b = in_extra (lines.Clone s v) (inr (inr (inr (inl (s, server s h.0, (v, volume v h.1, refl))))))
+line_has (lines.Peek s v n p) plain h b = in_extra (lines.Peek s v n p) (inr (inr (inr (inr (inl (s, server s h.0, (v, volume v h.1, (n, number n h.2, (p, h.3, b, refl)))))))))
+line_has (lines.Unclone s v n) plain h b = in_extra (lines.Unclone s v n) (inr (inr (inr (inr (inr (inl (s, server s h.0, (v, volume v h.1, (n, number n h.2, refl)))))))))
+line_has (lines.Asr v n rule) plain h b = in_extra (lines.Asr v n rule) (inr (inr (inr (inr (inr (inr (inl (asr_has v n rule h.0 h.1 b))))))))
+line_has (lines.Heal v p) plain h b = in_extra (lines.Heal v p) (inr (inr (inr (inr (inr (inr (inr (inl (v, volume v h.0, (p, h.1, b, refl))))))))))

@@ -3,6 +3,7 @@
 use Rattle.std.specs.Prelude.{ℕ, Bool, List, Option}
 use Rattle.coda_engine.specs.declared.status.Kind.{Kind}
 use Rattle.coda_script.specs.declared.line.Line.{Line}
+use Rattle.coda_script.specs.declared.line.Rights.{Rights}
 use Rattle.coda_script.specs.Slots.{NumberSlot, TextSlot}
 
 pub data Form : Type 0 where
@@ -16,6 +17,10 @@ pub data Form : Type 0 where
   a_number : NumberSlot → (ℕ → Form) → Form
   -- a path
   a_path : (List (List ℕ) → Form) → Form
+  -- a name
+  a_name : (List ℕ → Form) → Form
+  -- rights
+  some_rights : (Rights → Form) → Form
   -- a quoted text
   a_text : TextSlot → (List ℕ → Form) → Form
   -- an optional word with its number

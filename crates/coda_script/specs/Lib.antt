@@ -7,3 +7,4 @@ pub mod Outcome
 pub mod Spelling
 pub mod Ranges
 pub mod Refusals
+pub mod FirstWrong

@@ -1,6 +1,7 @@
 -- The ranges of what lines name.
 use Rattle.std.specs.Prelude.{◌≡◌, ℕ, ◌+◌, ◌≤◌, List, [], ◌∷◌, length, IfSome, is_some, true, ◌||◌}
 use Rattle.std.specs.List.{AllByRecursion}
+use Rattle.coda_fid.specs.Name.{is_name}
 use Rattle.coda_fid.specs.Path.{path_text, ArePathNames}
 use Rattle.coda_text.specs.Printed.{AreBytes}
 use Rattle.coda_script.specs.declared.line.Content.{Content}
@@ -71,6 +72,7 @@ TaskInRange (tasks.Setattr c v p attrs) =
 TaskInRange (tasks.Remove c v p) = IsClient c × IsVolume v × ArePathNames p
 TaskInRange (tasks.Rmdir c v p) = IsClient c × IsVolume v × ArePathNames p
 TaskInRange (tasks.Rename c v p q) = IsClient c × IsVolume v × ArePathNames p × ArePathNames q
+TaskInRange (tasks.Hardlink c v p q) = IsClient c × IsVolume v × ArePathNames p × ArePathNames q
 TaskInRange (tasks.Read c v p) = IsClient c × IsVolume v × ArePathNames p
 TaskInRange (tasks.List c v p) = IsClient c × IsVolume v × ArePathNames p
 TaskInRange (tasks.Drain c v s window) = IsClient c × IsVolume v × IsServer s × IfSome window IsNumber
@@ -102,6 +104,13 @@ InRange (lines.ArmClient c k) = IsClient c × IsNumber k
 InRange (lines.ArmReplica s v k) = IsServer s × IsVolume v × IsNumber k
 InRange (lines.Resolve v ss) = IsVolume v × AreTwoServers ss
 InRange (lines.Repair v s p) = IsVolume v × IsServer s × ArePathNames p
+InRange (lines.Trim m n) = IsNumber m × IsNumber n
+InRange (lines.Acl s v p who plus minus) = IsServer s × IsVolume v × ArePathNames p × IsBetween 0 255 who
+InRange (lines.Clone s v) = IsServer s × IsVolume v
+InRange (lines.Peek s v n p) = IsServer s × IsVolume v × IsNumber n × ArePathNames p
+InRange (lines.Unclone s v n) = IsServer s × IsVolume v × IsNumber n
+InRange (lines.Asr v suffix rule) = IsVolume v × (is_name suffix ≡ true)
+InRange (lines.Heal v p) = IsVolume v × ArePathNames p
 InRange (lines.ShowVolume s v) = IsServer s × IsVolume v
 InRange (lines.ShowLog c v) = IsClient c × IsVolume v
 InRange (lines.ShowState c v) = IsClient c × IsVolume v
@@ -123,6 +132,7 @@ TaskOfBytes (tasks.Setattr c v p attrs) = AreBytes (path_text p)
 TaskOfBytes (tasks.Remove c v p) = AreBytes (path_text p)
 TaskOfBytes (tasks.Rmdir c v p) = AreBytes (path_text p)
 TaskOfBytes (tasks.Rename c v p q) = AreBytes (path_text p) × AreBytes (path_text q)
+TaskOfBytes (tasks.Hardlink c v p q) = AreBytes (path_text p) × AreBytes (path_text q)
 TaskOfBytes (tasks.Read c v p) = AreBytes (path_text p)
 TaskOfBytes (tasks.List c v p) = AreBytes (path_text p)
 TaskOfBytes (tasks.Drain c v s window) = Unit {0}
@@ -136,4 +146,8 @@ OfBytes (lines.At thread task) = TaskOfBytes task
 OfBytes (lines.HoardAdd c v p priority expansion) = AreBytes (path_text p)
 OfBytes (lines.HoardRemove c v p) = AreBytes (path_text p)
 OfBytes (lines.Repair v s p) = AreBytes (path_text p)
+OfBytes (lines.Acl s v p who plus minus) = AreBytes (path_text p)
+OfBytes (lines.Peek s v n p) = AreBytes (path_text p)
+OfBytes (lines.Asr v suffix rule) = AreBytes suffix
+OfBytes (lines.Heal v p) = AreBytes (path_text p)
 OfBytes line = Unit {0}

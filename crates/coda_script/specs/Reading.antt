@@ -5,8 +5,8 @@ use Rattle.coda_engine.specs.declared.status.Kind.{Kind}
 use Rattle.coda_engine.specs.declared.status.Kind.TheVariants as kinds
 use Rattle.coda_text.specs.Words.{Split, Word, rest_of}
 use Rattle.coda_script.specs.declared.line.Line.{Line}
-use Rattle.coda_script.specs.Slots.{NumberSlot, between, number_in, path_in, text_in, is_word, is_server}
-use Rattle.coda_script.specs.Form.{Form, ends, nothing, either, a_number, a_path, a_text, perhaps, servers_above}
+use Rattle.coda_script.specs.Slots.{NumberSlot, between, number_in, path_in, name_in, rights_in, text_in, is_word, is_server}
+use Rattle.coda_script.specs.Form.{Form, ends, nothing, either, a_number, a_path, a_name, some_rights, a_text, perhaps, servers_above}
 
 -- a column, from 1, and what is wrong there
 abbrev pub Fault : Type 0
@@ -68,6 +68,8 @@ read nothing split = Err (wrong_at split split.words)
 read (either word so other) split = if is_next (is_word word) split.words then read so (rest_of split) else read other split
 read (a_number slot next) split = slot_at kinds.Number (number_in slot) split >>= λ n. read (next n.0) n.1
 read (a_path next) split = slot_at kinds.Path path_in split >>= λ p. read (next p.0) p.1
+read (a_name next) split = slot_at kinds.Path name_in split >>= λ n. read (next n.0) n.1
+read (some_rights next) split = slot_at kinds.Word rights_in split >>= λ r. read (next r.0) r.1
 read (a_text slot next) split = slot_at kinds.Text (text_in slot) split >>= λ t. read (next t.0) t.1
 read (perhaps word slot next) split = option_at word slot split >>= λ n. read (next n.0) n.1
 read (servers_above all last next) split = servers_at all last split split.words >>= λ ss. read (next ss.0) ss.1

@@ -2,12 +2,13 @@
 use Rattle.std.specs.Prelude.{◌≡◌, codes, ℕ, ◌+◌, ◌⊎◌, Bool, true, false, List, [], ◌∷◌, ◌++◌, map, Option, Some, None, Result, Ok}
 use Rattle.coda_text.specs.Words.{Split, Word, split_of}
 use Rattle.coda_script.specs.declared.line.Line.{Line}
+use Rattle.coda_script.specs.declared.line.Rights.{Rights}
 use Rattle.coda_script.specs.declared.line.Line.TheVariants.{Task, At}
 use Rattle.coda_script.specs.declared.line.Task.{Task as ATask}
 use Rattle.coda_script.specs.declared.fault.LineFault.{LineFault}
 use Rattle.coda_script.specs.Outcome.{Gives}
-use Rattle.coda_script.specs.Slots.{between, number_in, path_in, text_in, is_word, is_server}
-use Rattle.coda_script.specs.Form.{Form, ends, nothing, either, a_number, a_path, a_text, perhaps, servers_above}
+use Rattle.coda_script.specs.Slots.{between, number_in, path_in, name_in, rights_in, text_in, is_word, is_server}
+use Rattle.coda_script.specs.Form.{Form, ends, nothing, either, a_number, a_path, a_name, some_rights, a_text, perhaps, servers_above}
 use Rattle.coda_script.specs.Table.{script}
 use Rattle.coda_script.specs.Lines.{is_silent}
 
@@ -32,6 +33,8 @@ Spells (either word so other) ws line =
     ⊎ ((begins (is_word word) ws ≡ false) × Spells other ws line)
 Spells (a_number slot next) ws line = (w : List ℕ) × (rest : List (List ℕ)) × (ws ≡ w ∷ rest) × (n : ℕ) × (number_in slot w ≡ Some n) × Spells (next n) rest line
 Spells (a_path next) ws line = (w : List ℕ) × (rest : List (List ℕ)) × (ws ≡ w ∷ rest) × (p : List (List ℕ)) × (path_in w ≡ Some p) × Spells (next p) rest line
+Spells (a_name next) ws line = (w : List ℕ) × (rest : List (List ℕ)) × (ws ≡ w ∷ rest) × (n : List ℕ) × (name_in w ≡ Some n) × Spells (next n) rest line
+Spells (some_rights next) ws line = (w : List ℕ) × (rest : List (List ℕ)) × (ws ≡ w ∷ rest) × (r : Rights) × (rights_in w ≡ Some r) × Spells (next r) rest line
 Spells (a_text slot next) ws line = (w : List ℕ) × (rest : List (List ℕ)) × (ws ≡ w ∷ rest) × (t : List ℕ) × (text_in slot w ≡ Some t) × Spells (next t) rest line
 Spells (perhaps word slot next) ws line =
     ((w : List ℕ) × (rest : List (List ℕ)) × (ws ≡ word ∷ w ∷ rest) × (n : ℕ) × (number_in slot w ≡ Some n) × Spells (next (Some n)) rest line)

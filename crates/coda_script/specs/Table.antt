@@ -9,8 +9,9 @@ use Rattle.coda_script.specs.declared.line.Task.TheVariants as tasks
 use Rattle.coda_script.specs.declared.line.Content.TheVariants as contents
 use Rattle.coda_script.specs.declared.line.Strength.TheVariants.{Strong, Weak, Down}
 use Rattle.coda_script.specs.declared.line.Expansion.TheVariants.{Alone, Children, Descendants}
+use Rattle.coda_script.specs.declared.line.Rule.TheVariants.{Longer, Union}
 use Rattle.coda_script.specs.Slots.{between, octal, any, sized}
-use Rattle.coda_script.specs.Form.{Form, ends, nothing, either, a_number, a_path, a_text, perhaps, servers_above}
+use Rattle.coda_script.specs.Form.{Form, ends, nothing, either, a_number, a_path, a_name, some_rights, a_text, perhaps, servers_above}
 
 -- ---- parts
 
@@ -230,7 +231,60 @@ show_form =
     either (codes "state") (client (λ c. volume (λ v. says (lines.ShowState c v))))
     nothing))
 
+-- ---- messages cut short, hard links, access lists, backups and resolvers of files
+
+-- trim M N
+unfoldable pub trim_form : Form
+trim_form = number (λ m. number (λ n. says (lines.Trim m n)))
+
+-- hardlink C V P P
+unfoldable pub hardlink_form : Form
+hardlink_form = place (λ c v p. a_path (λ q. says (Task (tasks.Hardlink c v p q))))
+
+-- acl S V P WHO PLUS MINUS: WHO at most 255
+unfoldable pub acl_form : Form
+acl_form =
+    server (λ s. volume (λ v. a_path (λ p. a_number (between 0 255) (λ n.
+    some_rights (λ plus. some_rights (λ minus. says (lines.Acl s v p n plus minus)))))))
+
+-- clone S V
+unfoldable pub clone_form : Form
+clone_form = server (λ s. volume (λ v. says (lines.Clone s v)))
+
+-- peek S V N P
+unfoldable pub peek_form : Form
+peek_form = server (λ s. volume (λ v. number (λ n. a_path (λ p. says (lines.Peek s v n p)))))
+
+-- unclone S V N
+unfoldable pub unclone_form : Form
+unclone_form = server (λ s. volume (λ v. number (λ n. says (lines.Unclone s v n))))
+
+-- asr V SUFFIX longer or union
+unfoldable pub asr_form : Form
+asr_form =
+    volume (λ v. a_name (λ n.
+    either (codes "longer") (says (lines.Asr v n Longer)) (
+    either (codes "union") (says (lines.Asr v n Union))
+    nothing)))
+
+-- heal V P
+unfoldable pub heal_form : Form
+heal_form = volume (λ v. a_path (λ p. says (lines.Heal v p)))
+
 -- ---- the first words of lines
+
+-- messages cut short, hard links, access lists, backups and resolvers of files
+unfoldable pub extra_forms : Form
+extra_forms =
+    either (codes "trim") trim_form (
+    either (codes "hardlink") hardlink_form (
+    either (codes "acl") acl_form (
+    either (codes "clone") clone_form (
+    either (codes "peek") peek_form (
+    either (codes "unclone") unclone_form (
+    either (codes "asr") asr_form (
+    either (codes "heal") heal_form
+    nothing)))))))
 
 -- replicas, and what is shown
 unfoldable pub last_forms : Form
@@ -238,7 +292,7 @@ last_forms =
     either (codes "resolve") resolve_form (
     either (codes "repair") repair_form (
     either (codes "show") show_form
-    nothing))
+    extra_forms))
 
 -- disks, hoarding, messages and callbacks
 unfoldable pub actor_forms : Form

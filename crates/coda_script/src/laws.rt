@@ -1,6 +1,7 @@
 // Theorems over the grammar.
 ghost use Rattle.std.specs.Prelude.{◌≡◌, ℕ, List, Some, Ok};
 ghost use Rattle.coda_script.specs.declared.line.Line.{Line};
+ghost use Rattle.coda_script.specs.FirstWrong.{WrongColumnsAreWrong};
 ghost use Rattle.coda_script.specs.Lines.{line_of};
 ghost use Rattle.coda_script.specs.Ranges.{InRange, OfBytes};
 ghost use Rattle.coda_script.specs.Spelling.{Says};
@@ -8,4 +9,9 @@ ghost use Rattle.coda_script.specs.Spelling.{Says};
 /// Each line whose numbers, paths and texts are in their ranges has a spelling, and what is read from that is the line.
 pub fn each_line_has_a_spelling()
     ensures { (said : Line) → InRange said → OfBytes said → (line : List ℕ) × Says line said × (line_of line ≡ Ok (Some said)) }
+{}
+
+/// A wrong column is not too early: no line of the grammar begins with the words before it and the word at it.
+pub fn wrong_columns_are_wrong()
+    ensures { WrongColumnsAreWrong }
 {}

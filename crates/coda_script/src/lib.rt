@@ -2,6 +2,7 @@
 #![tactic(auto)]
 
 mod actors;
+mod extras;
 mod fault;
 mod laws;
 mod line;
@@ -17,8 +18,8 @@ mod turns;
 
 pub use coda_engine::Kind;
 pub use fault::LineFault;
-pub use laws::each_line_has_a_spelling;
-pub use line::{Content, Expansion, Line, Servers, Strength, Task};
+pub use laws::{each_line_has_a_spelling, wrong_columns_are_wrong};
+pub use line::{Content, Expansion, Line, Rights, Rule, Servers, Strength, Task};
 pub use reading::read_line;
 pub use refusal::Refusal;
 pub use reply::{

@@ -1,6 +1,6 @@
 ghost use Rattle.std.specs.Prelude.{◌≡◌, List, ℕ};
 
-use coda_fid::{Attrs, Bytes, Path};
+use coda_fid::{Attrs, Bytes, Name, Path};
 use std::marker::Model;
 
 /// The servers of a volume, each of 1 to 8 and greater than the one before it.
@@ -57,6 +57,30 @@ pub enum Content {
     Fill { length: u32, byte: u8 },
 }
 
+/// Rights on a directory. A line has them as their letters in this order, or as `-` where there is none.
+#[derive(Clone, Copy, Debug, PartialEq, Eq)]
+pub struct Rights {
+    /// `r`: to read files and links.
+    pub read: bool,
+    /// `l`: to look names up.
+    pub lookup: bool,
+    /// `i`: to bind names.
+    pub insert: bool,
+    /// `d`: to unbind names.
+    pub delete: bool,
+    /// `w`: to store, and to set attributes.
+    pub write: bool,
+}
+
+/// How the versions of a file in conflict become one.
+#[derive(Clone, Copy, Debug, PartialEq, Eq)]
+pub enum Rule {
+    /// The longest stays.
+    Longer,
+    /// The lines of all stay.
+    Union,
+}
+
 /// What a client does in a volume, by itself or in a thread of its own.
 #[derive(Debug, Drop)]
 pub enum Task {
@@ -111,6 +135,13 @@ pub enum Task {
     },
     /// `rename C V P P`.
     Rename {
+        client: u8,
+        volume: u32,
+        from: Path,
+        to: Path,
+    },
+    /// `hardlink C V P P`: the file at the first path gets the second name.
+    Hardlink {
         client: u8,
         volume: u32,
         from: Path,
@@ -224,6 +255,11 @@ pub enum Line {
     Lose {
         message: u64,
     },
+    /// `trim M N`: the message keeps its first bytes, so many.
+    Trim {
+        message: u64,
+        length: u64,
+    },
     /// `breaks S V`.
     Breaks {
         server: u8,
@@ -269,6 +305,44 @@ pub enum Line {
     Repair {
         volume: u32,
         server: u8,
+        path: Path,
+    },
+    /// `acl S V P WHO PLUS MINUS`: whom 0 is everybody, else it is a client.
+    Acl {
+        server: u8,
+        volume: u32,
+        path: Path,
+        who: u8,
+        plus: Rights,
+        minus: Rights,
+    },
+    /// `clone S V`.
+    Clone {
+        server: u8,
+        volume: u32,
+    },
+    /// `peek S V N P`.
+    Peek {
+        server: u8,
+        volume: u32,
+        number: u64,
+        path: Path,
+    },
+    /// `unclone S V N`.
+    Unclone {
+        server: u8,
+        volume: u32,
+        number: u64,
+    },
+    /// `asr V SUFFIX longer` or `union`: the rule for files whose names end so.
+    Asr {
+        volume: u32,
+        suffix: Name,
+        rule: Rule,
+    },
+    /// `heal V P`.
+    Heal {
+        volume: u32,
         path: Path,
     },
     /// `show volume S V`.

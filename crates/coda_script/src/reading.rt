@@ -1,7 +1,7 @@
 // Reading a line.
 ghost use Rattle.std.specs.Prelude.{◌≡◌, ◌<◌, ◌-◌, ◌^◌, length, IfOk, IfSome, IfNone, true};
 ghost use Rattle.coda_script.specs.Reading.{read};
-ghost use Rattle.coda_script.specs.Table.{script, setup_forms, actor_forms, last_forms};
+ghost use Rattle.coda_script.specs.Table.{script, setup_forms, actor_forms, last_forms, extra_forms};
 ghost use Rattle.coda_script.specs.Lines.{first_byte, is_silent, read_words, line_of};
 ghost use Rattle.coda_script.specs.Outcome.{Gives};
 ghost use Rattle.coda_script.specs.Ranges.{InRange};
@@ -9,11 +9,43 @@ ghost use Rattle.coda_script.specs.Spelling.{Says, ReadsAll};
 
 use crate::slots::{takes, wrong};
 use crate::turns::{placed, read_turns};
-use crate::{Line, LineFault, actors, operations, services};
+use crate::{Line, LineFault, actors, extras, operations, services};
 use coda_text::{Cursor, is_separator};
 use std::alloc::Global;
 
-// Lines of replicas and of what is shown.
+// Lines of messages cut short, hard links, access lists, backups and resolvers of files.
+#[tactic(auto, unfolding(crate::specs::Table::extra_forms))]
+fn extra_line(alloc: Global, cursor: &mut Cursor) -> Result<Line, LineFault>
+    ensures { Gives (λ l. l) result (read extra_forms cursor.old) }
+{
+    if takes(cursor, b"trim") {
+        return extras::trim(cursor);
+    }
+    if takes(cursor, b"hardlink") {
+        return extras::hardlink(alloc, cursor);
+    }
+    if takes(cursor, b"acl") {
+        return extras::acl(alloc, cursor);
+    }
+    if takes(cursor, b"clone") {
+        return extras::clone(cursor);
+    }
+    if takes(cursor, b"peek") {
+        return extras::peek(alloc, cursor);
+    }
+    if takes(cursor, b"unclone") {
+        return extras::unclone(cursor);
+    }
+    if takes(cursor, b"asr") {
+        return extras::asr(alloc, cursor);
+    }
+    if takes(cursor, b"heal") {
+        return extras::heal(alloc, cursor);
+    }
+    wrong(cursor)
+}
+
+// Lines of replicas and of what is shown, and those behind.
 #[tactic(auto, unfolding(crate::specs::Table::last_forms))]
 fn last_line(alloc: Global, cursor: &mut Cursor) -> Result<Line, LineFault>
     ensures { Gives (λ l. l) result (read last_forms cursor.old) }
@@ -27,7 +59,7 @@ fn last_line(alloc: Global, cursor: &mut Cursor) -> Result<Line, LineFault>
     if takes(cursor, b"show") {
         return services::show(cursor);
     }
-    wrong(cursor)
+    extra_line(alloc, cursor)
 }
 
 // Lines of disks, hoarding, messages and callbacks, and those behind.

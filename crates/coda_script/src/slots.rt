@@ -2,14 +2,14 @@
 ghost use Rattle.std.specs.Prelude.{◌≡◌, ◌≤◌, ◌<◌, ◌+◌, IfOk, IfSome, option_and_then, if◌then◌else◌};
 ghost use Rattle.coda_engine.specs.declared.status.Kind.TheVariants as kinds;
 ghost use Rattle.coda_text.specs.Words.{rest_of};
-ghost use Rattle.coda_script.specs.Slots.{within, between, octal, any, sized, number_in, path_of, path_in, text_in, is_word};
+ghost use Rattle.coda_script.specs.Slots.{within, between, octal, any, sized, number_in, path_of, path_in, name_in, strip, letters_in, rights_in, text_in, is_word};
 ghost use Rattle.coda_script.specs.Reading.{slot_at, is_next, wrong_at, end_at, read};
 ghost use Rattle.coda_script.specs.Form.{nothing};
 ghost use Rattle.coda_script.specs.Outcome.{Gives};
 
-use crate::{Line, LineFault};
+use crate::{Line, LineFault, Rights};
 use coda_engine::Kind;
-use coda_fid::{Bytes, NameFault, Path};
+use coda_fid::{Bytes, Name, NameFault, Path};
 use coda_text::{Cursor, Head, is_quoted, unquote};
 use std::alloc::{AllocError, Global};
 
@@ -108,6 +108,101 @@ pub fn path(alloc: Global, cursor: &mut Cursor) -> Result<Path, LineFault>
                 Ok(path)
             }
             None => Err(fault(at, Kind::Path)),
+        },
+    }
+}
+
+// The name that the word is, if it is one.
+fn name_in(alloc: Global, word: &[u8]) -> Result<Option<Name>, AllocError>
+    ensures { IfOk result (λ found. found ≡ name_in word.now) }
+{
+    let bytes = unquote(alloc, word)?;
+    match Name::read(alloc, bytes.bytes()) {
+        Ok(name) => Ok(Some(name)),
+        Err(NameFault::BadName) => Ok(None),
+        Err(NameFault::Memory) => Err(AllocError),
+    }
+}
+
+/// A name, bare or quoted.
+#[tactic(auto, unfolding(crate::specs::Reading::slot_at))]
+pub fn name(alloc: Global, cursor: &mut Cursor) -> Result<Name, LineFault>
+    ensures { Gives (λ n. (n, cursor.new)) result (slot_at kinds.Path name_in cursor.old) }
+{
+    match cursor.head() {
+        Head::End { at } => Err(fault(at, Kind::Count)),
+        Head::Bad { at } => Err(fault(at, Kind::Text)),
+        Head::Word { at, text } => {
+            let Some(name) = name_in(alloc, text)? else {
+                return Err(fault(at, Kind::Path));
+            };
+            cursor.advance();
+            Ok(name)
+        }
+    }
+}
+
+// Whether a word begins with a letter, and what is behind it there.
+fn strip(letter: u8, word: &[u8]) -> (bool, &[u8])
+    ensures { (result.0, result.1.now) ≡ strip letter word.now }
+{
+    match word.split_first() {
+        Some((byte, rest)) if *byte == letter => (true, rest),
+        _ => (false, word),
+    }
+}
+
+// The rights whose letters a word has.
+fn letters_in(word: &[u8]) -> Option<Rights>
+    ensures { result ≡ letters_in word.now }
+{
+    let (read, word) = strip(b'r', word);
+    let (lookup, word) = strip(b'l', word);
+    let (insert, word) = strip(b'i', word);
+    let (delete, word) = strip(b'd', word);
+    let (write, word) = strip(b'w', word);
+    if !word.is_empty() {
+        return None;
+    }
+    Some(Rights {
+        read,
+        lookup,
+        insert,
+        delete,
+        write,
+    })
+}
+
+// The rights that a word is.
+fn rights_in(word: &[u8]) -> Option<Rights>
+    ensures { result ≡ rights_in word.now }
+{
+    if word == b"-".as_slice() {
+        return Some(Rights {
+            read: false,
+            lookup: false,
+            insert: false,
+            delete: false,
+            write: false,
+        });
+    }
+    letters_in(word)
+}
+
+/// Rights: their letters in order, or `-` for none.
+#[tactic(auto, unfolding(crate::specs::Reading::slot_at))]
+pub fn rights(cursor: &mut Cursor) -> Result<Rights, LineFault>
+    ensures { Gives (λ r. (r, cursor.new)) result (slot_at kinds.Word rights_in cursor.old) }
+{
+    match cursor.head() {
+        Head::End { at } => Err(fault(at, Kind::Count)),
+        Head::Bad { at } => Err(fault(at, Kind::Text)),
+        Head::Word { at, text } => match rights_in(text) {
+            Some(rights) => {
+                cursor.advance();
+                Ok(rights)
+            }
+            None => Err(fault(at, Kind::Word)),
         },
     }
 }

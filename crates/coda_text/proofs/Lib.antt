@@ -5,3 +5,5 @@ pub mod OneWord
 pub mod Ascii
 pub mod ReadAgain
 pub mod Joining
+pub mod Spelled
+pub mod LaidOut

@@ -5,3 +5,5 @@ pub mod Numbers
 pub mod Texts
 pub mod Printed
 pub mod Tokens
+pub mod Laid
+pub mod Pieces

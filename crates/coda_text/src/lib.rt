@@ -8,6 +8,7 @@
 #![tactic(auto)]
 
 mod cursor;
+mod laws;
 mod numbers;
 mod printing;
 mod splitting;
@@ -15,6 +16,7 @@ mod texts;
 mod words;
 
 pub use cursor::{Cursor, Head};
+pub use laws::{lines_are_their_words, pieces_are_read, words_are_spelled};
 pub use numbers::{number, octal};
 pub use printing::{printed, put_byte, put_printed, put_quoted};
 pub use splitting::{TextFault, Token, tokens};
