@@ -1,5 +1,5 @@
 -- A chunk is a front of the run, and there is none exactly where nothing is left of the run.
-use Rattle.std.proofs.Common.{◌≡◌, ℕ, zero, suc, ◌<◌, ◌≤◌, ◌==◌, Bool, true, false, not, cond, List, [], ◌∷◌, ◌++◌, Option, Some, None, option_map, ◌≢◌, take, drop, length, refl, sym, ap, ◌∙◌, subst, arith, ◌↔◌}
+use Rattle.std.proofs.Common.{◌≡◌, ℕ, zero, suc, ◌<◌, ◌==◌, Bool, true, false, not, List, [], ◌∷◌, ◌++◌, Option, Some, None, option_map, ◌≢◌, take, drop, length, refl, sym, ap, ◌∙◌, subst, arith, ◌↔◌}
 use Rattle.std.specs.Prelude.{nat_le, nat_lt, if◌then◌else◌}
 use Rattle.std.specs.List.{find}
 use Rattle.std.proofs.lemmas.Bool.{false≢true}
@@ -80,9 +80,9 @@ frozen_fronts log run (o ∷ os) back e h n =
     )
 
 -- the chunk of a log of a steady run is cut as the run is
-pub frozen_at : (log : LogState) (run : List Record) (home now window cap k : ℕ) → IsLogOf log [] run → IsSteady run → k ≡ chunk_length now window cap log.segments → 0 < k → 0 < length log.segments →
+pub cut_of_run : (log : LogState) (run : List Record) (home now window cap k : ℕ) → IsLogOf log [] run → IsSteady run → k ≡ chunk_length now window cap log.segments → 0 < k → 0 < length log.segments →
     IsLogOf (frozen_to log home k) (records_upto (chunk_end now window cap run) run) (records_above (chunk_end now window cap run) run)
-frozen_at log run home now window cap k h s counted p q =
+cut_of_run log run home now window cap k h s counted p q =
     let f = frozen_log log run home k h s p q in
     let parts = frozen_fronts (frozen_to log home k) run f.0 f.1 f.2 f.3 (λ e. none-some _ (sym (f.3.sent e))) in
     let at : end_of (take k log.segments) ≡ chunk_end now window cap run =

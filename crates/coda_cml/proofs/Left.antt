@@ -42,7 +42,12 @@ left_without f ks (o ∷ os) (inr h) = subst (λ l. IsLeft (without f l) (o ∷ 
     (λ e. inl (left_without f h.1 os h.4))
     (λ e. inr (h.0, without f h.1, refl, h.3, left_without f h.1 os h.4)))
 
-left_add : (ks os : List Record) (o : Record) → IsLeft ks os → IsLeft (add ks o) (os ++ o ∷ [])
+-- all of it may be left
+pub left_same : (ks : List Record) → IsLeft ks ks
+left_same [] = refl
+left_same (k ∷ ks) = inr (k, ks, refl, refl, left_same ks)
+
+pub left_add : (ks os : List Record) (o : Record) → IsLeft ks os → IsLeft (add ks o) (os ++ o ∷ [])
 left_add ks os o h = cond_both (cancels o.op ks) (without (object (carried o.op)) ks) (appended ks o) (λ l. IsLeft l (os ++ o ∷ []))
     (λ e. left_gone (without (object (carried o.op)) ks) os o (left_without (object (carried o.op)) ks os h))
     (λ e. left_push (kept (drops o.op) nothing ks) os (hand (debt (drops o.op) nothing ks) o) o refl (left_kept (drops o.op) nothing ks os h))

@@ -36,3 +36,4 @@ pub mod LongestFront
 pub mod Parting
 pub mod Fronts
 pub mod Temporary
+pub mod PartsKept

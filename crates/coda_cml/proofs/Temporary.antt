@@ -1,5 +1,5 @@
 -- An object that is created, written and removed leaves nothing.
-use Rattle.std.proofs.Common.{◌≡◌, Bool, true, false, cond, not, ◌&&◌, ◌||◌, List, [], ◌∷◌, ◌++◌, refl, sym, ap, ◌∙◌, subst, append_assoc}
+use Rattle.std.proofs.Common.{◌≡◌, Bool, true, false, cond, not, ◌&&◌, ◌||◌, List, [], ◌∷◌, ◌++◌, refl, sym, ap, ◌∙◌, append_assoc}
 use Rattle.std.proofs.lemmas.Bool.{cond_both, false≢true, false_from_ne_true, or_parts}
 use Rattle.coda_fid.specs.declared.fid.Fid.{Fid}
 use Rattle.coda_fid.specs.declared.op.Op.{Op}
@@ -10,7 +10,7 @@ use Rattle.coda_fid.specs.Op.{carried}
 use Rattle.coda_cancel.specs.Handing.{Debt, hand, nothing, owe, paid, sid_or}
 use Rattle.coda_cancel.specs.Dropping.{mentioning, creates, writes, drops}
 use Rattle.coda_cancel.specs.Cancel.{is_true_alone, others, cancels, without, kept, debt, object, add, added}
-use Rattle.coda_cancel.proofs.Keys.{fid_same, is_write}
+use Rattle.coda_cancel.proofs.Keys.{fid_same}
 use Rattle.coda_cancel.proofs.Debts.{hand-nothing, paid-nothing, kept-append, debt-append, kept_all, debt_all, writes-with_pre}
 use Rattle.coda_cml.specs.Steady.{any_record}
 use Rattle.coda_cml.specs.Lean.{IsMadeAndRemoved, AreWritesOf, TemporaryObjectsLeaveNothing}

@@ -1,4 +1,4 @@
-use Rattle.std.proofs.Common.{◌≡◌, ◌<◌, ◌∷◌, [], ◌++◌, sym, ap, ◌∙◌, subst}
+use Rattle.std.proofs.Common.{◌≡◌, ◌<◌, ◌∷◌, [], ◌++◌, sym, ap, ◌∙◌, refl, subst}
 use Rattle.coda_cancel.specs.Cancel.{add}
 use Rattle.coda_cancel.specs.Numbers.{AreUpTo, IsRising, dropped, least}
 use Rattle.coda_cancel.specs.Joins.{noted}
@@ -7,6 +7,8 @@ use Rattle.coda_cml.specs.Inside.{state_of}
 use Rattle.coda_cml.specs.Segments.{single}
 use Rattle.coda_cml.specs.Regrouping.{is_inside, rejoined, recounted}
 use Rattle.coda_cml.specs.Steps.{appended_to, segments_after}
+use Rattle.coda_cancel.proofs.Rising.{rising_add, rising_behind}
+use Rattle.coda_cml.proofs.PartsKept.{parts_are, append_keeps}
 use Rattle.coda_cml.proofs.Logs.{below_later, upto_back, rising_add_behind, upto_add_behind, appended_log}
 use Rattle.coda_cml.proofs.log.Log.append.Goals as goal
 
@@ -18,9 +20,20 @@ add-requires c =
 pub invariant_of-self-2 : goal.invariant_of-self-2
 invariant_of-self-2 c =
     let later : c.self.inside.last < c.args.rec.number = subst (λ (log : LogState). log.last < c.args.rec.number) (sym c.self.view_is) c.requires.later in
+    let below = below_later c.self.inside.last c.args.rec.number later c.self.inside.tail (upto_back c.self.inside.last c.self.inside.chunk c.self.inside.tail c.self.invariant.reached) in
+    let counted : c.records.result.now ≡ add c.self.inside.tail c.args.rec = c.records.ensures.same ∙ c.in-Ok.ensures.ok in
+    let dropping : c.in-Ok.least ≡ least (dropped c.self.inside.tail c.args.rec) = c.in-Ok.ensures.least in
+    let pushed : c.push_reserved.new.self.items ≡ c.self.inside.segments.items ++ single [] c.args.rec ∷ [] = c.push_reserved.ensures.items ∙ ap (λ l. l ++ single [] c.args.rec ∷ []) c.reserve.ensures.items in
+    let segments : c.regroup_last.new.segments.items ≡ segments_after c.self.inside.segments.items c.self.inside.tail c.args.rec =
+    c.regroup_last.ensures ∙ (λ i. recounted (counted i) (rejoined (is_inside (noted c.args.rec.number (dropping i))) (pushed i))) in
     record {
       rising = subst (λ l. IsRising (c.self.inside.chunk ++ l)) (sym c.in-Ok.ensures.ok) (rising_add_behind c.self.inside.chunk c.self.inside.tail c.args.rec c.self.invariant.rising (below_later c.self.inside.last c.args.rec.number later (c.self.inside.chunk ++ c.self.inside.tail) c.self.invariant.reached));
       reached = subst (λ l. AreUpTo c.args.rec.number (c.self.inside.chunk ++ l)) (sym c.in-Ok.ensures.ok) (upto_add_behind c.self.inside.last c.self.inside.chunk c.self.inside.tail c.args.rec c.self.invariant.reached later);
+      parted = parts_are c.args.rec.number c.self.inside.chunk_segments.items c.self.inside.chunk_segments.items c.regroup_last.new.segments.items (segments_after c.self.inside.segments.items c.self.inside.tail c.args.rec)
+          c.self.inside.chunk c.self.inside.chunk c.add.new.self (add c.self.inside.tail c.args.rec) refl refl segments c.in-Ok.ensures.ok
+          (append_keeps c.self.inside.last c.self.inside.chunk_segments.items c.self.inside.chunk c.self.inside.segments.items c.self.inside.tail c.self.invariant.parted c.args.rec later
+          (rising_add c.self.inside.tail c.args.rec (rising_behind c.self.inside.chunk c.self.inside.tail c.self.invariant.rising) below));
+      thawed = c.self.invariant.thawed;
     }
 
 pub returns-clause-log : goal.returns-clause-log

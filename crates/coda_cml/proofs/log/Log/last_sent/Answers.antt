@@ -1,4 +1,4 @@
-use Rattle.std.proofs.Common.{◌≡◌, Some, option_map, sym, ap, ◌∙◌, subst}
+use Rattle.std.proofs.Common.{Some, option_map, sym, ap, ◌∙◌, subst}
 use Rattle.coda_cml.specs.Segments.{end_of}
 use Rattle.coda_cml.specs.State.{IsLogOf}
 use Rattle.coda_cml.specs.Inside.{state_of}
