@@ -37,7 +37,7 @@ pub regrouped : (ks os : List Record) (c : ℕ → Bool) (g : ℕ → Bool) (ss 
 regrouped ks os c g ss e = sym (recounted-bared ks (rejoined g ss)) ∙ ap (recounted ks) (bared-rejoined g ss ∙ ap (rejoined g) e ∙ ranges-fewer c g os)
 
 -- the least of the numbers, if there is one, is up to n
-abbrev within : Option ℕ → ℕ → Bool
+abbrev pub within : Option ℕ → ℕ → Bool
 within None n = false
 within (Some l) n = nat_le l n
 
@@ -49,7 +49,7 @@ or_none : (b : Bool) → (b || false) ≡ b
 or_none true = refl
 or_none false = refl
 
-any_least : (n : ℕ) (xs : List ℕ) → list_any (λ i. nat_le i n) xs ≡ within (least xs) n
+pub any_least : (n : ℕ) (xs : List ℕ) → list_any (λ i. nat_le i n) xs ≡ within (least xs) n
 any_least n [] = refl
 any_least n (x ∷ xs) = go (least xs) (any_least n xs)
   where

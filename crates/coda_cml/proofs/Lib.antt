@@ -37,3 +37,4 @@ pub mod Parting
 pub mod Fronts
 pub mod Temporary
 pub mod PartsKept
+pub mod LastJoined

@@ -24,7 +24,7 @@ any_found j (x ∷ xs) h = ⊎_elim
     (λ (b : list_any (λ i. leb i j) xs ≡ true). let m = any_found j xs b in (m.0, inr m.1, m.2))
     (or_cases (leb x j) (list_any (λ i. leb i j) xs) h)
 
-any_in : (j i : ℕ) (xs : List ℕ) → In i xs → i ≤ j → list_any (λ i. leb i j) xs ≡ true
+pub any_in : (j i : ℕ) (xs : List ℕ) → In i xs → i ≤ j → list_any (λ i. leb i j) xs ≡ true
 any_in j i [] h l = absurd h
 any_in j i (x ∷ xs) (inl e) l = or_left (leb x j) (list_any (λ i. leb i j) xs) (le-leb x j (subst (λ y. y ≤ j) e l))
 any_in j i (x ∷ xs) (inr h) l = or_right (leb x j) (list_any (λ i. leb i j) xs) (any_in j i xs h l)

@@ -269,7 +269,7 @@ regrouped_parts g ss rs t r h = recounted_parts (rejoined g ss) rs (turn_rejoine
 
 -- ---- the first segments and the rest
 
-between_upto : (first last : ℕ) (rs : List Record) → AreBetween first last rs → AreUpTo last rs
+pub between_upto : (first last : ℕ) (rs : List Record) → AreBetween first last rs → AreUpTo last rs
 between_upto first last [] h = tt
 between_upto first last (r ∷ rs) h = (h.1, between_upto first last rs h.2)
 
@@ -293,7 +293,7 @@ begin_taken n zero ss b = tt
 begin_taken n (suc k) [] b = tt
 begin_taken n (suc k) (s ∷ ss) b = (b.0, begin_taken n k ss b.1)
 
-halves : (k : ℕ) (ss : List Segment) (rs : List Record) → AreInTurn ss → ArePartedBy ss rs → (low : List Record) × (high : List Record) × (rs ≡ low ++ high) × ArePartedBy (take k ss) low × ArePartedBy (drop k ss) high
+pub halves : (k : ℕ) (ss : List Segment) (rs : List Record) → AreInTurn ss → ArePartedBy ss rs → (low : List Record) × (high : List Record) × (rs ≡ low ++ high) × ArePartedBy (take k ss) low × ArePartedBy (drop k ss) high
 halves zero ss rs t h = ([], rs, refl, refl, h)
 halves (suc k) [] rs t h = ([], rs, refl, refl, h)
 halves (suc k) (s ∷ ss) rs t h = go (halves k ss (drop s.count rs) t.2 h.4)
@@ -322,11 +322,11 @@ halves (suc k) (s ∷ ss) rs t h = go (halves k ss (drop s.count rs) t.2 h.4)
           m.4,
         )
 
-end_above : (s : Segment) (ss : List Segment) → AreInTurn (s ∷ ss) → s.last ≤ end_of (s ∷ ss)
+pub end_above : (s : Segment) (ss : List Segment) → AreInTurn (s ∷ ss) → s.last ≤ end_of (s ∷ ss)
 end_above s [] t = omega arith
 end_above s (u ∷ us) t = let h = end_above u us t.2 in let a = t.1.0 in let b = t.2.0 in omega (arith, h, a, b)
 
-parted_upto : (ss : List Segment) (rs : List Record) → AreInTurn ss → ArePartedBy ss rs → AreUpTo (end_of ss) rs
+pub parted_upto : (ss : List Segment) (rs : List Record) → AreInTurn ss → ArePartedBy ss rs → AreUpTo (end_of ss) rs
 parted_upto [] rs t h = subst (AreUpTo 0) (sym h) tt
 parted_upto (s ∷ []) rs t h = subst (AreUpTo s.last) (take-append-drop s.count rs) (upto_joined s.last (take s.count rs) (drop s.count rs) (between_upto s.first s.last (take s.count rs) h.3) (subst (AreUpTo s.last) (sym h.4) tt))
 parted_upto (s ∷ u ∷ us) rs t h =

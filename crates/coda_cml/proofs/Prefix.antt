@@ -68,7 +68,7 @@ module _ (j : ℕ) where
   above_append (r ∷ rs) os a b = (a.0, above_append rs os a.1 b)
 
   -- an operation that drops nothing of the front leaves it as it is
-  add_behind : (front rs : List Record) (o : Record) → AreUpTo j front → AreAbove j rs → j < o.number → ((i : ℕ) → In i (dropped (front ++ rs) o) → i ≤ j → ⊥) → (left : List Record) × (add (front ++ rs) o ≡ front ++ left) × AreAbove j left
+  pub add_behind : (front rs : List Record) (o : Record) → AreUpTo j front → AreAbove j rs → j < o.number → ((i : ℕ) → In i (dropped (front ++ rs) o) → i ≤ j → ⊥) → (left : List Record) × (add (front ++ rs) o ≡ front ++ left) × AreAbove j left
   add_behind front rs o a b h never = go (cancels o.op (front ++ rs)) refl
     where
       silent : (t : Op → Bool) → ((i : ℕ) → In i (numbers t (front ++ rs)) → i ≤ j → ⊥) → any_record t front ≡ false

@@ -1,14 +1,13 @@
 ghost use Rattle.std.specs.Prelude.{◌≡◌, ◌≤◌, ◌+◌, [], ◌++◌, List};
 ghost use Rattle.std.specs.Vec.{vec_len, vec_capacity};
 ghost use Rattle.coda_fid.specs.declared.op.Record.{Record};
-ghost use Rattle.coda_cancel.specs.Joins.{noted};
 ghost use Rattle.coda_cancel.specs.Weights.{fits};
 ghost use Rattle.coda_cml.specs.Regrouping.{is_inside, rejoined, recounted};
 ghost use Rattle.coda_cml.specs.Room.{room_fits};
 ghost use Rattle.coda_cml.specs.Segments.{end_of};
 
 use crate::choosing::{chunk_length, too_young};
-use crate::regrouping::{leading, recount, rejoin};
+use crate::regrouping::{leading, recount, regroup_last, rejoin};
 use crate::{FreezeFault, Frozen, LogFault, Segment, SettleFault};
 use coda_cancel::{Join, Tail};
 use coda_certify::Verdict;
@@ -180,12 +179,13 @@ impl Log {
             count: 0,
             newest: rec.time,
         };
+        let before = self.tail.records().len();
         let Ok(least) = self.tail.add(rec) else {
             return Err(LogFault::Memory);
         };
         self.last = single.last;
-        self.segments.push_reserved(single);
-        regroup_last(&mut self.segments, single.last, least, self.tail.records());
+        let after = self.tail.records().len();
+        regroup_last(&mut self.segments, single, least, before, after);
         Ok(())
     }
 
@@ -419,18 +419,6 @@ fn room_beside(records: &[Record], most: usize, heaviest: u64) -> Option<(usize,
         room -= weight;
     }
     Some((count, room))
-}
-
-// Joins the segment of a new operation with those of the records that it dropped, and counts the records
-// of all.
-fn regroup_last(segments: &mut Vec<Segment>, number: u64, least: Option<u64>, records: &[Record])
-    ensures { segments.new.items ≡ recounted records.now (rejoined (is_inside (noted number least)) segments.old.items) }
-{
-    match least {
-        Some(least) => rejoin(segments, &[Join { least, number }]),
-        None => rejoin(segments, &[]),
-    }
-    recount(segments, records);
 }
 
 // Puts the segments of a tail behind those of a chunk, joins those between which operations dropped
