@@ -4,7 +4,7 @@ use Rattle.std.proofs.lemmas.List.{get_or_default}
 use Rattle.coda_cml.specs.declared.segment.Segment.{Segment}
 use Rattle.coda_cml.specs.Segments.{joined}
 use Rattle.coda_cml.specs.LastSegment.{ended_before, reaching, all_joined}
-use Rattle.coda_cml.proofs.LastJoined.{back_step, back_ends}
+use Rattle.coda_cml.proofs.segments.LastJoined.{back_step, back_ends}
 use Rattle.coda_cml.proofs.regrouping.join_back.Goals as goal
 use Rattle.coda_cml.proofs.regrouping.join_back.Goals.{then-loop-kept-test+else-index-least, else-loop-kept-test}
 

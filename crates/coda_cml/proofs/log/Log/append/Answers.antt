@@ -9,10 +9,10 @@ use Rattle.coda_cancel.proofs.Rising.{rising_add, rising_behind}
 use Rattle.coda_cml.specs.Longest.{total}
 use Rattle.coda_cml.specs.Partition.{AreInTurn}
 use Rattle.coda_cml.specs.LastSegment.{ended_before, regrouped_last}
-use Rattle.coda_cml.proofs.Parting.{turn_behind, ends_behind}
-use Rattle.coda_cml.proofs.LastJoined.{parted_total, front_fits, last_regrouped}
-use Rattle.coda_cml.proofs.PartsKept.{parts_are, append_keeps}
-use Rattle.coda_cml.proofs.Logs.{below_later, upto_back, rising_add_behind, upto_add_behind, appended_log}
+use Rattle.coda_cml.proofs.segments.PartedRecords.{turn_behind, ends_behind}
+use Rattle.coda_cml.proofs.segments.LastJoined.{parted_total, front_fits, last_regrouped}
+use Rattle.coda_cml.proofs.segments.PartsKept.{parts_are, append_keeps}
+use Rattle.coda_cml.proofs.segments.LogSteps.{below_later, upto_back, rising_add_behind, upto_add_behind, appended_log}
 use Rattle.coda_cml.proofs.log.Log.append.Goals as goal
 
 pub add-requires : goal.add-requires

@@ -4,8 +4,8 @@ use Rattle.coda_cancel.proofs.Rising.{rising_behind}
 use Rattle.coda_cml.specs.State.{LogState, IsLogOf}
 use Rattle.coda_cml.specs.Inside.{state_of}
 use Rattle.coda_cml.specs.Steps.{applied_to}
-use Rattle.coda_cml.proofs.PartsKept.{parts_are, apply_keeps}
-use Rattle.coda_cml.proofs.Logs.{upto_back, applied_log}
+use Rattle.coda_cml.proofs.segments.PartsKept.{parts_are, apply_keeps}
+use Rattle.coda_cml.proofs.segments.LogSteps.{upto_back, applied_log}
 use Rattle.coda_cml.proofs.log.Log.apply.Goals as goal
 
 pub invariant_of-self : goal.invariant_of-self

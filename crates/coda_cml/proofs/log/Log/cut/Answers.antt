@@ -7,8 +7,8 @@ use Rattle.coda_cancel.proofs.Rising.{rising_behind, rising_take}
 use Rattle.coda_cml.specs.Segments.{end_of}
 use Rattle.coda_cml.specs.Regrouping.{leading}
 use Rattle.coda_cml.specs.State.{LogState}
-use Rattle.coda_cml.proofs.PartsKept.{parts_are, cut_keeps}
-use Rattle.coda_cml.proofs.Logs.{upto_back}
+use Rattle.coda_cml.proofs.segments.PartsKept.{parts_are, cut_keeps}
+use Rattle.coda_cml.proofs.segments.LogSteps.{upto_back}
 use Rattle.coda_cml.proofs.log.Log.cut.Goals as goal
 
 pub from_records-requires : goal.from_records-requires

@@ -6,9 +6,9 @@ use Rattle.coda_cml.specs.Longest.{IsChunk}
 use Rattle.coda_cml.specs.Segments.{records_upto, records_above}
 use Rattle.coda_cml.specs.State.{LogState, IsLogOf}
 use Rattle.coda_cml.specs.Steps.{frozen_at}
-use Rattle.coda_cml.proofs.Freezing.{may_go}
-use Rattle.coda_cml.proofs.Fronts.{cut_of_run}
-use Rattle.coda_cml.proofs.LongestFront.{chunks_are_longest}
+use Rattle.coda_cml.proofs.segments.FrozenFronts.{may_go}
+use Rattle.coda_cml.proofs.segments.Fronts.{cut_of_run}
+use Rattle.coda_cml.proofs.segments.LongestFront.{chunks_are_longest}
 use Rattle.coda_cml.proofs.log.Log.freeze.Goals as goal
 
 pub cut-requires-clause-some : goal.cut-requires-clause-some

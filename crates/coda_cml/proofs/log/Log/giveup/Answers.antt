@@ -1,9 +1,9 @@
 use Rattle.std.proofs.Common.{◌≡◌, [], ◌++◌, sym, ap, ◌∙◌, subst}
 use Rattle.coda_cancel.specs.Numbers.{AreUpTo, IsRising}
-use Rattle.coda_cml.proofs.Near.{append_nil}
-use Rattle.coda_cml.proofs.PartsKept.{parts_are, none_keeps}
-use Rattle.coda_cml.proofs.Logs.{upto_front}
-use Rattle.coda_cml.proofs.Thawing.{rising_front}
+use Rattle.coda_cml.proofs.runs.AlmostAlike.{append_nil}
+use Rattle.coda_cml.proofs.segments.PartsKept.{parts_are, none_keeps}
+use Rattle.coda_cml.proofs.segments.LogSteps.{upto_front}
+use Rattle.coda_cml.proofs.segments.ThawedLog.{rising_front}
 use Rattle.coda_cml.proofs.log.Log.giveup.Goals as goal
 
 pub invariant_of-self : goal.invariant_of-self

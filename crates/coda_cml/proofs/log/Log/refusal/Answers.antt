@@ -2,7 +2,7 @@ use Rattle.std.proofs.Common.{◌≡◌, None, sym, ap, ◌∙◌}
 use Rattle.std.specs.List.{find}
 use Rattle.coda_cml.specs.Chunks.{is_filled, too_young}
 use Rattle.coda_cml.specs.State.{LogState}
-use Rattle.coda_cml.proofs.Fronts.{nothing_left}
+use Rattle.coda_cml.proofs.segments.Fronts.{nothing_left}
 use Rattle.coda_cml.proofs.log.Log.refusal.Goals as goal
 
 pub returns-in-None-clause-nothing : goal.returns-in-None-clause-nothing

@@ -7,10 +7,10 @@ use Rattle.coda_cml.specs.State.{LogState, IsLogOf}
 use Rattle.coda_cml.specs.Inside.{state_of}
 use Rattle.coda_cml.specs.Regrouping.{is_inside, rejoined, recounted}
 use Rattle.coda_cml.specs.Steps.{thawed}
-use Rattle.coda_cml.proofs.Prefix.{up_added}
-use Rattle.coda_cml.proofs.PartsKept.{parts_are, thaw_keeps}
-use Rattle.coda_cml.proofs.Logs.{upto_front, upto_back}
-use Rattle.coda_cml.proofs.Thawing.{thawed_log}
+use Rattle.coda_cml.proofs.runs.FrontFolds.{up_added}
+use Rattle.coda_cml.proofs.segments.PartsKept.{parts_are, thaw_keeps}
+use Rattle.coda_cml.proofs.segments.LogSteps.{upto_front, upto_back}
+use Rattle.coda_cml.proofs.segments.ThawedLog.{thawed_log}
 use Rattle.coda_cml.proofs.log.Log.thaw.Goals as goal
 
 pub invariant_of-self-2 : goal.invariant_of-self-2
