@@ -59,7 +59,6 @@ pub fn chunk_length(segments: &[Segment], now: u64, window: u64, cap: usize) -> 
     old_front(segments, now, window, cap).max(first_filled(segments))
 }
 
-// The first segment with a record.
 fn filled(segments: &[Segment]) -> Option<Segment>
     ensures { result ≡ find is_filled segments.now }
 {

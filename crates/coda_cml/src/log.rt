@@ -275,9 +275,7 @@ impl Log {
         ensures err { OnErr result (self.new ≡ self.old) }
     {
         self.chunk_segments.reserve(self.segments.len())?;
-        let joins = self
-            .chunk
-            .add_all(*self.segments.allocator(), &mut self.tail)?;
+        let joins = self.chunk.add_all(&mut self.tail)?;
         regroup_all(
             &mut self.chunk_segments,
             &mut self.segments,
@@ -377,10 +375,9 @@ impl Log {
     pub fn copy(&self) -> Result<Log, AllocError>
         ensures { IfOk result (λ log. log ≡ self.now) }
     {
-        let alloc = *self.segments.allocator();
-        let chunk = self.chunk.copy(alloc)?;
+        let chunk = self.chunk.copy()?;
         let chunk_segments = self.chunk_segments.clone()?;
-        let tail = self.tail.copy(alloc)?;
+        let tail = self.tail.copy()?;
         let segments = self.segments.clone()?;
         Ok(Log {
             frozen: self.frozen,

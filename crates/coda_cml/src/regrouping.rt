@@ -32,7 +32,6 @@ fn widened(segment: Segment, next: Segment) -> Segment
     }
 }
 
-// Neighbouring segments as one.
 fn joined(earlier: Segment, later: Segment) -> Segment
     requires { earlier.count + later.count < 2 ^ 64 }
     ensures { result ≡ joined earlier later }
