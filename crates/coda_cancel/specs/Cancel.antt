@@ -1,5 +1,5 @@
 -- Adding an operation to a list of records, by cancellation.
-use Rattle.std.specs.Prelude.{Bool, false, not, cond, ◌&&◌, Option, Some, None, List, [], ◌∷◌, ◌++◌}
+use Rattle.std.specs.Prelude.{Bool, false, not, if◌then◌else◌, ◌&&◌, Option, Some, None, List, [], ◌∷◌, ◌++◌}
 use Rattle.coda_fid.specs.declared.fid.Fid.{Fid}
 use Rattle.coda_fid.specs.declared.op.Over.{Over}
 use Rattle.coda_fid.specs.declared.op.Op.{Op}
@@ -18,7 +18,7 @@ is_other fid op = mentioning fid op && not (writes fid op)
 -- for each record that mentions the object, besides its Stores and Setattrs: whether it creates the object
 abbrev pub others : Fid → List Record → List Bool
 others fid [] = []
-others fid (rec ∷ recs) = cond (is_other fid rec.op) (creates fid rec.op ∷ others fid recs) (others fid recs)
+others fid (rec ∷ recs) = if is_other fid rec.op then creates fid rec.op ∷ others fid recs else others fid recs
 
 -- true alone
 abbrev pub is_true_alone : List Bool → Bool
@@ -39,19 +39,25 @@ cancels _ recs = false
 -- the records that don't mention the object
 abbrev pub without : Fid → List Record → List Record
 without fid [] = []
-without fid (rec ∷ recs) = cond (mentioning fid rec.op) (without fid recs) (rec ∷ without fid recs)
+without fid (rec ∷ recs) = if mentioning fid rec.op then without fid recs else rec ∷ without fid recs
 
 -- ---- dropping with handing on
 
 -- the records that are not dropped, each with what it is owed
 abbrev pub kept : (Op → Bool) → Debt → List Record → List Record
 kept dropped owed [] = []
-kept dropped owed (rec ∷ recs) = cond (dropped rec.op) (kept dropped (owe owed (carried rec.op)) recs) (hand owed rec ∷ kept dropped (paid owed (carried rec.op)) recs)
+kept dropped owed (rec ∷ recs) =
+    if dropped rec.op
+    then kept dropped (owe owed (carried rec.op)) recs
+    else hand owed rec ∷ kept dropped (paid owed (carried rec.op)) recs
 
 -- what is still owed behind the records
 abbrev pub debt : (Op → Bool) → Debt → List Record → Debt
 debt dropped owed [] = owed
-debt dropped owed (rec ∷ recs) = cond (dropped rec.op) (debt dropped (owe owed (carried rec.op)) recs) (debt dropped (paid owed (carried rec.op)) recs)
+debt dropped owed (rec ∷ recs) =
+    if dropped rec.op
+    then debt dropped (owe owed (carried rec.op)) recs
+    else debt dropped (paid owed (carried rec.op)) recs
 
 -- ---- the step and the fold
 
@@ -66,7 +72,7 @@ appended recs rec = kept (drops rec.op) nothing recs ++ hand (debt (drops rec.op
 
 -- the list after an operation: a removal that undoes a creation leaves nothing that mentions the object, and any other drops what it makes needless and stands at the end
 abbrev pub add : List Record → Record → List Record
-add recs rec = cond (cancels rec.op recs) (without (object (carried rec.op)) recs) (appended recs rec)
+add recs rec = if cancels rec.op recs then without (object (carried rec.op)) recs else appended recs rec
 
 -- the list after operations in turn
 abbrev pub added : List Record → List Record → List Record

@@ -28,11 +28,6 @@ abbrev pub stores : Fid → Op → Bool
 stores fid (Store it pre content) = same_fid it fid
 stores fid _ = false
 
--- whether an operation sets attributes of the object
-abbrev pub sets : Fid → Op → Bool
-sets fid (Setattr it pre attrs) = same_fid it fid
-sets fid _ = false
-
 -- whether an operation stores the object or sets attributes of it
 abbrev pub writes : Fid → Op → Bool
 writes fid (Create dir name it mode owner) = false

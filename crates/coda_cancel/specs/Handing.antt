@@ -1,5 +1,5 @@
 -- How the version that a client had of an object is handed on from dropped records to later ones.
-use Rattle.std.specs.Prelude.{cond, Option, Some, None}
+use Rattle.std.specs.Prelude.{if◌then◌else◌, Option, Some, None}
 use Rattle.coda_fid.specs.declared.fid.Fid.{Fid}
 use Rattle.coda_fid.specs.declared.fid.Sid.{Sid}
 use Rattle.coda_fid.specs.declared.op.Over.{Over}
@@ -40,12 +40,12 @@ earlier None pre = Some pre
 -- what is owed once a record that carries this is dropped
 abbrev pub owe : Debt → Option Over → Debt
 owe owed None fid = owed fid
-owe owed (Some over) fid = cond (same_fid fid over.fid) (earlier (owed fid) over.pre) (owed fid)
+owe owed (Some over) fid = if same_fid fid over.fid then earlier (owed fid) over.pre else owed fid
 
 -- what is owed once a record that carries this is kept
 abbrev pub paid : Debt → Option Over → Debt
 paid owed None fid = owed fid
-paid owed (Some over) fid = cond (same_fid fid over.fid) None (owed fid)
+paid owed (Some over) fid = if same_fid fid over.fid then None else owed fid
 
 -- the version that is owed, and else the one given
 abbrev pub sid_or : Option Sid → Sid → Sid

@@ -1,5 +1,5 @@
 -- The numbers of records.
-use Rattle.std.specs.Prelude.{ℕ, Bool, cond, nat_le, Option, Some, None, List, [], ◌∷◌, ◌<◌, ◌≤◌}
+use Rattle.std.specs.Prelude.{ℕ, Bool, if◌then◌else◌, nat_le, Option, Some, None, List, [], ◌∷◌, ◌<◌, ◌≤◌}
 use Rattle.coda_fid.specs.declared.op.Op.{Op}
 use Rattle.coda_fid.specs.declared.op.Record.{Record}
 use Rattle.coda_fid.specs.Op.{carried}
@@ -9,16 +9,19 @@ use Rattle.coda_cancel.specs.Cancel.{cancels, object}
 -- the numbers of the records that pass a test
 abbrev pub numbers : (Op → Bool) → List Record → List ℕ
 numbers test [] = []
-numbers test (rec ∷ recs) = cond (test rec.op) (rec.number ∷ numbers test recs) (numbers test recs)
+numbers test (rec ∷ recs) = if test rec.op then rec.number ∷ numbers test recs else numbers test recs
 
 -- the numbers of the records that an operation drops
 abbrev pub dropped : List Record → Record → List ℕ
-dropped recs rec = cond (cancels rec.op recs) (numbers (mentioning (object (carried rec.op))) recs) (numbers (drops rec.op) recs)
+dropped recs rec =
+    if cancels rec.op recs
+    then numbers (mentioning (object (carried rec.op))) recs
+    else numbers (drops rec.op) recs
 
 -- the lesser of a number and another, if there is one
 abbrev pub lesser : ℕ → Option ℕ → ℕ
 lesser number None = number
-lesser number (Some other) = cond (nat_le number other) number other
+lesser number (Some other) = if nat_le number other then number else other
 
 -- the least of the numbers, if there is one
 abbrev pub least : List ℕ → Option ℕ

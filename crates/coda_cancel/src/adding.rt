@@ -14,7 +14,6 @@ use crate::join::Join;
 use crate::undoing::cancels;
 use coda_fid::{Fid, Op, Record};
 
-// The least number of a record that mentions the object.
 fn first_mentioning(records: &[Record], fid: Fid) -> Option<u64>
     requires { IsRising records.now }
     ensures { result ≡ least (numbers (mentioning fid) records.now) }
@@ -27,7 +26,6 @@ fn first_mentioning(records: &[Record], fid: Fid) -> Option<u64>
     None
 }
 
-// The least number of a record that the operation drops.
 fn first_dropped(records: &[Record], op: &Op) -> Option<u64>
     requires { IsRising records.now }
     ensures { result ≡ least (numbers (drops op.now) records.now) }
@@ -49,7 +47,6 @@ fn take_out(records: &mut Vec<Record>, fid: Fid)
     records.retain(|record| !record.op.mentions(fid));
 }
 
-// Takes out what the operation drops.
 fn drop_needless(records: &mut Vec<Record>, op: &Op)
     ensures records { records.new.items ≡ undropped (drops op.now) records.old.items }
     ensures len { vec_len records.new ≤ vec_len records.old }

@@ -20,7 +20,6 @@ pub fn creates(op: &Op, fid: Fid) -> bool
     }
 }
 
-// Whether an operation stores the object.
 fn stores(op: &Op, fid: Fid) -> bool
     ensures { result ≡ stores fid op.now }
 {
@@ -64,7 +63,6 @@ fn is_covered(op: &Op, fid: Fid, attrs: &Attrs) -> bool
     }
 }
 
-// Whether an operation writes the replaced object, where there is one.
 fn writes_over(op: &Op, over: &Option<Over>) -> bool
     ensures { result ≡ writes_over over.now op.now }
 {

@@ -18,7 +18,6 @@ fn set_over(over: &mut Option<Over>, sid: Sid)
     }
 }
 
-// Gives an operation that carries a version another one.
 fn set_pre(op: &mut Op, sid: Sid)
     ensures { op.new ≡ with_pre (λ _ _. sid) op.old }
 {

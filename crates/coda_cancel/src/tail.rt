@@ -122,7 +122,7 @@ impl Tail {
     /// # Errors
     ///
     /// Fails for want of memory alone, and then both parts stay as they were.
-    pub fn add_all(&mut self, alloc: Global, later: &mut Tail) -> Result<Vec<Join>, AllocError>
+    pub fn add_all(&mut self, later: &mut Tail) -> Result<Vec<Join>, AllocError>
         requires { IsRising (self.old ++ later.old) }
         ensures records { OnOk result (self.new ≡ added self.old later.old) }
         ensures joins { IfOk result (λ joins. joins.items ≡ joins_of self.old later.old) }
@@ -130,6 +130,7 @@ impl Tail {
         ensures err { OnErr result (self.new ≡ self.old) }
         ensures err_later { OnErr result (later.new ≡ later.old) }
     {
+        let alloc = *self.records.allocator();
         let mut joins = Vec::with_capacity(alloc, later.records.len())?;
         self.records.reserve(later.records.len())?;
         let waiting = mem::replace(&mut later.records, Vec::new(alloc));
@@ -146,15 +147,14 @@ impl Tail {
     }
 
     /// The same records, in memory of their own.
-    pub fn copy(&self, alloc: Global) -> Result<Tail, AllocError>
+    pub fn copy(&self) -> Result<Tail, AllocError>
         ensures { IfOk result (λ tail. tail ≡ self.now) }
     {
-        let records = copy_records(alloc, &self.records)?;
+        let records = copy_records(*self.records.allocator(), &self.records)?;
         Ok(Tail { records })
     }
 }
 
-// The same records, in memory of their own.
 fn copy_records(alloc: Global, records: &[Record]) -> Result<Vec<Record>, AllocError>
     ensures { IfOk result (λ copies. copies.items ≡ records.now) }
 {

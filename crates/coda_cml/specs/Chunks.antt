@@ -1,5 +1,5 @@
 -- Which segments become a chunk, and when none do.
-use Rattle.std.specs.Prelude.{ℕ, ◌+◌, ◌-◌, Bool, not, cond, ◌==◌, ◌&&◌, ◌||◌, nat_le, max, if◌then◌else◌, Option, Some, None, List, [], ◌∷◌}
+use Rattle.std.specs.Prelude.{ℕ, ◌+◌, ◌-◌, Bool, not, ◌==◌, ◌&&◌, ◌||◌, nat_le, max, if◌then◌else◌, Option, Some, None, List, [], ◌∷◌}
 use Rattle.std.specs.List.{find}
 use Rattle.coda_cml.specs.declared.segment.Segment.{Segment}
 use Rattle.coda_cml.specs.declared.frozen.Frozen.{Frozen}
@@ -21,12 +21,12 @@ is_old now window segment = (segment.count == 0) || nat_le window (age now segme
 -- how many segments of the front are old enough and have so many records at most together
 abbrev pub old_front : ℕ → ℕ → ℕ → List Segment → ℕ
 old_front now window room [] = 0
-old_front now window room (segment ∷ rest) = cond (is_old now window segment && nat_le segment.count room) (1 + old_front now window (room - segment.count) rest) 0
+old_front now window room (segment ∷ rest) = if is_old now window segment && nat_le segment.count room then 1 + old_front now window (room - segment.count) rest else 0
 
 -- how many segments there are up to the first with a record
 abbrev pub first_filled : List Segment → ℕ
 first_filled [] = 0
-first_filled (segment ∷ rest) = cond (is_filled segment) 1 (1 + first_filled rest)
+first_filled (segment ∷ rest) = if is_filled segment then 1 else 1 + first_filled rest
 
 -- how many segments a chunk has: as many of the front as may go together, but at least up to the first with a record
 abbrev pub chunk_length : ℕ → ℕ → ℕ → List Segment → ℕ

@@ -11,3 +11,4 @@ pub mod Longest
 pub mod Partition
 pub mod Fronts
 pub mod Lean
+pub mod LastSegment

@@ -1,5 +1,5 @@
 -- How the code keeps segments: it joins neighbours, and counts their records again.
-use Rattle.std.specs.Prelude.{ℕ, ◌+◌, Bool, true, false, not, cond, ◌&&◌, nat_le, nat_lt, max, List, [], ◌∷◌, drop}
+use Rattle.std.specs.Prelude.{ℕ, ◌+◌, Bool, true, false, not, if◌then◌else◌, ◌&&◌, nat_le, nat_lt, max, List, [], ◌∷◌, drop}
 use Rattle.std.specs.List.{list_any}
 use Rattle.coda_fid.specs.declared.op.Record.{Record}
 use Rattle.coda_cancel.specs.declared.join.Join.{Join}
@@ -27,7 +27,7 @@ rejoined is_gone (segment ∷ rest) = widen_front (not (is_gone segment.last)) s
 -- how many records stand in front of the first with a greater number
 abbrev pub leading : ℕ → List Record → ℕ
 leading number [] = 0
-leading number (rec ∷ recs) = cond (nat_le rec.number number) (1 + leading number recs) 0
+leading number (rec ∷ recs) = if nat_le rec.number number then 1 + leading number recs else 0
 
 -- the segments with the counts of these records
 abbrev pub recounted : List Record → List Segment → List Segment

@@ -1,5 +1,5 @@
 -- How cancellation joins neighbouring operations of a run.
-use Rattle.std.specs.Prelude.{◌≡◌, ℕ, ◌+◌, Bool, true, false, not, cond, ◌==◌, ◌&&◌, ◌||◌, nat_le, nat_lt, max, if◌then◌else◌, Option, Some, None, List, [], ◌∷◌}
+use Rattle.std.specs.Prelude.{◌≡◌, ℕ, ◌+◌, Bool, true, false, not, ◌==◌, ◌&&◌, ◌||◌, nat_le, nat_lt, max, if◌then◌else◌, Option, Some, None, List, [], ◌∷◌}
 use Rattle.std.specs.List.{list_any}
 use Rattle.coda_fid.specs.declared.op.Record.{Record}
 use Rattle.coda_cancel.specs.Cancel.{add, fold}
@@ -18,7 +18,7 @@ IsCut number recs run = is_joined number recs run ≡ false
 -- how many of the records have the number
 abbrev pub count_of : ℕ → List Record → ℕ
 count_of number [] = 0
-count_of number (rec ∷ recs) = cond (rec.number == number) 1 0 + count_of number recs
+count_of number (rec ∷ recs) = (if rec.number == number then 1 else 0) + count_of number recs
 
 -- an operation alone, of which these records are left
 abbrev pub single : List Record → Record → Segment
@@ -46,7 +46,7 @@ segments_of run = segments_by (λ number. not (is_joined number [] run)) (fold r
 -- the records with numbers up to this
 abbrev pub records_upto : ℕ → List Record → List Record
 records_upto number [] = []
-records_upto number (rec ∷ recs) = cond (nat_le rec.number number) (rec ∷ records_upto number recs) (records_upto number recs)
+records_upto number (rec ∷ recs) = if nat_le rec.number number then rec ∷ records_upto number recs else records_upto number recs
 
 -- the records with numbers above this
 abbrev pub records_above : ℕ → List Record → List Record

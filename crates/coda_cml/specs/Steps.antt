@@ -26,18 +26,20 @@ appended_to log rec = record log { records = add log.records rec; segments = seg
 abbrev pub records_in : ℕ → LogState → ℕ
 records_in length log = leading (end_of (take length log.segments)) log.records
 
--- the log whose first segments, so many, are the chunk
-abbrev pub cut_at : LogState → ℕ → LogState
-cut_at log length = record log {
+-- the log whose first segments, so many, are frozen as this chunk
+abbrev pub frozen_at : LogState → ℕ → Frozen → LogState
+frozen_at log length chunk = record log {
+  frozen = Some chunk;
   chunk = take (records_in length log) log.records;
   chunk_segments = take length log.segments;
   records = drop (records_in length log) log.records;
   segments = drop length log.segments;
+  chunks = chunk.number;
 }
 
 -- the log whose first segments, so many, are frozen for a server
 abbrev pub frozen_to : LogState → ℕ → ℕ → LogState
-frozen_to log home length = record (cut_at log length) { frozen = Some (record { number = log.chunks + 1; home = home }); chunks = log.chunks + 1 }
+frozen_to log home length = frozen_at log length (record { number = log.chunks + 1; home = home })
 
 -- the log without the chunk
 abbrev pub applied_to : LogState → LogState

@@ -1,9 +1,9 @@
 // Choosing the segments of a chunk.
 ghost use Rattle.std.specs.Prelude.{◌≡◌, ◌≤◌, length};
 ghost use Rattle.std.specs.List.{find};
-ghost use Rattle.coda_cml.specs.Chunks.{is_filled, age, is_old, old_front, first_filled, chunk_length};
+ghost use Rattle.coda_cml.specs.Chunks.{is_filled, age, is_old, old_front, first_filled, chunk_length, too_young};
 
-use crate::Segment;
+use crate::{FreezeFault, Segment};
 
 // Whether a segment may go.
 fn is_old(segment: &Segment, now: u64, window: u64) -> bool
@@ -12,8 +12,8 @@ fn is_old(segment: &Segment, now: u64, window: u64) -> bool
     segment.count == 0 || window <= age(segment, now)
 }
 
-/// How long ago the newest operation of a segment was performed.
-pub fn age(segment: &Segment, now: u64) -> u64
+// How long ago the newest operation of a segment was performed.
+fn age(segment: &Segment, now: u64) -> u64
     ensures { result ≡ age now segment.now }
 {
     now.saturating_sub(segment.newest)
@@ -59,8 +59,7 @@ pub fn chunk_length(segments: &[Segment], now: u64, window: u64, cap: usize) -> 
     old_front(segments, now, window, cap).max(first_filled(segments))
 }
 
-/// The first segment with a record.
-pub fn filled(segments: &[Segment]) -> Option<Segment>
+fn filled(segments: &[Segment]) -> Option<Segment>
     ensures { result ≡ find is_filled segments.now }
 {
     for segment in segments {
@@ -69,4 +68,17 @@ pub fn filled(segments: &[Segment]) -> Option<Segment>
         }
     }
     None
+}
+
+/// Why no chunk of the segments may go.
+pub fn too_young(segments: &[Segment], now: u64, window: u64) -> Option<FreezeFault>
+    ensures { result ≡ too_young now window (find is_filled segments.now) }
+{
+    match filled(segments) {
+        Some(first) if age(&first, now) < window => {
+            Some(FreezeFault::Young(age(&first, now), window))
+        }
+        Some(_) => None,
+        None => Some(FreezeFault::Nothing),
+    }
 }

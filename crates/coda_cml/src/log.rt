@@ -1,14 +1,13 @@
 ghost use Rattle.std.specs.Prelude.{◌≡◌, ◌≤◌, ◌+◌, [], ◌++◌, List};
 ghost use Rattle.std.specs.Vec.{vec_len, vec_capacity};
 ghost use Rattle.coda_fid.specs.declared.op.Record.{Record};
-ghost use Rattle.coda_cancel.specs.Joins.{noted};
 ghost use Rattle.coda_cancel.specs.Weights.{fits};
 ghost use Rattle.coda_cml.specs.Regrouping.{is_inside, rejoined, recounted};
 ghost use Rattle.coda_cml.specs.Room.{room_fits};
 ghost use Rattle.coda_cml.specs.Segments.{end_of};
 
-use crate::choosing::{age, chunk_length, filled};
-use crate::regrouping::{leading, recount, rejoin};
+use crate::choosing::{chunk_length, too_young};
+use crate::regrouping::{leading, recount, regroup_last, rejoin};
 use crate::{FreezeFault, Frozen, LogFault, Segment, SettleFault};
 use coda_cancel::{Join, Tail};
 use coda_certify::Verdict;
@@ -62,8 +61,9 @@ impl Log {
     ghost use Rattle.coda_cml.specs.Segments.{segments_of, end_of, last_in, records_upto, records_above};
     ghost use Rattle.coda_cml.specs.Fronts.{chunk_end};
     ghost use Rattle.coda_cml.specs.Longest.{IsChunk};
+    ghost use Rattle.coda_cml.specs.Partition.{ArePartedBy};
     ghost use Rattle.coda_cml.specs.declared.fault.FreezeFault.{FreezeFault};
-    ghost use Rattle.coda_cml.specs.Steps.{appended_to, cut_at, frozen_to, applied_to, thawed, settled, pending_after, settle_refusal, given_up};
+    ghost use Rattle.coda_cml.specs.Steps.{appended_to, frozen_at, frozen_to, applied_to, thawed, settled, pending_after, settle_refusal, given_up};
     ghost use Rattle.coda_cml.specs.declared.fault.SettleFault.{SettleFault};
 
     /// A log without operations.
@@ -105,7 +105,8 @@ impl Log {
 
     /// The records of the chunk; none where none is frozen.
     pub fn chunk(&self) -> &[Record]
-        ensures { result.now ≡ self.now.chunk }
+        ensures records { result.now ≡ self.now.chunk }
+        ensures thawed { self.now.frozen ≡ None → result.now ≡ [] }
     {
         self.chunk.records()
     }
@@ -118,10 +119,14 @@ impl Log {
         (self.chunk.records(), self.tail.records())
     }
 
-    /// The segments of the chunk, and those of the tail.
+    /// The segments of the chunk, and those of the tail. Those of each part have its records in turn, as many as they count,
+    /// whose numbers lie in them. There are none of a chunk where none is frozen.
     pub fn segments(&self) -> (&[Segment], &[Segment])
         ensures chunk { result.0.now ≡ self.now.chunk_segments }
         ensures tail { result.1.now ≡ self.now.segments }
+        ensures chunk_parts { ArePartedBy result.0.now self.now.chunk }
+        ensures tail_parts { ArePartedBy result.1.now self.now.records }
+        ensures thawed { self.now.frozen ≡ None → result.0.now ≡ [] }
     {
         (&self.chunk_segments, &self.segments)
     }
@@ -174,19 +179,22 @@ impl Log {
             count: 0,
             newest: rec.time,
         };
+        let before = self.tail.records().len();
         let Ok(least) = self.tail.add(rec) else {
             return Err(LogFault::Memory);
         };
         self.last = single.last;
-        self.segments.push_reserved(single);
-        regroup_last(&mut self.segments, single.last, least, self.tail.records());
+        let after = self.tail.records().len();
+        regroup_last(&mut self.segments, single, least, before, after);
         Ok(())
     }
 
-    // The chosen segments as a chunk, so many. Fails for want of memory alone.
-    fn cut(&mut self, length: usize) -> Result<(), AllocError>
-        requires { length ≤ list_length self.old.segments }
-        ensures log { OnOk result (self.new ≡ cut_at self.old length) }
+    // Freezes the first segments, so many, as this chunk. Fails for want of memory alone.
+    fn cut(&mut self, length: usize, chunk: Frozen) -> Result<(), AllocError>
+        requires thawed { self.old.frozen ≡ None }
+        requires some { 0 < length }
+        requires within { length ≤ list_length self.old.segments }
+        ensures log { OnOk result (self.new ≡ frozen_at self.old length chunk) }
         ensures err { OnErr result (self.new ≡ self.old) }
     {
         let later = Vec::from_slice(*self.segments.allocator(), &self.segments[length..])?;
@@ -196,6 +204,8 @@ impl Log {
         self.segments.truncate(length);
         self.chunk_segments = mem::replace(&mut self.segments, later);
         self.chunk = Tail::from_records(front);
+        self.frozen = Some(chunk);
+        self.chunks = chunk.number;
         Ok(())
     }
 
@@ -230,15 +240,11 @@ impl Log {
             return Err(why);
         }
         let length = chunk_length(&self.segments, now, window, cap);
-        let Ok(()) = self.cut(length) else {
-            return Err(FreezeFault::Memory);
-        };
-        self.chunks += 1;
-        self.frozen = Some(Frozen {
-            number: self.chunks,
-            home,
-        });
-        Ok(self.chunks)
+        let number = self.chunks + 1;
+        match self.cut(length, Frozen { number, home }) {
+            Ok(()) => Ok(number),
+            Err(_) => Err(FreezeFault::Memory),
+        }
     }
 
     /// Why `freeze` would freeze nothing at this time with this window, if it would not: in this order `Frozen`, `Nothing`
@@ -246,16 +252,11 @@ impl Log {
     pub fn refusal(&self, now: u64, window: u64) -> Option<FreezeFault>
         ensures cause { result ≡ freeze_refusal self.now.frozen now window self.now.segments }
         ensures run { (front back : List Record) → IsLogOf self.now front back → result ≡ freeze_refusal self.now.frozen now window (segments_of back) }
+        ensures nothing { (result ≡ Some FreezeFault.Nothing) ↔ ((self.now.frozen ≡ None) × (self.now.records ≡ [])) }
     {
-        if let Some(chunk) = self.frozen {
-            return Some(FreezeFault::Frozen(chunk.number, chunk.home));
-        }
-        match filled(&self.segments) {
-            Some(first) if age(&first, now) < window => {
-                Some(FreezeFault::Young(age(&first, now), window))
-            }
-            Some(_) => None,
-            None => Some(FreezeFault::Nothing),
+        match self.frozen {
+            Some(chunk) => Some(FreezeFault::Frozen(chunk.number, chunk.home)),
+            None => too_young(&self.segments, now, window),
         }
     }
 
@@ -274,9 +275,7 @@ impl Log {
         ensures err { OnErr result (self.new ≡ self.old) }
     {
         self.chunk_segments.reserve(self.segments.len())?;
-        let joins = self
-            .chunk
-            .add_all(*self.segments.allocator(), &mut self.tail)?;
+        let joins = self.chunk.add_all(&mut self.tail)?;
         regroup_all(
             &mut self.chunk_segments,
             &mut self.segments,
@@ -376,10 +375,9 @@ impl Log {
     pub fn copy(&self) -> Result<Log, AllocError>
         ensures { IfOk result (λ log. log ≡ self.now) }
     {
-        let alloc = *self.segments.allocator();
-        let chunk = self.chunk.copy(alloc)?;
+        let chunk = self.chunk.copy()?;
         let chunk_segments = self.chunk_segments.clone()?;
-        let tail = self.tail.copy(alloc)?;
+        let tail = self.tail.copy()?;
         let segments = self.segments.clone()?;
         Ok(Log {
             frozen: self.frozen,
@@ -418,18 +416,6 @@ fn room_beside(records: &[Record], most: usize, heaviest: u64) -> Option<(usize,
         room -= weight;
     }
     Some((count, room))
-}
-
-// Joins the segment of a new operation with those of the records that it dropped, and counts the records
-// of all.
-fn regroup_last(segments: &mut Vec<Segment>, number: u64, least: Option<u64>, records: &[Record])
-    ensures { segments.new.items ≡ recounted records.now (rejoined (is_inside (noted number least)) segments.old.items) }
-{
-    match least {
-        Some(least) => rejoin(segments, &[Join { least, number }]),
-        None => rejoin(segments, &[]),
-    }
-    recount(segments, records);
 }
 
 // Puts the segments of a tail behind those of a chunk, joins those between which operations dropped

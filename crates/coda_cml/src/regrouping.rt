@@ -1,5 +1,10 @@
 // Joining segments, and counting their records.
-ghost use Rattle.std.specs.Prelude.{◌≡◌, ◌≤◌, length};
+ghost use Rattle.std.specs.Prelude.{◌≡◌, ◌≤◌, ◌<◌, ◌+◌, ◌^◌, Some, length};
+ghost use Rattle.std.specs.Vec.{vec_len, vec_capacity};
+ghost use Rattle.coda_cml.specs.Segments.{joined};
+ghost use Rattle.coda_cml.specs.Longest.{total};
+ghost use Rattle.coda_cml.specs.Partition.{AreInTurn};
+ghost use Rattle.coda_cml.specs.LastSegment.{ended_before, reaching, all_joined, regrouped_last};
 ghost use Rattle.coda_cml.specs.Regrouping.{is_inside, widened, rejoined, leading, recounted};
 
 use crate::Segment;
@@ -25,6 +30,64 @@ fn widened(segment: Segment, next: Segment) -> Segment
         count: segment.count,
         newest: segment.newest.max(next.newest),
     }
+}
+
+fn joined(earlier: Segment, later: Segment) -> Segment
+    requires { earlier.count + later.count < 2 ^ 64 }
+    ensures { result ≡ joined earlier later }
+{
+    Segment {
+        first: earlier.first,
+        last: later.last,
+        count: earlier.count + later.count,
+        newest: earlier.newest.max(later.newest),
+    }
+}
+
+// Takes out the last segments, as far as they reach a number, and answers them as one with another behind them.
+fn join_back(segments: &mut Vec<Segment>, least: u64, last: Segment) -> Segment
+    requires in_turn { AreInTurn segments.old.items }
+    requires few { total segments.old.items + last.count < 2 ^ 64 }
+    ensures segments { segments.new.items ≡ ended_before (Some least) segments.old.items }
+    ensures joined { result ≡ all_joined (reaching (Some least) segments.old.items) last }
+    ensures count { total segments.new.items + result.count ≡ total segments.old.items + last.count }
+    ensures len { vec_len segments.new ≤ vec_len segments.old }
+    ensures capacity { vec_capacity segments.new ≡ vec_capacity segments.old }
+{
+    let mut kept = segments.len();
+    let mut all = last;
+    while kept > 0 && segments[kept - 1].last >= least {
+        kept -= 1;
+        all = joined(segments[kept], all);
+    }
+    segments.truncate(kept);
+    all
+}
+
+/// Puts the segment of a new operation behind the others, as one with those that reach the least number of a record that it
+/// dropped; so many records were there, and so many are left.
+///
+/// Costs the segments that are joined.
+pub fn regroup_last(
+    segments: &mut Vec<Segment>,
+    single: Segment,
+    least: Option<u64>,
+    before: usize,
+    after: usize,
+)
+    requires room { vec_len segments.old < vec_capacity segments.old }
+    requires in_turn { AreInTurn segments.old.items }
+    requires none { single.count ≡ 0 }
+    requires counted { total segments.old.items ≡ before }
+    requires left { total (ended_before least segments.old.items) ≤ after }
+    ensures { segments.new.items ≡ regrouped_last segments.old.items single least after }
+{
+    let mut last = match least {
+        Some(least) => join_back(segments, least, single),
+        None => single,
+    };
+    last.count = after - (before - last.count);
+    segments.push_reserved(last);
 }
 
 /// Makes one of neighbouring segments between which some operation dropped records.

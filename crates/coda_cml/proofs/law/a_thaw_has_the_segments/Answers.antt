@@ -1,7 +1,7 @@
 use Rattle.std.proofs.Common.{[], ◌++◌}
 use Rattle.coda_cancel.specs.Cancel.{fold}
-use Rattle.coda_cml.proofs.Numbered.{cut_fact, cut_test}
-use Rattle.coda_cml.proofs.Cuts.{cuts}
+use Rattle.coda_cml.proofs.runs.JoinedNumbers.{cut_fact, cut_test}
+use Rattle.coda_cml.proofs.runs.CutsAfterThaw.{cuts}
 use Rattle.coda_cml.proofs.law.a_thaw_has_the_segments.Goals as goal
 
 pub returns : goal.returns

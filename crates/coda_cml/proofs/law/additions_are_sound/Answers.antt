@@ -1,4 +1,4 @@
-use Rattle.coda_cml.proofs.Cancelling.{additions_sound}
+use Rattle.coda_cml.proofs.volumes.Cancelling.{additions_sound}
 use Rattle.coda_cml.proofs.law.additions_are_sound.Goals as goal
 
 pub returns : goal.returns

@@ -1,4 +1,4 @@
-use Rattle.coda_cml.proofs.Cancelling.{sound}
+use Rattle.coda_cml.proofs.volumes.Cancelling.{sound}
 use Rattle.coda_cml.proofs.law.cancellation_is_sound.Goals as goal
 
 pub returns : goal.returns

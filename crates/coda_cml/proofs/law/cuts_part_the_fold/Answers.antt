@@ -1,6 +1,6 @@
 use Rattle.std.proofs.Common.{[], ◌++◌}
-use Rattle.coda_cml.proofs.Numbered.{cut_fact}
-use Rattle.coda_cml.proofs.Freezing.{fold_apart}
+use Rattle.coda_cml.proofs.runs.JoinedNumbers.{cut_fact}
+use Rattle.coda_cml.proofs.segments.FrozenFronts.{fold_apart}
 use Rattle.coda_cml.proofs.law.cuts_part_the_fold.Goals as goal
 
 pub returns : goal.returns

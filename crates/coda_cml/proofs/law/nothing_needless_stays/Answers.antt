@@ -1,4 +1,4 @@
-use Rattle.coda_cml.proofs.Stays.{nothing_needless}
+use Rattle.coda_cml.proofs.runs.StillThere.{nothing_needless}
 use Rattle.coda_cml.proofs.law.nothing_needless_stays.Goals as goal
 
 pub returns : goal.returns

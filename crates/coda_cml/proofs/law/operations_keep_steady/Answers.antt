@@ -1,4 +1,4 @@
-use Rattle.coda_cml.proofs.Keeping.{kept_steady}
+use Rattle.coda_cml.proofs.runs.SteadySteps.{kept_steady}
 use Rattle.coda_cml.proofs.law.operations_keep_steady.Goals as goal
 
 pub returns : goal.returns

@@ -1,6 +1,6 @@
-use Rattle.coda_cml.proofs.Numbered.{cut_fact}
+use Rattle.coda_cml.proofs.runs.JoinedNumbers.{cut_fact}
 use Rattle.std.proofs.Common.{[], ◌++◌}
-use Rattle.coda_cml.proofs.Prefix.{prefix}
+use Rattle.coda_cml.proofs.runs.FrontFolds.{prefix}
 use Rattle.coda_cml.proofs.law.segments_are_their_folds.Goals as goal
 
 pub returns : goal.returns

@@ -1,4 +1,4 @@
-use Rattle.coda_cml.proofs.Parting.{segments_part}
+use Rattle.coda_cml.proofs.segments.PartedRecords.{segments_part}
 use Rattle.coda_cml.proofs.law.segments_part_the_fold.Goals as goal
 
 pub returns : goal.returns

@@ -1,4 +1,4 @@
-use Rattle.coda_cml.proofs.Temporary.{temporary}
+use Rattle.coda_cml.proofs.runs.TemporaryObjects.{temporary}
 use Rattle.coda_cml.proofs.law.temporary_objects_leave_nothing.Goals as goal
 
 pub returns : goal.returns

@@ -1,4 +1,4 @@
-use Rattle.coda_cml.proofs.Suffix.{suffix}
+use Rattle.coda_cml.proofs.runs.SteadyRest.{suffix}
 use Rattle.coda_cml.proofs.law.the_rest_is_steady.Goals as goal
 
 pub returns : goal.returns

@@ -1,6 +1,6 @@
 use Rattle.std.proofs.Common.{ap, ◌∙◌}
 use Rattle.coda_cml.specs.declared.segment.Segment.{Segment}
-use Rattle.coda_cml.proofs.Regroup.{last_end}
+use Rattle.coda_cml.proofs.segments.WhereJoiningEnds.{last_end}
 use Rattle.coda_cml.proofs.log.end_of.Goals as goal
 
 pub returns-in-Some : goal.returns-in-Some

@@ -1,7 +1,7 @@
 use Rattle.std.proofs.Common.{◌≡◌, [], drop, ◌∙◌, arith}
 use Rattle.std.proofs.lemmas.List.{drop_all}
 use Rattle.coda_cml.specs.Regrouping.{is_inside, rejoined}
-use Rattle.coda_cml.proofs.Regroup.{joined_to_last}
+use Rattle.coda_cml.proofs.segments.WhereJoiningEnds.{joined_to_last}
 use Rattle.coda_cml.proofs.regrouping.rejoin.Goals as goal
 
 pub returns : goal.returns

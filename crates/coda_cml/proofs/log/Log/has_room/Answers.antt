@@ -4,7 +4,7 @@ use Rattle.coda_cancel.specs.Weights.{fits}
 use Rattle.coda_cml.specs.State.{IsLogOf}
 use Rattle.coda_cml.specs.Room.{room_fits}
 use Rattle.coda_cml.specs.Inside.{state_of}
-use Rattle.coda_cml.proofs.Thaw.{added-append}
+use Rattle.coda_cml.proofs.runs.ThawedFold.{added-append}
 use Rattle.coda_cml.proofs.log.Log.has_room.Goals as goal
 
 pub returns-in-Some-clause-run : goal.returns-in-Some-clause-run

@@ -1,8 +1,8 @@
-use Rattle.std.proofs.Common.{◌≡◌, Some, option_map, sym, ap, ◌∙◌, subst}
+use Rattle.std.proofs.Common.{Some, option_map, sym, ap, ◌∙◌, subst}
 use Rattle.coda_cml.specs.Segments.{end_of}
 use Rattle.coda_cml.specs.State.{IsLogOf}
 use Rattle.coda_cml.specs.Inside.{state_of}
-use Rattle.coda_cml.proofs.Fronts.{sent_upto}
+use Rattle.coda_cml.proofs.segments.Fronts.{sent_upto}
 use Rattle.coda_cml.proofs.log.Log.last_sent.Goals as goal
 
 pub returns-in-Some-clause-run : goal.returns-in-Some-clause-run

@@ -7,18 +7,32 @@ use Rattle.coda_cml.specs.State.{LogState, IsLogOf}
 use Rattle.coda_cml.specs.Inside.{state_of}
 use Rattle.coda_cml.specs.Regrouping.{is_inside, rejoined, recounted}
 use Rattle.coda_cml.specs.Steps.{thawed}
-use Rattle.coda_cml.proofs.Prefix.{up_added}
-use Rattle.coda_cml.proofs.Logs.{upto_front, upto_back}
-use Rattle.coda_cml.proofs.Thawing.{thawed_log}
+use Rattle.coda_cml.proofs.runs.FrontFolds.{up_added}
+use Rattle.coda_cml.proofs.segments.PartsKept.{parts_are, thaw_keeps}
+use Rattle.coda_cml.proofs.segments.LogSteps.{upto_front, upto_back}
+use Rattle.coda_cml.proofs.segments.ThawedLog.{thawed_log}
 use Rattle.coda_cml.proofs.log.Log.thaw.Goals as goal
 
 pub invariant_of-self-2 : goal.invariant_of-self-2
 invariant_of-self-2 c =
     let whole : c.swap.new.x ++ c.swap.new.y ≡ added c.self.inside.chunk c.self.inside.tail = λ i. (c.swap.ensures.x_after ∙ c.in_ok-joins.ensures.later) i ++ (c.swap.ensures.y_after ∙ c.in_ok-joins.ensures.records) i in
+    let chunk : c.swap.new.x ≡ [] = c.swap.ensures.x_after ∙ c.in_ok-joins.ensures.later in
+    let tail : c.swap.new.y ≡ added c.self.inside.chunk c.self.inside.tail = c.swap.ensures.y_after ∙ c.in_ok-joins.ensures.records in
+    let none : c.swap-2.new.x.items ≡ [] = ap (λ v. v.items) c.swap-2.ensures.x_after ∙ c.regroup_all.ensures.later in
+    let counted : c.records.result.now ≡ added c.self.inside.chunk c.self.inside.tail = c.records.ensures.same ∙ c.in_ok-joins.ensures.records in
+    let joins : c.deref.result.now ≡ joins_of c.self.inside.chunk c.self.inside.tail = c.deref.ensures.value ∙ c.in_ok-joins.ensures.joins in
+    let segments : c.swap-2.new.y.items ≡ recounted (added c.self.inside.chunk c.self.inside.tail) (rejoined (is_inside (joins_of c.self.inside.chunk c.self.inside.tail)) (c.self.inside.chunk_segments.items ++ c.self.inside.segments.items)) =
+    ap (λ v. v.items) c.swap-2.ensures.y_after ∙ c.regroup_all.ensures.segments
+    ∙ (λ i. recounted (counted i) (rejoined (is_inside (joins i)) (c.in_ok-reserve.ensures.items i ++ c.self.inside.segments.items))) in
     record {
       rising = subst IsRising (sym whole) (rising_added c.self.inside.chunk c.self.inside.tail c.self.invariant.rising);
       reached = subst (AreUpTo c.self.inside.last) (sym whole) (up_added c.self.inside.last c.self.inside.chunk c.self.inside.tail
           (upto_front c.self.inside.last c.self.inside.chunk c.self.inside.tail c.self.invariant.reached) (upto_back c.self.inside.last c.self.inside.chunk c.self.inside.tail c.self.invariant.reached));
+      parted = parts_are c.self.inside.last c.swap-2.new.x.items [] c.swap-2.new.y.items (recounted (added c.self.inside.chunk c.self.inside.tail) (rejoined (is_inside (joins_of c.self.inside.chunk c.self.inside.tail)) (c.self.inside.chunk_segments.items ++ c.self.inside.segments.items)))
+          c.swap.new.x [] c.swap.new.y (added c.self.inside.chunk c.self.inside.tail) none chunk segments tail
+          (thaw_keeps c.self.inside.last c.self.inside.chunk_segments.items c.self.inside.chunk c.self.inside.segments.items c.self.inside.tail c.self.invariant.parted (is_inside (joins_of c.self.inside.chunk c.self.inside.tail))
+          (rising_added c.self.inside.chunk c.self.inside.tail c.self.invariant.rising));
+      thawed = λ e. (chunk, none);
     }
 
 pub returns-clause-run : goal.returns-clause-run

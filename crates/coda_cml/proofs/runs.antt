@@ -1,0 +1,16 @@
+pub mod JoinedNumbers
+pub mod UndoneCreations
+pub mod AlmostAlike
+pub mod OtherRecords
+pub mod InStep
+pub mod WithoutObject
+pub mod ThawedFold
+pub mod FrontFolds
+pub mod JoinedCounts
+pub mod StillThere
+pub mod CutsAfterThaw
+pub mod SteadyRest
+pub mod WhatIsLeft
+pub mod SteadySteps
+pub mod StandingAlone
+pub mod TemporaryObjects

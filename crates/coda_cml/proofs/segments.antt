@@ -1,0 +1,12 @@
+pub mod RangesWithoutCounts
+pub mod CountedRanges
+pub mod GrowingRuns
+pub mod LogSteps
+pub mod FrozenFronts
+pub mod ThawedLog
+pub mod WhereJoiningEnds
+pub mod LongestFront
+pub mod PartedRecords
+pub mod PartsKept
+pub mod Fronts
+pub mod LastJoined

@@ -1,0 +1,12 @@
+pub mod KeptVolumes
+pub mod Places
+pub mod Overwritten
+pub mod Certifying
+pub mod Versions
+pub mod HandingOn
+pub mod Applying
+pub mod Appending
+pub mod Erasing
+pub mod Omitting
+pub mod NeverMade
+pub mod Cancelling
