@@ -16,7 +16,7 @@ use Rattle.coda_cml.specs.Steady.{IsSteady}
 use Rattle.coda_cml.specs.Steps.{frozen_to, settled, pending_after}
 use Rattle.coda_cml.specs.declared.frozen.Frozen.{Frozen}
 use Rattle.coda_cml.specs.declared.fault.FreezeFault.{FreezeFault}
-use Rattle.coda_cml.proofs.Fronts.{chunks_cut}
+use Rattle.coda_cml.proofs.segments.Fronts.{chunks_cut}
 use Rattle.coda_plain.specs.Deeds.{Froze, Settled}
 use Rattle.coda_cell.specs.State.{put, ClientVolume, new_volume, pending, log_of, volume_after, ClientState, ReplicaState}
 use Rattle.coda_cell.specs.Asking.{Said}

@@ -47,6 +47,7 @@ is_plain Weak = false
 is_plain Down = true
 
 abbrev pub is_built_task : Task → Bool
+is_built_task (task.Hardlink client volume from to) = false
 is_built_task (task.Refresh client volume server) = false
 is_built_task (task.Giveup client volume) = false
 is_built_task _ = true
@@ -251,6 +252,7 @@ DoesTask s (task.Read client volume path) = Naming (on_volume s client volume) (
 DoesTask s (task.List client volume path) = Naming (on_volume s client volume) (ByClient s client volume (λ offers c. list offers c volume path))
 DoesTask s (task.Drain client volume server window) =
     Naming (client_named s client ∷ volume_named s volume ∷ holder_named s server volume ∷ []) (ByBoth s client volume (unwrap_or window 600))
+DoesTask s (task.Hardlink client volume from to) = Nowhere
 DoesTask s (task.Refresh client volume server) = Nowhere
 DoesTask s (task.Giveup client volume) = Nowhere
 

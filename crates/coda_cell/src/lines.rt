@@ -22,6 +22,7 @@ fn is_built_task(task: &Task) -> bool
     ensures { result ≡ is_built_task task.now }
 {
     match task {
+        Task::Hardlink { .. } => false,
         Task::Refresh { .. } => false,
         Task::Giveup { .. } => false,
         _ => true,

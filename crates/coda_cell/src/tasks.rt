@@ -306,6 +306,7 @@ impl Cell {
                 let window = window.unwrap_or(AGING_WINDOW);
                 return self.drain(*client, *volume, *server, window);
             }
+            Task::Hardlink { .. } => unreachable!(),
             Task::Refresh { .. } => unreachable!(),
             Task::Giveup { .. } => unreachable!(),
         };
