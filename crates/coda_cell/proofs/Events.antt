@@ -1,7 +1,8 @@
 -- What entries and events make of a cell, and what is carried out.
-use Rattle.std.proofs.Common.{◌≡◌, ◌≢◌, ℕ, ◌==◌, Bool, true, false, cond, List, [], ◌∷◌, ◌++◌, map, Option, Some, None, is_some, option_map, Result, Ok, Err, IfOk, refl, sym, ap, subst, ◌∙◌, inl, inr, ◌⊎◌}
+use Rattle.std.proofs.Common.{◌≡◌, ◌≢◌, ℕ, ◌==◌, Bool, true, false, cond, List, [], ◌∷◌, ◌++◌, map, Option, Some, None, is_some, option_map, Result, Ok, Err, IfOk, refl, sym, ap, subst, ◌∙◌, inl, inr, ◌⊎◌, arith}
 use Rattle.std.specs.Option.{option_map_or, option_and_then, unwrap_or}
 use Rattle.std.specs.List.{list_any}
+use Rattle.std.specs.Prelude.{nat_le}
 use Rattle.std.specs.BTreeMap as tree
 use Rattle.std.specs.BTreeMap.{BTreeMap}
 use Rattle.std.specs.Ordering.{nat_cmp}
@@ -9,17 +10,21 @@ use Rattle.std.proofs.lemmas.Bool.Decides.{nat_tests}
 use Rattle.coda_tree.specs.Volume.{Nodes}
 use Rattle.coda_cml.specs.Steady.{IsSteady}
 use Rattle.coda_script.specs.declared.line.Strength.{Strength}
-use Rattle.coda_script.specs.declared.line.Strength.TheVariants.{Down}
+use Rattle.coda_script.specs.declared.line.Strength.TheVariants.{Strong, Weak, Down}
 use Rattle.coda_script.specs.declared.reply.Reply.{Reply}
 use Rattle.coda_plain.specs.Cell.{ClientEntry, Did}
-use Rattle.coda_plain.specs.Decisions.{Decided}
-use Rattle.coda_plain.specs.Deeds.{Froze, Settled}
+use Rattle.coda_certify.specs.Verdicts.{verdict_of}
+use Rattle.coda_cml.specs.Chunks.{freeze_refusal}
+use Rattle.coda_cml.specs.Segments.{segments_of}
+use Rattle.coda_cml.specs.declared.fault.FreezeFault.{FreezeFault}
+use Rattle.coda_plain.specs.Decisions.{ReplicaEntry, Decided, decision}
+use Rattle.coda_plain.specs.Deeds.{Deed, Froze, Settled}
 use Rattle.coda_plain.specs.Moves.{AtClient, AtReplica}
-use Rattle.coda_cell.specs.Held.{AreBound}
-use Rattle.coda_cell.specs.State.{put, pending, ClientVolume, ClientState, client_after, client_after_all, ReplicaState, replica_after, replica_after_at, CellState, Event, Entered, after, after_all}
+use Rattle.coda_cell.specs.Held.{AreBound, held_after_deed}
+use Rattle.coda_cell.specs.State.{put, pending, ClientVolume, volume_after, ClientState, client_after, client_after_all, ReplicaState, replica_after, replica_after_at, CellState, Event, Entered, after, after_all}
 use Rattle.coda_cell.specs.Refusing.{refusal}
 use Rattle.coda_cell.specs.Asking.{Said, Answer}
-use Rattle.coda_cell.specs.Steps.{Named, client_named, volume_named, server_named, holder_named, on_volume, first_missing, Doing, Unless, Naming, reply_to, reached, offers_of, Outcome, drain, at_client, ByClient, ByBoth}
+use Rattle.coda_cell.specs.Steps.{Named, client_named, volume_named, server_named, holder_named, on_volume, first_missing, Doing, Unless, Naming, reply_to, reached, offers_of, Outcome, stays, sent_from, chunk_of, sent_unless, drain, at_client, ByClient, ByBoth}
 use Rattle.coda_cell.specs.Code.{IsClient, IsClientAt, replica_state, nodes_offered, Gives, GivesAt, Sends, SendsAt, SentBetween, SendsBetween, with_volume}
 use Rattle.coda_cell.specs.Cells.{ends_cmp, IsCell, IsOrderly, AreOrderly, Carried, client_in, volume_in, server_in, holder_in}
 use Rattle.coda_cell.specs.declared.refused.Refused.{Refused}
@@ -111,7 +116,7 @@ refused_carried o own s code reply why is said cell = record { events = []; does
 pub own_carried : (o : Option Refused) (own : Doing) (s : CellState) (code : Cell) (reply : Reply) → o ≡ None → Carried own s reply code → Carried (Unless o own) s reply code
 own_carried o own s code reply is carried = record { events = carried.events; does = subst (λ p. Unless p own reply carried.events) (sym is) carried.does; left = carried.left }
 
-pub refused_reply : {A : Type 0} (o : Option Refused) (own : Doing) (s : CellState) (code : Cell) (why : Refused) (answer : Result Reply A) → o ≡ Some why → IsCell s code → IfOk answer (λ reply. (reply ≡ reply_to (Err why)) × (Err why ≢ Err refused.Memory)) → IfOk answer (λ reply. Carried (Unless o own) s reply code)
+pub refused_reply : {A : Type 0} (o : Option Refused) (own : Doing) (s : CellState) (code : Cell) (why : Refused) (answer : Result Reply A) → o ≡ Some why → IsCell s code → IfOk answer (λ reply. (reply ≡ refusal why) × (let said : Said = Err why in said ≢ Err refused.Memory)) → IfOk answer (λ reply. Carried (Unless o own) s reply code)
 refused_reply o own s code why (Ok reply) is cell said = refused_carried o own s code reply why is said.0 cell
 refused_reply o own s code why (Err e) is cell said = tt
 
@@ -174,5 +179,104 @@ module _ (s : CellState) (code new : Cell) (n volume : ℕ) (cell : IsCell s cod
               clients = λ m. subst (IsClientAt (put s.clients n (Some (client_after_all c answer.entries)) m)) (sym (g.3 m))
                   (put_both IsClientAt s.clients (tree.get nat_cmp code.clients) n (Some (client_after_all c answer.entries)) (Some g.1) cell.clients (subst (λ o. IsClient (client_after_all c (ask o c).entries) g.1) (sym offered) g.2) m);
               links = λ a b. cell.links a b ∙ ap (λ m. unwrap_or (tree.get ends_cmp m (record { client = a; server = b })) Down) (sym same.3);
+            });
+          }
+
+
+-- ---- a client and a replica
+
+abbrev pub with_both : CellState → ℕ → ClientState → ℕ → ReplicaState → CellState
+with_both s n c v r = record s { clients = put s.clients n (Some c); replicas = put s.replicas v (Some r) }
+
+-- nothing happened
+stays_left : (s : CellState) (n volume : ℕ) (c : ClientState) (r : ReplicaState) → s.clients n ≡ Some c → s.replicas volume ≡ Some r → s ≡ with_both s n (with_volume c volume (c.volumes volume)) volume r
+stays_left s n volume c r is there =
+    let kept : c ≡ with_volume c volume (c.volumes volume) = λ i. record c { volumes = λ v. sym (put_same c.volumes volume (c.volumes volume) refl v) i } in
+    λ i. record s { clients = λ q. sym (put_same s.clients n (Some (with_volume c volume (c.volumes volume))) (is ∙ ap Some kept) q) i; replicas = λ q. sym (put_same s.replicas volume (Some r) there q) i }
+
+-- an entry of the replica's history
+replica_left : (s : CellState) (volume : ℕ) (r : ReplicaState) (entry : ReplicaEntry) → s.replicas volume ≡ Some r → after s (Entered (AtReplica r.server volume entry)) ≡ record s { replicas = put s.replicas volume (Some (replica_after r entry)) }
+replica_left s volume r entry there =
+    let here : (r.server == r.server) ≡ true = grind (arith, nat_tests) in
+    λ i. record s { replicas = put s.replicas volume ((ap (option_map (replica_after_at r.server entry)) there ∙ ap (λ b. Some (cond b (replica_after r entry) r)) here) i) }
+
+client_left : (s : CellState) (n : ℕ) (c : ClientState) (entry : ClientEntry) → s.clients n ≡ Some c → after s (at_client n entry) ≡ with_client s n (client_after c entry)
+client_left s n c entry is = λ i. record s { clients = put s.clients n (ap (option_map (λ (x : ClientState). client_after x entry)) is i) }
+
+-- a chunk was frozen, decided and settled
+sent_left : (s : CellState) (n volume : ℕ) (c : ClientState) (r : ReplicaState) (froze settled : Deed) (decided : ReplicaEntry) → s.clients n ≡ Some c → s.replicas volume ≡ Some r
+    → ((c' : ClientState) (deed : Deed) → (deed ≡ froze) ⊎ (deed ≡ settled) → held_after_deed c'.held c'.number deed ≡ c'.held)
+    → after_all s (at_client n (Did volume froze) ∷ Entered (AtReplica r.server volume decided) ∷ at_client n (Did volume settled) ∷ [])
+    ≡ with_both s n (with_volume c volume (volume_after (volume_after (c.volumes volume) froze) settled)) volume (replica_after r decided)
+sent_left s n volume c r froze settled decided is there keeps =
+    let c1 = client_after c (Did volume froze) in
+    let c2 = client_after c1 (Did volume settled) in
+    let s1 = with_client s n c1 in
+    let s2 : CellState = record s1 { replicas = put s.replicas volume (Some (replica_after r decided)) } in
+    let first = client_left s n c (Did volume froze) is in
+    let second = replica_left s1 volume r decided there in
+    let third = client_left s2 n c1 (Did volume settled) (put_here s.clients n (Some c1)) in
+    let whole : c2 ≡ with_volume c volume (volume_after (volume_after (c.volumes volume) froze) settled) =
+    λ i. record c {
+      held = (keeps c1 settled (inr refl) ∙ keeps c froze (inl refl)) i;
+      volumes = λ v. (put_put c.volumes volume (volume_after (c.volumes volume) froze) (volume_after (c1.volumes volume) settled) v
+          ∙ ap (λ x. put c.volumes volume (volume_after x settled) v) (put_here c.volumes volume (volume_after (c.volumes volume) froze))) i;
+    } in
+    ap (λ (t : CellState). after (after t (Entered (AtReplica r.server volume decided))) (at_client n (Did volume settled))) first
+    ∙ ap (λ (t : CellState). after t (at_client n (Did volume settled))) second
+    ∙ third
+    ∙ (λ i. record s { clients = λ q. (put_put s.clients n (Some c1) (Some c2) q ∙ ap (λ x. put s.clients n (Some x) q) whole) i; replicas = put s.replicas volume (Some (replica_after r decided)) })
+
+-- whatever they come to
+drained_left : (s : CellState) (n volume now window : ℕ) (c : ClientState) (r : ReplicaState) → s.clients n ≡ Some c → s.replicas volume ≡ Some r → (o : Option FreezeFault)
+    → (let x = sent_unless o now window n volume (c.volumes volume) r in after_all s x.events ≡ with_both s n (with_volume c volume x.volume) volume x.replica)
+drained_left s n volume now window c r is there (Some why) = stays_left s n volume c r is there
+drained_left s n volume now window c r is there None = by (nat_le 4294967295 (c.volumes volume).chunks)
+  where
+    by : (full : Bool) → (let x = cond full (stays refused.JournalFull (c.volumes volume) r) (sent_from n volume (chunk_of now window (c.volumes volume)) (c.volumes volume) r) in
+        after_all s x.events ≡ with_both s n (with_volume c volume x.volume) volume x.replica)
+    by true = stays_left s n volume c r is there
+    by false =
+        let chunk = chunk_of now window (c.volumes volume) in
+        let froze = Froze chunk.number r.server chunk.last in
+        let settled = Settled chunk.number (verdict_of (decision r.tree.nodes n chunk.span)) in
+        sent_left s n volume c r froze settled (Decided n chunk.number chunk.span) is there
+        (λ c' deed e. elim e [ inl f ↦ ap (held_after_deed c'.held c'.number) f | inr g ↦ ap (held_after_deed c'.held c'.number) g ])
+
+drain_left : (s : CellState) (n volume now window : ℕ) (c : ClientState) (r : ReplicaState) → s.clients n ≡ Some c → s.replicas volume ≡ Some r → (strength : Strength)
+    → (let x = drain strength now window n volume (c.volumes volume) r in after_all s x.events ≡ with_both s n (with_volume c volume x.volume) volume x.replica)
+drain_left s n volume now window c r is there Strong = drained_left s n volume now window c r is there (freeze_refusal (c.volumes volume).frozen now window (segments_of (c.volumes volume).back))
+drain_left s n volume now window c r is there Weak = drained_left s n volume now window c r is there (freeze_refusal (c.volumes volume).frozen now window (segments_of (c.volumes volume).back))
+drain_left s n volume now window c r is there Down = stays_left s n volume c r is there
+
+module _ (s : CellState) (code new : Cell) (n volume window : ℕ) (cell : IsCell s code) (orderly : AreOrderly s) (there : is_some (tree.get nat_cmp code.clients n) ≡ true)
+    (same : (new.clock ≡ code.clock) × (new.servers ≡ code.servers) × (new.links ≡ code.links)) where
+  -- a client and a replica came to something
+  pub both_carried : (strengths : ℕ → Strength) (said : Said) (reply : Reply) → ((server : ℕ) → s.links n server ≡ strengths server) → reply ≡ reply_to said → said ≢ Err refused.Memory
+      → ((c : ClientState) → IsClientAt (Some c) (tree.get nat_cmp code.clients n) → IsSteady (pending (c.volumes volume)) → SendsBetween strengths code.clock window c volume n said code.clients new.clients code.replicas new.replicas)
+      → Carried (ByBoth s n volume window) s reply new
+  both_carried strengths said reply linked replied fits sends =
+      let c = client_there (s.clients n) (tree.get nat_cmp code.clients n) (cell.clients n) there in
+      by c.0 c.1 (sends c.0 c.2 ((orderly n c.0 c.1).steady volume))
+    where
+      by : (c : ClientState) → s.clients n ≡ Some c → SendsBetween strengths code.clock window c volume n said code.clients new.clients code.replicas new.replicas → Carried (ByBoth s n volume window) s reply new
+      by c is (inl memory) = absurd (fits memory)
+      by c is (inr x) =
+          let at : s.replicas volume ≡ Some x.replica = cell.replicas volume ∙ x.there in
+          let outcome = drain (s.links n x.replica.server) s.clock window n volume (c.volumes volume) x.replica in
+          let outcome_is : outcome ≡ drain (strengths x.replica.server) code.clock window n volume (c.volumes volume) x.replica = λ i. drain (linked x.replica.server i) (cell.clock i) window n volume (c.volumes volume) x.replica in
+          let left = drain_left s n volume s.clock window c x.replica is at (s.links n x.replica.server) in
+          let c' = with_volume c volume outcome.volume in
+          record {
+            events = outcome.events;
+            does = record { client = c; replica = x.replica; client_there = is; replica_there = at; answered = replied ∙ ap reply_to (x.said_is ∙ ap (λ (o : Outcome). o.said) (sym outcome_is)); happened = refl };
+            left = subst (λ t. IsCell t new) (sym left) (record {
+              clock = cell.clock ∙ sym same.0;
+              servers = cell.servers ∙ ap (λ v. v.items) (sym same.1);
+              replicas = λ v. put_both (λ (a : Option ReplicaState) (b : Option Replica). a ≡ option_map replica_state b) s.replicas (tree.get nat_cmp code.replicas) volume (Some outcome.replica) (Some x.left) cell.replicas
+                  (ap Some (ap (λ (o : Outcome). o.replica) outcome_is ∙ sym x.decided)) v ∙ ap (option_map replica_state) (sym (x.replicas v));
+              clients = λ m. subst (IsClientAt (put s.clients n (Some c') m)) (sym (x.clients m))
+                  (put_both IsClientAt s.clients (tree.get nat_cmp code.clients) n (Some c') (Some x.venus) cell.clients (subst (λ (o : Outcome). IsClient (with_volume c volume o.volume) x.venus) (sym outcome_is) x.client) m);
+              links = λ a b. cell.links a b ∙ ap (λ m. unwrap_or (tree.get ends_cmp m (record { client = a; server = b })) Down) (sym same.2);
             });
           }
