@@ -1,0 +1,16 @@
+use Rattle.std.proofs.Common.{[], ◌∷◌, sym, ◌∙◌}
+use Rattle.coda_cell.specs.Steps.{ByBoth, client_named, volume_named, holder_named, first_missing}
+use Rattle.coda_cell.proofs.Events.{three_are, own_reply, refused_reply}
+use Rattle.coda_cell.proofs.cell.Cell.drain.Goals as goal
+
+pub returns-in-Some : goal.returns-in-Some
+returns-in-Some c = λ s is orderly.
+    refused_reply (first_missing (client_named s c.args.client ∷ volume_named s c.args.volume ∷ holder_named s c.args.server c.args.volume ∷ [])) (ByBoth s c.args.client c.args.volume c.args.window)
+    s c.args.self.now c.in-Some.why c.answered.result
+    (three_are s c.args.self.now is c.args.client c.args.volume c.args.server ∙ sym c.missing_holder.ensures ∙ c.in-Some.is) is c.answered.ensures
+
+pub returns : goal.returns
+returns c = λ s is orderly.
+    own_reply (first_missing (client_named s c.args.client ∷ volume_named s c.args.volume ∷ holder_named s c.args.server c.args.volume ∷ [])) (ByBoth s c.args.client c.args.volume c.args.window)
+    s c.drain_there.new.self c.drain_there.result
+    (three_are s c.args.self.now is c.args.client c.args.volume c.args.server ∙ sym c.missing_holder.ensures ∙ c.in_default.is) (c.drain_there.ensures s is orderly)
