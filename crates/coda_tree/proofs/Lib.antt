@@ -9,6 +9,7 @@ pub mod Keyed
 pub mod TableMap
 pub mod SlotMap
 pub mod Parents
+pub mod FirstParent
 pub mod Below
 pub mod KeptParents
 pub mod KeptMoved

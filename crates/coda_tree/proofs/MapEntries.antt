@@ -1,5 +1,5 @@
 -- The entries of a finite map in order, against what the map has at their keys.
-use Rattle.std.proofs.Common.{◌≡◌, ℕ, zero, suc, true, cond, List, [], ◌∷◌, Some, Ordering, refl, sym, ap, ◌∙◌}
+use Rattle.std.proofs.Common.{◌≡◌, ◌<◌, ℕ, zero, suc, true, cond, List, [], ◌∷◌, length, Some, Ordering, refl, sym, ap, ◌∙◌, arith}
 use Rattle.std.specs.Prelude.{slice_get}
 use Rattle.std.specs.declared.cmp.Ordering.TheVariants.{Less, Equal, Greater}
 use Rattle.std.specs.Ordering.{is_eq, ordering_reverse}
@@ -11,6 +11,12 @@ use Rattle.std.proofs.lemmas.Map.Lookups.{CmpEqualImpliesEq}
 use Rattle.std.proofs.lemmas.Option.{same_Some, none-some}
 use Rattle.coda_tree.proofs.Booleans.{and_true, lt_less, from_T}
 use Rattle.coda_tree.proofs.Order.{at_itself}
+
+-- what stands at an index stands within
+pub index_within : {A : Type 0} (l : List A) (i : ℕ) (x : A) → slice_get l i ≡ Some x → i < length l
+index_within [] i x is = absurd (none-some x is)
+index_within (y ∷ l) zero x is = omega arith
+index_within (y ∷ l) (suc i) x is = let rest = index_within l i x is in omega (arith, rest)
 
 module _ {K X : Type 0} {R : K → K → Ordering} (o : IsTotalOrder R) where
   -- an entry among those above a key is above it

@@ -1,5 +1,5 @@
 -- The directory that binds a fid, by a search through all nodes.
-use Rattle.std.proofs.Common.{◌≡◌, Bool, true, false, ◌||◌, cond, List, [], ◌∷◌, Option, Some, None, is_some, Ordering, refl, sym, ap, ◌∙◌, subst}
+use Rattle.std.proofs.Common.{◌≡◌, ◌≢◌, Bool, true, false, ◌||◌, cond, List, [], ◌∷◌, Option, Some, None, is_some, Ordering, refl, sym, ap, ◌∙◌, subst}
 use Rattle.std.specs.List.{list_any, find}
 use Rattle.std.specs.FinMap as map
 use Rattle.std.specs.FinMap.{FinMap}
@@ -53,7 +53,7 @@ any_more t p (y ∷ ys) imp h =
     ] refl h
 
 -- a key that a map has is among its keys
-key_among : {K X : Type 0} {R : K → K → Ordering} (m : FinMap R X) (q : K) (x : X) → map.get m q ≡ Some x → list_any (eq_by_cmp R q) (map.keys m) ≡ true
+pub key_among : {K X : Type 0} {R : K → K → Ordering} (m : FinMap R X) (q : K) (x : X) → map.get m q ≡ Some x → list_any (eq_by_cmp R q) (map.keys m) ≡ true
 key_among m q x is = sym (map.contains_key-keys m q) ∙ ap is_some is
 
 pub tied_fid : (a b : Fid) → eq_by_cmp fid_cmp a b ≡ true → a ≡ b
@@ -64,34 +64,42 @@ tied_name a b h = exact_bytes a b (eq_true _ h)
 
 -- ---- the directory that binds a fid
 
-at_fid : (o : Option Fid) (f : Fid) → is_at_fid o f ≡ true → o ≡ Some f
+pub at_fid : (o : Option Fid) (f : Fid) → is_at_fid o f ≡ true → o ≡ Some f
 at_fid None f h = cc
 at_fid (Some g) f h = ap Some (same_fid_is g f h)
 
-binds_sound : (o : Option Node) (f : Fid) → binds_fid o f ≡ true → (n : Name) × (child_of o n ≡ Some f)
+pub binds_sound : (o : Option Node) (f : Fid) → binds_fid o f ≡ true → (n : Name) × (child_of o n ≡ Some f)
 binds_sound None f h = cc
 binds_sound (Some node) f h =
     let found = any_passes (λ n. is_at_fid (map.get (bindings node.kind) n) f) (map.keys (bindings node.kind)) h in
     (found.0, at_fid _ f found.1)
 
-binds_complete : (o : Option Node) (f : Fid) (n : Name) → child_of o n ≡ Some f → binds_fid o f ≡ true
+pub binds_complete : (o : Option Node) (f : Fid) (n : Name) → child_of o n ≡ Some f → binds_fid o f ≡ true
 binds_complete None f n h = cc
 binds_complete (Some node) f n h =
     any_more (eq_by_cmp name_cmp n) (λ k. is_at_fid (map.get (bindings node.kind) k) f) (map.keys (bindings node.kind))
     (λ k tied. ap (λ j. is_at_fid (map.get (bindings node.kind) j) f) (sym (tied_name n k tied)) ∙ ap (λ o. is_at_fid o f) h ∙ same_fid_refl f)
     (key_among (bindings node.kind) n f h)
 
+-- a test that finds a name bound to f, or says that there is none
+pub binds_test : (o : Option Node) (f : Fid) (b : Bool) → (b ≡ true → (n : Name) × (child_of o n ≡ Some f)) → (b ≡ false → (n : Name) → child_of o n ≢ Some f) → b ≡ binds_fid o f
+binds_test o f true some none = let found = some refl in sym (binds_complete o f found.0 found.1)
+binds_test o f false some none = elim (binds_fid o f) as (λ b. binds_fid o f ≡ b → false ≡ b) [
+  | true ↦ λ binds. let found = binds_sound o f binds in absurd (none refl found.0 found.1)
+  | false ↦ λ _. refl
+] refl
+
 -- the parent binds f
 pub parent_sound : (m : Nodes) (f d : Fid) → parent_of m f ≡ Some d → (n : Name) × (child m d n ≡ Some f)
 unfolding parent_of
 parent_sound m f d h = binds_sound (map.get m d) f (find_passes (λ e. binds_fid (map.get m e) f) (map.keys m) d h)
 
-there_node : (o : Option Node) (f : Fid) (n : Name) → child_of o n ≡ Some f → (node : Node) × (o ≡ Some node)
+pub there_node : (o : Option Node) (f : Fid) (n : Name) → child_of o n ≡ Some f → (node : Node) × (o ≡ Some node)
 there_node None f n h = absurd (none-some f h)
 there_node (Some node) f n h = (node, refl)
 
 -- what is bound has a parent
-parent_complete : (m : Nodes) (d : Fid) (n : Name) (f : Fid) → child m d n ≡ Some f → (e : Fid) × (parent_of m f ≡ Some e)
+pub parent_complete : (m : Nodes) (d : Fid) (n : Name) (f : Fid) → child m d n ≡ Some f → (e : Fid) × (parent_of m f ≡ Some e)
 unfolding parent_of
 parent_complete m d n f h =
     find_some (λ e. binds_fid (map.get m e) f) (eq_by_cmp fid_cmp d) (map.keys m)

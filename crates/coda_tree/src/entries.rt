@@ -1,4 +1,4 @@
-ghost use Rattle.std.specs.Prelude.{◌≡◌, ◌≤◌, ◌<◌, ◌+◌, ◌==◌, vec_len, vec_capacity, insert, IfOk, IfErr, IfSome, IfNone, IsSome, OnOk, OnErr, IsTrue, Some, None, option_map, slice_get};
+ghost use Rattle.std.specs.Prelude.{ℕ, List, true, false, ◌≡◌, ◌≢◌, ◌≤◌, ◌<◌, ◌+◌, ◌==◌, vec_len, vec_capacity, insert, IfOk, IfErr, IfSome, IfNone, IsSome, OnOk, OnErr, IsTrue, Some, None, option_map, slice_get};
 ghost use Rattle.std.specs.FinMap as map;
 ghost use Rattle.std.specs.FinMap.Entries.{is_sorted};
 ghost use Rattle.coda_fid.specs.Name.{name_cmp};
@@ -96,6 +96,21 @@ impl Entries {
             Ok(at) => Some(self.items[at].1),
             Err(_) => None,
         }
+    }
+
+    // Whether a fid is bound, at whatever name.
+    pub(crate) fn binds(&self, fid: Fid) -> bool
+        ensures some { result ≡ true → (name : List ℕ) × (map.get self.now name ≡ Some fid) }
+        ensures none { result ≡ false → (name : List ℕ) → map.get self.now name ≢ Some fid }
+    {
+        for index in 0..self.len() {
+            if let Some((_, bound)) = self.at(index) {
+                if bound == fid {
+                    return true;
+                }
+            }
+        }
+        false
     }
 
     /// Binds a name that is free. Fails for want of memory alone, and then changes nothing.

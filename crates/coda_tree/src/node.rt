@@ -1,7 +1,7 @@
 ghost use Rattle.std.specs.Prelude.{◌≡◌, ◌<◌, ◌+◌, ◌^◌, None, Some, OnOk, OnErr, IfOk, IsSome};
 ghost use Rattle.std.specs.FinMap as map;
 ghost use Rattle.coda_tree.specs.Blocks.{blocks_of};
-ghost use Rattle.coda_tree.specs.Volume.{bindings, bind_in, unbind_in, with_content, written, content_patch, attrs_patch, IsDir};
+ghost use Rattle.coda_tree.specs.Volume.{binds_fid, bindings, bind_in, unbind_in, with_content, written, content_patch, attrs_patch, IsDir};
 ghost use Rattle.coda_tree.specs.Parts.{displaced, parts_before, given_back};
 
 use crate::Entries;
@@ -131,6 +131,17 @@ impl Node {
             NodeKind::Dir(entries) => entries.len() / 32,
         };
         1 + more as u32
+    }
+
+    // Whether a directory binds a fid, at whatever name.
+    pub(crate) fn binds(&self, fid: Fid) -> bool
+        ensures { result ≡ binds_fid (Some self.now) fid }
+    {
+        match &self.kind {
+            NodeKind::Dir(entries) => entries.binds(fid),
+            NodeKind::File(_) => false,
+            NodeKind::Link(_) => false,
+        }
     }
 
     // Binds a name that is free in a directory. Fails for want of memory alone, and then changes nothing.

@@ -99,6 +99,18 @@ fn is_same_place(from: Fid, name: &Name, to: Fid, new: &Name) -> bool
     from == to && name.compare(new).is_eq()
 }
 
+// The first node, in the order of fids, that binds a fid.
+fn first_binder(nodes: &BTreeMap<Fid, Node>, fid: Fid) -> Option<Fid>
+    ensures { result ≡ parent_of (nodes_of nodes.now.entries) fid }
+{
+    for (dir, node) in nodes {
+        if node.binds(fid) {
+            return Some(*dir);
+        }
+    }
+    None
+}
+
 // A copy of each node.
 fn copy_nodes(alloc: Global, nodes: &BTreeMap<Fid, Node>) -> Result<NodeTable, AllocError>
     ensures { IfOk result (λ t. t ≡ nodes_of nodes.now.entries) }
@@ -152,10 +164,9 @@ impl NodeTable {
 
     /// The directory that binds a fid, the first in the order of fids; `None` where none does.
     pub fn binder(&self, fid: Fid) -> Option<Fid>
-        requires { parent_of self.now fid ≡ None }
         ensures { result ≡ parent_of self.now fid }
     {
-        None
+        first_binder(&self.nodes, fid)
     }
 
     /// Puts a node at a fid, in the place of the one there. Fails for want of memory alone, and then changes nothing.
