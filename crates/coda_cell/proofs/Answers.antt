@@ -1,5 +1,5 @@
 -- What a client answers, from what its calls leave.
-use Rattle.std.proofs.Common.{◌≡◌, ℕ, ◌+◌, Bool, true, false, cond, List, [], ◌∷◌, ◌++◌, Option, Some, None, Result, Ok, Err, refl, sym, ap, subst, ◌∙◌, inl, inr, ◌⊎◌}
+use Rattle.std.proofs.Common.{◌≡◌, ℕ, ◌+◌, Bool, true, false, cond, List, [], ◌∷◌, ◌++◌, Option, Some, None, Result, Ok, Err, refl, sym, ap, subst, ◌∙◌, inl, inr}
 use Rattle.std.specs.FinMap as map
 use Rattle.std.specs.BTreeMap as tree
 use Rattle.std.specs.Ordering.{nat_cmp}
@@ -22,9 +22,9 @@ use Rattle.coda_cell.specs.Held.{Held, Fetch, AreBound, held_after_fetches}
 use Rattle.coda_cell.specs.Looking.{then_find, resolve, look_along, is_fetched, entries_of}
 use Rattle.coda_cell.specs.State.{ClientVolume, ClientState, client_after_all}
 use Rattle.coda_cell.specs.Refusing.{OrMemory}
-use Rattle.coda_cell.specs.Accepting.{Accepted, Sight, sight_of, accept}
+use Rattle.coda_cell.specs.Accepting.{Accepted, sight_of, accept}
 use Rattle.coda_cell.specs.Asking.{Said, Answer, answers, look_ups, behind_fetches, next_record, has_room, is_full, entered, answer_to, operate_unless, operate, shown_as, shown_at, show_object}
-use Rattle.coda_cell.specs.Code.{IsLogAt, creations_in, held_of, sight, IsClient, Gives, Finds}
+use Rattle.coda_cell.specs.Code.{IsLogAt, creations_in, held_of, sight, IsClient, Gives}
 use Rattle.coda_cell.proofs.Fetches.{client_after_both, client_after_fetches, bound_look_ups}
 use Rattle.coda_cell.proofs.HeldBelow.{undirty, accept_undirty}
 

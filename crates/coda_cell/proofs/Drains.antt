@@ -1,28 +1,24 @@
 -- What a client and a replica come to, from what the calls of a log leave.
-use Rattle.std.proofs.Common.{◌≡◌, ℕ, ◌+◌, ◌≤◌, true, false, cond, List, [], ◌∷◌, ◌++◌, Option, Some, None, Result, Ok, Err, refl, sym, ap, subst, ◌∙◌, inl, inr, ◌⊎◌}
+use Rattle.std.proofs.Common.{◌≡◌, ℕ, ◌+◌, false, cond, List, [], ◌++◌, Option, Some, None, Err, refl, sym, ap, subst, ◌∙◌, inl, inr}
 use Rattle.std.specs.Prelude.{nat_le}
 use Rattle.std.specs.BTreeMap as tree
-use Rattle.std.specs.BTreeMap.{BTreeMap}
 use Rattle.std.specs.Ordering.{nat_cmp}
 use Rattle.coda_fid.specs.declared.op.Record.{Record}
 use Rattle.coda_certify.specs.declared.verdict.Verdict.{Verdict}
 use Rattle.coda_certify.specs.declared.verdict.Verdict.TheVariants.{Applied, Conflict}
-use Rattle.coda_cancel.specs.Cancel.{fold}
-use Rattle.coda_cml.specs.Chunks.{freeze_refusal, chunk_length}
+use Rattle.coda_cml.specs.Chunks.{freeze_refusal}
 use Rattle.coda_cml.specs.Fronts.{chunk_end}
 use Rattle.coda_cml.specs.Segments.{segments_of, records_upto, records_above}
 use Rattle.coda_cml.specs.State.{LogState, IsLogOf}
 use Rattle.coda_cml.specs.Steady.{IsSteady}
 use Rattle.coda_cml.specs.Steps.{frozen_to, settled, pending_after}
 use Rattle.coda_cml.specs.declared.frozen.Frozen.{Frozen}
-use Rattle.coda_cml.specs.declared.fault.FreezeFault.{FreezeFault}
 use Rattle.coda_cml.proofs.segments.Fronts.{chunks_cut}
 use Rattle.coda_plain.specs.Deeds.{Froze, Settled}
 use Rattle.coda_cell.specs.State.{put, ClientVolume, new_volume, pending, log_of, volume_after, ClientState, ReplicaState}
 use Rattle.coda_cell.specs.Asking.{Said}
-use Rattle.coda_cell.specs.Steps.{Outcome, stays, chunk_of, sent_from, sent_unless, drained, drain}
+use Rattle.coda_cell.specs.Steps.{Outcome, stays, chunk_of, sent_from, sent_unless, drained}
 use Rattle.coda_cell.specs.Code.{IsVolumeLog, IsLogAt, IsClient, replica_state, Drains, Sends, with_volume}
-use Rattle.coda_cell.specs.declared.refused.Refused.{Refused}
 use Rattle.coda_cell.specs.declared.refused.Refused.TheVariants as refused
 use Rattle.coda_cell.specs.declared.volume_log.VolumeLog.{VolumeLog}
 use Rattle.coda_cell.specs.declared.venus.Venus.{Venus}
@@ -123,18 +119,26 @@ sends_none now window number volume c old new replica is none kept logs =
     let v = c.volumes volume in
     let r = replica_state replica in
     let whole : drained now window number volume v r ≡ stays refused.Nothing v r = ap (λ (x : ClientVolume). sent_unless (freeze_refusal x.frozen now window (segments_of x.back)) now window number volume v r) fresh in
-    subst (λ (o : Outcome). Sends o c volume (Err refused.Nothing) new replica) (sym whole) (inr (refl, record {
-      number = is.number ∙ sym kept.0;
-      blocks = is.blocks ∙ sym kept.1;
-      held = is.held ∙ (λ i. record { nodes = sym kept.2 i; parents = sym kept.3 i });
-      logs = λ w. subst (λ x. IsLogAt x (tree.get nat_cmp new.logs w)) (sym (put_same c.volumes volume v refl w)) (subst (IsLogAt (c.volumes w)) (sym (logs w)) (is.logs w));
-    }, refl))
+    subst (λ (o : Outcome). Sends o c volume (Err refused.Nothing) new replica) (sym whole) (inr (
+      refl,
+      record {
+        number = is.number ∙ sym kept.0;
+        blocks = is.blocks ∙ sym kept.1;
+        held = is.held ∙ (λ i. record { nodes = sym kept.2 i; parents = sym kept.3 i });
+        logs = λ w. subst (λ x. IsLogAt x (tree.get nat_cmp new.logs w)) (sym (put_same c.volumes volume v refl w)) (subst (IsLogAt (c.volumes w)) (sym (logs w)) (is.logs w));
+      },
+      refl,
+    ))
 
 -- the link is down
 pub sends_down : (now window number volume : ℕ) (c : ClientState) (code : Venus) (replica : Replica) → IsClient c code → Sends (stays refused.LinkDown (c.volumes volume) (replica_state replica)) c volume (Err refused.LinkDown) code replica
-sends_down now window number volume c code replica is = inr (refl, record {
-  number = is.number;
-  blocks = is.blocks;
-  held = is.held;
-  logs = λ w. subst (λ x. IsLogAt x (tree.get nat_cmp code.logs w)) (sym (put_same c.volumes volume (c.volumes volume) refl w)) (is.logs w);
-}, refl)
+sends_down now window number volume c code replica is = inr (
+  refl,
+  record {
+    number = is.number;
+    blocks = is.blocks;
+    held = is.held;
+    logs = λ w. subst (λ x. IsLogAt x (tree.get nat_cmp code.logs w)) (sym (put_same c.volumes volume (c.volumes volume) refl w)) (is.logs w);
+  },
+  refl,
+)

@@ -1,5 +1,5 @@
 -- What entries and events make of a cell, and what is carried out.
-use Rattle.std.proofs.Common.{◌≡◌, ◌≢◌, ℕ, ◌==◌, Bool, true, false, cond, List, [], ◌∷◌, ◌++◌, map, Option, Some, None, is_some, option_map, Result, Ok, Err, IfOk, refl, sym, ap, subst, ◌∙◌, inl, inr, ◌⊎◌, arith}
+use Rattle.std.proofs.Common.{◌≡◌, ◌≢◌, ℕ, ◌==◌, Bool, true, false, cond, List, [], ◌∷◌, map, Option, Some, None, is_some, option_map, Result, Ok, Err, IfOk, refl, sym, ap, subst, ◌∙◌, inl, inr, ◌⊎◌, arith}
 use Rattle.std.specs.Option.{option_map_or, option_and_then, unwrap_or}
 use Rattle.std.specs.List.{list_any}
 use Rattle.std.specs.Prelude.{nat_le}
@@ -19,20 +19,20 @@ use Rattle.coda_cml.specs.Segments.{segments_of}
 use Rattle.coda_cml.specs.declared.fault.FreezeFault.{FreezeFault}
 use Rattle.coda_plain.specs.Decisions.{ReplicaEntry, Decided, decision}
 use Rattle.coda_plain.specs.Deeds.{Deed, Froze, Settled}
-use Rattle.coda_plain.specs.Moves.{AtClient, AtReplica}
+use Rattle.coda_plain.specs.Moves.{AtReplica}
 use Rattle.coda_cell.specs.Held.{AreBound, held_after_deed}
-use Rattle.coda_cell.specs.State.{put, pending, ClientVolume, volume_after, ClientState, client_after, client_after_all, ReplicaState, replica_after, replica_after_at, CellState, Event, Entered, after, after_all}
+use Rattle.coda_cell.specs.State.{put, pending, volume_after, ClientState, client_after, client_after_all, ReplicaState, replica_after, replica_after_at, CellState, Entered, after, after_all}
 use Rattle.coda_cell.specs.Refusing.{refusal}
 use Rattle.coda_cell.specs.Asking.{Said, Answer}
-use Rattle.coda_cell.specs.Steps.{Named, client_named, volume_named, server_named, holder_named, on_volume, first_missing, Doing, Unless, Naming, reply_to, reached, offers_of, Outcome, stays, sent_from, chunk_of, sent_unless, drain, at_client, ByClient, ByBoth}
-use Rattle.coda_cell.specs.Code.{IsClient, IsClientAt, replica_state, nodes_offered, Gives, GivesAt, Sends, SendsAt, SentBetween, SendsBetween, with_volume}
-use Rattle.coda_cell.specs.Cells.{ends_cmp, IsCell, IsOrderly, AreOrderly, Carried, client_in, volume_in, server_in, holder_in}
+use Rattle.coda_cell.specs.Steps.{Named, client_named, volume_named, server_named, holder_named, on_volume, first_missing, Doing, Unless, reply_to, reached, offers_of, Outcome, stays, sent_from, chunk_of, sent_unless, drain, at_client, ByClient, ByBoth}
+use Rattle.coda_cell.specs.Code.{IsClient, IsClientAt, replica_state, Gives, GivesAt, Sends, SendsAt, SendsBetween, with_volume}
+use Rattle.coda_cell.specs.Cells.{ends_cmp, IsCell, AreOrderly, Carried, client_in, volume_in, server_in, holder_in}
 use Rattle.coda_cell.specs.declared.refused.Refused.{Refused}
 use Rattle.coda_cell.specs.declared.refused.Refused.TheVariants as refused
 use Rattle.coda_cell.specs.declared.cell.Cell.{Cell}
 use Rattle.coda_cell.specs.declared.venus.Venus.{Venus}
 use Rattle.coda_cell.specs.declared.replica.Replica.{Replica}
-use Rattle.coda_cell.proofs.Families.{put_here, put_same, put_put, put_both, seen_put}
+use Rattle.coda_cell.proofs.Families.{put_here, put_same, put_put, put_both}
 
 -- ---- one client of several
 
@@ -181,7 +181,6 @@ module _ (s : CellState) (code new : Cell) (n volume : ℕ) (cell : IsCell s cod
               links = λ a b. cell.links a b ∙ ap (λ m. unwrap_or (tree.get ends_cmp m (record { client = a; server = b })) Down) (sym same.3);
             });
           }
-
 
 -- ---- a client and a replica
 

@@ -1,7 +1,6 @@
 -- What fetches leave of a client.
-use Rattle.std.proofs.Common.{◌≡◌, ◌≢◌, ℕ, true, false, List, [], ◌∷◌, ◌++◌, Option, Some, None, Result, Ok, Err, is_some, refl, sym, ap, subst, ◌∙◌, inl, inr}
+use Rattle.std.proofs.Common.{◌≡◌, ℕ, List, [], ◌∷◌, ◌++◌, Option, Some, None, Result, Ok, Err, refl, sym, ap, subst, ◌∙◌, inl, inr}
 use Rattle.std.specs.FinMap as map
-use Rattle.std.proofs.lemmas.Bool.{false≢true}
 use Rattle.coda_fid.specs.Fid.{root_of}
 use Rattle.coda_fid.specs.declared.fid.Fid.{Fid}
 use Rattle.coda_fid.proofs.Fids.{fids_total, exact_fids}
@@ -13,7 +12,7 @@ use Rattle.coda_tree.proofs.Parents.{parent_sound}
 use Rattle.coda_plain.specs.Cell.{ClientEntry}
 use Rattle.coda_cell.specs.declared.refused.Refused.{Refused}
 use Rattle.coda_cell.specs.Ask.{Asked, Create, Mkdir, Symlink, Store, Setattr, Remove, Rmdir, Rename, front_of, ending}
-use Rattle.coda_cell.specs.Held.{Held, Fetch, AreBound, with_parent, held_after_fetch, held_after_fetches}
+use Rattle.coda_cell.specs.Held.{Held, Fetch, AreBound, held_after_fetch, held_after_fetches}
 use Rattle.coda_cell.specs.Looking.{step_from, resolve, offered, fetch_of, look, looked, look_on, look_along, entries_of}
 use Rattle.coda_cell.specs.State.{ClientState, client_after, client_after_all}
 use Rattle.coda_cell.specs.Asking.{rename_look_ups, look_ups, behind_fetches}

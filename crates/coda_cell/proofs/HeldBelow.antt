@@ -1,15 +1,14 @@
 -- What is held below a directory that binds nothing: nothing, where each object that is held is bound by its parent.
-use Rattle.std.proofs.Common.{◌≡◌, ◌≢◌, ℕ, zero, suc, ◌==◌, ◌||◌, ◌&&◌, not, Bool, true, false, List, [], ◌∷◌, Option, Some, None, refl, sym, ap, ◌∙◌, inl, inr}
+use Rattle.std.proofs.Common.{◌≡◌, ℕ, zero, suc, ◌==◌, ◌||◌, ◌&&◌, not, Bool, true, false, List, [], ◌∷◌, Option, Some, None, refl, sym, ap, ◌∙◌, inl, inr}
 use Rattle.std.specs.Option.{option_map_or}
 use Rattle.std.specs.List.{list_any}
 use Rattle.std.specs.FinMap as map
 use Rattle.std.specs.FinMap.{FinMap}
 use Rattle.coda_fid.specs.Name.{name_cmp}
-use Rattle.std.proofs.lemmas.Bool.{cases_Bool, false≢true, eqb-true}
-use Rattle.coda_fid.specs.Fid.{root_of, same_fid}
+use Rattle.std.proofs.lemmas.Bool.{cases_Bool, false≢true}
+use Rattle.coda_fid.specs.Fid.{same_fid}
 use Rattle.coda_fid.specs.declared.fid.Fid.{Fid}
 use Rattle.coda_fid.specs.declared.fid.Sid.{Sid}
-use Rattle.coda_fid.specs.declared.op.Op.{Op}
 use Rattle.coda_fid.specs.declared.op.Op.TheVariants.{Rmdir as RmdirOp}
 use Rattle.coda_tree.specs.declared.node.Node.{Node}
 use Rattle.coda_tree.specs.declared.node.NodeKind.{NodeKind}
@@ -22,7 +21,7 @@ use Rattle.coda_cell.specs.declared.refused.Refused.{Refused}
 use Rattle.coda_cell.specs.Ask.{Asked, Create, Mkdir, Symlink, Store, Setattr, Remove, Rmdir, Rename, Ending, ending}
 use Rattle.coda_cell.specs.Held.{Held, Parents, below_within, is_below, some_below, AreBound}
 use Rattle.coda_cell.specs.Looking.{then_find}
-use Rattle.coda_cell.specs.Accepting.{Sight, Accepted, rmdir_of, rmdir_in, rmdir_at, spot, accept_rmdir, accept}
+use Rattle.coda_cell.specs.Accepting.{Sight, rmdir_of, rmdir_in, rmdir_at, spot, accept_rmdir, accept}
 use Rattle.coda_cell.proofs.Accepted.{empty_binds}
 
 -- a test that nothing passes finds nothing

@@ -1,5 +1,5 @@
 -- What a client answers to what it is asked, and what its history gains: look-ups first, and then the answer over what it holds.
-use Rattle.std.specs.Prelude.{ℕ, ◌+◌, Bool, true, false, nat_le, if◌then◌else◌, List, [], ◌∷◌, ◌++◌, Option, Some, None, Result, Ok, Err}
+use Rattle.std.specs.Prelude.{ℕ, ◌+◌, Bool, nat_le, if◌then◌else◌, List, [], ◌∷◌, ◌++◌, Option, Some, None, Result, Ok, Err}
 use Rattle.std.specs.FinMap as map
 use Rattle.coda_fid.specs.Fid.{root_of}
 use Rattle.coda_fid.specs.declared.fid.Fid.{Fid}

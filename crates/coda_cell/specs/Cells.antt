@@ -1,19 +1,17 @@
 -- What the cell of the code stands for.
-use Rattle.std.specs.Prelude.{◌≡◌, ℕ, ◌==◌, is_some, true, false, List, Option, Some, None, if◌then◌else◌}
+use Rattle.std.specs.Prelude.{◌≡◌, ℕ, ◌==◌, is_some, false, List, Option, Some, None, if◌then◌else◌}
 use Rattle.std.specs.Option.{option_map, option_map_or, unwrap_or}
 use Rattle.std.specs.List.{list_any}
-use Rattle.std.specs.Borrow.{Bor}
 use Rattle.std.specs.BTreeMap as tree
 use Rattle.std.specs.Ordering.{nat_cmp, ordering_then}
 use Rattle.std.specs.declared.cmp.Ordering.{Ordering}
 use Rattle.coda_tree.specs.Volume.{Tree}
 use Rattle.coda_cml.specs.State.{LogState}
-use Rattle.coda_script.specs.declared.line.Line.{Line}
 use Rattle.coda_script.specs.declared.line.Strength.TheVariants.{Down}
 use Rattle.coda_script.specs.declared.reply.Reply.{Reply}
 use Rattle.coda_cml.specs.Steady.{IsSteady}
 use Rattle.coda_cell.specs.Held.{AreBound}
-use Rattle.coda_cell.specs.State.{ClientVolume, pending, log_of, ClientState, ReplicaState, CellState, Event, after_all}
+use Rattle.coda_cell.specs.State.{pending, log_of, ClientState, ReplicaState, CellState, Event, after_all}
 use Rattle.coda_cell.specs.Steps.{Doing, Named}
 use Rattle.coda_cell.specs.Code.{replica_state, IsClientAt}
 use Rattle.coda_cell.specs.declared.cell.Cell.{Cell}

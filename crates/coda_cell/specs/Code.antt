@@ -1,27 +1,25 @@
 -- What the parts of the code stand for.
-use Rattle.std.specs.Prelude.{◌≡◌, ◌<◌, ◌≤◌, ◌+◌, ℕ, Bool, true, false, ◌||◌, List, ◌++◌, Option, Some, None, Result, Ok, ◌⊎◌, Err}
+use Rattle.std.specs.Prelude.{◌≡◌, ◌<◌, ◌≤◌, ◌+◌, ℕ, Bool, true, false, List, ◌++◌, Option, Some, None, Result, Ok, ◌⊎◌, Err}
 use Rattle.std.specs.Option.{option_map}
 use Rattle.std.specs.Borrow.{Bor}
 use Rattle.std.specs.BTreeMap as tree
 use Rattle.std.specs.BTreeMap.{BTreeMap}
 use Rattle.std.specs.Ordering.{nat_cmp}
-use Rattle.coda_fid.specs.Fid.{root_of, fid_cmp}
+use Rattle.coda_fid.specs.Fid.{root_of}
 use Rattle.coda_fid.specs.declared.fid.Fid.{Fid}
 use Rattle.coda_fid.specs.declared.op.Op.{Op}
 use Rattle.coda_fid.specs.declared.op.Record.{Record}
 use Rattle.coda_tree.specs.Bindings.{Name}
 use Rattle.coda_tree.specs.Volume.{Nodes, Tree}
 use Rattle.coda_cancel.specs.Cancel.{add}
-use Rattle.coda_cancel.specs.Dropping.{mentioning}
 use Rattle.coda_cancel.specs.Weights.{fits}
 use Rattle.coda_plain.specs.Deeds.{created_by, Operated}
-use Rattle.coda_cml.specs.Steady.{any_record}
 use Rattle.coda_cml.specs.State.{IsLogOf}
 use Rattle.coda_script.specs.declared.line.Strength.{Strength}
-use Rattle.coda_cell.specs.Held.{Held, Parents, Fetch, held_after_fetches}
+use Rattle.coda_cell.specs.Held.{Held, Fetch, held_after_fetches}
 use Rattle.coda_cell.specs.Looking.{then_find, resolve, fids_of, is_fetched}
 use Rattle.coda_cell.specs.State.{put, ClientVolume, new_volume, volume_after, log_of, ClientState, client_after_all, ReplicaState}
-use Rattle.coda_cell.specs.Accepting.{Sight, is_mentioned}
+use Rattle.coda_cell.specs.Accepting.{Sight}
 use Rattle.coda_cell.specs.Ask.{Asked, asked}
 use Rattle.coda_cell.specs.Asking.{Said, Answer, next_record, has_room, is_full, operate, read, list}
 use Rattle.coda_cell.specs.Steps.{Outcome, drain}

@@ -4,7 +4,7 @@ use Rattle.std.specs.Option.{option_map}
 use Rattle.coda_script.specs.declared.line.Strength.{Strength}
 use Rattle.coda_script.specs.declared.line.Strength.TheVariants.{Down}
 use Rattle.coda_plain.specs.Decisions.{ReplicaEntry}
-use Rattle.coda_plain.specs.Cell.{ClientEntry, Actor, PlainCell, empty_cell}
+use Rattle.coda_plain.specs.Cell.{ClientEntry, PlainCell, empty_cell}
 use Rattle.coda_plain.specs.Moves.{Move, Does, after as after_move}
 use Rattle.coda_cell.specs.State.{put, later, linked, ClientState, new_client, client_after_all, ReplicaState, new_replica, replica_after_all, CellState, Event, VolumeMade, ClientMade, Ticked, LinkSet, Entered}
 

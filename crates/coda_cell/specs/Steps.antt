@@ -1,10 +1,9 @@
 -- What a line does in a cell: a relation of the state before, the line, its reply, and what happens.
-use Rattle.std.specs.Prelude.{◌≡◌, ℕ, ◌+◌, Bool, true, false, ◌==◌, nat_le, is_some, if◌then◌else◌, List, [], ◌∷◌, length, map, replicate, Option, Some, None, Result, Ok, Err}
+use Rattle.std.specs.Prelude.{◌≡◌, ℕ, ◌+◌, Bool, true, false, ◌==◌, nat_le, is_some, if◌then◌else◌, List, [], ◌∷◌, length, map, replicate, Option, Some, None, Ok, Err}
 use Rattle.std.specs.Option.{option_map_or, option_and_then, unwrap_or}
 use Rattle.std.specs.List.{list_any}
 use Rattle.coda_fid.specs.declared.op.Record.{Record}
 use Rattle.coda_tree.specs.Volume.{Nodes}
-use Rattle.coda_certify.specs.declared.verdict.Verdict.{Verdict}
 use Rattle.coda_certify.specs.Verdicts.{verdict_of}
 use Rattle.coda_cml.specs.Segments.{segments_of, records_upto}
 use Rattle.coda_cml.specs.Chunks.{freeze_refusal}
@@ -21,7 +20,7 @@ use Rattle.coda_script.specs.declared.line.Line.TheVariants as line
 use Rattle.coda_script.specs.declared.reply.Answer.TheVariants.{Decided as DecidedAs}
 use Rattle.coda_script.specs.declared.reply.Reply.{Reply}
 use Rattle.coda_script.specs.declared.reply.Reply.TheVariants.{Opened, Accepted, Drained, ShowVolume, ShowLog}
-use Rattle.coda_plain.specs.Deeds.{Deed, Operated, Froze, Settled}
+use Rattle.coda_plain.specs.Deeds.{Froze, Settled}
 use Rattle.coda_plain.specs.Decisions.{Decided, decision}
 use Rattle.coda_plain.specs.Cell.{ClientEntry, Did}
 use Rattle.coda_plain.specs.Moves.{AtClient, AtReplica}

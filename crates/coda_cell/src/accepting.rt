@@ -80,13 +80,7 @@ impl Venus {
         Ok((dir, fid))
     }
 
-    fn accept_create(
-        &self,
-        volume: u32,
-        path: &Path,
-        mode: u16,
-        owner: u32,
-    ) -> Result<Op, Refused>
+    fn accept_create(&self, volume: u32, path: &Path, mode: u16, owner: u32) -> Result<Op, Refused>
         ensures { OrMemory result (accept_creation (sight self.now volume) volume (ending path.now) (λ dir name fid. Op.Create dir name fid mode owner)) }
     {
         let Some((front, name)) = ending(path.names()) else {

@@ -65,11 +65,7 @@ fn make_log(
 }
 
 // Puts the next operation behind the log of a volume, which is there. Fails for want of memory alone.
-fn push_at(
-    logs: &mut BTreeMap<u32, VolumeLog>,
-    volume: u32,
-    rec: Record,
-) -> Result<(), AllocError>
+fn push_at(logs: &mut BTreeMap<u32, VolumeLog>, volume: u32, rec: Record) -> Result<(), AllocError>
     requires there { IsSome (tree.get nat_cmp logs.old volume) }
     requires may { IfSome (tree.get nat_cmp logs.old volume) (λ l. MayPush l rec) }
     ensures { OnOk result (PushedAt logs.old logs.new volume rec) }
@@ -110,7 +106,10 @@ impl Venus {
                 Ok(())
             }
             Op::Rename {
-                to_dir, fid, over, ..
+                to_dir,
+                fid,
+                over,
+                ..
             } => {
                 if let Some(over) = over {
                     self.parents.remove(over.fid);
@@ -205,12 +204,7 @@ impl Venus {
     }
 
     // Reads a file or a link.
-    fn read(
-        &mut self,
-        offers: Option<&Volume>,
-        volume: u32,
-        path: &Path,
-    ) -> Result<Reply, Refused>
+    fn read(&mut self, offers: Option<&Volume>, volume: u32, path: &Path) -> Result<Reply, Refused>
         ensures { (c : ClientState) → IsClient c self.old → Gives (read (nodes_offered offers.entry) c volume path.now) c result self.new }
     {
         match self.find(offers, volume, path)? {
@@ -220,12 +214,7 @@ impl Venus {
     }
 
     // Lists what a directory binds.
-    fn list(
-        &mut self,
-        offers: Option<&Volume>,
-        volume: u32,
-        path: &Path,
-    ) -> Result<Reply, Refused>
+    fn list(&mut self, offers: Option<&Volume>, volume: u32, path: &Path) -> Result<Reply, Refused>
         ensures { (c : ClientState) → IsClient c self.old → Gives (list (nodes_offered offers.entry) c volume path.now) c result self.new }
     {
         match self.find(offers, volume, path)? {

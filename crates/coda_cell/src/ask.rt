@@ -24,17 +24,33 @@ pub enum Ask<'a> {
         owner: u32,
     },
     /// A link to a target, at a free path.
-    Symlink { path: &'a Path, target: &'a Bytes },
+    Symlink {
+        path: &'a Path,
+        target: &'a Bytes,
+    },
     /// The file at a path has this content.
-    Store { path: &'a Path, content: &'a Bytes },
+    Store {
+        path: &'a Path,
+        content: &'a Bytes,
+    },
     /// The object at a path has these attributes.
-    Setattr { path: &'a Path, attrs: Attrs },
+    Setattr {
+        path: &'a Path,
+        attrs: Attrs,
+    },
     /// The file or link at a path goes.
-    Remove { path: &'a Path },
+    Remove {
+        path: &'a Path,
+    },
     /// The empty directory at a path goes.
-    Rmdir { path: &'a Path },
+    Rmdir {
+        path: &'a Path,
+    },
     /// The object at a path moves to another, over a file or link that is there.
-    Rename { from: &'a Path, to: &'a Path },
+    Rename {
+        from: &'a Path,
+        to: &'a Path,
+    },
 }
 
 /// The first names of a path and its last one.

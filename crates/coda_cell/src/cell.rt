@@ -72,11 +72,7 @@ fn put_replica(
 }
 
 // Puts a client at its number. Fails for want of memory alone.
-fn put_venus(
-    clients: &mut BTreeMap<u8, Venus>,
-    number: u8,
-    venus: Venus,
-) -> Result<(), AllocError>
+fn put_venus(clients: &mut BTreeMap<u8, Venus>, number: u8, venus: Venus) -> Result<(), AllocError>
     ensures { OnOk result ((n : ℕ) → tree.get nat_cmp clients.new n ≡ put (tree.get nat_cmp clients.old) number (Some venus) n) }
 {
     clients.insert(number, venus)?;

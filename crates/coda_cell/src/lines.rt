@@ -68,7 +68,9 @@ impl Cell {
     {
         match line {
             Line::Volume {
-                volume, servers, ..
+                volume,
+                servers,
+                ..
             } => self.make_volume(*volume, alone(servers.servers())),
             Line::Client { client, blocks, .. } => self.make_client(*client, *blocks),
             Line::Link {

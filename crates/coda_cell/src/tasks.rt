@@ -130,7 +130,12 @@ impl Cell {
     ghost use Rattle.coda_cell.specs.Cells.{IsCell, AreOrderly, Carried, client_in, volume_in};
 
     // Has a client answer, where it and the volume are there.
-    fn answer_there(&mut self, client: u8, volume: u32, request: &Request) -> Result<Reply, CellFault>
+    fn answer_there(
+        &mut self,
+        client: u8,
+        volume: u32,
+        request: &Request,
+    ) -> Result<Reply, CellFault>
         requires { first_missing (client_in self.old client ∷ volume_in self.old volume ∷ []) ≡ None }
         ensures { (s : CellState) → IsCell s self.old → AreOrderly s → IfOk result (λ reply. Carried (ByClient s client volume (λ offers c. answer_of (requested request.now) offers c volume)) s reply self.new) }
     {
@@ -270,7 +275,14 @@ impl Cell {
                 volume,
                 path,
                 attrs,
-            } => (*client, *volume, Ask::Setattr { path, attrs: *attrs }),
+            } => (
+                *client,
+                *volume,
+                Ask::Setattr {
+                    path,
+                    attrs: *attrs,
+                },
+            ),
             Task::Remove {
                 client,
                 volume,

@@ -1,9 +1,9 @@
 // A client: what it holds and its logs.
+use crate::parents::ParentTable;
 use crate::volume_log::VolumeLog;
 use coda_cml::Log;
 use coda_tree::NodeTable;
 use std::alloc::Global;
-use crate::parents::ParentTable;
 use std::collections::BTreeMap;
 
 /// A client's cache manager: the nodes that it holds, of whatever volume, and its log of each volume that it worked on

@@ -54,16 +54,22 @@ creates_one fid _ e = absurd (false≢true e)
 -- what was made stays made
 pub made_more : (volume : ℕ) (deeds : List Deed) (deed : Deed) (fid : Fid) → IsMade volume deeds fid → IsMade volume (deeds ++ deed ∷ []) fid
 made_more volume deeds deed fid (here, inl root) = (here, inl root)
-made_more volume deeds deed fid (here, inr low) = (here, inr (
-    let more = created_push (full_of deeds) (operation_in deed) in
-    subst (λ rs. fid.uniq ≤ created_in rs) (sym (full_push deeds deed)) (omega (arith, low, more))))
+made_more volume deeds deed fid (here, inr low) = (
+  here,
+  inr (
+      let more = created_push (full_of deeds) (operation_in deed) in
+      subst (λ rs. fid.uniq ≤ created_in rs) (sym (full_push deeds deed)) (omega (arith, low, more))),
+)
 
 pub next_made : (volume : ℕ) (deeds : List Deed) (client : ℕ) (rec : Record) (fid : Fid) → IsNext volume deeds client rec.op fid → IsMade volume (deeds ++ Operated rec ∷ []) fid
-next_made volume deeds client rec fid n = (n.here, inr (
-    let one = creates_one fid rec.op n.creates_it in
-    let next = n.next in
-    let all = created_all (full_of deeds) rec in
-    subst (λ rs. fid.uniq ≤ created_in rs) (sym (full_push deeds (Operated rec))) (omega (arith, one, next, all))))
+next_made volume deeds client rec fid n = (
+  n.here,
+  inr (
+      let one = creates_one fid rec.op n.creates_it in
+      let next = n.next in
+      let all = created_all (full_of deeds) rec in
+      subst (λ rs. fid.uniq ≤ created_in rs) (sym (full_push deeds (Operated rec))) (omega (arith, one, next, all))),
+)
 
 -- the last entry is the operation
 the_last : (deed : Deed) (rec : Record) → In rec (operation_in deed) → deed ≡ Operated rec
@@ -139,7 +145,7 @@ module _ (h : Histories) (pool : ℕ → Option Letter) (a : DoAgree h pool) (cl
 pub agree_same : (h : Histories) (pool : ℕ → Option Letter) (clients : ℕ → List ClientEntry) → DoAgree h pool → ((c v : ℕ) → deeds_of v (clients c) ≡ deeds_of v (h.clients c)) → DoAgree (record h { clients = clients }) pool
 agree_same h pool clients a same =
     let frozen : (c v number server : ℕ) (span : List Record) → HasFrozen h c v number server span → HasFrozen (record h { clients = clients }) c v number server span =
-        λ c v number server span. subst (λ ds. In (record { number = number; home = server; span = span }) (chunks_of ds)) (sym (same c v)) in
+    λ c v number server span. subst (λ ds. In (record { number = number; home = server; span = span }) (chunks_of ds)) (sym (same c v)) in
     let made : (v : ℕ) (fid : Fid) → IsMade v (deeds_in h fid.vnode v) fid → IsMade v (deeds_of v (clients fid.vnode)) fid = λ v fid. subst (λ ds. IsMade v ds fid) (sym (same fid.vnode v)) in
     record {
       lawful = λ c v. subst AreLawful (sym (same c v)) (a.lawful c v);

@@ -1,4 +1,4 @@
-use Rattle.std.proofs.Common.{◌≡◌, ◌<◌, arith, Option, None, false,  sym, ap, subst, ◌∙◌, rules, tests}
+use Rattle.std.proofs.Common.{◌≡◌, ◌<◌, arith, Option, None, false, sym, ap, subst, ◌∙◌}
 use Rattle.std.specs.Prelude.{nat_le}
 use Rattle.std.proofs.lemmas.Bool.Decides.{nat_tests}
 use Rattle.coda_cml.specs.State.{LogState}

@@ -1,8 +1,6 @@
-use Rattle.std.proofs.Common.{◌≡◌, ℕ, IfOk, sym, ap, subst, ◌∙◌}
-use Rattle.coda_fid.specs.declared.path.Path.{Path}
-use Rattle.coda_script.specs.declared.line.Task.TheVariants as task
+use Rattle.std.proofs.Common.{◌≡◌, IfOk, sym, ap, subst, ◌∙◌}
 use Rattle.coda_script.specs.declared.line.Task.{Task}
-use Rattle.coda_cell.specs.Ask.{asked, Create, Mkdir, Symlink, Setattr, Remove, Rmdir, Rename}
+use Rattle.coda_cell.specs.Ask.{asked, Create, Mkdir}
 use Rattle.coda_cell.specs.Steps.{Operates, DoesTask}
 use Rattle.coda_cell.specs.Cells.{Carried}
 use Rattle.coda_cell.proofs.cell.Cell.carry_out.Goals as goal
@@ -12,7 +10,7 @@ pub returns : goal.returns
 returns c = λ s is orderly.
     let done = c.operate.ensures s is orderly in
     let whole : (t : Task) → c.args.task.now ≡ t → Operates s c.match-task.client.0 c.match-task.client.1 (asked c.match-task.client.2) ≡ DoesTask s t → _ =
-        λ t e same. subst (λ doing. IfOk c.operate.result (λ reply. Carried doing s reply c.operate.new.self)) (same ∙ ap (DoesTask s) (sym e)) done in
+    λ t e same. subst (λ doing. IfOk c.operate.result (λ reply. Carried doing s reply c.operate.new.self)) (same ∙ ap (DoesTask s) (sym e)) done in
     elim c.match-task.branch [
       | in-Create w ↦ whole _ w.in-Create.is (ap (λ x. Operates s x.0 x.1 (asked x.2)) w.client-is
           ∙ (λ i. Operates s w.in-Create.client w.in-Create.volume (Create w.in-Create.path (w.unwrap_or-mode.ensures i) (w.unwrap_or-owner.ensures i))))

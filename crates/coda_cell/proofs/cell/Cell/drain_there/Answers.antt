@@ -10,7 +10,7 @@ use Rattle.coda_cell.proofs.cell.Cell.drain_there.Goals as goal
 pub returns : goal.returns
 returns c = λ s is orderly. IfOk-weaker c.answered.result _ _
     (λ reply a. both_carried s c.args.self.now (record c.args.self.now { replicas = c.send_between-said.new.replicas; clients = c.send_between-said.new.clients }) c.args.client c.args.volume c.args.window is orderly
-        (are_there _ _ c.requires).0 (refl, refl, refl)
-        (λ server. unwrap_or (tree.get ends_cmp c.args.self.now.links (record { client = c.args.client; server = server })) Down) c.send_between-said.result reply
-        (λ server. is.links c.args.client server) a.0 a.1 c.send_between-said.ensures)
+    (are_there _ _ c.requires).0 (refl, refl, refl)
+    (λ server. unwrap_or (tree.get ends_cmp c.args.self.now.links (record { client = c.args.client; server = server })) Down) c.send_between-said.result reply
+    (λ server. is.links c.args.client server) a.0 a.1 c.send_between-said.ensures)
     c.answered.ensures

@@ -8,5 +8,5 @@ use Rattle.coda_cell.proofs.cell.Cell.operate.Goals as goal
 pub returns : goal.returns
 returns c = λ s is orderly.
     subst (λ time. IfOk c.answer.result (λ reply. Carried (Naming (on_volume s c.args.client c.args.volume)
-        (ByClient s c.args.client c.args.volume (λ offers d. operate offers d time c.args.volume (asked c.args.ask)))) s reply c.answer.new.self))
+    (ByClient s c.args.client c.args.volume (λ offers d. operate offers d time c.args.volume (asked c.args.ask)))) s reply c.answer.new.self))
     (sym is.clock) (c.answer.ensures s is orderly)

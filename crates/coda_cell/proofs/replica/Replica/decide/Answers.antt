@@ -1,7 +1,6 @@
 use Rattle.std.proofs.Common.{◌≡◌, sym, ap, ◌∙◌}
 use Rattle.std.proofs.lemmas.Result.{IfOk-weaker, on_ok_weaker}
 use Rattle.coda_fid.specs.Fid.{root_of}
-use Rattle.coda_fid.specs.declared.op.Record.{Record}
 use Rattle.coda_tree.specs.Volume.{Tree}
 use Rattle.coda_certify.specs.Replay.{Replayed, replay}
 use Rattle.coda_certify.specs.Verdicts.{verdict_of, nodes_left}

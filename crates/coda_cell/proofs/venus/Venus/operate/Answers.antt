@@ -1,6 +1,5 @@
 use Rattle.std.proofs.Common.{◌≡◌, ℕ, ◌∙◌, None, Ok, sym, subst, rules, inl, inr}
 use Rattle.coda_fid.specs.declared.op.Op.{Op}
-use Rattle.coda_cell.specs.declared.refused.Refused.{Refused}
 use Rattle.coda_cell.specs.Ask.{Asked, asked, too_big}
 use Rattle.coda_cell.specs.Refusing.{OrMemory}
 use Rattle.coda_cell.specs.Accepting.{Accepted, Sight, accept}

@@ -1,9 +1,8 @@
-use Rattle.std.proofs.Common.{◌≡◌, true, Some, sym, ap, ◌∙◌, inr, rules}
+use Rattle.std.proofs.Common.{◌≡◌, Some, sym, ap, ◌∙◌, inr, rules}
 use Rattle.std.specs.Prelude.{Ok}
 use Rattle.std.specs.FinMap as map
 use Rattle.coda_fid.specs.declared.op.Op.TheVariants.{Rmdir}
 use Rattle.coda_tree.specs.Bindings.{Name}
-use Rattle.coda_cell.specs.Accepting.{rmdir_at}
 use Rattle.coda_cell.specs.Code.{held_of, sight}
 use Rattle.coda_cell.proofs.HeldBelow.{none_below, rmdir_empty}
 use Rattle.coda_cell.proofs.venus.Venus.rmdir_at.Goals as goal
