@@ -1,5 +1,5 @@
 -- Each step keeps the rule.
-use Rattle.std.proofs.Common.{◌≡◌, ◌≢◌, ◌⊎◌, inl, inr, ⊎_elim, ℕ, zero, suc, ◌+◌, ◌-◌, ◌*◌, ◌%◌, ◌^◌, ◌<◌, ◌≤◌, Bool, true, false, true≢false, cond, List, [], ◌∷◌, ◌++◌, length, set, drop, Option, Some, None, refl, sym, ap, ◌∙◌, subst, arith, length-append}
+use Rattle.std.proofs.Common.{◌≡◌, ◌≢◌, ◌⊎◌, inl, inr, ⊎_elim, ℕ, zero, suc, ◌+◌, ◌%◌, ◌^◌, ◌<◌, ◌≤◌, Bool, true, false, true≢false, List, [], ◌∷◌, ◌++◌, length, set, drop, Option, Some, None, refl, sym, ap, ◌∙◌, subst, arith, length-append}
 use Rattle.std.specs.Prelude.{slice_get}
 use Rattle.std.specs.List.{sum_by}
 use mathlib.Core.Option.{some, none, some-ne-none, some-injective}
@@ -10,13 +10,13 @@ use lib.ListN.{get_elem?}
 use lib.Seq.{set-get_or}
 use native.Mathlib.Decide.{dec_le}
 use Rattle.std.specs.Prelude.{slice_index, bit_or}
-use Rattle.atomic_table.specs.Table.{State, Me, step, keeps, takes, gives, stepped, Allows, Splits, Joins, Final, Seen, Act, Valid, carried_after, homes_after}
-use Rattle.atomic_table.proofs.Lists.{at_set, at_snoc, at_longer, at_last, set_here, set_else, set_again}
+use Rattle.atomic_table.specs.Table.{State, Me, step, keeps, takes, gives, stepped, Allows, Splits, Joins, Final, Seen, Act, Valid, carried_after}
+use Rattle.atomic_table.proofs.Lists.{at_longer, set_here, set_else}
 use Rattle.coda_turn.specs.declared.view.View.{View}
-use Rattle.coda_turn.specs.Rule.{Has, times, placed, fresh, newcomer, nobody, StandInHistory, Elsewhere, Holds, word_of, IsLawful, IsHome, OneHistory}
-use Rattle.coda_turn.specs.Plays.{kept_part, given_part, joined, unmet, Looked, looked, Closes, Takes, Meets, took, after_leave, left}
+use Rattle.coda_turn.specs.Rule.{Has, times, placed, newcomer, nobody, Elsewhere, Holds, word_of, IsLawful, IsHome, OneHistory}
+use Rattle.coda_turn.specs.Plays.{kept_part, given_part, joined, looked, Closes, took, after_leave, left}
 use Rattle.coda_turn.proofs.Words.{even_at, odd_at, or_even, or_odd}
-use Rattle.coda_turn.proofs.Views.{at_less, sum_set, sum_snoc, sum_none, sum_zero, sum_alone, sum_rest, each_set, each_snoc, has_front, has_back, has_cases, has_one, has_nil, get_front, get_less, prefix_self, prefix_nil, prefix_trans, prefix_shorter, prefix_length, drop_front, times_append, times_none, times_placed_less, times_placed_in, stand_placed, stands_has, unmet_has}
+use Rattle.coda_turn.proofs.Views.{at_less, sum_set, sum_snoc, sum_zero, sum_alone, sum_rest, each_set, each_snoc, has_front, has_back, has_cases, has_one, has_nil, get_front, get_less, prefix_self, prefix_nil, prefix_trans, prefix_shorter, prefix_length, drop_front, times_append, times_none, times_placed_less, times_placed_in, stand_placed, unmet_has}
 
 module _ {S O E : Type 0} (opening : S → O) (entries : S → List E) where
   pub begins : (state : S) (w : ℕ) → w ≡ word_of false (entries state) → OneHistory opening entries state record { words = w ∷ []; homes = some (Some state) ∷ []; views = newcomer (opening state) (entries state) ∷ [] }

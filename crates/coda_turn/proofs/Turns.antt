@@ -1,15 +1,13 @@
 -- One whole call: take, out, run, in, leave.
-use Rattle.std.proofs.Common.{◌≡◌, ◌⊎◌, inl, inr, ⊎_elim, ℕ, zero, suc, ◌+◌, ◌*◌, ◌%◌, ◌^◌, ◌<◌, Bool, true, false, cond, List, [], ◌∷◌, ◌++◌, length, drop, Option, Some, None, refl, sym, ap, ◌∙◌, subst, arith}
+use Rattle.std.proofs.Common.{◌≡◌, inl, inr, ⊎_elim, ℕ, ◌+◌, ◌*◌, ◌%◌, ◌^◌, ◌<◌, true, false, List, [], ◌∷◌, ◌++◌, length, drop, Option, Some, None, refl, sym, ap, ◌∙◌, subst, arith}
 use Rattle.std.proofs.lemmas.List.{append-nil}
-use Rattle.std.specs.Prelude.{bit_or}
 use mathlib.Core.Option.{none}
 use mathlib.Core.List.{IsPrefix}
-use Rattle.atomic_table.specs.Table.{State, Me, step, rest, Allows}
+use Rattle.atomic_table.specs.Table.{Me, step, rest, Allows}
 use Rattle.coda_turn.specs.declared.view.View.{View}
 use Rattle.coda_turn.specs.Steps.{Ran}
 use Rattle.coda_turn.specs.Rule.{placed, word_of, OneHistory}
 use Rattle.coda_turn.specs.Plays.{Takes, after_leave, left, Stepped}
-use Rattle.coda_turn.proofs.Words.{even_at}
 use Rattle.coda_turn.proofs.Views.{drop_front}
 use Rattle.coda_turn.proofs.Moves.{leaves, first_of}
 

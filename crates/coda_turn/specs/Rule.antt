@@ -1,5 +1,5 @@
 -- The rule of a turn's table: one word, one slot, one history.
-use Rattle.std.specs.Prelude.{◌≡◌, ◌<◌, ◌≤◌, ◌==◌, ℕ, suc, ◌+◌, ◌*◌, ◌%◌, ◌^◌, ◌⊎◌, List, [], ◌∷◌, ◌++◌, length, Bool, true, false, cond, Option, Some, None, slice_get}
+use Rattle.std.specs.Prelude.{◌≡◌, ◌<◌, ◌≤◌, ◌==◌, ℕ, suc, ◌+◌, ◌*◌, ◌%◌, ◌^◌, List, [], ◌∷◌, length, Bool, true, false, cond, Option, Some, None, slice_get}
 use Rattle.std.specs.List.{sum_by, count_by}
 use mathlib.Core.Option.{some, none}
 use mathlib.Core.List.{IsPrefix}
@@ -34,9 +34,11 @@ module _ {O E : Type 0} where
   abbrev pub fresh : Option O → ℕ → List E → ℕ → View O E
   fresh o s xs parts = record { opening = o; start = s; seen = xs; mine = []; parts = parts; held = []; met = []; aside = []; holding = None }
 
+  -- the first seat
   abbrev pub newcomer : O → List E → View O E
   newcomer o xs = fresh (Some o) (length xs) xs (2 ^ 32)
 
+  -- a seat that was taken in by another
   abbrev pub nobody : View O E
   nobody = fresh None 0 [] 0
 
@@ -44,6 +46,8 @@ module _ {O E : Type 0} where
   abbrev pub Elsewhere : List (View O E) → ℕ → ℕ → Type 0
   Elsewhere views j w = (i : ℕ) × (v : View O E) × (get_elem? views i ≡ some v) × (i ≡ j → ⊥) × Has v.held w
 
+  -- What a seat knows is so: how the turn was opened, that the history begins with what it saw and with what it keeps aside,
+  -- that its entries stand there. A seat that holds the turn has the whole history, and one without parts is spent.
   pub record IsLawful (o : O) (start : ℕ) (log : List E) (taken : Bool) (holder j : ℕ) (v : View O E) : Type 0 where
     pub opening : 0 < v.parts → (v.opening ≡ Some o) × (v.start ≡ start)
     pub seen : IsPrefix v.seen log
@@ -62,6 +66,10 @@ module _ {S O E : Type 0} (opening : S → O) (entries : S → List E) where
   IsHome true o log homes = homes ≡ none ∷ []
   IsHome false o log homes = (state : S) × (homes ≡ some (Some state) ∷ []) × (opening state ≡ o) × (entries state ≡ log)
 
+-- There is one history. It begins with the entries that there were at first; the word is twice its length, and one more
+-- while a seat has taken the turn; the state with this history is at home unless it is taken; each seat's view is lawful;
+-- each word that a seat met another has held; who has taken the turn holds it; the parts sum to 2^32; and no entry from
+-- before is in a seat's own, and each later one in exactly one seat's.
 pub record OneHistory {S O E : Type 0} (opening : S → O) (entries : S → List E) (begun : S) (s : State (Option S) (View O E)) : Type 0 where
   pub log : List E
   pub taken : Bool

@@ -1,8 +1,6 @@
-use Rattle.std.proofs.Common.{rules, arith, ◌≡◌, ℕ, ◌*◌, ◌%◌, ◌^◌, List, ◌∷◌, [], Option, Some, false, ap, sym, ◌∙◌, subst, refl}
+use Rattle.std.proofs.Common.{rules, arith, ◌≡◌, ◌*◌, ◌%◌, ◌^◌, List, ◌∷◌, [], Option, Some, false, ap, sym, subst}
 use Rattle.std.specs.Prelude.{length}
-use mathlib.Core.List.{map}
-use mathlib.Core.Option.{some}
-use Rattle.atomic_table.specs.Table.{State, opening}
+use Rattle.atomic_table.specs.Table.{opening}
 use Rattle.coda_turn.specs.Rule.{OneHistory, newcomer, word_of}
 use Rattle.coda_turn.proofs.Moves.{begins}
 use Rattle.coda_turn.proofs.turn.Turn.new.Goals as goal
