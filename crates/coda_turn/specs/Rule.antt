@@ -25,9 +25,9 @@ module _ {E : Type 0} where
   abbrev pub StandInHistory : List E → List (ℕ × E) → Type 0
   StandInHistory log calls = (c : ℕ × E) → Has calls c → slice_get log c.0 ≡ Some c.1
 
-  -- the word while the history is at rest, and while a seat has taken it
-  abbrev pub word_of : Bool → List E → ℕ
-  word_of taken log = (2 * length log) % 2 ^ 64 + cond taken 1 0
+-- the word while the history is at rest, and while a seat has taken it
+abbrev pub word_of : {E : Type 0} → Bool → List E → ℕ
+word_of taken log = (2 * length log) % 2 ^ 64 + cond taken 1 0
 
 module _ {O E : Type 0} where
   -- a pass that has seen the history xs, which began with s entries, and made no call
