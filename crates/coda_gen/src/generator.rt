@@ -100,9 +100,9 @@ fn put_generated(out: &mut String, start: u64, count: u64) -> Result<(), AllocEr
 
 /// The first lines of the script that a number starts, each with its newline.
 ///
-/// The first five make volume 7 on two servers, two clients and their links. Each other line is what a client does, as the
-/// numbers of a linear congruence have it: it makes, fills, moves or removes one of 64 files and 64 directories, sends its
-/// log, or gives it up.
+/// The first five make volume 7 on two servers, two clients and their links. Each other line is what a client does, as
+/// the numbers of a linear congruence have it: it makes, fills, moves or removes one of 64 files and 64 directories,
+/// sends its log, or gives it up.
 ///
 /// # Errors
 ///

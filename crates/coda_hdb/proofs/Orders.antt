@@ -1,5 +1,5 @@
 -- Lists of entries: what is put in, and what is left.
-use Rattle.std.proofs.Common.{◌≡◌, ◌≤◌, ◌<◌, ℕ, Bool, true, false, not, cond, ◌&&◌, ◌||◌, ◌==◌, List, [], ◌∷◌, ◌++◌, map, length, ◌⊎◌, inl, inr, refl, sym, ap, subst, ◌∙◌, arith, length-append}
+use Rattle.std.proofs.Common.{◌≡◌, ◌≤◌, ◌<◌, ℕ, Bool, true, false, not, cond, ◌&&◌, ◌||◌, ◌==◌, List, [], ◌∷◌, ◌++◌, map, length, slice_get, Some, zero, suc, ◌⊎◌, inl, inr, refl, sym, ap, subst, ◌∙◌, arith, length-append}
 use Rattle.std.specs.Prelude.{nat_eq}
 use Rattle.std.specs.Cmp.Lexicographic.{pointwise, same_text}
 use Rattle.std.proofs.lemmas.Bool.{and_parts, and_from, eqb-true, eq-eqb, or_right}
@@ -186,11 +186,62 @@ gone (e ∷ es) volume path =
 stays : (es : List HdbEntry) (entry : HdbEntry) → has_place es entry.volume entry.path ≡ true → length (put es entry) ≡ length es
 stays es entry h = ap (λ b. length (cond b (map (changed entry) es) (es ++ entry ∷ []))) h ∙ length-map es (changed entry)
 
+changed_at : (es : List HdbEntry) (entry e : HdbEntry) (index : ℕ) → slice_get es index ≡ Some e → slice_get (map (changed entry) es) index ≡ Some (changed entry e)
+changed_at [] entry e index h = absurd cc
+changed_at (x ∷ es) entry e zero h = let same : x ≡ e = cc in ap (λ y. Some (changed entry y)) same
+changed_at (x ∷ es) entry e (suc index) h = changed_at es entry e index h
+
+front_at : (es : List HdbEntry) (entry e : HdbEntry) (index : ℕ) → slice_get es index ≡ Some e → slice_get (es ++ entry ∷ []) index ≡ Some e
+front_at [] entry e index h = absurd cc
+front_at (x ∷ es) entry e zero h = h
+front_at (x ∷ es) entry e (suc index) h = front_at es entry e index h
+
+last_at : (es : List HdbEntry) (entry : HdbEntry) → slice_get (es ++ entry ∷ []) (length es) ≡ Some entry
+last_at [] entry = refl
+last_at (x ∷ es) entry = last_at es entry
+
+found_there : (es : List HdbEntry) (volume : ℕ) (path : List (List ℕ)) (e : HdbEntry) (index : ℕ) → slice_get es index ≡ Some e → is_at volume path e ≡ true → has_place es volume path ≡ true
+found_there [] volume path e index h is = absurd cc
+found_there (x ∷ es) volume path e zero h is = let same : x ≡ e = cc in (λ i. is_at volume path (same i) || has_place es volume path) ∙ (λ i. is i || has_place es volume path)
+found_there (x ∷ es) volume path e (suc index) h is = or_right (is_at volume path x) _ (found_there es volume path e index h is)
+
+stay_at : (es : List HdbEntry) (entry e : HdbEntry) (index : ℕ) → slice_get es index ≡ Some e → is_at entry.volume entry.path e ≡ false → slice_get (put es entry) index ≡ Some e
+stay_at es entry e index h far =
+    elim (has_place es entry.volume entry.path) as (λ b. slice_get (cond b (map (changed entry) es) (es ++ entry ∷ [])) index ≡ Some e) [
+      | true ↦ changed_at es entry e index h ∙ ap (λ b. Some (cond b entry e)) far
+      | false ↦ front_at es entry e index h
+    ]
+
+take_over : (es : List HdbEntry) (entry e : HdbEntry) (index : ℕ) → slice_get es index ≡ Some e → is_at entry.volume entry.path e ≡ true → slice_get (put es entry) index ≡ Some entry
+take_over es entry e index h is =
+    ap (λ b. slice_get (cond b (map (changed entry) es) (es ++ entry ∷ [])) index) (found_there es entry.volume entry.path e index h is)
+    ∙ changed_at es entry e index h ∙ ap (λ b. Some (cond b entry e)) is
+
+go_last : (es : List HdbEntry) (entry : HdbEntry) → has_place es entry.volume entry.path ≡ false → slice_get (put es entry) (length es) ≡ Some entry
+go_last es entry none = ap (λ b. slice_get (cond b (map (changed entry) es) (es ++ entry ∷ [])) (length es)) none ∙ last_at es entry
+
+-- a place that is another's isn't this one's
+elsewhere : (volume : ℕ) (path : List (List ℕ)) (e x : HdbEntry) → is_at volume path e ≡ false → is_at volume path x ≡ true → is_at e.volume e.path x ≡ false
+elsewhere volume path e x far here = agree (is_at e.volume e.path x) false
+    (λ h. sym far ∙ sym (alike volume path x here e) ∙ at_swap x e ∙ h) (λ h. absurd cc)
+
+left : (es : List HdbEntry) (volume : ℕ) (path : List (List ℕ)) (e : HdbEntry) → is_at volume path e ≡ false → has_place (without es volume path) e.volume e.path ≡ has_place es e.volume e.path
+left [] volume path e far = refl
+left (x ∷ es) volume path e far =
+    elim (is_at volume path x) as (λ b. is_at volume path x ≡ b → has_place (cond (not b) (x ∷ without es volume path) (without es volume path)) e.volume e.path ≡ (is_at e.volume e.path x || has_place es e.volume e.path)) [
+      | true ↦ λ here. left es volume path e far ∙ ap (λ b. b || has_place es e.volume e.path) (sym (elsewhere volume path e x far here))
+      | false ↦ λ _. ap (λ b. is_at e.volume e.path x || b) (left es volume path e far)
+    ] refl
+
 pub databases_keep_their_order : DatabasesKeepTheirOrder
 databases_keep_their_order = record {
+  others_stay = stay_at;
+  takes_its_place = take_over;
   stays = stays;
+  goes_last = go_last;
   added = added;
   gone = gone;
+  others_are_left = left;
   distinct_put = λ es entry d. subst AreDistinct (put_is es entry d) (distinct_put es entry d);
 }
 

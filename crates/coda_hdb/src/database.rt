@@ -13,7 +13,8 @@ use std::marker::Model;
 // How many entries there may be.
 const ENTRIES: usize = 1024;
 
-/// The hoard database of a client (Kistler and Satyanarayanan 1992): at most 1,024 paths, in the order in which they came.
+/// The hoard database of a client (Kistler and Satyanarayanan 1992): at most 1,024 paths, in the order in which they
+/// came.
 ///
 /// Contracts see the list of the entries.
 #[derive(Drop)]
@@ -97,8 +98,8 @@ impl Hdb {
         }
     }
 
-    /// Adds an entry. That of its path, where there is one, keeps its place in the order and becomes this one; a new path
-    /// goes last.
+    /// Adds an entry. That of its path, where there is one, keeps its place in the order and becomes this one; a new
+    /// path goes last.
     ///
     /// # Errors
     ///

@@ -5,8 +5,8 @@ pub fn states_settle()
     ensures { StatesSettle }
 {}
 
-/// A law of states: a client emulates as soon as its link is down, and from no other cause; it hoards again only from the
-/// write-disconnected state (Mummert, Ebling and Satyanarayanan 1995).
+/// A law of states: a client emulates as soon as its link is down, and from no other cause; it hoards again only from
+/// the write-disconnected state (Mummert, Ebling and Satyanarayanan 1995).
 pub fn states_follow_their_links()
     ensures { StatesFollowTheirLinks }
 {}

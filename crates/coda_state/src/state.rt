@@ -46,7 +46,7 @@ mod tests {
     use super::*;
     use std::test::Fail;
 
-    // A link that comes back strong leads by way of the write-disconnected state to hoarding, and a weak one no further.
+    // A strong link leads by way of the write-disconnected state to hoarding, and a weak one no further than that.
     #[test]
     fn states_are_those_of_the_table(rt: HostRuntime) -> Result<(), Fail> {
         let rows = [

@@ -90,7 +90,7 @@ struct Nested<'a> {
     ghost of_other: { third.turn ≡ other.now },
 }
 
-// Whether the call was stored, whether the other turn was free, the odd word that stood in its own, and its second pass.
+// Whether the call was stored and the other turn was free, the odd word that stood in its own, and its second pass.
 #[derive(Drop)]
 struct Told {
     stored: bool,

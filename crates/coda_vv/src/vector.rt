@@ -5,8 +5,8 @@ use coda_lanes::{compare8, max8};
 
 /// How many updates of each server are in a version of an object.
 ///
-/// The count of server `s`, from 1 to 8, stands at index `s - 1`. A server numbers its updates of an object from 1, so a
-/// vector stands for a set of updates: those numbered from 1 to its count, of each server (Satyanarayanan and others
+/// The count of server `s`, from 1 to 8, stands at index `s - 1`. A server numbers its updates of an object from 1, so
+/// a vector stands for a set of updates: those numbered from 1 to its count, of each server (Satyanarayanan and others
 /// 1990; Kumar and Satyanarayanan 1993).
 #[derive(Clone, Copy, Debug, PartialEq, Eq)]
 pub struct Vv(pub [u64; 8]);
