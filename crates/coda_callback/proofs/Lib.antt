@@ -1,0 +1,5 @@
+mod Interests
+mod Moves
+mod Ranges
+mod Loops
+mod Views

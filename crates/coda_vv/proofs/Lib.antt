@@ -1,0 +1,3 @@
+mod Lanes
+mod Sets
+mod Order
