@@ -2,4 +2,5 @@ pub mod InOrder
 pub mod Parts
 pub mod Slashes
 pub mod ShownBytes
+pub mod ShownLogs
 pub mod Turns

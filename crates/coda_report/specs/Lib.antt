@@ -4,3 +4,4 @@ pub mod Walking
 pub mod Records
 pub mod Texts
 pub mod PathOrder
+pub mod LogTexts

@@ -1,7 +1,8 @@
-//! The texts of a report: of each reply, and of the volumes that are shown.
+//! The texts of a report: of each reply, and of the volumes and logs that are shown.
 #![tactic(auto)]
 
 mod laws;
+mod logs;
 mod outcomes;
 mod paths;
 mod printing;
@@ -11,5 +12,6 @@ mod volumes;
 mod walk;
 
 pub use laws::volumes_are_shown_in_path_order;
+pub use logs::log_text;
 pub use replies::reply_text;
 pub use volumes::volume_text;
