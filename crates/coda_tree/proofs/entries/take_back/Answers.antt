@@ -1,4 +1,4 @@
-use Rattle.std.proofs.Common.{◌<◌, length, sym, ap, ◌∙◌, subst, arith}
+use Rattle.std.proofs.Common.{sym, ◌∙◌, subst, arith}
 use Rattle.coda_tree.specs.Pages.{Pages, IsPageFor}
 use Rattle.coda_tree.proofs.Paged.{page_sorted, page_find, page_put, page_small}
 use Rattle.coda_tree.proofs.entries.take_back.Goals as goal

@@ -1,7 +1,6 @@
-use Rattle.std.proofs.Common.{◌≡◌, true, sym, ap, ◌∙◌}
+use Rattle.std.proofs.Common.{sym, ap, ◌∙◌}
 use Rattle.std.specs.FinMap.Entries.{is_sorted, find}
 use Rattle.coda_fid.specs.Name.{name_cmp}
-use Rattle.coda_tree.specs.Pages.{Pages, IsPageFor}
 use Rattle.coda_tree.proofs.Paged.{page_sorted, page_find, page_lent}
 use Rattle.coda_tree.proofs.pages.find.Goals as goal
 

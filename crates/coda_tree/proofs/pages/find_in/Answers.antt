@@ -1,6 +1,4 @@
-use Rattle.std.proofs.Common.{Some, sym, ap, ◌∙◌}
-use Rattle.coda_fid.specs.declared.fid.Fid.{Fid}
-use Rattle.coda_tree.specs.Bindings.{Name}
+use Rattle.std.proofs.Common.{sym}
 use Rattle.coda_tree.proofs.Pairs.{find_at, find_gap}
 use Rattle.coda_tree.proofs.pages.find_in.Goals as goal
 

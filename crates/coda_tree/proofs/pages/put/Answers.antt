@@ -1,8 +1,7 @@
-use Rattle.std.proofs.Common.{◌≡◌, true, sym, ap, ◌∙◌, subst}
+use Rattle.std.proofs.Common.{◌≡◌, true, ap, ◌∙◌, subst}
 use Rattle.std.specs.FinMap.Entries.{is_sorted, put}
 use Rattle.std.proofs.lemmas.Result.{on_ok_weaker, on_err_weaker}
 use Rattle.coda_fid.specs.Name.{name_cmp}
-use Rattle.coda_tree.specs.Bindings.{Pairs}
 use Rattle.coda_tree.specs.Pages.{Pages, all_pairs, IsPageFor}
 use Rattle.coda_tree.proofs.Paged.{page_sorted, page_put, pairs_kept, either_way, put_some, filled_at}
 use Rattle.coda_tree.proofs.pages.put.Goals as goal

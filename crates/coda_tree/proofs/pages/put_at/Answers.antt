@@ -1,8 +1,7 @@
-use Rattle.std.proofs.Common.{sym, ap, ◌∙◌}
+use Rattle.std.proofs.Common.{ap, ◌∙◌}
 use Rattle.std.specs.FinMap.Entries.{is_sorted, put}
 use Rattle.std.proofs.lemmas.Result.{on_ok_weaker, on_err_weaker}
 use Rattle.coda_fid.specs.Name.{name_cmp}
-use Rattle.coda_tree.specs.Bindings.{Pairs}
 use Rattle.coda_tree.proofs.Paged.{page_lent, page_changed}
 use Rattle.coda_tree.proofs.pages.put_at.Goals as goal
 

@@ -1,6 +1,6 @@
-use Rattle.std.proofs.Common.{◌≡◌, IsSome, sym, ap, ◌∙◌, subst, arith}
+use Rattle.std.proofs.Common.{IsSome, ◌∙◌, subst}
 use Rattle.coda_tree.specs.Pages.{Pages, IsPageFor}
-use Rattle.coda_tree.proofs.Paged.{page_sorted, page_find, page_put, put_some}
+use Rattle.coda_tree.proofs.Paged.{page_sorted, page_find, page_put}
 use Rattle.coda_tree.proofs.pages.rebind.Goals as goal
 
 pub rebind_at-requires-clause-sorted : goal.rebind_at-requires-clause-sorted

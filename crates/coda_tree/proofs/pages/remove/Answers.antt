@@ -1,4 +1,4 @@
-use Rattle.std.proofs.Common.{◌≡◌, is_some, sym, ap, ◌∙◌, subst}
+use Rattle.std.proofs.Common.{is_some, sym, ap, ◌∙◌, subst}
 use Rattle.coda_tree.specs.Pages.{Pages, IsPageFor}
 use Rattle.coda_tree.proofs.Paged.{page_sorted, page_find, page_without}
 use Rattle.coda_tree.proofs.pages.remove.Goals as goal

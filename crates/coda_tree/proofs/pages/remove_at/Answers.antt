@@ -2,7 +2,7 @@ use Rattle.std.proofs.Common.{◌≡◌, ◌<◌, set, length, is_some, sym, ap,
 use Rattle.std.specs.FinMap.Entries.{is_sorted, find}
 use Rattle.coda_fid.specs.Name.{name_cmp}
 use Rattle.coda_tree.specs.Bindings.{Pairs}
-use Rattle.coda_tree.specs.Pages.{pairs_at, without}
+use Rattle.coda_tree.specs.Pages.{without}
 use Rattle.coda_tree.proofs.Paged.{page_lent, page_gone, page_changed, set_here, set_length, is_zero}
 use Rattle.coda_tree.proofs.pages.remove_at.Goals as goal
 

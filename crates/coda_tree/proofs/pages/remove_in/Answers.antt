@@ -1,6 +1,5 @@
 use Rattle.std.proofs.Common.{is_some, sym, ap, ◌∙◌, subst}
-use Rattle.coda_fid.specs.declared.fid.Fid.{Fid}
-use Rattle.coda_tree.specs.Bindings.{Name, Pairs, IsIndexOf, IsGapFor}
+use Rattle.coda_tree.specs.Bindings.{Pairs, IsIndexOf, IsGapFor}
 use Rattle.coda_tree.proofs.Pairs.{find_at, find_gap}
 use Rattle.coda_tree.proofs.Paged.{without_at, without_gap}
 use Rattle.coda_tree.proofs.pages.remove_in.Goals as goal

@@ -1,4 +1,4 @@
-use Rattle.std.proofs.Common.{◌≡◌, ◌<◌, length, sym, ap, ◌∙◌, subst}
+use Rattle.std.proofs.Common.{◌<◌, length, sym, ap, ◌∙◌, subst}
 use Rattle.coda_tree.specs.Pages.{Pages, all_pairs}
 use Rattle.coda_tree.proofs.Paged.{page_lent, page_split}
 use Rattle.coda_tree.proofs.pages.split.Goals as goal
