@@ -1,8 +1,8 @@
 -- Small facts on tests.
-use Rattle.std.proofs.Common.{◌≡◌, Bool, true, false, ◌&&◌, ◌||◌, Option, Some, None, is_some, IsSome, Ordering, refl, sym, subst, rules}
+use Rattle.std.proofs.Common.{◌≡◌, ◌≢◌, Bool, true, false, ◌&&◌, ◌||◌, Option, Some, None, is_some, IsSome, Ordering, refl, sym, subst, rules}
 use Rattle.std.specs.Prelude.{T}
 use Rattle.std.specs.declared.cmp.Ordering.TheVariants.{Less, Equal, Greater}
-use Rattle.std.specs.Ordering.{is_lt, is_eq}
+use Rattle.std.specs.Ordering.{is_lt, is_eq, is_gt}
 
 -- both hold
 pub and_true : (a b : Bool) → (a && b) ≡ true → (a ≡ true) × (b ≡ true)
@@ -44,3 +44,13 @@ has_some (Some x) h = search rules
 pub some_of : {A : Type 0} (o : Option A) → is_some o ≡ true → (x : A) × (o ≡ Some x)
 some_of None h = cc
 some_of (Some x) h = (x, refl)
+
+pub gt_greater : (o : Ordering) → is_gt o ≡ true → o ≡ Greater
+gt_greater Less h = cc
+gt_greater Equal h = cc
+gt_greater Greater h = refl
+
+pub not_greater : (o : Ordering) → is_gt o ≡ false → o ≢ Greater
+not_greater Less h is = cc
+not_greater Equal h is = cc
+not_greater Greater h is = cc

@@ -3,6 +3,7 @@ pub mod Order
 pub mod MapEntries
 pub mod Trees
 pub mod Pairs
+pub mod Paged
 pub mod Changes
 pub mod Moved
 pub mod Keyed

@@ -1,5 +1,5 @@
 -- The entries of a finite map in order, against what the map has at their keys.
-use Rattle.std.proofs.Common.{◌≡◌, ◌<◌, ℕ, zero, suc, true, cond, List, [], ◌∷◌, length, Some, Ordering, refl, sym, ap, ◌∙◌, arith}
+use Rattle.std.proofs.Common.{◌≡◌, ◌<◌, ◌≤◌, ℕ, zero, suc, true, cond, List, [], ◌∷◌, length, Some, None, Ordering, refl, sym, ap, ◌∙◌, arith}
 use Rattle.std.specs.Prelude.{slice_get}
 use Rattle.std.specs.declared.cmp.Ordering.TheVariants.{Less, Equal, Greater}
 use Rattle.std.specs.Ordering.{is_eq, ordering_reverse}
@@ -17,6 +17,12 @@ pub index_within : {A : Type 0} (l : List A) (i : ℕ) (x : A) → slice_get l i
 index_within [] i x is = absurd (none-some x is)
 index_within (y ∷ l) zero x is = omega arith
 index_within (y ∷ l) (suc i) x is = let rest = index_within l i x is in omega (arith, rest)
+
+-- nothing stands from the length on
+pub past_none : {A : Type 0} (l : List A) (i : ℕ) → slice_get l i ≡ None → length l ≤ i
+past_none [] i h = omega arith
+past_none (y ∷ l) zero h = absurd (none-some y (sym h))
+past_none (y ∷ l) (suc i) h = let rest = past_none l i h in omega (arith, rest)
 
 module _ {K X : Type 0} {R : K → K → Ordering} (o : IsTotalOrder R) where
   -- an entry among those above a key is above it

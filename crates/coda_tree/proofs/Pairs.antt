@@ -15,7 +15,7 @@ use Rattle.coda_tree.specs.Bindings.{Name, Pairs, Bindings, IsIndexOf, IsGapFor}
 use Rattle.coda_tree.proofs.Booleans.{and_true, and_both, lt_less, to_T, from_T}
 use Rattle.coda_tree.proofs.Order.{apart, at_itself, name_cases}
 
-turn : (a b : Name) (o : Ordering) → name_cmp a b ≡ o → name_cmp b a ≡ ordering_reverse o
+pub turn : (a b : Name) (o : Ordering) → name_cmp a b ≡ o → name_cmp b a ≡ ordering_reverse o
 turn a b o h = nat_list_cmp_total.antisymm b a ∙ ap ordering_reverse h
 
 below_at : (x : Name) (es : Pairs) (i : ℕ) (d : Name × Fid) → below_all name_cmp x es ≡ true → i < length es → name_cmp x (get_or es i d).0 ≡ Less
@@ -24,7 +24,7 @@ below_at x (e ∷ es) zero d h lt = lt_less _ (and_true _ _ h).0
 below_at x (e ∷ es) (suc i) d h lt = below_at x es i d (and_true _ _ h).1 (omega arith)
 
 -- a name below all is not found
-none_below : (x : Name) (es : Pairs) → below_all name_cmp x es ≡ true → find name_cmp x es ≡ None
+pub none_below : (x : Name) (es : Pairs) → below_all name_cmp x es ≡ true → find name_cmp x es ≡ None
 none_below x [] h = refl
 none_below x (e ∷ es) h = ap (λ o. cond (is_eq o) (Some e.1) (find name_cmp x es)) (lt_less _ (and_true _ _ h).0) ∙ none_below x es (and_true _ _ h).1
 
@@ -59,12 +59,12 @@ find_gap (e ∷ es) name (suc i) gap =
     })
 
 -- the names before a place are smaller
-before : (e : Name × Fid) (es : Pairs) (name : Name) (i : ℕ) → is_sorted name_cmp (e ∷ es) ≡ true → IsIndexOf (e ∷ es) name (suc i) → name_cmp name e.0 ≡ Greater
+pub before : (e : Name × Fid) (es : Pairs) (name : Name) (i : ℕ) → is_sorted name_cmp (e ∷ es) ≡ true → IsIndexOf (e ∷ es) name (suc i) → name_cmp name e.0 ≡ Greater
 before e es name i up at =
     let is : (get_or es i e).0 ≡ name = exact_bytes _ _ (at.has_name e) in
     turn e.0 name Less (ap (name_cmp e.0) (sym is) ∙ below_at e.0 es i e (and_true _ _ up).0 (omega (arith, at.in_range)))
 
-tail_at : (e : Name × Fid) (es : Pairs) (name : Name) (i : ℕ) → IsIndexOf (e ∷ es) name (suc i) → IsIndexOf es name i
+pub tail_at : (e : Name × Fid) (es : Pairs) (name : Name) (i : ℕ) → IsIndexOf (e ∷ es) name (suc i) → IsIndexOf es name i
 tail_at e es name i at = record { in_range = omega (arith, at.in_range); has_name = λ d. at.has_name d }
 
 pub find_at : (es : Pairs) (name : Name) (i : ℕ) (d : Name × Fid) → is_sorted name_cmp es ≡ true → IsIndexOf es name i → find name_cmp name es ≡ Some (get_or es i d).1

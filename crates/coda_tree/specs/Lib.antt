@@ -1,4 +1,5 @@
 pub mod Bindings
+pub mod Pages
 pub mod Tree
 pub mod Volume
 pub mod Lookup

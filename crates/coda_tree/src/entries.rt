@@ -1,54 +1,55 @@
-ghost use Rattle.std.specs.Prelude.{ℕ, List, true, false, ◌≡◌, ◌≢◌, ◌≤◌, ◌<◌, ◌+◌, ◌==◌, vec_len, vec_capacity, insert, IfOk, IfErr, IfSome, IfNone, IsSome, OnOk, OnErr, IsTrue, Some, None, option_map, slice_get};
+ghost use Rattle.std.specs.Prelude.{ℕ, List, true, false, ◌≡◌, ◌≢◌, ◌≤◌, ◌<◌, ◌+◌, ◌==◌, ◌∷◌, [], length, vec_len, vec_capacity, insert, IfOk, IfSome, IfNone, IsSome, OnOk, OnErr, IsTrue, Some, None, option_map, slice_get};
 ghost use Rattle.std.specs.FinMap as map;
-ghost use Rattle.std.specs.FinMap.Entries.{is_sorted};
+ghost use Rattle.std.specs.FinMap.Entries.{is_sorted, find, put};
 ghost use Rattle.coda_fid.specs.Name.{name_cmp};
-ghost use Rattle.coda_tree.specs.Bindings.{IsIndexOf, IsGapFor};
+ghost use Rattle.coda_tree.specs.Pages.{all_pairs, AreFilled, pairs_at, ChangesPage};
 
+use crate::pages::{self, page_for, search};
 use coda_fid::{Fid, Name};
 use std::alloc::{AllocError, Global};
-use std::cmp::Ordering;
 use std::marker::Model;
 
 /// What a directory binds: names, each with the fid that it stands for, in byte order of names.
 ///
-/// Contracts see it as a finite map from names to fids. A name is found by binary search, and takes time linear
-/// in the directory to bind or unbind.
+/// Contracts see it as a finite map from names to fids. The names stand in pages of some hundred: a name is found by
+/// two binary searches, and to bind or unbind one moves only what stands behind it in its page.
 #[derive(Debug, Drop)]
 pub struct Entries {
-    items: Vec<(Name, Fid)>,
+    pages: Vec<Vec<(Name, Fid)>>,
+    count: usize,
 }
 
 impl Model for Entries {
     ghost use Rattle.std.specs.FinMap as map;
-    ghost use Rattle.std.specs.FinMap.Entries.{is_sorted};
-    ghost use Rattle.std.specs.Prelude.{IsTrue};
     ghost use Rattle.coda_fid.specs.Name.{name_cmp};
     ghost use Rattle.coda_fid.specs.declared.fid.Fid.{Fid};
     ghost use Rattle.coda_tree.specs.Bindings.{coded_bindings};
+    ghost use Rattle.coda_tree.specs.Pages.{all_pairs, IsPaged};
 
     ghost Value = { map.FinMap name_cmp Fid };
 
     ghost coded = { coded_bindings };
 
-    ghost view = { λ a. map.from_sorted a.items.items };
+    ghost view = { λ a. map.from_sorted (all_pairs a.pages.items) };
 
-    ghost invariant = { λ a. IsTrue (is_sorted name_cmp a.items.items) };
+    ghost invariant = { λ a. IsPaged a.pages.items a.count };
 }
 
-// Memory for pairs, in which a directory can take back a name that it lost.
+// Memory in which a directory can take back a name that it lost: for the pairs of a page, and for a first page.
 #[derive(Drop)]
 pub(crate) struct Room {
     pairs: Vec<(Name, Fid)>,
+    pages: Vec<Vec<(Name, Fid)>>,
 }
 
 impl Model for Room {
-    ghost use Rattle.std.specs.Prelude.{ℕ, ◌≡◌, [], vec_capacity};
+    ghost use Rattle.std.specs.Prelude.{ℕ, ◌≡◌, ◌<◌, [], vec_capacity};
 
     ghost Value = { ℕ };
 
     ghost view = { λ a. vec_capacity a.pairs };
 
-    ghost invariant = { λ a. a.pairs.items ≡ [] };
+    ghost invariant = { λ a. (a.pairs.items ≡ []) × (a.pages.items ≡ []) × (0 < vec_capacity a.pages) };
 }
 
 impl Entries {
@@ -57,7 +58,8 @@ impl Entries {
         ensures { result ≡ map.empty }
     {
         Entries {
-            items: Vec::new(alloc),
+            pages: Vec::new(alloc),
+            count: 0,
         }
     }
 
@@ -65,7 +67,7 @@ impl Entries {
     pub fn len(&self) -> usize
         ensures { result ≡ map.len self.now }
     {
-        self.items.len()
+        self.count
     }
 
     /// Whether no name is bound.
@@ -82,7 +84,7 @@ impl Entries {
         ensures bound { IfSome result (λ p. map.get self.now p.0.now ≡ Some p.1) }
         ensures past { IfNone result (map.len self.now ≤ index) }
     {
-        match self.items.get(index) {
+        match pages::pair_at(&self.pages, index) {
             Some(pair) => Some((&pair.0, pair.1)),
             None => None,
         }
@@ -92,10 +94,7 @@ impl Entries {
     pub fn find(&self, name: &Name) -> Option<Fid>
         ensures { result ≡ map.get self.now name.now }
     {
-        match search(&self.items, name) {
-            Ok(at) => Some(self.items[at].1),
-            Err(_) => None,
-        }
+        pages::find(&self.pages, name)
     }
 
     // Whether a fid is bound, at whatever name.
@@ -119,10 +118,12 @@ impl Entries {
         ensures ok { OnOk result (self.new ≡ map.insert self.old name fid) }
         ensures err { OnErr result (self.new ≡ self.old) }
     {
-        match search(&self.items, &name) {
-            Ok(_) => Ok(()),
-            Err(at) => Ok(self.items.insert(at, (name, fid))?),
-        }
+        let Some(count) = self.count.checked_add(1) else {
+            return Err(AllocError);
+        };
+        pages::put(&mut self.pages, name, fid)?;
+        self.count = count;
+        Ok(())
     }
 
     /// Binds a bound name to another fid. Takes no memory.
@@ -130,21 +131,15 @@ impl Entries {
         requires { IsSome (map.get self.old name.now) }
         ensures { self.new ≡ map.insert self.old name.now fid }
     {
-        match search(&self.items, name) {
-            Ok(at) => self.items[at].1 = fid,
-            Err(_) => {}
-        }
+        pages::rebind(&mut self.pages, name, fid);
     }
 
     /// Unbinds a name, where it is bound.
     pub fn remove(&mut self, name: &Name)
         ensures { self.new ≡ map.remove self.old name.now }
     {
-        match search(&self.items, name) {
-            Ok(at) => {
-                let _ = self.items.remove(at);
-            }
-            Err(_) => {}
+        if pages::remove(&mut self.pages, name) {
+            self.count -= 1;
         }
     }
 
@@ -152,8 +147,13 @@ impl Entries {
     pub(crate) fn room(&self) -> Result<Room, AllocError>
         ensures { IfOk result (λ room. map.len self.now + 1 < room) }
     {
-        let pairs = Vec::with_capacity(*self.items.allocator(), self.items.len() + 2)?;
-        Ok(Room { pairs })
+        let alloc = *self.pages.allocator();
+        let Some(size) = self.count.checked_add(2) else {
+            return Err(AllocError);
+        };
+        let pairs = Vec::with_capacity(alloc, size)?;
+        let pages = Vec::with_capacity(alloc, 1)?;
+        Ok(Room { pairs, pages })
     }
 
     // Binds a name that is free. Takes no memory but the room.
@@ -162,19 +162,31 @@ impl Entries {
         requires room { map.len self.old < room }
         ensures { self.new ≡ map.insert self.old name fid }
     {
-        make_room(&mut self.items, room);
-        match search(&self.items, &name) {
-            Ok(_) => {}
-            Err(at) => insert_within(&mut self.items, at, name, fid),
-        }
+        let count = room.more_than(self.count);
+        take_back(&mut self.pages, name, fid, room);
+        self.count = count;
     }
 
     /// A copy. Fails for want of memory alone.
     pub fn copy(&self) -> Result<Entries, AllocError>
         ensures { IfOk result (λ e. e ≡ self.now) }
     {
-        let items = copy_pairs(*self.items.allocator(), &self.items)?;
-        Ok(Entries { items })
+        let pages = pages::copy(*self.pages.allocator(), &self.pages)?;
+        Ok(Entries {
+            pages,
+            count: self.count,
+        })
+    }
+}
+
+impl Room {
+    // One more than a number that is smaller than the room.
+    fn more_than(&self, count: usize) -> usize
+        requires { count < self.now }
+        ensures { result ≡ count + 1 }
+    {
+        let _capacity = self.pairs.capacity();
+        count + 1
     }
 }
 
@@ -205,33 +217,59 @@ fn insert_within(items: &mut Vec<(Name, Fid)>, at: usize, name: Name, fid: Fid)
     prove!(put);
 }
 
-// A copy of names with what they are bound to.
-fn copy_pairs(alloc: Global, items: &[(Name, Fid)]) -> Result<Vec<(Name, Fid)>, AllocError>
-    ensures { IfOk result (λ v. v.items ≡ items.now) }
+// Binds a free name in sorted pairs. Takes no memory but the room.
+fn take_back_in(page: &mut Vec<(Name, Fid)>, name: Name, fid: Fid, room: Room)
+    requires sorted { IsTrue (is_sorted name_cmp page.old.items) }
+    requires free { find name_cmp name page.old.items ≡ None }
+    requires room { length page.old.items < room }
+    ensures { page.new.items ≡ put name_cmp name fid page.old.items }
 {
-    let mut copy = Vec::new(alloc);
-    for pair in items {
-        let name = pair.0.copy()?;
-        copy.push((name, pair.1))?;
+    make_room(page, room);
+    match search(page, &name) {
+        Ok(_) => {}
+        Err(at) => insert_within(page, at, name, fid),
     }
-    Ok(copy)
 }
 
-// Where the name is, or where it would go.
-fn search(items: &[(Name, Fid)], name: &Name) -> Result<usize, usize>
-    requires { IsTrue (is_sorted name_cmp items.now) }
-    ensures found { IfOk result (λ i. IsIndexOf items.now name.now i) }
-    ensures absent { IfErr result (λ i. IsGapFor items.now name.now i) }
+// Binds a free name in a page. Takes no memory but the room.
+fn take_back_at(pages: &mut Vec<Vec<(Name, Fid)>>, at: usize, name: Name, fid: Fid, room: Room)
+    requires there { at < length pages.old.items }
+    requires sorted { IsTrue (is_sorted name_cmp (pairs_at pages.old.items at)) }
+    requires free { find name_cmp name (pairs_at pages.old.items at) ≡ None }
+    requires room { length (pairs_at pages.old.items at) < room }
+    ensures { ChangesPage pages.old.items pages.new.items at (put name_cmp name fid (pairs_at pages.old.items at)) }
 {
-    let mut low = 0;
-    let mut high = items.len();
-    while low < high {
-        let mid = low + (high - low) / 2;
-        match items[mid].0.compare(name) {
-            Ordering::Less => low = mid + 1,
-            Ordering::Equal => return Ok(mid),
-            Ordering::Greater => high = mid,
-        }
+    take_back_in(&mut pages[at], name, fid, room);
+}
+
+// The room as a first page with one pair.
+fn first_page(name: Name, fid: Fid, room: Room) -> Vec<Vec<(Name, Fid)>>
+    requires { 0 < room }
+    ensures pairs { all_pairs result.items ≡ (name, fid) ∷ [] }
+    ensures filled { AreFilled result.items }
+{
+    let mut pairs = room.pairs;
+    let mut pages = room.pages;
+    let put = pairs.push((name, fid)).is_ok();
+    prove!(put);
+    let put = pages.push(pairs).is_ok();
+    prove!(put);
+    pages
+}
+
+// Binds a free name. Takes no memory but the room.
+fn take_back(pages: &mut Vec<Vec<(Name, Fid)>>, name: Name, fid: Fid, room: Room)
+    requires sorted { IsTrue (is_sorted name_cmp (all_pairs pages.old.items)) }
+    requires filled { AreFilled pages.old.items }
+    requires free { find name_cmp name (all_pairs pages.old.items) ≡ None }
+    requires room { length (all_pairs pages.old.items) < room }
+    ensures pairs { all_pairs pages.new.items ≡ put name_cmp name fid (all_pairs pages.old.items) }
+    ensures filled { AreFilled pages.new.items }
+{
+    if pages.is_empty() {
+        *pages = first_page(name, fid, room);
+        return;
     }
-    Err(low)
+    let at = page_for(pages, &name);
+    take_back_at(pages, at, name, fid, room);
 }

@@ -5,6 +5,7 @@ mod body;
 mod draft;
 mod entries;
 mod node;
+mod pages;
 mod slot;
 mod slots;
 mod table;

@@ -1,30 +1,20 @@
-use Rattle.std.proofs.Common.{◌≡◌, IsSome, get_or, sym, ap, ◌∙◌, subst}
+use Rattle.std.proofs.Common.{IsSome, sym, ap, ◌∙◌, subst}
 use Rattle.std.specs.FinMap as map
-use Rattle.std.proofs.lemmas.List.{get_or_default}
-use Rattle.coda_fid.specs.declared.fid.Fid.{Fid}
-use Rattle.coda_tree.specs.Bindings.{Name, Bindings, Pairs, IsIndexOf, IsGapFor}
-use Rattle.coda_tree.proofs.Pairs.{find_gap, get_pairs, rebound, sorted_rebound}
+use Rattle.coda_fid.specs.Name.{name_cmp}
+use Rattle.coda_tree.specs.Bindings.{Bindings, Pairs}
+use Rattle.coda_tree.specs.Pages.{all_pairs}
+use Rattle.coda_tree.proofs.Paged.{paged_get, paged_same, seen_put}
 use Rattle.coda_tree.proofs.entries.Entries.rebind.Goals as goal
+
+pub rebind-requires-clause-bound : goal.rebind-requires-clause-bound
+rebind-requires-clause-bound c = subst IsSome (sym (paged_get c.self.inside.pages.items c.self.inside.count c.args.self.now c.args.name.now c.self.invariant c.self.view_is)) c.requires
 
 pub invariant_of-self : goal.invariant_of-self
 invariant_of-self c =
-    let items = c.self.inside.items.items in
-    let found = subst (λ (l : Pairs). IsIndexOf l c.args.name.now c.in-Ok.at) c.deref.ensures.value c.in-Ok.ensures.found in
-    let key : (d : Name × Fid) → (get_or items c.in-Ok.at d).0 ≡ c.index_mut.result.now.0 = λ d. ap (λ (e : Name × Fid). e.0) (get_or_default items c.in-Ok.at d c.index_mut.result.now found.in_range ∙ sym c.index_mut.ensures.value) in
-    sorted_rebound items c.args.name.now c.args.fid c.in-Ok.at c.index_mut.result.now.0 c.self.invariant found key
+    paged_same c.self.inside.pages.items c.rebind.new.pages.items c.self.inside.count c.args.name.now c.args.fid c.self.invariant c.rebind.ensures.pairs c.rebind.ensures.filled
+    (subst IsSome (sym (paged_get c.self.inside.pages.items c.self.inside.count c.args.self.now c.args.name.now c.self.invariant c.self.view_is)) c.requires)
 
-pub returns-in-Ok : goal.returns-in-Ok
-returns-in-Ok c =
-    let items = c.self.inside.items.items in
-    let found = subst (λ (l : Pairs). IsIndexOf l c.args.name.now c.in-Ok.at) c.deref.ensures.value c.in-Ok.ensures.found in
-    let key : (d : Name × Fid) → (get_or items c.in-Ok.at d).0 ≡ c.index_mut.result.now.0 = λ d. ap (λ (e : Name × Fid). e.0) (get_or_default items c.in-Ok.at d c.index_mut.result.now found.in_range ∙ sym c.index_mut.ensures.value) in
-    rebound items c.args.name.now c.args.fid c.in-Ok.at c.index_mut.result.now.0 c.self.invariant found key ∙ ap (λ (m : Bindings). map.insert m c.args.name.now c.args.fid) c.self.view_is
-
-pub returns-in-Err : goal.returns-in-Err
-returns-in-Err c =
-    let items = c.self.inside.items.items in
-    let name = c.args.name.now in
-    let gap = subst (λ (l : Pairs). IsGapFor l name c.in-Err.field-0) c.deref.ensures.value c.in-Err.ensures.absent in
-    let none = sym (ap (λ (m : Bindings). map.get m name) c.self.view_is) ∙ get_pairs items name c.self.invariant ∙ find_gap items name c.in-Err.field-0 gap in
-    let bound = subst IsSome none c.requires in
-    cc
+pub returns : goal.returns
+returns c =
+    ap (λ (l : Pairs). map.from_sorted {R = name_cmp} l) c.rebind.ensures.pairs ∙ seen_put (all_pairs c.self.inside.pages.items) c.args.name.now c.args.fid c.self.invariant.sorted
+    ∙ ap (λ (m : Bindings). map.insert m c.args.name.now c.args.fid) c.self.view_is

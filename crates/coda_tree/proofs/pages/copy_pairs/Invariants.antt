@@ -1,5 +1,5 @@
 use Rattle.std.proofs.Common.{◌≡◌, take}
-use Rattle.coda_tree.proofs.entries.copy_pairs.Given as goal
+use Rattle.coda_tree.proofs.pages.copy_pairs.Given as goal
 
 abbrev pub invariant-loop-pair : goal.invariant-loop-pair
 invariant-loop-pair l = l.copy.items ≡ take l.pair-index l.items
