@@ -5,11 +5,13 @@ use Rattle.std.specs.List.{flat_map}
 use Rattle.std.proofs.lemmas.List.{append-nil, drop_all, take-append-drop}
 use Rattle.std.proofs.lemmas.Option.{same_Some, none-some}
 use Rattle.coda_fid.specs.declared.op.Record.{Record}
+use Rattle.coda_cancel.specs.Cancel.{fold}
 use Rattle.coda_cml.specs.declared.segment.Segment.{Segment}
 use Rattle.coda_cml.specs.Partition.{ArePartedBy}
-use Rattle.coda_cml.specs.State.{LogState}
+use Rattle.coda_cml.specs.Segments.{segments_of}
+use Rattle.coda_cml.specs.State.{IsLogOf, LogState}
 use Rattle.coda_report.specs.Records.{record_line}
-use Rattle.coda_report.specs.LogTexts.{log_line, log_text, segment_line, segments_text, shown_segment_text, AreShownAs, ShownSegment, ShowsLog}
+use Rattle.coda_report.specs.LogTexts.{log_line, log_of_runs, log_text, segment_line, segments_text, shown_segment_text, AreShownAs, ShownSegment, ShowsLog}
 
 -- ---- how the text is put
 
@@ -86,3 +88,13 @@ shows_log log text frozen tail is = (
   is ∙ ap (λ t. log_line log ++ t ++ segments_text (codes "open") log.segments log.records) (shown_text (codes "frozen") log.chunk_segments log.chunk)
       ∙ ap (λ t. log_line log ++ flat_map (shown_segment_text (codes "frozen")) (shown_of log.chunk_segments log.chunk) ++ t) (shown_text (codes "open") log.segments log.records),
 )
+
+-- ---- the text of the operations
+
+pub runs_text : (log : LogState) (text : List ℕ) (front back : List Record) → IsLogOf log front back → text ≡ log_text log → text ≡ log_text (log_of_runs log.frozen front back)
+runs_text log text front back of is =
+    is
+    ∙ ap (λ recs. log_text (record log { chunk = recs })) of.chunk
+    ∙ ap (λ segments. log_text (record log { chunk = fold front; chunk_segments = segments })) of.chunk_segments
+    ∙ ap (λ recs. log_text (record log { chunk = fold front; chunk_segments = segments_of front; records = recs })) of.records
+    ∙ ap (λ segments. log_text (record log { chunk = fold front; chunk_segments = segments_of front; records = fold back; segments = segments })) of.segments

@@ -3,9 +3,11 @@ use Rattle.std.specs.Prelude.{◌≡◌, ℕ, ◌+◌, List, [], ◌∷◌, ◌+
 use Rattle.std.specs.List.{flat_map, AllByRecursion}
 use Rattle.std.specs.Fmt.{decimal}
 use Rattle.coda_fid.specs.declared.op.Record.{Record}
+use Rattle.coda_cancel.specs.Cancel.{fold}
 use Rattle.coda_cml.specs.declared.frozen.Frozen.{Frozen}
 use Rattle.coda_cml.specs.declared.segment.Segment.{Segment}
 use Rattle.coda_cml.specs.Partition.{AreBetween}
+use Rattle.coda_cml.specs.Segments.{segments_of}
 use Rattle.coda_cml.specs.State.{LogState}
 use Rattle.coda_report.specs.Printing.{line}
 use Rattle.coda_report.specs.Records.{record_line}
@@ -40,6 +42,11 @@ segments_text word (segment ∷ rest) recs =
 -- a log: its first line, the segments of the chunk that is on its way, and those behind them
 abbrev pub log_text : LogState → List ℕ
 log_text log = log_line log ++ segments_text (codes "frozen") log.chunk_segments log.chunk ++ segments_text (codes "open") log.segments log.records
+
+-- the log of operations whose front is on its way: what cancellation leaves of each part, with its segments
+abbrev pub log_of_runs : Option Frozen → List Record → List Record → LogState
+log_of_runs frozen front back =
+    record { frozen = frozen; chunk = fold front; chunk_segments = segments_of front; records = fold back; segments = segments_of back; last = 0; chunks = 0 }
 
 -- ---- what a reader of the text may rest on
 

@@ -1,7 +1,9 @@
 // The text of a log.
-ghost use Rattle.std.specs.Prelude.{◌≡◌, ◌+◌, ◌++◌, length, IfOk, OnOk, string_bytes, codes};
+ghost use Rattle.std.specs.Prelude.{◌≡◌, ◌+◌, ◌++◌, length, List, IfOk, OnOk, string_bytes, codes};
+ghost use Rattle.coda_fid.specs.declared.op.Record.{Record};
 ghost use Rattle.coda_cml.specs.Partition.{ArePartedBy};
-ghost use Rattle.coda_report.specs.LogTexts.{chunk_number_text, count_text, counts_text, log_line, log_text, segment_line, segments_text, ShowsLog};
+ghost use Rattle.coda_cml.specs.State.{IsLogOf};
+ghost use Rattle.coda_report.specs.LogTexts.{chunk_number_text, count_text, counts_text, log_line, log_of_runs, log_text, segment_line, segments_text, ShowsLog};
 
 use crate::records::put_records;
 use coda_cml::{Frozen, Log, Segment};
@@ -90,6 +92,9 @@ pub fn log_text(alloc: Global, log: &Log) -> Result<Bytes, AllocError>
 
     // Each record of the log is shown once, in order, below the segment that its number lies in.
     ensures shown { IfOk result (λ text. ShowsLog log.now text) }
+
+    // What is shown is what cancellation leaves of the operations that the log stands for.
+    ensures run { IfOk result (λ text. (front back : List Record) → IsLogOf log.now front back → text ≡ log_text (log_of_runs log.now.frozen front back)) }
 {
     let mut text = String::new(alloc);
     let (frozen, open) = log.segments();
