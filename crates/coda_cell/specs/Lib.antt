@@ -2,6 +2,7 @@ pub mod Ask
 pub mod Held
 pub mod Looking
 pub mod State
+pub mod Kept
 pub mod Made
 pub mod Refusing
 pub mod Accepting
