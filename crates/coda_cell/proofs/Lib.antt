@@ -8,3 +8,7 @@ pub mod Fetches
 pub mod Answers
 pub mod Drains
 pub mod Events
+pub mod Histories
+pub mod Grown
+pub mod Moving
+pub mod KeptCells

@@ -1,0 +1,150 @@
+-- Cells that are kept: the first one, what is pending there, and lines that make an actor or change no history.
+use Rattle.std.proofs.Common.{◌≡◌, ◌≢◌, ℕ, ◌==◌, true, false, cond, List, [], ◌∷◌, ◌++◌, Option, Some, None, is_some, option_map, refl, sym, ap, ◌∙◌, subst, inl, inr}
+use Rattle.std.specs.FinMap as finite
+use Rattle.std.proofs.lemmas.Bool.{eqb-true, false≢true, cases_Bool}
+use Rattle.coda_fid.specs.declared.op.Record.{Record}
+use Rattle.coda_fid.specs.Fid.{fid_cmp}
+use Rattle.coda_fid.specs.declared.fid.Fid.{Fid}
+use Rattle.coda_tree.specs.Volume.{Nodes, child_of, has}
+use Rattle.coda_cml.specs.Steady.{IsSteady}
+use Rattle.coda_script.specs.declared.line.Strength.{Strength}
+use Rattle.coda_plain.specs.Deeds.{Deed, Course, course_of, pending_of, AreLawful}
+use Rattle.coda_plain.specs.Decisions.{ReplicaEntry, last_of}
+use Rattle.coda_plain.specs.Cell.{ClientEntry, deeds_of, PlainCell, empty_cell}
+use Rattle.coda_plain.specs.Moves.{done_on}
+use Rattle.coda_plain.specs.Sound.{IsSound}
+use Rattle.coda_plain.proofs.Soundness.{none_joins, runs_are_sound}
+use Rattle.coda_plain.proofs.Promised.{sound_cells_are_promised}
+use Rattle.coda_cell.specs.Held.{AreBound}
+use Rattle.coda_cell.specs.State.{pending, ClientState, client_after_all, new_client, CellState, Event, VolumeMade, ClientMade, Ticked, LinkSet}
+use Rattle.coda_cell.specs.Kept.{IsHolding}
+use Rattle.coda_cell.specs.Made.{MadeCell, nothing_made, client_of, state_of, grown, grown_all}
+use Rattle.coda_cell.specs.Cells.{IsOrderly, AreOrderly}
+use Rattle.coda_cell.specs.Runs.{AreUp, AreMade, AreSettled, IsKept, IsLeft, CellsAreKept}
+use Rattle.coda_cell.proofs.Histories.{volume_of, volumes_are, pending_are}
+use Rattle.coda_cell.proofs.Grown.{volume_grown, client_made}
+
+-- ---- what is pending
+
+module _ (cell : MadeCell) (kept : IsKept cell) where
+  pub lawful : (client volume : ℕ) → AreLawful (done_on cell.acted client volume)
+  lawful client volume = (kept.sound.agree none_joins).lawful client volume
+
+  -- a client's log is of what is pending by its history
+  pub pending_is : (client blocks volume : ℕ) → pending ((client_of client (cell.acted.clients client).history blocks).volumes volume) ≡ pending_of (done_on cell.acted client volume)
+  pending_is client blocks volume =
+      ap pending (volumes_are client blocks (cell.acted.clients client).history volume) ∙ (pending_are (done_on cell.acted client volume) (lawful client volume) (kept.settled.thawed client volume)).2
+
+  pub steady : (client volume : ℕ) → IsSteady (pending_of (done_on cell.acted client volume))
+  steady client volume = ((sound_cells_are_promised cell.acted kept.sound none_joins).kept client volume).steady
+
+  orderly_client : (client blocks : ℕ) → cell.sizes client ≡ Some blocks → IsOrderly (client_of client (cell.acted.clients client).history blocks)
+  orderly_client client blocks there = record {
+    bound = (kept.holding client blocks there).bound;
+    steady = λ volume. subst IsSteady (sym (pending_is client blocks volume)) (steady client volume);
+  }
+
+  -- the client that is there was made, and is what its history leaves
+  pub client_there : (client : ℕ) (c : ClientState) → (state_of cell).clients client ≡ Some c → (blocks : ℕ) × (cell.sizes client ≡ Some blocks) × (client_of client (cell.acted.clients client).history blocks ≡ c)
+  client_there client c is = by (cell.sizes client) is
+    where
+      by : (o : Option ℕ) → option_map (client_of client (cell.acted.clients client).history) o ≡ Some c → (blocks : ℕ) × (o ≡ Some blocks) × (client_of client (cell.acted.clients client).history blocks ≡ c)
+      by None e = cc
+      by (Some blocks) e = (blocks, refl, cc)
+
+  pub orderly : AreOrderly (state_of cell)
+  orderly client c is = let there = client_there client c is in subst IsOrderly there.2 (orderly_client client there.0 there.1)
+
+-- ---- nothing was made
+
+pub first_kept : IsKept nothing_made
+first_kept = record {
+  sound = runs_are_sound [] empty_cell refl;
+  up = record { clients = λ client. refl; replicas = λ server volume. refl };
+  made = record { numbered = λ client blocks e. cc; clients = λ client e. refl; volumes = λ client volume e. refl; replicas = λ server volume e. refl };
+  settled = record { thawed = λ client volume. refl; told = λ client volume server e. cc };
+  holding = λ client blocks e. cc;
+}
+
+pub cells_are_kept : CellsAreKept
+cells_are_kept = record { first = first_kept; orderly = orderly }
+
+-- ---- an actor is made
+
+-- a client that did nothing holds nothing
+nothing_holding : (cell : PlainCell) (client blocks : ℕ) (history : List ClientEntry) → history ≡ [] → IsHolding cell (client_of client history blocks)
+nothing_holding cell client blocks history none = subst (λ h. IsHolding cell (client_of client h blocks)) (sym none) (record {
+  bound = λ f p is. (let no : None ≡ Some p = sym (finite.get-empty fid_cmp f) ∙ is in cc);
+  within = λ dir fid name is. (let no : None ≡ Some fid = ap (λ o. child_of o name) (sym (finite.get-empty fid_cmp dir)) ∙ is in cc);
+  made = λ fid is. absurd (false≢true (sym (ap is_some (finite.get-empty fid_cmp fid)) ∙ is));
+  kept = λ volume dir kid is. absurd (false≢true is);
+})
+
+pub volume_left : (cell : MadeCell) (volume server : ℕ) → IsKept cell → cell.homes volume ≡ None → IsLeft cell (VolumeMade volume server ∷ [])
+volume_left cell volume server kept none = record {
+  moved = refl;
+  kept = record {
+    sound = kept.sound;
+    up = kept.up;
+    made = record { numbered = kept.made.numbered; clients = kept.made.clients; volumes = λ client v e. unmade v e (λ w. done_on cell.acted client w ≡ []) (kept.made.volumes client); replicas = λ s v e. unmade v e (λ w. (cell.acted.replicas s w).history ≡ []) (kept.made.replicas s) };
+    settled = record { thawed = kept.settled.thawed; told = told };
+    holding = kept.holding;
+  };
+  shown = volume_grown cell volume server (λ s. kept.made.replicas s volume none);
+}
+  where
+    unmade : (v : ℕ) → cond (v == volume) (Some server) (cell.homes v) ≡ None → (P : ℕ → Type 0) → ((w : ℕ) → cell.homes w ≡ None → P w) → P v
+    unmade v e P h = elim (v == volume) as (λ b. (v == volume) ≡ b → cond b (Some server) (cell.homes v) ≡ None → P v) [ true ↦ λ same f. cc | false ↦ λ other f. h v f ] refl e
+
+    -- nobody did anything on the volume
+    told : (client v s : ℕ) → cond (v == volume) (Some server) (cell.homes v) ≡ Some s → (last_of v (cell.acted.replicas s v).history client).number ≡ (course_of (done_on cell.acted client v)).chunks
+    told client v s e = elim (v == volume) as (λ b. (v == volume) ≡ b → cond b (Some server) (cell.homes v) ≡ Some s → (last_of v (cell.acted.replicas s v).history client).number ≡ (course_of (done_on cell.acted client v)).chunks) [
+      | true ↦ λ same f. (let at = eqb-true v volume same in
+          let home = ap cell.homes at ∙ none in
+          ap (λ h. (last_of v h client).number) (kept.made.replicas s v home) ∙ sym (ap (λ ds. (course_of ds).chunks) (kept.made.volumes client v home)))
+      | false ↦ λ other f. kept.settled.told client v s f
+    ] refl e
+
+pub client_left : (cell : MadeCell) (client blocks : ℕ) → IsKept cell → cell.sizes client ≡ None → client ≢ 0 → IsLeft cell (ClientMade client blocks ∷ [])
+client_left cell client blocks kept none some = record {
+  moved = refl;
+  kept = record {
+    sound = kept.sound;
+    up = kept.up;
+    made = record { numbered = numbered; clients = unmade; volumes = kept.made.volumes; replicas = kept.made.replicas };
+    settled = record { thawed = kept.settled.thawed; told = kept.settled.told };
+    holding = holding;
+  };
+  shown = client_made cell client blocks (kept.made.clients client none);
+}
+  where
+    numbered : (c b : ℕ) → cond (c == client) (Some blocks) (cell.sizes c) ≡ Some b → c ≢ 0
+    numbered c b e = elim (c == client) as (λ x. (c == client) ≡ x → cond x (Some blocks) (cell.sizes c) ≡ Some b → c ≢ 0) [
+      | true ↦ λ same f zero. some (sym (eqb-true c client same) ∙ zero)
+      | false ↦ λ other f. kept.made.numbered c b f
+    ] refl e
+
+    unmade : (c : ℕ) → cond (c == client) (Some blocks) (cell.sizes c) ≡ None → (cell.acted.clients c).history ≡ []
+    unmade c e = elim (c == client) as (λ x. (c == client) ≡ x → cond x (Some blocks) (cell.sizes c) ≡ None → (cell.acted.clients c).history ≡ []) [ true ↦ λ same f. cc | false ↦ λ other f. kept.made.clients c f ] refl e
+
+    holding : (c b : ℕ) → cond (c == client) (Some blocks) (cell.sizes c) ≡ Some b → IsHolding cell.acted (client_of c (cell.acted.clients c).history b)
+    holding c b e = elim (c == client) as (λ x. (c == client) ≡ x → cond x (Some blocks) (cell.sizes c) ≡ Some b → IsHolding cell.acted (client_of c (cell.acted.clients c).history b)) [
+      | true ↦ λ same f. nothing_holding cell.acted c b (cell.acted.clients c).history (ap (λ n. (cell.acted.clients n).history) (eqb-true c client same) ∙ kept.made.clients client none)
+      | false ↦ λ other f. kept.holding c b f
+    ] refl e
+
+-- ---- no history changes
+
+pub ticked_left : (cell : MadeCell) (seconds : ℕ) → IsKept cell → IsLeft cell (Ticked seconds ∷ [])
+ticked_left cell seconds kept = record {
+  moved = refl;
+  kept = record { sound = kept.sound; up = kept.up; made = record { numbered = kept.made.numbered; clients = kept.made.clients; volumes = kept.made.volumes; replicas = kept.made.replicas }; settled = record { thawed = kept.settled.thawed; told = kept.settled.told }; holding = kept.holding };
+  shown = refl;
+}
+
+pub linked_left : (cell : MadeCell) (client server : ℕ) (strength : Strength) → IsKept cell → IsLeft cell (LinkSet client server strength ∷ [])
+linked_left cell client server strength kept = record {
+  moved = refl;
+  kept = record { sound = kept.sound; up = kept.up; made = record { numbered = kept.made.numbered; clients = kept.made.clients; volumes = kept.made.volumes; replicas = kept.made.replicas }; settled = record { thawed = kept.settled.thawed; told = kept.settled.told }; holding = kept.holding };
+  shown = refl;
+}

@@ -1,0 +1,62 @@
+-- What holds of a cell between two lines, and what each line makes of it.
+use Rattle.std.specs.Prelude.{◌≡◌, ◌≢◌, ℕ, true, Some, None, List, []}
+use Rattle.coda_script.specs.declared.line.Line.{Line}
+use Rattle.coda_script.specs.declared.line.Line.TheVariants as line
+use Rattle.coda_script.specs.declared.reply.Reply.{Reply}
+use Rattle.coda_plain.specs.Deeds.{course_of}
+use Rattle.coda_plain.specs.Decisions.{last_of}
+use Rattle.coda_plain.specs.Cell.{PlainCell}
+use Rattle.coda_plain.specs.Moves.{done_on, Moved}
+use Rattle.coda_plain.specs.Sound.{IsSound}
+use Rattle.coda_cell.specs.State.{CellState, Event, after_all}
+use Rattle.coda_cell.specs.Kept.{IsHolding}
+use Rattle.coda_cell.specs.Made.{MadeCell, nothing_made, client_of, state_of, grown_all, moves_of}
+use Rattle.coda_cell.specs.Steps.{Does}
+use Rattle.coda_cell.specs.Cells.{AreOrderly}
+
+-- all actors are up
+pub record AreUp (cell : PlainCell) : Type 0 where
+  pub clients : (client : ℕ) → (cell.clients client).up ≡ true
+  pub replicas : (server volume : ℕ) → (cell.replicas server volume).up ≡ true
+
+-- an actor that wasn't made did nothing, nobody did anything on a volume that wasn't made, and no client has the number 0
+pub record AreMade (cell : MadeCell) : Type 0 where
+  pub numbered : (client blocks : ℕ) → cell.sizes client ≡ Some blocks → client ≢ 0
+  pub clients : (client : ℕ) → cell.sizes client ≡ None → (cell.acted.clients client).history ≡ []
+  pub volumes : (client volume : ℕ) → cell.homes volume ≡ None → done_on cell.acted client volume ≡ []
+  pub replicas : (server volume : ℕ) → cell.homes volume ≡ None → (cell.acted.replicas server volume).history ≡ []
+
+-- no chunk is on its way: none is frozen, and the last chunk of each client is the last that the volume's server decided for it
+pub record AreSettled (cell : MadeCell) : Type 0 where
+  pub thawed : (client volume : ℕ) → (course_of (done_on cell.acted client volume)).cut ≡ None
+  pub told : (client volume server : ℕ) → cell.homes volume ≡ Some server → (last_of volume (cell.acted.replicas server volume).history client).number ≡ (course_of (done_on cell.acted client volume)).chunks
+
+-- What holds of a cell between two lines: its histories are sound, all actors are up, those that weren't made did nothing, no chunk
+-- is on its way, and what each client holds is in order.
+pub record IsKept (cell : MadeCell) : Type 0 where
+  pub sound : IsSound cell.acted
+  pub up : AreUp cell.acted
+  pub made : AreMade cell
+  pub settled : AreSettled cell
+  pub holding : (client blocks : ℕ) → cell.sizes client ≡ Some blocks → IsHolding cell.acted (client_of client (cell.acted.clients client).history blocks)
+
+-- a line makes no client with the number 0
+abbrev pub MakesNumbered : Line → Type 0
+MakesNumbered (line.Client client blocks area) = client ≢ 0
+MakesNumbered _ = Unit {0}
+
+-- What a line made of a cell: what happened to the actors might happen to them one entry after the other, the cell is kept, and what
+-- its histories leave now is what the events leave of what they left before.
+pub record IsLeft (old : MadeCell) (events : List Event) : Type 0 where
+  pub moved : Moved old.acted (moves_of events) (grown_all old events).acted
+  pub kept : IsKept (grown_all old events)
+  pub shown : state_of (grown_all old events) ≡ after_all (state_of old) events
+
+-- In a cell that is kept, whatever a line does might happen, and keeps it.
+abbrev pub LinesKeepCells : Type 0
+LinesKeepCells = (old : MadeCell) (said : Line) (reply : Reply) (events : List Event) → IsKept old → MakesNumbered said → Does (state_of old) said reply events → IsLeft old events
+
+-- What holds of cells that are kept: the first one is, and in each what a client holds is bound, and what is pending of it is steady.
+pub record CellsAreKept : Type 0 where
+  pub first : IsKept nothing_made
+  pub orderly : (cell : MadeCell) → IsKept cell → AreOrderly (state_of cell)

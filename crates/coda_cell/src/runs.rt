@@ -1,0 +1,15 @@
+// What holds of cells over all their runs.
+ghost use Rattle.coda_cell.specs.Runs.{CellsAreKept, LinesKeepCells};
+
+/// A law of cells: one in which nothing was made is kept, and in one that is kept what each client holds is bound by its
+/// parents, and what is pending of it is steady.
+pub fn cells_are_kept()
+    ensures { CellsAreKept }
+{}
+
+/// A law of lines: in a cell that is kept whatever a line does might happen to its actors, one entry after the other, and
+/// keeps it; so all that is promised of cells where what may happen happens is promised of this one (Kistler and
+/// Satyanarayanan 1992: a log is replayed as one transaction).
+pub fn lines_keep_cells()
+    ensures { LinesKeepCells }
+{}
