@@ -10,3 +10,4 @@ pub mod Asking
 pub mod Steps
 pub mod Code
 pub mod Cells
+pub mod Laws
