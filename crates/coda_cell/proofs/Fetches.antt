@@ -33,7 +33,7 @@ client_after_fetches c (fetch ∷ fetches) = client_after_fetches (record c { he
 
 -- ---- the parents of what is fetched
 
-some_fid : (x y : Fid) → Some x ≡ Some y → x ≡ y
+pub some_fid : (x y : Fid) → Some x ≡ Some y → x ≡ y
 some_fid x y e = cc
 
 -- what is bound is bound by an object that is held

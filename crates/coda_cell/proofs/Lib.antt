@@ -5,6 +5,7 @@ pub mod Families
 pub mod Accepted
 pub mod HeldBelow
 pub mod Fetches
+pub mod AfterOperations
 pub mod Answers
 pub mod Drains
 pub mod Events

@@ -11,3 +11,4 @@ pub mod Steps
 pub mod Code
 pub mod Cells
 pub mod Runs
+pub mod Laws

@@ -8,6 +8,7 @@ mod ask;
 mod cell;
 mod draining;
 mod fault;
+mod laws;
 mod lines;
 mod links;
 mod looking;
@@ -22,5 +23,6 @@ mod volume_log;
 
 pub use cell::Cell;
 pub use fault::CellFault;
+pub use laws::own_operations_keep_parents;
 pub use lines::is_built;
 pub use runs::{cells_are_kept, lines_keep_cells};
