@@ -13,3 +13,5 @@ pub mod Histories
 pub mod Grown
 pub mod Moving
 pub mod KeptCells
+pub mod KeptStubs
+pub mod KeptClients
