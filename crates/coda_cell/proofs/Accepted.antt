@@ -76,16 +76,16 @@ relies_few s volume (RemoveOp dir name fid pre) r = inr refl
 relies_few s volume (RmdirOp dir name fid pre) r = inr refl
 relies_few s volume (RenameOp from_dir from to_dir to fid over) r = inr refl
 
-ok_is : {A : Type 0} (x y : A) → (let ok : A → Result A Refused = λ z. Ok z in ok x ≡ ok y) → x ≡ y
+pub ok_is : {A : Type 0} (x y : A) → (let ok : A → Result A Refused = λ z. Ok z in ok x ≡ ok y) → x ≡ y
 ok_is x y h = cc
 
 -- what a success came from
-found_then : {A B : Type 0} (r : Result A Refused) (next : A → Result B Refused) (x : B) → then_find r next ≡ Ok x → (y : A) × (r ≡ Ok y) × (next y ≡ Ok x)
+pub found_then : {A B : Type 0} (r : Result A Refused) (next : A → Result B Refused) (x : B) → then_find r next ≡ Ok x → (y : A) × (r ≡ Ok y) × (next y ≡ Ok x)
 found_then (Err refusal) next x h = cc
 found_then (Ok y) next x h = (y, refl, h)
 
 -- what was not refused at the root
-not_at_root : (s : Sight) (volume : ℕ) (refusal : Refused) (op : Op) → at_root s volume refusal ≡ Ok op → ⊥
+pub not_at_root : (s : Sight) (volume : ℕ) (refusal : Refused) (op : Op) → at_root s volume refusal ≡ Ok op → ⊥
 not_at_root s volume refusal op h = let r = found_then (held (map.get s.held.nodes (root_of volume)) (root_of volume)) (λ _. Err refusal) op h in cc
 
 -- ---- creations
@@ -133,7 +133,7 @@ creation_is s volume (Some e) make op to h =
 
 -- ---- operations on an object
 
-held_is : (o : Option Node) (fid there : Fid) → held o fid ≡ Ok there → (fid ≡ there) × (is_some o ≡ true)
+pub held_is : (o : Option Node) (fid there : Fid) → held o fid ≡ Ok there → (fid ≡ there) × (is_some o ≡ true)
 held_is None fid there h = cc
 held_is (Some node) fid there h = (ok_is fid there h, refl)
 
@@ -161,7 +161,7 @@ pub record IsSpot (m : Nodes) (volume : ℕ) (e : List Name × Name) (at : Fid �
   pub bound : child m at.0 e.1 ≡ Some at.1
   pub there : has m at.1 ≡ true
 
-spot_is : (m : Nodes) (volume : ℕ) (e : List Name × Name) (at : Fid × Fid) → spot m volume e ≡ Ok at → IsSpot m volume e at
+pub spot_is : (m : Nodes) (volume : ℕ) (e : List Name × Name) (at : Fid × Fid) → spot m volume e ≡ Ok at → IsSpot m volume e at
 spot_is m volume e at h =
     let a = found_then (resolve m (root_of volume) e.0) (λ dir. then_find (step_from (map.get m dir) dir e.1) (λ fid. then_find (held (map.get m fid) fid) (λ there. Ok (dir, there)))) at h in
     let b = found_then (step_from (map.get m a.0) a.0 e.1) (λ fid. then_find (held (map.get m fid) fid) (λ there. Ok (a.0, there))) at a.2 in
@@ -293,7 +293,7 @@ replaced_is m fid (Some old) over h =
     let d = or_none (is_dir_at (map.get m fid)) (is_dir_at (map.get m old)) n.1 in
     (v.1, replaced_at m fid old over v.0 n.0 d.1 v.1)
 
-unless_below : (below : Bool) (r : Accepted) (op : Op) → cond below (Err Loop) r ≡ Ok op → r ≡ Ok op
+pub unless_below : (below : Bool) (r : Accepted) (op : Op) → cond below (Err Loop) r ≡ Ok op → r ≡ Ok op
 unless_below true r op h = cc
 unless_below false r op h = h
 
@@ -315,7 +315,7 @@ rename_is s volume from_dir from fid (Some e) op h from_there bound there =
     let at = place_is s.held.nodes volume e a.0 a.1 in
     move_is s volume from_dir from fid e.1 a.0 op a.2 from_there bound there at.0 at.1
 
-root_stays : (s : Sight) (volume : ℕ) (to : Ending) (op : Op) → rename_root s volume to ≡ Ok op → ⊥
+pub root_stays : (s : Sight) (volume : ℕ) (to : Ending) (op : Op) → rename_root s volume to ≡ Ok op → ⊥
 root_stays s volume None op h = not_at_root s volume Loop op h
 root_stays s volume (Some e) op h = let a = found_then (place s.held.nodes volume e) (λ p. Err Loop) op h in cc
 

@@ -6,6 +6,7 @@ pub mod Accepted
 pub mod HeldBelow
 pub mod Fetches
 pub mod AfterOperations
+pub mod NamedObjects
 pub mod Answers
 pub mod Drains
 pub mod Events
