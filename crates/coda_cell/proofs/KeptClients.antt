@@ -1,28 +1,33 @@
 -- A cell stays kept by what a client fetches, and by an operation that it accepts.
-use Rattle.std.proofs.Common.{◌≡◌, ◌≢◌, ℕ, ◌+◌, ◌==◌, true, false, cond, List, [], ◌∷◌, ◌++◌, append-nil, append_assoc, map, Option, Some, None, Result, Ok, Err, refl, sym, ap, ◌∙◌, subst, inl, inr, ◌⊎◌, arith}
-use Rattle.std.proofs.lemmas.Bool.{eqb-true, eq-eqb, false≢true, cases_Bool, false_from_ne_true}
+use Rattle.std.proofs.Common.{◌≡◌, ◌≢◌, ℕ, ◌+◌, ◌==◌, ◌||◌, true, false, cond, List, [], ◌∷◌, ◌++◌, append-nil, append_assoc, map, Option, Some, None, Result, Ok, Err, refl, sym, ap, ◌∙◌, subst, inl, inr, ◌⊎◌, arith}
+use Rattle.std.proofs.lemmas.Bool.{eqb-true, eq-eqb, false≢true, cases_Bool, false_from_ne_true, or_left, or_right, or_cases}
 use Rattle.std.specs.FinMap as finite
 use Rattle.coda_fid.specs.declared.fid.Fid.{Fid}
+use Rattle.coda_fid.specs.Fid.{same_fid}
 use Rattle.coda_fid.specs.declared.op.Op.{Op}
+use Rattle.coda_fid.specs.declared.op.Op.TheVariants.{Remove, Rmdir, Rename}
 use Rattle.coda_fid.specs.declared.op.Record.{Record}
 use Rattle.coda_tree.specs.Volume.{Nodes, has}
+use Rattle.coda_certify.specs.Replay.{applied}
 use Rattle.coda_cancel.specs.Dropping.{mentioning, creates}
-use Rattle.coda_cml.specs.Steady.{any_record, makes_in, unbinds, IsFresh, RemovesEmpty}
+use Rattle.coda_cml.specs.Steady.{any_record, makes_in, unbinds}
 use Rattle.coda_plain.specs.Histories.{In}
-use Rattle.coda_plain.specs.Deeds.{Deed, Operated, Course, course_after, course_of, full_of, created_in, pending_of, IsMade}
+use Rattle.coda_plain.specs.Deeds.{Deed, Operated, Course, course_after, course_of, full_of, pending_of, IsMade, MayOperate, AreLawful}
 use Rattle.coda_plain.specs.Decisions.{ReplicaEntry, nodes_of, last_of}
 use Rattle.coda_plain.specs.Cell.{ClientEntry, Fetched, Did, deed_on, deeds_of, Actor, PlainCell}
-use Rattle.coda_plain.specs.Moves.{AtClient, Does, done_on, IsNext, May, Moved}
+use Rattle.coda_plain.specs.Moves.{AtClient, Does, done_on, IsNext, AreNamed, Moved}
 use Rattle.coda_plain.proofs.Lists.{some_record}
 use Rattle.coda_plain.proofs.Chunking.{course_push, in_above}
 use Rattle.coda_plain.proofs.AtClients.{next_made}
 use Rattle.coda_plain.proofs.Freshness.{next_objects_are_fresh}
 use Rattle.coda_plain.proofs.Soundness.{none_joins, runs_sound}
+use Rattle.coda_cml.proofs.runs.StillThere.{creates_mentions}
+use Rattle.coda_cml.proofs.runs.WithoutObject.{makes_parts}
 use Rattle.coda_cell.specs.Ask.{Asked}
 use Rattle.coda_cell.specs.Held.{Held, Fetch, AreBound, held_after_operation, held_after_fetches}
 use Rattle.coda_cell.specs.Looking.{fetched, entries_of}
 use Rattle.coda_cell.specs.State.{put, pending, ClientVolume, volume_after, ClientState, new_client, client_after, client_after_all}
-use Rattle.coda_cell.specs.Accepting.{sight_of, accept, next_fid}
+use Rattle.coda_cell.specs.Accepting.{Sight, sight_of, accept, next_fid}
 use Rattle.coda_cell.specs.Asking.{behind_fetches, next_record}
 use Rattle.coda_cell.specs.Kept.{AreWithin, AreChildrenKept, IsHolding}
 use Rattle.coda_cell.specs.Made.{MadeCell, client_of, state_of, grown, grown_all, moves_of}
@@ -31,9 +36,10 @@ use Rattle.coda_cell.specs.Runs.{AreUp, AreMade, AreSettled, IsKept, IsLeft}
 use Rattle.coda_cell.proofs.Accepted.{Relies, accepted_relies}
 use Rattle.coda_cell.proofs.AfterOperations.{bound_operation, has_operation}
 use Rattle.coda_cell.proofs.Fetches.{client_after_both, client_after_fetches}
-use Rattle.coda_cell.proofs.Histories.{volume_of, volumes_are, number_stays, shown, pending_are}
+use Rattle.coda_cell.proofs.Histories.{IsOfCourse, client_push, volume_of, volumes_are, number_stays, shown}
 use Rattle.coda_cell.proofs.KeptCells.{lawful, pending_is}
-use Rattle.coda_cell.proofs.KeptStubs.{accepted_names, accepted_creates, within_operation, kept_children_operation, kept_children_beside, removes_empty}
+use Rattle.coda_cell.proofs.NamedObjects.{accepted_names, accepted_creates}
+use Rattle.coda_cell.proofs.KeptStubs.{within_operation, kept_children_operation, kept_children_beside, removes_empty}
 use Rattle.coda_cell.proofs.Moving.{HasMore, has_more, shown_more, done_here, done_elsewhere, done_same, made_stays, up_all}
 
 -- ---- what a client holds, while others go on
@@ -124,3 +130,189 @@ module _ (cell : MadeCell) (number blocks : ℕ) (kept : IsKept cell) (there : c
 
     pub fetches_left : IsLeft cell (map (at_client number) (entries_of fetches))
     fetches_left = record { moved = moved; kept = record { sound = runs_sound (moves_of events) cell.acted new.acted kept.sound moved; up = up_all cell events kept.up; made = made; settled = settled; holding = holding }; shown = shown_more cell number entries }
+
+-- ---- an operation
+
+-- what takes an object from its place mentions it
+unbinds_mentions : (g : Fid) (o : Op) → unbinds g o ≡ true → mentioning g o ≡ true
+unbinds_mentions g (Remove d n f pre) e = or_right (same_fid d g) (same_fid f g || false) (or_left (same_fid f g) false e)
+unbinds_mentions g (Rmdir d n f pre) e = or_right (same_fid d g) (same_fid f g || false) (or_left (same_fid f g) false e)
+unbinds_mentions g (Rename d n x m f None) e = or_right (same_fid d g) (same_fid x g || (same_fid f g || false)) (or_right (same_fid x g) (same_fid f g || false) e)
+unbinds_mentions g (Rename d n x m f (Some v)) e =
+    or_right (same_fid d g) (same_fid x g || (same_fid f g || (same_fid v.fid g || false))) (or_right (same_fid x g) (same_fid f g || (same_fid v.fid g || false)) (elim (or_cases (same_fid f g) (same_fid v.fid g) e) [
+      | inl a ↦ or_left (same_fid f g) (same_fid v.fid g || false) a
+      | inr b ↦ or_right (same_fid f g) (same_fid v.fid g || false) (or_left (same_fid v.fid g) false b)
+    ]))
+unbinds_mentions g _ e = absurd (false≢true e)
+
+module _ (cell : MadeCell) (number blocks : ℕ) (kept : IsKept cell) (there : cell.sizes number ≡ Some blocks) (volume home : ℕ) (homed : cell.homes volume ≡ Some home) (time : ℕ) (ask : Asked) (op : Op)
+    (accepted : accept (sight_of (the_client cell number blocks kept there) volume) volume ask ≡ Ok op) where
+  abbrev client : ClientState
+  client = the_client cell number blocks kept there
+
+  abbrev sight : Sight
+  sight = sight_of client volume
+
+  abbrev deeds : List Deed
+  deeds = done_on cell.acted number volume
+
+  abbrev pub next_operation : Record
+  next_operation = next_record (client.volumes volume) time op
+
+  abbrev entry : ClientEntry
+  entry = Did volume (Operated next_operation)
+
+  abbrev next : MadeCell
+  next = grown cell (at_client number entry)
+
+  holds : IsHolding cell.acted client
+  holds = kept.holding number blocks there
+
+  relies : Relies sight volume op
+  relies = accepted_relies sight volume ask op accepted
+
+  names : (fid : Fid) → mentioning fid op ≡ true → (fid.volume ≡ volume) × ((has client.held.nodes fid ≡ true) ⊎ ((creates fid op ≡ true) × (fid ≡ next_fid sight volume)))
+  names = accepted_names sight volume ask op holds.within accepted
+
+  law : AreLawful deeds
+  law = lawful cell kept number volume
+
+  shows : IsOfCourse (volume_of deeds) deeds
+  shows = shown deeds law
+
+  is_left : client.volumes volume ≡ volume_of deeds
+  is_left = volumes_are number blocks (cell.acted.clients number).history volume
+
+  -- what it creates is its next object
+  next_named : (fid : Fid) → creates fid op ≡ true → IsNext volume deeds number op fid
+  next_named fid makes =
+      let is = accepted_creates sight volume ask op accepted fid makes in
+      record {
+        creates_it = makes;
+        here = ap (λ (f : Fid). f.volume) is;
+        own = ap (λ (f : Fid). f.vnode) is ∙ number_stays (new_client number blocks) (cell.acted.clients number).history;
+        next = ap (λ (f : Fid). f.uniq) is ∙ ap (λ n. n + 1) (ap (λ (v : ClientVolume). v.creations) is_left ∙ shows.creations);
+      }
+
+  all_named : AreNamed cell.acted number volume op
+  all_named fid mentions =
+      let n = names fid mentions in
+      elim n.1 [
+        | inl held ↦ inr (subst (λ v. IsMade v (done_on cell.acted fid.vnode v) fid) n.0 (holds.made fid held))
+        | inr new ↦ inl (next_named fid new.0)
+      ]
+
+  may_operate : MayOperate deeds next_operation
+  may_operate = record {
+    next = ap (λ n. n + 1) (ap (λ (v : ClientVolume). v.operations) is_left ∙ shows.operations);
+    fresh = next_objects_are_fresh cell.acted number volume op kept.sound (kept.made.numbered number blocks there) next_named;
+    empty = removes_empty sight volume op (pending_of deeds) (subst (AreChildrenKept client.held.nodes) (pending_is cell kept number blocks volume) (holds.kept volume)) relies;
+  }
+
+  operation_moved : Moved cell.acted (Does (AtClient number entry) ∷ []) next.acted
+  operation_moved = ((kept.up.clients number, (may_operate, all_named)), refl)
+
+  one : HasMore cell next number (entry ∷ [])
+  one = has_more cell number (entry ∷ [])
+
+  deeds_here : done_on next.acted number volume ≡ deeds ++ Operated next_operation ∷ []
+  deeds_here = done_here cell next number (entry ∷ []) one volume ∙ ap (λ b. deeds ++ (cond b (Operated next_operation ∷ []) [] ++ [])) (eq-eqb volume volume refl)
+
+  -- elsewhere nothing changed
+  deeds_else : (c w : ℕ) → (c ≢ number) ⊎ (w ≢ volume) → done_on next.acted c w ≡ done_on cell.acted c w
+  deeds_else c w (inl other) = done_elsewhere cell next number (entry ∷ []) one c w other
+  deeds_else c w (inr other) = done_same cell next number (entry ∷ []) one c w (elim (cases_Bool (w == volume)) [
+    | inl same ↦ absurd (other (eqb-true w volume same))
+    | inr e ↦ ap (λ b. cond b (Operated next_operation ∷ []) [] ++ []) e
+  ])
+
+  -- what is asked of the course of each volume of each client
+  by_place : (P : ℕ → ℕ → List Deed → Type 0) → P number volume (deeds ++ Operated next_operation ∷ []) → ((c w : ℕ) → P c w (done_on cell.acted c w)) → (c w : ℕ) → P c w (done_on next.acted c w)
+  by_place P here else c w = elim (cases_Bool (c == number)) [
+    | inl same ↦ elim (cases_Bool (w == volume)) [
+      | inl at ↦ subst (λ x. P x w (done_on next.acted x w)) (sym (eqb-true c number same)) (subst (λ x. P number x (done_on next.acted number x)) (sym (eqb-true w volume at)) (subst (P number volume) (sym deeds_here) here))
+      | inr off ↦ subst (P c w) (sym (deeds_else c w (inr (λ at. false≢true (sym off ∙ eq-eqb w volume at))))) (else c w)
+    ]
+    | inr other ↦ subst (P c w) (sym (deeds_else c w (inl (λ same. false≢true (sym other ∙ eq-eqb c number same))))) (else c w)
+  ]
+
+  course_here : course_of (deeds ++ Operated next_operation ∷ []) ≡ course_after (course_of deeds) (Operated next_operation)
+  course_here = course_push deeds (Operated next_operation)
+
+  operation_settled : AreSettled next
+  operation_settled = record {
+    thawed = by_place (λ c w ds. (course_of ds).cut ≡ None) (ap (λ (x : Course). x.cut) course_here ∙ kept.settled.thawed number volume) kept.settled.thawed;
+    told = by_place (λ c w ds. (server : ℕ) → cell.homes w ≡ Some server → (last_of w (cell.acted.replicas server w).history c).number ≡ (course_of ds).chunks)
+        (λ server e. kept.settled.told number volume server e ∙ sym (ap (λ (x : Course). x.chunks) course_here)) kept.settled.told;
+  }
+
+  operation_made : AreMade next
+  operation_made = record {
+    numbered = kept.made.numbered;
+    clients = λ c e. ap (λ (a : Actor ClientEntry). a.history) (one.others c (λ same. let no : Some blocks ≡ None = sym (ap cell.sizes same ∙ there) ∙ e in cc)) ∙ kept.made.clients c e;
+    volumes = by_place (λ c w ds. cell.homes w ≡ None → ds ≡ []) (λ e. let no : Some home ≡ None = sym homed ∙ e in cc) kept.made.volumes;
+    replicas = kept.made.replicas;
+  }
+
+  -- ---- what the client holds
+
+  made_before : (fid : Fid) → IsMade fid.volume (done_on cell.acted fid.vnode fid.volume) fid → IsMade fid.volume (done_on next.acted fid.vnode fid.volume) fid
+  made_before fid made = made_stays (Does (AtClient number entry) ∷ []) cell.acted next.acted operation_moved fid.vnode fid.volume fid made
+
+  made_now : (fid : Fid) → creates fid op ≡ true → IsMade fid.volume (done_on next.acted fid.vnode fid.volume) fid
+  made_now fid makes =
+      let n = next_named fid makes in
+      subst (λ v. IsMade v (done_on next.acted fid.vnode v) fid) (sym n.here)
+      (subst (λ c. IsMade volume (done_on next.acted c volume) fid) (sym n.own) (subst (λ ds. IsMade volume ds fid) (sym deeds_here) (next_made volume deeds number next_operation fid n)))
+
+  -- an object that a run of another volume created isn't taken from where it is bound
+  beside : (w : ℕ) → (w == volume) ≡ false → (dir kid : Fid) → any_record (makes_in dir kid) (pending (client.volumes w)) ≡ true → unbinds kid op ≡ false
+  beside w off dir kid makes = false_from_ne_true (unbinds kid op) (λ takes.
+      let run = pending_is cell kept number blocks w in
+      let rec = some_record (makes_in dir kid) (pending_of (done_on cell.acted number w)) (ap (any_record (makes_in dir kid)) (sym run) ∙ makes) in
+      let made = (kept.sound.agree none_joins).made number w rec.0 (in_above (course_of (done_on cell.acted number w)).done rec.0 (full_of (done_on cell.acted number w)) rec.1) kid
+          (creates_mentions kid rec.0.op (makes_parts dir kid rec.0.op rec.2).1) in
+      let same : w ≡ volume = sym made.0 ∙ (names kid (unbinds_mentions kid op takes)).0 in
+      false≢true (sym off ∙ eq-eqb w volume same))
+
+  operation_kept : (w : ℕ) → AreChildrenKept (applied client.held.nodes client.number next_operation) (pending (put client.volumes volume (volume_after (client.volumes volume) (Operated next_operation)) w))
+  operation_kept w = elim (w == volume) as (λ b. (w == volume) ≡ b → AreChildrenKept (applied client.held.nodes client.number next_operation) (pending (cond b (volume_after (client.volumes volume) (Operated next_operation)) (client.volumes w)))) [
+    | true ↦ λ at. subst (AreChildrenKept (applied client.held.nodes client.number next_operation)) (append_assoc (client.volumes volume).front (client.volumes volume).back (next_operation ∷ []))
+        (kept_children_operation sight volume client.number next_operation (pending (client.volumes volume)) (holds.kept volume) relies)
+    | false ↦ λ off. kept_children_beside sight volume client.number next_operation (pending (client.volumes w)) (holds.kept w) relies (beside w off)
+  ] refl
+
+  operation_holding : IsHolding next.acted (client_after client entry)
+  operation_holding = record {
+    bound = bound_operation sight volume client.number next_operation relies holds.bound;
+    within = within_operation sight volume client.number next_operation holds.within (λ fid mentions. (names fid mentions).0) relies;
+    made = λ fid is. elim (has_operation client.held.nodes client.number next_operation fid is) [ inl old ↦ made_before fid (holds.made fid old) | inr new ↦ made_now fid new ];
+    kept = operation_kept;
+  }
+
+  all_holding : (c b : ℕ) → cell.sizes c ≡ Some b → IsHolding next.acted (client_of c (next.acted.clients c).history b)
+  all_holding c b e = elim (cases_Bool (c == number)) [
+    | inl same ↦ (let at = eqb-true c number same in
+        let sized : Some blocks ≡ Some b = sym there ∙ ap cell.sizes (sym at) ∙ e in
+        let b_is : blocks ≡ b = cc in
+        subst (λ n. IsHolding next.acted (client_of n (next.acted.clients n).history b)) (sym at)
+        (subst (λ x. IsHolding next.acted (client_of number (next.acted.clients number).history x)) b_is
+        (subst (IsHolding next.acted) (sym (ap (λ h. client_of number h blocks) one.here ∙ client_push (new_client number blocks) (cell.acted.clients number).history entry)) operation_holding)))
+    | inr other ↦ (let off : c ≢ number = λ same. false≢true (sym other ∙ eq-eqb c number same) in
+        subst (λ (a : Actor ClientEntry). IsHolding next.acted (client_of c a.history b)) (sym (one.others c off))
+        (holding_on (Does (AtClient number entry) ∷ []) cell.acted next.acted (client_of c (cell.acted.clients c).history b) operation_moved (kept.holding c b e)))
+  ]
+
+  -- a client accepts its next operation
+  pub operated_left : IsLeft cell (at_client number entry ∷ [])
+  operated_left = record {
+    moved = operation_moved;
+    kept = record {
+      sound = runs_sound (Does (AtClient number entry) ∷ []) cell.acted next.acted kept.sound operation_moved;
+      up = up_all cell (at_client number entry ∷ []) kept.up;
+      made = operation_made;
+      settled = operation_settled;
+      holding = all_holding;
+    };
+    shown = shown_more cell number (entry ∷ []);
+  }

@@ -19,12 +19,6 @@ use Rattle.coda_cell.specs.Asking.{look_ups}
 use Rattle.coda_cell.specs.Kept.{AreWithin, AreChildrenKept}
 use Rattle.coda_cell.proofs.Accepted.{Relies}
 
-pub accepted_names : (s : Sight) (volume : ℕ) (ask : Asked) (op : Op) (fid : Fid) → AreWithin s.held.nodes → accept s volume ask ≡ Ok op → mentioning fid op ≡ true → (fid.volume ≡ volume) × ((has s.held.nodes fid ≡ true) ⊎ ((creates fid op ≡ true) × (fid ≡ next_fid s volume)))
-accepted_names s volume ask op fid within is names = ?
-
-pub accepted_creates : (s : Sight) (volume : ℕ) (ask : Asked) (op : Op) (fid : Fid) → accept s volume ask ≡ Ok op → creates fid op ≡ true → fid ≡ next_fid s volume
-accepted_creates s volume ask op fid is makes = ?
-
 pub within_operation : (s : Sight) (volume client : ℕ) (rec : Record) → AreWithin s.held.nodes → ((fid : Fid) → mentioning fid rec.op ≡ true → fid.volume ≡ volume) → Relies s volume rec.op → AreWithin (applied s.held.nodes client rec)
 within_operation s volume client rec within names relies = ?
 
