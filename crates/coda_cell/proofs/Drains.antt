@@ -42,7 +42,7 @@ settled_chunks Applied log = refl
 settled_chunks (Conflict number why) log = refl
 
 -- where nothing stands against a freeze, nothing is frozen
-not_frozen : (o : Option Frozen) (now window : ℕ) (back : List Record) → freeze_refusal o now window (segments_of back) ≡ None → o ≡ None
+pub not_frozen : (o : Option Frozen) (now window : ℕ) (back : List Record) → freeze_refusal o now window (segments_of back) ≡ None → o ≡ None
 not_frozen None now window back e = refl
 not_frozen (Some chunk) now window back e = cc
 

@@ -16,3 +16,4 @@ pub mod Moving
 pub mod KeptCells
 pub mod KeptStubs
 pub mod KeptClients
+pub mod KeptChunks

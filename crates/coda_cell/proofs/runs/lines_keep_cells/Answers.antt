@@ -1,4 +1,4 @@
-use Rattle.coda_cell.proofs.KeptClients.{fetches_left}
+use Rattle.coda_cell.proofs.KeptChunks.{may_freeze}
 use Rattle.coda_cell.proofs.runs.lines_keep_cells.Goals as goal
 
 pub returns : goal.returns
