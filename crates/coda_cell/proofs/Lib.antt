@@ -9,6 +9,7 @@ pub mod AfterOperations
 pub mod NamedObjects
 pub mod Offered
 pub mod Within
+pub mod KeptChildren
 pub mod Answers
 pub mod Drains
 pub mod Events
