@@ -297,7 +297,7 @@ bound_before m client rec dir name kid is = was_by m rec.time (sid_of client rec
 
 -- ---- what was there before
 
-there_put : (m : Nodes) (fid : Fid) (node : Node) (f : Fid) → has (map.insert m fid node) f ≡ true → (has m f ≡ true) ⊎ (f ≡ fid)
+pub there_put : (m : Nodes) (fid : Fid) (node : Node) (f : Fid) → has (map.insert m fid node) f ≡ true → (has m f ≡ true) ⊎ (f ≡ fid)
 there_put m fid node f is = elim (fid_cases f fid) [
   | inl same ↦ inr same
   | inr other ↦ inl (sym (ap is_some (get_else fids_total exact_fids m fid node f other)) ∙ is)

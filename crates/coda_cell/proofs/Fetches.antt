@@ -31,6 +31,39 @@ pub client_after_fetches : (c : ClientState) (fetches : List Fetch) → client_a
 client_after_fetches c [] = refl
 client_after_fetches c (fetch ∷ fetches) = client_after_fetches (record c { held = held_after_fetch c.held fetch.fid fetch.parent fetch.node }) fetches
 
+-- ---- what look-ups keep
+
+-- what each look-up keeps, those along names keep, and those of an ask
+module _ (Kept : Held → Type 0) (offers : Option Nodes) (keeps : (h : Held) (fid : Fid) → Kept h → Kept (looked offers h fid)) where
+  keeps_on : (h : Held) (next : Fid → List Fetch) → Kept h → ((fid : Fid) → Kept (held_after_fetches h (next fid))) → (r : Result Fid Refused) → Kept (held_after_fetches h (look_on r next))
+  keeps_on h next kept then_ (Err why) = kept
+  keeps_on h next kept then_ (Ok fid) = then_ fid
+
+  pub keeps_along : (h : Held) (at : Fid) (names : List Name) → Kept h → Kept (held_after_fetches h (look_along offers h at names))
+  keeps_along h at [] kept = keeps h at kept
+  keeps_along h at (name ∷ names) kept =
+      subst Kept (sym (held_after_both h (look offers h at) _))
+      (keeps_on (looked offers h at) (λ next. look_along offers (looked offers h at) next names) (keeps h at kept)
+      (λ next. keeps_along (looked offers h at) next names (keeps h at kept)) (step_from (map.get (looked offers h at).nodes at) at name))
+
+  keeps_rename : (h : Held) (volume : ℕ) (from to : List Name) → Kept h → Kept (held_after_fetches h (rename_look_ups offers h volume from to))
+  keeps_rename h volume from to kept =
+      let first = look_along offers h (root_of volume) from in
+      let then_ = held_after_fetches h first in
+      let along = keeps_along h (root_of volume) from kept in
+      subst Kept (sym (held_after_both h first _))
+      (keeps_on then_ (λ fid. look_along offers then_ (root_of volume) to) along (λ fid. keeps_along then_ (root_of volume) to along) (resolve then_.nodes (root_of volume) from))
+
+  pub keeps_look_ups : (h : Held) (volume : ℕ) (ask : Asked) → Kept h → Kept (held_after_fetches h (look_ups offers h volume ask))
+  keeps_look_ups h volume (Create path mode owner) kept = keeps_along h (root_of volume) (front_of (ending path)) kept
+  keeps_look_ups h volume (Mkdir path mode owner) kept = keeps_along h (root_of volume) (front_of (ending path)) kept
+  keeps_look_ups h volume (Symlink path target) kept = keeps_along h (root_of volume) (front_of (ending path)) kept
+  keeps_look_ups h volume (Store path content) kept = keeps_along h (root_of volume) path kept
+  keeps_look_ups h volume (Setattr path attrs) kept = keeps_along h (root_of volume) path kept
+  keeps_look_ups h volume (Remove path) kept = keeps_along h (root_of volume) path kept
+  keeps_look_ups h volume (Rmdir path) kept = keeps_along h (root_of volume) path kept
+  keeps_look_ups h volume (Rename from to) kept = keeps_rename h volume from to kept
+
 -- ---- the parents of what is fetched
 
 pub some_fid : (x y : Fid) → Some x ≡ Some y → x ≡ y
@@ -66,35 +99,12 @@ bound_look offers h fid bound = by (map.get h.nodes fid) (offered offers fid) re
     by None (Some node) e = bound_fetch h fid (parent_of h.nodes fid) node e refl bound
     by None None e = bound
 
-bound_on : (h : Held) (next : Fid → List Fetch) → AreBound h → ((fid : Fid) → AreBound (held_after_fetches h (next fid))) → (r : Result Fid Refused) → AreBound (held_after_fetches h (look_on r next))
-bound_on h next bound then_ (Err why) = bound
-bound_on h next bound then_ (Ok fid) = then_ fid
-
 pub bound_along : (offers : Option Nodes) (h : Held) (at : Fid) (names : List Name) → AreBound h → AreBound (held_after_fetches h (look_along offers h at names))
-bound_along offers h at [] bound = bound_look offers h at bound
-bound_along offers h at (name ∷ names) bound =
-    subst AreBound (sym (held_after_both h (look offers h at) _))
-    (bound_on (looked offers h at) (λ next. look_along offers (looked offers h at) next names) (bound_look offers h at bound)
-    (λ next. bound_along offers (looked offers h at) next names (bound_look offers h at bound)) (step_from (map.get (looked offers h at).nodes at) at name))
-
-bound_rename : (offers : Option Nodes) (h : Held) (volume : ℕ) (from to : List Name) → AreBound h → AreBound (held_after_fetches h (rename_look_ups offers h volume from to))
-bound_rename offers h volume from to bound =
-    let first = look_along offers h (root_of volume) from in
-    let then_ = held_after_fetches h first in
-    let along = bound_along offers h (root_of volume) from bound in
-    subst AreBound (sym (held_after_both h first _))
-    (bound_on then_ (λ fid. look_along offers then_ (root_of volume) to) along (λ fid. bound_along offers then_ (root_of volume) to along) (resolve then_.nodes (root_of volume) from))
+bound_along offers h at names bound = keeps_along AreBound offers (bound_look offers) h at names bound
 
 -- what look-ups leave is bound by its parents
 pub bound_look_ups : (offers : Option Nodes) (h : Held) (volume : ℕ) (ask : Asked) → AreBound h → AreBound (held_after_fetches h (look_ups offers h volume ask))
-bound_look_ups offers h volume (Create path mode owner) bound = bound_along offers h (root_of volume) (front_of (ending path)) bound
-bound_look_ups offers h volume (Mkdir path mode owner) bound = bound_along offers h (root_of volume) (front_of (ending path)) bound
-bound_look_ups offers h volume (Symlink path target) bound = bound_along offers h (root_of volume) (front_of (ending path)) bound
-bound_look_ups offers h volume (Store path content) bound = bound_along offers h (root_of volume) path bound
-bound_look_ups offers h volume (Setattr path attrs) bound = bound_along offers h (root_of volume) path bound
-bound_look_ups offers h volume (Remove path) bound = bound_along offers h (root_of volume) path bound
-bound_look_ups offers h volume (Rmdir path) bound = bound_along offers h (root_of volume) path bound
-bound_look_ups offers h volume (Rename from to) bound = bound_rename offers h volume from to bound
+bound_look_ups offers h volume ask bound = keeps_look_ups AreBound offers (bound_look offers) h volume ask bound
 
 -- the look-ups of both paths of a rename
 pub renamed : (offers : Option Nodes) (old mid new : Held) (volume : ℕ) (from to first second third : List Name) (root fid : Fid) → root ≡ root_of volume → first ≡ from → second ≡ from → third ≡ to

@@ -7,6 +7,9 @@ pub mod HeldBelow
 pub mod Fetches
 pub mod AfterOperations
 pub mod NamedObjects
+pub mod Offered
+pub mod Within
+pub mod KeptChildren
 pub mod Answers
 pub mod Drains
 pub mod Events
