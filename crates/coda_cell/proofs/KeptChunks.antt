@@ -38,7 +38,7 @@ use Rattle.coda_cell.proofs.Grown.{client_grown, replica_grown}
 use Rattle.coda_cell.proofs.Histories.{IsOfCourse, client_push, volume_of, volumes_are, shown, pending_are}
 use Rattle.coda_cell.proofs.KeptCells.{lawful, steady, pending_is}
 use Rattle.coda_cell.proofs.KeptClients.{holding_on}
-use Rattle.coda_cell.proofs.KeptStubs.{children_of_rest}
+use Rattle.coda_cell.proofs.KeptChildren.{children_of_rest}
 use Rattle.coda_cell.proofs.Moving.{HasMore, has_more, done_here, done_elsewhere, done_same, up_all, made_stays}
 
 -- ---- where a chunk ends

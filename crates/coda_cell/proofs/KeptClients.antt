@@ -39,7 +39,8 @@ use Rattle.coda_cell.proofs.Fetches.{client_after_both, client_after_fetches}
 use Rattle.coda_cell.proofs.Histories.{IsOfCourse, client_push, volume_of, volumes_are, number_stays, shown}
 use Rattle.coda_cell.proofs.KeptCells.{lawful, pending_is}
 use Rattle.coda_cell.proofs.NamedObjects.{accepted_names, accepted_creates}
-use Rattle.coda_cell.proofs.KeptStubs.{within_operation, kept_children_operation, kept_children_beside, removes_empty}
+use Rattle.coda_cell.proofs.Within.{within_operation}
+use Rattle.coda_cell.proofs.KeptChildren.{kept_children_operation, kept_children_beside, removes_empty}
 use Rattle.coda_cell.proofs.Moving.{HasMore, has_more, shown_more, done_here, done_elsewhere, done_same, made_stays, up_all}
 
 -- ---- what a client holds, while others go on
@@ -73,7 +74,7 @@ fetches_moved cell number (fetch ∷ fetches) up there =
     )
 
 module _ (cell : MadeCell) (number blocks : ℕ) (kept : IsKept cell) (there : cell.sizes number ≡ Some blocks) where
-  abbrev the_client : ClientState
+  abbrev pub the_client : ClientState
   the_client = client_of number (cell.acted.clients number).history blocks
 
   -- a client fetches what replicas have, and what it holds then is in order
@@ -285,7 +286,7 @@ module _ (cell : MadeCell) (number blocks : ℕ) (kept : IsKept cell) (there : c
   operation_holding : IsHolding next.acted (client_after client entry)
   operation_holding = record {
     bound = bound_operation sight volume client.number next_operation relies holds.bound;
-    within = within_operation sight volume client.number next_operation holds.within (λ fid mentions. (names fid mentions).0) relies;
+    within = within_operation client.held.nodes volume client.number next_operation holds.within (λ fid mentions. (names fid mentions).0);
     made = λ fid is. elim (has_operation client.held.nodes client.number next_operation fid is) [ inl old ↦ made_before fid (holds.made fid old) | inr new ↦ made_now fid new ];
     kept = operation_kept;
   }

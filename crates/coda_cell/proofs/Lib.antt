@@ -17,6 +17,6 @@ pub mod Histories
 pub mod Grown
 pub mod Moving
 pub mod KeptCells
-pub mod KeptStubs
 pub mod KeptClients
 pub mod KeptChunks
+pub mod KeptLines

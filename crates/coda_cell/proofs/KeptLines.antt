@@ -1,0 +1,330 @@
+-- What each line does keeps a cell.
+use Rattle.std.proofs.Common.{◌≡◌, ◌≢◌, ℕ, ◌+◌, Bool, true, false, cond, List, [], ◌∷◌, ◌++◌, map, Option, Some, None, is_some, option_map, Result, Ok, Err, refl, sym, ap, ◌∙◌, subst, inl, inr, ◌⊎◌}
+use Rattle.std.specs.Prelude.{nat_le}
+use Rattle.std.specs.Option.{option_and_then, unwrap_or}
+use Rattle.std.specs.FinMap as finite
+use Rattle.coda_fid.specs.Fid.{root_of}
+use Rattle.coda_fid.specs.declared.fid.Fid.{Fid}
+use Rattle.coda_fid.specs.declared.op.Op.{Op}
+use Rattle.coda_fid.specs.declared.op.Record.{Record}
+use Rattle.coda_tree.specs.Bindings.{Name}
+use Rattle.coda_tree.specs.Volume.{Nodes, has, IsVolume}
+use Rattle.coda_certify.specs.Verdicts.{verdict_of}
+use Rattle.coda_cml.specs.Chunks.{freeze_refusal}
+use Rattle.coda_cml.specs.Segments.{segments_of}
+use Rattle.coda_cml.specs.declared.fault.FreezeFault.{FreezeFault}
+use Rattle.coda_script.specs.declared.line.Strength.{Strength}
+use Rattle.coda_script.specs.declared.line.Strength.TheVariants.{Strong, Weak, Down}
+use Rattle.coda_script.specs.declared.line.Task.{Task}
+use Rattle.coda_script.specs.declared.line.Task.TheVariants as task
+use Rattle.coda_script.specs.declared.line.Line.{Line}
+use Rattle.coda_script.specs.declared.line.Line.TheVariants as line
+use Rattle.coda_script.specs.declared.reply.Reply.{Reply}
+use Rattle.coda_plain.specs.Histories.{In}
+use Rattle.coda_plain.specs.Deeds.{Froze, Settled, Operated, IsMade}
+use Rattle.coda_plain.specs.Decisions.{Decided, decision, nodes_of}
+use Rattle.coda_plain.specs.Cell.{ClientEntry, Did}
+use Rattle.coda_plain.specs.Moves.{AtReplica, done_on}
+use Rattle.coda_plain.proofs.Soundness.{none_joins}
+use Rattle.coda_plain.proofs.Volumes.{volumes}
+use Rattle.coda_cell.specs.Ask.{Asked, Create, Mkdir, Symlink, Store, Setattr, Remove, Rmdir, Rename, too_big}
+use Rattle.coda_cell.specs.Held.{Held, Fetch, AreBound, held_after_fetches}
+use Rattle.coda_cell.specs.Looking.{look_along, entries_of}
+use Rattle.coda_cell.specs.State.{ClientState, new_client, client_after_all, ReplicaState, new_replica, replica_after_all, Event, VolumeMade, ClientMade, Ticked, LinkSet, Entered}
+use Rattle.coda_cell.specs.Accepting.{Accepted, sight_of, accept}
+use Rattle.coda_cell.specs.Asking.{Answer, look_ups, behind_fetches, next_record, has_room, is_full, entered, answer_to, operate_unless, operate, read, list}
+use Rattle.coda_cell.specs.Kept.{AreWithin, AreChildrenKept, IsHolding}
+use Rattle.coda_cell.specs.Made.{MadeCell, client_of, replica_of, state_of, grown_all}
+use Rattle.coda_cell.specs.Steps.{Named, first_missing, on_volume, client_named, volume_named, server_named, holder_named, no_volume, no_client, no_room, Doing, Unless, Happens, reached, offers_of, Outcome, stays, Sending, chunk_of, sent_from, sent_unless, drained, drain, at_client, ByClient, ByBoth, bytes_of, Operates, DoesTask, alone, Does}
+use Rattle.coda_cell.specs.Runs.{IsKept, IsLeft, MakesNumbered, LinesKeepCells}
+use Rattle.coda_cell.specs.declared.refused.Refused.{Refused}
+use Rattle.coda_cell.specs.declared.refused.Refused.TheVariants as refused
+use Rattle.coda_cell.proofs.Events.{are_there}
+use Rattle.coda_cell.proofs.Fetches.{bound_along, bound_look_ups, client_after_both, client_after_fetches}
+use Rattle.coda_cell.proofs.Histories.{nodes_are, server_stays}
+use Rattle.coda_cell.proofs.KeptCells.{client_there, volume_left, client_left, ticked_left, linked_left}
+use Rattle.coda_cell.proofs.KeptChildren.{kept_children_along, kept_children_look_ups}
+use Rattle.coda_cell.proofs.KeptChunks.{sendings, sendings_left}
+use Rattle.coda_cell.proofs.KeptClients.{IsReplicated, the_client, fetches_left, operated_left}
+use Rattle.coda_cell.proofs.Moving.{has_more, left_none, left_both}
+use Rattle.coda_cell.proofs.Offered.{fetched_along_is_offered, fetched_is_offered, has_along, has_look_ups}
+use Rattle.coda_cell.proofs.Within.{within_along, within_look_ups}
+
+-- ---- what is offered
+
+reached_is : (strength : Strength) (r : ReplicaState) (nodes : Nodes) → reached strength r ≡ Some nodes → r.tree.nodes ≡ nodes
+reached_is Strong r nodes e = cc
+reached_is Weak r nodes e = cc
+reached_is Down r nodes e = cc
+
+-- the nodes that are offered are those of the volume's replica
+pub record AreReplicated (cell : MadeCell) (volume : ℕ) (nodes : Nodes) : Type 0 where
+  pub server : ℕ
+  pub home : cell.homes volume ≡ Some server
+  pub are : nodes_of volume (cell.acted.replicas server volume).history ≡ nodes
+
+offered_are : (cell : MadeCell) (number volume : ℕ) (nodes : Nodes) → offers_of (state_of cell) number volume ≡ Some nodes → AreReplicated cell volume nodes
+offered_are cell number volume nodes e = by (cell.homes volume) refl e
+  where
+    by : (o : Option ℕ) → cell.homes volume ≡ o → option_and_then (λ (r : ReplicaState). reached (cell.links number r.server) r) (option_map (replica_of (λ s. (cell.acted.replicas s volume).history) volume) o) ≡ Some nodes → AreReplicated cell volume nodes
+    by None home is = cc
+    by (Some server) home is =
+        let r = replica_of (λ s. (cell.acted.replicas s volume).history) volume server in
+        record { server = server; home = home; are = sym (nodes_are server volume (cell.acted.replicas server volume).history) ∙ reached_is (cell.links number r.server) r nodes is }
+
+module _ (cell : MadeCell) (kept : IsKept cell) where
+  -- objects of a replica are of its volume
+  replica_within : (server volume : ℕ) → AreWithin (nodes_of volume (cell.acted.replicas server volume).history)
+  replica_within server volume dir fid name bound =
+      let agree = kept.sound.agree none_joins in
+      let tree = (volumes volume (cell.acted.replicas server volume).history (agree.ruled server volume)).0.tree in
+      (agree.held server volume fid (tree.there dir name fid bound)).0 ∙ sym (agree.held server volume dir (tree.from dir name fid bound)).0
+
+  offered_within : (number volume : ℕ) (nodes : Nodes) → offers_of (state_of cell) number volume ≡ Some nodes → AreWithin nodes
+  offered_within number volume nodes e = let r = offered_are cell number volume nodes e in subst AreWithin r.are (replica_within r.server volume)
+
+  offered_made : (number volume : ℕ) (nodes : Nodes) (fid : Fid) → offers_of (state_of cell) number volume ≡ Some nodes → has nodes fid ≡ true → IsMade fid.volume (done_on cell.acted fid.vnode fid.volume) fid
+  offered_made number volume nodes fid e is =
+      let r = offered_are cell number volume nodes e in
+      let made = (kept.sound.agree none_joins).held r.server volume fid (subst (λ m. has m fid ≡ true) (sym r.are) is) in
+      subst (λ v. IsMade v (done_on cell.acted fid.vnode v) fid) (sym made.0) made
+
+-- ---- look-ups
+
+-- what look-ups keep
+record AreLookUps (offers : Option Nodes) (h : Held) (fetches : List Fetch) : Type 0 where
+  pub bound : AreBound h → AreBound (held_after_fetches h fetches)
+  pub within : ((nodes : Nodes) → offers ≡ Some nodes → AreWithin nodes) → AreWithin h.nodes → AreWithin (held_after_fetches h fetches).nodes
+  pub had : (f : Fid) → has (held_after_fetches h fetches).nodes f ≡ true → (has h.nodes f ≡ true) ⊎ ((nodes : Nodes) × (offers ≡ Some nodes) × (has nodes f ≡ true))
+  pub children : (run : List Record) → AreChildrenKept h.nodes run → AreChildrenKept (held_after_fetches h fetches).nodes run
+  pub offered : (fetch : Fetch) → In fetch fetches → (nodes : Nodes) × (offers ≡ Some nodes) × (finite.get nodes fetch.fid ≡ Some fetch.node)
+
+along : (offers : Option Nodes) (h : Held) (at : Fid) (names : List Name) → AreLookUps offers h (look_along offers h at names)
+along offers h at names = record {
+  bound = bound_along offers h at names;
+  within = λ o w. within_along offers o h at names w;
+  had = has_along offers h at names;
+  children = kept_children_along offers h at names;
+  offered = fetched_along_is_offered offers h at names;
+}
+
+of_ask : (offers : Option Nodes) (h : Held) (volume : ℕ) (ask : Asked) → AreLookUps offers h (look_ups offers h volume ask)
+of_ask offers h volume ask = record {
+  bound = bound_look_ups offers h volume ask;
+  within = λ o w. within_look_ups offers o h volume ask w;
+  had = has_look_ups offers h volume ask;
+  children = kept_children_look_ups offers h volume ask;
+  offered = fetched_is_offered offers h volume ask;
+}
+
+map_both : {A B : Type 0} (f : A → B) (xs ys : List A) → map f (xs ++ ys) ≡ map f xs ++ map f ys
+map_both f [] ys = refl
+map_both f (x ∷ xs) ys = ap (λ l. f x ∷ l) (map_both f xs ys)
+
+module _ (cell : MadeCell) (number blocks : ℕ) (kept : IsKept cell) (there : cell.sizes number ≡ Some blocks) (volume : ℕ) where
+  abbrev asker : ClientState
+  asker = the_client cell number blocks kept there
+
+  abbrev offers : Option Nodes
+  offers = offers_of (state_of cell) number volume
+
+  looked_holding : (fetches : List Fetch) → AreLookUps offers asker.held fetches → IsHolding cell.acted (behind_fetches asker fetches)
+  looked_holding fetches are =
+      let holds = kept.holding number blocks there in
+      record {
+        bound = are.bound holds.bound;
+        within = are.within (offered_within cell kept number volume) holds.within;
+        made = λ fid is. elim (are.had fid is) [ inl old ↦ holds.made fid old | inr new ↦ offered_made cell kept number volume new.0 fid new.1 new.2 ];
+        kept = λ w. are.children _ (holds.kept w);
+      }
+
+  looked_replicated : (fetches : List Fetch) → AreLookUps offers asker.held fetches → (fetch : Fetch) → In fetch fetches → IsReplicated cell.acted fetch
+  looked_replicated fetches are fetch i =
+      let o = are.offered fetch i in
+      let r = offered_are cell number volume o.0 o.1 in
+      record { server = r.server; volume = volume; there = ap (λ m. finite.get m fetch.fid) r.are ∙ o.2 }
+
+  -- look-ups keep the cell
+  looked_left : (fetches : List Fetch) → AreLookUps offers asker.held fetches → IsLeft cell (map (at_client number) (entries_of fetches))
+  looked_left fetches are = fetches_left cell number blocks kept there fetches (looked_replicated fetches are) (looked_holding fetches are)
+
+  -- look-ups and an operation do
+  module _ (server : ℕ) (homed : cell.homes volume ≡ Some server) (time : ℕ) (ask : Asked) where
+    abbrev fetches : List Fetch
+    fetches = look_ups offers asker.held volume ask
+
+    abbrev behind : ClientState
+    behind = behind_fetches asker fetches
+
+    abbrev looked : MadeCell
+    looked = grown_all cell (map (at_client number) (entries_of fetches))
+
+    fetches_are : AreLookUps offers asker.held fetches
+    fetches_are = of_ask offers asker.held volume ask
+
+    behind_is : client_of number (looked.acted.clients number).history blocks ≡ behind
+    behind_is = ap (λ h. client_of number h blocks) (has_more cell number (entries_of fetches)).here
+        ∙ client_after_both (new_client number blocks) (cell.acted.clients number).history (entries_of fetches) ∙ client_after_fetches asker fetches
+
+    operation_left : (op : Op) → accept (sight_of behind volume) volume ask ≡ Ok op → IsLeft cell (map (at_client number) (entries_of fetches ++ Did volume (Operated (next_record (asker.volumes volume) time op)) ∷ []))
+    operation_left op accepted =
+        let first = looked_left fetches fetches_are in
+        let more = has_more cell number (entries_of fetches) in
+        let second = operated_left looked number blocks first.kept (ap (λ f. f number) more.sizes ∙ there) volume server (ap (λ f. f volume) more.homes ∙ homed) time ask op (ap (λ c. accept (sight_of c volume) volume ask) behind_is ∙ accepted) in
+        subst (IsLeft cell) (sym (map_both (at_client number) (entries_of fetches) (Did volume (Operated (next_record (asker.volumes volume) time op)) ∷ [])))
+        (left_both cell (map (at_client number) (entries_of fetches)) (at_client number (Did volume (Operated (next_record (asker.volumes volume) time op))) ∷ []) first
+        (subst (λ (c : ClientState). IsLeft looked (at_client number (Did volume (Operated (next_record (c.volumes volume) time op))) ∷ [])) behind_is second))
+
+    entered_left : (op : Op) → accept (sight_of behind volume) volume ask ≡ Ok op → (room full : Bool)
+        → (let rec = next_record (asker.volumes volume) time op in
+        IsLeft cell (map (at_client number) (cond room (cond full (Rattle.coda_cell.specs.Asking.answers (entries_of fetches) (Err refused.JournalFull)) (Rattle.coda_cell.specs.Asking.answers (entries_of fetches ++ Did volume (Operated rec) ∷ []) (Ok (Rattle.coda_script.specs.declared.reply.Reply.TheVariants.Done ((asker.volumes volume).operations + 1) (Rattle.coda_cell.specs.Ask.object_of op)))))
+        (Rattle.coda_cell.specs.Asking.answers (entries_of fetches) (Err refused.LogFull))).entries))
+    entered_left op accepted true true = looked_left fetches fetches_are
+    entered_left op accepted true false = operation_left op accepted
+    entered_left op accepted false full = looked_left fetches fetches_are
+
+    answered_left : (r : Accepted) → accept (sight_of behind volume) volume ask ≡ r → IsLeft cell (map (at_client number) (answer_to (entries_of fetches) (asker.volumes volume) time volume r).entries)
+    answered_left (Err why) is = looked_left fetches fetches_are
+    answered_left (Ok op) is = let rec = next_record (asker.volumes volume) time op in entered_left op is (has_room (asker.volumes volume) rec) (is_full (asker.volumes volume))
+
+    unless_left : (o : Option ℕ) → IsLeft cell (map (at_client number) (operate_unless o offers asker time volume ask).entries)
+    unless_left (Some length) = left_none cell kept
+    unless_left None = answered_left (accept (sight_of behind volume) volume ask) refl
+
+    pub operate_left : IsLeft cell (map (at_client number) (operate offers asker time volume ask).entries)
+    unfolding operate
+    operate_left = unless_left (too_big ask)
+
+-- ---- sending
+
+module _ (cell : MadeCell) (number blocks : ℕ) (kept : IsKept cell) (there : cell.sizes number ≡ Some blocks) (volume server : ℕ) (homed : cell.homes volume ≡ Some server) (now window : ℕ) where
+  abbrev sender : ClientState
+  sender = client_of number (cell.acted.clients number).history blocks
+
+  abbrev home : ReplicaState
+  home = replica_of (λ s. (cell.acted.replicas s volume).history) volume server
+
+  home_is : home.server ≡ server
+  home_is = server_stays (new_replica server volume) (cell.acted.replicas server volume).history
+
+  nodes_is : home.tree.nodes ≡ nodes_of volume (cell.acted.replicas server volume).history
+  nodes_is = nodes_are server volume (cell.acted.replicas server volume).history
+
+  abbrev events_at : ℕ → Nodes → Sending → List Event
+  events_at at nodes chunk =
+      at_client number (Did volume (Froze chunk.number at chunk.last)) ∷ Entered (AtReplica at volume (Decided number chunk.number chunk.span))
+      ∷ at_client number (Did volume (Settled chunk.number (verdict_of (decision nodes number chunk.span)))) ∷ []
+
+  sent_left : (o : Option FreezeFault) → freeze_refusal (sender.volumes volume).frozen now window (segments_of (sender.volumes volume).back) ≡ o → IsLeft cell (sent_unless o now window number volume (sender.volumes volume) home).events
+  sent_left (Some why) is = left_none cell kept
+  sent_left None is = by (nat_le 4294967295 (sender.volumes volume).chunks)
+    where
+      by : (full : Bool) → IsLeft cell (cond full (stays refused.JournalFull (sender.volumes volume) home) (sent_from number volume (chunk_of now window (sender.volumes volume)) (sender.volumes volume) home)).events
+      by true = left_none cell kept
+      by false = subst (IsLeft cell) (λ i. events_at (sym home_is i) (sym nodes_is i) (chunk_of now window (sender.volumes volume))) (sendings_left cell number blocks kept there volume server homed now window is)
+
+  drain_left : (strength : Strength) → IsLeft cell (drain strength now window number volume (sender.volumes volume) home).events
+  drain_left Strong = sent_left (freeze_refusal (sender.volumes volume).frozen now window (segments_of (sender.volumes volume).back)) refl
+  drain_left Weak = sent_left (freeze_refusal (sender.volumes volume).frozen now window (segments_of (sender.volumes volume).back)) refl
+  drain_left Down = left_none cell kept
+
+-- ---- lines
+
+module _ (cell : MadeCell) (kept : IsKept cell) where
+  nothing_left : (events : List Event) → events ≡ [] → IsLeft cell events
+  nothing_left events none = subst (IsLeft cell) (sym none) (left_none cell kept)
+
+  unless_own : (o : Option Refused) (own : Doing) (reply : Reply) (events : List Event) → (o ≡ None → own reply events → IsLeft cell events) → Unless o own reply events → IsLeft cell events
+  unless_own (Some why) own reply events rest does = nothing_left events does.1
+  unless_own None own reply events rest does = rest refl does
+
+  replica_there : (volume : ℕ) (r : ReplicaState) → (state_of cell).replicas volume ≡ Some r → (server : ℕ) × (cell.homes volume ≡ Some server) × (replica_of (λ s. (cell.acted.replicas s volume).history) volume server ≡ r)
+  replica_there volume r is = by (cell.homes volume) is
+    where
+      by : (o : Option ℕ) → option_map (replica_of (λ s. (cell.acted.replicas s volume).history) volume) o ≡ Some r → (server : ℕ) × (o ≡ Some server) × (replica_of (λ s. (cell.acted.replicas s volume).history) volume server ≡ r)
+      by None e = cc
+      by (Some server) e = (server, refl, cc)
+
+  home_there : (volume : ℕ) → (volume_named (state_of cell) volume).there ≡ true → (server : ℕ) × (cell.homes volume ≡ Some server)
+  home_there volume is = by (cell.homes volume) is
+    where
+      by : (o : Option ℕ) → is_some (option_map (replica_of (λ s. (cell.acted.replicas s volume).history) volume) o) ≡ true → (server : ℕ) × (o ≡ Some server)
+      by None e = cc
+      by (Some server) e = (server, refl)
+
+  operates_left : (client volume : ℕ) (ask : Asked) (reply : Reply) (events : List Event) → Operates (state_of cell) client volume ask reply events → IsLeft cell events
+  operates_left client volume ask reply events does =
+      unless_own (first_missing (on_volume (state_of cell) client volume)) (ByClient (state_of cell) client volume (λ offers c. operate offers c cell.clock volume ask)) reply events (λ all did.
+      let c = client_there cell kept client did.client did.there in
+      let home = home_there volume (are_there (client_named (state_of cell) client) (volume_named (state_of cell) volume) all).1 in
+      subst (IsLeft cell) (sym (did.happened ∙ ap (λ x. map (at_client client) (operate (offers_of (state_of cell) client volume) x cell.clock volume ask).entries) (sym c.2)))
+          (operate_left cell client c.0 kept c.1 volume home.0 home.1 cell.clock ask)) does
+
+  shows_left : (ask : Option Nodes → ClientState → Answer) (client volume : ℕ) (path : List Name) (reply : Reply) (events : List Event)
+      → ((offers : Option Nodes) (c : ClientState) → (ask offers c).entries ≡ entries_of (look_along offers c.held (root_of volume) path))
+      → Unless (first_missing (on_volume (state_of cell) client volume)) (ByClient (state_of cell) client volume ask) reply events → IsLeft cell events
+  shows_left ask client volume path reply events looks does = unless_own (first_missing (on_volume (state_of cell) client volume)) (ByClient (state_of cell) client volume ask) reply events (λ all did.
+      let c = client_there cell kept client did.client did.there in
+      let offers = offers_of (state_of cell) client volume in
+      let made = client_of client (cell.acted.clients client).history c.0 in
+      subst (IsLeft cell) (sym (did.happened ∙ ap (λ x. map (at_client client) (ask offers x).entries) (sym c.2) ∙ ap (map (at_client client)) (looks offers made)))
+          (looked_left cell client c.0 kept c.1 volume (look_along offers made.held (root_of volume) path) (along offers made.held (root_of volume) path))) does
+
+  both_left : (o : Option Refused) (client volume window : ℕ) (reply : Reply) (events : List Event) → Unless o (ByBoth (state_of cell) client volume window) reply events → IsLeft cell events
+  both_left o client volume window reply events does = unless_own o (ByBoth (state_of cell) client volume window) reply events (λ all did.
+      let c = client_there cell kept client did.client did.client_there in
+      let r = replica_there volume did.replica did.replica_there in
+      subst (IsLeft cell) (sym (did.happened ∙ (λ i. (drain (cell.links client (sym r.2 i).server) cell.clock window client volume ((sym c.2 i).volumes volume) (sym r.2 i)).events)))
+          (drain_left cell client c.0 kept c.1 volume r.0 r.1 cell.clock window (cell.links client (replica_of (λ s. (cell.acted.replicas s volume).history) volume r.0).server))) does
+
+  task_left : (t : Task) (reply : Reply) (events : List Event) → DoesTask (state_of cell) t reply events → IsLeft cell events
+  task_left (task.Create client volume path mode owner) reply events does = operates_left client volume (Create path (unwrap_or mode 420) (unwrap_or owner 0)) reply events does
+  task_left (task.Mkdir client volume path mode owner) reply events does = operates_left client volume (Mkdir path (unwrap_or mode 493) (unwrap_or owner 0)) reply events does
+  task_left (task.Symlink client volume path target) reply events does = operates_left client volume (Symlink path target) reply events does
+  task_left (task.Store client volume path content) reply events does = operates_left client volume (Store path (bytes_of content)) reply events does
+  task_left (task.Setattr client volume path attrs) reply events does = operates_left client volume (Setattr path attrs) reply events does
+  task_left (task.Remove client volume path) reply events does = operates_left client volume (Remove path) reply events does
+  task_left (task.Rmdir client volume path) reply events does = operates_left client volume (Rmdir path) reply events does
+  task_left (task.Rename client volume from to) reply events does = operates_left client volume (Rename from to) reply events does
+  task_left (task.Read client volume path) reply events does = shows_left (λ offers c. read offers c volume path) client volume path reply events (λ offers c. refl) does
+  task_left (task.List client volume path) reply events does = shows_left (λ offers c. list offers c volume path) client volume path reply events (λ offers c. refl) does
+  task_left (task.Drain client volume server window) reply events does =
+      both_left (first_missing (client_named (state_of cell) client ∷ volume_named (state_of cell) volume ∷ holder_named (state_of cell) server volume ∷ [])) client volume (unwrap_or window 600) reply events does
+  task_left (task.Hardlink client volume from to) reply events does = absurd does
+  task_left (task.Refresh client volume server) reply events does = absurd does
+  task_left (task.Giveup client volume) reply events does = absurd does
+
+  -- an actor that may be made isn't there
+  not_there : (there full : Bool) → no_room there full ≡ None → there ≡ false
+  not_there true full e = cc
+  not_there false full e = refl
+
+  no_home : (volume : ℕ) → is_some ((state_of cell).replicas volume) ≡ false → cell.homes volume ≡ None
+  no_home volume is = by (cell.homes volume) is
+    where
+      by : (o : Option ℕ) → is_some (option_map (replica_of (λ s. (cell.acted.replicas s volume).history) volume) o) ≡ false → o ≡ None
+      by None e = refl
+      by (Some server) e = cc
+
+  no_size : (client : ℕ) → is_some ((state_of cell).clients client) ≡ false → cell.sizes client ≡ None
+  no_size client is = by (cell.sizes client) is
+    where
+      by : (o : Option ℕ) → is_some (option_map (client_of client (cell.acted.clients client).history) o) ≡ false → o ≡ None
+      by None e = refl
+      by (Some blocks) e = cc
+
+  line_left : (said : Line) (reply : Reply) (events : List Event) → MakesNumbered said → Does (state_of cell) said reply events → IsLeft cell events
+  line_left (line.Volume volume servers area) reply events numbered does = unless_own (no_volume (state_of cell) volume) _ reply events (λ free did.
+      subst (IsLeft cell) (sym did.1) (volume_left cell volume (alone servers) kept (no_home volume (not_there (is_some ((state_of cell).replicas volume)) _ free)))) does
+  line_left (line.Client client blocks area) reply events numbered does = unless_own (no_client (state_of cell) client) _ reply events (λ free did.
+      subst (IsLeft cell) (sym did.1) (client_left cell client blocks kept (no_size client (not_there (is_some ((state_of cell).clients client)) _ free)) numbered)) does
+  line_left (line.Link client server strength) reply events numbered does =
+      unless_own (first_missing (client_named (state_of cell) client ∷ server_named (state_of cell) server ∷ [])) _ reply events (λ all did. subst (IsLeft cell) (sym did.1) (linked_left cell client server strength kept)) does
+  line_left (line.Tick seconds) reply events numbered does = subst (IsLeft cell) (sym does.1) (ticked_left cell seconds kept)
+  line_left (line.Task t) reply events numbered does = task_left t reply events does
+  line_left (line.ShowVolume server volume) reply events numbered does = unless_own (first_missing (holder_named (state_of cell) server volume ∷ [])) _ reply events (λ all did. nothing_left events did.1) does
+  line_left (line.ShowLog client volume) reply events numbered does = unless_own (first_missing (on_volume (state_of cell) client volume)) _ reply events (λ all did. nothing_left events did.1) does
+  line_left _ reply events numbered does = absurd does
+
+pub lines_keep_cells : LinesKeepCells
+lines_keep_cells old said reply events kept numbered does = line_left old kept said reply events numbered does
