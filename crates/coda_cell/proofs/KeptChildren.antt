@@ -126,7 +126,7 @@ removes_empty s volume (RenameOp from_dir from to_dir to fid over) run kept r = 
 -- ---- the rest of a run
 
 -- an operation mentions what it takes from where it is bound
-unbinds_mentions : (op : Op) (f : Fid) → unbinds f op ≡ true → mentioning f op ≡ true
+pub unbinds_mentions : (op : Op) (f : Fid) → unbinds f op ≡ true → mentioning f op ≡ true
 unbinds_mentions (CreateOp dir name it mode owner) f h = absurd (false≢true h)
 unbinds_mentions (MkdirOp dir name it mode owner) f h = absurd (false≢true h)
 unbinds_mentions (SymlinkOp dir name it target mode owner) f h = absurd (false≢true h)
@@ -146,7 +146,7 @@ unbinds_mentions (RenameOp from_dir from to_dir to it over) f h =
     ]
 
 -- what is made in a directory is created
-makes_creates : (op : Op) (dir f : Fid) → makes_in dir f op ≡ true → creates f op ≡ true
+pub makes_creates : (op : Op) (dir f : Fid) → makes_in dir f op ≡ true → creates f op ≡ true
 makes_creates (CreateOp home name it mode owner) dir f h = (and_parts (same_fid home dir) (same_fid it f) h).1
 makes_creates (MkdirOp home name it mode owner) dir f h = (and_parts (same_fid home dir) (same_fid it f) h).1
 makes_creates (SymlinkOp home name it target mode owner) dir f h = (and_parts (same_fid home dir) (same_fid it f) h).1
@@ -156,7 +156,7 @@ makes_creates (RemoveOp home name it pre) dir f h = absurd (false≢true h)
 makes_creates (RmdirOp home name it pre) dir f h = absurd (false≢true h)
 makes_creates (RenameOp from_dir from to_dir to it over) dir f h = absurd (false≢true h)
 
-any_weaker : (test weaker : Op → Bool) → ((op : Op) → test op ≡ true → weaker op ≡ true) → (run : List Record) → any_record test run ≡ true → any_record weaker run ≡ true
+pub any_weaker : (test weaker : Op → Bool) → ((op : Op) → test op ≡ true → weaker op ≡ true) → (run : List Record) → any_record test run ≡ true → any_record weaker run ≡ true
 any_weaker test weaker then_ [] h = absurd (false≢true h)
 any_weaker test weaker then_ (rec ∷ run) h = elim (or_cases (test rec.op) (any_record test run) h) [
   | inl is ↦ or_left (weaker rec.op) (any_record weaker run) (then_ rec.op is)

@@ -202,7 +202,7 @@ accepted_names s volume ask op within accepted = named_by s volume op within (ac
 
 -- ---- what is created
 
-creates_next : (s : Sight) (volume : ℕ) (op : Op) → Relies s volume op → (fid : Fid) → creates fid op ≡ true → fid ≡ next_fid s volume
+pub creates_next : (s : Sight) (volume : ℕ) (op : Op) → Relies s volume op → (fid : Fid) → creates fid op ≡ true → fid ≡ next_fid s volume
 creates_next s volume (CreateOp dir name new mode owner) r fid h = sym (fid_true new fid h) ∙ r.next
 creates_next s volume (MkdirOp dir name new mode owner) r fid h = sym (fid_true new fid h) ∙ r.next
 creates_next s volume (SymlinkOp dir name new target mode owner) r fid h = sym (fid_true new fid h) ∙ r.next

@@ -1,8 +1,8 @@
 // What holds of every client.
 ghost use Rattle.coda_cell.specs.Laws.{OperationsKeepHeldBound};
 
-/// A law of clients: where each object that a client holds is bound by the directory that it takes for its parent, that is so
-/// after an operation of its own too, so what is asked below a directory stays decided by what is held.
+/// A law of clients: where the directory that a client takes for the parent of an object binds that object, for each that has
+/// one, so it is after an operation of its own that the client accepts.
 pub fn own_operations_keep_parents()
     ensures { OperationsKeepHeldBound }
 {}
