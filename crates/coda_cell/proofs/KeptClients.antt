@@ -1,11 +1,9 @@
 -- A cell stays kept by what a client fetches, and by an operation that it accepts.
-use Rattle.std.proofs.Common.{◌≡◌, ◌≢◌, ℕ, ◌+◌, ◌==◌, ◌||◌, true, false, cond, List, [], ◌∷◌, ◌++◌, append-nil, append_assoc, map, Option, Some, None, Result, Ok, Err, refl, sym, ap, ◌∙◌, subst, inl, inr, ◌⊎◌, arith}
-use Rattle.std.proofs.lemmas.Bool.{eqb-true, eq-eqb, false≢true, cases_Bool, false_from_ne_true, or_left, or_right, or_cases}
+use Rattle.std.proofs.Common.{◌≡◌, ◌≢◌, ℕ, ◌+◌, ◌==◌, true, false, cond, List, [], ◌∷◌, ◌++◌, append-nil, append_assoc, map, Option, Some, None, Result, Ok, Err, refl, sym, ap, ◌∙◌, subst, inl, inr, ◌⊎◌, arith}
+use Rattle.std.proofs.lemmas.Bool.{eqb-true, eq-eqb, false≢true, cases_Bool, false_from_ne_true}
 use Rattle.std.specs.FinMap as finite
 use Rattle.coda_fid.specs.declared.fid.Fid.{Fid}
-use Rattle.coda_fid.specs.Fid.{same_fid}
 use Rattle.coda_fid.specs.declared.op.Op.{Op}
-use Rattle.coda_fid.specs.declared.op.Op.TheVariants.{Remove, Rmdir, Rename}
 use Rattle.coda_fid.specs.declared.op.Record.{Record}
 use Rattle.coda_tree.specs.Volume.{Nodes, has}
 use Rattle.coda_certify.specs.Replay.{applied}
@@ -40,7 +38,7 @@ use Rattle.coda_cell.proofs.Histories.{IsOfCourse, client_push, volume_of, volum
 use Rattle.coda_cell.proofs.KeptCells.{lawful, pending_is}
 use Rattle.coda_cell.proofs.NamedObjects.{accepted_names, accepted_creates}
 use Rattle.coda_cell.proofs.Within.{within_operation}
-use Rattle.coda_cell.proofs.KeptChildren.{kept_children_operation, kept_children_beside, removes_empty}
+use Rattle.coda_cell.proofs.KeptChildren.{unbinds_mentions, kept_children_operation, kept_children_beside, removes_empty}
 use Rattle.coda_cell.proofs.Moving.{HasMore, has_more, shown_more, done_here, done_elsewhere, done_same, made_stays, up_all}
 
 -- ---- what a client holds, while others go on
@@ -133,18 +131,6 @@ module _ (cell : MadeCell) (number blocks : ℕ) (kept : IsKept cell) (there : c
     fetches_left = record { moved = moved; kept = record { sound = runs_sound (moves_of events) cell.acted new.acted kept.sound moved; up = up_all cell events kept.up; made = made; settled = settled; holding = holding }; shown = shown_more cell number entries }
 
 -- ---- an operation
-
--- what takes an object from its place mentions it
-unbinds_mentions : (g : Fid) (o : Op) → unbinds g o ≡ true → mentioning g o ≡ true
-unbinds_mentions g (Remove d n f pre) e = or_right (same_fid d g) (same_fid f g || false) (or_left (same_fid f g) false e)
-unbinds_mentions g (Rmdir d n f pre) e = or_right (same_fid d g) (same_fid f g || false) (or_left (same_fid f g) false e)
-unbinds_mentions g (Rename d n x m f None) e = or_right (same_fid d g) (same_fid x g || (same_fid f g || false)) (or_right (same_fid x g) (same_fid f g || false) e)
-unbinds_mentions g (Rename d n x m f (Some v)) e =
-    or_right (same_fid d g) (same_fid x g || (same_fid f g || (same_fid v.fid g || false))) (or_right (same_fid x g) (same_fid f g || (same_fid v.fid g || false)) (elim (or_cases (same_fid f g) (same_fid v.fid g) e) [
-      | inl a ↦ or_left (same_fid f g) (same_fid v.fid g || false) a
-      | inr b ↦ or_right (same_fid f g) (same_fid v.fid g || false) (or_left (same_fid v.fid g) false b)
-    ]))
-unbinds_mentions g _ e = absurd (false≢true e)
 
 module _ (cell : MadeCell) (number blocks : ℕ) (kept : IsKept cell) (there : cell.sizes number ≡ Some blocks) (volume home : ℕ) (homed : cell.homes volume ≡ Some home) (time : ℕ) (ask : Asked) (op : Op)
     (accepted : accept (sight_of (the_client cell number blocks kept there) volume) volume ask ≡ Ok op) where
@@ -273,7 +259,7 @@ module _ (cell : MadeCell) (number blocks : ℕ) (kept : IsKept cell) (there : c
       let rec = some_record (makes_in dir kid) (pending_of (done_on cell.acted number w)) (ap (any_record (makes_in dir kid)) (sym run) ∙ makes) in
       let made = (kept.sound.agree none_joins).made number w rec.0 (in_above (course_of (done_on cell.acted number w)).done rec.0 (full_of (done_on cell.acted number w)) rec.1) kid
           (creates_mentions kid rec.0.op (makes_parts dir kid rec.0.op rec.2).1) in
-      let same : w ≡ volume = sym made.0 ∙ (names kid (unbinds_mentions kid op takes)).0 in
+      let same : w ≡ volume = sym made.0 ∙ (names kid (unbinds_mentions op kid takes)).0 in
       false≢true (sym off ∙ eq-eqb w volume same))
 
   operation_kept : (w : ℕ) → AreChildrenKept (applied client.held.nodes client.number next_operation) (pending (put client.volumes volume (volume_after (client.volumes volume) (Operated next_operation)) w))

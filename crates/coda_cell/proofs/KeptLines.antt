@@ -30,7 +30,7 @@ use Rattle.coda_plain.proofs.Volumes.{volumes}
 use Rattle.coda_cell.specs.Ask.{Asked, Create, Mkdir, Symlink, Store, Setattr, Remove, Rmdir, Rename, too_big}
 use Rattle.coda_cell.specs.Held.{Held, Fetch, AreBound, held_after_fetches}
 use Rattle.coda_cell.specs.Looking.{look_along, entries_of}
-use Rattle.coda_cell.specs.State.{ClientState, new_client, client_after_all, ReplicaState, new_replica, replica_after_all, Event, VolumeMade, ClientMade, Ticked, LinkSet, Entered}
+use Rattle.coda_cell.specs.State.{pending, ClientState, new_client, client_after_all, ReplicaState, new_replica, replica_after_all, Event, VolumeMade, ClientMade, Ticked, LinkSet, Entered}
 use Rattle.coda_cell.specs.Accepting.{Accepted, sight_of, accept}
 use Rattle.coda_cell.specs.Asking.{Answer, look_ups, behind_fetches, next_record, has_room, is_full, entered, answer_to, operate_unless, operate, read, list}
 use Rattle.coda_cell.specs.Kept.{AreWithin, AreChildrenKept, IsHolding}
@@ -135,7 +135,7 @@ module _ (cell : MadeCell) (number blocks : ℕ) (kept : IsKept cell) (there : c
         bound = are.bound holds.bound;
         within = are.within (offered_within cell kept number volume) holds.within;
         made = λ fid is. elim (are.had fid is) [ inl old ↦ holds.made fid old | inr new ↦ offered_made cell kept number volume new.0 fid new.1 new.2 ];
-        kept = λ w. are.children _ (holds.kept w);
+        kept = λ w. are.children (pending (asker.volumes w)) (holds.kept w);
       }
 
   looked_replicated : (fetches : List Fetch) → AreLookUps offers asker.held fetches → (fetch : Fetch) → In fetch fetches → IsReplicated cell.acted fetch
