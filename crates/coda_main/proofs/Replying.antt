@@ -1,6 +1,7 @@
 -- Each line that is built has a reply in every cell.
 use Rattle.std.proofs.Common.{◌≡◌, ℕ, true, List, [], ◌∷◌, ◌++◌, map, Option, Some, None, is_some, refl, inl, inr}
 use Rattle.std.specs.Bool.{if◌then◌else◌}
+use Rattle.std.specs.Option.{unwrap_or}
 use Rattle.std.specs.List.{AllByRecursion}
 use Rattle.std.specs.Str.Lines.{lines}
 use Rattle.std.proofs.lemmas.Bool.{false≢true}
@@ -11,14 +12,14 @@ use Rattle.coda_script.specs.declared.line.Task.TheVariants as task
 use Rattle.coda_script.specs.declared.line.Line.{Line}
 use Rattle.coda_script.specs.declared.line.Line.TheVariants as line
 use Rattle.coda_script.specs.declared.reply.Reply.{Reply}
-use Rattle.coda_script.specs.declared.reply.Reply.TheVariants.{Opened, Accepted, ShowVolume}
-use Rattle.coda_main.specs.declared.refused.Refused.{Refused}
-use Rattle.coda_main.specs.declared.refused.Refused.TheVariants.{NoSuchActor}
-use Rattle.coda_main.specs.Refusing.{refusal}
-use Rattle.coda_main.specs.State.{ClientState, CellState, Event, VolumeMade, ClientMade, Ticked, LinkSet, AtClient}
-use Rattle.coda_main.specs.Asking.{Answer}
-use Rattle.coda_main.specs.Steps.{Doing, Unless, Naming, Happens, ByClient, ByBoth, Does, DoesTask, first_missing, client_named, volume_named, server_named, holder_named, on_volume, no_volume, no_client, drain, offers_of, alone, is_built, is_built_task}
-use Rattle.coda_main.specs.Plain.{PlainCell, state_of, grown_all}
+use Rattle.coda_script.specs.declared.reply.Reply.TheVariants.{Opened, Accepted, ShowVolume, ShowLog}
+use Rattle.coda_cell.specs.declared.refused.Refused.{Refused}
+use Rattle.coda_cell.specs.declared.refused.Refused.TheVariants.{NoSuchActor}
+use Rattle.coda_cell.specs.Refusing.{refusal}
+use Rattle.coda_cell.specs.State.{ClientState, CellState, Event, VolumeMade, ClientMade, Ticked, LinkSet}
+use Rattle.coda_cell.specs.Asking.{Answer}
+use Rattle.coda_cell.specs.Steps.{Doing, Unless, Naming, Happens, ByClient, ByBoth, Does, DoesTask, first_missing, client_named, volume_named, server_named, holder_named, on_volume, no_volume, no_client, drain, offers_of, reply_to, at_client, alone, is_built, is_built_task}
+use Rattle.coda_cell.specs.Made.{MadeCell, state_of, grown_all}
 use Rattle.coda_main.specs.PlainRun.{LineGives}
 use Rattle.coda_main.specs.Texts.{text_of}
 use Rattle.coda_main.specs.Complete.{IsTaken, ScriptsInGrammarAreClean}
@@ -41,16 +42,16 @@ by_client s client volume ask =
     unless_some (first_missing (on_volume s client volume)) (ByClient s client volume ask) (λ none.
     let c = there_of (s.clients client) (first_missing (volume_named s volume ∷ [])) client none in
     let answer = ask (offers_of s client volume) c.0 in
-    (answer.reply, map (AtClient client) answer.entries, record { client = c.0; there = c.1; answered = refl; happened = refl }))
+    (reply_to answer.said, map (at_client client) answer.entries, record { client = c.0; there = c.1; answered = refl; happened = refl }))
 
-by_both : (s : CellState) (client volume server : ℕ) → Some_of (Naming (client_named s client ∷ volume_named s volume ∷ holder_named s server volume ∷ []) (ByBoth s client volume))
-by_both s client volume server =
+by_both : (s : CellState) (client volume server window : ℕ) → Some_of (Naming (client_named s client ∷ volume_named s volume ∷ holder_named s server volume ∷ []) (ByBoth s client volume window))
+by_both s client volume server window =
     let behind = holder_named s server volume ∷ [] in
-    unless_some (first_missing (client_named s client ∷ volume_named s volume ∷ behind)) (ByBoth s client volume) (λ none.
+    unless_some (first_missing (client_named s client ∷ volume_named s volume ∷ behind)) (ByBoth s client volume window) (λ none.
     let c = there_of (s.clients client) (first_missing (volume_named s volume ∷ behind)) client none in
     let r = there_of (s.replicas volume) (first_missing behind) volume c.2 in
-    let out = drain (s.links client r.0.server) client volume (c.0.logs volume) r.0 in
-    (out.reply, out.events, record { client = c.0; replica = r.0; client_there = c.1; replica_there = r.1; answered = refl; happened = refl }))
+    let out = drain (s.links client r.0.server) s.clock window client volume (c.0.volumes volume) r.0 in
+    (reply_to out.said, out.events, record { client = c.0; replica = r.0; client_there = c.1; replica_there = r.1; answered = refl; happened = refl }))
 
 task_some : (s : CellState) (t : Task) → is_built_task t ≡ true → Some_of (DoesTask s t)
 task_some s (task.Create client volume path mode owner) b = by_client s client volume _
@@ -63,7 +64,7 @@ task_some s (task.Rmdir client volume path) b = by_client s client volume _
 task_some s (task.Rename client volume from to) b = by_client s client volume _
 task_some s (task.Read client volume path) b = by_client s client volume _
 task_some s (task.List client volume path) b = by_client s client volume _
-task_some s (task.Drain client volume server window) b = by_both s client volume server
+task_some s (task.Drain client volume server window) b = by_both s client volume server (unwrap_or window 600)
 task_some s (task.Hardlink client volume from to) b = absurd (false≢true b)
 task_some s (task.Refresh client volume server) b = absurd (false≢true b)
 task_some s (task.Giveup client volume) b = absurd (false≢true b)
@@ -78,10 +79,11 @@ line_some s (line.Link client server strength) b = unless_some (first_missing (c
 line_some s (line.Tick seconds) b = happens_some Accepted (Ticked seconds)
 line_some s (line.Task t) b = task_some s t b
 line_some s (line.ShowVolume server volume) b = unless_some (first_missing (holder_named s server volume ∷ [])) _ (λ none. (ShowVolume server volume, [], (refl, refl)))
+line_some s (line.ShowLog client volume) b = unless_some (first_missing (on_volume s client volume)) _ (λ none. (ShowLog client volume, [], (refl, refl)))
 line_some s _ b = absurd (false≢true b)
 
 -- a line that is taken may run
-taken_gives : (cell : PlainCell) (bytes : List ℕ) → IsTaken bytes → (text : List ℕ) × (next : PlainCell) × LineGives cell bytes text [] next
+taken_gives : (cell : MadeCell) (bytes : List ℕ) → IsTaken bytes → (text : List ℕ) × (next : MadeCell) × LineGives cell bytes text [] next
 taken_gives cell bytes (inl silent) = ([], cell, (refl, inl (silent, refl, refl)))
 taken_gives cell bytes (inr said) =
     let does = line_some (state_of cell) said.0 said.2 in
@@ -101,7 +103,7 @@ taken_gives cell bytes (inr said) =
       ),
     )
 
-taken_run : (cell : PlainCell) (ls : List (List ℕ)) → AllByRecursion IsTaken ls → (report : List ℕ) × (outside : List (List ℕ)) × (state : PlainCell) × Runs LineGives cell ls report outside state
+taken_run : (cell : MadeCell) (ls : List (List ℕ)) → AllByRecursion IsTaken ls → (report : List ℕ) × (outside : List (List ℕ)) × (state : MadeCell) × Runs LineGives cell ls report outside state
 taken_run cell [] taken = ([], [], cell, (refl, refl, refl))
 taken_run cell (l ∷ ls) taken =
     let first = taken_gives cell l taken.0 in

@@ -6,8 +6,8 @@ use Rattle.coda_engine.specs.Lines.{IsWithinLimits}
 use Rattle.coda_engine.specs.Exact.{IsClean}
 use Rattle.coda_script.specs.declared.line.Line.{Line}
 use Rattle.coda_script.specs.Lines.{line_of}
-use Rattle.coda_main.specs.Steps.{is_built}
-use Rattle.coda_main.specs.Plain.{PlainCell}
+use Rattle.coda_cell.specs.Steps.{is_built}
+use Rattle.coda_cell.specs.Made.{MadeCell}
 use Rattle.coda_main.specs.PlainRun.{LineGives}
 
 -- a line that says nothing, or that says something which is built
@@ -21,4 +21,4 @@ pub record IsInGrammar (script : List ℕ) : Type 0 where
 
 -- Whatever the cell, it may run each line of such a script, so the script is clean.
 abbrev pub ScriptsInGrammarAreClean : Type 0
-ScriptsInGrammarAreClean = (cell : PlainCell) (script : List ℕ) → IsInGrammar script → IsClean LineGives cell script
+ScriptsInGrammarAreClean = (cell : MadeCell) (script : List ℕ) → IsInGrammar script → IsClean LineGives cell script

@@ -1,51 +1,66 @@
--- What the runs of a cell have in common, in the words of a file system that replays logs.
-use Rattle.std.specs.Prelude.{◌≡◌, ◌≢◌, ℕ, List, ◌∷◌, ◌++◌, Some, Ok}
+-- What all runs of scripts have in common, in the words of a file system that replays logs.
+use Rattle.std.specs.Prelude.{◌≡◌, ◌≢◌, ℕ, Some, Ok, List, [], ◌++◌}
 use Rattle.coda_fid.specs.declared.op.Record.{Record}
 use Rattle.coda_tree.specs.Volume.{Nodes}
 use Rattle.coda_certify.specs.declared.reason.Reason.{Reason}
 use Rattle.coda_certify.specs.declared.verdict.Verdict.TheVariants.{Applied, Conflict}
 use Rattle.coda_certify.specs.Replay.{replay}
-use Rattle.coda_certify.specs.Verdicts.{verdict_of}
-use Rattle.coda_certify.specs.Laws.{IsFirstRefused}
+use Rattle.coda_cancel.specs.Cancel.{fold}
 use Rattle.coda_engine.specs.Run.{Runs}
-use Rattle.coda_main.specs.State.{ReplicaState, ReplicaEntry, Decided, replica_after, sent_of, decision}
-use Rattle.coda_main.specs.Plain.{PlainCell, PlainReplica, empty_cell}
+use Rattle.coda_plain.specs.Deeds.{all_in, ended_of, full_of, pending_of}
+use Rattle.coda_plain.specs.Decisions.{Decision, verdict_on, nodes_by}
+use Rattle.coda_plain.specs.Cell.{Histories, empty_cell}
+use Rattle.coda_plain.specs.Moves.{done_on}
+use Rattle.coda_plain.specs.Laws.{IsRun}
+use Rattle.coda_plain.specs.Promises.{Decides, AreDecidedOnce, IsRefused, AreKept}
+use Rattle.coda_cell.specs.State.{log_of, ClientState}
+use Rattle.coda_cell.specs.Made.{MadeCell, nothing_made, state_of}
 use Rattle.coda_main.specs.PlainRun.{LineGives}
 
--- the entry decides the chunk of this number of this client
-abbrev pub IsDecisionOf : ReplicaEntry → ℕ → ℕ → Type 0
-IsDecisionOf (Decided by number' span) client number = (by ≡ client) × (number' ≡ number)
+-- the histories of a cell's actors
+abbrev pub histories_of : MadeCell → Histories
+histories_of cell = record { clients = λ client. (cell.acted.clients client).history; replicas = λ server volume. (cell.acted.replicas server volume).history }
 
--- no chunk is decided by two entries
-abbrev pub AreDecidedOnce : List ReplicaEntry → Type 0
-AreDecidedOnce history =
-    (client number : ℕ) (front middle back : List ReplicaEntry) (first second : ReplicaEntry) → history ≡ front ++ first ∷ (middle ++ second ∷ back)
-    → IsDecisionOf first client number → IsDecisionOf second client number → ⊥
+-- A client's log of a volume: no chunk of it is on its way, and its records are what cancellation leaves of the operations that no
+-- chunk applied.
+pub record IsOfPending (cell : MadeCell) (client volume : ℕ) (c : ClientState) : Type 0 where
+  pub chunk : (log_of (c.volumes volume)).chunk ≡ []
+  pub records : (log_of (c.volumes volume)).records ≡ fold (pending_of (done_on cell.acted client volume))
 
--- Whatever lines ran, from an empty cell, each chunk of a client on a volume is decided at most once.
+-- What a run of lines leaves: the histories are a run from nothing, so they keep what is promised of runs, and each client's log is
+-- what is left of what is pending by its history.
+pub record HasRun (cell : MadeCell) : Type 0 where
+  pub run : IsRun empty_cell cell.acted
+  pub logs : (client volume : ℕ) (c : ClientState) → (state_of cell).clients client ≡ Some c → IsOfPending cell client volume c
+
+-- whatever lines ran, from a cell in which nothing was made
+abbrev pub Always : (MadeCell → Type 0) → Type 0
+Always Holds = (ls : List (List ℕ)) (report : List ℕ) (outside : List (List ℕ)) (cell : MadeCell) → Runs LineGives nothing_made ls report outside cell → Holds cell
+
+-- Whatever lines ran, the cell is a run from nothing.
+abbrev pub ScriptsRun : Type 0
+ScriptsRun = Always HasRun
+
+-- Each chunk of a client on a volume is decided at most once, over all replicas of the volume.
 abbrev pub ChunksAreDecidedOnce : Type 0
-ChunksAreDecidedOnce =
-    (ls : List (List ℕ)) (report : List ℕ) (outside : List (List ℕ)) (cell : PlainCell) (volume : ℕ) (replica : PlainReplica) → Runs LineGives empty_cell ls report outside cell → cell.replicas volume ≡ Some replica
-    → AreDecidedOnce replica.history
+ChunksAreDecidedOnce = Always (λ cell. (volume : ℕ) → AreDecidedOnce (histories_of cell) volume)
 
--- what a replica's volume is after it decided a chunk
-abbrev pub left_by : ReplicaState → ℕ → ℕ → List Record → Nodes
-left_by replica client number span = (replica_after replica (Decided client number span)).tree.nodes
-
--- Where the operations of a chunk certify in turn, the chunk is applied, and leaves the volume that replaying them leaves.
+-- Where the operations of a chunk certify in turn, as they were before cancellation, the chunk is applied, and leaves the volume that
+-- replaying them leaves.
 abbrev pub CertifiedChunksAreApplied : Type 0
 CertifiedChunksAreApplied =
-    (replica : ReplicaState) (client number : ℕ) (span : List Record) (nodes : Nodes) → replay replica.tree.nodes client span ≡ Ok nodes
-    → (verdict_of (decision replica.tree.nodes client span) ≡ Applied) × (left_by replica client number span ≡ nodes)
+    Always (λ cell. (server volume : ℕ) (d : Decision) (nodes : Nodes) → Decides (histories_of cell) server volume d → replay d.before d.client d.span ≡ Ok nodes → (verdict_on d ≡ Applied) × (nodes_by d ≡ nodes))
 
--- A conflict names the first of the records sent that certification refuses after those before it; the operations of the
--- chunk don't certify either; and the volume is as it was.
-pub record IsConflict (replica : ReplicaState) (client number : ℕ) (span : List Record) (refused : ℕ) (why : Reason) : Type 0 where
-  pub names : IsFirstRefused replica.tree.nodes client (sent_of span) refused why
-  pub uncertified : (nodes : Nodes) → replay replica.tree.nodes client span ≢ Ok nodes
-  pub unchanged : left_by replica client number span ≡ replica.tree.nodes
-
+-- A conflict names the first of the records sent that certification refuses; the operations of the chunk don't certify either, as they
+-- were before cancellation; and the volume is as it was.
 abbrev pub ConflictsNameASentRecord : Type 0
 ConflictsNameASentRecord =
-    (replica : ReplicaState) (client number : ℕ) (span : List Record) (refused : ℕ) (why : Reason) → verdict_of (decision replica.tree.nodes client span) ≡ Conflict refused why
-    → IsConflict replica client number span refused why
+    Always (λ cell. (server volume : ℕ) (d : Decision) (refused : ℕ) (why : Reason) → Decides (histories_of cell) server volume d → verdict_on d ≡ Conflict refused why → IsRefused d refused why)
+
+-- No operation that a client accepted is lost, and none is done twice: in order, each is in one chunk that was applied, or pending.
+abbrev pub OperationsAreKept : Type 0
+OperationsAreKept = Always (λ cell. (client volume : ℕ) → AreKept (histories_of cell) client volume)
+
+-- A client's log of a volume is what cancellation leaves of its pending operations.
+abbrev pub LogsArePending : Type 0
+LogsArePending = Always (λ cell. (client volume : ℕ) (c : ClientState) → (state_of cell).clients client ≡ Some c → IsOfPending cell client volume c)

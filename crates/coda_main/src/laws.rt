@@ -1,38 +1,20 @@
 // What follows from the answers of a run, and what all runs have in common.
 ghost use Rattle.coda_engine.specs.Exact.{CleanScriptsRun, OneStatus};
+ghost use Rattle.coda_cell.specs.Made.{nothing_made};
 ghost use Rattle.coda_main.specs.Cached.{CachedIsHeld};
 ghost use Rattle.coda_main.specs.Complete.{ScriptsInGrammarAreClean};
-ghost use Rattle.coda_main.specs.Headline.{ChunksAreDecidedOnce, CertifiedChunksAreApplied, ConflictsNameASentRecord};
-ghost use Rattle.coda_main.specs.Pending.{LogsArePending};
-ghost use Rattle.coda_main.specs.Plain.{empty_cell};
+ghost use Rattle.coda_main.specs.Headline.{ScriptsRun, ChunksAreDecidedOnce, CertifiedChunksAreApplied, ConflictsNameASentRecord, OperationsAreKept, LogsArePending};
 ghost use Rattle.coda_main.specs.PlainRun.{LineGives, LineRefused};
 
 /// A script that the cell can run from its first line to its last, within the limits, never ends as one with a bad line
 /// or as one that is too long.
 pub fn clean_scripts_run()
-    ensures { CleanScriptsRun LineGives LineRefused empty_cell empty_cell }
+    ensures { CleanScriptsRun LineGives LineRefused nothing_made nothing_made }
 {}
 
 /// A script has one status, however it is cut into pieces, but for faults and want of memory.
 pub fn one_status()
-    ensures { OneStatus LineGives LineRefused empty_cell empty_cell }
-{}
-
-/// Whatever lines ran from an empty cell, each chunk of a client is decided at most once (Kistler and Satyanarayanan 1992:
-/// a log is replayed as one transaction).
-pub fn chunks_are_decided_once()
-    ensures { ChunksAreDecidedOnce }
-{}
-
-/// Where the operations of a chunk certify in turn, the chunk is applied, and leaves the volume that replaying them leaves.
-pub fn certified_chunks_are_applied()
-    ensures { CertifiedChunksAreApplied }
-{}
-
-/// A conflict names the first of the records sent that certification refuses, the operations of the chunk don't certify
-/// either, and the volume is as it was.
-pub fn conflicts_name_a_sent_record()
-    ensures { ConflictsNameASentRecord }
+    ensures { OneStatus LineGives LineRefused nothing_made nothing_made }
 {}
 
 /// A script within the limits whose lines are silent, or in the grammar and built, can run to its end from whatever cell: each
@@ -41,13 +23,42 @@ pub fn scripts_in_the_grammar_are_clean()
     ensures { ScriptsInGrammarAreClean }
 {}
 
+/// Whatever lines ran from an empty cell, what they left is a run from nothing: what happened to clients and servers might happen
+/// to them entry by entry, and so what is promised of runs is kept.
+pub fn scripts_run()
+    ensures { ScriptsRun }
+{}
+
+/// Whatever lines ran from an empty cell, each chunk of a client is decided at most once (Kistler and Satyanarayanan 1992:
+/// a log is replayed as one transaction).
+pub fn chunks_are_decided_once()
+    ensures { ChunksAreDecidedOnce }
+{}
+
+/// Whatever lines ran, where the operations of a chunk certify in turn, as they were before cancellation, the chunk is applied, and
+/// leaves the volume that replaying them leaves (Kistler and Satyanarayanan 1992: cancellation changes no outcome).
+pub fn certified_chunks_are_applied()
+    ensures { CertifiedChunksAreApplied }
+{}
+
+/// Whatever lines ran, a conflict names the first of the records sent that certification refuses; the operations of the chunk don't
+/// certify either, as they were before cancellation; and the volume is as it was.
+pub fn conflicts_name_a_sent_record()
+    ensures { ConflictsNameASentRecord }
+{}
+
+/// Whatever lines ran, no operation that a client accepted is lost, and none is done twice: in order, each is in one chunk that a
+/// server applied, or pending.
+pub fn operations_are_kept()
+    ensures { OperationsAreKept }
+{}
+
+/// Whatever lines ran, a client's log of a volume is what cancellation leaves of the operations that no chunk applied.
+pub fn logs_are_pending()
+    ensures { LogsArePending }
+{}
+
 /// A reply to a read or a listing says `cached` exactly where the client held the object before the line.
 pub fn cached_is_held()
     ensures { CachedIsHeld }
-{}
-
-/// Whatever lines ran from an empty cell, a client's log of a volume has the operations that it accepted there behind the last
-/// operation of the last chunk that was applied: none is lost.
-pub fn logs_are_pending()
-    ensures { LogsArePending }
 {}

@@ -1,8 +1,10 @@
 // The cell as a machine that runs the lines of a script.
-ghost use Rattle.coda_main.specs.Shows.{StopsAs};
+ghost use Rattle.std.specs.Prelude.{◌≡◌};
+ghost use Rattle.coda_cell.specs.Made.{nothing_made};
+ghost use Rattle.coda_main.specs.Shows.{Shows, StopsAs};
 
-use crate::cell::Cell;
 use crate::report::text_of;
+use coda_cell::{Cell, is_built};
 use coda_engine::{Kind, LineFault, LineStop, Machine};
 use coda_script::read_line;
 use std::alloc::Global;
@@ -16,6 +18,27 @@ const NOT_BUILT: LineStop = LineStop::Refused(LineFault {
     kind: Kind::Mode,
 });
 
+/// A cell that runs lines.
+#[derive(Drop)]
+pub struct CellMachine {
+    /// The cell, with what the lines so far left of it.
+    pub cell: Cell,
+}
+
+impl CellMachine {
+    ghost use Rattle.coda_cell.specs.Made.{nothing_made};
+    ghost use Rattle.coda_main.specs.Shows.{Shows};
+
+    /// A cell in which nothing was made.
+    pub fn new(alloc: Global) -> CellMachine
+        ensures { Shows nothing_made result }
+    {
+        CellMachine {
+            cell: Cell::new(alloc),
+        }
+    }
+}
+
 // Why a line was not read.
 fn stop_of(fault: coda_script::LineFault) -> LineStop
     ensures { StopsAs fault result }
@@ -28,7 +51,7 @@ fn stop_of(fault: coda_script::LineFault) -> LineStop
     }
 }
 
-impl Machine for Cell {
+impl Machine for CellMachine {
     ghost use Rattle.coda_main.specs.Shows.{CellGives, CellRefuses};
 
     ghost gives = { CellGives };
@@ -44,12 +67,14 @@ impl Machine for Cell {
             Ok(None) => return Ok(Vec::new(alloc)),
             Err(fault) => return Err(stop_of(fault)),
         };
-        let reply = match self.step(said) {
-            Ok(Some(reply)) => reply,
-            Ok(None) => return Err(NOT_BUILT),
+        if !is_built(&said) {
+            return Err(NOT_BUILT);
+        }
+        let reply = match self.cell.step(&said) {
+            Ok(reply) => reply,
             Err(_) => return Err(LineStop::Memory),
         };
-        match text_of(alloc, self, &reply) {
+        match text_of(alloc, &self.cell, &reply) {
             Ok(text) => Ok(text.into_vec()),
             Err(_) => Err(LineStop::Memory),
         }

@@ -1,11 +1,13 @@
 // The texts of replies, in the cell that a line left.
 ghost use Rattle.std.specs.Prelude.{◌≡◌, [], IfOk};
-ghost use Rattle.coda_main.specs.Texts.{shown_of, text_of};
-ghost use Rattle.coda_main.specs.Cells.{cell_state};
+ghost use Rattle.coda_cell.specs.State.{CellState};
+ghost use Rattle.coda_cell.specs.Cells.{IsCell, volume_at, log_at};
+ghost use Rattle.coda_main.specs.Texts.{shown_volume, shown_log, text_of};
 
-use crate::cell::Cell;
+use coda_cell::Cell;
+use coda_cml::Log;
 use coda_fid::Bytes;
-use coda_report::{reply_text, volume_text};
+use coda_report::{log_text, reply_text, volume_text};
 use coda_script::Reply;
 use std::alloc::{AllocError, Global};
 
@@ -15,23 +17,33 @@ fn no_text(alloc: Global) -> Bytes
     Bytes::from_vec(Vec::new(alloc))
 }
 
-// The volume of a replica, where there is one.
-fn shown_text(alloc: Global, cell: &Cell, volume: u32) -> Result<Bytes, AllocError>
-    ensures { IfOk result (λ text. text ≡ shown_of ((cell_state cell.now).replicas volume)) }
+// The volume that a server has.
+fn volume_shown(alloc: Global, cell: &Cell, server: u8, volume: u32) -> Result<Bytes, AllocError>
+    ensures { IfOk result (λ text. (s : CellState) → IsCell s cell.now → text ≡ shown_volume server (volume_at (s.replicas volume) server)) }
 {
-    match cell.replicas.get(&volume) {
-        Some(replica) => volume_text(alloc, &replica.volume, replica.server),
+    match cell.volume(server, volume) {
+        Some(tree) => volume_text(alloc, tree, server),
         None => Ok(no_text(alloc)),
+    }
+}
+
+// The log that a client has of a volume.
+fn log_shown(alloc: Global, cell: &Cell, client: u8, volume: u32) -> Result<Bytes, AllocError>
+    ensures { IfOk result (λ text. (s : CellState) → IsCell s cell.now → text ≡ shown_log (log_at (s.clients client) volume)) }
+{
+    match cell.log(client, volume) {
+        Some(log) => log_text(alloc, log),
+        None => log_text(alloc, &Log::new(alloc)),
     }
 }
 
 /// The text of a reply in the cell that the line left.
 pub fn text_of(alloc: Global, cell: &Cell, reply: &Reply) -> Result<Bytes, AllocError>
-    ensures { IfOk result (λ text. text ≡ text_of (cell_state cell.now) reply.now) }
+    ensures { IfOk result (λ text. (s : CellState) → IsCell s cell.now → text ≡ text_of s reply.now) }
 {
     match reply {
-        Reply::ShowVolume { volume, .. } => shown_text(alloc, cell, *volume),
-        Reply::ShowLog { .. } => Ok(no_text(alloc)),
+        Reply::ShowVolume { server, volume } => volume_shown(alloc, cell, *server, *volume),
+        Reply::ShowLog { client, volume } => log_shown(alloc, cell, *client, *volume),
         _ => reply_text(alloc, reply),
     }
 }

@@ -1,4 +1,4 @@
-use Rattle.coda_main.proofs.Decisions.{chunks_are_decided_once}
+use Rattle.coda_main.proofs.Running.{chunks_are_decided_once}
 use Rattle.coda_main.proofs.laws.chunks_are_decided_once.Goals as goal
 
 pub returns : goal.returns

@@ -1,4 +1,4 @@
-use Rattle.coda_main.proofs.LawfulRuns.{logs_are_pending}
+use Rattle.coda_main.proofs.Running.{logs_are_pending}
 use Rattle.coda_main.proofs.laws.logs_are_pending.Goals as goal
 
 pub returns : goal.returns
