@@ -97,6 +97,13 @@ impl Entries {
         pages::find(&self.pages, name)
     }
 
+    // The pages, one after the other.
+    pub(crate) fn pages(&self) -> &[Vec<(Name, Fid)>]
+        ensures { all_pairs result.now ≡ map.entries self.now }
+    {
+        &self.pages
+    }
+
     // Whether a fid is bound, at whatever name.
     pub(crate) fn binds(&self, fid: Fid) -> bool
         ensures some { result ≡ true → (name : List ℕ) × (map.get self.now name ≡ Some fid) }
