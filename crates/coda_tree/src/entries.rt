@@ -192,7 +192,8 @@ impl Room {
         requires { count < self.now }
         ensures { result ≡ count + 1 }
     {
-        let _capacity = self.pairs.capacity();
+        let capacity = self.pairs.capacity();
+        prove!(count < capacity);
         count + 1
     }
 }
