@@ -11,6 +11,8 @@ pub mod TableMap
 pub mod SlotMap
 pub mod Parents
 pub mod FirstParent
+pub mod Known
+pub mod TableBinders
 pub mod Below
 pub mod KeptParents
 pub mod KeptMoved

@@ -4,6 +4,7 @@ pub mod Tree
 pub mod Volume
 pub mod Lookup
 pub mod Table
+pub mod Binders
 pub mod Parts
 pub mod Slots
 pub mod SlotSteps

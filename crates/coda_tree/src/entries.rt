@@ -97,6 +97,13 @@ impl Entries {
         pages::find(&self.pages, name)
     }
 
+    // The pages, one after the other.
+    pub(crate) fn pages(&self) -> &[Vec<(Name, Fid)>]
+        ensures { all_pairs result.now ≡ map.entries self.now }
+    {
+        &self.pages
+    }
+
     // Whether a fid is bound, at whatever name.
     pub(crate) fn binds(&self, fid: Fid) -> bool
         ensures some { result ≡ true → (name : List ℕ) × (map.get self.now name ≡ Some fid) }
@@ -185,7 +192,8 @@ impl Room {
         requires { count < self.now }
         ensures { result ≡ count + 1 }
     {
-        let _capacity = self.pairs.capacity();
+        let capacity = self.pairs.capacity();
+        prove!(count < capacity);
         count + 1
     }
 }

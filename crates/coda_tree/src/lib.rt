@@ -1,10 +1,12 @@
 //! Volumes: trees of nodes whose root is a directory, and tables of nodes that are no tree.
 #![tactic(auto)]
 
+mod binders;
 mod body;
 mod draft;
 mod entries;
 mod node;
+mod nodes;
 mod pages;
 mod slot;
 mod slots;

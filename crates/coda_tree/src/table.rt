@@ -1,126 +1,37 @@
-ghost use Rattle.std.specs.Prelude.{◌≡◌, ◌↔◌, Some, None, IfOk, IfSome, IsSome, IsTrue, OnOk, OnErr, option_copied};
+ghost use Rattle.std.specs.Prelude.{◌≡◌, Some, None, IfOk, OnOk, OnErr, IsSome, option_copied};
 ghost use Rattle.std.specs.FinMap as map;
-ghost use Rattle.std.specs.BTreeMap as tree;
-ghost use Rattle.coda_fid.specs.Fid.{fid_cmp};
-ghost use Rattle.coda_tree.specs.Volume.{child, added, detached, moved, replaced, changed, bound, unbound, written, content_patch, attrs_patch, IsDir, IsDirAt, bindings, parent_of};
-ghost use Rattle.coda_tree.specs.Table.{nodes_of, ChangesAt, BindsAt, UnbindsAt, IsSame};
+ghost use Rattle.coda_tree.specs.Volume.{child, added, detached, moved, replaced, changed, bound, unbound, written, content_patch, attrs_patch, IsDirAt, parent_of};
 
-use crate::{Node, NodeKind};
+use crate::Node;
+use crate::binders::{Binders, Bound, Change};
+use crate::nodes::NodeMap;
 use coda_fid::{Attrs, Bytes, Fid, Name, Sid};
 use std::alloc::{AllocError, Global};
-use std::collections::BTreeMap;
 use std::marker::Model;
 
 /// The nodes that somebody has copies of, each under its fid.
 ///
 /// It need be no tree: a client holds a directory without all that is bound there. Contracts see it as a finite map
-/// from fids to nodes. A fid is found in logarithmic time.
+/// from fids to nodes. A fid is found in logarithmic time, and so is the directory that binds it, where no other name is
+/// bound to it.
 #[derive(Drop)]
 pub struct NodeTable {
-    alloc: Global,
-    nodes: BTreeMap<Fid, Node>,
+    nodes: NodeMap,
+    binders: Binders,
 }
 
 impl Model for NodeTable {
-    ghost use Rattle.coda_tree.specs.Volume.{Nodes, coded_nodes};
-    ghost use Rattle.coda_tree.specs.Table.{nodes_of};
+    ghost use Rattle.coda_tree.specs.Volume.{Nodes, coded_nodes, child};
+    ghost use Rattle.coda_tree.specs.Binders.{AreBinders};
     ghost use Rattle.coda_tree.specs.contracts.node.Node as node_row;
 
     ghost Value = { Nodes };
 
     ghost coded = { coded_nodes node_row.the_row.coded };
 
-    ghost view = { λ a. nodes_of a.nodes.entries };
-}
+    ghost view = { λ a. a.nodes };
 
-// Binds a free name in the directory at a fid.
-fn bind(nodes: &mut BTreeMap<Fid, Node>, dir: Fid, name: Name, fid: Fid) -> Result<(), AllocError>
-    requires { IfSome (tree.get fid_cmp nodes.old dir) (λ node. IsDir node.kind × (map.get (bindings node.kind) name ≡ None)) }
-    ensures ok { OnOk result (BindsAt nodes.old nodes.new dir name fid) }
-    ensures err { OnErr result (IsSame nodes.old nodes.new) }
-{
-    match nodes.get_mut(&dir) {
-        Some(node) => node.bind(name, fid),
-        None => Ok(()),
-    }
-}
-
-// Unbinds a name in the directory at a fid.
-fn unbind(nodes: &mut BTreeMap<Fid, Node>, dir: Fid, name: &Name)
-    requires { IfSome (tree.get fid_cmp nodes.old dir) (λ node. IsDir node.kind) }
-    ensures { UnbindsAt nodes.old nodes.new dir name.now }
-{
-    if let Some(node) = nodes.get_mut(&dir) {
-        node.unbind(name);
-    }
-}
-
-// Binds a bound name of the directory at a fid to another fid.
-fn rebind(nodes: &mut BTreeMap<Fid, Node>, dir: Fid, name: &Name, fid: Fid)
-    requires { IfSome (tree.get fid_cmp nodes.old dir) (λ node. IsDir node.kind × IsSome (map.get (bindings node.kind) name.now)) }
-    ensures { BindsAt nodes.old nodes.new dir name.now fid }
-{
-    if let Some(node) = nodes.get_mut(&dir) {
-        node.rebind(name, fid);
-    }
-}
-
-// Writes a content with its time to the node at a fid, where there is one.
-fn store(nodes: &mut BTreeMap<Fid, Node>, fid: Fid, content: Bytes, mtime: u64, sid: Sid)
-    ensures { ChangesAt nodes.old nodes.new fid (written (content_patch content mtime) sid) }
-{
-    if let Some(node) = nodes.get_mut(&fid) {
-        node.store(content, mtime, sid);
-    }
-}
-
-// Sets attributes of the node at a fid, where there is one.
-fn set_attributes(nodes: &mut BTreeMap<Fid, Node>, fid: Fid, attrs: &Attrs, sid: Sid)
-    ensures { ChangesAt nodes.old nodes.new fid (written (attrs_patch attrs.now) sid) }
-{
-    if let Some(node) = nodes.get_mut(&fid) {
-        node.set_attributes(attrs, sid);
-    }
-}
-
-// Puts a node in the place of the one at a fid, where there is one.
-fn set(nodes: &mut BTreeMap<Fid, Node>, fid: Fid, node: Node)
-    ensures { ChangesAt nodes.old nodes.new fid (λ _. node) }
-{
-    if let Some(held) = nodes.get_mut(&fid) {
-        *held = node;
-    }
-}
-
-// Whether two places in directories are one.
-fn is_same_place(from: Fid, name: &Name, to: Fid, new: &Name) -> bool
-    ensures { IsTrue result ↔ ((from ≡ to) × (name.now ≡ new.now)) }
-{
-    from == to && name.compare(new).is_eq()
-}
-
-// The first node, in the order of fids, that binds a fid.
-fn first_binder(nodes: &BTreeMap<Fid, Node>, fid: Fid) -> Option<Fid>
-    ensures { result ≡ parent_of (nodes_of nodes.now.entries) fid }
-{
-    for (dir, node) in nodes {
-        if node.binds(fid) {
-            return Some(*dir);
-        }
-    }
-    None
-}
-
-// A copy of each node.
-fn copy_nodes(alloc: Global, nodes: &BTreeMap<Fid, Node>) -> Result<NodeTable, AllocError>
-    ensures { IfOk result (λ t. t ≡ nodes_of nodes.now.entries) }
-{
-    let mut copy = NodeTable::new(alloc);
-    for (fid, node) in nodes {
-        let node = node.copy()?;
-        copy.put(*fid, node)?;
-    }
-    Ok(copy)
+    ghost invariant = { λ a. AreBinders (child a.nodes) a.binders };
 }
 
 impl NodeTable {
@@ -129,8 +40,8 @@ impl NodeTable {
         ensures { result ≡ map.empty }
     {
         NodeTable {
-            alloc,
-            nodes: BTreeMap::new(alloc),
+            nodes: NodeMap::new(alloc),
+            binders: Binders::new(alloc),
         }
     }
 
@@ -145,28 +56,25 @@ impl NodeTable {
     pub fn get(&self, fid: Fid) -> Option<&Node>
         ensures { option_copied result ≡ map.get self.now fid }
     {
-        self.nodes.get(&fid)
+        self.nodes.get(fid)
     }
 
     /// What the directory at a fid binds at a name; `None` too where no directory stands there.
     pub fn child(&self, dir: Fid, name: &Name) -> Option<Fid>
         ensures { result ≡ child self.now dir name.now }
     {
-        match self.get(dir) {
-            Some(node) => match &node.kind {
-                NodeKind::Dir(entries) => entries.find(name),
-                NodeKind::File(_) => None,
-                NodeKind::Link(_) => None,
-            },
-            None => None,
-        }
+        self.nodes.child(dir, name)
     }
 
     /// The directory that binds a fid, the first in the order of fids; `None` where none does.
     pub fn binder(&self, fid: Fid) -> Option<Fid>
         ensures { result ≡ parent_of self.now fid }
     {
-        first_binder(&self.nodes, fid)
+        match self.binders.get(fid) {
+            Bound::Nowhere => None,
+            Bound::Once(dir) => Some(dir),
+            Bound::Unsure => self.nodes.first_binder(fid),
+        }
     }
 
     /// Puts a node at a fid, in the place of the one there. Fails for want of memory alone, and then changes nothing.
@@ -174,7 +82,10 @@ impl NodeTable {
         ensures ok { OnOk result (self.new ≡ map.insert self.old fid node) }
         ensures err { OnErr result (self.new ≡ self.old) }
     {
-        self.nodes.insert(fid, node)?;
+        let was = self.nodes.put(fid, node)?;
+        self.binders.change_all(was.as_ref(), Change::Less);
+        self.binders
+            .change_all(self.nodes.get(fid), Change::More(fid));
         Ok(())
     }
 
@@ -223,16 +134,14 @@ impl NodeTable {
         ensures ok { OnOk result (self.new ≡ moved self.old from name.now to new fid) }
         ensures err { OnErr result (self.new ≡ self.old) }
     {
-        if is_same_place(from, name, to, &new) {
-            return self.bind(to, new, fid);
-        }
-        self.bind(to, new, fid)?;
-        self.unbind(from, name);
+        let was = self.nodes.child(from, name);
+        self.nodes.move_to(from, name, to, new, fid)?;
+        self.binders.move_to(was, fid, to);
         Ok(())
     }
 
     /// Binds a fid at the name that another has in a directory, unbinds its old name, and takes out the node of the
-    /// other. Takes no memory.
+    /// other. Fails in no case.
     pub fn replace(&mut self, old: Fid, from: Fid, name: &Name, to: Fid, new: &Name, fid: Fid)
         requires from_there { IsDirAt self.old from }
         requires to_there { IsDirAt self.old to }
@@ -248,7 +157,7 @@ impl NodeTable {
     pub fn store(&mut self, fid: Fid, content: Bytes, mtime: u64, sid: Sid)
         ensures { self.new ≡ changed self.old fid (written (content_patch content mtime) sid) }
     {
-        store(&mut self.nodes, fid, content, mtime, sid);
+        self.nodes.store(fid, content, mtime, sid);
     }
 
     /// Sets attributes of the node at a fid, and the version that this leaves. Takes no memory, and does nothing where
@@ -256,31 +165,36 @@ impl NodeTable {
     pub fn set_attributes(&mut self, fid: Fid, attrs: &Attrs, sid: Sid)
         ensures { self.new ≡ changed self.old fid (written (attrs_patch attrs.now) sid) }
     {
-        set_attributes(&mut self.nodes, fid, attrs, sid);
+        self.nodes.set_attributes(fid, attrs, sid);
     }
 
     /// A copy with all content. Fails for want of memory alone.
     pub fn copy(&self) -> Result<NodeTable, AllocError>
         ensures { IfOk result (λ t. t ≡ self.now) }
     {
-        copy_nodes(self.alloc, &self.nodes)
+        self.nodes.copied()
     }
 
-    // Binds a name in a directory.
+    // Binds a free name in a directory. Fails for want of memory alone, and then changes nothing.
     fn bind(&mut self, dir: Fid, name: Name, fid: Fid) -> Result<(), AllocError>
         requires dir_there { IsDirAt self.old dir }
         requires name_free { child self.old dir name ≡ None }
         ensures ok { OnOk result (self.new ≡ bound self.old dir name fid) }
         ensures err { OnErr result (self.new ≡ self.old) }
     {
-        bind(&mut self.nodes, dir, name, fid)
+        self.nodes.bind(dir, name, fid)?;
+        self.binders.change(fid, Change::More(dir));
+        Ok(())
     }
 
-    // Puts a node in the place of the one at a fid, where there is one.
-    pub(crate) fn set(&mut self, fid: Fid, node: Node)
-        ensures { self.new ≡ changed self.old fid (λ _. node) }
+    // Unbinds a name in a directory.
+    fn unbind(&mut self, dir: Fid, name: &Name)
+        requires { IsDirAt self.old dir }
+        ensures { self.new ≡ unbound self.old dir name.now }
     {
-        set(&mut self.nodes, fid, node);
+        let was = self.nodes.child(dir, name);
+        self.nodes.unbind(dir, name);
+        self.binders.leave(was);
     }
 
     // Binds a fid at a bound name of a directory, and unbinds its old name.
@@ -290,33 +204,18 @@ impl NodeTable {
         requires name_bound { IsSome (child self.old to new.now) }
         ensures { self.new ≡ moved self.old from name.now to new.now fid }
     {
-        self.rebind(to, new, fid);
-        if !is_same_place(from, name, to, new) {
-            self.unbind(from, name);
-        }
-    }
-
-    // Binds a bound name of a directory to another fid.
-    fn rebind(&mut self, dir: Fid, name: &Name, fid: Fid)
-        requires dir_there { IsDirAt self.old dir }
-        requires name_bound { IsSome (child self.old dir name.now) }
-        ensures { self.new ≡ bound self.old dir name.now fid }
-    {
-        rebind(&mut self.nodes, dir, name, fid);
-    }
-
-    // Unbinds a name in a directory.
-    fn unbind(&mut self, dir: Fid, name: &Name)
-        requires { IsDirAt self.old dir }
-        ensures { self.new ≡ unbound self.old dir name.now }
-    {
-        unbind(&mut self.nodes, dir, name);
+        let over = self.nodes.child(to, new);
+        let was = self.nodes.child_elsewhere(from, name, to, new);
+        self.nodes.move_over(from, name, to, new, fid);
+        self.binders.leave(over);
+        self.binders.move_to(was, fid, to);
     }
 
     // Takes out the node at a fid.
     fn take_out(&mut self, fid: Fid)
         ensures { self.new ≡ map.remove self.old fid }
     {
-        let _ = self.nodes.remove(&fid);
+        let was = self.nodes.take_out(fid);
+        self.binders.change_all(was.as_ref(), Change::Less);
     }
 }

@@ -1,19 +1,15 @@
-use Rattle.std.proofs.Common.{sym, ap, ◌∙◌, subst}
-use Rattle.coda_tree.specs.Volume.{Nodes, bind_in, unbound, IsDirAt}
-use Rattle.coda_tree.proofs.Changes.{dir_changed}
-use Rattle.coda_tree.proofs.Moved.{moved_apart, moved_same}
+use Rattle.std.proofs.Common.{Option, sym, subst}
+use Rattle.coda_fid.specs.declared.fid.Fid.{Fid}
+use Rattle.coda_tree.specs.Volume.{Nodes, child, IsDirAt}
+use Rattle.coda_tree.specs.Binders.{after_leave, after_move, Notes, AreBinders}
+use Rattle.coda_tree.proofs.TableBinders.{moved_over_true}
 use Rattle.coda_tree.proofs.table.NodeTable.move_over.Goals as goal
 
-pub unbind-requires : goal.unbind-requires
-unbind-requires c =
-    subst (λ (m : Nodes). IsDirAt m c.args.from) (sym c.rebind.ensures)
-    (dir_changed c.args.self.now c.args.to (λ node. bind_in node c.args.new.now c.args.fid) (λ _ _. tt) c.args.from c.requires.from_there)
-
-pub returns-then-not-is_same_place : goal.returns-then-not-is_same_place
-returns-then-not-is_same_place c =
-    c.unbind.ensures ∙ ap (λ (m : Nodes). unbound m c.args.from c.args.name.now) c.rebind.ensures
-    ∙ sym (moved_apart c.args.self.now c.args.from c.args.name.now c.args.to c.args.new.now c.args.fid (λ same. let is = c.is_same_place.ensures.1 same in let differs = c.if-not-is_same_place.true in cc))
-
-pub returns-else-not-is_same_place : goal.returns-else-not-is_same_place
-returns-else-not-is_same_place c =
-    c.rebind.ensures ∙ sym (moved_same c.args.self.now c.args.from c.args.name.now c.args.to c.args.new.now c.args.fid (c.is_same_place.ensures.0 c.if-not-is_same_place.false))
+pub invariant_of-self : goal.invariant_of-self
+invariant_of-self c =
+    let b = c.self.inside.binders in
+    let first = subst (λ (o : Option Fid). Notes b c.leave.new.self (after_leave o)) c.child-over.ensures c.leave.ensures in
+    let next = subst (λ (o : Option Fid). Notes c.leave.new.self c.move_to.new.self (after_move o c.args.fid c.args.to)) c.child_elsewhere-was.ensures c.move_to.ensures in
+    subst (λ (m : Nodes). AreBinders (child m) c.move_to.new.self) (sym c.move_over.ensures)
+    (moved_over_true c.self.inside.nodes c.args.from c.args.name.now c.args.to c.args.new.now c.args.fid b c.leave.new.self c.move_to.new.self
+    (subst (λ (m : Nodes). IsDirAt m c.args.to) (sym c.self.view_is) c.requires.to_there) c.self.invariant first next)

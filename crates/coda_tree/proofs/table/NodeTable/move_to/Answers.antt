@@ -1,20 +1,14 @@
-use Rattle.std.proofs.Common.{sym, ap, ◌∙◌, subst}
-use Rattle.std.proofs.lemmas.Result.{on_ok_weaker}
-use Rattle.coda_tree.specs.Volume.{Nodes, bind_in, unbound, IsDirAt}
-use Rattle.coda_tree.proofs.Changes.{dir_changed}
-use Rattle.coda_tree.proofs.Moved.{moved_apart, moved_same}
+use Rattle.std.proofs.Common.{Option, sym, ap, ◌∙◌, subst}
+use Rattle.coda_fid.specs.declared.fid.Fid.{Fid}
+use Rattle.coda_tree.specs.Volume.{Nodes, child, IsDirAt}
+use Rattle.coda_tree.specs.Binders.{after_move, Notes, AreBinders}
+use Rattle.coda_tree.proofs.TableBinders.{moved_true}
 use Rattle.coda_tree.proofs.table.NodeTable.move_to.Goals as goal
 
-pub returns-then-is_same_place-clause-ok : goal.returns-then-is_same_place-clause-ok
-returns-then-is_same_place-clause-ok c = on_ok_weaker c.bind.result (λ is.
-    is ∙ sym (moved_same c.args.self.now c.args.from c.args.name.now c.args.to c.args.new c.args.fid (c.is_same_place.ensures.0 c.if-is_same_place.true))) c.bind.ensures.ok
-
-pub unbind-requires : goal.unbind-requires
-unbind-requires c =
-    subst (λ (m : Nodes). IsDirAt m c.args.from) (sym c.in_ok-bind.ensures.ok)
-    (dir_changed c.args.self.now c.args.to (λ node. bind_in node c.args.new c.args.fid) (λ _ _. tt) c.args.from c.requires.from_there)
-
-pub returns-clause-ok : goal.returns-clause-ok
-returns-clause-ok c =
-    c.unbind.ensures ∙ ap (λ (m : Nodes). unbound m c.args.from c.args.name.now) c.in_ok-bind.ensures.ok
-    ∙ sym (moved_apart c.args.self.now c.args.from c.args.name.now c.args.to c.args.new c.args.fid (λ same. let is = c.is_same_place.ensures.1 same in let differs = c.if-is_same_place.false in cc))
+pub invariant_of-self-2 : goal.invariant_of-self-2
+invariant_of-self-2 c =
+    let b = c.self.inside.binders in
+    let notes = subst (λ (o : Option Fid). Notes b c.move_to-2.new.self (after_move o c.args.fid c.args.to)) c.child-was.ensures c.move_to-2.ensures in
+    subst (λ (m : Nodes). AreBinders (child m) c.move_to-2.new.self) (sym c.in_ok-move_to.ensures.ok)
+    (moved_true c.self.inside.nodes c.args.from c.args.name.now c.args.to c.args.new c.args.fid b c.move_to-2.new.self (subst (λ (m : Nodes). IsDirAt m c.args.to) (sym c.self.view_is) c.requires.to_there)
+    (ap (λ (m : Nodes). child m c.args.to c.args.new) c.self.view_is ∙ c.requires.name_free) c.self.invariant notes)
