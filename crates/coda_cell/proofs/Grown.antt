@@ -1,11 +1,11 @@
 -- What the histories of a cell leave, after an event.
-use Rattle.std.proofs.Common.{◌≡◌, ℕ, ◌==◌, ◌&&◌, true, false, cond, List, [], ◌∷◌, ◌++◌, Option, Some, None, option_map, refl, sym, ap, ◌∙◌, subst}
-use Rattle.std.proofs.lemmas.Bool.{eqb-true, eq-eqb}
-use Rattle.coda_plain.specs.Cell.{ClientEntry, PlainCell}
+use Rattle.std.proofs.Common.{◌≡◌, ℕ, ◌==◌, ◌&&◌, true, false, cond, List, [], ◌∷◌, ◌++◌, Option, Some, None, option_map, refl, sym, ap, ◌∙◌}
+use Rattle.std.proofs.lemmas.Bool.{eqb-true}
+use Rattle.coda_plain.specs.Cell.{ClientEntry}
 use Rattle.coda_plain.specs.Decisions.{ReplicaEntry}
-use Rattle.coda_plain.specs.Moves.{AtClient, AtReplica, with_client, with_replica, grown as grown_actor}
-use Rattle.coda_cell.specs.State.{put, ClientState, new_client, client_after, client_after_all, ReplicaState, new_replica, replica_after, replica_after_all, replica_after_at, CellState, Event, VolumeMade, ClientMade, Ticked, LinkSet, Entered, after, after_all}
-use Rattle.coda_cell.specs.Made.{MadeCell, client_of, replica_of, state_of, grown, grown_all}
+use Rattle.coda_plain.specs.Moves.{AtClient, AtReplica, grown as grown_actor}
+use Rattle.coda_cell.specs.State.{new_client, client_after, client_after_all, new_replica, replica_after, replica_after_all, replica_after_at, VolumeMade, ClientMade, Entered, after}
+use Rattle.coda_cell.specs.Made.{MadeCell, client_of, replica_of, state_of, grown}
 use Rattle.coda_cell.proofs.Histories.{client_push, replica_push, server_stays}
 
 -- a cell that has another history of a client

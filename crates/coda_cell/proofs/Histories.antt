@@ -1,23 +1,22 @@
 -- What histories leave of clients and replicas.
-use Rattle.std.proofs.Common.{◌≡◌, ℕ, ◌+◌, ◌==◌, true, false, cond, List, [], ◌∷◌, ◌++◌, append-nil, Option, Some, None, option_map, refl, sym, ap, ◌∙◌, subst, arith}
+use Rattle.std.proofs.Common.{◌≡◌, ℕ, ◌+◌, ◌==◌, true, false, cond, List, [], ◌∷◌, ◌++◌, append-nil, Option, None, option_map, refl, sym, ap, ◌∙◌, arith}
 use Rattle.std.proofs.lemmas.Bool.{eqb-true}
 use Rattle.coda_fid.specs.declared.op.Record.{Record}
 use Rattle.coda_certify.specs.declared.verdict.Verdict.TheVariants.{Applied, Conflict}
-use Rattle.coda_cancel.specs.Numbers.{IsRising}
+use Rattle.coda_certify.specs.Verdicts.{nodes_left}
 use Rattle.coda_cml.specs.declared.frozen.Frozen.{Frozen}
 use Rattle.coda_cml.specs.Segments.{records_upto, records_above}
-use Rattle.coda_cml.specs.Steady.{IsSteady}
-use Rattle.coda_tree.specs.Volume.{Nodes, fresh}
+use Rattle.coda_tree.specs.Volume.{fresh}
 use Rattle.coda_plain.specs.Histories.{left_by}
 use Rattle.coda_plain.specs.Deeds.{Deed, Operated, Froze, Settled, Gaveup, operation_in, full_of, created_by, created_in, Cut, Course, course_after, course_of, pending_of, MayDo, AreLawful}
-use Rattle.coda_plain.specs.Decisions.{ReplicaEntry, Decided, Resolved, Kept, kept_after, kept_of, nodes_of, decision}
-use Rattle.coda_plain.specs.Logs.{front_of, back_of, LogAfter}
+use Rattle.coda_plain.specs.Decisions.{ReplicaEntry, Decided, Resolved, no_lasts, Kept, kept_after, nodes_of, decision}
+use Rattle.coda_plain.specs.Logs.{front_by, back_by, front_of, back_of, LogAfter}
 use Rattle.coda_plain.specs.Cell.{ClientEntry, Fetched, Did, deed_on, deeds_of}
 use Rattle.coda_plain.proofs.Lists.{left_push, follow_push, along}
 use Rattle.coda_plain.proofs.Chunking.{course_push, full_push}
 use Rattle.coda_plain.proofs.Logging.{logs_go_on}
 use Rattle.coda_cell.specs.State.{put, ClientVolume, new_volume, volume_after, pending, ClientState, new_client, client_after, client_after_all, ReplicaState, new_replica, replica_after, replica_after_all}
-use Rattle.coda_cell.specs.Made.{client_of, replica_of}
+use Rattle.coda_cell.specs.Made.{client_of}
 
 -- ---- one entry more
 
@@ -44,7 +43,7 @@ server_stays r (entry ∷ entries) = server_stays (replica_after r entry) entrie
 -- ---- a replica's nodes
 
 nodes_after : (r : ReplicaState) (kept : Kept) (entry : ReplicaEntry) → r.tree.nodes ≡ kept.nodes → (replica_after r entry).tree.nodes ≡ (kept_after kept entry).nodes
-nodes_after r kept (Decided client number span) same = λ i. Rattle.coda_certify.specs.Verdicts.nodes_left (same i) (decision (same i) client span)
+nodes_after r kept (Decided client number span) same = λ i. nodes_left (same i) (decision (same i) client span)
 nodes_after r kept (Resolved nodes lasts) same = refl
 
 nodes_after_all : (r : ReplicaState) (kept : Kept) (entries : List ReplicaEntry) → r.tree.nodes ≡ kept.nodes → (replica_after_all r entries).tree.nodes ≡ (left_by kept_after kept entries).nodes
@@ -53,7 +52,7 @@ nodes_after_all r kept (entry ∷ entries) same = nodes_after_all (replica_after
 
 -- the nodes of a replica are those that its history leaves
 pub nodes_are : (server volume : ℕ) (entries : List ReplicaEntry) → (replica_after_all (new_replica server volume) entries).tree.nodes ≡ nodes_of volume entries
-nodes_are server volume entries = nodes_after_all (new_replica server volume) (record { nodes = (fresh volume).nodes; lasts = Rattle.coda_plain.specs.Decisions.no_lasts }) entries refl
+nodes_are server volume entries = nodes_after_all (new_replica server volume) (record { nodes = (fresh volume).nodes; lasts = no_lasts }) entries refl
 
 -- ---- a client's volumes
 
@@ -145,6 +144,6 @@ shown deeds law = (along MayDo IsShown shown_push deeds (tt, record { front = re
 pub pending_are : (deeds : List Deed) → AreLawful deeds → (course_of deeds).cut ≡ None → ((volume_of deeds).front ≡ []) × ((volume_of deeds).back ≡ pending_of deeds) × (pending (volume_of deeds) ≡ pending_of deeds)
 pending_are deeds law thawed =
     let is = shown deeds law in
-    let front : (volume_of deeds).front ≡ [] = is.front ∙ ap (λ c. Rattle.coda_plain.specs.Logs.front_by c (pending_of deeds)) thawed in
-    let back : (volume_of deeds).back ≡ pending_of deeds = is.back ∙ ap (λ c. Rattle.coda_plain.specs.Logs.back_by c (pending_of deeds)) thawed in
+    let front : (volume_of deeds).front ≡ [] = is.front ∙ ap (λ c. front_by c (pending_of deeds)) thawed in
+    let back : (volume_of deeds).back ≡ pending_of deeds = is.back ∙ ap (λ c. back_by c (pending_of deeds)) thawed in
     (front, back, (λ i. front i ++ back i))

@@ -1,27 +1,23 @@
 -- Cells that are kept: the first one, what is pending there, and lines that make an actor or change no history.
-use Rattle.std.proofs.Common.{◌≡◌, ◌≢◌, ℕ, ◌==◌, true, false, cond, List, [], ◌∷◌, ◌++◌, Option, Some, None, is_some, option_map, refl, sym, ap, ◌∙◌, subst, inl, inr}
+use Rattle.std.proofs.Common.{◌≡◌, ◌≢◌, ℕ, ◌==◌, true, false, cond, List, [], ◌∷◌, Option, Some, None, is_some, option_map, refl, sym, ap, ◌∙◌, subst}
 use Rattle.std.specs.FinMap as finite
-use Rattle.std.proofs.lemmas.Bool.{eqb-true, false≢true, cases_Bool}
-use Rattle.coda_fid.specs.declared.op.Record.{Record}
+use Rattle.std.proofs.lemmas.Bool.{eqb-true, false≢true}
 use Rattle.coda_fid.specs.Fid.{fid_cmp}
-use Rattle.coda_fid.specs.declared.fid.Fid.{Fid}
-use Rattle.coda_tree.specs.Volume.{Nodes, child_of, has}
+use Rattle.coda_tree.specs.Volume.{child_of}
 use Rattle.coda_cml.specs.Steady.{IsSteady}
 use Rattle.coda_script.specs.declared.line.Strength.{Strength}
-use Rattle.coda_plain.specs.Deeds.{Deed, Course, course_of, pending_of, AreLawful}
-use Rattle.coda_plain.specs.Decisions.{ReplicaEntry, last_of}
-use Rattle.coda_plain.specs.Cell.{ClientEntry, deeds_of, PlainCell, empty_cell}
+use Rattle.coda_plain.specs.Deeds.{course_of, pending_of, AreLawful}
+use Rattle.coda_plain.specs.Decisions.{last_of}
+use Rattle.coda_plain.specs.Cell.{ClientEntry, PlainCell, empty_cell}
 use Rattle.coda_plain.specs.Moves.{done_on}
-use Rattle.coda_plain.specs.Sound.{IsSound}
 use Rattle.coda_plain.proofs.Soundness.{none_joins, runs_are_sound}
 use Rattle.coda_plain.proofs.Promised.{sound_cells_are_promised}
-use Rattle.coda_cell.specs.Held.{AreBound}
-use Rattle.coda_cell.specs.State.{pending, ClientState, client_after_all, new_client, CellState, Event, VolumeMade, ClientMade, Ticked, LinkSet}
+use Rattle.coda_cell.specs.State.{pending, ClientState, VolumeMade, ClientMade, Ticked, LinkSet}
 use Rattle.coda_cell.specs.Kept.{IsHolding}
-use Rattle.coda_cell.specs.Made.{MadeCell, nothing_made, client_of, state_of, grown, grown_all}
+use Rattle.coda_cell.specs.Made.{MadeCell, nothing_made, client_of, state_of}
 use Rattle.coda_cell.specs.Cells.{IsOrderly, AreOrderly}
-use Rattle.coda_cell.specs.Runs.{AreUp, AreMade, AreSettled, IsKept, IsLeft, CellsAreKept}
-use Rattle.coda_cell.proofs.Histories.{volume_of, volumes_are, pending_are}
+use Rattle.coda_cell.specs.Runs.{IsKept, IsLeft, CellsAreKept}
+use Rattle.coda_cell.proofs.Histories.{volumes_are, pending_are}
 use Rattle.coda_cell.proofs.Grown.{volume_grown, client_made}
 
 -- ---- what is pending

@@ -1,5 +1,5 @@
 -- A cell stays kept by a chunk that a client freezes, the volume's server decides, and the client settles.
-use Rattle.std.proofs.Common.{◌≡◌, ◌≢◌, ℕ, ◌+◌, ◌<◌, ◌≤◌, ◌==◌, ◌&&◌, true, false, cond, List, [], ◌∷◌, ◌++◌, append-nil, append_assoc, Option, Some, None, refl, sym, ap, ◌∙◌, subst, inl, inr, ◌⊎◌, arith}
+use Rattle.std.proofs.Common.{◌≡◌, ◌≢◌, ℕ, ◌+◌, ◌<◌, ◌≤◌, ◌==◌, ◌&&◌, true, false, cond, List, [], ◌∷◌, ◌++◌, append-nil, Some, None, refl, sym, ap, ◌∙◌, subst, inl, inr, ◌⊎◌, arith}
 use Rattle.std.specs.Prelude.{nat_le, nat_lt}
 use Rattle.std.proofs.lemmas.Bool.{eqb-true, eq-eqb, false≢true, cases_Bool, and_parts}
 use Rattle.coda_fid.specs.declared.op.Record.{Record}
@@ -8,20 +8,20 @@ use Rattle.coda_tree.specs.Volume.{has}
 use Rattle.coda_certify.specs.declared.verdict.Verdict.{Verdict}
 use Rattle.coda_certify.specs.declared.verdict.Verdict.TheVariants.{Applied, Conflict}
 use Rattle.coda_certify.specs.Verdicts.{verdict_of}
-use Rattle.coda_cancel.specs.Numbers.{AreUpTo, AreAbove, IsRising}
+use Rattle.coda_cancel.specs.Numbers.{AreUpTo, AreAbove}
 use Rattle.coda_cml.specs.Chunks.{freeze_refusal}
 use Rattle.coda_cml.specs.Fronts.{chunk_end, MayGoUpTo}
 use Rattle.coda_cml.specs.Segments.{records_upto, records_above, last_in, segments_of}
 use Rattle.coda_cml.specs.Steady.{IsSteady}
 use Rattle.coda_cml.proofs.segments.Fronts.{chunks_cut}
 use Rattle.coda_plain.specs.Histories.{In}
-use Rattle.coda_plain.specs.Deeds.{Deed, Froze, Settled, Cut, Course, done_by, course_after, course_of, full_of, pending_of, Chunk, chunk_at, chunks_of, span_of, IsMade, MayFreeze, MayDo, AreLawful}
+use Rattle.coda_plain.specs.Deeds.{Deed, Froze, Settled, Course, done_by, course_after, course_of, full_of, pending_of, Chunk, chunk_at, chunks_of, span_of, IsMade, MayFreeze, MayDo, AreLawful}
 use Rattle.coda_plain.specs.Decisions.{ReplicaEntry, Decided, Last, decision, Kept, nodes_of, last_of}
-use Rattle.coda_plain.specs.Cell.{ClientEntry, Did, deeds_of, Actor, PlainCell}
-use Rattle.coda_plain.specs.Moves.{AtClient, AtReplica, Does, Move, done_on, IsFrozenFor, Moved, with_replica, grown as grown_actor}
+use Rattle.coda_plain.specs.Cell.{ClientEntry, Did, deeds_of, Actor}
+use Rattle.coda_plain.specs.Moves.{AtReplica, done_on, IsFrozenFor, Moved, grown as grown_actor}
 use Rattle.coda_plain.proofs.AtReplicas.{kept_push, with_last_at}
 use Rattle.coda_plain.proofs.Chunking.{course_push, full_push, numbered}
-use Rattle.coda_plain.proofs.Following.{replica_here, frozen_now, decided_keeps}
+use Rattle.coda_plain.proofs.Following.{frozen_now, decided_keeps}
 use Rattle.coda_plain.proofs.Ledger.{orderly}
 use Rattle.coda_plain.proofs.Lists.{follow_push, told_push, in_right}
 use Rattle.coda_plain.proofs.Parting.{above_up}
@@ -30,16 +30,16 @@ use Rattle.coda_plain.proofs.Soundness.{none_joins, runs_sound}
 use Rattle.coda_cell.specs.State.{pending, ClientVolume, ClientState, new_client, client_after, Event, Entered, after, after_all}
 use Rattle.coda_cell.specs.Held.{Held, AreBound}
 use Rattle.coda_cell.specs.Kept.{AreWithin, AreChildrenKept, IsHolding}
-use Rattle.coda_cell.specs.Made.{MadeCell, client_of, state_of, grown, grown_all, moves_of}
+use Rattle.coda_cell.specs.Made.{MadeCell, client_of, state_of, grown, moves_of}
 use Rattle.coda_cell.specs.Steps.{chunk_of, at_client}
 use Rattle.coda_cell.specs.Runs.{AreMade, AreSettled, IsKept, IsLeft}
 use Rattle.coda_cell.proofs.Drains.{not_frozen}
 use Rattle.coda_cell.proofs.Grown.{client_grown, replica_grown}
-use Rattle.coda_cell.proofs.Histories.{IsOfCourse, client_push, volume_of, volumes_are, shown, pending_are}
+use Rattle.coda_cell.proofs.Histories.{client_push, volume_of, volumes_are, shown, pending_are}
 use Rattle.coda_cell.proofs.KeptCells.{lawful, steady, pending_is}
 use Rattle.coda_cell.proofs.KeptClients.{holding_on}
 use Rattle.coda_cell.proofs.KeptChildren.{children_of_rest}
-use Rattle.coda_cell.proofs.Moving.{HasMore, has_more, done_here, done_elsewhere, done_same, up_all, made_stays}
+use Rattle.coda_cell.proofs.Moving.{HasMore, has_more, done_here, done_elsewhere, done_same, up_all}
 
 -- ---- where a chunk ends
 

@@ -1,19 +1,19 @@
 -- A cell stays kept by what a client fetches, and by an operation that it accepts.
-use Rattle.std.proofs.Common.{◌≡◌, ◌≢◌, ℕ, ◌+◌, ◌==◌, true, false, cond, List, [], ◌∷◌, ◌++◌, append-nil, append_assoc, map, Option, Some, None, Result, Ok, Err, refl, sym, ap, ◌∙◌, subst, inl, inr, ◌⊎◌, arith}
+use Rattle.std.proofs.Common.{◌≡◌, ◌≢◌, ℕ, ◌+◌, ◌==◌, true, false, cond, List, [], ◌∷◌, ◌++◌, append_assoc, map, Some, None, Ok, refl, sym, ap, ◌∙◌, subst, inl, inr, ◌⊎◌}
 use Rattle.std.proofs.lemmas.Bool.{eqb-true, eq-eqb, false≢true, cases_Bool, false_from_ne_true}
 use Rattle.std.specs.FinMap as finite
 use Rattle.coda_fid.specs.declared.fid.Fid.{Fid}
 use Rattle.coda_fid.specs.declared.op.Op.{Op}
 use Rattle.coda_fid.specs.declared.op.Record.{Record}
-use Rattle.coda_tree.specs.Volume.{Nodes, has}
+use Rattle.coda_tree.specs.Volume.{has}
 use Rattle.coda_certify.specs.Replay.{applied}
 use Rattle.coda_cancel.specs.Dropping.{mentioning, creates}
 use Rattle.coda_cml.specs.Steady.{any_record, makes_in, unbinds}
 use Rattle.coda_plain.specs.Histories.{In}
 use Rattle.coda_plain.specs.Deeds.{Deed, Operated, Course, course_after, course_of, full_of, pending_of, IsMade, MayOperate, AreLawful}
-use Rattle.coda_plain.specs.Decisions.{ReplicaEntry, nodes_of, last_of}
-use Rattle.coda_plain.specs.Cell.{ClientEntry, Fetched, Did, deed_on, deeds_of, Actor, PlainCell}
-use Rattle.coda_plain.specs.Moves.{AtClient, Does, done_on, IsNext, AreNamed, Moved}
+use Rattle.coda_plain.specs.Decisions.{nodes_of, last_of}
+use Rattle.coda_plain.specs.Cell.{ClientEntry, Did, deeds_of, Actor, PlainCell}
+use Rattle.coda_plain.specs.Moves.{Move, AtClient, Does, done_on, IsNext, AreNamed, Moved}
 use Rattle.coda_plain.proofs.Lists.{some_record}
 use Rattle.coda_plain.proofs.Chunking.{course_push, in_above}
 use Rattle.coda_plain.proofs.AtClients.{next_made}
@@ -22,13 +22,13 @@ use Rattle.coda_plain.proofs.Soundness.{none_joins, runs_sound}
 use Rattle.coda_cml.proofs.runs.StillThere.{creates_mentions}
 use Rattle.coda_cml.proofs.runs.WithoutObject.{makes_parts}
 use Rattle.coda_cell.specs.Ask.{Asked}
-use Rattle.coda_cell.specs.Held.{Held, Fetch, AreBound, held_after_operation, held_after_fetches}
+use Rattle.coda_cell.specs.Held.{Fetch}
 use Rattle.coda_cell.specs.Looking.{fetched, entries_of}
-use Rattle.coda_cell.specs.State.{put, pending, ClientVolume, volume_after, ClientState, new_client, client_after, client_after_all}
+use Rattle.coda_cell.specs.State.{put, pending, ClientVolume, volume_after, ClientState, new_client, client_after, Event}
 use Rattle.coda_cell.specs.Accepting.{Sight, sight_of, accept, next_fid}
 use Rattle.coda_cell.specs.Asking.{behind_fetches, next_record}
-use Rattle.coda_cell.specs.Kept.{AreWithin, AreChildrenKept, IsHolding}
-use Rattle.coda_cell.specs.Made.{MadeCell, client_of, state_of, grown, grown_all, moves_of}
+use Rattle.coda_cell.specs.Kept.{AreChildrenKept, IsHolding}
+use Rattle.coda_cell.specs.Made.{MadeCell, client_of, grown, grown_all, moves_of}
 use Rattle.coda_cell.specs.Steps.{at_client}
 use Rattle.coda_cell.specs.Runs.{AreUp, AreMade, AreSettled, IsKept, IsLeft}
 use Rattle.coda_cell.proofs.Accepted.{Relies, accepted_relies}
@@ -44,7 +44,7 @@ use Rattle.coda_cell.proofs.Moving.{HasMore, has_more, shown_more, done_here, do
 -- ---- what a client holds, while others go on
 
 -- what it holds stays in order while histories go on
-pub holding_on : (moves : List Rattle.coda_plain.specs.Moves.Move) (old new : PlainCell) (c : ClientState) → Moved old moves new → IsHolding old c → IsHolding new c
+pub holding_on : (moves : List Move) (old new : PlainCell) (c : ClientState) → Moved old moves new → IsHolding old c → IsHolding new c
 holding_on moves old new c moved h = record { bound = h.bound; within = h.within; made = λ fid is. made_stays moves old new moved fid.vnode fid.volume fid (h.made fid is); kept = h.kept }
 
 -- ---- fetches
@@ -80,7 +80,7 @@ module _ (cell : MadeCell) (number blocks : ℕ) (kept : IsKept cell) (there : c
     abbrev entries : List ClientEntry
     entries = entries_of fetches
 
-    abbrev events : List Rattle.coda_cell.specs.State.Event
+    abbrev events : List Event
     events = map (at_client number) entries
 
     abbrev new : MadeCell

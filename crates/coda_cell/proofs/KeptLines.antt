@@ -1,5 +1,5 @@
 -- What each line does keeps a cell.
-use Rattle.std.proofs.Common.{◌≡◌, ◌≢◌, ℕ, ◌+◌, Bool, true, false, cond, List, [], ◌∷◌, ◌++◌, map, Option, Some, None, is_some, option_map, Result, Ok, Err, refl, sym, ap, ◌∙◌, subst, inl, inr, ◌⊎◌}
+use Rattle.std.proofs.Common.{◌≡◌, ℕ, ◌+◌, Bool, true, false, cond, List, [], ◌∷◌, ◌++◌, map, Option, Some, None, is_some, option_map, Ok, Err, refl, sym, ap, ◌∙◌, subst, inl, inr, ◌⊎◌}
 use Rattle.std.specs.Prelude.{nat_le}
 use Rattle.std.specs.Option.{option_and_then, unwrap_or}
 use Rattle.std.specs.FinMap as finite
@@ -8,7 +8,7 @@ use Rattle.coda_fid.specs.declared.fid.Fid.{Fid}
 use Rattle.coda_fid.specs.declared.op.Op.{Op}
 use Rattle.coda_fid.specs.declared.op.Record.{Record}
 use Rattle.coda_tree.specs.Bindings.{Name}
-use Rattle.coda_tree.specs.Volume.{Nodes, has, IsVolume}
+use Rattle.coda_tree.specs.Volume.{Nodes, has}
 use Rattle.coda_certify.specs.Verdicts.{verdict_of}
 use Rattle.coda_cml.specs.Chunks.{freeze_refusal}
 use Rattle.coda_cml.specs.Segments.{segments_of}
@@ -20,22 +20,23 @@ use Rattle.coda_script.specs.declared.line.Task.TheVariants as task
 use Rattle.coda_script.specs.declared.line.Line.{Line}
 use Rattle.coda_script.specs.declared.line.Line.TheVariants as line
 use Rattle.coda_script.specs.declared.reply.Reply.{Reply}
+use Rattle.coda_script.specs.declared.reply.Reply.TheVariants.{Done}
 use Rattle.coda_plain.specs.Histories.{In}
 use Rattle.coda_plain.specs.Deeds.{Froze, Settled, Operated, IsMade}
 use Rattle.coda_plain.specs.Decisions.{Decided, decision, nodes_of}
-use Rattle.coda_plain.specs.Cell.{ClientEntry, Did}
+use Rattle.coda_plain.specs.Cell.{Did}
 use Rattle.coda_plain.specs.Moves.{AtReplica, done_on}
 use Rattle.coda_plain.proofs.Soundness.{none_joins}
 use Rattle.coda_plain.proofs.Volumes.{volumes}
-use Rattle.coda_cell.specs.Ask.{Asked, Create, Mkdir, Symlink, Store, Setattr, Remove, Rmdir, Rename, too_big}
+use Rattle.coda_cell.specs.Ask.{Asked, Create, Mkdir, Symlink, Store, Setattr, Remove, Rmdir, Rename, too_big, object_of}
 use Rattle.coda_cell.specs.Held.{Held, Fetch, AreBound, held_after_fetches}
 use Rattle.coda_cell.specs.Looking.{look_along, entries_of}
-use Rattle.coda_cell.specs.State.{pending, ClientState, new_client, client_after_all, ReplicaState, new_replica, replica_after_all, Event, VolumeMade, ClientMade, Ticked, LinkSet, Entered}
+use Rattle.coda_cell.specs.State.{pending, ClientState, new_client, ReplicaState, new_replica, Event, Entered}
 use Rattle.coda_cell.specs.Accepting.{Accepted, sight_of, accept}
-use Rattle.coda_cell.specs.Asking.{Answer, look_ups, behind_fetches, next_record, has_room, is_full, entered, answer_to, operate_unless, operate, read, list}
+use Rattle.coda_cell.specs.Asking.{Answer, answers, look_ups, behind_fetches, next_record, has_room, is_full, answer_to, operate_unless, operate, read, list}
 use Rattle.coda_cell.specs.Kept.{AreWithin, AreChildrenKept, IsHolding}
 use Rattle.coda_cell.specs.Made.{MadeCell, client_of, replica_of, state_of, grown_all}
-use Rattle.coda_cell.specs.Steps.{Named, first_missing, on_volume, client_named, volume_named, server_named, holder_named, no_volume, no_client, no_room, Doing, Unless, Happens, reached, offers_of, Outcome, stays, Sending, chunk_of, sent_from, sent_unless, drained, drain, at_client, ByClient, ByBoth, bytes_of, Operates, DoesTask, alone, Does}
+use Rattle.coda_cell.specs.Steps.{first_missing, on_volume, client_named, volume_named, server_named, holder_named, no_volume, no_client, no_room, Doing, Unless, reached, offers_of, stays, Sending, chunk_of, sent_from, sent_unless, drain, at_client, ByClient, ByBoth, bytes_of, Operates, DoesTask, alone, Does}
 use Rattle.coda_cell.specs.Runs.{IsKept, IsLeft, MakesNumbered, LinesKeepCells}
 use Rattle.coda_cell.specs.declared.refused.Refused.{Refused}
 use Rattle.coda_cell.specs.declared.refused.Refused.TheVariants as refused
@@ -44,7 +45,7 @@ use Rattle.coda_cell.proofs.Fetches.{bound_along, bound_look_ups, client_after_b
 use Rattle.coda_cell.proofs.Histories.{nodes_are, server_stays}
 use Rattle.coda_cell.proofs.KeptCells.{client_there, volume_left, client_left, ticked_left, linked_left}
 use Rattle.coda_cell.proofs.KeptChildren.{kept_children_along, kept_children_look_ups}
-use Rattle.coda_cell.proofs.KeptChunks.{sendings, sendings_left}
+use Rattle.coda_cell.proofs.KeptChunks.{sendings_left}
 use Rattle.coda_cell.proofs.KeptClients.{IsReplicated, the_client, fetches_left, operated_left}
 use Rattle.coda_cell.proofs.Moving.{has_more, left_none, left_both}
 use Rattle.coda_cell.proofs.Offered.{fetched_along_is_offered, fetched_is_offered, has_along, has_look_ups}
@@ -177,8 +178,8 @@ module _ (cell : MadeCell) (number blocks : ℕ) (kept : IsKept cell) (there : c
 
     entered_left : (op : Op) → accept (sight_of behind volume) volume ask ≡ Ok op → (room full : Bool)
         → (let rec = next_record (asker.volumes volume) time op in
-        IsLeft cell (map (at_client number) (cond room (cond full (Rattle.coda_cell.specs.Asking.answers (entries_of fetches) (Err refused.JournalFull)) (Rattle.coda_cell.specs.Asking.answers (entries_of fetches ++ Did volume (Operated rec) ∷ []) (Ok (Rattle.coda_script.specs.declared.reply.Reply.TheVariants.Done ((asker.volumes volume).operations + 1) (Rattle.coda_cell.specs.Ask.object_of op)))))
-        (Rattle.coda_cell.specs.Asking.answers (entries_of fetches) (Err refused.LogFull))).entries))
+        IsLeft cell (map (at_client number) (cond room (cond full (answers (entries_of fetches) (Err refused.JournalFull)) (answers (entries_of fetches ++ Did volume (Operated rec) ∷ []) (Ok (Done ((asker.volumes volume).operations + 1) (object_of op)))))
+        (answers (entries_of fetches) (Err refused.LogFull))).entries))
     entered_left op accepted true true = looked_left fetches fetches_are
     entered_left op accepted true false = operation_left op accepted
     entered_left op accepted false full = looked_left fetches fetches_are

@@ -1,15 +1,12 @@
 -- What events in order make of a cell: its actors stay up, histories go on, and entries of one client touch that client alone.
-use Rattle.std.proofs.Common.{◌≡◌, ◌≢◌, ℕ, ◌≤◌, ◌==◌, ◌&&◌, true, false, cond, List, [], ◌∷◌, ◌++◌, append_assoc, append-nil, map, Some, None, refl, sym, ap, ◌∙◌, subst, inl, inr, arith}
-use Rattle.std.proofs.lemmas.Bool.{eqb-true, eq-eqb, cases_Bool}
+use Rattle.std.proofs.Common.{◌≡◌, ◌≢◌, ℕ, ◌==◌, ◌&&◌, true, false, cond, List, [], ◌∷◌, ◌++◌, append_assoc, append-nil, map, refl, sym, ap, ◌∙◌, subst, inl, inr}
+use Rattle.std.proofs.lemmas.Bool.{eqb-true, eq-eqb, cases_Bool, false≢true}
 use Rattle.coda_fid.specs.declared.fid.Fid.{Fid}
-use Rattle.coda_plain.specs.Histories.{In}
-use Rattle.coda_plain.specs.Deeds.{Deed, full_of, created_in, IsMade}
-use Rattle.coda_plain.specs.Decisions.{ReplicaEntry}
-use Rattle.coda_plain.specs.Cell.{ClientEntry, Did, deed_on, deeds_of, Actor, PlainCell}
+use Rattle.coda_plain.specs.Deeds.{Deed, IsMade}
+use Rattle.coda_plain.specs.Cell.{ClientEntry, deed_on, deeds_of, Actor, PlainCell}
 use Rattle.coda_plain.specs.Logs.{BeginsWith}
-use Rattle.coda_plain.specs.Moves.{Append, AtClient, AtReplica, Move, Does, after as after_move, done_on, May, Moved}
+use Rattle.coda_plain.specs.Moves.{with_client, grown as grown_actor, Append, AtClient, AtReplica, Move, Does, after as after_move, done_on, Moved}
 use Rattle.coda_plain.proofs.AtClients.{made_more}
-use Rattle.coda_plain.proofs.Soundness.{runs_sound}
 use Rattle.coda_plain.proofs.Staying.{clients_run}
 use Rattle.coda_cell.specs.State.{CellState, Event, VolumeMade, ClientMade, Ticked, LinkSet, Entered, after, after_all}
 use Rattle.coda_cell.specs.Made.{MadeCell, state_of, grown, grown_all, move_of, moves_of}
@@ -52,12 +49,12 @@ left_none cell kept = record { moved = refl; kept = kept; shown = refl }
 
 up_after : (cell : PlainCell) (append : Append) → AreUp cell → AreUp (after_move cell (Does append))
 up_after cell (AtClient client entry) up = record {
-  clients = λ c. elim (c == client) as (λ b. (cond b (Rattle.coda_plain.specs.Moves.grown entry (cell.clients client)) (cell.clients c)).up ≡ true) [ true ↦ up.clients client | false ↦ up.clients c ];
+  clients = λ c. elim (c == client) as (λ b. (cond b (grown_actor entry (cell.clients client)) (cell.clients c)).up ≡ true) [ true ↦ up.clients client | false ↦ up.clients c ];
   replicas = up.replicas;
 }
 up_after cell (AtReplica server volume entry) up = record {
   clients = up.clients;
-  replicas = λ s v. elim ((s == server) && (v == volume)) as (λ b. (cond b (Rattle.coda_plain.specs.Moves.grown entry (cell.replicas server volume)) (cell.replicas s v)).up ≡ true) [ true ↦ up.replicas server volume | false ↦ up.replicas s v ];
+  replicas = λ s v. elim ((s == server) && (v == volume)) as (λ b. (cond b (grown_actor entry (cell.replicas server volume)) (cell.replicas s v)).up ≡ true) [ true ↦ up.replicas server volume | false ↦ up.replicas s v ];
 }
 
 up_grown : (cell : MadeCell) (event : Event) → AreUp cell.acted → AreUp (grown cell event).acted
@@ -97,7 +94,7 @@ pub record HasMore (old new : MadeCell) (number : ℕ) (entries : List ClientEnt
   pub sizes : new.sizes ≡ old.sizes
   pub homes : new.homes ≡ old.homes
 
-other_client : (cell : PlainCell) (number c : ℕ) (next : Actor ClientEntry) → c ≢ number → (Rattle.coda_plain.specs.Moves.with_client cell number next).clients c ≡ cell.clients c
+other_client : (cell : PlainCell) (number c : ℕ) (next : Actor ClientEntry) → c ≢ number → (with_client cell number next).clients c ≡ cell.clients c
 other_client cell number c next other = elim (cases_Bool (c == number)) [
   | inl same ↦ absurd (other (eqb-true c number same))
   | inr e ↦ ap (λ b. cond b next (cell.clients c)) e
@@ -105,8 +102,8 @@ other_client cell number c next other = elim (cases_Bool (c == number)) [
 
 one_more : (cell : MadeCell) (number : ℕ) (entry : ClientEntry) → HasMore cell (grown cell (at_client number entry)) number (entry ∷ [])
 one_more cell number entry = record {
-  here = ap (λ b. (cond b (Rattle.coda_plain.specs.Moves.grown entry (cell.acted.clients number)) (cell.acted.clients number)).history) (eq-eqb number number refl);
-  others = λ c other. other_client cell.acted number c (Rattle.coda_plain.specs.Moves.grown entry (cell.acted.clients number)) other;
+  here = ap (λ b. (cond b (grown_actor entry (cell.acted.clients number)) (cell.acted.clients number)).history) (eq-eqb number number refl);
+  others = λ c other. other_client cell.acted number c (grown_actor entry (cell.acted.clients number)) other;
   replicas = refl;
   sizes = refl;
   homes = refl;
@@ -142,5 +139,5 @@ module _ (old new : MadeCell) (number : ℕ) (entries : List ClientEntry) (more 
   done_same client volume none = elim (cases_Bool (client == number)) [
     | inl e ↦ (let same = eqb-true client number e in
         subst (λ c. done_on new.acted c volume ≡ done_on old.acted c volume) (sym same) (done_here volume ∙ ap (λ l. done_on old.acted number volume ++ l) none ∙ append-nil (done_on old.acted number volume)))
-    | inr e ↦ done_elsewhere client volume (λ same. Rattle.std.proofs.lemmas.Bool.false≢true (sym e ∙ eq-eqb client number same))
+    | inr e ↦ done_elsewhere client volume (λ same. false≢true (sym e ∙ eq-eqb client number same))
   ]

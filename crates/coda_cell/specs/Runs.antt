@@ -8,7 +8,7 @@ use Rattle.coda_plain.specs.Decisions.{last_of}
 use Rattle.coda_plain.specs.Cell.{PlainCell}
 use Rattle.coda_plain.specs.Moves.{done_on, Moved}
 use Rattle.coda_plain.specs.Sound.{IsSound}
-use Rattle.coda_cell.specs.State.{CellState, Event, after_all}
+use Rattle.coda_cell.specs.State.{Event, after_all}
 use Rattle.coda_cell.specs.Kept.{IsHolding}
 use Rattle.coda_cell.specs.Made.{MadeCell, nothing_made, client_of, state_of, grown_all, moves_of}
 use Rattle.coda_cell.specs.Steps.{Does}
