@@ -245,7 +245,7 @@ bound_at_is : (m : Nodes) (o : Option Node) (dir : Fid) (name : Name) (b : Optio
 bound_at_is m None dir name b h = cc
 bound_at_is m (Some node) dir name b h = bound_in_is m node.kind name b h
 
-place_is : (m : Nodes) (volume : ℕ) (e : List Name × Name) (p : Fid × Option Fid) → place m volume e ≡ Ok p → IsDirAt m p.0 × (child m p.0 e.1 ≡ p.1)
+pub place_is : (m : Nodes) (volume : ℕ) (e : List Name × Name) (p : Fid × Option Fid) → place m volume e ≡ Ok p → IsDirAt m p.0 × (child m p.0 e.1 ≡ p.1)
 place_is m volume e p h =
     let a = found_then (resolve m (root_of volume) e.0) (λ dir. then_find (bound_at m (map.get m dir) dir e.1) (λ bound. Ok (dir, bound))) p h in
     let b = found_then (bound_at m (map.get m a.0) a.0 e.1) (λ bound. Ok (a.0, bound)) p a.2 in
@@ -255,12 +255,12 @@ version_is : (o : Option Node) (old : Fid) (over : Option Over) → with_version
 version_is None old over h = cc
 version_is (Some node) old over h = (refl, ap (option_map (λ (v : Over). v.fid)) (ok_is (Some (record { fid = old; pre = node.sid })) over h))
 
-unless_is : (same : Bool) (r : Result (Option Over) Refused) (over : Option Over) → cond same (Err Exists) r ≡ Ok over → (same ≡ false) × (r ≡ Ok over)
+pub unless_is : (same : Bool) (r : Result (Option Over) Refused) (over : Option Over) → cond same (Err Exists) r ≡ Ok over → (same ≡ false) × (r ≡ Ok over)
 unless_is true r over h = cc
 unless_is false r over h = (refl, h)
 
 -- neither is so
-or_none : (a b : Bool) → (a || b) ≡ false → (a ≡ false) × (b ≡ false)
+pub or_none : (a b : Bool) → (a || b) ≡ false → (a ≡ false) × (b ≡ false)
 or_none true b h = cc
 or_none false b h = (refl, h)
 

@@ -20,3 +20,4 @@ pub mod KeptCells
 pub mod KeptClients
 pub mod KeptChunks
 pub mod KeptLines
+pub mod Alone

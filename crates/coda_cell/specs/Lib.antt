@@ -12,3 +12,4 @@ pub mod Code
 pub mod Cells
 pub mod Runs
 pub mod Laws
+pub mod Alone

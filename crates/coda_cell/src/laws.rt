@@ -1,8 +1,21 @@
 // What holds of every client.
+ghost use Rattle.coda_cell.specs.Alone.{AcceptedOperationsCertify, ClientsAloneMeetNoConflict};
 ghost use Rattle.coda_cell.specs.Laws.{OperationsKeepHeldBound};
 
 /// A law of clients: where the directory that a client takes for the parent of an object binds that object, for each that has
 /// one, so it is after an operation of its own that the client accepts.
 pub fn own_operations_keep_parents()
     ensures { OperationsKeepHeldBound }
+{}
+
+/// A law of clients: where what a client holds is a whole volume, certification there has nothing against an operation that the client
+/// accepts, so that only another client's work can stand in its way.
+pub fn accepted_operations_certify()
+    ensures { AcceptedOperationsCertify }
+{}
+
+/// A law of clients: one that works alone never meets a conflict. Where a server has the volume that the client held when it accepted
+/// the operations of a chunk, the chunk is applied (Kistler and Satyanarayanan 1992).
+pub fn clients_alone_meet_no_conflict()
+    ensures { ClientsAloneMeetNoConflict }
 {}

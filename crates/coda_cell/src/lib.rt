@@ -23,6 +23,8 @@ mod volume_log;
 
 pub use cell::Cell;
 pub use fault::CellFault;
-pub use laws::own_operations_keep_parents;
+pub use laws::{
+    accepted_operations_certify, clients_alone_meet_no_conflict, own_operations_keep_parents,
+};
 pub use lines::is_built;
 pub use runs::{cells_are_kept, lines_keep_cells};
