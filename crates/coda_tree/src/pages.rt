@@ -198,6 +198,25 @@ fn put_first(pages: &mut Vec<Vec<(Name, Fid)>>, name: Name, fid: Fid) -> Result<
     Ok(())
 }
 
+// Binds a name where its page is full, once that is split. Fails for want of memory alone, and then changes nothing.
+fn put_split(
+    pages: &mut Vec<Vec<(Name, Fid)>>,
+    full: usize,
+    name: Name,
+    fid: Fid,
+) -> Result<(), AllocError>
+    requires there { full < length pages.old.items }
+    requires sorted { IsTrue (is_sorted name_cmp (all_pairs pages.old.items)) }
+    requires filled { AreFilled pages.old.items }
+    ensures ok { OnOk result (all_pairs pages.new.items ≡ put name_cmp name fid (all_pairs pages.old.items)) }
+    ensures err { OnErr result (all_pairs pages.new.items ≡ all_pairs pages.old.items) }
+    ensures filled { AreFilled pages.new.items }
+{
+    split(pages, full)?;
+    let at = page_for(pages, &name);
+    put_at(pages, at, name, fid)
+}
+
 // Binds a name. Fails for want of memory alone, and then changes nothing.
 pub(crate) fn put(pages: &mut Vec<Vec<(Name, Fid)>>, name: Name, fid: Fid) -> Result<(), AllocError>
     requires sorted { IsTrue (is_sorted name_cmp (all_pairs pages.old.items)) }
@@ -209,10 +228,12 @@ pub(crate) fn put(pages: &mut Vec<Vec<(Name, Fid)>>, name: Name, fid: Fid) -> Re
     if pages.is_empty() {
         return put_first(pages, name, fid);
     }
-    let full = page_for(pages, &name);
-    split(pages, full)?;
     let at = page_for(pages, &name);
-    put_at(pages, at, name, fid)
+    if pages[at].len() < FULL {
+        put_at(pages, at, name, fid)
+    } else {
+        put_split(pages, at, name, fid)
+    }
 }
 
 // Binds a bound name to another fid.
