@@ -3,7 +3,7 @@ ghost use Rattle.std.specs.Prelude.{◌≡◌, ◌<◌, ◌≤◌, ◌+◌, true
 ghost use Rattle.std.specs.FinMap.Entries.{is_sorted, find, put};
 ghost use Rattle.coda_fid.specs.Name.{name_cmp};
 ghost use Rattle.coda_tree.specs.Bindings.{IsIndexOf, IsGapFor};
-ghost use Rattle.coda_tree.specs.Pages.{all_pairs, AreFilled, pairs_at, with_pairs, first_cmp, IsPageFor, without, ChangesPage};
+ghost use Rattle.coda_tree.specs.Pages.{all_pairs, any_binds, AreFilled, pairs_at, with_pairs, first_cmp, IsPageFor, without, ChangesPage};
 
 use coda_fid::{Fid, Name};
 use std::alloc::{AllocError, Global};
@@ -277,6 +277,25 @@ pub(crate) fn find(pages: &[Vec<(Name, Fid)>], name: &Name) -> Option<Fid>
     }
     let at = page_for(pages, name);
     find_in(&pages[at], name)
+}
+
+// Whether pairs bind a fid, at whatever name.
+fn binds_in(page: &[(Name, Fid)], fid: Fid) -> bool
+    ensures { result ≡ any_binds fid page.now }
+{
+    page.iter().any(|pair| pair.1 == fid)
+}
+
+// Whether a fid is bound, at whatever name.
+pub(crate) fn binds(pages: &[Vec<(Name, Fid)>], fid: Fid) -> bool
+    ensures { result ≡ any_binds fid (all_pairs pages.now) }
+{
+    for page in pages {
+        if binds_in(page, fid) {
+            return true;
+        }
+    }
+    false
 }
 
 // The pair at an index, from 0.
