@@ -4,7 +4,7 @@ ghost use Rattle.std.specs.FinMap as map;
 
 use coda_fid::Fid;
 use std::alloc::{AllocError, Global};
-use std::collections::BTreeMap;
+use std::collections::HashMap;
 use std::marker::Model;
 
 /// The directory that is the parent of each object that has one.
@@ -12,7 +12,7 @@ use std::marker::Model;
 /// Contracts see a finite map from fids to fids.
 #[derive(Drop)]
 pub struct ParentTable {
-    parents: BTreeMap<Fid, Fid>,
+    parents: HashMap<Fid, Fid>,
 }
 
 impl Model for ParentTable {
@@ -35,7 +35,7 @@ impl ParentTable {
         ensures { result ≡ map.empty }
     {
         ParentTable {
-            parents: BTreeMap::new(alloc),
+            parents: HashMap::new(alloc),
         }
     }
 

@@ -1,14 +1,14 @@
 -- The directory that binds a fid is the first, in the order of fids, of those that do.
-use Rattle.std.proofs.Common.{◌≡◌, ◌≢◌, Bool, true, false, cond, List, [], ◌∷◌, Some, None, map, refl, sym, ap, ◌∙◌, subst, inl, inr, ◌⊎◌}
-use Rattle.std.specs.List.{find, AllByRecursion}
-use Rattle.std.specs.List.Sorted.{IsStrictlySortedBy}
+use Rattle.std.proofs.Common.{◌≡◌, ◌≢◌, Bool, true, false, cond, List, [], ◌∷◌, Option, Some, None, IfSome, IsSomeAnd, map, refl, sym, ap, ◌∙◌, subst, inl, inr, ◌⊎◌}
+use Rattle.std.specs.List.{find, IsDistinct}
 use Rattle.std.specs.Map.{keys_of}
 use Rattle.std.specs.FinMap as finite
 use Rattle.std.specs.FinMap.Entries.{is_sorted, below_all}
 use Rattle.std.specs.declared.cmp.Ordering.TheVariants.{Less, Equal, Greater}
 use Rattle.std.specs.Ordering.{is_eq, ordering_reverse}
 use Rattle.std.proofs.lemmas.Option.{none-some, same_Some}
-use Rattle.coda_fid.specs.Fid.{fid_cmp}
+use Rattle.std.proofs.lemmas.Cmp.{tied_itself}
+use Rattle.coda_fid.specs.Fid.{fid_cmp, same_fid}
 use Rattle.coda_fid.specs.declared.fid.Fid.{Fid}
 use Rattle.coda_fid.proofs.Fids.{fids_total, exact_fids}
 use Rattle.coda_tree.specs.declared.node.Node.{Node}
@@ -16,9 +16,9 @@ use Rattle.coda_tree.specs.Bindings.{Name}
 use Rattle.coda_tree.specs.Volume.{Nodes, child, child_of, binds_fid, parent_of}
 use Rattle.coda_tree.proofs.Booleans.{and_true, lt_less, from_T}
 use Rattle.coda_tree.proofs.Parents.{parent_sound, parent_complete, binds_sound, binds_complete, there_node}
-use Rattle.coda_tree.specs.Table.{nodes_of}
-use Rattle.coda_tree.proofs.Keyed.{kept_at, get_keyed, below_none}
-use Rattle.coda_tree.proofs.Order.{fid_cases, apart, at_itself}
+use Rattle.coda_tree.specs.Table.{nodes_of, earlier, earliest}
+use Rattle.coda_tree.proofs.Keyed.{kept_at, get_keyed, absent_none, changed_here, changed_else}
+use Rattle.coda_tree.proofs.Order.{fid_cases}
 
 -- what a test finds among keys that are all above another
 found_above : (p : Fid → Bool) (k : Fid) (es : List (Fid × Node)) (x : Fid) → below_all fid_cmp k es ≡ true → find p (map (λ e. e.0) es) ≡ Some x → fid_cmp k x ≡ Less
@@ -87,72 +87,104 @@ parent_none m f none =
       | Some d ↦ λ is. let sound = parent_sound m f d is in absurd (none d sound.0 sound.1)
     ] refl
 
--- ---- nodes that are gone through in order
+-- ---- nodes that are gone through in any order
 
--- a fid before the first of the keys is not among them
-below_first : (e k : Fid) (node : Node) (rest : List (Fid × Node)) → fid_cmp e k ≡ Less → AllByRecursion (λ y. fid_cmp k y ≡ Less) (keys_of rest) → kept_at ((k, node) ∷ rest) e ≡ None
-below_first e k node rest less below = ap (λ r. cond (is_eq r) (Some node) (kept_at rest e)) less ∙ below_none e rest (lower rest below)
-  where
-    lower : (l : List (Fid × Node)) → AllByRecursion (λ y. fid_cmp k y ≡ Less) (keys_of l) → AllByRecursion (λ y. fid_cmp e y ≡ Less) (keys_of l)
-    lower [] h = tt
-    lower (x ∷ l) h = (fids_total.trans e k x.0 less h.0, lower l h.1)
+-- of two fids one comes first, and it is one of them
+earliest_not_after : (first : Option Fid) (k : Fid) → fid_cmp k (earliest first k) ≢ Less
+earliest_not_after None k = λ less. let same : fid_cmp k k ≡ Equal = tied_itself fids_total k in cc
+earliest_not_after (Some a) k = elim (fid_cmp a k) as (λ r. fid_cmp a k ≡ r → fid_cmp k (earlier r a k) ≢ Less) [
+  | Less ↦ λ e less. not_both a k e less
+  | Equal ↦ λ _ less. let same : fid_cmp k k ≡ Equal = tied_itself fids_total k in cc
+  | Greater ↦ λ _ less. let same : fid_cmp k k ≡ Equal = tied_itself fids_total k in cc
+] refl
 
--- each node is still among those that are left, or else does not bind the fid
-abbrev pub IsPassed : List (Fid × Node) → List (Fid × Node) → Fid → Type 0
-IsPassed all left f = (q : Fid) → (kept_at left q ≡ kept_at all q) ⊎ ((kept_at left q ≡ None) × (binds_fid (kept_at all q) f ≡ false))
+earliest_not_later : (a k q : Fid) → fid_cmp q a ≢ Less → fid_cmp q (earliest (Some a) k) ≢ Less
+earliest_not_later a k q h = elim (fid_cmp a k) as (λ r. fid_cmp a k ≡ r → fid_cmp q (earlier r a k) ≢ Less) [
+  | Less ↦ λ _. h
+  | Equal ↦ λ e. subst (λ x. fid_cmp q x ≢ Less) (exact_fids a k e) h
+  | Greater ↦ λ e less. h (fids_total.trans q k a less (fids_total.antisymm k a ∙ ap ordering_reverse e))
+] refl
 
-pub none_passed : (all : List (Fid × Node)) (f : Fid) → IsPassed all all f
+earliest_has : (P : Fid → Type 0) (first : Option Fid) (k : Fid) → P k → IfSome first P → P (earliest first k)
+earliest_has P None k here before = here
+earliest_has P (Some a) k here before = elim (fid_cmp a k) as (λ r. P (earlier r a k)) [ Less ↦ before | Equal ↦ here | Greater ↦ here ]
+
+-- a directory that binds the fid is not before this one
+abbrev pub IsNotBefore : Option Fid → Fid → Type 0
+IsNotBefore first q = IsSomeAnd first (λ d. fid_cmp q d ≢ Less)
+
+-- each node is still among those that are left, or else does not bind the fid, or not before the first so far
+abbrev pub IsPassed : List (Fid × Node) → List (Fid × Node) → Fid → Option Fid → Type 0
+IsPassed all left f first = (q : Fid) → (kept_at left q ≡ kept_at all q) ⊎ ((kept_at left q ≡ None) × (binds_fid (kept_at all q) f ≡ true → IsNotBefore first q))
+
+-- the first so far binds the fid
+abbrev pub IsBinder : List (Fid × Node) → Fid → Option Fid → Type 0
+IsBinder all f first = IfSome first (λ d. binds_fid (kept_at all d) f ≡ true)
+
+pub none_passed : (all : List (Fid × Node)) (f : Fid) → IsPassed all all f None
 none_passed all f q = inl refl
 
--- one node is passed
-pub passed_one : (all left rest : List (Fid × Node)) (k : Fid) (node : Node) (f : Fid) → left ≡ (k, node) ∷ rest → IsStrictlySortedBy fid_cmp (keys_of left) → IsPassed all left f → binds_fid (Some node) f ≡ false
-    → (IsStrictlySortedBy fid_cmp (keys_of rest)) × IsPassed all rest f
-unfolding IsStrictlySortedBy
-passed_one all left rest k node f is sorted passed not =
-    let up : IsStrictlySortedBy fid_cmp (keys_of ((k, node) ∷ rest)) = subst (λ (l : List (Fid × Node)). IsStrictlySortedBy fid_cmp (keys_of l)) is sorted in
-    let was : IsPassed all ((k, node) ∷ rest) f = subst (λ (l : List (Fid × Node)). IsPassed all l f) is passed in (
-      up.1,
-      λ q. elim (fid_cases q k) [
-        | inl at ↦ elim (was k) [
-          | inl here ↦ inr (
-            ap (kept_at rest) at ∙ below_none k rest up.0,
-            ap (λ e. binds_fid (kept_at all e) f) at ∙ ap (λ o. binds_fid o f) (sym here ∙ at_itself fids_total k (Some node) (kept_at rest k)) ∙ not,
-          )
-          | inr gone ↦ absurd (none-some node (sym gone.0 ∙ at_itself fids_total k (Some node) (kept_at rest k)))
-        ]
-        | inr other ↦ let same = apart fid_cmp exact_fids q k (Some node) (kept_at rest q) other in elim (was q) [
-          | inl here ↦ inl (sym same ∙ here)
-          | inr gone ↦ inr (sym same ∙ gone.0, gone.1)
-        ]
-      ],
-    )
+module _ (all left rest : List (Fid × Node)) (k : Fid) (node : Node) (f : Fid) (is : left ≡ (k, node) ∷ rest) (distinct : IsDistinct same_fid (keys_of left)) where
+  kept_first : kept_at left k ≡ Some node
+  kept_first = ap (λ (l : List (Fid × Node)). kept_at l k) is ∙ changed_here k (Some node) (kept_at rest k)
 
--- the node that comes first among those that are left
-pub passed_here : (all left rest : List (Fid × Node)) (k : Fid) (node : Node) (f : Fid) → left ≡ (k, node) ∷ rest → IsStrictlySortedBy fid_cmp (keys_of left) → IsPassed all left f → binds_fid (Some node) f ≡ true → Some k ≡ parent_of (nodes_of all) f
-unfolding IsStrictlySortedBy
-passed_here all left rest k node f is sorted passed binds =
-    let up : IsStrictlySortedBy fid_cmp (keys_of ((k, node) ∷ rest)) = subst (λ (l : List (Fid × Node)). IsStrictlySortedBy fid_cmp (keys_of l)) is sorted in
-    let was : IsPassed all ((k, node) ∷ rest) f = subst (λ (l : List (Fid × Node)). IsPassed all l f) is passed in
-    let kept : kept_at ((k, node) ∷ rest) k ≡ Some node = at_itself fids_total k (Some node) (kept_at rest k) in
-    let there : kept_at all k ≡ Some node = elim (was k) [ inl here ↦ sym here ∙ kept | inr gone ↦ absurd (none-some node (sym gone.0 ∙ kept)) ] in
-    let bound = binds_sound (Some node) f binds in
-    sym (parent_first (nodes_of all) f k bound.0 (ap (λ o. child_of o bound.0) (get_keyed all k ∙ there) ∙ bound.1) (λ e n h less.
-    let binds_e : binds_fid (kept_at all e) f ≡ true = binds_complete (kept_at all e) f n (ap (λ o. child_of o n) (sym (get_keyed all e)) ∙ h) in
-    let node_e = there_node (kept_at all e) f n (ap (λ o. child_of o n) (sym (get_keyed all e)) ∙ h) in
-    elim (was e) [
-      | inl here ↦ none-some node_e.0 (sym (below_first e k node rest less up.0) ∙ here ∙ node_e.1)
-      | inr gone ↦ let free = gone.1 in cc
-    ]))
+  pub rest_distinct : IsDistinct same_fid (keys_of rest)
+  unfolding IsDistinct
+  rest_distinct = let up : IsDistinct same_fid (keys_of ((k, node) ∷ rest)) = subst (λ (l : List (Fid × Node)). IsDistinct same_fid (keys_of l)) is distinct in up.1
+
+  none_left : kept_at rest k ≡ None
+  unfolding IsDistinct
+  none_left = let up : IsDistinct same_fid (keys_of ((k, node) ∷ rest)) = subst (λ (l : List (Fid × Node)). IsDistinct same_fid (keys_of l)) is distinct in absent_none k rest up.0
+
+  kept_later : (q : Fid) → q ≢ k → kept_at left q ≡ kept_at rest q
+  kept_later q other = ap (λ (l : List (Fid × Node)). kept_at l q) is ∙ changed_else q k (Some node) (kept_at rest q) (λ same. other (sym same))
+
+  -- the node is the one that is kept
+  kept_in_all : (first : Option Fid) → IsPassed all left f first → kept_at all k ≡ Some node
+  kept_in_all first passed = elim (passed k) [
+    | inl here ↦ sym here ∙ kept_first
+    | inr gone ↦ absurd (none-some node (sym gone.0 ∙ kept_first))
+  ]
+
+  -- one node is passed, and a later first, where what it says of the others holds still
+  step : (first first' : Option Fid) → (binds_fid (kept_at all k) f ≡ true → IsNotBefore first' k) → ((q : Fid) → IsNotBefore first q → IsNotBefore first' q) → IsPassed all left f first → IsPassed all rest f first'
+  step first first' here later passed q = elim (fid_cases q k) [
+    | inl at ↦ inr (ap (kept_at rest) at ∙ none_left, λ binds. subst (IsNotBefore first') (sym at) (here (subst (λ x. binds_fid (kept_at all x) f ≡ true) at binds)))
+    | inr other ↦ elim (passed q) [
+      | inl same ↦ inl (sym (kept_later q other) ∙ same)
+      | inr gone ↦ inr (sym (kept_later q other) ∙ gone.0, λ binds. later q (gone.1 binds))
+    ]
+  ]
+
+  -- a node that does not bind the fid
+  pub passed_over : (first : Option Fid) → IsPassed all left f first → binds_fid (Some node) f ≡ false → IsPassed all rest f first
+  passed_over first passed not = step first first (λ binds. let free : binds_fid (kept_at all k) f ≡ false = ap (λ o. binds_fid o f) (kept_in_all first passed) ∙ not in cc) (λ q h. h) passed
+
+  -- a node that does
+  pub passed_binder : (first : Option Fid) → IsPassed all left f first → IsPassed all rest f (Some (earliest first k))
+  passed_binder first passed = step first (Some (earliest first k)) (λ _. earliest_not_after first k) (λ q. later first q) passed
+    where
+      later : (o : Option Fid) (q : Fid) → IsNotBefore o q → fid_cmp q (earliest o k) ≢ Less
+      later None q h = absurd h
+      later (Some a) q h = earliest_not_later a k q h
+
+  pub binder_still : (first : Option Fid) → IsPassed all left f first → binds_fid (Some node) f ≡ true → IsBinder all f first → IsBinder all f (Some (earliest first k))
+  binder_still first passed binds before = earliest_has (λ d. binds_fid (kept_at all d) f ≡ true) first k (ap (λ o. binds_fid o f) (kept_in_all first passed) ∙ binds) before
 
 -- and where none is left
-pub passed_all : (all left : List (Fid × Node)) (f : Fid) → left ≡ [] → IsPassed all left f → None ≡ parent_of (nodes_of all) f
-passed_all all left f is passed =
-    let was : IsPassed all [] f = subst (λ (l : List (Fid × Node)). IsPassed all l f) is passed in
-    sym (parent_none (nodes_of all) f (λ d n h.
-    let kept : child_of (kept_at all d) n ≡ Some f = ap (λ o. child_of o n) (sym (get_keyed all d)) ∙ h in
-    let node = there_node (kept_at all d) f n kept in
-    let binds : binds_fid (kept_at all d) f ≡ true = binds_complete (kept_at all d) f n kept in
-    elim (was d) [
-      | inl here ↦ none-some node.0 (here ∙ node.1)
-      | inr gone ↦ let free = gone.1 in cc
-    ]))
+pub passed_all : (all left : List (Fid × Node)) (f : Fid) (first : Option Fid) → left ≡ [] → IsPassed all left f first → IsBinder all f first → first ≡ parent_of (nodes_of all) f
+passed_all all left f first is passed binder = elim first as (λ o. IsPassed all [] f o → IsBinder all f o → o ≡ parent_of (nodes_of all) f) [
+  | None ↦ λ was _. sym (parent_none (nodes_of all) f (λ d n h. not_before None was d n h))
+  | Some k ↦ λ was binds.
+      let bound = binds_sound (kept_at all k) f binds in
+      sym (parent_first (nodes_of all) f k bound.0 (ap (λ o. child_of o bound.0) (get_keyed all k) ∙ bound.1) (λ e n h. not_before (Some k) was e n h))
+] (subst (λ (l : List (Fid × Node)). IsPassed all l f first) is passed) binder
+  where
+    not_before : (o : Option Fid) → IsPassed all [] f o → (d : Fid) (n : Name) → child (nodes_of all) d n ≡ Some f → IsNotBefore o d
+    not_before o was d n h =
+        let kept : child_of (kept_at all d) n ≡ Some f = ap (λ o. child_of o n) (sym (get_keyed all d)) ∙ h in
+        let node = there_node (kept_at all d) f n kept in
+        elim (was d) [
+          | inl here ↦ absurd (none-some node.0 (here ∙ node.1))
+          | inr gone ↦ gone.1 (binds_complete (kept_at all d) f n kept)
+        ]

@@ -1,8 +1,7 @@
 -- How the parents that a volume keeps follow a move.
 use Rattle.std.proofs.Common.{◌≡◌, ◌≢◌, true, cond, Option, Some, None, is_some, refl, sym, ap, ◌∙◌, subst, inl, inr}
-use Rattle.std.specs.BTreeMap as tree
 use Rattle.std.proofs.lemmas.Option.{none-some, same_Some}
-use Rattle.coda_fid.specs.Fid.{fid_cmp}
+use Rattle.coda_fid.specs.Fid.{same_fid}
 use Rattle.coda_fid.specs.declared.fid.Fid.{Fid}
 use Rattle.coda_tree.specs.Bindings.{Name}
 use Rattle.coda_tree.specs.Tree.{IsBelow}
@@ -70,7 +69,7 @@ module _ {root : Fid} (m : Nodes) (old new : Fid → Option Fid) (gone from : Fi
     (k : IsKept root m old) (was : child m from name ≡ Some f) (had : child m to at ≡ Some gone) (differ : gone ≢ f) (leaf : (n : Name) → child m f n ≡ None) (old_leaf : (n : Name) → child m gone n ≡ None) where
   -- the parents without that of what is taken out
   abbrev less : Fid → Option Fid
-  less q = cond (tree.is_at (fid_cmp gone) q) None (old q)
+  less q = cond (same_fid gone q) None (old q)
 
   less_here : less gone ≡ None
   less_here = changed_here gone None (old gone)

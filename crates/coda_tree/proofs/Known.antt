@@ -1,14 +1,13 @@
 -- What is known of how fids are bound stays true, where the directories change and it is noted.
 use Rattle.std.proofs.Common.{◌≡◌, ◌≢◌, ℕ, ◌+◌, ◌<◌, Bool, true, false, cond, List, [], ◌∷◌, ◌++◌, length, get_or, drop, Option, Some, None, refl, sym, ap, ◌∙◌, subst, inl, inr}
 use Rattle.std.specs.Ordering.{is_eq}
-use Rattle.std.specs.BTreeMap as tree
 use Rattle.std.specs.FinMap.Entries.{is_sorted, find}
 use Rattle.std.specs.Global.{Vec}
 use Rattle.std.proofs.lemmas.List.{drop_more}
 use Rattle.std.proofs.lemmas.Option.{none-some, same_Some}
 use Rattle.std.proofs.lemmas.Cmp.{nat_list_cmp_total}
 use Rattle.std.proofs.lemmas.Map.Lookups.{exact_bytes}
-use Rattle.coda_fid.specs.Fid.{fid_cmp}
+use Rattle.coda_fid.specs.Fid.{fid_cmp, same_fid}
 use Rattle.coda_fid.specs.Name.{name_cmp}
 use Rattle.coda_fid.specs.declared.fid.Fid.{Fid}
 use Rattle.coda_fid.proofs.Fids.{fids_total, exact_fids}
@@ -43,7 +42,7 @@ refused_at kept whole f known free q = elim (fid_cases q f) [
 
 -- what one step leaves open, the next one does too
 pub after_unsure : (f : Fid) (change : Change) (q : Fid) → after_at f change q Unsure ≡ Unsure
-after_unsure f change q = elim (tree.is_at (fid_cmp f) q) as (λ b. cond b Unsure Unsure ≡ Unsure) [ true ↦ refl | false ↦ refl ]
+after_unsure f change q = elim (same_fid f q) as (λ b. cond b Unsure Unsure ≡ Unsure) [ true ↦ refl | false ↦ refl ]
 
 pub after_all_unsure : (change : Change) (pairs : Pairs) (q : Fid) → after_all change pairs q Unsure ≡ Unsure
 after_all_unsure change [] q = refl
@@ -190,7 +189,7 @@ true_less c c' d n f q bound diff h = elim (fid_cases q f) [
 
 -- a move is one name less and then one more
 pub moved_after : (f dir q : Fid) (bound : Bound) → after_at f (Moved dir) q bound ≡ after_at f (More dir) q (after_at f Less q bound)
-moved_after f dir q bound = elim (tree.is_at (fid_cmp f) q) as (λ b. cond b (bound_after (Moved dir) bound) bound ≡ cond b (bound_after (More dir) (cond b (bound_after Less bound) bound)) (cond b (bound_after Less bound) bound)) [
+moved_after f dir q bound = elim (same_fid f q) as (λ b. cond b (bound_after (Moved dir) bound) bound ≡ cond b (bound_after (More dir) (cond b (bound_after Less bound) bound)) (cond b (bound_after Less bound) bound)) [
   | true ↦ both bound
   | false ↦ refl
 ]

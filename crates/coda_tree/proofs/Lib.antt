@@ -1,6 +1,7 @@
 pub mod Booleans
 pub mod Order
 pub mod MapEntries
+pub mod Binds
 pub mod Trees
 pub mod Pairs
 pub mod Paged

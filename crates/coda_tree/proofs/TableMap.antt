@@ -1,10 +1,9 @@
 -- What a table keeps as a finite map of nodes.
 use Rattle.std.proofs.Common.{◌≡◌, suc, ◌+◌, cond, List, [], ◌∷◌, length, Option, None, IfSome, IsSome, option_map, is_some, add-one, sym, ap, ◌∙◌, subst, inl, inr}
 use Rattle.std.specs.Map.{keys_of}
-use Rattle.std.specs.List.Sorted.{IsStrictlySortedBy}
+use Rattle.std.specs.List.{IsDistinct}
 use Rattle.std.specs.FinMap as map
-use Rattle.std.specs.BTreeMap as tree
-use Rattle.coda_fid.specs.Fid.{fid_cmp}
+use Rattle.coda_fid.specs.Fid.{fid_cmp, same_fid}
 use Rattle.coda_fid.specs.declared.fid.Fid.{Fid}
 use Rattle.coda_fid.proofs.Fids.{fids_total, exact_fids}
 use Rattle.coda_tree.specs.declared.node.Node.{Node}
@@ -13,13 +12,13 @@ use Rattle.coda_tree.specs.Volume.{changed, IsDir, IsDirAt, bindings, child, chi
 use Rattle.coda_tree.specs.Table.{nodes_of}
 use Rattle.coda_tree.proofs.Order.{fid_cases}
 use Rattle.coda_tree.proofs.Changes.{dir_node, at_changed, off_changed}
-use Rattle.coda_tree.proofs.Keyed.{kept_at, changed_here, changed_else, get_keyed, below_none}
+use Rattle.coda_tree.proofs.Keyed.{kept_at, changed_here, changed_else, get_keyed, absent_none}
 
 -- a node changed, where there is one
-pub nodes_changed : (old new : List (Fid × Node)) (f : Fid) (change : Node → Node) → ((q : Fid) → kept_at new q ≡ cond (tree.is_at (fid_cmp f) q) (option_map change (kept_at old f)) (kept_at old q)) → nodes_of new ≡ changed (nodes_of old) f change
+pub nodes_changed : (old new : List (Fid × Node)) (f : Fid) (change : Node → Node) → ((q : Fid) → kept_at new q ≡ cond (same_fid f q) (option_map change (kept_at old f)) (kept_at old q)) → nodes_of new ≡ changed (nodes_of old) f change
 nodes_changed old new f change changes = map.same_map fids_total exact_fids _ _ (λ q. get_keyed new q ∙ changes q ∙ elim (fid_cases q f) [
   | inl at ↦
-      ap (λ e. cond (tree.is_at (fid_cmp f) e) (option_map change (kept_at old f)) (kept_at old q)) at ∙ changed_here f _ (kept_at old q) ∙ ap (option_map change) (sym (get_keyed old f))
+      ap (λ e. cond (same_fid f e) (option_map change (kept_at old f)) (kept_at old q)) at ∙ changed_here f _ (kept_at old q) ∙ ap (option_map change) (sym (get_keyed old f))
       ∙ sym (ap (map.get (changed (nodes_of old) f change)) at ∙ at_changed (nodes_of old) f change)
   | inr away ↦ changed_else f q _ (kept_at old q) away ∙ sym (get_keyed old q) ∙ sym (off_changed (nodes_of old) f change q away)
 ])
@@ -46,10 +45,10 @@ may_rebind entries dir name is bound =
 
 -- ---- how many there are
 
-pub len_nodes : (entries : List (Fid × Node)) → IsStrictlySortedBy fid_cmp (keys_of entries) → map.len (nodes_of entries) ≡ length entries
-unfolding IsStrictlySortedBy
+pub len_nodes : (entries : List (Fid × Node)) → IsDistinct same_fid (keys_of entries) → map.len (nodes_of entries) ≡ length entries
+unfolding IsDistinct
 len_nodes [] s = map.len-empty fid_cmp Node
 len_nodes (e ∷ entries) s =
     map.len-insert fids_total (nodes_of entries) e.0 e.1
-    ∙ ap (λ (o : Option Node). cond (is_some o) (map.len (nodes_of entries)) (map.len (nodes_of entries) + 1)) (get_keyed entries e.0 ∙ below_none e.0 entries s.0)
+    ∙ ap (λ (o : Option Node). cond (is_some o) (map.len (nodes_of entries)) (map.len (nodes_of entries) + 1)) (get_keyed entries e.0 ∙ absent_none e.0 entries s.0)
     ∙ add-one (map.len (nodes_of entries)) ∙ ap suc (len_nodes entries s.1)

@@ -1,8 +1,8 @@
 -- What a table keeps of how fids are bound, and when that is true of its directories.
 use Rattle.std.specs.Prelude.{◌≡◌, ◌≢◌, ◌⊎◌, Bool, true, false, cond, [], ◌∷◌, Option, Some, None}
-use Rattle.std.specs.BTreeMap as tree
+use Rattle.std.specs.HashMap as hash
 use Rattle.std.specs.FinMap as map
-use Rattle.coda_fid.specs.Fid.{fid_cmp}
+use Rattle.coda_fid.specs.Fid.{same_fid}
 use Rattle.coda_fid.specs.declared.fid.Fid.{Fid}
 use Rattle.coda_tree.specs.declared.binders.Bound.{Bound}
 use Rattle.coda_tree.specs.declared.binders.Bound.TheVariants.{Nowhere, Once, Unsure}
@@ -22,7 +22,7 @@ bound_in true None = Nowhere
 bound_in false None = Unsure
 
 abbrev pub bound_at : Binders → Fid → Bound
-bound_at binders f = bound_in binders.whole (tree.get fid_cmp binders.kept f)
+bound_at binders f = bound_in binders.whole (hash.get same_fid binders.kept f)
 
 -- what is known after a change of what was known before
 abbrev pub bound_after : Change → Bound → Bound
@@ -36,7 +36,7 @@ bound_after (Moved dir) (Once d) = Once dir
 
 -- what is known of q once this is known of f
 abbrev pub known_at : Fid → Bound → Fid → Bound → Bound
-known_at f known q bound = cond (tree.is_at (fid_cmp f) q) known bound
+known_at f known q bound = cond (same_fid f q) known bound
 
 -- what is known of q after a change of f
 abbrev pub after_at : Fid → Change → Fid → Bound → Bound

@@ -1,11 +1,12 @@
 -- Pairs in pages, one after the other.
-use Rattle.std.specs.Prelude.{◌≡◌, ◌≢◌, ℕ, zero, suc, ◌+◌, ◌<◌, List, [], ◌∷◌, ◌++◌, length, IsTrue, not}
+use Rattle.std.specs.Prelude.{◌≡◌, ◌≢◌, ℕ, Bool, zero, suc, ◌+◌, ◌<◌, List, [], ◌∷◌, ◌++◌, length, IsTrue, not}
 use Rattle.std.specs.declared.cmp.Ordering.{Ordering}
 use Rattle.std.specs.declared.cmp.Ordering.TheVariants.{Less, Greater}
 use Rattle.std.specs.Global.{Vec}
-use Rattle.std.specs.List.{flat_map, AllByRecursion}
+use Rattle.std.specs.List.{flat_map, list_any, AllByRecursion}
 use Rattle.std.specs.FinMap.Entries.{is_sorted, where_key}
 use Rattle.std.specs.Ordering.{eq_by_cmp}
+use Rattle.coda_fid.specs.Fid.{same_fid}
 use Rattle.coda_fid.specs.Name.{name_cmp}
 use Rattle.coda_fid.specs.declared.fid.Fid.{Fid}
 use Rattle.coda_tree.specs.Bindings.{Name, Pairs}
@@ -33,6 +34,10 @@ abbrev pub with_pairs : Pages → ℕ → Pairs → Pairs
 with_pairs [] i pairs = []
 with_pairs (page ∷ pages) zero pairs = pairs ++ all_pairs pages
 with_pairs (page ∷ pages) (suc i) pairs = page.items ++ with_pairs pages i pairs
+
+-- whether pairs bind a fid, at whatever name
+abbrev pub any_binds : Fid → Pairs → Bool
+any_binds fid pairs = list_any (λ pair. same_fid pair.1 fid) pairs
 
 -- the first of the names against a name
 abbrev pub first_cmp : Pairs → Name → Ordering

@@ -1,9 +1,9 @@
 -- How slots are kept, and what the private changes of them do.
 use Rattle.std.specs.Prelude.{◌≡◌, ℕ, ◌<◌, Option, None, cond, option_map, IfSome, IsSome}
 use Rattle.std.specs.FinMap as map
-use Rattle.std.specs.BTreeMap as tree
-use Rattle.std.specs.BTreeMap.{BTreeMap}
-use Rattle.coda_fid.specs.Fid.{fid_cmp}
+use Rattle.std.specs.HashMap as hash
+use Rattle.std.specs.HashMap.{HashMap}
+use Rattle.coda_fid.specs.Fid.{same_fid}
 use Rattle.coda_fid.specs.declared.fid.Fid.{Fid}
 use Rattle.coda_tree.specs.declared.slot.Held.{Held}
 use Rattle.coda_tree.specs.declared.slots.SlotTable.TheInside.{Inside}
@@ -20,12 +20,12 @@ abbrev pub IsCounted : Inside → Type 0
 IsCounted a = a.full ≡ map.len (nodes_in (slots_of a))
 
 -- the same is kept at each fid
-abbrev pub IsSameSlots : BTreeMap Fid (Option Held) → BTreeMap Fid (Option Held) → Type 0
-IsSameSlots old new = (q : Fid) → tree.get fid_cmp new q ≡ tree.get fid_cmp old q
+abbrev pub IsSameSlots : {S : Type 0} → HashMap Fid (Option Held) S → HashMap Fid (Option Held) S → Type 0
+IsSameSlots old new = (q : Fid) → hash.get same_fid new q ≡ hash.get same_fid old q
 
 -- the slot at the fid is changed, where there is one, and all else stays
-abbrev pub AltersAt : BTreeMap Fid (Option Held) → BTreeMap Fid (Option Held) → Fid → (Option Held → Option Held) → Type 0
-AltersAt old new fid change = (q : Fid) → tree.get fid_cmp new q ≡ cond (tree.is_at (fid_cmp fid) q) (option_map change (tree.get fid_cmp old fid)) (tree.get fid_cmp old q)
+abbrev pub AltersAt : {S : Type 0} → HashMap Fid (Option Held) S → HashMap Fid (Option Held) S → Fid → (Option Held → Option Held) → Type 0
+AltersAt old new fid change = (q : Fid) → hash.get same_fid new q ≡ cond (same_fid fid q) (option_map change (hash.get same_fid old fid)) (hash.get same_fid old q)
 
 -- a node that is held is a directory
 abbrev pub IsDirSlot : Option Held → Type 0

@@ -7,7 +7,7 @@ ghost use Rattle.coda_tree.specs.Binders.{bound_at, bound_after, known_at, after
 use crate::{Node, NodeKind};
 use coda_fid::{Fid, Name};
 use std::alloc::Global;
-use std::collections::BTreeMap;
+use std::collections::HashMap;
 
 // At how many names a fid is bound, in all directories.
 #[derive(Clone, Copy)]
@@ -35,7 +35,7 @@ pub(crate) enum Change {
 // what is asked of it has to be searched for.
 #[derive(Drop)]
 pub(crate) struct Binders {
-    kept: BTreeMap<Fid, Bound>,
+    kept: HashMap<Fid, Bound>,
     // Whether each fid that has no entry is bound nowhere.
     whole: bool,
 }
@@ -71,7 +71,7 @@ impl Binders {
         ensures { (f : Fid) → bound_at result f ≡ Nowhere }
     {
         Binders {
-            kept: BTreeMap::new(alloc),
+            kept: HashMap::new(alloc),
             whole: true,
         }
     }

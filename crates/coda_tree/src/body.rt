@@ -24,7 +24,7 @@ use std::marker::Model;
 /// fills or nothing.
 ///
 /// The nodes are always those of a volume. Contracts see the number and a finite map from fids to what their slots hold;
-/// `nodes_in` of it are the nodes. A fid is found in logarithmic time, and so is the directory that binds it.
+/// `nodes_in` of it are the nodes. A fid is found by its hash, and with it the directory that binds it.
 #[derive(Drop)]
 pub struct Body {
     number: u32,

@@ -109,14 +109,7 @@ impl Entries {
         ensures some { result ≡ true → (name : List ℕ) × (map.get self.now name ≡ Some fid) }
         ensures none { result ≡ false → (name : List ℕ) → map.get self.now name ≢ Some fid }
     {
-        for index in 0..self.len() {
-            if let Some((_, bound)) = self.at(index) {
-                if bound == fid {
-                    return true;
-                }
-            }
-        }
-        false
+        pages::binds(&self.pages, fid)
     }
 
     /// Binds a name that is free. Fails for want of memory alone, and then changes nothing.

@@ -1,21 +1,22 @@
 ghost use Rattle.std.specs.Prelude.{◌≡◌, ◌↔◌, Some, None, IfOk, IfSome, IsSome, IsTrue, OnOk, OnErr, option_copied};
 ghost use Rattle.std.specs.FinMap as map;
-ghost use Rattle.std.specs.BTreeMap as tree;
-ghost use Rattle.coda_fid.specs.Fid.{fid_cmp};
+ghost use Rattle.std.specs.HashMap as hash;
+ghost use Rattle.coda_fid.specs.Fid.{same_fid};
 ghost use Rattle.coda_tree.specs.Volume.{child, moved, changed, bound, unbound, written, content_patch, attrs_patch, IsDir, IsDirAt, bindings, parent_of};
-ghost use Rattle.coda_tree.specs.Table.{nodes_of, ChangesAt, BindsAt, UnbindsAt, IsSame};
+ghost use Rattle.coda_tree.specs.Table.{nodes_of, earliest, ChangesAt, BindsAt, UnbindsAt, IsSame};
 
 use crate::{Node, NodeKind, NodeTable};
 use coda_fid::{Attrs, Bytes, Fid, Name, Sid};
 use std::alloc::{AllocError, Global};
-use std::collections::BTreeMap;
+use std::cmp::Ordering;
+use std::collections::HashMap;
 use std::marker::Model;
 
 // Nodes under their fids, without what is known of who binds them.
 #[derive(Drop)]
 pub(crate) struct NodeMap {
     alloc: Global,
-    nodes: BTreeMap<Fid, Node>,
+    nodes: HashMap<Fid, Node>,
 }
 
 impl Model for NodeMap {
@@ -31,8 +32,8 @@ impl Model for NodeMap {
 }
 
 // Binds a free name in the directory at a fid.
-fn bind(nodes: &mut BTreeMap<Fid, Node>, dir: Fid, name: Name, fid: Fid) -> Result<(), AllocError>
-    requires { IfSome (tree.get fid_cmp nodes.old dir) (λ node. IsDir node.kind × (map.get (bindings node.kind) name ≡ None)) }
+fn bind(nodes: &mut HashMap<Fid, Node>, dir: Fid, name: Name, fid: Fid) -> Result<(), AllocError>
+    requires { IfSome (hash.get same_fid nodes.old dir) (λ node. IsDir node.kind × (map.get (bindings node.kind) name ≡ None)) }
     ensures ok { OnOk result (BindsAt nodes.old nodes.new dir name fid) }
     ensures err { OnErr result (IsSame nodes.old nodes.new) }
 {
@@ -43,8 +44,8 @@ fn bind(nodes: &mut BTreeMap<Fid, Node>, dir: Fid, name: Name, fid: Fid) -> Resu
 }
 
 // Unbinds a name in the directory at a fid.
-fn unbind(nodes: &mut BTreeMap<Fid, Node>, dir: Fid, name: &Name)
-    requires { IfSome (tree.get fid_cmp nodes.old dir) (λ node. IsDir node.kind) }
+fn unbind(nodes: &mut HashMap<Fid, Node>, dir: Fid, name: &Name)
+    requires { IfSome (hash.get same_fid nodes.old dir) (λ node. IsDir node.kind) }
     ensures { UnbindsAt nodes.old nodes.new dir name.now }
 {
     if let Some(node) = nodes.get_mut(&dir) {
@@ -53,8 +54,8 @@ fn unbind(nodes: &mut BTreeMap<Fid, Node>, dir: Fid, name: &Name)
 }
 
 // Binds a bound name of the directory at a fid to another fid.
-fn rebind(nodes: &mut BTreeMap<Fid, Node>, dir: Fid, name: &Name, fid: Fid)
-    requires { IfSome (tree.get fid_cmp nodes.old dir) (λ node. IsDir node.kind × IsSome (map.get (bindings node.kind) name.now)) }
+fn rebind(nodes: &mut HashMap<Fid, Node>, dir: Fid, name: &Name, fid: Fid)
+    requires { IfSome (hash.get same_fid nodes.old dir) (λ node. IsDir node.kind × IsSome (map.get (bindings node.kind) name.now)) }
     ensures { BindsAt nodes.old nodes.new dir name.now fid }
 {
     if let Some(node) = nodes.get_mut(&dir) {
@@ -63,7 +64,7 @@ fn rebind(nodes: &mut BTreeMap<Fid, Node>, dir: Fid, name: &Name, fid: Fid)
 }
 
 // Writes a content with its time to the node at a fid, where there is one.
-fn store(nodes: &mut BTreeMap<Fid, Node>, fid: Fid, content: Bytes, mtime: u64, sid: Sid)
+fn store(nodes: &mut HashMap<Fid, Node>, fid: Fid, content: Bytes, mtime: u64, sid: Sid)
     ensures { ChangesAt nodes.old nodes.new fid (written (content_patch content mtime) sid) }
 {
     if let Some(node) = nodes.get_mut(&fid) {
@@ -72,7 +73,7 @@ fn store(nodes: &mut BTreeMap<Fid, Node>, fid: Fid, content: Bytes, mtime: u64, 
 }
 
 // Sets attributes of the node at a fid, where there is one.
-fn set_attributes(nodes: &mut BTreeMap<Fid, Node>, fid: Fid, attrs: &Attrs, sid: Sid)
+fn set_attributes(nodes: &mut HashMap<Fid, Node>, fid: Fid, attrs: &Attrs, sid: Sid)
     ensures { ChangesAt nodes.old nodes.new fid (written (attrs_patch attrs.now) sid) }
 {
     if let Some(node) = nodes.get_mut(&fid) {
@@ -87,20 +88,35 @@ fn is_same_place(from: Fid, name: &Name, to: Fid, new: &Name) -> bool
     from == to && name.compare(new).is_eq()
 }
 
+// The first of two fids, in their order.
+fn earliest(first: Option<Fid>, fid: Fid) -> Fid
+    ensures { result ≡ earliest first fid }
+{
+    match first {
+        Some(before) => match before.cmp(&fid) {
+            Ordering::Less => before,
+            Ordering::Equal => fid,
+            Ordering::Greater => fid,
+        },
+        None => fid,
+    }
+}
+
 // The first node, in the order of fids, that binds a fid.
-fn first_binder(nodes: &BTreeMap<Fid, Node>, fid: Fid) -> Option<Fid>
+fn first_binder(nodes: &HashMap<Fid, Node>, fid: Fid) -> Option<Fid>
     ensures { result ≡ parent_of (nodes_of nodes.now.entries) fid }
 {
+    let mut first = None;
     for (dir, node) in nodes {
         if node.binds(fid) {
-            return Some(*dir);
+            first = Some(earliest(first, *dir));
         }
     }
-    None
+    first
 }
 
 // A copy of each node.
-fn copy_nodes(alloc: Global, nodes: &BTreeMap<Fid, Node>) -> Result<NodeTable, AllocError>
+fn copy_nodes(alloc: Global, nodes: &HashMap<Fid, Node>) -> Result<NodeTable, AllocError>
     ensures { IfOk result (λ t. t ≡ nodes_of nodes.now.entries) }
 {
     let mut copy = NodeTable::new(alloc);
@@ -118,7 +134,7 @@ impl NodeMap {
     {
         NodeMap {
             alloc,
-            nodes: BTreeMap::new(alloc),
+            nodes: HashMap::new(alloc),
         }
     }
 

@@ -3,7 +3,7 @@ ghost use Rattle.std.specs.Prelude.{◌≡◌, ◌<◌, ◌≤◌, ◌+◌, true
 ghost use Rattle.std.specs.FinMap.Entries.{is_sorted, find, put};
 ghost use Rattle.coda_fid.specs.Name.{name_cmp};
 ghost use Rattle.coda_tree.specs.Bindings.{IsIndexOf, IsGapFor};
-ghost use Rattle.coda_tree.specs.Pages.{all_pairs, AreFilled, pairs_at, with_pairs, first_cmp, IsPageFor, without, ChangesPage};
+ghost use Rattle.coda_tree.specs.Pages.{all_pairs, any_binds, AreFilled, pairs_at, with_pairs, first_cmp, IsPageFor, without, ChangesPage};
 
 use coda_fid::{Fid, Name};
 use std::alloc::{AllocError, Global};
@@ -198,6 +198,25 @@ fn put_first(pages: &mut Vec<Vec<(Name, Fid)>>, name: Name, fid: Fid) -> Result<
     Ok(())
 }
 
+// Binds a name where its page is full, once that is split. Fails for want of memory alone, and then changes nothing.
+fn put_split(
+    pages: &mut Vec<Vec<(Name, Fid)>>,
+    full: usize,
+    name: Name,
+    fid: Fid,
+) -> Result<(), AllocError>
+    requires there { full < length pages.old.items }
+    requires sorted { IsTrue (is_sorted name_cmp (all_pairs pages.old.items)) }
+    requires filled { AreFilled pages.old.items }
+    ensures ok { OnOk result (all_pairs pages.new.items ≡ put name_cmp name fid (all_pairs pages.old.items)) }
+    ensures err { OnErr result (all_pairs pages.new.items ≡ all_pairs pages.old.items) }
+    ensures filled { AreFilled pages.new.items }
+{
+    split(pages, full)?;
+    let at = page_for(pages, &name);
+    put_at(pages, at, name, fid)
+}
+
 // Binds a name. Fails for want of memory alone, and then changes nothing.
 pub(crate) fn put(pages: &mut Vec<Vec<(Name, Fid)>>, name: Name, fid: Fid) -> Result<(), AllocError>
     requires sorted { IsTrue (is_sorted name_cmp (all_pairs pages.old.items)) }
@@ -209,10 +228,12 @@ pub(crate) fn put(pages: &mut Vec<Vec<(Name, Fid)>>, name: Name, fid: Fid) -> Re
     if pages.is_empty() {
         return put_first(pages, name, fid);
     }
-    let full = page_for(pages, &name);
-    split(pages, full)?;
     let at = page_for(pages, &name);
-    put_at(pages, at, name, fid)
+    if pages[at].len() < FULL {
+        put_at(pages, at, name, fid)
+    } else {
+        put_split(pages, at, name, fid)
+    }
 }
 
 // Binds a bound name to another fid.
@@ -256,6 +277,25 @@ pub(crate) fn find(pages: &[Vec<(Name, Fid)>], name: &Name) -> Option<Fid>
     }
     let at = page_for(pages, name);
     find_in(&pages[at], name)
+}
+
+// Whether pairs bind a fid, at whatever name.
+fn binds_in(page: &[(Name, Fid)], fid: Fid) -> bool
+    ensures { result ≡ any_binds fid page.now }
+{
+    page.iter().any(|pair| pair.1 == fid)
+}
+
+// Whether a fid is bound, at whatever name.
+pub(crate) fn binds(pages: &[Vec<(Name, Fid)>], fid: Fid) -> bool
+    ensures { result ≡ any_binds fid (all_pairs pages.now) }
+{
+    for page in pages {
+        if binds_in(page, fid) {
+            return true;
+        }
+    }
+    false
 }
 
 // The pair at an index, from 0.

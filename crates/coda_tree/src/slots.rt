@@ -1,7 +1,7 @@
 ghost use Rattle.std.specs.Prelude.{option_map, ◌↔◌, IsTrue, ◌≡◌, ◌+◌, ◌<◌, ◌^◌, true, cond, Some, None, IfOk, IfSome, IsSome, OnOk, OnErr, is_some, option_copied};
 ghost use Rattle.std.specs.FinMap as map;
-ghost use Rattle.std.specs.BTreeMap as tree;
-ghost use Rattle.coda_fid.specs.Fid.{fid_cmp};
+ghost use Rattle.std.specs.HashMap as hash;
+ghost use Rattle.coda_fid.specs.Fid.{same_fid};
 ghost use Rattle.coda_tree.specs.Volume.{child, written, content_patch, attrs_patch, bind_in, unbind_in, IsDir, IsDirAt, bindings};
 ghost use Rattle.coda_tree.specs.Slots.{node_held, keyed, nodes_in, parent_in, parent_held, held_in, altered, slot_changed, slot_moved, slot_with, purged, withdrawn};
 ghost use Rattle.coda_tree.specs.Parts.{parts_before, given_back};
@@ -16,7 +16,7 @@ use crate::undo::Undo;
 use crate::{Node, NodeKind};
 use coda_fid::{Attrs, Bytes, Fid, Name, Sid};
 use std::alloc::{AllocError, Global};
-use std::collections::BTreeMap;
+use std::collections::HashMap;
 use std::marker::Model;
 use std::mem::replace;
 
@@ -25,7 +25,7 @@ use std::mem::replace;
 #[derive(Drop)]
 pub(crate) struct SlotTable {
     alloc: Global,
-    slots: BTreeMap<Fid, Option<Held>>,
+    slots: HashMap<Fid, Option<Held>>,
     full: usize,
 }
 
@@ -45,12 +45,12 @@ impl Model for SlotTable {
 
 // Binds a free name in the directory at a fid.
 fn bind(
-    slots: &mut BTreeMap<Fid, Option<Held>>,
+    slots: &mut HashMap<Fid, Option<Held>>,
     dir: Fid,
     name: Name,
     fid: Fid,
 ) -> Result<(), AllocError>
-    requires { MayBindSlot (held_in (tree.get fid_cmp slots.old dir)) name }
+    requires { MayBindSlot (held_in (hash.get same_fid slots.old dir)) name }
     ensures ok { OnOk result (AltersAt slots.old slots.new dir (slot_changed (λ node. bind_in node name fid))) }
     ensures err { OnErr result (IsSameSlots slots.old slots.new) }
 {
@@ -61,8 +61,8 @@ fn bind(
 }
 
 // Unbinds a name in the directory at a fid.
-fn unbind(slots: &mut BTreeMap<Fid, Option<Held>>, dir: Fid, name: &Name)
-    requires { IsDirSlot (held_in (tree.get fid_cmp slots.old dir)) }
+fn unbind(slots: &mut HashMap<Fid, Option<Held>>, dir: Fid, name: &Name)
+    requires { IsDirSlot (held_in (hash.get same_fid slots.old dir)) }
     ensures { AltersAt slots.old slots.new dir (slot_changed (λ node. unbind_in node name.now)) }
 {
     if let Some(slot) = slots.get_mut(&dir) {
@@ -71,8 +71,8 @@ fn unbind(slots: &mut BTreeMap<Fid, Option<Held>>, dir: Fid, name: &Name)
 }
 
 // Binds a bound name of the directory at a fid to another fid.
-fn rebind(slots: &mut BTreeMap<Fid, Option<Held>>, dir: Fid, name: &Name, fid: Fid)
-    requires { MayRebindSlot (held_in (tree.get fid_cmp slots.old dir)) name.now }
+fn rebind(slots: &mut HashMap<Fid, Option<Held>>, dir: Fid, name: &Name, fid: Fid)
+    requires { MayRebindSlot (held_in (hash.get same_fid slots.old dir)) name.now }
     ensures { AltersAt slots.old slots.new dir (slot_changed (λ node. bind_in node name.now fid)) }
 {
     if let Some(slot) = slots.get_mut(&dir) {
@@ -81,8 +81,8 @@ fn rebind(slots: &mut BTreeMap<Fid, Option<Held>>, dir: Fid, name: &Name, fid: F
 }
 
 // Binds a free name in the directory at a fid. Takes no memory but the room.
-fn take_back(slots: &mut BTreeMap<Fid, Option<Held>>, dir: Fid, name: Name, fid: Fid, room: Room)
-    requires { MayTakeBackSlot (held_in (tree.get fid_cmp slots.old dir)) name room }
+fn take_back(slots: &mut HashMap<Fid, Option<Held>>, dir: Fid, name: Name, fid: Fid, room: Room)
+    requires { MayTakeBackSlot (held_in (hash.get same_fid slots.old dir)) name room }
     ensures { AltersAt slots.old slots.new dir (slot_changed (λ node. bind_in node name fid)) }
 {
     if let Some(slot) = slots.get_mut(&dir) {
@@ -92,14 +92,14 @@ fn take_back(slots: &mut BTreeMap<Fid, Option<Held>>, dir: Fid, name: Name, fid:
 
 // Writes a content with its time to the node at a fid, where there is one, and answers what these parts were.
 fn exchange(
-    slots: &mut BTreeMap<Fid, Option<Held>>,
+    slots: &mut HashMap<Fid, Option<Held>>,
     fid: Fid,
     content: Bytes,
     mtime: u64,
     sid: Sid,
 ) -> Option<Parts>
     ensures content { AltersAt slots.old slots.new fid (slot_changed (written (content_patch content mtime) sid)) }
-    ensures before { result ≡ option_map (parts_before (Some content)) (node_held (held_in (tree.get fid_cmp slots.old fid))) }
+    ensures before { result ≡ option_map (parts_before (Some content)) (node_held (held_in (hash.get same_fid slots.old fid))) }
 {
     match slots.get_mut(&fid) {
         Some(slot) => slot::exchange(slot, content, mtime, sid),
@@ -108,7 +108,7 @@ fn exchange(
 }
 
 // Sets these parts of the node at a fid, where there is one.
-fn give_back(slots: &mut BTreeMap<Fid, Option<Held>>, fid: Fid, parts: Parts)
+fn give_back(slots: &mut HashMap<Fid, Option<Held>>, fid: Fid, parts: Parts)
     ensures { AltersAt slots.old slots.new fid (slot_changed (given_back parts)) }
 {
     if let Some(slot) = slots.get_mut(&fid) {
@@ -117,7 +117,7 @@ fn give_back(slots: &mut BTreeMap<Fid, Option<Held>>, fid: Fid, parts: Parts)
 }
 
 // Sets attributes of the node at a fid, where there is one.
-fn set_attributes(slots: &mut BTreeMap<Fid, Option<Held>>, fid: Fid, attrs: &Attrs, sid: Sid)
+fn set_attributes(slots: &mut HashMap<Fid, Option<Held>>, fid: Fid, attrs: &Attrs, sid: Sid)
     ensures { AltersAt slots.old slots.new fid (slot_changed (written (attrs_patch attrs.now) sid)) }
 {
     if let Some(slot) = slots.get_mut(&fid) {
@@ -126,7 +126,7 @@ fn set_attributes(slots: &mut BTreeMap<Fid, Option<Held>>, fid: Fid, attrs: &Att
 }
 
 // Puts a node in the place of the one at a fid, where there is one.
-fn set(slots: &mut BTreeMap<Fid, Option<Held>>, fid: Fid, node: Node)
+fn set(slots: &mut HashMap<Fid, Option<Held>>, fid: Fid, node: Node)
     ensures { AltersAt slots.old slots.new fid (slot_changed (λ _. node)) }
 {
     if let Some(slot) = slots.get_mut(&fid) {
@@ -135,7 +135,7 @@ fn set(slots: &mut BTreeMap<Fid, Option<Held>>, fid: Fid, node: Node)
 }
 
 // Keeps another directory as the one that binds the node at a fid.
-fn set_parent(slots: &mut BTreeMap<Fid, Option<Held>>, fid: Fid, dir: Fid)
+fn set_parent(slots: &mut HashMap<Fid, Option<Held>>, fid: Fid, dir: Fid)
     ensures { AltersAt slots.old slots.new fid (slot_moved dir) }
 {
     if let Some(slot) = slots.get_mut(&fid) {
@@ -144,8 +144,8 @@ fn set_parent(slots: &mut BTreeMap<Fid, Option<Held>>, fid: Fid, dir: Fid)
 }
 
 // Empties the slot at a fid, where there is one.
-fn vacate(slots: &mut BTreeMap<Fid, Option<Held>>, fid: Fid) -> Option<Held>
-    ensures held { result ≡ held_in (tree.get fid_cmp slots.old fid) }
+fn vacate(slots: &mut HashMap<Fid, Option<Held>>, fid: Fid) -> Option<Held>
+    ensures held { result ≡ held_in (hash.get same_fid slots.old fid) }
     ensures empty { AltersAt slots.old slots.new fid (slot_with None) }
 {
     match slots.get_mut(&fid) {
@@ -180,8 +180,8 @@ fn is_full(slot: &Option<Option<Held>>) -> bool
 }
 
 // Whether the slot at a fid is there and empty.
-fn is_empty(slots: &BTreeMap<Fid, Option<Held>>, fid: Fid) -> bool
-    ensures { IsTrue result ↔ (tree.get fid_cmp slots.now fid ≡ Some None) }
+fn is_empty(slots: &HashMap<Fid, Option<Held>>, fid: Fid) -> bool
+    ensures { IsTrue result ↔ (hash.get same_fid slots.now fid ≡ Some None) }
 {
     match slots.get(&fid) {
         Some(Some(_)) => false,
@@ -191,7 +191,7 @@ fn is_empty(slots: &BTreeMap<Fid, Option<Held>>, fid: Fid) -> bool
 }
 
 // A copy of each slot.
-fn copy_slots(alloc: Global, slots: &BTreeMap<Fid, Option<Held>>) -> Result<SlotTable, AllocError>
+fn copy_slots(alloc: Global, slots: &HashMap<Fid, Option<Held>>) -> Result<SlotTable, AllocError>
     ensures { IfOk result (λ s. s ≡ keyed slots.now.entries) }
 {
     let mut copy = SlotTable::new(alloc);
@@ -209,7 +209,7 @@ impl SlotTable {
     {
         SlotTable {
             alloc,
-            slots: BTreeMap::new(alloc),
+            slots: HashMap::new(alloc),
             full: 0,
         }
     }

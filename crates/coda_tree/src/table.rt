@@ -12,8 +12,8 @@ use std::marker::Model;
 /// The nodes that somebody has copies of, each under its fid.
 ///
 /// It need be no tree: a client holds a directory without all that is bound there. Contracts see it as a finite map
-/// from fids to nodes. A fid is found in logarithmic time, and so is the directory that binds it, where no other name is
-/// bound to it.
+/// from fids to nodes. A fid is found by its hash, and so is the directory that binds it, where no other name is bound
+/// to it.
 #[derive(Drop)]
 pub struct NodeTable {
     nodes: NodeMap,

@@ -32,8 +32,8 @@ pub enum PathFault {
 ///
 /// Each node stands at its fid. Each but the root is bound once, at one name of one directory, and each is reached
 /// from the root, whose fid the volume's number gives. Contracts see the number and a finite map from fids to nodes;
-/// `number` and `len` say that they are those of a volume. A fid is found in logarithmic time, and so is the directory
-/// that binds it.
+/// `number` and `len` say that they are those of a volume. A fid is found by its hash, and with it the directory that
+/// binds it.
 #[derive(Drop)]
 pub struct Volume {
     body: Body,

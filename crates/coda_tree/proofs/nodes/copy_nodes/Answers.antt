@@ -1,7 +1,7 @@
 use Rattle.std.proofs.Common.{List, sym, ap, ◌∙◌, rules}
 use Rattle.std.specs.FinMap as map
-use Rattle.std.specs.BTreeMap as tree
-use Rattle.coda_fid.specs.Fid.{fid_cmp}
+use Rattle.std.specs.HashMap as hash
+use Rattle.coda_fid.specs.Fid.{fid_cmp, same_fid}
 use Rattle.coda_fid.specs.declared.fid.Fid.{Fid}
 use Rattle.coda_tree.specs.declared.node.Node.{Node}
 use Rattle.coda_tree.specs.Volume.{Nodes}
@@ -12,15 +12,15 @@ use Rattle.coda_tree.proofs.nodes.copy_nodes.Goals as goal
 pub loop-fid-preserved : goal.loop-fid-preserved
 loop-fid-preserved c =
     let fid = c.in-Some.fid.now in
-    let step = copy_step (λ (q : Fid). tree.get fid_cmp c.args.nodes.now q) c.loop-fid.copy c.put.new.self c.loop-fid.fid-iterator c.next.new.self fid c.in-Some.node.now (search rules)
-    (c.in_ok-put.ensures.ok ∙ ap (λ (node : Node). map.insert c.loop-fid.copy fid node) c.in_ok-node.ensures) c.loop-fid.invariant.sorted c.loop-fid.invariant.same in
-    record { sorted = step.0; same = step.1 }
+    let step = copy_step (λ (q : Fid). hash.get same_fid c.args.nodes.now q) c.loop-fid.copy c.put.new.self c.loop-fid.fid-iterator c.next.new.self fid c.in-Some.node.now (search rules)
+    (c.in_ok-put.ensures.ok ∙ ap (λ (node : Node). map.insert c.loop-fid.copy fid node) c.in_ok-node.ensures) c.loop-fid.invariant.distinct c.loop-fid.invariant.same in
+    record { distinct = step.0; same = step.1 }
 
 pub loop-fid-init : goal.loop-fid-init
 loop-fid-init c =
     let given = c.into_iter-fid-iterator.ensures.into_iter_gives in
     record {
-      sorted = search rules;
+      distinct = search rules;
       same = λ q. ap (λ (l : List (Fid × Node)). kept_at l q) (sym given.0)
           ∙ sym (ap (or_else (kept_at c.into_iter-fid-iterator.result q)) (ap (λ (m : Nodes). map.get m q) c.new-copy.ensures ∙ map.get-empty fid_cmp q) ∙ or_none (kept_at c.into_iter-fid-iterator.result q));
     }

@@ -5,4 +5,4 @@ use Rattle.coda_cell.proofs.ParentMap.{len_parents}
 use Rattle.coda_cell.proofs.parents.ParentTable.len.Goals as goal
 
 pub returns : goal.returns
-returns c = c.len.ensures.len ∙ sym (len_parents c.self.inside.parents.entries c.len.ensures.ordered) ∙ ap (λ (m : Parents). map.len m) c.self.view_is
+returns c = c.len.ensures.len ∙ sym (len_parents c.self.inside.parents.entries c.len.ensures.unique) ∙ ap (λ (m : Parents). map.len m) c.self.view_is

@@ -5,4 +5,4 @@ use Rattle.coda_tree.proofs.TableMap.{len_nodes}
 use Rattle.coda_tree.proofs.nodes.NodeMap.len.Goals as goal
 
 pub returns : goal.returns
-returns c = c.len.ensures.len ∙ sym (len_nodes c.self.inside.nodes.entries c.len.ensures.ordered) ∙ ap (λ (m : Nodes). map.len m) c.self.view_is
+returns c = c.len.ensures.len ∙ sym (len_nodes c.self.inside.nodes.entries c.len.ensures.unique) ∙ ap (λ (m : Nodes). map.len m) c.self.view_is
