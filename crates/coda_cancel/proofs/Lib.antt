@@ -1,4 +1,8 @@
 pub mod Keys
+pub mod Mentioned
+pub mod Between
+pub mod Walks
+pub mod Places
 pub mod Debts
 pub mod Passing
 pub mod Rising

@@ -3,11 +3,15 @@
 
 mod adding;
 mod dropping;
-mod fitting;
+mod leaving;
+mod mentions;
+mod records;
 mod handing;
 mod join;
+mod shelf;
 mod tail;
 mod undoing;
 
 pub use join::Join;
+pub use records::Records;
 pub use tail::{AddFault, Tail};
