@@ -2,6 +2,8 @@ pub mod Keys
 pub mod Mentioned
 pub mod Between
 pub mod Walks
+pub mod Quiet
+pub mod Indexed
 pub mod Places
 pub mod Debts
 pub mod Passing

@@ -5,6 +5,7 @@ ghost use Rattle.coda_cancel.specs.Handing.{nothing, with_over, with_pre, hand};
 ghost use Rattle.coda_cancel.specs.Dropping.{drops};
 ghost use Rattle.coda_cancel.specs.Cancel.{object, kept, debt};
 ghost use Rattle.coda_cancel.specs.Mentions.{has, tells, Loses, Covers, CoversUpTo, IsSameBeyond, last_number};
+ghost use Rattle.coda_cancel.specs.Numbers.{IsRising};
 ghost use Rattle.coda_cancel.specs.Passing.{owed_to};
 ghost use Rattle.coda_cancel.specs.Shelved.{is_numbered, AtNumber};
 
@@ -64,6 +65,7 @@ fn pass(
     ensures records { AtNumber number shelf.old.records (λ front rec back. shelf.new.records ≡ front ++ kept (drops op.now) (owed_to fid owed) (rec ∷ []) ++ back) }
     ensures owed { AtNumber number shelf.old.records (λ front rec back. owed_to fid result ≡ debt (drops op.now) (owed_to fid owed) (rec ∷ [])) }
     ensures index { AtNumber number shelf.old.records (λ front rec back. Loses (has index.old) (has index.new) (λ f n. drops op.now rec.op && tells rec f n)) }
+    ensures rising { IsRising shelf.new.records }
     ensures room { shelf.old.room ≤ shelf.new.room }
 {
     let record = shelf.at(number);
