@@ -175,3 +175,18 @@ kept_replaces t d r f n = go (t r.op)
     go : (b : Bool) → is_mentioned (cond b [] (hand d r ∷ [])) f n ≡ (not b && tells r f n)
     go true = refl
     go false = or_none (tells (hand d r) f n) ∙ handed_tells d r f n
+
+-- ---- while nothing is changed
+
+module _ (rs : List Record) (index : Index) (f : Fid) (a last : Option ℕ) (rising : IsRising rs) (covers : Covers index rs) (same : last ≡ last_number rs) where
+  pub read_next : (n : ℕ) → IsNext index f a last n → Step f a n rs
+  read_next n next = next_of rs (upto a rs) rs index f a rising (upto_passed a rs) (sym (both_parts a rs)) covers last same n next
+
+  pub read_none : NoneNext index f a last → IsQuiet f (beyond a rs)
+  read_none none = none_of rs (upto a rs) rs index f a rising (upto_passed a rs) (sym (both_parts a rs)) covers last same none
+
+pub read_split : (f : Fid) (a : Option ℕ) (n : ℕ) (rs : List Record) (s : Step f a n rs) → rs ≡ (upto a rs ++ s.between) ++ s.found ∷ beyond (Some n) rs
+read_split f a n rs s = sym (both_parts a rs) ∙ ap (λ l. upto a rs ++ l) s.rest ∙ sym (append_assoc (upto a rs) s.between (s.found ∷ beyond (Some n) rs))
+
+pub read_numbered : (f : Fid) (a : Option ℕ) (n : ℕ) (rs : List Record) (s : Step f a n rs) → is_numbered n rs ≡ true
+read_numbered f a n rs s = ap (is_numbered n) (read_split f a n rs s) ∙ numbered_at (upto a rs ++ s.between) s.found (beyond (Some n) rs) n s.is

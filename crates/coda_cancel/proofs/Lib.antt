@@ -4,6 +4,8 @@ pub mod Between
 pub mod Walks
 pub mod Quiet
 pub mod Indexed
+pub mod Undone
+pub mod Leaves
 pub mod Places
 pub mod Debts
 pub mod Passing

@@ -170,3 +170,10 @@ module _ (o : Op) (f : Fid) (own : object (carried o) ≡ f) (owed : Option Sid)
       go : (b : Bool) → b ≡ (b && true)
       go true = refl
       go false = refl
+
+-- ---- one step of taking out
+
+pub without_step : (f : Fid) (front between : List Record) (found : Record) → IsQuiet f between → mentioning f found.op ≡ true → without f (front ++ (between ++ found ∷ [])) ≡ without f front ++ between
+without_step f front between found quiet told =
+    without-append f front (between ++ found ∷ [])
+    ∙ ap (λ l. without f front ++ l) (without-append f between (found ∷ []) ∙ (λ i. without_quiet f between quiet i ++ cond (told i) [] (found ∷ [])) ∙ append-nil between)

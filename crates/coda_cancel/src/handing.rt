@@ -10,8 +10,9 @@ ghost use Rattle.coda_cancel.specs.Passing.{owed_to};
 ghost use Rattle.coda_cancel.specs.Shelved.{is_numbered, AtNumber};
 
 use crate::dropping::drops;
-use crate::mentions::{Mention, forget, next_mention};
+use crate::mentions::{Mention, next_mention};
 use crate::shelf::Shelf;
+use crate::undoing::take_one;
 use coda_fid::{Fid, Op, Over, Record, Sid};
 use std::collections::BTreeSet;
 
@@ -73,8 +74,7 @@ fn pass(
         return owed;
     };
     if drops(op, &record.op) {
-        let record = shelf.take(number);
-        forget(index, &record);
+        take_one(shelf, index, number);
         return Some(owed.unwrap_or(pre));
     }
     shelf.pay(number, fid, owed);

@@ -57,14 +57,12 @@ impl<'a> Records<'a> {
         ensures none { IfNone result (self.old ≡ []) }
         ensures end { IfNone result (self.new ≡ []) }
     {
-        while let [slot, rest @ ..] = self.slots {
-            self.slots = rest;
-            if let Slot::Kept(record) = slot {
-                self.count -= 1;
-                return Some(record);
-            }
+        let (first, rest) = first_in(self.slots);
+        self.slots = rest;
+        if first.is_some() {
+            self.count -= 1;
         }
-        None
+        first
     }
 
     /// The same records, in memory of their own.
@@ -73,4 +71,19 @@ impl<'a> Records<'a> {
     {
         copies(alloc, self.slots)
     }
+}
+
+// The first record that stands in places, and the places behind it.
+fn first_in(slots: &[Slot]) -> (Option<&Record>, &[Slot])
+    ensures some { IfSome result.0 (λ rec. kept_in slots.now ≡ rec.now ∷ kept_in result.1.now) }
+    ensures none { IfNone result.0 ((kept_in slots.now ≡ []) × (kept_in result.1.now ≡ [])) }
+{
+    let mut rest = slots;
+    while let [slot, behind @ ..] = rest {
+        rest = behind;
+        if let Slot::Kept(record) = slot {
+            return (Some(record), rest);
+        }
+    }
+    (None, rest)
 }

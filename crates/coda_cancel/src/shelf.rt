@@ -1,5 +1,5 @@
 // Records in the order of their numbers, found by these.
-ghost use Rattle.std.specs.Prelude.{◌≡◌, ◌≤◌, ◌<◌, ◌+◌, true, List, [], ◌∷◌, ◌++◌, Some, length, take, drop, map, not, IfOk, OnOk, OnErr, IfSome, IsSome};
+ghost use Rattle.std.specs.Prelude.{◌≡◌, ◌≤◌, ◌<◌, ◌+◌, ◌^◌, true, List, [], ◌∷◌, ◌++◌, Some, length, take, drop, map, not, IfOk, OnOk, OnErr, IfSome, IsSome};
 ghost use Rattle.std.specs.Vec.{vec_len, vec_capacity};
 ghost use Rattle.coda_fid.specs.declared.op.Record.{Record};
 ghost use Rattle.coda_cancel.specs.declared.shelf.Slot.{Slot};
@@ -274,6 +274,7 @@ impl Shelf {
         requires { is_numbered number self.now.records ≡ true }
         ensures record { AtNumber number self.now.records (λ front rec back. result.now ≡ rec) }
         ensures rising { IsRising self.now.records }
+        ensures few { length self.now.records < 2 ^ 64 }
     {
         self.slots[position(&self.slots, number)].record().unwrap()
     }

@@ -1,7 +1,9 @@
 // Creations that are undone.
-ghost use Rattle.std.specs.Prelude.{◌≡◌, ◌≤◌};
+ghost use Rattle.std.specs.Prelude.{◌≡◌, ◌≤◌, true, ◌++◌};
 ghost use Rattle.coda_cancel.specs.Cancel.{is_undone, cancels, without};
-ghost use Rattle.coda_cancel.specs.Mentions.{Covers, CoversUpTo, IsSameBeyond, last_number};
+ghost use Rattle.coda_cancel.specs.Mentions.{has, tells, Covers, CoversUpTo, IsSameBeyond, Loses, last_number};
+ghost use Rattle.coda_cancel.specs.Numbers.{IsRising};
+ghost use Rattle.coda_cancel.specs.Shelved.{is_numbered, AtNumber};
 
 use crate::dropping::{creates, writes};
 use crate::mentions::{Mention, forget, next_mention};
@@ -42,6 +44,18 @@ pub fn cancels(shelf: &Shelf, index: &BTreeSet<Mention>, op: &Op) -> bool
     }
 }
 
+/// Takes out the record of a number that is there.
+pub fn take_one(shelf: &mut Shelf, index: &mut BTreeSet<Mention>, number: u64)
+    requires { is_numbered number shelf.old.records ≡ true }
+    ensures records { AtNumber number shelf.old.records (λ front rec back. shelf.new.records ≡ front ++ back) }
+    ensures index { AtNumber number shelf.old.records (λ front rec back. Loses (has index.old) (has index.new) (tells rec)) }
+    ensures rising { IsRising shelf.new.records }
+    ensures room { shelf.old.room ≤ shelf.new.room }
+{
+    let record = shelf.take(number);
+    forget(index, &record);
+}
+
 /// Takes out what mentions the object.
 pub fn take_out(shelf: &mut Shelf, index: &mut BTreeSet<Mention>, fid: Fid)
     requires { Covers index.old shelf.old.records }
@@ -53,8 +67,7 @@ pub fn take_out(shelf: &mut Shelf, index: &mut BTreeSet<Mention>, fid: Fid)
     let last = shelf.last();
     let mut after = None;
     while let Some(number) = next_mention(index, fid, after, last) {
-        let record = shelf.take(number);
-        forget(index, &record);
+        take_one(shelf, index, number);
         after = Some(number);
     }
 }

@@ -1,9 +1,9 @@
-use Rattle.std.proofs.Common.{◌≡◌, ◌∙◌, true, ap, sym, subst}
+use Rattle.std.proofs.Common.{◌≡◌, ◌∙◌, true, ap, sym, subst, arith, length}
 use Rattle.std.specs.Option.{IfSome}
 use Rattle.coda_cancel.specs.Numbers.{IsRising}
 use Rattle.coda_cancel.specs.Shelved.{Shelved, is_numbered}
 use Rattle.coda_cancel.specs.declared.shelf.Slot.TheVariants.{Kept}
-use Rattle.coda_cancel.proofs.Places.{IsPlaceOf, found_here, found_kept, kept_in_rises}
+use Rattle.coda_cancel.proofs.Places.{IsPlaceOf, found_here, found_kept, kept_in_rises, fewer_kept}
 use Rattle.coda_cancel.proofs.shelf.Shelf.at.Goals as goal
 
 pub record-requires : goal.record-requires
@@ -21,3 +21,10 @@ returns-clause-record c front rec back e is =
 
 pub returns-clause-rising : goal.returns-clause-rising
 returns-clause-rising c = subst (λ (s : Shelved). IsRising s.records) c.self.view_is (kept_in_rises c.self.inside.slots.items c.self.invariant.rising)
+
+pub returns-clause-few : goal.returns-clause-few
+returns-clause-few c =
+    let few = fewer_kept c.self.inside.slots.items in
+    let same = ap (λ (s : Shelved). length s.records) c.self.view_is in
+    let small = c.self.inside.slots.small in
+    omega (arith, few, same, small)
