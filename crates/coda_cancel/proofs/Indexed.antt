@@ -93,11 +93,11 @@ agree true false f g = sym (f refl)
 agree false true f g = g refl
 agree false false f g = refl
 
-told_number : (r : Record) (f : Fid) (n : ℕ) → tells r f n ≡ true → r.number ≡ n
+pub told_number : (r : Record) (f : Fid) (n : ℕ) → tells r f n ≡ true → r.number ≡ n
 told_number r f n h = eqb-true r.number n (and_parts (r.number == n) (mentioning f r.op) h).0
 
 -- no other record of rising ones has its number
-front_silent : (front : List Record) (rec : Record) (back : List Record) (f : Fid) → IsRising (front ++ rec ∷ back) → is_mentioned front f rec.number ≡ false
+pub front_silent : (front : List Record) (rec : Record) (back : List Record) (f : Fid) → IsRising (front ++ rec ∷ back) → is_mentioned front f rec.number ≡ false
 front_silent front rec back f rising = below_silent rec.number front (rising_before front rec back rising).1
   where
     below_silent : (n : ℕ) (rs : List Record) → AreBelow n rs → is_mentioned rs f n ≡ false
@@ -108,7 +108,7 @@ front_silent front rec back f rising = below_silent rec.number front (rising_bef
         or_no true y f g e = f refl
         or_no false y f g e = g e
 
-back_silent : (front : List Record) (rec : Record) (back : List Record) (f : Fid) → IsRising (front ++ rec ∷ back) → is_mentioned back f rec.number ≡ false
+pub back_silent : (front : List Record) (rec : Record) (back : List Record) (f : Fid) → IsRising (front ++ rec ∷ back) → is_mentioned back f rec.number ≡ false
 back_silent front rec back f rising = above_silent rec.number back f (rising_behind front (rec ∷ back) rising).0
 
 -- what stands in the record's place now mentions what it does, unless it was dropped

@@ -6,6 +6,8 @@ pub mod Quiet
 pub mod Indexed
 pub mod Undone
 pub mod Leaves
+pub mod Entered
+pub mod Parts
 pub mod Places
 pub mod Debts
 pub mod Passing

@@ -1,11 +1,11 @@
 -- The index by objects and numbers: its order, and what each step does to it.
 use Rattle.std.proofs.Common.{◌≡◌, ℕ, ◌<◌, ◌≤◌, ◌+◌, Bool, true, false, not, cond, ◌&&◌, ◌||◌, ◌==◌, List, [], ◌∷◌, length, take, get_or, refl, ap, sym, ◌∙◌, arith, suc, zero, Result, Ok, Err}
-use Rattle.std.specs.Result.{OnErr, is_err}
+use Rattle.std.specs.Result.{OnErr, OnOk, is_err}
 use Rattle.std.specs.Ordering.{nat_cmp, eq_by_cmp, is_eq}
 use Rattle.std.specs.Cmp.{IsTotalOrder, Equal-is, tied_itself}
 use Rattle.std.specs.BTreeSet as sorted
 use Rattle.std.specs.BTreeSet.{BTreeSet}
-use Rattle.std.proofs.lemmas.Bool.{and_parts, and_from, and_right, or_right, eqb-true, eq-eqb, false≢true}
+use Rattle.std.proofs.lemmas.Bool.{and_parts, and_from, and_right, or_right, eqb-true, eq-eqb, false≢true, true≢false}
 use Rattle.std.proofs.lemmas.Cmp.{then_total, on_total, nat_cmp_total}
 use Rattle.std.proofs.lemmas.Map.Lookups.{CmpEqualImpliesEq, exact_pairs, exact_unsigned}
 use Rattle.std.proofs.lemmas.List.Folds.{list_any_more}
@@ -160,3 +160,7 @@ err_at (Err e) _ h = h
 
 pub undone_told : (old s n : In) (rec : Record) (fids : List Fid) → ((g : Fid) → names fids g ≡ mentioning g rec.op) → ((g : Fid) → old g rec.number ≡ false) → IsSameElse old s (with_number rec.number fids) → Loses s n (with_number rec.number fids) → IsSame old n
 undone_told old s n rec fids h fresh same loses = undone old s n rec.number fids fresh same loses
+
+pub ok_at : {T E : Type 0} {P : Type 0} (r : Result T E) → is_err r ≡ false → OnOk r P → P
+ok_at (Ok x) e h = h
+ok_at (Err e) h k = absurd (true≢false h)

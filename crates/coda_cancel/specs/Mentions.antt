@@ -1,6 +1,6 @@
 -- Which records mention an object: an index by objects and numbers.
 use Rattle.std.specs.Prelude.{◌≡◌, ℕ, ◌==◌, Bool, true, false, not, ◌&&◌, ◌||◌, nat_le, nat_lt, ◌≤◌, ◌<◌, Option, Some, None, List, [], ◌∷◌}
-use Rattle.std.specs.List.{list_any, Contains}
+use Rattle.std.specs.List.{list_any}
 use Rattle.std.specs.Ordering.{nat_cmp, ordering_then}
 use Rattle.std.specs.declared.cmp.Ordering.{Ordering}
 use Rattle.std.specs.BTreeSet.{BTreeSet, contains}
@@ -9,6 +9,7 @@ use Rattle.coda_fid.specs.declared.op.Record.{Record}
 use Rattle.coda_fid.specs.Fid.{fid_cmp, same_fid}
 use Rattle.coda_cancel.specs.declared.mentions.Mention.{Mention}
 use Rattle.coda_cancel.specs.Dropping.{mentioning}
+use Rattle.coda_cancel.specs.Shelved.{is_numbered}
 
 -- an object that a record of the number mentions
 abbrev pub mention : Fid → ℕ → Mention
@@ -101,4 +102,4 @@ NoneBetween index fid from last = (number : ℕ) → from ≤ number → number 
 
 -- none of the numbers of these records is there
 abbrev pub AreFresh : (Fid → ℕ → Bool) → List Record → Type 0
-AreFresh old recs = (fid : Fid) (rec : Record) → Contains recs rec → old fid rec.number ≡ false
+AreFresh old recs = (fid : Fid) (number : ℕ) → is_numbered number recs ≡ true → old fid number ≡ false

@@ -96,6 +96,7 @@ pub fn drop_needless(
     ensures owed { owed_to fid result ≡ debt (drops op.now) nothing shelf.old.records }
     ensures indexed { CoversUpTo (last_number shelf.old.records) index.new shelf.new.records }
     ensures beyond { IsSameBeyond (last_number shelf.old.records) index.old index.new }
+    ensures rising { IsRising shelf.old.records }
     ensures room { shelf.old.room ≤ shelf.new.room }
 {
     let last = shelf.last();

@@ -1,6 +1,7 @@
 // Which records go where an operation is added.
-ghost use Rattle.std.specs.Prelude.{◌≡◌, ◌+◌, ◌<◌, ◌≤◌, ◌^◌, length, IfSome, IfNone};
+ghost use Rattle.std.specs.Prelude.{◌≡◌, ◌+◌, ◌<◌, ◌≤◌, ◌^◌, nat_le, length, IfSome, IfNone};
 ghost use Rattle.coda_fid.specs.Op.{carried};
+ghost use Rattle.coda_fid.specs.declared.op.Record.{Record};
 ghost use Rattle.coda_cancel.specs.Cancel.{object, cancels};
 ghost use Rattle.coda_cancel.specs.Mentions.{Covers};
 ghost use Rattle.coda_cancel.specs.Numbers.{dropped, least, numbers};
@@ -34,6 +35,24 @@ impl Leaving {
     {
         if self.cancelled { 0 } else { rec.weight() }
     }
+
+    /// Whether those left, so many, and the operation, unless it isn't put there, are so many at most.
+    pub(crate) fn are_few(&self, left: usize, count: usize) -> bool
+        ensures { (rec : Record) → result ≡ nat_le (left + length (new_last self.now.cancelled rec)) count }
+    {
+        if self.cancelled {
+            left <= count
+        } else {
+            left < count
+        }
+    }
+}
+
+/// Whether so much and some more weigh a limit at most.
+pub(crate) fn is_light(kept: u64, added: u64, weight: u64) -> bool
+    ensures { result ≡ nat_le (kept + added) weight }
+{
+    kept <= weight && added <= weight - kept
 }
 
 // The object for which an operation carries a version; one that no volume has where it carries none.
@@ -108,4 +127,15 @@ pub(crate) fn weigh(records: &[Record]) -> Option<u64>
         }
     }
     Some(total)
+}
+
+/// What records weigh together that weigh less than 2^64.
+pub(crate) fn weigh_light(records: &[Record]) -> u64
+    requires { total_weight records.now < 2 ^ 64 }
+    ensures { result ≡ total_weight records.now }
+{
+    match weigh(records) {
+        Some(weight) => weight,
+        None => 0,
+    }
 }

@@ -3,12 +3,12 @@ ghost use Rattle.coda_fid.specs.declared.op.Record.{Record};
 ghost use Rattle.coda_cancel.specs.Cancel.{add, added};
 ghost use Rattle.coda_cancel.specs.Numbers.{AreBelow, IsRising, dropped, least};
 ghost use Rattle.coda_cancel.specs.Joins.{joins_of};
-ghost use Rattle.coda_cancel.specs.Mentions.{has, is_mentioned, AreFresh, Gains, Loses};
+ghost use Rattle.coda_cancel.specs.Mentions.{has, is_mentioned, AreFresh, Gains, IsSame, Loses};
 ghost use Rattle.coda_cancel.specs.Weights.{fits, total_weight};
 
 use crate::Join;
 use crate::adding::{add_each, add_reserved};
-use crate::leaving::{leaving_with, weigh};
+use crate::leaving::{is_light, leaving_with, weigh, weigh_light};
 use crate::mentions::{Mention, forget, note};
 use crate::records::Records;
 use crate::shelf::Shelf;
@@ -110,7 +110,7 @@ impl Tail {
     {
         let front = self.shelf.take_front(count)?;
         forget_all(&mut self.index, &front);
-        self.weight -= weigh(&front).unwrap_or(0);
+        self.weight -= weigh_light(&front);
         Ok(front)
     }
 
@@ -163,7 +163,7 @@ impl Tail {
             return Err(AllocError);
         };
         let mut joins = Vec::with_capacity(self.alloc, self.shelf.len())?;
-        let mut index = self.index.clone()?;
+        let mut index = copy_index(&self.index)?;
         note_all(&mut index, earlier)?;
         let mut shelf = Shelf::of(self.alloc, earlier, self.shelf.len())?;
         let later = mem::replace(&mut self.shelf, Shelf::new(self.alloc)).into_records();
@@ -188,14 +188,11 @@ impl Tail {
     pub fn fits_after(&self, rec: &Record, count: usize, weight: u64) -> bool
         ensures { result ≡ fits count weight (add self.now rec.now) }
     {
+        let all = self.weight;
         let gone = leaving_with(&self.shelf, &self.index, &rec.op);
         let left = self.shelf.len() - gone.count;
-        let kept = self.weight - gone.weight;
-        if gone.cancelled {
-            left <= count && kept <= weight
-        } else {
-            left < count && kept <= weight && rec.weight() <= weight - kept
-        }
+        let kept = all - gone.weight;
+        gone.are_few(left, count) && is_light(kept, gone.added(rec), weight)
     }
 
     /// The same records, in memory of their own.
@@ -203,7 +200,7 @@ impl Tail {
         ensures { IfOk result (λ tail. tail ≡ self.now) }
     {
         let shelf = self.shelf.copy(self.alloc)?;
-        let index = self.index.clone()?;
+        let index = copy_index(&self.index)?;
         Ok(Tail {
             alloc: self.alloc,
             shelf,
@@ -211,6 +208,13 @@ impl Tail {
             weight: self.weight,
         })
     }
+}
+
+// The same index, in memory of its own.
+fn copy_index(index: &BTreeSet<Mention>) -> Result<BTreeSet<Mention>, AllocError>
+    ensures { IfOk result (λ copy. IsSame (has index.now) (has copy)) }
+{
+    index.clone()
 }
 
 // Puts in what records mention whose numbers aren't there, until memory is wanted.

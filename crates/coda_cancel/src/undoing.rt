@@ -62,6 +62,7 @@ pub fn take_out(shelf: &mut Shelf, index: &mut BTreeSet<Mention>, fid: Fid)
     ensures records { shelf.new.records ≡ without fid shelf.old.records }
     ensures indexed { CoversUpTo (last_number shelf.old.records) index.new shelf.new.records }
     ensures beyond { IsSameBeyond (last_number shelf.old.records) index.old index.new }
+    ensures rising { IsRising shelf.old.records }
     ensures room { shelf.old.room ≤ shelf.new.room }
 {
     let last = shelf.last();
