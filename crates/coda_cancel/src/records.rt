@@ -1,4 +1,4 @@
-ghost use Rattle.std.specs.Prelude.{◌≡◌, ◌↔◌, IsTrue, [], ◌∷◌, length, IfOk, IfSome, IfNone};
+ghost use Rattle.std.specs.Prelude.{◌≡◌, ◌↔◌, IsTrue, [], ◌∷◌, drop, length, IfOk, IfSome, IfNone};
 ghost use Rattle.coda_cancel.specs.Slots.{kept_in};
 
 use crate::shelf::{Slot, copies};
@@ -49,6 +49,14 @@ impl<'a> Records<'a> {
         ensures { IsTrue result ↔ (self.now ≡ []) }
     {
         self.count == 0
+    }
+
+    /// The first record.
+    pub fn first(&self) -> Option<&'a Record>
+        ensures some { IfSome result (λ rec. self.now ≡ rec.now ∷ drop 1 self.now) }
+        ensures none { IfNone result (self.now ≡ []) }
+    {
+        first_in(self.slots).0
     }
 
     /// The first record, which is left out from then on.
