@@ -1,17 +1,16 @@
 -- What stands in the index between two numbers of one object.
-use Rattle.std.proofs.Common.{◌≡◌, ℕ, ◌<◌, ◌≤◌, Bool, true, false, not, ◌&&◌, List, [], ◌∷◌, refl, ap, sym, ◌∙◌, subst, arith}
+use Rattle.std.proofs.Common.{◌≡◌, ℕ, ◌≤◌, true, false, List, [], ◌∷◌, refl, ap, sym, ◌∙◌, subst, arith}
 use Rattle.std.specs.Option.{IfSome}
 use Rattle.std.specs.Prelude.{IsTrue, slice_get}
 use Rattle.std.specs.Ordering.{nat_cmp, is_gt, ordering_then, ordering_reverse}
-use Rattle.std.specs.declared.cmp.Ordering.{Ordering}
 use Rattle.std.specs.declared.cmp.Ordering.TheVariants.{Less, Equal, Greater}
 use Rattle.std.specs.declared.ops.Bound.TheVariants.{Included}
-use Rattle.std.specs.BTreeMap.Range.{IsInRange, IsLeBy}
+use Rattle.std.specs.BTreeMap.Range.{IsLeBy}
 use Rattle.std.specs.BTreeSet.{BTreeSet, IsKeyRangeOf}
 use Rattle.std.proofs.lemmas.Cmp.{tied_itself}
 use Rattle.std.proofs.lemmas.Map.Keys.{le_from_not_gt}
 use Rattle.std.proofs.lemmas.Bool.Decides.{nat_tests}
-use Rattle.std.proofs.lemmas.Bool.{false≢true, true≢false, false_from_ne_true}
+use Rattle.std.proofs.lemmas.Bool.{true≢false, false_from_ne_true}
 use Rattle.coda_fid.specs.Fid.{fid_cmp}
 use Rattle.coda_fid.specs.declared.fid.Fid.{Fid}
 use Rattle.coda_fid.proofs.Fids.{fids_total, exact_fids}
@@ -54,8 +53,7 @@ pub first_found : (s : BTreeSet Mention) (f : Fid) (from last : ℕ) (first : Me
 first_found s f from last first rest found range is =
     let here = subst (λ l. IfSome (slice_get l 0) (λ k. (IsLeBy mention_cmp (mention f from) k × IsLeBy mention_cmp k (mention f last)) × IsTrue (has s k.fid k.number))) is range.1 in
     let same : f ≡ first.fid = same_object f from last first here.0.0 here.0.1 in
-    let one : first ≡ mention f first.number = λ i. mention (sym same i) first.number in
-    (
+    let one : first ≡ mention f first.number = λ i. mention (sym same i) first.number in (
       le_own f from first.number (subst (λ (m : Mention). IsLeBy mention_cmp (mention f from) m) one here.0.0),
       le_own f first.number last (subst (λ (m : Mention). IsLeBy mention_cmp m (mention f last)) one here.0.1),
       subst (λ g. has s g first.number ≡ true) (sym same) here.1,

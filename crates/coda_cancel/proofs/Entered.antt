@@ -1,22 +1,20 @@
 -- An operation that the index knows already is added: what the index says then, and what the records weigh.
-use Rattle.std.proofs.Common.{◌≡◌, ℕ, ◌+◌, ◌-◌, ◌<◌, ◌≤◌, ◌^◌, Bool, true, false, cond, not, ◌&&◌, ◌||◌, ◌==◌, List, [], ◌∷◌, ◌++◌, Option, Some, None, length, length-append, refl, sym, ap, ◌∙◌, subst, arith}
+use Rattle.std.proofs.Common.{◌≡◌, ℕ, ◌+◌, ◌-◌, ◌<◌, ◌≤◌, Bool, true, false, cond, not, ◌&&◌, ◌||◌, List, [], ◌∷◌, ◌++◌, Some, length, length-append, refl, sym, ap, ◌∙◌, arith}
 use Rattle.std.specs.BTreeSet.{BTreeSet}
-use Rattle.std.proofs.lemmas.Bool.{leb-true, leb-false, le-leb, true≢false, false≢true, and_right}
-use Rattle.std.proofs.lemmas.List.{append-nil, append_assoc}
+use Rattle.std.proofs.lemmas.Bool.{leb-true, leb-false, le-leb, false≢true, and_right}
 use Rattle.coda_fid.specs.declared.fid.Fid.{Fid}
-use Rattle.coda_fid.specs.declared.op.Op.{Op}
 use Rattle.coda_fid.specs.declared.op.Record.{Record}
 use Rattle.coda_fid.specs.Op.{carried, weight_of}
 use Rattle.coda_cancel.specs.declared.mentions.Mention.{Mention}
 use Rattle.coda_cancel.specs.Dropping.{mentioning, drops}
-use Rattle.coda_cancel.specs.Cancel.{cancels, object, add, added}
-use Rattle.coda_cancel.specs.Numbers.{AreAbove, AreBelow, AreUpTo, IsRising, numbers, dropped, least}
+use Rattle.coda_cancel.specs.Cancel.{cancels, object, add}
+use Rattle.coda_cancel.specs.Numbers.{AreAbove, AreBelow, AreUpTo, IsRising, numbers, dropped}
 use Rattle.coda_cancel.specs.Mentions.{has, tells, is_mentioned, is_upto, last_number, IsIndexOf, Covers, CoversUpTo, IsSameBeyond, Loses, Gains}
 use Rattle.coda_cancel.specs.Passing.{goes, undropped, new_last}
 use Rattle.coda_cancel.specs.Weights.{total_weight}
 use Rattle.coda_cancel.proofs.Rising.{rising_before, rising_behind, upto_add}
 use Rattle.coda_cancel.proofs.Sizes.{size_after, total-append}
-use Rattle.coda_cancel.proofs.Walks.{AllUpTo, passed_silent, mentioned-append, last_reaches, above_silent}
+use Rattle.coda_cancel.proofs.Walks.{AllUpTo, passed_silent, mentioned-append, last_reaches}
 use Rattle.coda_cancel.proofs.Indexed.{told_number}
 
 abbrev Index : Type 0

@@ -1,24 +1,22 @@
 -- The index while records go: what it says of the records that are left.
-use Rattle.std.proofs.Common.{◌≡◌, ℕ, ◌<◌, ◌≤◌, Bool, true, false, cond, not, ◌&&◌, ◌||◌, ◌==◌, List, [], ◌∷◌, ◌++◌, Option, Some, None, refl, sym, ap, ◌∙◌, subst, arith}
-use Rattle.std.proofs.lemmas.Bool.{and_parts, and_right, eqb-true, eq-eqb, true≢false, false≢true, leb-true, le-leb, lt-leb, ltb-true, lt-ltb}
-use Rattle.std.proofs.lemmas.Bool.Decides.{nat_tests}
+use Rattle.std.proofs.Common.{◌≡◌, ℕ, ◌<◌, Bool, true, false, cond, not, ◌&&◌, ◌||◌, ◌==◌, List, [], ◌∷◌, ◌++◌, Option, Some, None, refl, sym, ap, ◌∙◌, subst, arith}
+use Rattle.std.proofs.lemmas.Bool.{and_parts, and_right, eqb-true, eq-eqb, true≢false, false≢true, leb-true, le-leb, lt-ltb}
 use Rattle.std.specs.BTreeSet.{BTreeSet}
-use Rattle.std.specs.List.{list_any}
-use Rattle.std.proofs.lemmas.List.{append-nil, append_assoc}
+use Rattle.std.proofs.lemmas.List.{append_assoc}
 use Rattle.coda_fid.specs.declared.fid.Fid.{Fid}
 use Rattle.coda_fid.specs.declared.op.Op.{Op}
 use Rattle.coda_fid.specs.declared.op.Record.{Record}
 use Rattle.coda_fid.specs.Op.{carried}
 use Rattle.coda_cancel.specs.declared.mentions.Mention.{Mention}
-use Rattle.coda_cancel.specs.Handing.{Debt, owe, paid, hand, with_pre, sid_or}
+use Rattle.coda_cancel.specs.Handing.{Debt, owe, paid, hand, sid_or}
 use Rattle.coda_cancel.specs.Dropping.{mentioning}
 use Rattle.coda_cancel.specs.Cancel.{kept, without}
-use Rattle.coda_cancel.specs.Numbers.{AreAbove, AreBelow, IsRising}
-use Rattle.coda_cancel.specs.Mentions.{has, tells, is_mentioned, is_upto, last_number, IsIndexOf, Covers, CoversUpTo, IsSameBeyond, Loses, IsNext, NoneNext}
+use Rattle.coda_cancel.specs.Numbers.{AreBelow, IsRising}
+use Rattle.coda_cancel.specs.Mentions.{has, tells, is_mentioned, is_upto, last_number, Covers, CoversUpTo, IsSameBeyond, Loses, IsNext, NoneNext}
 use Rattle.coda_cancel.specs.Shelved.{is_numbered}
 use Rattle.coda_cancel.proofs.Debts.{mentioning-with_pre}
-use Rattle.coda_cancel.proofs.Rising.{rising_before, rising_behind, above_more}
-use Rattle.coda_cancel.proofs.Walks.{upto, beyond, both_parts, AllUpTo, AllAfter, upto_passed, IsQuiet, Step, step, end_quiet, passed_silent, above_silent, mentioned-append, last_reaches, reached_below}
+use Rattle.coda_cancel.proofs.Rising.{rising_before, rising_behind}
+use Rattle.coda_cancel.proofs.Walks.{upto, beyond, both_parts, AllUpTo, upto_passed, IsQuiet, Step, step, end_quiet, passed_silent, above_silent, mentioned-append}
 
 abbrev Index : Type 0
 Index = BTreeSet Mention

@@ -1,7 +1,7 @@
 -- The index of a list's front and of the others.
 use Rattle.std.proofs.Common.{◌≡◌, ℕ, suc, ◌+◌, ◌<◌, Bool, true, false, not, ◌&&◌, ◌||◌, ◌==◌, List, [], ◌∷◌, ◌++◌, length, take, drop, get_or, refl, sym, ap, ◌∙◌, subst}
 use Rattle.std.specs.BTreeSet.{BTreeSet}
-use Rattle.std.proofs.lemmas.Bool.{true≢false, false≢true, and_parts, and_right}
+use Rattle.std.proofs.lemmas.Bool.{true≢false, false≢true}
 use Rattle.std.proofs.lemmas.List.{append_assoc, take_more, take-append-drop}
 use Rattle.std.proofs.Common.{drop-cons}
 use Rattle.coda_fid.specs.declared.fid.Fid.{Fid}

@@ -1,6 +1,6 @@
 -- Places for records: what is kept in them, and their numbers.
-use Rattle.std.proofs.Common.{◌≡◌, ℕ, suc, zero, ◌+◌, ◌-◌, ◌<◌, ◌≤◌, Bool, true, false, cond, not, ◌||◌, List, [], ◌∷◌, ◌++◌, map, Option, Some, None, length, take, drop, get_or, set, refl, sym, ap, ◌∙◌, subst, arith, inl, inr, ◌⊎◌}
-use Rattle.std.specs.List.{filter, list_any}
+use Rattle.std.proofs.Common.{◌≡◌, ℕ, suc, zero, ◌+◌, ◌-◌, ◌<◌, ◌≤◌, Bool, true, false, cond, ◌||◌, List, [], ◌∷◌, ◌++◌, map, Option, Some, None, length, take, drop, get_or, set, refl, sym, ap, ◌∙◌, subst, arith, inl, inr, ◌⊎◌}
+use Rattle.std.specs.List.{filter}
 use Rattle.std.specs.Prelude.{◌==◌, slice_get, option_map}
 use Rattle.std.proofs.lemmas.Bool.{eqb-true, true≢false, false≢true, cases_lt, cases_order}
 use Rattle.std.proofs.lemmas.List.{append-nil, take_more, take-append-drop}
@@ -11,7 +11,7 @@ use Rattle.coda_cancel.specs.declared.shelf.Slot.TheVariants.{Gone, Kept}
 use Rattle.coda_cancel.specs.Mentions.{last_number}
 use Rattle.coda_cancel.specs.Numbers.{AreAbove, AreBelow, IsRising}
 use Rattle.coda_cancel.specs.Shelved.{is_numbered}
-use Rattle.coda_cancel.specs.Slots.{number_of, is_kept, record_of, put_slot, kept_in, AreSlotsAbove, DoSlotsRise, is_last_kept}
+use Rattle.coda_cancel.specs.Slots.{number_of, is_kept, put_slot, kept_in, AreSlotsAbove, DoSlotsRise, is_last_kept}
 
 put_append : (s : Slot) (rs os : List Record) → put_slot s (rs ++ os) ≡ put_slot s rs ++ os
 put_append (Gone n) rs os = refl

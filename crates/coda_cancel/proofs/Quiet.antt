@@ -1,24 +1,21 @@
 -- Records that don't mention an object stay as they are where an operation on it is added.
-use Rattle.std.proofs.Common.{◌≡◌, ℕ, ◌+◌, ◌<◌, Bool, true, false, cond, ◌||◌, ◌&&◌, not, List, [], ◌∷◌, ◌++◌, Option, Some, None, length, refl, sym, ap, ◌∙◌, subst, arith}
-use Rattle.std.specs.List.{list_any}
+use Rattle.std.proofs.Common.{◌≡◌, Bool, true, false, cond, ◌||◌, ◌&&◌, not, List, [], ◌∷◌, ◌++◌, Option, Some, None, refl, sym, ap, ◌∙◌, subst}
 use Rattle.std.proofs.lemmas.Bool.{true≢false, false≢true, false_from_ne_true, and_left}
 use Rattle.std.proofs.lemmas.List.{append-nil, append_assoc}
 use Rattle.coda_fid.specs.declared.fid.Fid.{Fid}
 use Rattle.coda_fid.specs.declared.fid.Sid.{Sid}
-use Rattle.coda_fid.specs.declared.op.Over.{Over}
 use Rattle.coda_fid.specs.declared.op.Op.{Op}
 use Rattle.coda_fid.specs.declared.op.Op.TheVariants.{Create, Mkdir, Symlink, Store, Setattr, Remove, Rmdir, Rename}
 use Rattle.coda_fid.specs.declared.op.Record.{Record}
 use Rattle.coda_fid.specs.Fid.{same_fid}
 use Rattle.coda_fid.specs.Op.{carried, pre_of}
-use Rattle.coda_cancel.specs.Handing.{Debt, nothing, owe, paid, hand, with_pre, sid_or}
+use Rattle.coda_cancel.specs.Handing.{nothing, owe, paid, hand, with_pre, sid_or}
 use Rattle.coda_cancel.specs.Dropping.{drops, mentioning, creates, writes}
-use Rattle.coda_cancel.specs.Cancel.{object, kept, debt, without, others, is_other}
+use Rattle.coda_cancel.specs.Cancel.{object, kept, debt, without, others}
 use Rattle.coda_cancel.specs.Numbers.{numbers}
 use Rattle.coda_cancel.specs.Passing.{owed_to, goes, undropped}
-use Rattle.coda_cancel.specs.Weights.{total_weight}
-use Rattle.coda_cancel.proofs.Debts.{with_pre_same, kept-append, debt-append}
-use Rattle.coda_cancel.proofs.Keys.{fid_true, fid_same, fid_false, over_is}
+use Rattle.coda_cancel.proofs.Debts.{kept-append, debt-append}
+use Rattle.coda_cancel.proofs.Keys.{over_is}
 use Rattle.coda_cancel.proofs.Passing.{dropped_carries, elsewhere, not_carried}
 use Rattle.coda_cancel.proofs.Walks.{IsQuiet}
 

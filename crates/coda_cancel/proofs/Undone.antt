@@ -1,9 +1,9 @@
 -- Creations that are undone: what each record of the object adds.
-use Rattle.std.proofs.Common.{◌≡◌, ℕ, Bool, true, false, cond, not, ◌&&◌, List, [], ◌∷◌, ◌++◌, Option, Some, refl, sym, ap, ◌∙◌}
+use Rattle.std.proofs.Common.{◌≡◌, ℕ, Bool, true, false, cond, not, ◌&&◌, List, [], ◌∷◌, Option, Some, refl, sym, ap, ◌∙◌}
 use Rattle.std.proofs.lemmas.List.{append-nil}
 use Rattle.coda_fid.specs.declared.fid.Fid.{Fid}
 use Rattle.coda_fid.specs.declared.op.Record.{Record}
-use Rattle.coda_cancel.specs.Dropping.{mentioning, creates, writes}
+use Rattle.coda_cancel.specs.Dropping.{creates, writes}
 use Rattle.coda_cancel.specs.Cancel.{others, is_true_alone}
 use Rattle.coda_cancel.proofs.Walks.{beyond, IsQuiet, Step}
 use Rattle.coda_cancel.proofs.Quiet.{others_quiet}

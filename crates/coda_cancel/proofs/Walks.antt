@@ -1,8 +1,6 @@
 -- Going over the records that mention an object, by their numbers: `upto` are those that were passed, `beyond` the others.
-use Rattle.std.proofs.Common.{◌≡◌, ℕ, ◌<◌, ◌≤◌, Bool, true, false, cond, not, ◌&&◌, ◌||◌, ◌==◌, List, [], ◌∷◌, ◌++◌, Option, Some, None, length, refl, sym, ap, ◌∙◌, subst, arith, inl, inr, ◌⊎◌}
-use Rattle.std.specs.Prelude.{nat_le}
-use Rattle.std.proofs.lemmas.Bool.{cases_order, le-leb, lt-leb, leb-true, leb-false, eq-eqb, eqb-true, ne_eqb, true≢false, false≢true, and_parts, and_left}
-use Rattle.std.proofs.lemmas.List.{append-nil, append_assoc}
+use Rattle.std.proofs.Common.{◌≡◌, ℕ, ◌<◌, ◌≤◌, Bool, true, false, cond, ◌&&◌, ◌||◌, ◌==◌, List, [], ◌∷◌, ◌++◌, Option, Some, None, length, refl, sym, ap, ◌∙◌, subst, arith, inl, inr, ◌⊎◌}
+use Rattle.std.proofs.lemmas.Bool.{cases_order, le-leb, lt-leb, leb-true, leb-false, eq-eqb, ne_eqb, true≢false, false≢true, and_parts, and_left}
 use Rattle.coda_fid.specs.declared.fid.Fid.{Fid}
 use Rattle.coda_fid.specs.declared.op.Record.{Record}
 use Rattle.coda_cancel.specs.Dropping.{mentioning}
@@ -158,11 +156,25 @@ ahead f a n (r ∷ rs) rising after there gap = go (cases_order r.number n) (ahe
     go (inl e) more =
         let above : AreAbove n rs = subst (λ m. AreAbove m rs) e rising.0 in
         let told : tells r f n ≡ true = sym (or_left (tells r f n) (is_mentioned rs f n) (above_silent n rs f above)) ∙ there in
-        let here : is_upto (Some n) r.number ≡ true = le-leb r.number n (omega (arith, e)) in
-        ([], (r, (tt, (e, ((and_parts (r.number == n) (mentioning f r.op) told).1, (
-          ap (λ b. cond b (r ∷ upto (Some n) rs) []) here ∙ ap (λ l. r ∷ l) (above_none n rs above),
-          ap (λ l. r ∷ l) (sym (above_all n rs above)) ∙ ap (λ b. r ∷ cond b (beyond (Some n) rs) (r ∷ rs)) (sym here),
-        ))))))
+        let here : is_upto (Some n) r.number ≡ true = le-leb r.number n (omega (arith, e)) in (
+          [],
+          (
+            r,
+            (
+              tt,
+              (
+                e,
+                (
+                  (and_parts (r.number == n) (mentioning f r.op) told).1,
+                  (
+                    ap (λ b. cond b (r ∷ upto (Some n) rs) []) here ∙ ap (λ l. r ∷ l) (above_none n rs above),
+                    ap (λ l. r ∷ l) (sym (above_all n rs above)) ∙ ap (λ b. r ∷ cond b (beyond (Some n) rs) (r ∷ rs)) (sym here),
+                  ),
+                ),
+              ),
+            ),
+          ),
+        )
       where
         or_left : (b d : Bool) → d ≡ false → (b || d) ≡ b
         or_left true d h = refl
@@ -172,11 +184,25 @@ ahead f a n (r ∷ rs) rising after there gap = go (cases_order r.number n) (ahe
         let quiet : mentioning f r.op ≡ false = sym (ap (λ b. b && mentioning f r.op) (eq-eqb r.number r.number refl)) ∙ own in
         let later : is_mentioned rs f n ≡ true = sym (ap (λ b. b || is_mentioned rs f n) (not_told r f n (λ e. absurd (omega (arith, e, l))))) ∙ there in
         let rest = more later (λ k h m. second_false (tells r f k) (is_mentioned rs f k) (gap k h m)) in
-        let here : is_upto (Some n) r.number ≡ true = le-leb r.number n (omega (arith, l)) in
-        (r ∷ rest.0, (rest.1.0, ((quiet, rest.1.1.0), (rest.1.1.1.0, (rest.1.1.1.1.0, (
-          ap (λ b. cond b (r ∷ upto (Some n) rs) []) here ∙ ap (λ l. r ∷ l) rest.1.1.1.1.1.0,
-          ap (λ l. r ∷ l) rest.1.1.1.1.1.1 ∙ ap (λ b. r ∷ (rest.0 ++ rest.1.0 ∷ cond b (beyond (Some n) rs) (r ∷ rs))) (sym here),
-        ))))))
+        let here : is_upto (Some n) r.number ≡ true = le-leb r.number n (omega (arith, l)) in (
+          r ∷ rest.0,
+          (
+            rest.1.0,
+            (
+              (quiet, rest.1.1.0),
+              (
+                rest.1.1.1.0,
+                (
+                  rest.1.1.1.1.0,
+                  (
+                    ap (λ b. cond b (r ∷ upto (Some n) rs) []) here ∙ ap (λ l. r ∷ l) rest.1.1.1.1.1.0,
+                    ap (λ l. r ∷ l) rest.1.1.1.1.1.1 ∙ ap (λ b. r ∷ (rest.0 ++ rest.1.0 ∷ cond b (beyond (Some n) rs) (r ∷ rs))) (sym here),
+                  ),
+                ),
+              ),
+            ),
+          ),
+        )
     go (inr (inr l)) more = absurd (true≢false (sym there ∙ silent l))
 
 pub step : (f : Fid) (a : Option ℕ) (n : ℕ) (rs : List Record) → IsRising rs → is_upto a n ≡ false → is_mentioned rs f n ≡ true → ((k : ℕ) → is_upto a k ≡ false → k < n → is_mentioned rs f k ≡ false) → Step f a n rs

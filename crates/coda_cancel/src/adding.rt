@@ -48,12 +48,7 @@ fn undo(shelf: &mut Shelf, index: &mut BTreeSet<Mention>, rec: &Record, fid: Fid
 
 /// Adds an operation that the index knows already, for which there is room; it was asked whether the operation
 /// undoes a creation. Wants no memory.
-pub fn add_reserved(
-    shelf: &mut Shelf,
-    index: &mut BTreeSet<Mention>,
-    rec: Record,
-    cancelled: bool,
-)
+pub fn add_reserved(shelf: &mut Shelf, index: &mut BTreeSet<Mention>, rec: Record, cancelled: bool)
     requires room { 0 < shelf.old.room }
     requires later { AreBelow rec.number shelf.old.records }
     requires indexed { CoversUpTo (Some rec.number) index.old (shelf.old.records ++ rec ∷ []) }

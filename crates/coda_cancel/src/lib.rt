@@ -3,15 +3,15 @@
 
 mod adding;
 mod dropping;
-mod leaving;
-mod mentions;
-mod records;
 mod handing;
 mod join;
+mod leaving;
+mod lent;
+mod mentions;
 mod shelf;
 mod tail;
 mod undoing;
 
 pub use join::Join;
-pub use records::Records;
+pub use lent::LentRecords;
 pub use tail::{AddFault, Tail};

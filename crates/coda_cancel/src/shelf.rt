@@ -12,7 +12,7 @@ ghost use Rattle.coda_cancel.specs.Shelved.{is_numbered, AtNumber};
 ghost use Rattle.coda_cancel.specs.Slots.{number_of, is_kept, record_of, kept_in, DoSlotsRise, is_last_kept};
 
 use crate::handing::pay;
-use crate::records::Records;
+use crate::lent::LentRecords;
 use coda_fid::{Fid, Record, Sid};
 use std::alloc::{AllocError, Global};
 use std::marker::Model;
@@ -332,11 +332,11 @@ impl Shelf {
     }
 
     /// The records, in the order of their numbers.
-    pub(crate) fn records(&self) -> Records<'_>
+    pub(crate) fn records(&self) -> LentRecords<'_>
         ensures same { result ≡ self.now.records }
         ensures rising { IsRising result }
     {
-        Records::of(&self.slots, self.count)
+        LentRecords::in_slots(&self.slots, self.count)
     }
 
     /// The records, in memory that was taken before.
@@ -345,7 +345,9 @@ impl Shelf {
         ensures rising { IsRising result.items }
     {
         let Shelf {
-            slots, mut spare, ..
+            slots,
+            mut spare,
+            ..
         } = self;
         empty(slots, &mut spare);
         spare
@@ -355,21 +357,21 @@ impl Shelf {
     pub(crate) fn copy(&self, alloc: Global) -> Result<Shelf, AllocError>
         ensures { IfOk result (λ shelf. shelf.records ≡ self.now.records) }
     {
-        let mut records = copies(alloc, &self.slots)?;
+        let mut records = Vec::new(alloc);
+        copy_kept(&mut records, &self.slots)?;
         Shelf::of(alloc, &mut records, 0)
     }
 }
 
-// The records that stand in places, in memory of their own.
-pub(crate) fn copies(alloc: Global, slots: &[Slot]) -> Result<Vec<Record>, AllocError>
-    ensures { IfOk result (λ copies. copies.items ≡ kept_in slots.now) }
+// Puts copies of the records that stand in places behind others.
+pub(crate) fn copy_kept(copies: &mut Vec<Record>, slots: &[Slot]) -> Result<(), AllocError>
+    ensures { OnOk result (copies.new.items ≡ copies.old.items ++ kept_in slots.now) }
 {
-    let mut copies = Vec::new(alloc);
     for slot in slots {
         if let Slot::Kept(record) = slot {
             let copy = record.copy()?;
             copies.push(copy)?;
         }
     }
-    Ok(copies)
+    Ok(())
 }

@@ -9,8 +9,8 @@ ghost use Rattle.coda_cancel.specs.Weights.{fits, total_weight};
 use crate::Join;
 use crate::adding::{add_each, add_reserved};
 use crate::leaving::{is_light, leaving_with, weigh, weigh_light};
+use crate::lent::LentRecords;
 use crate::mentions::{Mention, forget, note};
-use crate::records::Records;
 use crate::shelf::Shelf;
 use coda_fid::Record;
 use std::alloc::{AllocError, Global};
@@ -68,7 +68,7 @@ impl Tail {
     }
 
     /// The records, in the order of their numbers.
-    pub fn records(&self) -> Records<'_>
+    pub fn records(&self) -> LentRecords<'_>
         ensures same { result ≡ self.now }
         ensures rising { IsRising result }
     {

@@ -10,7 +10,7 @@ use crate::choosing::{chunk_length, too_young};
 use crate::chunk::Chunk;
 use crate::regrouping::{recount, regroup_last, rejoin, take_upto};
 use crate::{FreezeFault, Frozen, LogFault, Segment, SettleFault};
-use coda_cancel::{Join, Records, Tail};
+use coda_cancel::{Join, LentRecords, Tail};
 use coda_certify::Verdict;
 use coda_fid::Record;
 use std::alloc::{AllocError, Global};
@@ -113,7 +113,7 @@ impl Log {
     }
 
     /// The records of the chunk, and those of the tail, between which there may be gaps.
-    pub fn records(&self) -> (&[Record], Records<'_>)
+    pub fn records(&self) -> (&[Record], LentRecords<'_>)
         ensures chunk { result.0.now ≡ self.now.chunk }
         ensures tail { result.1 ≡ self.now.records }
     {
@@ -418,7 +418,7 @@ fn regroup_all(
     segments: &mut Vec<Segment>,
     later: &mut Vec<Segment>,
     joins: &[Join],
-    mut records: Records<'_>,
+    mut records: LentRecords<'_>,
 )
     requires { vec_len segments.old + vec_len later.old ≤ vec_capacity segments.old }
     ensures segments { segments.new.items ≡ recounted records.entry (rejoined (is_inside joins.now) (segments.old.items ++ later.old.items)) }

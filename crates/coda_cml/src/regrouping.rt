@@ -8,7 +8,7 @@ ghost use Rattle.coda_cml.specs.LastSegment.{ended_before, reaching, all_joined,
 ghost use Rattle.coda_cml.specs.Regrouping.{is_inside, widened, rejoined, leading, recounted};
 
 use crate::Segment;
-use coda_cancel::{Join, Records};
+use coda_cancel::{Join, LentRecords};
 
 // Whether an operation above the number dropped a record up to it.
 fn is_inside(joins: &[Join], number: u64) -> bool
@@ -110,7 +110,7 @@ pub fn rejoin(segments: &mut Vec<Segment>, joins: &[Join])
 }
 
 /// Leaves out the records in front of the first with a greater number, and answers how many these are.
-pub fn take_upto(records: &mut Records<'_>, number: u64) -> usize
+pub fn take_upto(records: &mut LentRecords<'_>, number: u64) -> usize
     ensures count { result ≡ leading number records.old }
     ensures rest { records.new ≡ drop (leading number records.old) records.old }
     ensures within { result ≤ length records.old }
@@ -128,7 +128,7 @@ pub fn take_upto(records: &mut Records<'_>, number: u64) -> usize
 }
 
 /// Counts the records of each segment.
-pub fn recount(segments: &mut [Segment], records: &mut Records<'_>)
+pub fn recount(segments: &mut [Segment], records: &mut LentRecords<'_>)
     ensures { segments.new ≡ recounted records.old segments.old }
 {
     for segment in segments.iter_mut() {

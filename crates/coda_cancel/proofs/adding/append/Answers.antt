@@ -1,7 +1,6 @@
-use Rattle.std.proofs.Common.{◌≡◌, ◌∷◌, ◌++◌, [], Some, sym, ap, ◌∙◌, subst}
+use Rattle.std.proofs.Common.{Some, sym, ap, ◌∙◌, subst}
 use Rattle.coda_cancel.specs.Dropping.{drops}
 use Rattle.coda_cancel.specs.Handing.{nothing}
-use Rattle.coda_cancel.specs.Cancel.{kept}
 use Rattle.coda_cancel.specs.Numbers.{AreBelow}
 use Rattle.coda_cancel.specs.Mentions.{CoversUpTo, last_number, tells}
 use Rattle.coda_cancel.specs.Passing.{owed_to}
@@ -25,7 +24,7 @@ returns-clause-indexed c =
     let within = subst (AllUpTo (last_number rs)) (sym c.drop_needless-owed.ensures.records) (kept_upto (last_number rs) (drops c.args.rec.op) nothing rs (last_reaches rs c.drop_needless-owed.ensures.rising)) in
     subst (CoversUpTo (Some c.args.rec.number) c.drop_needless-owed.new.index) (sym c.push.ensures.records)
     (put_behind_covers c.args.index.now rs c.args.rec c.requires.later c.requires.indexed c.drop_needless-owed.new.index c.drop_needless-owed.new.shelf.records within c.drop_needless-owed.ensures.rising c.drop_needless-owed.ensures.indexed c.drop_needless-owed.ensures.beyond
-      c.pay.new.rec (λ f n. ap (λ r. tells r f n) c.pay.ensures ∙ handed_tells (owed_to c.args.fid c.drop_needless-owed.result) c.args.rec f n))
+    c.pay.new.rec (λ f n. ap (λ r. tells r f n) c.pay.ensures ∙ handed_tells (owed_to c.args.fid c.drop_needless-owed.result) c.args.rec f n))
 
 pub returns-clause-beyond : goal.returns-clause-beyond
 returns-clause-beyond c =

@@ -1,9 +1,9 @@
-use Rattle.std.proofs.Common.{◌≡◌, ◌++◌, ◌∷◌, [], None, Some, sym, ap, ◌∙◌, subst, arith, refl}
+use Rattle.std.proofs.Common.{◌≡◌, ◌++◌, ◌∷◌, [], Some, sym, ap, ◌∙◌, subst, arith, refl}
 use Rattle.std.proofs.lemmas.List.{append_assoc}
 use Rattle.coda_cancel.specs.Cancel.{kept, debt}
 use Rattle.coda_cancel.specs.Dropping.{drops}
 use Rattle.coda_cancel.specs.Handing.{nothing}
-use Rattle.coda_cancel.specs.Mentions.{CoversUpTo, is_upto, last_number, IsNext}
+use Rattle.coda_cancel.specs.Mentions.{CoversUpTo, is_upto, last_number}
 use Rattle.coda_cancel.specs.Numbers.{IsRising}
 use Rattle.coda_cancel.specs.Passing.{owed_to}
 use Rattle.coda_cancel.specs.Shelved.{is_numbered}

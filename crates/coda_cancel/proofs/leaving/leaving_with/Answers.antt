@@ -1,4 +1,4 @@
-use Rattle.std.proofs.Common.{◌≡◌, ◌+◌, ◌≤◌, ◌++◌, ◌∷◌, [], Bool, true, false, None, Some, length, sym, ap, ◌∙◌, arith}
+use Rattle.std.proofs.Common.{◌≡◌, ◌+◌, ◌++◌, true, false, Some, length, sym, ap, ◌∙◌, arith}
 use Rattle.coda_fid.specs.Op.{weight_of}
 use Rattle.coda_cancel.specs.Numbers.{numbers, least}
 use Rattle.coda_cancel.specs.Passing.{goes, undropped}

@@ -1,6 +1,5 @@
-use Rattle.std.proofs.Common.{◌≡◌, ◌+◌, ◌≤◌, ◌^◌, take, ap, sym, ◌∙◌, arith}
+use Rattle.std.proofs.Common.{◌+◌, ap, arith}
 use Rattle.coda_fid.specs.Op.{weight_of}
-use Rattle.coda_cancel.specs.Weights.{total_weight}
 use Rattle.coda_cancel.proofs.Leaves.{total-more, total-front}
 use Rattle.coda_cancel.proofs.leaving.weigh.Goals as goal
 

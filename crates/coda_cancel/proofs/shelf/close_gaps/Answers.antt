@@ -1,5 +1,4 @@
 use Rattle.std.proofs.Common.{rules, sym, ap, ◌∙◌, subst}
-use Rattle.std.specs.List.{filter}
 use Rattle.std.proofs.lemmas.Fn.{filter_same}
 use Rattle.coda_cancel.specs.Slots.{kept_in, is_kept, is_last_kept, DoSlotsRise}
 use Rattle.coda_cancel.proofs.Places.{kept_in-closed, last_closed, rising_closed}

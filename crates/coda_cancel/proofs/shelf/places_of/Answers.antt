@@ -1,5 +1,5 @@
-use Rattle.std.proofs.Common.{◌≡◌, ◌+◌, ◌++◌, ◌∷◌, [], length, take, drop, length-append, sym, ap, ◌∙◌, subst, arith, true, false}
-use Rattle.coda_cancel.specs.Slots.{kept_in, is_kept}
+use Rattle.std.proofs.Common.{◌≡◌, ◌+◌, ◌++◌, ◌∷◌, [], length, take, length-append, sym, ap, ◌∙◌, arith, true, false}
+use Rattle.coda_cancel.specs.Slots.{kept_in}
 use Rattle.coda_cancel.proofs.Places.{first_places, other_places, kept_in-more, length_one}
 use Rattle.coda_cancel.proofs.shelf.places_of.Goals as goal
 use Rattle.coda_cancel.proofs.shelf.places_of.Goals.{then-is_kept, else-is_kept}

@@ -1,4 +1,4 @@
-use Rattle.std.proofs.Common.{◌≡◌, ◌+◌, ◌-◌, ◌/◌, ◌<◌, length, arith}
+use Rattle.std.proofs.Common.{◌+◌, ◌-◌, ◌/◌, ◌<◌, length, arith}
 use Rattle.coda_cancel.proofs.Places.{searched_below, searched_above}
 use Rattle.coda_cancel.proofs.shelf.position.Goals as goal
 

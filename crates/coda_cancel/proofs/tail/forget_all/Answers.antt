@@ -1,4 +1,4 @@
-use Rattle.std.proofs.Common.{sym, subst}
+use Rattle.std.proofs.Common.{subst}
 use Rattle.coda_cancel.specs.Mentions.{has, tells, Loses}
 use Rattle.coda_cancel.proofs.Parts.{forgotten_more}
 use Rattle.coda_cancel.proofs.tail.forget_all.Goals as goal

@@ -1,4 +1,4 @@
-use Rattle.std.proofs.Common.{◌≡◌, Bool, true, false, cond, not, ◌∷◌, ◌++◌, [], List, None, Some, sym, ap, ◌∙◌}
+use Rattle.std.proofs.Common.{◌≡◌, true, cond, not, ◌∷◌, ◌++◌, Some, sym, ap, ◌∙◌}
 use Rattle.coda_cancel.specs.Cancel.{is_true_alone, others, is_undone}
 use Rattle.coda_cancel.specs.Dropping.{creates, writes}
 use Rattle.coda_cancel.proofs.Walks.{upto, beyond, all_left, fewer_left}

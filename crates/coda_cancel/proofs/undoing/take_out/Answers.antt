@@ -1,5 +1,4 @@
-use Rattle.std.proofs.Common.{◌≡◌, ◌++◌, ◌∷◌, [], None, Some, true, cond, sym, ap, ◌∙◌, subst, arith, refl}
-use Rattle.std.proofs.lemmas.List.{append_assoc, append-nil}
+use Rattle.std.proofs.Common.{◌≡◌, ◌++◌, [], Some, true, sym, ap, ◌∙◌, subst, arith, refl}
 use Rattle.coda_cancel.specs.Cancel.{without}
 use Rattle.coda_cancel.specs.Mentions.{CoversUpTo, is_upto, last_number}
 use Rattle.coda_cancel.specs.Numbers.{IsRising}

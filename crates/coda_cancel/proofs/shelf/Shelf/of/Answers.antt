@@ -1,4 +1,4 @@
-use Rattle.std.proofs.Common.{◌≡◌, [], ◌++◌, map, sym, ap, ◌∙◌, subst, arith, true, length}
+use Rattle.std.proofs.Common.{◌≡◌, ◌++◌, map, sym, ap, ◌∙◌, subst, arith, length}
 use Rattle.coda_cancel.specs.declared.shelf.Slot.TheVariants.{Kept}
 use Rattle.coda_cancel.specs.Slots.{kept_in, DoSlotsRise, is_last_kept}
 use Rattle.coda_cancel.proofs.Places.{kept_in-kept, all_kept_rise, all_kept_last}

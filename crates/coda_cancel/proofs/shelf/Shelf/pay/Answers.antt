@@ -1,5 +1,4 @@
 use Rattle.std.proofs.Common.{◌≡◌, true, sym, ap, ◌∙◌, subst, length}
-use Rattle.coda_cancel.specs.Numbers.{IsRising}
 use Rattle.coda_cancel.specs.Handing.{hand}
 use Rattle.coda_cancel.specs.Passing.{owed_to}
 use Rattle.coda_cancel.specs.Shelved.{Shelved, is_numbered}

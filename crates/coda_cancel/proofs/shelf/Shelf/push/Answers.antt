@@ -1,4 +1,4 @@
-use Rattle.std.proofs.Common.{◌≡◌, ◌<◌, ◌+◌, ◌++◌, ◌∷◌, [], length, length-append, sym, ap, ◌∙◌, subst, arith}
+use Rattle.std.proofs.Common.{◌<◌, ◌+◌, ◌++◌, ◌∷◌, [], length, length-append, sym, ap, ◌∙◌, subst, arith}
 use Rattle.coda_cancel.specs.Numbers.{AreBelow}
 use Rattle.coda_cancel.specs.Shelved.{Shelved}
 use Rattle.coda_cancel.specs.Slots.{kept_in, DoSlotsRise, is_last_kept, room_in}

@@ -1,6 +1,5 @@
 use Rattle.std.proofs.Common.{◌≡◌, true, Some, suc, length, refl, sym, ap, ◌∙◌, subst, arith}
 use Rattle.std.specs.Option.{IsSome}
-use Rattle.coda_cancel.specs.Numbers.{IsRising}
 use Rattle.coda_cancel.specs.Shelved.{Shelved, is_numbered}
 use Rattle.coda_cancel.specs.Slots.{kept_in, number_of, record_of}
 use Rattle.coda_cancel.proofs.Places.{IsPlaceOf, found_here, taken_here, rising_here, kept_in_rises, length_taken, somewhere}

@@ -1,6 +1,5 @@
-use Rattle.std.proofs.Common.{◌≡◌, ◌-◌, drop, length, sym, ap, ◌∙◌, subst, arith, true}
+use Rattle.std.proofs.Common.{◌≡◌, ◌-◌, drop, length, sym, ap, ◌∙◌, subst, arith}
 use Rattle.std.proofs.lemmas.List.{length-drop}
-use Rattle.coda_cancel.specs.Shelved.{Shelved}
 use Rattle.coda_cancel.specs.Slots.{kept_in, DoSlotsRise, is_last_kept}
 use Rattle.coda_cancel.proofs.Places.{rising_dropped, last_dropped}
 use Rattle.coda_cancel.proofs.shelf.Shelf.take_front.Goals as goal

@@ -1,9 +1,8 @@
-use Rattle.std.proofs.Common.{◌≡◌, ◌+◌, ◌-◌, ◌∷◌, ◌++◌, [], Some, true, false, sym, ap, ◌∙◌, subst, arith}
+use Rattle.std.proofs.Common.{◌≡◌, ◌+◌, ◌∷◌, ◌++◌, [], Some, sym, ap, ◌∙◌, subst, arith}
 use Rattle.std.proofs.lemmas.List.{append-nil}
-use Rattle.coda_fid.specs.declared.op.Record.{Record}
 use Rattle.coda_cancel.specs.Cancel.{add}
 use Rattle.coda_cancel.specs.Numbers.{AreBelow, IsRising, numbers, least, dropped}
-use Rattle.coda_cancel.specs.Mentions.{has, tells, is_mentioned, CoversUpTo, IsIndexOf, Gains}
+use Rattle.coda_cancel.specs.Mentions.{is_mentioned, CoversUpTo, IsIndexOf}
 use Rattle.coda_cancel.specs.Passing.{goes, new_last, undropped}
 use Rattle.coda_cancel.specs.Weights.{total_weight}
 use Rattle.coda_cancel.proofs.Rising.{rising_push, rising_add}

@@ -1,5 +1,4 @@
-use Rattle.std.proofs.Common.{◌≡◌, ◌++◌, true, false, sym, ap, ◌∙◌, subst, arith}
-use Rattle.coda_cancel.specs.Cancel.{added}
+use Rattle.std.proofs.Common.{◌≡◌, ◌++◌, sym, ap, ◌∙◌, subst, arith}
 use Rattle.coda_cancel.specs.Numbers.{IsRising}
 use Rattle.coda_cancel.specs.Mentions.{has, is_mentioned, AreFresh, Gains, IsIndexOf}
 use Rattle.coda_cancel.specs.Weights.{total_weight}
@@ -25,7 +24,7 @@ add_each-self-inside-requires-clause-indexed c =
     let all : c.args.earlier.now.items ++ c.args.self.now ≡ c.in_ok-shelf.shelf.records ++ c.into_records-later.result.items = λ i. sym c.in_ok-shelf.ensures.records i ++ sym later i in
     subst (IsIndexOf c.note_all.new.index) all
     (both_indexed c.in_ok-index.index c.note_all.new.index c.args.earlier.now.items c.args.self.now (λ f n. c.in_ok-index.ensures f n ∙ c.self.invariant.indexed f n ∙ ap (λ l. is_mentioned l f n) c.self.view_is)
-      (subst (λ l. Gains (has c.in_ok-index.index) (has c.note_all.new.index) (is_mentioned l)) c.deref-2.ensures.value c.in_ok-note_all.ensures))
+    (subst (λ l. Gains (has c.in_ok-index.index) (has c.note_all.new.index) (is_mentioned l)) c.deref-2.ensures.value c.in_ok-note_all.ensures))
 
 pub add_each-self-inside-requires-clause-light : goal.add_each-self-inside-requires-clause-light
 add_each-self-inside-requires-clause-light c =

@@ -1,4 +1,4 @@
-use Rattle.std.proofs.Common.{◌≡◌, ◌+◌, ◌-◌, ◌++◌, take, drop, sym, ap, ◌∙◌, subst, arith}
+use Rattle.std.proofs.Common.{◌≡◌, ◌+◌, take, drop, sym, ap, ◌∙◌, subst, arith}
 use Rattle.std.proofs.lemmas.List.{take-append-drop}
 use Rattle.coda_cancel.specs.Numbers.{IsRising}
 use Rattle.coda_cancel.specs.Mentions.{has, is_mentioned, IsIndexOf, Loses}
@@ -40,6 +40,6 @@ invariant_of-self-2 c =
       rising = subst IsRising (sym rest) (rising_drop k rs c.self.invariant.rising);
       indexed = subst (IsIndexOf c.forget_all.new.index) (sym rest)
           (rest_indexed c.self.inside.index c.forget_all.new.index (take k rs) (drop k rs) (subst IsRising parts c.self.invariant.rising) (subst (IsIndexOf c.self.inside.index) parts c.self.invariant.indexed)
-            (subst (λ l. Loses (has c.self.inside.index) (has c.forget_all.new.index) (is_mentioned l)) (c.deref.ensures.value ∙ c.in_ok-front.ensures.front) c.forget_all.ensures));
+          (subst (λ l. Loses (has c.self.inside.index) (has c.forget_all.new.index) (is_mentioned l)) (c.deref.ensures.value ∙ c.in_ok-front.ensures.front) c.forget_all.ensures));
       weighed = omega (arith, same, both, left, c.self.invariant.weighed, c.weigh_light.ensures);
     }

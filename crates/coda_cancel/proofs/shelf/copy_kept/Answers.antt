@@ -1,14 +1,16 @@
 use Rattle.std.proofs.Common.{◌≡◌, ◌+◌, ◌++◌, [], ◌∷◌, take, sym, ap, ◌∙◌}
-use Rattle.std.proofs.lemmas.List.{append-nil}
+use Rattle.std.proofs.lemmas.List.{append-nil, append_assoc}
 use Rattle.coda_cancel.specs.Slots.{kept_in}
 use Rattle.coda_cancel.proofs.Places.{kept_in-more}
-use Rattle.coda_cancel.proofs.shelf.copies.Goals as goal
-use Rattle.coda_cancel.proofs.shelf.copies.Goals.{in-Kept+in_ok-copy+in_ok-push, in_default}
+use Rattle.coda_cancel.proofs.shelf.copy_kept.Goals as goal
+use Rattle.coda_cancel.proofs.shelf.copy_kept.Goals.{in-Kept+in_ok-copy+in_ok-push, in_default}
 
 pub loop-slot-preserved : goal.loop-slot-preserved
 loop-slot-preserved c =
-    let more : kept_in (take (c.loop-slot.slot-index + 1) c.args.slots.now) ≡ c.loop-slot.copies.items ++ kept_in (c.slot-item.result ∷ []) =
-    kept_in-more c.loop-slot.slot-index c.args.slots.now c.slot-item.result c.loop-slot-test.true ∙ (λ i. sym c.loop-slot.invariant i ++ kept_in (sym c.slot-item.is i ∷ [])) in
+    let old = c.args.copies.now.items in
+    let more : old ++ kept_in (take (c.loop-slot.slot-index + 1) c.args.slots.now) ≡ c.loop-slot.copies.items ++ kept_in (c.slot-item.result ∷ []) =
+    ap (λ l. old ++ l) (kept_in-more c.loop-slot.slot-index c.args.slots.now c.slot-item.result c.loop-slot-test.true)
+    ∙ sym (append_assoc old (kept_in (take c.loop-slot.slot-index c.args.slots.now)) _) ∙ (λ i. sym c.loop-slot.invariant i ++ kept_in (sym c.slot-item.is i ∷ [])) in
     elim c.match-slot.branch [
       | in-Kept+in_ok-copy+in_ok-push w ↦ ap (λ v. v.items) w.copies-is ∙ w.in_ok-push.ensures.items ∙ ap (λ r. c.loop-slot.copies.items ++ r ∷ []) w.in_ok-copy.ensures ∙ ap (λ s. c.loop-slot.copies.items ++ kept_in (s ∷ [])) (sym w.in-Kept.is) ∙ sym more
       | in_default w ↦ ap (λ v. v.items) w.copies-is ∙ sym (append-nil c.loop-slot.copies.items) ∙ ap (λ s. c.loop-slot.copies.items ++ kept_in (s ∷ [])) (sym w.in_default.is) ∙ sym more

@@ -1,6 +1,6 @@
 use Rattle.std.proofs.Common.{◌≡◌, length}
 use Rattle.coda_cancel.specs.Slots.{kept_in}
-use Rattle.coda_cancel.proofs.records.first_in.Given as goal
+use Rattle.coda_cancel.proofs.lent.first_in.Given as goal
 
 abbrev pub decreases-loop-rest : goal.decreases-loop-rest
 decreases-loop-rest l = length l.rest
