@@ -1,6 +1,6 @@
 // Creations that are undone.
 ghost use Rattle.std.specs.Prelude.{◌≡◌, ◌≤◌, true, ◌++◌};
-ghost use Rattle.coda_cancel.specs.Cancel.{is_undone, cancels, without};
+ghost use Rattle.coda_cancel.specs.Cancel.{is_other, is_undone, cancels, without};
 ghost use Rattle.coda_cancel.specs.Mentions.{has, tells, Covers, CoversUpTo, IsSameBeyond, Loses, last_number};
 ghost use Rattle.coda_cancel.specs.Numbers.{IsRising};
 ghost use Rattle.coda_cancel.specs.Shelved.{is_numbered, AtNumber};
@@ -10,6 +10,13 @@ use crate::mentions::{Mention, forget, next_mention};
 use crate::shelf::Shelf;
 use coda_fid::{Fid, Op};
 use std::collections::BTreeSet;
+
+// Whether an operation mentions the object, and is no Store or Setattr of it.
+fn is_other(op: &Op, fid: Fid) -> bool
+    ensures { result ≡ is_other fid op.now }
+{
+    op.mentions(fid) && !writes(op, fid)
+}
 
 // Whether the records create the object, and no other one mentions it, besides its Stores and Setattrs.
 fn is_undone(shelf: &Shelf, index: &BTreeSet<Mention>, fid: Fid) -> bool
@@ -21,7 +28,7 @@ fn is_undone(shelf: &Shelf, index: &BTreeSet<Mention>, fid: Fid) -> bool
     let mut after = None;
     while let Some(number) = next_mention(index, fid, after, last) {
         let op = &shelf.at(number).op;
-        if !writes(op, fid) {
+        if is_other(op, fid) {
             if created || !creates(op, fid) {
                 return false;
             }

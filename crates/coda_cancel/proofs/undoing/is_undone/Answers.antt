@@ -1,6 +1,6 @@
-use Rattle.std.proofs.Common.{◌≡◌, true, cond, not, ◌∷◌, ◌++◌, Some, sym, ap, ◌∙◌}
-use Rattle.coda_cancel.specs.Cancel.{is_true_alone, others, is_undone}
-use Rattle.coda_cancel.specs.Dropping.{creates, writes}
+use Rattle.std.proofs.Common.{◌≡◌, true, cond, ◌∷◌, ◌++◌, Some, sym, ap, ◌∙◌}
+use Rattle.coda_cancel.specs.Cancel.{is_other, is_true_alone, others, is_undone}
+use Rattle.coda_cancel.specs.Dropping.{creates}
 use Rattle.coda_cancel.proofs.Walks.{upto, beyond, all_left, fewer_left}
 use Rattle.coda_cancel.proofs.Indexed.{read_next, read_none, read_split, read_numbered}
 use Rattle.coda_cancel.proofs.Undone.{others_step, others_end, alone_end, not_alone}
@@ -34,7 +34,7 @@ returns-then-created c =
     let found = c.at.ensures.«record» (upto c.loop-number.after rs ++ s.between) s.found (beyond (Some n) rs) (read_split f c.loop-number.after n rs s) s.is in
     let rest = others f (beyond (Some n) rs) in
     let other : others f (beyond c.loop-number.after rs) ≡ creates f s.found.op ∷ rest =
-    others_step f c.loop-number.after n rs s ∙ ap (λ r. cond (not (writes f r.op)) (creates f s.found.op ∷ rest) rest) (sym found) ∙ ap (λ b. cond b (creates f s.found.op ∷ rest) rest) (ap not (sym c.writes.ensures ∙ c.if-not-writes.true)) in
+    others_step f c.loop-number.after n rs s ∙ ap (λ r. cond (is_other f r.op) (creates f s.found.op ∷ rest) rest) (sym found) ∙ ap (λ b. cond b (creates f s.found.op ∷ rest) rest) (sym c.is_other.ensures ∙ c.if-is_other.true) in
     let both : is_true_alone (cond c.loop-number.created (true ∷ creates f s.found.op ∷ rest) (creates f s.found.op ∷ rest)) ≡ is_undone f rs = ap (λ l. is_true_alone (cond c.loop-number.created (true ∷ l) l)) (sym other) ∙ c.loop-number.invariant in
     elim c.then-created.branch [
       | then-created-via-then-created w ↦ sym (ap (λ b. is_true_alone (cond b (true ∷ creates f s.found.op ∷ rest) (creates f s.found.op ∷ rest))) w.if-created.true) ∙ both
@@ -50,7 +50,7 @@ loop-number-preserved-else-not-creates c =
     let found = c.at.ensures.«record» (upto c.loop-number.after rs ++ s.between) s.found (beyond (Some n) rs) (read_split f c.loop-number.after n rs s) s.is in
     let rest = others f (beyond (Some n) rs) in
     let other : others f (beyond c.loop-number.after rs) ≡ true ∷ rest =
-    others_step f c.loop-number.after n rs s ∙ ap (λ r. cond (not (writes f r.op)) (creates f r.op ∷ rest) rest) (sym found) ∙ (λ i. cond (not (sym c.writes.ensures i)) (sym c.creates.ensures i ∷ rest) rest) ∙ (λ i. cond (not (c.if-not-writes.true i)) (c.if-not-creates.false i ∷ rest) rest) in
+    others_step f c.loop-number.after n rs s ∙ ap (λ r. cond (is_other f r.op) (creates f r.op ∷ rest) rest) (sym found) ∙ (λ i. cond (sym c.is_other.ensures i) (sym c.creates.ensures i ∷ rest) rest) ∙ (λ i. cond (c.if-is_other.true i) (c.if-not-creates.false i ∷ rest) rest) in
     ap is_true_alone (sym other) ∙ ap (λ b. is_true_alone (cond b (true ∷ others f (beyond c.loop-number.after rs)) (others f (beyond c.loop-number.after rs)))) (sym c.if-created.false) ∙ c.loop-number.invariant
 
 pub loop-number-preserved : goal.loop-number-preserved
@@ -62,7 +62,7 @@ loop-number-preserved c =
     let found = c.at.ensures.«record» (upto c.loop-number.after rs ++ s.between) s.found (beyond (Some n) rs) (read_split f c.loop-number.after n rs s) s.is in
     let rest = others f (beyond (Some n) rs) in
     let other : others f (beyond c.loop-number.after rs) ≡ rest =
-    others_step f c.loop-number.after n rs s ∙ ap (λ r. cond (not (writes f r.op)) (creates f s.found.op ∷ rest) rest) (sym found) ∙ ap (λ b. cond b (creates f s.found.op ∷ rest) rest) (ap not (sym c.writes.ensures ∙ c.if-not-writes.false)) in
+    others_step f c.loop-number.after n rs s ∙ ap (λ r. cond (is_other f r.op) (creates f s.found.op ∷ rest) rest) (sym found) ∙ ap (λ b. cond b (creates f s.found.op ∷ rest) rest) (sym c.is_other.ensures ∙ c.if-is_other.false) in
     ap (λ l. is_true_alone (cond c.loop-number.created (true ∷ l) l)) (sym other) ∙ c.loop-number.invariant
 
 pub returns : goal.returns
