@@ -1,4 +1,14 @@
 pub mod Keys
+pub mod Mentioned
+pub mod Between
+pub mod Walks
+pub mod Quiet
+pub mod Indexed
+pub mod Undone
+pub mod Leaves
+pub mod Entered
+pub mod Parts
+pub mod Places
 pub mod Debts
 pub mod Passing
 pub mod Rising

@@ -45,7 +45,7 @@ dropped_carries _ r h = absurd (false≢true h)
 pub owed_to-none : (f : Fid) → owed_to f None ≡ nothing
 owed_to-none f i g = no_change (same_fid g f) None i
 
-not_carried : (w : Option Over) (f : Fid) → kept_for w f ≡ None → over_is f w ≡ false
+pub not_carried : (w : Option Over) (f : Fid) → kept_for w f ≡ None → over_is f w ≡ false
 not_carried None f h = refl
 not_carried (Some v) f h =
     elim (same_fid v.fid f) as (λ b. cond b (Some v.pre) None ≡ None → b ≡ false) [
@@ -53,7 +53,7 @@ not_carried (Some v) f h =
       | false ↦ λ e. refl
     ] h
 
-elsewhere : (w : Option Over) (f : Fid) (owed : Option Sid) → over_is f w ≡ false → owed_to f owed ≡ paid (owed_to f owed) w
+pub elsewhere : (w : Option Over) (f : Fid) (owed : Option Sid) → over_is f w ≡ false → owed_to f owed ≡ paid (owed_to f owed) w
 elsewhere None f owed h = refl
 elsewhere (Some v) f owed h = λ i g. at g (same_fid g v.fid) refl i
   where

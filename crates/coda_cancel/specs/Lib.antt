@@ -1,3 +1,7 @@
+pub mod Mentions
+pub mod Kept
+pub mod Shelved
+pub mod Slots
 pub mod Handing
 pub mod Dropping
 pub mod Cancel

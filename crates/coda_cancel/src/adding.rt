@@ -1,110 +1,103 @@
-// Adding an operation to a vector of records, by cancellation.
-ghost use Rattle.std.specs.Prelude.{◌≡◌, ◌≤◌, ◌<◌, ◌+◌, ◌++◌};
+// Adding an operation to records, by cancellation.
+ghost use Rattle.std.specs.Prelude.{◌≡◌, ◌≤◌, ◌<◌, ◌+◌, ◌^◌, ◌++◌, ◌∷◌, [], Some};
 ghost use Rattle.std.specs.Vec.{vec_len, vec_capacity};
 ghost use Rattle.coda_fid.specs.Op.{carried};
-ghost use Rattle.coda_cancel.specs.Dropping.{mentioning, drops};
-ghost use Rattle.coda_cancel.specs.Cancel.{without, object, appended, add, added};
+ghost use Rattle.coda_cancel.specs.Cancel.{object, cancels, without, appended, add, added};
 ghost use Rattle.coda_cancel.specs.Joins.{joins_of};
-ghost use Rattle.coda_cancel.specs.Numbers.{IsRising, numbers, dropped, least};
-ghost use Rattle.coda_cancel.specs.Passing.{undropped};
+ghost use Rattle.coda_cancel.specs.Mentions.{CoversUpTo, IsSameBeyond, IsIndexOf};
+ghost use Rattle.coda_cancel.specs.Numbers.{AreBelow, IsRising};
+ghost use Rattle.coda_cancel.specs.Weights.{total_weight};
 
-use crate::dropping::drops;
-use crate::handing::{hand_on, pay};
+use crate::handing::{drop_needless, pay};
 use crate::join::Join;
-use crate::undoing::cancels;
-use coda_fid::{Fid, Op, Record};
-
-fn first_mentioning(records: &[Record], fid: Fid) -> Option<u64>
-    requires { IsRising records.now }
-    ensures { result ≡ least (numbers (mentioning fid) records.now) }
-{
-    for record in records {
-        if record.op.mentions(fid) {
-            return Some(record.number);
-        }
-    }
-    None
-}
-
-fn first_dropped(records: &[Record], op: &Op) -> Option<u64>
-    requires { IsRising records.now }
-    ensures { result ≡ least (numbers (drops op.now) records.now) }
-{
-    for record in records {
-        if drops(op, &record.op) {
-            return Some(record.number);
-        }
-    }
-    None
-}
-
-// Takes out what mentions the object.
-fn take_out(records: &mut Vec<Record>, fid: Fid)
-    ensures records { records.new.items ≡ without fid records.old.items }
-    ensures len { vec_len records.new ≤ vec_len records.old }
-    ensures capacity { vec_capacity records.new ≡ vec_capacity records.old }
-{
-    records.retain(|record| !record.op.mentions(fid));
-}
-
-fn drop_needless(records: &mut Vec<Record>, op: &Op)
-    ensures records { records.new.items ≡ undropped (drops op.now) records.old.items }
-    ensures len { vec_len records.new ≤ vec_len records.old }
-    ensures capacity { vec_capacity records.new ≡ vec_capacity records.old }
-{
-    records.retain(|record| !drops(op, &record.op));
-}
+use crate::leaving::leaving_with;
+use crate::mentions::{Mention, forget};
+use crate::shelf::Shelf;
+use crate::undoing::take_out;
+use coda_fid::{Fid, Record};
+use std::collections::BTreeSet;
 
 // Drops what the operation makes needless, and puts it at the end.
-fn append(records: &mut Vec<Record>, mut rec: Record, fid: Fid)
-    requires room { vec_len records.old < vec_capacity records.old }
+fn append(shelf: &mut Shelf, index: &mut BTreeSet<Mention>, mut rec: Record, fid: Fid)
+    requires room { 0 < shelf.old.room }
+    requires later { AreBelow rec.number shelf.old.records }
+    requires indexed { CoversUpTo (Some rec.number) index.old (shelf.old.records ++ rec ∷ []) }
     requires own { object (carried rec.op) ≡ fid }
-    ensures records { records.new.items ≡ appended records.old.items rec }
-    ensures len { vec_len records.new ≤ vec_len records.old + 1 }
-    ensures capacity { vec_capacity records.new ≡ vec_capacity records.old }
+    ensures records { shelf.new.records ≡ appended shelf.old.records rec }
+    ensures indexed { CoversUpTo (Some rec.number) index.new shelf.new.records }
+    ensures beyond { IsSameBeyond (Some rec.number) index.old index.new }
+    ensures room { shelf.old.room ≤ shelf.new.room + 1 }
 {
-    let owed = hand_on(records, &rec.op, fid);
-    drop_needless(records, &rec.op);
+    let owed = drop_needless(shelf, index, &rec.op, fid);
     pay(&mut rec, fid, owed);
-    records.push_reserved(rec);
+    shelf.push(rec);
 }
 
-/// Adds an operation, and answers the least number that it dropped.
-pub fn add_reserved(records: &mut Vec<Record>, rec: Record) -> Option<u64>
-    requires room { vec_len records.old < vec_capacity records.old }
-    requires rising { IsRising records.old.items }
-    ensures records { records.new.items ≡ add records.old.items rec }
-    ensures least { result ≡ least (dropped records.old.items rec) }
-    ensures len { vec_len records.new ≤ vec_len records.old + 1 }
-    ensures capacity { vec_capacity records.new ≡ vec_capacity records.old }
+// Takes out all that mentions the object, and forgets the operation that undoes its creation.
+fn undo(shelf: &mut Shelf, index: &mut BTreeSet<Mention>, rec: &Record, fid: Fid)
+    requires later { AreBelow rec.now.number shelf.old.records }
+    requires indexed { CoversUpTo (Some rec.now.number) index.old (shelf.old.records ++ rec.now ∷ []) }
+    ensures records { shelf.new.records ≡ without fid shelf.old.records }
+    ensures indexed { CoversUpTo (Some rec.now.number) index.new shelf.new.records }
+    ensures beyond { IsSameBeyond (Some rec.now.number) index.old index.new }
+    ensures room { shelf.old.room ≤ shelf.new.room }
+{
+    take_out(shelf, index, fid);
+    forget(index, rec);
+}
+
+/// Adds an operation that the index knows already, for which there is room; it was asked whether the operation
+/// undoes a creation. Wants no memory.
+pub fn add_reserved(shelf: &mut Shelf, index: &mut BTreeSet<Mention>, rec: Record, cancelled: bool)
+    requires room { 0 < shelf.old.room }
+    requires later { AreBelow rec.number shelf.old.records }
+    requires indexed { CoversUpTo (Some rec.number) index.old (shelf.old.records ++ rec ∷ []) }
+    requires cancelled { cancelled ≡ cancels rec.op shelf.old.records }
+    ensures records { shelf.new.records ≡ add shelf.old.records rec }
+    ensures indexed { CoversUpTo (Some rec.number) index.new shelf.new.records }
+    ensures beyond { IsSameBeyond (Some rec.number) index.old index.new }
+    ensures room { shelf.old.room ≤ shelf.new.room + 1 }
 {
     let Some(over) = rec.op.carried() else {
-        records.push_reserved(rec);
-        return None;
+        shelf.push(rec);
+        return;
     };
-    if cancels(&rec.op, records) {
-        let least = first_mentioning(records, over.fid);
-        take_out(records, over.fid);
-        return least;
+    if cancelled {
+        undo(shelf, index, &rec, over.fid);
+    } else {
+        append(shelf, index, rec, over.fid);
     }
-    let least = first_dropped(records, &rec.op);
-    append(records, rec, over.fid);
-    least
 }
 
-/// Adds operations in turn, and notes those that dropped records.
-pub fn add_each(records: &mut Vec<Record>, mut later: Vec<Record>, joins: &mut Vec<Join>)
-    requires room { vec_len records.old + vec_len later ≤ vec_capacity records.old }
+/// Adds operations in turn that the index knows already, notes those that dropped records, and answers what the records
+/// weigh then; before, they weigh so much.
+pub fn add_each(
+    shelf: &mut Shelf,
+    index: &mut BTreeSet<Mention>,
+    mut later: Vec<Record>,
+    joins: &mut Vec<Join>,
+    mut weight: u64,
+) -> u64
+    requires room { vec_len later ≤ shelf.old.room }
     requires joins_room { vec_len joins.old + vec_len later ≤ vec_capacity joins.old }
-    requires rising { IsRising (records.old.items ++ later.items) }
-    ensures records { records.new.items ≡ added records.old.items later.items }
-    ensures joins { joins.new.items ≡ joins.old.items ++ joins_of records.old.items later.items }
+    requires rising { IsRising (shelf.old.records ++ later.items) }
+    requires indexed { IsIndexOf index.old (shelf.old.records ++ later.items) }
+    requires weight { weight ≡ total_weight shelf.old.records }
+    requires light { total_weight (shelf.old.records ++ later.items) < 2 ^ 64 }
+    ensures records { shelf.new.records ≡ added shelf.old.records later.items }
+    ensures joins { joins.new.items ≡ joins.old.items ++ joins_of shelf.old.records later.items }
+    ensures indexed { IsIndexOf index.new shelf.new.records }
+    ensures weight { result ≡ total_weight shelf.new.records }
 {
     later.reverse();
     while let Some(rec) = later.pop() {
         let number = rec.number;
-        if let Some(least) = add_reserved(records, rec) {
+        let gone = leaving_with(shelf, index, &rec.op);
+        weight = weight - gone.weight + gone.added(&rec);
+        add_reserved(shelf, index, rec, gone.cancelled);
+        if let Some(least) = gone.least {
             joins.push_reserved(Join { least, number });
         }
     }
+    weight
 }

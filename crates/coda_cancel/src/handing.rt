@@ -1,13 +1,20 @@
 // Handing kept versions on.
-ghost use Rattle.std.specs.Prelude.{◌≡◌};
+ghost use Rattle.std.specs.Prelude.{◌≡◌, ◌≤◌, ◌&&◌, true, ◌++◌, ◌∷◌, []};
 ghost use Rattle.coda_fid.specs.Op.{carried};
 ghost use Rattle.coda_cancel.specs.Handing.{nothing, with_over, with_pre, hand};
 ghost use Rattle.coda_cancel.specs.Dropping.{drops};
-ghost use Rattle.coda_cancel.specs.Cancel.{object, debt};
-ghost use Rattle.coda_cancel.specs.Passing.{owed_to, passed, owed_after, handed};
+ghost use Rattle.coda_cancel.specs.Cancel.{object, kept, debt};
+ghost use Rattle.coda_cancel.specs.Mentions.{has, tells, Loses, Covers, CoversUpTo, IsSameBeyond, last_number};
+ghost use Rattle.coda_cancel.specs.Numbers.{IsRising};
+ghost use Rattle.coda_cancel.specs.Passing.{owed_to};
+ghost use Rattle.coda_cancel.specs.Shelved.{is_numbered, AtNumber};
 
 use crate::dropping::drops;
+use crate::mentions::{Mention, next_mention};
+use crate::shelf::Shelf;
+use crate::undoing::take_one;
 use coda_fid::{Fid, Op, Over, Record, Sid};
+use std::collections::BTreeSet;
 
 // Gives the replaced object of a rename, if there is one, another kept version.
 fn set_over(over: &mut Option<Over>, sid: Sid)
@@ -33,41 +40,71 @@ fn set_pre(op: &mut Op, sid: Sid)
     }
 }
 
-/// Hands a record of the object what is owed to it.
+/// Hands a record what is owed to an object, if it carries a version of that.
 pub fn pay(rec: &mut Record, fid: Fid, owed: Option<Sid>)
-    requires { object (carried rec.old.op) ≡ fid }
     ensures { rec.new ≡ hand (owed_to fid owed) rec.old }
 {
+    if rec.op.pre_of(fid).is_none() {
+        return;
+    }
     if let Some(sid) = owed {
         set_pre(&mut rec.op, sid);
     }
 }
 
-// Goes past a record: it takes what is owed, or is dropped and hands on in turn what it has.
-fn pass(rec: &mut Record, op: &Op, fid: Fid, owed: Option<Sid>) -> Option<Sid>
-    requires { object (carried op.now) ≡ fid }
-    ensures record { rec.new ≡ passed (drops op.now) (owed_to fid owed) rec.old }
-    ensures owed { owed_to fid result ≡ owed_after (drops op.now) (owed_to fid owed) rec.old }
+// Goes past the record of a number: it takes what is owed, or is dropped and hands on in turn what it has.
+fn pass(
+    shelf: &mut Shelf,
+    index: &mut BTreeSet<Mention>,
+    number: u64,
+    op: &Op,
+    fid: Fid,
+    owed: Option<Sid>,
+) -> Option<Sid>
+    requires own { object (carried op.now) ≡ fid }
+    requires there { is_numbered number shelf.old.records ≡ true }
+    ensures records { AtNumber number shelf.old.records (λ front rec back. shelf.new.records ≡ front ++ kept (drops op.now) (owed_to fid owed) (rec ∷ []) ++ back) }
+    ensures owed { AtNumber number shelf.old.records (λ front rec back. owed_to fid result ≡ debt (drops op.now) (owed_to fid owed) (rec ∷ [])) }
+    ensures index { AtNumber number shelf.old.records (λ front rec back. Loses (has index.old) (has index.new) (λ f n. drops op.now rec.op && tells rec f n)) }
+    ensures rising { IsRising shelf.new.records }
+    ensures room { shelf.old.room ≤ shelf.new.room }
 {
-    let Some(pre) = rec.op.pre_of(fid) else {
+    let record = shelf.at(number);
+    let Some(pre) = record.op.pre_of(fid) else {
         return owed;
     };
-    if drops(op, &rec.op) {
+    if drops(op, &record.op) {
+        take_one(shelf, index, number);
         return Some(owed.unwrap_or(pre));
     }
-    pay(rec, fid, owed);
+    shelf.pay(number, fid, owed);
     None
 }
 
-/// Hands on what the records have that an operation drops, and answers what the operation is owed.
-pub fn hand_on(records: &mut [Record], op: &Op, fid: Fid) -> Option<Sid>
-    requires { object (carried op.now) ≡ fid }
-    ensures records { records.new ≡ handed (drops op.now) nothing records.old }
-    ensures owed { owed_to fid result ≡ debt (drops op.now) nothing records.old }
+/// Drops what an operation makes needless and hands on what that has, and answers what the operation is owed.
+///
+/// Looks at the records that mention the operation's object.
+pub fn drop_needless(
+    shelf: &mut Shelf,
+    index: &mut BTreeSet<Mention>,
+    op: &Op,
+    fid: Fid,
+) -> Option<Sid>
+    requires own { object (carried op.now) ≡ fid }
+    requires indexed { Covers index.old shelf.old.records }
+    ensures records { shelf.new.records ≡ kept (drops op.now) nothing shelf.old.records }
+    ensures owed { owed_to fid result ≡ debt (drops op.now) nothing shelf.old.records }
+    ensures indexed { CoversUpTo (last_number shelf.old.records) index.new shelf.new.records }
+    ensures beyond { IsSameBeyond (last_number shelf.old.records) index.old index.new }
+    ensures rising { IsRising shelf.old.records }
+    ensures room { shelf.old.room ≤ shelf.new.room }
 {
+    let last = shelf.last();
     let mut owed = None;
-    for record in records.iter_mut() {
-        owed = pass(record, op, fid, owed);
+    let mut after = None;
+    while let Some(number) = next_mention(index, fid, after, last) {
+        owed = pass(shelf, index, number, op, fid, owed);
+        after = Some(number);
     }
     owed
 }

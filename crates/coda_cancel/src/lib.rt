@@ -3,11 +3,15 @@
 
 mod adding;
 mod dropping;
-mod fitting;
 mod handing;
 mod join;
+mod leaving;
+mod lent;
+mod mentions;
+mod shelf;
 mod tail;
 mod undoing;
 
 pub use join::Join;
+pub use lent::LentRecords;
 pub use tail::{AddFault, Tail};

@@ -1,15 +1,20 @@
-ghost use Rattle.std.specs.Prelude.{◌≡◌, ◌≤◌, [], ◌++◌, take, drop, length, IfOk, OnOk, OnErr, IfErr};
+ghost use Rattle.std.specs.Prelude.{◌≡◌, ◌≤◌, ◌<◌, ◌^◌, [], ◌++◌, take, drop, length, ◌+◌, IfOk, OnOk, OnErr, IfErr, IfSome};
 ghost use Rattle.coda_fid.specs.declared.op.Record.{Record};
 ghost use Rattle.coda_cancel.specs.Cancel.{add, added};
 ghost use Rattle.coda_cancel.specs.Numbers.{AreBelow, IsRising, dropped, least};
 ghost use Rattle.coda_cancel.specs.Joins.{joins_of};
-ghost use Rattle.coda_cancel.specs.Weights.{fits};
+ghost use Rattle.coda_cancel.specs.Mentions.{has, is_mentioned, AreFresh, Gains, IsSame, Loses};
+ghost use Rattle.coda_cancel.specs.Weights.{fits, total_weight};
 
 use crate::Join;
 use crate::adding::{add_each, add_reserved};
-use crate::fitting::fits_after;
+use crate::leaving::{is_light, leaving_with, weigh, weigh_light};
+use crate::lent::LentRecords;
+use crate::mentions::{Mention, forget, note};
+use crate::shelf::Shelf;
 use coda_fid::Record;
 use std::alloc::{AllocError, Global};
+use std::collections::BTreeSet;
 use std::marker::Model;
 use std::mem;
 use thiserror::Error;
@@ -26,21 +31,27 @@ pub enum AddFault {
 ///
 /// An operation that is added drops the earlier ones that it makes needless (Kistler and
 /// Satyanarayanan 1992). Contracts see the list of the records.
+///
+/// Beside the records there is an index of them by the objects that they mention, and what they weigh together. So an
+/// operation is added at the cost of the records that mention its object.
 #[derive(Debug, Drop)]
 pub struct Tail {
-    records: Vec<Record>,
+    alloc: Global,
+    shelf: Shelf,
+    index: BTreeSet<Mention>,
+    weight: u64,
 }
 
 impl Model for Tail {
     ghost use Rattle.std.specs.Prelude.{List};
     ghost use Rattle.coda_fid.specs.declared.op.Record.{Record};
-    ghost use Rattle.coda_cancel.specs.Numbers.{IsRising};
+    ghost use Rattle.coda_cancel.specs.Kept.{IsKept};
 
     ghost Value = { List Record };
 
-    ghost view = { λ t. t.records.items };
+    ghost view = { λ t. t.shelf.records };
 
-    ghost invariant = { λ t. IsRising t.records.items };
+    ghost invariant = { IsKept };
 }
 
 impl Tail {
@@ -49,32 +60,41 @@ impl Tail {
         ensures { result ≡ [] }
     {
         Tail {
-            records: Vec::new(alloc),
+            alloc,
+            shelf: Shelf::new(alloc),
+            index: BTreeSet::new(alloc),
+            weight: 0,
         }
     }
 
-    /// These records, in the memory that they have.
-    pub fn from_records(records: Vec<Record>) -> Tail
-        requires { IsRising records.items }
-        ensures { result ≡ records.items }
-    {
-        Tail { records }
-    }
-
     /// The records, in the order of their numbers.
-    pub fn records(&self) -> &[Record]
-        ensures same { result.now ≡ self.now }
-        ensures rising { IsRising result.now }
+    pub fn records(&self) -> LentRecords<'_>
+        ensures same { result ≡ self.now }
+        ensures rising { IsRising result }
     {
-        &self.records
+        self.shelf.records()
     }
 
-    /// The records, in the memory that they have.
+    /// How many records there are.
+    pub fn len(&self) -> usize
+        ensures { result ≡ length self.now }
+    {
+        self.shelf.len()
+    }
+
+    /// What the records weigh together.
+    pub fn weight(&self) -> u64
+        ensures { result ≡ total_weight self.now }
+    {
+        self.weight
+    }
+
+    /// The records, in memory that was taken before.
     pub fn into_records(self) -> Vec<Record>
         ensures same { result.items ≡ self }
         ensures rising { IsRising result.items }
     {
-        self.records
+        self.shelf.into_records()
     }
 
     /// Takes out the first records, so many.
@@ -88,8 +108,10 @@ impl Tail {
         ensures rest { OnOk result (self.new ≡ drop count self.old) }
         ensures err { OnErr result (self.new ≡ self.old) }
     {
-        let rest = self.records.split_off(count)?;
-        Ok(mem::replace(&mut self.records, rest))
+        let front = self.shelf.take_front(count)?;
+        forget_all(&mut self.index, &front);
+        self.weight -= weigh_light(&front);
+        Ok(front)
     }
 
     /// Adds an operation: drops the earlier records that it makes needless, hands the versions that
@@ -98,6 +120,7 @@ impl Tail {
     /// and Setattrs of it, leaves nothing of the object and is not put there.
     ///
     /// Answers the least number that was dropped. The number of the operation is above those here.
+    /// Costs the records that mention its object, by the logarithm of how many there are.
     ///
     /// # Errors
     ///
@@ -109,33 +132,55 @@ impl Tail {
         ensures memory { IfErr result (λ fault. fault ≡ AddFault.Memory rec) }
         ensures err { OnErr result (self.new ≡ self.old) }
     {
-        if self.records.reserve(1).is_err() {
+        let gone = leaving_with(&self.shelf, &self.index, &rec.op);
+        let Some(weight) = (self.weight - gone.weight).checked_add(gone.added(&rec)) else {
+            return Err(AddFault::Memory(rec));
+        };
+        if self.shelf.reserve(1).is_err() || note(&mut self.index, &rec).is_err() {
             return Err(AddFault::Memory(rec));
         }
-        Ok(add_reserved(&mut self.records, rec))
+        add_reserved(&mut self.shelf, &mut self.index, rec, gone.cancelled);
+        self.weight = weight;
+        Ok(gone.least)
     }
 
-    /// Adds the records of a later part of the log in turn, and leaves that part empty.
+    /// Adds the records to those of an earlier part of the log in turn, which is left empty.
     ///
     /// Answers those that dropped records as they were added.
     ///
     /// # Errors
     ///
     /// Fails for want of memory alone, and then both parts stay as they were.
-    pub fn add_all(&mut self, later: &mut Tail) -> Result<Vec<Join>, AllocError>
-        requires { IsRising (self.old ++ later.old) }
-        ensures records { OnOk result (self.new ≡ added self.old later.old) }
-        ensures joins { IfOk result (λ joins. joins.items ≡ joins_of self.old later.old) }
-        ensures later { OnOk result (later.new ≡ []) }
+    pub fn put_behind(&mut self, earlier: &mut Vec<Record>) -> Result<Vec<Join>, AllocError>
+        requires { IsRising (earlier.old.items ++ self.old) }
+        ensures records { OnOk result (self.new ≡ added earlier.old.items self.old) }
+        ensures joins { IfOk result (λ joins. joins.items ≡ joins_of earlier.old.items self.old) }
+        ensures earlier { OnOk result (earlier.new.items ≡ []) }
         ensures err { OnErr result (self.new ≡ self.old) }
-        ensures err_later { OnErr result (later.new ≡ later.old) }
+        ensures err_earlier { OnErr result (earlier.new.items ≡ earlier.old.items) }
     {
-        let alloc = *self.records.allocator();
-        let mut joins = Vec::with_capacity(alloc, later.records.len())?;
-        self.records.reserve(later.records.len())?;
-        let waiting = mem::replace(&mut later.records, Vec::new(alloc));
-        add_each(&mut self.records, waiting, &mut joins);
+        let Some(weight) = self.weight_before(earlier) else {
+            return Err(AllocError);
+        };
+        let mut joins = Vec::with_capacity(self.alloc, self.shelf.len())?;
+        let mut index = copy_index(&self.index)?;
+        note_all(&mut index, earlier)?;
+        let mut shelf = Shelf::of(self.alloc, earlier, self.shelf.len())?;
+        let later = mem::replace(&mut self.shelf, Shelf::new(self.alloc)).into_records();
+        self.weight = add_each(&mut shelf, &mut index, later, &mut joins, weight);
+        self.shelf = shelf;
+        self.index = index;
         Ok(joins)
+    }
+
+    // What records of an earlier part weigh, if that and what these weigh is below 2^64 together.
+    fn weight_before(&self, earlier: &[Record]) -> Option<u64>
+        ensures weight { IfSome result (λ weight. weight ≡ total_weight earlier.now) }
+        ensures light { IfSome result (λ weight. weight + total_weight self.now < 2 ^ 64) }
+    {
+        let weight = weigh(earlier)?;
+        weight.checked_add(self.weight)?;
+        Some(weight)
     }
 
     /// Whether there would be so many records at most, and they would weigh so much at most, if the
@@ -143,25 +188,52 @@ impl Tail {
     pub fn fits_after(&self, rec: &Record, count: usize, weight: u64) -> bool
         ensures { result ≡ fits count weight (add self.now rec.now) }
     {
-        fits_after(&self.records, rec, count, weight)
+        let all = self.weight;
+        let gone = leaving_with(&self.shelf, &self.index, &rec.op);
+        let left = self.shelf.len() - gone.count;
+        let kept = all - gone.weight;
+        gone.are_few(left, count) && is_light(kept, gone.added(rec), weight)
     }
 
     /// The same records, in memory of their own.
     pub fn copy(&self) -> Result<Tail, AllocError>
         ensures { IfOk result (λ tail. tail ≡ self.now) }
     {
-        let records = copy_records(*self.records.allocator(), &self.records)?;
-        Ok(Tail { records })
+        let shelf = self.shelf.copy(self.alloc)?;
+        let index = copy_index(&self.index)?;
+        Ok(Tail {
+            alloc: self.alloc,
+            shelf,
+            index,
+            weight: self.weight,
+        })
     }
 }
 
-fn copy_records(alloc: Global, records: &[Record]) -> Result<Vec<Record>, AllocError>
-    ensures { IfOk result (λ copies. copies.items ≡ records.now) }
+// The same index, in memory of its own.
+fn copy_index(index: &BTreeSet<Mention>) -> Result<BTreeSet<Mention>, AllocError>
+    ensures { IfOk result (λ copy. IsSame (has index.now) (has copy)) }
 {
-    let mut copies = Vec::with_capacity(alloc, records.len())?;
+    index.clone()
+}
+
+// Puts in what records mention whose numbers aren't there, until memory is wanted.
+fn note_all(index: &mut BTreeSet<Mention>, records: &[Record]) -> Result<(), AllocError>
+    requires rising { IsRising records.now }
+    requires fresh { AreFresh (has index.old) records.now }
+    ensures { OnOk result (Gains (has index.old) (has index.new) (is_mentioned records.now)) }
+{
     for record in records {
-        let copy = record.copy()?;
-        copies.push(copy)?;
+        note(index, record)?;
     }
-    Ok(copies)
+    Ok(())
+}
+
+// Takes out what records mention.
+fn forget_all(index: &mut BTreeSet<Mention>, records: &[Record])
+    ensures { Loses (has index.old) (has index.new) (is_mentioned records.now) }
+{
+    for record in records {
+        forget(index, record);
+    }
 }

@@ -2,6 +2,7 @@
 #![tactic(auto)]
 
 mod choosing;
+mod chunk;
 mod fault;
 mod frozen;
 mod law;

@@ -1,15 +1,16 @@
-ghost use Rattle.std.specs.Prelude.{◌≡◌, ◌≤◌, ◌+◌, [], ◌++◌, List};
+ghost use Rattle.std.specs.Prelude.{◌≡◌, ◌≤◌, ◌+◌, [], ◌++◌, length, List};
 ghost use Rattle.std.specs.Vec.{vec_len, vec_capacity};
 ghost use Rattle.coda_fid.specs.declared.op.Record.{Record};
-ghost use Rattle.coda_cancel.specs.Weights.{fits};
+ghost use Rattle.coda_cancel.specs.Weights.{fits, total_weight};
 ghost use Rattle.coda_cml.specs.Regrouping.{is_inside, rejoined, recounted};
 ghost use Rattle.coda_cml.specs.Room.{room_fits};
 ghost use Rattle.coda_cml.specs.Segments.{end_of};
 
 use crate::choosing::{chunk_length, too_young};
-use crate::regrouping::{leading, recount, regroup_last, rejoin};
+use crate::chunk::Chunk;
+use crate::regrouping::{recount, regroup_last, rejoin, take_upto};
 use crate::{FreezeFault, Frozen, LogFault, Segment, SettleFault};
-use coda_cancel::{Join, Tail};
+use coda_cancel::{Join, LentRecords, Tail};
 use coda_certify::Verdict;
 use coda_fid::Record;
 use std::alloc::{AllocError, Global};
@@ -30,7 +31,7 @@ const MOST_WEIGHT: u64 = 16_777_216;
 #[derive(Debug, Drop)]
 pub struct Log {
     frozen: Option<Frozen>,
-    chunk: Tail,
+    chunk: Chunk,
     chunk_segments: Vec<Segment>,
     tail: Tail,
     segments: Vec<Segment>,
@@ -73,7 +74,7 @@ impl Log {
     {
         Log {
             frozen: None,
-            chunk: Tail::new(alloc),
+            chunk: Chunk::new(alloc),
             chunk_segments: Vec::new(alloc),
             tail: Tail::new(alloc),
             segments: Vec::new(alloc),
@@ -111,10 +112,10 @@ impl Log {
         self.chunk.records()
     }
 
-    /// The records of the chunk, and those of the tail.
-    pub fn records(&self) -> (&[Record], &[Record])
+    /// The records of the chunk, and those of the tail, between which there may be gaps.
+    pub fn records(&self) -> (&[Record], LentRecords<'_>)
         ensures chunk { result.0.now ≡ self.now.chunk }
-        ensures tail { result.1.now ≡ self.now.records }
+        ensures tail { result.1 ≡ self.now.records }
     {
         (self.chunk.records(), self.tail.records())
     }
@@ -148,7 +149,7 @@ impl Log {
         ensures room { result ≡ fits 4096 16777216 (self.now.chunk ++ add self.now.records rec.now) }
         ensures run { (front back : List Record) → IsLogOf self.now front back → result ≡ fits 4096 16777216 (fold front ++ fold (back ++ rec.now ∷ [])) }
     {
-        match room_beside(self.chunk.records(), MOST_RECORDS, MOST_WEIGHT) {
+        match room_beside(self.chunk.len(), self.chunk.weight()) {
             Some((count, weight)) => self.tail.fits_after(rec, count, weight),
             None => false,
         }
@@ -179,12 +180,12 @@ impl Log {
             count: 0,
             newest: rec.time,
         };
-        let before = self.tail.records().len();
+        let before = self.tail.len();
         let Ok(least) = self.tail.add(rec) else {
             return Err(LogFault::Memory);
         };
         self.last = single.last;
-        let after = self.tail.records().len();
+        let after = self.tail.len();
         regroup_last(&mut self.segments, single, least, before, after);
         Ok(())
     }
@@ -199,11 +200,12 @@ impl Log {
     {
         let later = Vec::from_slice(*self.segments.allocator(), &self.segments[length..])?;
         let end = end_of(&self.segments[..length]);
-        let count = leading(self.tail.records(), end);
+        let count = take_upto(&mut self.tail.records(), end);
+        let before = self.tail.weight();
         let front = self.tail.take_front(count)?;
         self.segments.truncate(length);
         self.chunk_segments = mem::replace(&mut self.segments, later);
-        self.chunk = Tail::from_records(front);
+        self.chunk = Chunk::of(front, before - self.tail.weight());
         self.frozen = Some(chunk);
         self.chunks = chunk.number;
         Ok(())
@@ -263,7 +265,7 @@ impl Log {
     /// Puts the frozen chunk back in front of the tail: the records of the tail are added to it in turn,
     /// and segments are joined as that drops records. The number of the chunk is used up.
     ///
-    /// Costs the records of the tail times those of the log.
+    /// Costs the records of the log and the operations that join segments, by the logarithm of how many there are.
     ///
     /// # Errors
     ///
@@ -275,14 +277,13 @@ impl Log {
         ensures err { OnErr result (self.new ≡ self.old) }
     {
         self.chunk_segments.reserve(self.segments.len())?;
-        let joins = self.chunk.add_all(&mut self.tail)?;
+        let joins = self.chunk.thaw(&mut self.tail)?;
         regroup_all(
             &mut self.chunk_segments,
             &mut self.segments,
             &joins,
-            self.chunk.records(),
+            self.tail.records(),
         );
-        mem::swap(&mut self.chunk, &mut self.tail);
         mem::swap(&mut self.chunk_segments, &mut self.segments);
         self.frozen = None;
         Ok(())
@@ -295,7 +296,7 @@ impl Log {
     {
         let alloc = *self.segments.allocator();
         self.frozen = None;
-        self.chunk = Tail::new(alloc);
+        self.chunk = Chunk::new(alloc);
         self.chunk_segments.clear();
     }
 
@@ -362,7 +363,7 @@ impl Log {
         if let Some(chunk) = self.frozen {
             return Err(FreezeFault::Frozen(chunk.number, chunk.home));
         }
-        if self.tail.records().is_empty() {
+        if self.tail.len() == 0 {
             return Err(FreezeFault::Nothing);
         }
         let alloc = *self.segments.allocator();
@@ -375,7 +376,7 @@ impl Log {
     pub fn copy(&self) -> Result<Log, AllocError>
         ensures { IfOk result (λ log. log ≡ self.now) }
     {
-        let chunk = self.chunk.copy()?;
+        let chunk = self.chunk.copy(*self.segments.allocator())?;
         let chunk_segments = self.chunk_segments.clone()?;
         let tail = self.tail.copy()?;
         let segments = self.segments.clone()?;
@@ -401,21 +402,14 @@ fn end_of(segments: &[Segment]) -> u64
     }
 }
 
-// What room the records leave, where there is enough for them.
-fn room_beside(records: &[Record], most: usize, heaviest: u64) -> Option<(usize, u64)>
-    ensures { (rest : List Record) → fits most heaviest (records.now ++ rest) ≡ room_fits result rest }
+// What room so many records leave that weigh so much, where there is enough for them.
+fn room_beside(count: usize, weight: u64) -> Option<(usize, u64)>
+    ensures { (recs rest : List Record) → length recs ≡ count → total_weight recs ≡ weight → fits 4096 16777216 (recs ++ rest) ≡ room_fits result rest }
 {
-    let mut count = most;
-    let mut room = heaviest;
-    for record in records {
-        let weight = record.weight();
-        if count == 0 || weight > room {
-            return None;
-        }
-        count -= 1;
-        room -= weight;
+    if count > MOST_RECORDS || weight > MOST_WEIGHT {
+        return None;
     }
-    Some((count, room))
+    Some((MOST_RECORDS - count, MOST_WEIGHT - weight))
 }
 
 // Puts the segments of a tail behind those of a chunk, joins those between which operations dropped
@@ -424,10 +418,10 @@ fn regroup_all(
     segments: &mut Vec<Segment>,
     later: &mut Vec<Segment>,
     joins: &[Join],
-    records: &[Record],
+    mut records: LentRecords<'_>,
 )
     requires { vec_len segments.old + vec_len later.old ≤ vec_capacity segments.old }
-    ensures segments { segments.new.items ≡ recounted records.now (rejoined (is_inside joins.now) (segments.old.items ++ later.old.items)) }
+    ensures segments { segments.new.items ≡ recounted records.entry (rejoined (is_inside joins.now) (segments.old.items ++ later.old.items)) }
     ensures later { later.new.items ≡ [] }
 {
     for segment in later.iter() {
@@ -435,5 +429,5 @@ fn regroup_all(
     }
     later.clear();
     rejoin(segments, joins);
-    recount(segments, records);
+    recount(segments, &mut records);
 }

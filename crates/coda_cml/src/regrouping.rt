@@ -1,5 +1,5 @@
 // Joining segments, and counting their records.
-ghost use Rattle.std.specs.Prelude.{◌≡◌, ◌≤◌, ◌<◌, ◌+◌, ◌^◌, Some, length};
+ghost use Rattle.std.specs.Prelude.{◌≡◌, ◌≤◌, ◌<◌, ◌+◌, ◌^◌, Some, drop, length};
 ghost use Rattle.std.specs.Vec.{vec_len, vec_capacity};
 ghost use Rattle.coda_cml.specs.Segments.{joined};
 ghost use Rattle.coda_cml.specs.Longest.{total};
@@ -8,8 +8,7 @@ ghost use Rattle.coda_cml.specs.LastSegment.{ended_before, reaching, all_joined,
 ghost use Rattle.coda_cml.specs.Regrouping.{is_inside, widened, rejoined, leading, recounted};
 
 use crate::Segment;
-use coda_cancel::Join;
-use coda_fid::Record;
+use coda_cancel::{Join, LentRecords};
 
 // Whether an operation above the number dropped a record up to it.
 fn is_inside(joins: &[Join], number: u64) -> bool
@@ -110,29 +109,29 @@ pub fn rejoin(segments: &mut Vec<Segment>, joins: &[Join])
     segments.truncate(kept + 1);
 }
 
-/// How many records stand in front of the first with a greater number.
-pub fn leading(records: &[Record], number: u64) -> usize
-    ensures count { result ≡ leading number records.now }
-    ensures within { result ≤ length records.now }
+/// Leaves out the records in front of the first with a greater number, and answers how many these are.
+pub fn take_upto(records: &mut LentRecords<'_>, number: u64) -> usize
+    ensures count { result ≡ leading number records.old }
+    ensures rest { records.new ≡ drop (leading number records.old) records.old }
+    ensures within { result ≤ length records.old }
 {
+    let _all = records.len();
     let mut count = 0;
-    for record in records {
+    while let Some(record) = records.first() {
         if record.number > number {
             return count;
         }
+        records.take_first();
         count += 1;
     }
     count
 }
 
 /// Counts the records of each segment.
-pub fn recount(segments: &mut [Segment], records: &[Record])
-    ensures { segments.new ≡ recounted records.now segments.old }
+pub fn recount(segments: &mut [Segment], records: &mut LentRecords<'_>)
+    ensures { segments.new ≡ recounted records.old segments.old }
 {
-    let mut rest = records;
     for segment in segments.iter_mut() {
-        let count = leading(rest, segment.last);
-        segment.count = count;
-        rest = rest.split_at(count).1;
+        segment.count = take_upto(records, segment.last);
     }
 }

@@ -5,9 +5,10 @@ ghost use Rattle.coda_cml.specs.Partition.{ArePartedBy};
 ghost use Rattle.coda_cml.specs.State.{IsLogOf};
 ghost use Rattle.coda_report.specs.LogTexts.{chunk_number_text, count_text, counts_text, log_line, log_of_runs, log_text, segment_line, segments_text, ShowsLog};
 
-use crate::records::put_records;
+use crate::records::put_next_records;
+use coda_cancel::LentRecords;
 use coda_cml::{Frozen, Log, Segment};
-use coda_fid::{Bytes, Record};
+use coda_fid::Bytes;
 use coda_text::put_byte;
 use std::alloc::{AllocError, Global};
 use std::fmt::Write;
@@ -68,17 +69,14 @@ fn put_segments(
     out: &mut String,
     word: &str,
     segments: &[Segment],
-    records: &[Record],
+    mut records: LentRecords<'_>,
 ) -> Result<(), AllocError>
-    requires { ArePartedBy segments.now records.now }
-    ensures { OnOk result (string_bytes out.new ≡ string_bytes out.old ++ segments_text word.now segments.now records.now) }
+    requires { ArePartedBy segments.now records }
+    ensures { OnOk result (string_bytes out.new ≡ string_bytes out.old ++ segments_text word.now segments.now records.entry) }
 {
-    let mut rest = records;
     for segment in segments {
         put_segment_line(out, word, segment)?;
-        let (below, behind) = rest.split_at(segment.count);
-        put_records(out, below)?;
-        rest = behind;
+        put_next_records(out, &mut records, segment.count)?;
     }
     Ok(())
 }
@@ -100,7 +98,7 @@ pub fn log_text(alloc: Global, log: &Log) -> Result<Bytes, AllocError>
     let (frozen, open) = log.segments();
     let (chunk, tail) = log.records();
     put_log_line(&mut text, log)?;
-    put_segments(&mut text, "frozen", frozen, chunk)?;
+    put_segments(&mut text, "frozen", frozen, LentRecords::of(chunk))?;
     put_segments(&mut text, "open", open, tail)?;
     Ok(Bytes::from_vec(text.into_bytes()))
 }

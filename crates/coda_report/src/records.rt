@@ -1,9 +1,10 @@
 // The texts of a log's records.
-ghost use Rattle.std.specs.Prelude.{◌≡◌, ◌++◌, ◌∷◌, [], OnOk, string_bytes, codes};
+ghost use Rattle.std.specs.Prelude.{◌≡◌, ◌++◌, ◌∷◌, [], take, drop, OnOk, string_bytes, codes};
 ghost use Rattle.std.specs.List.{flat_map};
 ghost use Rattle.coda_report.specs.Records.{place_text, version_text, made_text, gone_text, move_text, set_mode_text, set_owner_text, set_mtime_text, attrs_text, over_text, op_text, record_line};
 
 use crate::printing::{put_content, put_mode};
+use coda_cancel::LentRecords;
 use coda_fid::{Attrs, Bytes, Fid, Name, Op, Over, Record, Sid};
 use coda_text::{put_byte, put_printed};
 use std::alloc::AllocError;
@@ -259,6 +260,25 @@ pub fn put_records(out: &mut String, records: &[Record]) -> Result<(), AllocErro
 {
     for entry in records {
         put_record(out, entry)?;
+    }
+    Ok(())
+}
+
+/// Puts the next records, so many, each on a line, and leaves them out.
+pub fn put_next_records(
+    out: &mut String,
+    records: &mut LentRecords<'_>,
+    count: usize,
+) -> Result<(), AllocError>
+    ensures text { OnOk result (string_bytes out.new ≡ string_bytes out.old ++ flat_map record_line (take count records.old)) }
+    ensures rest { OnOk result (records.new ≡ drop count records.old) }
+{
+    let mut left = count;
+    while left > 0 {
+        if let Some(entry) = records.take_first() {
+            put_record(out, entry)?;
+        }
+        left -= 1;
     }
     Ok(())
 }

@@ -1,6 +1,7 @@
 // Calls on a volume and on a client's log that no script can make, or not one by one, each with its answer on the line below.
 use crate::operations::{number, object, operation, word};
 use anyhow::{Result, bail};
+use coda_cancel::LentRecords;
 use coda_certify::{Reason, Verdict, certify, replay};
 use coda_cml::{FreezeFault, Log, Segment, SettleFault};
 use coda_fid::{Op, Record};
@@ -34,7 +35,11 @@ fn kind(op: &Op) -> &'static str {
 }
 
 // The segments as `first-last count newest`, and the records as `number kind`, with the version that one carries.
-fn put_part(text: &mut String, segments: &[Segment], records: &[Record]) -> Result<(), AllocError> {
+fn put_part(
+    text: &mut String,
+    segments: &[Segment],
+    mut records: LentRecords<'_>,
+) -> Result<(), AllocError> {
     for segment in segments {
         let (first, last, count, newest) = (
             segment.first,
@@ -44,7 +49,10 @@ fn put_part(text: &mut String, segments: &[Segment], records: &[Record]) -> Resu
         );
         write!(text, " | {first}-{last} {count} {newest}")?;
     }
-    for record in records {
+    for _ in 0..records.len() {
+        let Some(record) = records.take_first() else {
+            break;
+        };
         let (number, kind) = (record.number, kind(&record.op));
         write!(text, " | {number} {kind}")?;
         if let Some(over) = record.op.carried() {
@@ -206,7 +214,7 @@ impl Bench {
         let (chunk, tail) = self.log.records();
         let (chunk_segments, segments) = self.log.segments();
         let mut text = "chunk".to_string(alloc)?;
-        put_part(&mut text, chunk_segments, chunk)?;
+        put_part(&mut text, chunk_segments, LentRecords::of(chunk))?;
         text.push_str(" | tail")?;
         put_part(&mut text, segments, tail)?;
         Ok(text)
@@ -240,10 +248,10 @@ impl Bench {
                 "ok".to_string(alloc)?
             }
             "replay" => self.replay(alloc, number(words, 1)?.min(255) as u8)?,
-            "replay-log" => verdict_text(
-                alloc,
-                replay(alloc, &mut self.volume, 1, self.log.records().1)?,
-            )?,
+            "replay-log" => {
+                let records = self.log.records().1.to_vec(alloc)?;
+                verdict_text(alloc, replay(alloc, &mut self.volume, 1, &records)?)?
+            }
             "mark" => {
                 self.mark(words)?;
                 "ok".to_string(alloc)?

@@ -1,4 +1,4 @@
-use Rattle.std.proofs.Common.{◌++◌, get_or, arith}
+use Rattle.std.proofs.Common.{◌++◌, get_or, take, refl, arith}
 use Rattle.std.proofs.lemmas.Option.{slice_get-get_or}
 use Rattle.std.specs.Prelude.{string_bytes}
 use Rattle.coda_cml.specs.declared.segment.Segment.{Segment}
@@ -17,10 +17,10 @@ loop-segment-preserved c =
     let segment = get_or segments index no_segment in
     let here = slice_get-get_or segments index no_segment c.loop-segment-test.true in
     record {
-      text = segment_step c.args.word.now (string_bytes c.args.out.now) (segments_text c.args.word.now segments c.args.records.now) (string_bytes c.loop-segment.out) (string_bytes c.put_segment_line.new.out) (string_bytes c.put_records.new.out)
-          segments index segment c.loop-segment.rest.now c.split_at.result.0.now c.split_at.result.1.now here c.loop-segment.invariant.text c.in_ok-put_segment_line.ensures c.in_ok-put_records.ensures c.split_at.ensures.front c.split_at.ensures.back;
-      parted = parted_step segments index segment c.loop-segment.rest.now c.split_at.result.1.now here c.loop-segment.invariant.parted c.split_at.ensures.back;
+      text = segment_step c.args.word.now (string_bytes c.args.out.now) (segments_text c.args.word.now segments c.args.records) (string_bytes c.loop-segment.out) (string_bytes c.put_segment_line.new.out) (string_bytes c.put_next_records.new.out)
+          segments index segment c.loop-segment.records (take segment.count c.loop-segment.records) c.put_next_records.new.records here c.loop-segment.invariant.text c.in_ok-put_segment_line.ensures c.in_ok-put_next_records.ensures.text refl c.in_ok-put_next_records.ensures.rest;
+      parted = parted_step segments index segment c.loop-segment.records c.put_next_records.new.records here c.loop-segment.invariant.parted c.in_ok-put_next_records.ensures.rest;
     }
 
 pub returns : goal.returns
-returns c = segments_end c.args.word.now (string_bytes c.args.out.now ++ segments_text c.args.word.now c.args.segments.now c.args.records.now) (string_bytes c.loop-segment.out) c.args.segments.now c.loop-segment.segment-index c.loop-segment.rest.now (omega (arith, c.loop-segment-test.false)) c.loop-segment.invariant.text
+returns c = segments_end c.args.word.now (string_bytes c.args.out.now ++ segments_text c.args.word.now c.args.segments.now c.args.records) (string_bytes c.loop-segment.out) c.args.segments.now c.loop-segment.segment-index c.loop-segment.records (omega (arith, c.loop-segment-test.false)) c.loop-segment.invariant.text

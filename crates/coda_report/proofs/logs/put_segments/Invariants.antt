@@ -6,6 +6,6 @@ use Rattle.coda_report.proofs.logs.put_segments.Given as goal
 
 abbrev pub invariant-loop-segment : goal.invariant-loop-segment
 invariant-loop-segment l = record {
-  text : string_bytes l.out ++ segments_text l.word (drop l.segment-index l.segments) l.rest ≡ string_bytes l.initial.out ++ segments_text l.word l.segments l.records;
-  parted : ArePartedBy (drop l.segment-index l.segments) l.rest;
+  text : string_bytes l.out ++ segments_text l.word (drop l.segment-index l.segments) l.records ≡ string_bytes l.initial.out ++ segments_text l.word l.segments l.fn.records;
+  parted : ArePartedBy (drop l.segment-index l.segments) l.records;
 }

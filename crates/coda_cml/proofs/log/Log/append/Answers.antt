@@ -24,7 +24,7 @@ pub regroup_last-requires-clause-in_turn : goal.regroup_last-requires-clause-in_
 regroup_last-requires-clause-in_turn c = subst AreInTurn (sym c.reserve.ensures.items) (turn_behind c.self.inside.chunk_segments.items c.self.inside.segments.items c.self.invariant.parted.in_turn)
 
 pub regroup_last-requires-clause-counted : goal.regroup_last-requires-clause-counted
-regroup_last-requires-clause-counted c = ap total c.reserve.ensures.items ∙ parted_total c.self.inside.segments.items c.self.inside.tail c.self.invariant.parted.parts ∙ ap length (sym c.records-before.ensures.same)
+regroup_last-requires-clause-counted c = ap total c.reserve.ensures.items ∙ parted_total c.self.inside.segments.items c.self.inside.tail c.self.invariant.parted.parts ∙ sym c.len-before.ensures
 
 pub regroup_last-requires-clause-left : goal.regroup_last-requires-clause-left
 regroup_last-requires-clause-left c =
@@ -35,8 +35,8 @@ regroup_last-requires-clause-left c =
     let fits = front_fits c.self.inside.last c.self.inside.segments.items c.self.inside.tail c.args.rec turn ends c.self.invariant.parted.parts later below in
     let front : total (ended_before c.in-Ok.least c.reserve.new.self.items) ≡ total (ended_before (least (dropped c.self.inside.tail c.args.rec)) c.self.inside.segments.items) =
     λ i. total (ended_before (c.in-Ok.ensures.least i) (c.reserve.ensures.items i)) in
-    let left = ap length (c.records-after.ensures.same ∙ c.in-Ok.ensures.ok) in
-    subst (λ n. n ≤ length c.records-after.result.now) (sym front) (subst (λ n. total (ended_before (least (dropped c.self.inside.tail c.args.rec)) c.self.inside.segments.items) ≤ n) (sym left) fits)
+    let left = c.len-after.ensures ∙ ap length c.in-Ok.ensures.ok in
+    subst (λ n. n ≤ c.len-after.result) (sym front) (subst (λ n. total (ended_before (least (dropped c.self.inside.tail c.args.rec)) c.self.inside.segments.items) ≤ n) (sym left) fits)
 
 pub invariant_of-self-2 : goal.invariant_of-self-2
 invariant_of-self-2 c =
@@ -45,7 +45,7 @@ invariant_of-self-2 c =
     let turn = turn_behind c.self.inside.chunk_segments.items c.self.inside.segments.items c.self.invariant.parted.in_turn in
     let ends = ends_behind c.self.inside.last c.self.inside.chunk_segments.items c.self.inside.segments.items c.self.invariant.parted.ended in
     let segments : c.regroup_last.new.segments.items ≡ segments_after c.self.inside.segments.items c.self.inside.tail c.args.rec =
-    c.regroup_last.ensures ∙ (λ i. regrouped_last (c.reserve.ensures.items i) (single [] c.args.rec) (c.in-Ok.ensures.least i) (length ((c.records-after.ensures.same ∙ c.in-Ok.ensures.ok) i)))
+    c.regroup_last.ensures ∙ (λ i. regrouped_last (c.reserve.ensures.items i) (single [] c.args.rec) (c.in-Ok.ensures.least i) ((c.len-after.ensures ∙ ap length c.in-Ok.ensures.ok) i))
     ∙ last_regrouped c.self.inside.last c.self.inside.segments.items c.self.inside.tail c.args.rec turn ends c.self.invariant.parted.parts later below in
     record {
       rising = subst (λ l. IsRising (c.self.inside.chunk ++ l)) (sym c.in-Ok.ensures.ok) (rising_add_behind c.self.inside.chunk c.self.inside.tail c.args.rec c.self.invariant.rising (below_later c.self.inside.last c.args.rec.number later (c.self.inside.chunk ++ c.self.inside.tail) c.self.invariant.reached));
@@ -65,7 +65,7 @@ returns-clause-log c =
     let turn = turn_behind c.self.inside.chunk_segments.items c.self.inside.segments.items c.self.invariant.parted.in_turn in
     let ends = ends_behind c.self.inside.last c.self.inside.chunk_segments.items c.self.inside.segments.items c.self.invariant.parted.ended in
     let segments : c.regroup_last.new.segments.items ≡ segments_after c.self.inside.segments.items c.self.inside.tail c.args.rec =
-    c.regroup_last.ensures ∙ (λ i. regrouped_last (c.reserve.ensures.items i) (single [] c.args.rec) (c.in-Ok.ensures.least i) (length ((c.records-after.ensures.same ∙ c.in-Ok.ensures.ok) i)))
+    c.regroup_last.ensures ∙ (λ i. regrouped_last (c.reserve.ensures.items i) (single [] c.args.rec) (c.in-Ok.ensures.least i) ((c.len-after.ensures ∙ ap length c.in-Ok.ensures.ok) i))
     ∙ last_regrouped c.self.inside.last c.self.inside.segments.items c.self.inside.tail c.args.rec turn ends c.self.invariant.parted.parts later below in
     let same : ◌≡◌ {A = LogState} (record { frozen = c.self.inside.frozen; chunk = c.self.inside.chunk; chunk_segments = c.self.inside.chunk_segments.items; records = c.add.new.self; segments = c.regroup_last.new.segments.items; last = c.args.rec.number; chunks = c.self.inside.chunks }) (appended_to (state_of c.self.inside) c.args.rec) =
     λ i. record { frozen = c.self.inside.frozen; chunk = c.self.inside.chunk; chunk_segments = c.self.inside.chunk_segments.items; records = records i; segments = segments i; last = c.args.rec.number; chunks = c.self.inside.chunks } in

@@ -15,21 +15,21 @@ use Rattle.coda_cml.proofs.log.Log.thaw.Goals as goal
 
 pub invariant_of-self-2 : goal.invariant_of-self-2
 invariant_of-self-2 c =
-    let whole : c.swap.new.x ++ c.swap.new.y ≡ added c.self.inside.chunk c.self.inside.tail = λ i. (c.swap.ensures.x_after ∙ c.in_ok-joins.ensures.later) i ++ (c.swap.ensures.y_after ∙ c.in_ok-joins.ensures.records) i in
-    let chunk : c.swap.new.x ≡ [] = c.swap.ensures.x_after ∙ c.in_ok-joins.ensures.later in
-    let tail : c.swap.new.y ≡ added c.self.inside.chunk c.self.inside.tail = c.swap.ensures.y_after ∙ c.in_ok-joins.ensures.records in
-    let none : c.swap-2.new.x.items ≡ [] = ap (λ v. v.items) c.swap-2.ensures.x_after ∙ c.regroup_all.ensures.later in
-    let counted : c.records.result.now ≡ added c.self.inside.chunk c.self.inside.tail = c.records.ensures.same ∙ c.in_ok-joins.ensures.records in
+    let whole : c.thaw.new.self ++ c.thaw.new.tail ≡ added c.self.inside.chunk c.self.inside.tail = λ i. (c.in_ok-joins.ensures.emptied) i ++ (c.in_ok-joins.ensures.records) i in
+    let chunk : c.thaw.new.self ≡ [] = c.in_ok-joins.ensures.emptied in
+    let tail : c.thaw.new.tail ≡ added c.self.inside.chunk c.self.inside.tail = c.in_ok-joins.ensures.records in
+    let none : c.swap.new.x.items ≡ [] = ap (λ v. v.items) c.swap.ensures.x_after ∙ c.regroup_all.ensures.later in
+    let counted : c.records.result ≡ added c.self.inside.chunk c.self.inside.tail = c.records.ensures.same ∙ c.in_ok-joins.ensures.records in
     let joins : c.deref.result.now ≡ joins_of c.self.inside.chunk c.self.inside.tail = c.deref.ensures.value ∙ c.in_ok-joins.ensures.joins in
-    let segments : c.swap-2.new.y.items ≡ recounted (added c.self.inside.chunk c.self.inside.tail) (rejoined (is_inside (joins_of c.self.inside.chunk c.self.inside.tail)) (c.self.inside.chunk_segments.items ++ c.self.inside.segments.items)) =
-    ap (λ v. v.items) c.swap-2.ensures.y_after ∙ c.regroup_all.ensures.segments
+    let segments : c.swap.new.y.items ≡ recounted (added c.self.inside.chunk c.self.inside.tail) (rejoined (is_inside (joins_of c.self.inside.chunk c.self.inside.tail)) (c.self.inside.chunk_segments.items ++ c.self.inside.segments.items)) =
+    ap (λ v. v.items) c.swap.ensures.y_after ∙ c.regroup_all.ensures.segments
     ∙ (λ i. recounted (counted i) (rejoined (is_inside (joins i)) (c.in_ok-reserve.ensures.items i ++ c.self.inside.segments.items))) in
     record {
       rising = subst IsRising (sym whole) (rising_added c.self.inside.chunk c.self.inside.tail c.self.invariant.rising);
       reached = subst (AreUpTo c.self.inside.last) (sym whole) (up_added c.self.inside.last c.self.inside.chunk c.self.inside.tail
           (upto_front c.self.inside.last c.self.inside.chunk c.self.inside.tail c.self.invariant.reached) (upto_back c.self.inside.last c.self.inside.chunk c.self.inside.tail c.self.invariant.reached));
-      parted = parts_are c.self.inside.last c.swap-2.new.x.items [] c.swap-2.new.y.items (recounted (added c.self.inside.chunk c.self.inside.tail) (rejoined (is_inside (joins_of c.self.inside.chunk c.self.inside.tail)) (c.self.inside.chunk_segments.items ++ c.self.inside.segments.items)))
-          c.swap.new.x [] c.swap.new.y (added c.self.inside.chunk c.self.inside.tail) none chunk segments tail
+      parted = parts_are c.self.inside.last c.swap.new.x.items [] c.swap.new.y.items (recounted (added c.self.inside.chunk c.self.inside.tail) (rejoined (is_inside (joins_of c.self.inside.chunk c.self.inside.tail)) (c.self.inside.chunk_segments.items ++ c.self.inside.segments.items)))
+          c.thaw.new.self [] c.thaw.new.tail (added c.self.inside.chunk c.self.inside.tail) none chunk segments tail
           (thaw_keeps c.self.inside.last c.self.inside.chunk_segments.items c.self.inside.chunk c.self.inside.segments.items c.self.inside.tail c.self.invariant.parted (is_inside (joins_of c.self.inside.chunk c.self.inside.tail))
           (rising_added c.self.inside.chunk c.self.inside.tail c.self.invariant.rising));
       thawed = λ e. (chunk, none);
@@ -37,14 +37,14 @@ invariant_of-self-2 c =
 
 pub returns-clause-run : goal.returns-clause-run
 returns-clause-run c front back h s =
-    let chunk : c.swap.new.x ≡ [] = c.swap.ensures.x_after ∙ c.in_ok-joins.ensures.later in
-    let tail : c.swap.new.y ≡ added c.self.inside.chunk c.self.inside.tail = c.swap.ensures.y_after ∙ c.in_ok-joins.ensures.records in
-    let none : c.swap-2.new.x.items ≡ [] = ap (λ v. v.items) c.swap-2.ensures.x_after ∙ c.regroup_all.ensures.later in
-    let counted : c.records.result.now ≡ added c.self.inside.chunk c.self.inside.tail = c.records.ensures.same ∙ c.in_ok-joins.ensures.records in
+    let chunk : c.thaw.new.self ≡ [] = c.in_ok-joins.ensures.emptied in
+    let tail : c.thaw.new.tail ≡ added c.self.inside.chunk c.self.inside.tail = c.in_ok-joins.ensures.records in
+    let none : c.swap.new.x.items ≡ [] = ap (λ v. v.items) c.swap.ensures.x_after ∙ c.regroup_all.ensures.later in
+    let counted : c.records.result ≡ added c.self.inside.chunk c.self.inside.tail = c.records.ensures.same ∙ c.in_ok-joins.ensures.records in
     let joins : c.deref.result.now ≡ joins_of c.self.inside.chunk c.self.inside.tail = c.deref.ensures.value ∙ c.in_ok-joins.ensures.joins in
-    let segments : c.swap-2.new.y.items ≡ recounted (added c.self.inside.chunk c.self.inside.tail) (rejoined (is_inside (joins_of c.self.inside.chunk c.self.inside.tail)) (c.self.inside.chunk_segments.items ++ c.self.inside.segments.items)) =
-    ap (λ v. v.items) c.swap-2.ensures.y_after ∙ c.regroup_all.ensures.segments
+    let segments : c.swap.new.y.items ≡ recounted (added c.self.inside.chunk c.self.inside.tail) (rejoined (is_inside (joins_of c.self.inside.chunk c.self.inside.tail)) (c.self.inside.chunk_segments.items ++ c.self.inside.segments.items)) =
+    ap (λ v. v.items) c.swap.ensures.y_after ∙ c.regroup_all.ensures.segments
     ∙ (λ i. recounted (counted i) (rejoined (is_inside (joins i)) (c.in_ok-reserve.ensures.items i ++ c.self.inside.segments.items))) in
-    let new : LogState = record { frozen = None; chunk = c.swap.new.x; chunk_segments = c.swap-2.new.x.items; records = c.swap.new.y; segments = c.swap-2.new.y.items; last = c.self.inside.last; chunks = c.self.inside.chunks } in
+    let new : LogState = record { frozen = None; chunk = c.thaw.new.self; chunk_segments = c.swap.new.x.items; records = c.thaw.new.tail; segments = c.swap.new.y.items; last = c.self.inside.last; chunks = c.self.inside.chunks } in
     let same : new ≡ thawed (state_of c.self.inside) = λ i. record { frozen = None; chunk = chunk i; chunk_segments = none i; records = tail i; segments = segments i; last = c.self.inside.last; chunks = c.self.inside.chunks } in
     subst (λ log. IsLogOf log [] (front ++ back)) (sym same) (thawed_log (state_of c.self.inside) front back (subst (λ log. IsLogOf log front back) (sym c.self.view_is) h) s)

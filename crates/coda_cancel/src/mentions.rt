@@ -1,0 +1,140 @@
+// An index of records by the objects that they mention.
+ghost use Rattle.std.specs.Prelude.{◌≡◌, ◌≤◌, false, [], ◌∷◌, IfSome, IfNone, OnOk, OnErr};
+ghost use Rattle.coda_fid.specs.declared.fid.Fid.{Fid};
+ghost use Rattle.coda_fid.specs.Op.{mentions, over_fids};
+ghost use Rattle.coda_cancel.specs.Mentions.{has, tells, names, with_number, IsSame, IsSameElse, Gains, Loses, IsNext, NoneNext, IsFirst, NoneBetween};
+
+use coda_fid::{Fid, Op, Over, Record};
+use std::alloc::AllocError;
+use std::collections::BTreeSet;
+
+// An object that a record of the number mentions.
+#[derive(Clone, Copy, Debug, PartialEq, Eq, PartialOrd, Ord)]
+pub(crate) struct Mention {
+    pub(crate) fid: Fid,
+    pub(crate) number: u64,
+}
+
+// The replaced object, and else another one.
+fn over_or(over: &Option<Over>, fid: Fid) -> Fid
+    ensures { (other : Fid) → names (fid ∷ result ∷ []) other ≡ names (fid ∷ over_fids over.now) other }
+{
+    match over {
+        Some(over) => over.fid,
+        None => fid,
+    }
+}
+
+// The objects that an operation mentions, some of them more than once.
+fn fids(op: &Op) -> [Fid; 4]
+    ensures { (fid : Fid) → names result fid ≡ mentions op.now fid }
+{
+    match op {
+        Op::Create { dir, fid, .. } => [*dir, *fid, *fid, *fid],
+        Op::Mkdir { dir, fid, .. } => [*dir, *fid, *fid, *fid],
+        Op::Symlink { dir, fid, .. } => [*dir, *fid, *fid, *fid],
+        Op::Store { fid, .. } => [*fid; 4],
+        Op::Setattr { fid, .. } => [*fid; 4],
+        Op::Remove { dir, fid, .. } => [*dir, *fid, *fid, *fid],
+        Op::Rmdir { dir, fid, .. } => [*dir, *fid, *fid, *fid],
+        Op::Rename {
+            from_dir,
+            to_dir,
+            fid,
+            over,
+            ..
+        } => [*from_dir, *to_dir, *fid, over_or(over, *fid)],
+    }
+}
+
+// Puts one in.
+fn put(index: &mut BTreeSet<Mention>, fid: Fid, number: u64) -> Result<(), AllocError>
+    ensures ok { OnOk result (Gains (has index.old) (has index.new) (with_number number (fid ∷ []))) }
+    ensures err { OnErr result (IsSame (has index.old) (has index.new)) }
+{
+    index.insert(Mention { fid, number })?;
+    Ok(())
+}
+
+// Takes one out.
+fn take(index: &mut BTreeSet<Mention>, fid: Fid, number: u64)
+    ensures { Loses (has index.old) (has index.new) (with_number number (fid ∷ [])) }
+{
+    index.remove(&Mention { fid, number });
+}
+
+// Puts in a number with fids, until memory is wanted.
+fn put_all(index: &mut BTreeSet<Mention>, fids: &[Fid], number: u64) -> Result<(), AllocError>
+    ensures ok { OnOk result (Gains (has index.old) (has index.new) (with_number number fids.now)) }
+    ensures err { OnErr result (IsSameElse (has index.old) (has index.new) (with_number number fids.now)) }
+{
+    for fid in fids {
+        put(index, *fid, number)?;
+    }
+    Ok(())
+}
+
+// Takes out a number with fids.
+fn take_all(index: &mut BTreeSet<Mention>, fids: &[Fid], number: u64)
+    ensures { Loses (has index.old) (has index.new) (with_number number fids.now) }
+{
+    for fid in fids {
+        take(index, *fid, number);
+    }
+}
+
+/// Puts in what a record mentions; where memory is wanted, nothing. No record of its number is there.
+pub(crate) fn note(index: &mut BTreeSet<Mention>, rec: &Record) -> Result<(), AllocError>
+    requires { (fid : Fid) → has index.old fid rec.now.number ≡ false }
+    ensures ok { OnOk result (Gains (has index.old) (has index.new) (tells rec.now)) }
+    ensures err { OnErr result (IsSame (has index.old) (has index.new)) }
+{
+    let fids = fids(&rec.op);
+    let done = put_all(index, &fids, rec.number);
+    if done.is_err() {
+        take_all(index, &fids, rec.number);
+    }
+    done
+}
+
+/// Takes out what a record mentions. Wants no memory.
+pub(crate) fn forget(index: &mut BTreeSet<Mention>, rec: &Record)
+    ensures { Loses (has index.old) (has index.new) (tells rec.now) }
+{
+    take_all(index, &fids(&rec.op), rec.number);
+}
+
+/// The number of the first record that mentions the object, of those above a number and up to another.
+pub(crate) fn next_mention(
+    index: &BTreeSet<Mention>,
+    fid: Fid,
+    after: Option<u64>,
+    last: Option<u64>,
+) -> Option<u64>
+    ensures some { IfSome result (IsNext index.now fid after last) }
+    ensures none { IfNone result (NoneNext index.now fid after last) }
+{
+    let last = last?;
+    let from = match after {
+        Some(number) => number.checked_add(1)?,
+        None => 0,
+    };
+    if from > last {
+        return None;
+    }
+    first_between(index, fid, from, last)
+}
+
+// The first number from one up to another under which the index has the object.
+fn first_between(index: &BTreeSet<Mention>, fid: Fid, from: u64, last: u64) -> Option<u64>
+    requires { from ≤ last }
+    ensures some { IfSome result (IsFirst index.now fid from last) }
+    ensures none { IfNone result (NoneBetween index.now fid from last) }
+{
+    let start = Mention { fid, number: from };
+    let end = Mention { fid, number: last };
+    match index.range(start..=end).next() {
+        Some(mention) => Some(mention.number),
+        None => None,
+    }
+}
