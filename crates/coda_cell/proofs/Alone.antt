@@ -227,9 +227,22 @@ module _ (s : Sight) (volume : ℕ) (whole : IsWhole volume s.held) where
     where
       gone : (node : Node) (kind : NodeKind) → map.get nodes at.1 ≡ Some node → node.kind ≡ kind → is_dir kind ≡ false → first_reason nodes (checks (RemoveOp at.0 e.1 at.1 node.sid)) ≡ None
       gone node kind is k no_dir =
-          fine nodes (remove_checks at.0 e.1 at.1 node.sid)
-          (dir_at at.0 here.dir, (unmarked_at at.0, (unmarked_at at.1, (object_there (map.get nodes at.1) at.1 (ap is_some is), (kind_fine is_dir (map.get nodes at.1) node kind at.1 is k no_dir,
-          (bound_there (child nodes at.0 e.1) at.1 here.bound, (version_same (map.get nodes at.1) node is, tt)))))))
+          fine nodes (remove_checks at.0 e.1 at.1 node.sid) (
+            dir_at at.0 here.dir,
+            (
+              unmarked_at at.0,
+              (
+                unmarked_at at.1,
+                (
+                  object_there (map.get nodes at.1) at.1 (ap is_some is),
+                  (
+                    kind_fine is_dir (map.get nodes at.1) node kind at.1 is k no_dir,
+                    (bound_there (child nodes at.0 e.1) at.1 here.bound, (version_same (map.get nodes at.1) node is, tt)),
+                  ),
+                ),
+              ),
+            ),
+          )
 
       within : (node : Node) (kind : NodeKind) → map.get nodes at.1 ≡ Some node → node.kind ≡ kind → remove_in kind at.0 e.1 at.1 node.sid ≡ Ok op → first_reason nodes (checks op) ≡ None
       within node (File content) is k x = subst (λ o. first_reason nodes (checks o) ≡ None) (ok_is (RemoveOp at.0 e.1 at.1 node.sid) op x) (gone node (File content) is k refl)
@@ -247,10 +260,28 @@ module _ (s : Sight) (volume : ℕ) (whole : IsWhole volume s.held) where
       emptied : (node : Node) (entries : map.FinMap name_cmp Fid) (empty none : Bool) → map.get nodes at.1 ≡ Some node → node.kind ≡ Dir entries → (map.len entries == 0) ≡ empty → rmdir_of (empty && none) at.0 e.1 at.1 node.sid ≡ Ok op
           → first_reason nodes (checks op) ≡ None
       emptied node entries true true is k none_in x = subst (λ o. first_reason nodes (checks o) ≡ None) (ok_is (RmdirOp at.0 e.1 at.1 node.sid) op x)
-          (fine nodes (rmdir_checks at.0 e.1 at.1 node.sid)
-          (dir_at at.0 here.dir, (unmarked_at at.0, (unmarked_at at.1, (object_there (map.get nodes at.1) at.1 (ap is_some is), (kind_fine is_no_dir (map.get nodes at.1) node (Dir entries) at.1 is k refl,
-          (bound_there (child nodes at.0 e.1) at.1 here.bound, (version_same (map.get nodes at.1) node is,
-          (ap not_empty_of is ∙ ap not_empty_in k ∙ where_false (not (map.len entries == 0)) NotEmpty (ap not none_in), tt)))))))))
+          (fine nodes (rmdir_checks at.0 e.1 at.1 node.sid) (
+            dir_at at.0 here.dir,
+            (
+              unmarked_at at.0,
+              (
+                unmarked_at at.1,
+                (
+                  object_there (map.get nodes at.1) at.1 (ap is_some is),
+                  (
+                    kind_fine is_no_dir (map.get nodes at.1) node (Dir entries) at.1 is k refl,
+                    (
+                      bound_there (child nodes at.0 e.1) at.1 here.bound,
+                      (
+                        version_same (map.get nodes at.1) node is,
+                        (ap not_empty_of is ∙ ap not_empty_in k ∙ where_false (not (map.len entries == 0)) NotEmpty (ap not none_in), tt),
+                      ),
+                    ),
+                  ),
+                ),
+              ),
+            ),
+          ))
       emptied node entries true false is k none_in x = cc
       emptied node entries false none is k none_in x = cc
 
@@ -294,14 +325,62 @@ module _ (s : Sight) (volume : ℕ) (whole : IsWhole volume s.held) where
       rest = below (is_held_below s.held.parents p.0 fid) (then_find (replaced_by nodes fid p.1) (λ over. Ok (RenameOp from_dir from p.0 to fid over))) refl h
 
       moves : child nodes p.0 to ≡ None → FindNothing nodes (move_checks from_dir from p.0 to fid)
-      moves free = (dir_at from_dir from_there, (dir_at p.0 to_there, (unmarked_at from_dir, (unmarked_at p.0, (unmarked_at fid, (object_there (map.get nodes fid) fid there,
-            (free_at p.0 to free, (bound_there (child nodes from_dir from) fid from_bound, (no_loop p.0 fid to_there rest.0, tt)))))))))
+      moves free = (
+        dir_at from_dir from_there,
+        (
+          dir_at p.0 to_there,
+          (
+            unmarked_at from_dir,
+            (
+              unmarked_at p.0,
+              (
+                unmarked_at fid,
+                (
+                  object_there (map.get nodes fid) fid there,
+                  (free_at p.0 to free, (bound_there (child nodes from_dir from) fid from_bound, (no_loop p.0 fid to_there rest.0, tt))),
+                ),
+              ),
+            ),
+          ),
+        ),
+      )
 
       replaces : (old : Fid) (node : Node) → child nodes p.0 to ≡ Some old → map.get nodes old ≡ Some node → same_fid old fid ≡ false → is_dir_at (map.get nodes fid) ≡ false → is_dir_at (map.get nodes old) ≡ false
           → FindNothing nodes (replace_checks from_dir from p.0 to fid (record { fid = old; pre = node.sid }))
-      replaces old node at is other file old_file = (dir_at from_dir from_there, (dir_at p.0 to_there, (unmarked_at from_dir, (unmarked_at p.0, (unmarked_at fid, (unmarked_at old, (object_there (map.get nodes fid) fid there,
-            (object_there (map.get nodes old) old (ap is_some is), (no_dir_there (map.get nodes old) old old_file, (no_dir_there (map.get nodes fid) fid file, (where_false (same_fid old fid) (WrongKind fid) other,
-            (bound_there (child nodes from_dir from) fid from_bound, (bound_there (child nodes p.0 to) old at, (version_same (map.get nodes old) node is, (no_loop p.0 fid to_there rest.0, tt)))))))))))))))
+      replaces old node at is other file old_file = (
+        dir_at from_dir from_there,
+        (
+          dir_at p.0 to_there,
+          (
+            unmarked_at from_dir,
+            (
+              unmarked_at p.0,
+              (
+                unmarked_at fid,
+                (
+                  unmarked_at old,
+                  (
+                    object_there (map.get nodes fid) fid there,
+                    (
+                      object_there (map.get nodes old) old (ap is_some is),
+                      (
+                        no_dir_there (map.get nodes old) old old_file,
+                        (
+                          no_dir_there (map.get nodes fid) fid file,
+                          (
+                            where_false (same_fid old fid) (WrongKind fid) other,
+                            (bound_there (child nodes from_dir from) fid from_bound, (bound_there (child nodes p.0 to) old at, (version_same (map.get nodes old) node is, (no_loop p.0 fid to_there rest.0, tt)))),
+                          ),
+                        ),
+                      ),
+                    ),
+                  ),
+                ),
+              ),
+            ),
+          ),
+        ),
+      )
 
       over_there : (old : Fid) (o : Option Node) (over : Option Over) → child nodes p.0 to ≡ Some old → map.get nodes old ≡ o → same_fid old fid ≡ false → is_dir_at (map.get nodes fid) ≡ false → is_dir_at (map.get nodes old) ≡ false
           → with_version o old ≡ Ok over → first_reason nodes (rename_checks from_dir from p.0 to fid over) ≡ None

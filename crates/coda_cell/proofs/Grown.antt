@@ -20,9 +20,9 @@ client_grown cell number entry = λ i. record (state_of cell) { clients = λ q. 
         ≡ cond (q == number) (option_map (λ c. client_after c entry) (option_map (client_of number (cell.acted.clients number).history) (cell.sizes number))) (option_map (client_of q (cell.acted.clients q).history) (cell.sizes q))
     at q = elim (q == number) as (λ b. (q == number) ≡ b → option_map (client_of q (cond b (grown_actor entry (cell.acted.clients number)) (cell.acted.clients q)).history) (cell.sizes q)
         ≡ cond b (option_map (λ c. client_after c entry) (option_map (client_of number (cell.acted.clients number).history) (cell.sizes number))) (option_map (client_of q (cell.acted.clients q).history) (cell.sizes q))) [
-      | true ↦ λ e. ap (λ n. option_map (client_of n ((cell.acted.clients number).history ++ entry ∷ [])) (cell.sizes n)) (eqb-true q number e) ∙ client_more number (cell.acted.clients number).history entry (cell.sizes number)
-      | false ↦ λ e. refl
-    ] refl
+          | true ↦ λ e. ap (λ n. option_map (client_of n ((cell.acted.clients number).history ++ entry ∷ [])) (cell.sizes n)) (eqb-true q number e) ∙ client_more number (cell.acted.clients number).history entry (cell.sizes number)
+          | false ↦ λ e. refl
+        ] refl
 
 -- a replica with one entry more, where the entry is of its server
 replica_more : (histories : ℕ → List ReplicaEntry) (volume server home : ℕ) (entry : ReplicaEntry) (new : List ReplicaEntry) → new ≡ cond (home == server) (histories server ++ entry ∷ []) (histories home)
@@ -54,9 +54,9 @@ replica_grown cell server volume entry = λ i. record (state_of cell) { replicas
         ≡ cond (v == volume) (option_map (replica_after_at server entry) (option_map (replica_of (λ s. (cell.acted.replicas s volume).history) volume) (cell.homes volume))) (option_map (replica_of (λ s. (cell.acted.replicas s v).history) v) (cell.homes v))
     at v = elim (v == volume) as (λ b. (v == volume) ≡ b → option_map (λ home. replica_after_all (new_replica home v) (cond ((home == server) && b) (grown_actor entry (cell.acted.replicas server volume)) (cell.acted.replicas home v)).history) (cell.homes v)
         ≡ cond b (option_map (replica_after_at server entry) (option_map (replica_of (λ s. (cell.acted.replicas s volume).history) volume) (cell.homes volume))) (option_map (replica_of (λ s. (cell.acted.replicas s v).history) v) (cell.homes v))) [
-      | true ↦ λ e. ap (λ w. option_map (λ home. replica_after_all (new_replica home w) (cond ((home == server) && true) (grown_actor entry (cell.acted.replicas server volume)) (cell.acted.replicas home w)).history) (cell.homes w)) (eqb-true v volume e) ∙ here (cell.homes volume)
-      | false ↦ λ e. elsewhere v (cell.homes v)
-    ] refl
+          | true ↦ λ e. ap (λ w. option_map (λ home. replica_after_all (new_replica home w) (cond ((home == server) && true) (grown_actor entry (cell.acted.replicas server volume)) (cell.acted.replicas home w)).history) (cell.homes w)) (eqb-true v volume e) ∙ here (cell.homes volume)
+          | false ↦ λ e. elsewhere v (cell.homes v)
+        ] refl
 
 -- a volume that is made now, on which nothing was done
 pub volume_grown : (cell : MadeCell) (volume server : ℕ) → ((s : ℕ) → (cell.acted.replicas s volume).history ≡ []) → state_of (grown cell (VolumeMade volume server)) ≡ after (state_of cell) (VolumeMade volume server)
@@ -66,9 +66,9 @@ volume_grown cell volume server none = λ i. record (after (state_of cell) (Volu
         ≡ cond (v == volume) (Some (new_replica server volume)) (option_map (replica_of (λ s. (cell.acted.replicas s v).history) v) (cell.homes v))
     at v = elim (v == volume) as (λ b. (v == volume) ≡ b → option_map (replica_of (λ s. (cell.acted.replicas s v).history) v) (cond b (Some server) (cell.homes v))
         ≡ cond b (Some (new_replica server volume)) (option_map (replica_of (λ s. (cell.acted.replicas s v).history) v) (cell.homes v))) [
-      | true ↦ λ e. ap (λ w. Some (replica_after_all (new_replica server w) (cell.acted.replicas server w).history)) (eqb-true v volume e) ∙ ap (λ h. Some (replica_after_all (new_replica server volume) h)) (none server)
-      | false ↦ λ e. refl
-    ] refl
+          | true ↦ λ e. ap (λ w. Some (replica_after_all (new_replica server w) (cell.acted.replicas server w).history)) (eqb-true v volume e) ∙ ap (λ h. Some (replica_after_all (new_replica server volume) h)) (none server)
+          | false ↦ λ e. refl
+        ] refl
 
 -- a client that is made now and did nothing
 pub client_made : (cell : MadeCell) (client blocks : ℕ) → (cell.acted.clients client).history ≡ [] → state_of (grown cell (ClientMade client blocks)) ≡ after (state_of cell) (ClientMade client blocks)
@@ -78,6 +78,6 @@ client_made cell client blocks none = λ i. record (after (state_of cell) (Clien
         ≡ cond (q == client) (Some (new_client client blocks)) (option_map (client_of q (cell.acted.clients q).history) (cell.sizes q))
     at q = elim (q == client) as (λ b. (q == client) ≡ b → option_map (client_of q (cell.acted.clients q).history) (cond b (Some blocks) (cell.sizes q))
         ≡ cond b (Some (new_client client blocks)) (option_map (client_of q (cell.acted.clients q).history) (cell.sizes q))) [
-      | true ↦ λ e. ap (λ n. Some (client_after_all (new_client n blocks) (cell.acted.clients n).history)) (eqb-true q client e) ∙ ap (λ h. Some (client_after_all (new_client client blocks) h)) none
-      | false ↦ λ e. refl
-    ] refl
+          | true ↦ λ e. ap (λ n. Some (client_after_all (new_client n blocks) (cell.acted.clients n).history)) (eqb-true q client e) ∙ ap (λ h. Some (client_after_all (new_client client blocks) h)) none
+          | false ↦ λ e. refl
+        ] refl

@@ -66,7 +66,7 @@ may_freeze deeds number last law thawed next goes =
     let o = (orderly deeds law).1 in
     let done = (course_of deeds).done in
     let ends = last_between done (course_of deeds).operations last (records_upto last (pending_of deeds)) (above_in_front done last (pending_of deeds) (above_up done (full_of deeds)))
-            (up_in_front (course_of deeds).operations last (pending_of deeds) (up_behind (course_of deeds).operations done (full_of deeds) o.most)) goes.last in
+    (up_in_front (course_of deeds).operations last (pending_of deeds) (up_behind (course_of deeds).operations done (full_of deeds) o.most)) goes.last in
     record { thawed = thawed; next = next; pending = ends.0; there = ends.1; ends = goes.cut }
 
 -- ---- the three entries
@@ -235,8 +235,8 @@ module _ (cell : MadeCell) (number blocks : ℕ) (kept : IsKept cell) (there : c
     thawed = by_place (λ c w ds. (course_of ds).cut ≡ None) (ap (λ (x : Course). x.cut) course_third) (λ c w other. kept.settled.thawed c w);
     told = by_place (λ c w ds. (s : ℕ) → cell.homes w ≡ Some s → (last_of w (third.acted.replicas s w).history c).number ≡ (course_of ds).chunks)
         (λ s e. (let same : Some server ≡ Some s = sym homed ∙ e in
-            let s_is : server ≡ s = cc in
-            ap (λ x. (last_of volume (third.acted.replicas x volume).history number).number) (sym s_is) ∙ last_here ∙ sym (ap (λ (x : Course). x.chunks) course_third)))
+        let s_is : server ≡ s = cc in
+        ap (λ x. (last_of volume (third.acted.replicas x volume).history number).number) (sym s_is) ∙ last_here ∙ sym (ap (λ (x : Course). x.chunks) course_third)))
         (λ c w other s e. ap (λ (l : Last). l.number) (last_else c w s other) ∙ kept.settled.told c w s e);
   }
 

@@ -64,8 +64,7 @@ fetches_moved : (cell : MadeCell) (number : ℕ) (fetches : List Fetch) → AreU
 fetches_moved cell number [] up there = refl
 fetches_moved cell number (fetch ∷ fetches) up there =
     let at = there fetch (inl refl) in
-    let next = grown cell (at_client number (fetched fetch)) in
-    (
+    let next = grown cell (at_client number (fetched fetch)) in (
       (up.clients number, (at.server, at.volume, up.replicas at.server at.volume, at.there)),
       fetches_moved next number fetches (up_all cell (at_client number (fetched fetch) ∷ []) up)
           (λ f i. let r = there f (inr i) in record { server = r.server; volume = r.volume; there = r.there }),
@@ -258,7 +257,7 @@ module _ (cell : MadeCell) (number blocks : ℕ) (kept : IsKept cell) (there : c
       let run = pending_is cell kept number blocks w in
       let rec = some_record (makes_in dir kid) (pending_of (done_on cell.acted number w)) (ap (any_record (makes_in dir kid)) (sym run) ∙ makes) in
       let made = (kept.sound.agree none_joins).made number w rec.0 (in_above (course_of (done_on cell.acted number w)).done rec.0 (full_of (done_on cell.acted number w)) rec.1) kid
-          (creates_mentions kid rec.0.op (makes_parts dir kid rec.0.op rec.2).1) in
+      (creates_mentions kid rec.0.op (makes_parts dir kid rec.0.op rec.2).1) in
       let same : w ≡ volume = sym made.0 ∙ (names kid (unbinds_mentions op kid takes)).0 in
       false≢true (sym off ∙ eq-eqb w volume same))
 

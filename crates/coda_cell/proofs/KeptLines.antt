@@ -259,7 +259,7 @@ module _ (cell : MadeCell) (kept : IsKept cell) where
       let c = client_there cell kept client did.client did.there in
       let home = home_there volume (are_there (client_named (state_of cell) client) (volume_named (state_of cell) volume) all).1 in
       subst (IsLeft cell) (sym (did.happened ∙ ap (λ x. map (at_client client) (operate (offers_of (state_of cell) client volume) x cell.clock volume ask).entries) (sym c.2)))
-          (operate_left cell client c.0 kept c.1 volume home.0 home.1 cell.clock ask)) does
+      (operate_left cell client c.0 kept c.1 volume home.0 home.1 cell.clock ask)) does
 
   shows_left : (ask : Option Nodes → ClientState → Answer) (client volume : ℕ) (path : List Name) (reply : Reply) (events : List Event)
       → ((offers : Option Nodes) (c : ClientState) → (ask offers c).entries ≡ entries_of (look_along offers c.held (root_of volume) path))
@@ -269,14 +269,14 @@ module _ (cell : MadeCell) (kept : IsKept cell) where
       let offers = offers_of (state_of cell) client volume in
       let made = client_of client (cell.acted.clients client).history c.0 in
       subst (IsLeft cell) (sym (did.happened ∙ ap (λ x. map (at_client client) (ask offers x).entries) (sym c.2) ∙ ap (map (at_client client)) (looks offers made)))
-          (looked_left cell client c.0 kept c.1 volume (look_along offers made.held (root_of volume) path) (along offers made.held (root_of volume) path))) does
+      (looked_left cell client c.0 kept c.1 volume (look_along offers made.held (root_of volume) path) (along offers made.held (root_of volume) path))) does
 
   both_left : (o : Option Refused) (client volume window : ℕ) (reply : Reply) (events : List Event) → Unless o (ByBoth (state_of cell) client volume window) reply events → IsLeft cell events
   both_left o client volume window reply events does = unless_own o (ByBoth (state_of cell) client volume window) reply events (λ all did.
       let c = client_there cell kept client did.client did.client_there in
       let r = replica_there volume did.replica did.replica_there in
       subst (IsLeft cell) (sym (did.happened ∙ (λ i. (drain (cell.links client (sym r.2 i).server) cell.clock window client volume ((sym c.2 i).volumes volume) (sym r.2 i)).events)))
-          (drain_left cell client c.0 kept c.1 volume r.0 r.1 cell.clock window (cell.links client (replica_of (λ s. (cell.acted.replicas s volume).history) volume r.0).server))) does
+      (drain_left cell client c.0 kept c.1 volume r.0 r.1 cell.clock window (cell.links client (replica_of (λ s. (cell.acted.replicas s volume).history) volume r.0).server))) does
 
   task_left : (t : Task) (reply : Reply) (events : List Event) → DoesTask (state_of cell) t reply events → IsLeft cell events
   task_left (task.Create client volume path mode owner) reply events does = operates_left client volume (Create path (unwrap_or mode 420) (unwrap_or owner 0)) reply events does

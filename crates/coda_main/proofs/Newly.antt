@@ -135,8 +135,7 @@ held_said show tells offers c volume path fetched e =
     let fetches = look_along offers c.held (root_of volume) path in
     let after = (held_after_fetches c.held fetches).nodes in
     let told = told_at show tells fetches after (resolve after (root_of volume) path) fetched e in
-    let new = new_along offers c.held (root_of volume) path told.0 in
-    (
+    let new = new_along offers c.held (root_of volume) path told.0 in (
       told.0,
       ap (λ (x : ClientState). resolve x.held.nodes (root_of volume) path) (client_after_fetches c fetches) ∙ told.1,
       sym told.2 ∙ fetched_not_held (has c.held.nodes told.0) (has after told.0) (is_fetched fetches told.0) new.0 new.1 (resolved_has after (root_of volume) path told.0 told.1),

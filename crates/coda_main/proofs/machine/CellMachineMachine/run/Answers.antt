@@ -9,8 +9,7 @@ pub returns-in-Ok-text_of-clause-ok : goal.returns-in-Ok-text_of-clause-ok
 returns-in-Ok-text_of-clause-ok c =
     let said = c.in-Ok-Some.said in
     let built : is_built said ≡ true = search rules in
-    let spelled = c.in-Ok-Some.ensures.exact ∙ ap Ok c.in-Ok-Some.field-0-is in
-    (
+    let spelled = c.in-Ok-Some.ensures.exact ∙ ap Ok c.in-Ok-Some.field-0-is in (
       [],
       λ plain shows. line_gives plain c.args.self.now (record { cell = c.step.new.self }) c.args.line.now c.into_vec.result.items said c.in-Ok.reply shows spelled built
           (c.in-Ok.ensures (state_of plain) shows.left (orderly plain shows.kept)) (λ s is. c.into_vec.ensures ∙ c.in-Ok-text_of.ensures s is),
