@@ -8,8 +8,7 @@ use std::marker::Model;
 
 /// Records that are lent, in the order of their numbers.
 ///
-/// Contracts see the list of the records. Between those of a tail there may be gaps, as many as there are records and one
-/// more; who reads them goes past those.
+/// Contracts see the list of the records. Between those of a tail there may be gaps, which who reads them goes past.
 #[derive(Drop)]
 pub struct LentRecords<'a> {
     // Those of a slice, and then those that stand in places; so many together.

@@ -10,3 +10,4 @@ pub mod PartedRecords
 pub mod PartsKept
 pub mod Fronts
 pub mod LastJoined
+pub mod WidestJoins

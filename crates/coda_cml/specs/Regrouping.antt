@@ -1,13 +1,48 @@
 -- How the code keeps segments: it joins neighbours, and counts their records again.
-use Rattle.std.specs.Prelude.{ℕ, ◌+◌, Bool, true, false, not, if◌then◌else◌, ◌&&◌, nat_le, nat_lt, max, List, [], ◌∷◌, drop}
+use Rattle.std.specs.Prelude.{ℕ, ◌+◌, ◌<◌, Bool, true, false, not, if◌then◌else◌, ◌&&◌, nat_le, nat_lt, max, List, [], ◌∷◌, drop}
 use Rattle.std.specs.List.{list_any}
 use Rattle.coda_fid.specs.declared.op.Record.{Record}
 use Rattle.coda_cancel.specs.declared.join.Join.{Join}
 use Rattle.coda_cml.specs.declared.segment.Segment.{Segment}
 
+-- whether the operation is above the number and dropped a record up to it
+abbrev pub is_within : ℕ → Join → Bool
+is_within number join = nat_le join.least number && nat_lt number join.number
+
 -- whether an operation above the number dropped a record up to it
 abbrev pub is_inside : List Join → ℕ → Bool
-is_inside joins number = list_any (λ join. nat_le join.least number && nat_lt number join.number) joins
+is_inside joins number = list_any (is_within number) joins
+
+-- the operations are below the number
+abbrev pub AreJoinsBelow : ℕ → List Join → Type 0
+AreJoinsBelow number [] = Unit {0}
+AreJoinsBelow number (join ∷ rest) = (join.number < number) × AreJoinsBelow number rest
+
+-- the operations are above this one
+abbrev pub AreJoinsAbove : ℕ → List Join → Type 0
+AreJoinsAbove number [] = Unit {0}
+AreJoinsAbove number (join ∷ rest) = (number < join.number) × AreJoinsAbove number rest
+
+-- the numbers of the operations rise
+abbrev pub DoNumbersRise : List Join → Type 0
+DoNumbersRise [] = Unit {0}
+DoNumbersRise (join ∷ rest) = AreJoinsAbove join.number rest × DoNumbersRise rest
+
+-- they are above this one, and dropped records above its least one
+abbrev pub AreJoinsBehind : Join → List Join → Type 0
+AreJoinsBehind join [] = Unit {0}
+AreJoinsBehind join (next ∷ rest) = (join.least < next.least) × (join.number < next.number) × AreJoinsBehind join rest
+
+-- the numbers of the operations rise, and so do the least ones that they dropped
+abbrev pub DoJoinsRise : List Join → Type 0
+DoJoinsRise [] = Unit {0}
+DoJoinsRise (join ∷ rest) = AreJoinsBehind join rest × DoJoinsRise rest
+
+-- whether the last operation dropped records only from this number on
+abbrev pub ends_from : ℕ → List Join → Bool
+ends_from least [] = false
+ends_from least (join ∷ []) = nat_le least join.least
+ends_from least (join ∷ next ∷ rest) = ends_from least (next ∷ rest)
 
 -- a segment with the next one, as to its ends and times
 abbrev pub widened : Segment → Segment → Segment

@@ -2,13 +2,13 @@ ghost use Rattle.std.specs.Prelude.{◌≡◌, ◌≤◌, ◌+◌, [], ◌++◌,
 ghost use Rattle.std.specs.Vec.{vec_len, vec_capacity};
 ghost use Rattle.coda_fid.specs.declared.op.Record.{Record};
 ghost use Rattle.coda_cancel.specs.Weights.{fits, total_weight};
-ghost use Rattle.coda_cml.specs.Regrouping.{is_inside, rejoined, recounted};
+ghost use Rattle.coda_cml.specs.Regrouping.{is_inside, DoJoinsRise, rejoined, recounted};
 ghost use Rattle.coda_cml.specs.Room.{room_fits};
 ghost use Rattle.coda_cml.specs.Segments.{end_of};
 
 use crate::choosing::{chunk_length, too_young};
 use crate::chunk::Chunk;
-use crate::regrouping::{recount, regroup_last, rejoin, take_upto};
+use crate::regrouping::{keep_widest, recount, regroup_last, rejoin, take_upto};
 use crate::{FreezeFault, Frozen, LogFault, Segment, SettleFault};
 use coda_cancel::{Join, LentRecords, Tail};
 use coda_certify::Verdict;
@@ -277,11 +277,13 @@ impl Log {
         ensures err { OnErr result (self.new ≡ self.old) }
     {
         self.chunk_segments.reserve(self.segments.len())?;
+        let mut widest = Vec::with_capacity(*self.segments.allocator(), self.tail.len())?;
         let joins = self.chunk.thaw(&mut self.tail)?;
+        keep_widest(&joins, &mut widest);
         regroup_all(
             &mut self.chunk_segments,
             &mut self.segments,
-            &joins,
+            &widest,
             self.tail.records(),
         );
         mem::swap(&mut self.chunk_segments, &mut self.segments);
@@ -420,7 +422,8 @@ fn regroup_all(
     joins: &[Join],
     mut records: LentRecords<'_>,
 )
-    requires { vec_len segments.old + vec_len later.old ≤ vec_capacity segments.old }
+    requires room { vec_len segments.old + vec_len later.old ≤ vec_capacity segments.old }
+    requires rise { DoJoinsRise joins.now }
     ensures segments { segments.new.items ≡ recounted records.entry (rejoined (is_inside joins.now) (segments.old.items ++ later.old.items)) }
     ensures later { later.new.items ≡ [] }
 {

@@ -1,22 +1,75 @@
 // Joining segments, and counting their records.
-ghost use Rattle.std.specs.Prelude.{◌≡◌, ◌≤◌, ◌<◌, ◌+◌, ◌^◌, Some, drop, length};
+ghost use Rattle.std.specs.Prelude.{◌≡◌, ℕ, ◌||◌, [], ◌≤◌, ◌<◌, ◌+◌, ◌^◌, Some, drop, length};
 ghost use Rattle.std.specs.Vec.{vec_len, vec_capacity};
 ghost use Rattle.coda_cml.specs.Segments.{joined};
 ghost use Rattle.coda_cml.specs.Longest.{total};
 ghost use Rattle.coda_cml.specs.Partition.{AreInTurn};
 ghost use Rattle.coda_cml.specs.LastSegment.{ended_before, reaching, all_joined, regrouped_last};
-ghost use Rattle.coda_cml.specs.Regrouping.{is_inside, widened, rejoined, leading, recounted};
+ghost use Rattle.coda_cml.specs.Regrouping.{is_inside, is_within, ends_from, AreJoinsBelow, DoJoinsRise, DoNumbersRise, widened, rejoined, leading, recounted};
 
 use crate::Segment;
 use coda_cancel::{Join, LentRecords};
 
 // Whether an operation above the number dropped a record up to it.
 fn is_inside(joins: &[Join], number: u64) -> bool
+    requires { DoJoinsRise joins.now }
     ensures { result ≡ is_inside joins.now number }
 {
-    joins
-        .iter()
-        .any(|join| join.least <= number && number < join.number)
+    let mut low = 0;
+    let mut high = joins.len();
+    while low < high {
+        let middle = low + (high - low) / 2;
+        if joins[middle].number <= number {
+            low = middle + 1;
+        } else {
+            high = middle;
+        }
+    }
+    match joins.get(low) {
+        Some(join) => join.least <= number,
+        None => false,
+    }
+}
+
+// Whether the last operation dropped records only from this number on.
+fn ends_from(joins: &[Join], least: u64) -> bool
+    ensures { result ≡ ends_from least joins.now }
+{
+    match joins.last() {
+        Some(last) => last.least >= least,
+        None => false,
+    }
+}
+
+// Puts an operation behind those before it, without those that dropped records only where it did too.
+fn put_join(joins: &mut Vec<Join>, join: Join)
+    requires room { vec_len joins.old < vec_capacity joins.old }
+    requires rise { DoJoinsRise joins.old.items }
+    requires below { AreJoinsBelow join.number joins.old.items }
+    ensures inside { (number : ℕ) → is_inside joins.new.items number ≡ (is_inside joins.old.items number || is_within number join) }
+    ensures rise { DoJoinsRise joins.new.items }
+    ensures reached { (number : ℕ) → join.number < number → AreJoinsBelow number joins.new.items }
+    ensures len { vec_len joins.new ≤ vec_len joins.old + 1 }
+    ensures capacity { vec_capacity joins.new ≡ vec_capacity joins.old }
+{
+    while ends_from(joins, join.least) {
+        joins.truncate(joins.len() - 1);
+    }
+    joins.push_reserved(join);
+}
+
+/// Leaves out the operations that dropped records only where a later one did too, so that both numbers of those that are
+/// left rise.
+pub fn keep_widest(joins: &[Join], widest: &mut Vec<Join>)
+    requires none { widest.old.items ≡ [] }
+    requires room { length joins.now ≤ vec_capacity widest.old }
+    requires rise { DoNumbersRise joins.now }
+    ensures inside { (number : ℕ) → is_inside widest.new.items number ≡ is_inside joins.now number }
+    ensures rise { DoJoinsRise widest.new.items }
+{
+    for join in joins {
+        put_join(widest, *join);
+    }
 }
 
 // A segment with the next one, as to its ends and times.
@@ -90,7 +143,10 @@ pub fn regroup_last(
 }
 
 /// Makes one of neighbouring segments between which some operation dropped records.
+///
+/// Costs the segments, by the logarithm of how many joins there are.
 pub fn rejoin(segments: &mut Vec<Segment>, joins: &[Join])
+    requires { DoJoinsRise joins.now }
     ensures { segments.new.items ≡ rejoined (is_inside joins.now) segments.old.items }
 {
     if segments.is_empty() {

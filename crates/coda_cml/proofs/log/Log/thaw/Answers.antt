@@ -21,9 +21,10 @@ invariant_of-self-2 c =
     let none : c.swap.new.x.items ≡ [] = ap (λ v. v.items) c.swap.ensures.x_after ∙ c.regroup_all.ensures.later in
     let counted : c.records.result ≡ added c.self.inside.chunk c.self.inside.tail = c.records.ensures.same ∙ c.in_ok-joins.ensures.records in
     let joins : c.deref.result.now ≡ joins_of c.self.inside.chunk c.self.inside.tail = c.deref.ensures.value ∙ c.in_ok-joins.ensures.joins in
+    let inside : is_inside c.deref-2.result.now ≡ is_inside (joins_of c.self.inside.chunk c.self.inside.tail) = λ i n. (ap (λ l. is_inside l n) c.deref-2.ensures.value ∙ c.keep_widest.ensures.inside n ∙ ap (λ l. is_inside l n) joins) i in
     let segments : c.swap.new.y.items ≡ recounted (added c.self.inside.chunk c.self.inside.tail) (rejoined (is_inside (joins_of c.self.inside.chunk c.self.inside.tail)) (c.self.inside.chunk_segments.items ++ c.self.inside.segments.items)) =
     ap (λ v. v.items) c.swap.ensures.y_after ∙ c.regroup_all.ensures.segments
-    ∙ (λ i. recounted (counted i) (rejoined (is_inside (joins i)) (c.in_ok-reserve.ensures.items i ++ c.self.inside.segments.items))) in
+    ∙ (λ i. recounted (counted i) (rejoined (inside i) (c.in_ok-reserve.ensures.items i ++ c.self.inside.segments.items))) in
     record {
       rising = subst IsRising (sym whole) (rising_added c.self.inside.chunk c.self.inside.tail c.self.invariant.rising);
       reached = subst (AreUpTo c.self.inside.last) (sym whole) (up_added c.self.inside.last c.self.inside.chunk c.self.inside.tail
@@ -42,9 +43,10 @@ returns-clause-run c front back h s =
     let none : c.swap.new.x.items ≡ [] = ap (λ v. v.items) c.swap.ensures.x_after ∙ c.regroup_all.ensures.later in
     let counted : c.records.result ≡ added c.self.inside.chunk c.self.inside.tail = c.records.ensures.same ∙ c.in_ok-joins.ensures.records in
     let joins : c.deref.result.now ≡ joins_of c.self.inside.chunk c.self.inside.tail = c.deref.ensures.value ∙ c.in_ok-joins.ensures.joins in
+    let inside : is_inside c.deref-2.result.now ≡ is_inside (joins_of c.self.inside.chunk c.self.inside.tail) = λ i n. (ap (λ l. is_inside l n) c.deref-2.ensures.value ∙ c.keep_widest.ensures.inside n ∙ ap (λ l. is_inside l n) joins) i in
     let segments : c.swap.new.y.items ≡ recounted (added c.self.inside.chunk c.self.inside.tail) (rejoined (is_inside (joins_of c.self.inside.chunk c.self.inside.tail)) (c.self.inside.chunk_segments.items ++ c.self.inside.segments.items)) =
     ap (λ v. v.items) c.swap.ensures.y_after ∙ c.regroup_all.ensures.segments
-    ∙ (λ i. recounted (counted i) (rejoined (is_inside (joins i)) (c.in_ok-reserve.ensures.items i ++ c.self.inside.segments.items))) in
+    ∙ (λ i. recounted (counted i) (rejoined (inside i) (c.in_ok-reserve.ensures.items i ++ c.self.inside.segments.items))) in
     let new : LogState = record { frozen = None; chunk = c.thaw.new.self; chunk_segments = c.swap.new.x.items; records = c.thaw.new.tail; segments = c.swap.new.y.items; last = c.self.inside.last; chunks = c.self.inside.chunks } in
     let same : new ≡ thawed (state_of c.self.inside) = λ i. record { frozen = None; chunk = chunk i; chunk_segments = none i; records = tail i; segments = segments i; last = c.self.inside.last; chunks = c.self.inside.chunks } in
     subst (λ log. IsLogOf log [] (front ++ back)) (sym same) (thawed_log (state_of c.self.inside) front back (subst (λ log. IsLogOf log front back) (sym c.self.view_is) h) s)
