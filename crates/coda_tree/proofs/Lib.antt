@@ -20,3 +20,4 @@ pub mod KeptMoved
 pub mod KeptSlots
 pub mod Undone
 pub mod UndoneAll
+pub mod Ways

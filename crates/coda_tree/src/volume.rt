@@ -1,4 +1,4 @@
-ghost use Rattle.std.specs.Prelude.{◌<◌, ℕ, ◌≡◌, ◌↔◌, true, cond, List, Some, None, IfOk, OnOk, OnErr, IsSomeAnd, IsTrue, option_map, option_copied};
+ghost use Rattle.std.specs.Prelude.{◌<◌, ℕ, ◌≡◌, ◌↔◌, true, cond, List, Some, None, Ok, IfOk, IfErr, OnOk, OnErr, IsSomeAnd, IsTrue, option_map, option_copied};
 ghost use Rattle.std.specs.FinMap as map;
 ghost use Rattle.std.specs.BTreeMap as tree;
 ghost use Rattle.coda_fid.specs.Fid.{root_of, fid_cmp};
@@ -8,7 +8,7 @@ ghost use Rattle.coda_tree.specs.Volume.{child, has, added, detached, moved, rep
 ghost use Rattle.coda_tree.specs.Slots.{nodes_in, IsWhole};
 ghost use Rattle.coda_tree.specs.Volumes.{seen};
 ghost use Rattle.coda_tree.specs.Keeping.{IsKeptIn};
-ghost use Rattle.coda_tree.specs.Lookup.{lookup_of, step_from};
+ghost use Rattle.coda_tree.specs.Lookup.{lookup_of, step_from, Leads, Stops};
 
 use crate::body::Body;
 use crate::{Node, NodeKind};
@@ -120,8 +120,8 @@ impl Volume {
         self.body.child(dir, name)
     }
 
-    /// What a path leads to from the root, or the first component at which it stops.
-    pub fn lookup(&self, path: &Path) -> Result<Fid, PathFault>
+    // What a path leads to from the root, step by step.
+    fn walked(&self, path: &Path) -> Result<Fid, PathFault>
         ensures { result ≡ lookup_of self.now.nodes (root_of self.now.number) 0 path.now }
     {
         let mut at = Fid::root(self.number());
@@ -130,6 +130,19 @@ impl Volume {
             at = self.step(at, name, component)?;
         }
         Ok(at)
+    }
+
+    /// What a path leads to from the root, or the first component at which it stops.
+    #[tactic(auto, using(crate::proofs::Ways::leads, crate::proofs::Ways::led, crate::proofs::Ways::stops))]
+    pub fn lookup(&self, path: &Path) -> Result<Fid, PathFault>
+        ensures steps { result ≡ lookup_of self.now.nodes (root_of self.now.number) 0 path.now }
+
+        // It is where the names lead, each bound in the directory before it.
+        ensures leads { IfOk result (λ fid. Leads self.now.nodes (root_of self.now.number) path.now fid) }
+        ensures only { (fid : Fid) → Leads self.now.nodes (root_of self.now.number) path.now fid → result ≡ Ok fid }
+        ensures stops { IfErr result (λ why. Stops self.now.nodes (root_of self.now.number) 0 path.now why) }
+    {
+        self.walked(path)
     }
 
     /// Whether a node is another or stands below it. Takes time in the depth of the first.
