@@ -1,8 +1,10 @@
 -- An operation that the index knows already is added: what the index says then, and what the records weigh.
-use Rattle.std.proofs.Common.{◌≡◌, ℕ, ◌+◌, ◌-◌, ◌<◌, ◌≤◌, Bool, true, false, cond, not, ◌&&◌, ◌||◌, List, [], ◌∷◌, ◌++◌, Some, length, length-append, refl, sym, ap, ◌∙◌, arith}
+use Rattle.std.proofs.Common.{◌≡◌, ℕ, suc, ◌+◌, ◌-◌, ◌<◌, ◌≤◌, Bool, true, false, cond, if◌then◌else◌, not, ◌&&◌, ◌||◌, List, [], ◌∷◌, ◌++◌, Some, length, length-append, refl, sym, ap, ◌∙◌, arith}
+use Rattle.std.specs.Prelude.{nat_le}
 use Rattle.std.specs.BTreeSet.{BTreeSet}
 use Rattle.std.proofs.lemmas.Bool.{leb-true, leb-false, le-leb, false≢true, and_right}
 use Rattle.coda_fid.specs.declared.fid.Fid.{Fid}
+use Rattle.coda_fid.specs.declared.op.Op.{Op}
 use Rattle.coda_fid.specs.declared.op.Record.{Record}
 use Rattle.coda_fid.specs.Op.{carried, weight_of}
 use Rattle.coda_cancel.specs.declared.mentions.Mention.{Mention}
@@ -11,7 +13,7 @@ use Rattle.coda_cancel.specs.Cancel.{cancels, object, add}
 use Rattle.coda_cancel.specs.Numbers.{AreAbove, AreBelow, AreUpTo, IsRising, numbers, dropped}
 use Rattle.coda_cancel.specs.Mentions.{has, tells, is_mentioned, is_upto, last_number, IsIndexOf, Covers, CoversUpTo, IsSameBeyond, Loses, Gains}
 use Rattle.coda_cancel.specs.Passing.{goes, undropped, new_last}
-use Rattle.coda_cancel.specs.Weights.{total_weight}
+use Rattle.coda_cancel.specs.Weights.{fits, total_weight}
 use Rattle.coda_cancel.proofs.Rising.{rising_before, rising_behind, upto_add}
 use Rattle.coda_cancel.proofs.Sizes.{size_after, total-append}
 use Rattle.coda_cancel.proofs.Walks.{AllUpTo, passed_silent, mentioned-append, last_reaches}
@@ -137,6 +139,22 @@ dropped_goes rs o = go (cancels o.op rs)
     go true = refl
     go false = refl
 
+undropped_few : (gone : Op → Bool) (rs : List Record) → length (undropped gone rs) ≤ length rs
+undropped_few gone [] = omega arith
+undropped_few gone (r ∷ rs) = go (gone r.op) (undropped_few gone rs)
+  where
+    go : (b : Bool) → length (undropped gone rs) ≤ length rs → length (if b then undropped gone rs else r ∷ undropped gone rs) ≤ suc (length rs)
+    go true h = omega (arith, h)
+    go false h = omega (arith, h)
+
+undropped_light : (gone : Op → Bool) (rs : List Record) → total_weight (undropped gone rs) ≤ total_weight rs
+undropped_light gone [] = omega arith
+undropped_light gone (r ∷ rs) = go (gone r.op) (undropped_light gone rs)
+  where
+    go : (b : Bool) → total_weight (undropped gone rs) ≤ total_weight rs → total_weight (if b then undropped gone rs else r ∷ undropped gone rs) ≤ weight_of r.op + total_weight rs
+    go true h = omega (arith, h)
+    go false h = omega (arith, h)
+
 module _ (rs : List Record) (o : Record) where
   abbrev left : List Record
   left = undropped (goes (cancels o.op rs) o.op) rs
@@ -169,6 +187,26 @@ module _ (rs : List Record) (o : Record) where
       let size = (size_after rs o).0 in
       let two = length-append left own in
       omega (arith, size, two, h)
+
+  own_length : length own ≤ 1
+  own_length = go (cancels o.op rs)
+    where
+      go : (b : Bool) → length (new_last b o) ≤ 1
+      go true = omega arith
+      go false = omega arith
+
+  pub room_left : (count weight : ℕ) → length rs < count → total_weight rs + weight_of o.op ≤ weight → fits count weight (add rs o) ≡ true
+  room_left count weight few light =
+      let size = size_after rs o in
+      let more = length-append left own in
+      let heavier = total-append left own in
+      let fewer = undropped_few (goes (cancels o.op rs) o.op) rs in
+      let lighter = undropped_light (goes (cancels o.op rs) o.op) rs in
+      let one = own_length in
+      let own_is = own_weight in
+      let length_fits : nat_le (length (add rs o)) count ≡ true = le-leb _ _ (omega (arith, size.0, more, fewer, one, few)) in
+      let weight_fits : nat_le (total_weight (add rs o)) weight ≡ true = le-leb _ _ (omega (arith, size.1, heavier, lighter, own_is, light)) in
+      (λ i. length_fits i && weight_fits i)
 
 -- the index of records with one more
 pub pushed_indexed : (index index' : Index) (rs : List Record) (r : Record) → IsIndexOf index rs → Gains (has index) (has index') (tells r) → IsIndexOf index' (rs ++ r ∷ [])

@@ -1,5 +1,5 @@
 // An index of records by the objects that they mention.
-ghost use Rattle.std.specs.Prelude.{◌≡◌, ◌≤◌, false, [], ◌∷◌, IfSome, IfNone, OnOk, OnErr};
+ghost use Rattle.std.specs.Prelude.{◌≡◌, ◌≤◌, false, [], ◌∷◌, take as first, IfSome, IfNone, OnOk, OnErr};
 ghost use Rattle.coda_fid.specs.declared.fid.Fid.{Fid};
 ghost use Rattle.coda_fid.specs.Op.{mentions, over_fids};
 ghost use Rattle.coda_cancel.specs.Mentions.{has, tells, names, with_number, IsSame, IsSameElse, Gains, Loses, IsNext, NoneNext, IsFirst, NoneBetween};
@@ -25,25 +25,26 @@ fn over_or(over: &Option<Over>, fid: Fid) -> Fid
     }
 }
 
-// The objects that an operation mentions, some of them more than once.
-fn fids(op: &Op) -> [Fid; 4]
-    ensures { (fid : Fid) → names result fid ≡ mentions op.now fid }
+// The objects that an operation mentions: the first of the four, so many.
+fn fids(op: &Op) -> ([Fid; 4], usize)
+    ensures names { (fid : Fid) → names (first result.1 result.0) fid ≡ mentions op.now fid }
+    ensures within { result.1 ≤ 4 }
 {
     match op {
-        Op::Create { dir, fid, .. } => [*dir, *fid, *fid, *fid],
-        Op::Mkdir { dir, fid, .. } => [*dir, *fid, *fid, *fid],
-        Op::Symlink { dir, fid, .. } => [*dir, *fid, *fid, *fid],
-        Op::Store { fid, .. } => [*fid; 4],
-        Op::Setattr { fid, .. } => [*fid; 4],
-        Op::Remove { dir, fid, .. } => [*dir, *fid, *fid, *fid],
-        Op::Rmdir { dir, fid, .. } => [*dir, *fid, *fid, *fid],
+        Op::Create { dir, fid, .. } => ([*dir, *fid, *fid, *fid], 2),
+        Op::Mkdir { dir, fid, .. } => ([*dir, *fid, *fid, *fid], 2),
+        Op::Symlink { dir, fid, .. } => ([*dir, *fid, *fid, *fid], 2),
+        Op::Store { fid, .. } => ([*fid; 4], 1),
+        Op::Setattr { fid, .. } => ([*fid; 4], 1),
+        Op::Remove { dir, fid, .. } => ([*dir, *fid, *fid, *fid], 2),
+        Op::Rmdir { dir, fid, .. } => ([*dir, *fid, *fid, *fid], 2),
         Op::Rename {
             from_dir,
             to_dir,
             fid,
             over,
             ..
-        } => [*from_dir, *to_dir, *fid, over_or(over, *fid)],
+        } => ([*from_dir, *to_dir, *fid, over_or(over, *fid)], 4),
     }
 }
 
@@ -89,10 +90,10 @@ pub(crate) fn note(index: &mut BTreeSet<Mention>, rec: &Record) -> Result<(), Al
     ensures ok { OnOk result (Gains (has index.old) (has index.new) (tells rec.now)) }
     ensures err { OnErr result (IsSame (has index.old) (has index.new)) }
 {
-    let fids = fids(&rec.op);
-    let done = put_all(index, &fids, rec.number);
+    let (fids, count) = fids(&rec.op);
+    let done = put_all(index, &fids[..count], rec.number);
     if done.is_err() {
-        take_all(index, &fids, rec.number);
+        take_all(index, &fids[..count], rec.number);
     }
     done
 }
@@ -101,7 +102,8 @@ pub(crate) fn note(index: &mut BTreeSet<Mention>, rec: &Record) -> Result<(), Al
 pub(crate) fn forget(index: &mut BTreeSet<Mention>, rec: &Record)
     ensures { Loses (has index.old) (has index.new) (tells rec.now) }
 {
-    take_all(index, &fids(&rec.op), rec.number);
+    let (mentioned, count) = fids(&rec.op);
+    take_all(index, &mentioned[..count], rec.number);
 }
 
 /// The number of the first record that mentions the object, of those above a number and up to another.

@@ -1,4 +1,4 @@
-ghost use Rattle.std.specs.Prelude.{◌≡◌, ◌≤◌, ◌<◌, ◌^◌, [], ◌++◌, take, drop, length, ◌+◌, IfOk, OnOk, OnErr, IfErr, IfSome};
+ghost use Rattle.std.specs.Prelude.{◌≡◌, ◌≤◌, ◌<◌, ◌^◌, true, [], ◌++◌, take, drop, length, ◌+◌, IfOk, OnOk, OnErr, IfErr, IfSome};
 ghost use Rattle.coda_fid.specs.declared.op.Record.{Record};
 ghost use Rattle.coda_cancel.specs.Cancel.{add, added};
 ghost use Rattle.coda_cancel.specs.Numbers.{AreBelow, IsRising, dropped, least};
@@ -183,9 +183,16 @@ impl Tail {
         Some(weight)
     }
 
-    /// Whether there would be so many records at most, and they would weigh so much at most, if the
-    /// operation were added.
-    pub fn fits_after(&self, rec: &Record, count: usize, weight: u64) -> bool
+    // Whether there are few records, and light ones, so that the operation fits though none goes. Looks at none of them.
+    #[tactic(auto, using(crate::proofs::Entered::room_left))]
+    fn is_ample(&self, rec: &Record, count: usize, weight: u64) -> bool
+        ensures { result ≡ true → fits count weight (add self.now rec.now) ≡ true }
+    {
+        self.shelf.len() < count && is_light(self.weight, rec.weight(), weight)
+    }
+
+    // Whether the operation fits, by the records that go.
+    fn fits_with(&self, rec: &Record, count: usize, weight: u64) -> bool
         ensures { result ≡ fits count weight (add self.now rec.now) }
     {
         let all = self.weight;
@@ -193,6 +200,14 @@ impl Tail {
         let left = self.shelf.len() - gone.count;
         let kept = all - gone.weight;
         gone.are_few(left, count) && is_light(kept, gone.added(rec), weight)
+    }
+
+    /// Whether there would be so many records at most, and they would weigh so much at most, if the
+    /// operation were added.
+    pub fn fits_after(&self, rec: &Record, count: usize, weight: u64) -> bool
+        ensures { result ≡ fits count weight (add self.now rec.now) }
+    {
+        self.is_ample(rec, count, weight) || self.fits_with(rec, count, weight)
     }
 
     /// The same records, in memory of their own.

@@ -21,3 +21,4 @@ pub mod KeptClients
 pub mod KeptChunks
 pub mod KeptLines
 pub mod Alone
+pub mod Unlooked

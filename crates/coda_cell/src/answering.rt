@@ -79,7 +79,7 @@ impl Venus {
     ghost use Rattle.std.specs.FinMap as map;
     ghost use Rattle.coda_certify.specs.Replay.{MayApply};
     ghost use Rattle.coda_plain.specs.Deeds.{created_by};
-    ghost use Rattle.coda_cell.specs.Ask.{asked};
+    ghost use Rattle.coda_cell.specs.Ask.{asked, too_big};
     ghost use Rattle.coda_cell.specs.Held.{AreBound, parents_after, held_after_operation};
     ghost use Rattle.coda_cell.specs.State.{ClientState};
     ghost use Rattle.coda_cell.specs.Asking.{entered, next_record, operate, read, list, shown_as, read_in, list_in};
@@ -162,6 +162,24 @@ impl Venus {
         Ok(Reply::Done { number, fid })
     }
 
+    // Looks up what an operation names, and then accepts it, or refuses it. Its content isn't too long.
+    fn operate_behind(
+        &mut self,
+        offers: Option<&Volume>,
+        time: u64,
+        volume: u32,
+        ask: &Ask,
+    ) -> Result<Reply, Refused>
+        requires { too_big (asked ask.now) ≡ None }
+        ensures { (c : ClientState) → IsClient c self.old → AreBound c.held → Gives (operate (nodes_offered offers.entry) c time volume (asked ask.now)) c result self.new }
+    {
+        self.look_up(offers, volume, ask)?;
+        match self.accept(volume, ask) {
+            Ok(op) => self.enter(volume, time, op),
+            Err(refusal) => Err(refusal),
+        }
+    }
+
     // Accepts an operation at a time, in seconds, or refuses it.
     #[tactic(auto, unfolding(crate::specs::Asking::operate))]
     fn operate(
@@ -176,9 +194,10 @@ impl Venus {
         if let Some(length) = too_big(ask) {
             return Err(Refused::TooBig(length));
         }
-        self.look_up(offers, volume, ask)?;
+        // Where nothing that acceptance looks at is missing, there is nothing to fetch.
         match self.accept(volume, ask) {
             Ok(op) => self.enter(volume, time, op),
+            Err(Refused::Miss(_)) => self.operate_behind(offers, time, volume, ask),
             Err(refusal) => Err(refusal),
         }
     }

@@ -57,14 +57,10 @@ impl VolumeLog {
         ensures { (v : ClientVolume) → IsVolumeLog v self.old → OnOk result (IsVolumeLog (volume_after v (Operated rec)) self.new) }
     {
         let created = created_by(&rec.op);
-        match self.log.append(rec) {
-            Ok(()) => {
-                if created > 0 {
-                    self.creations += created;
-                }
-                Ok(())
-            }
-            Err(_) => Err(AllocError),
+        self.log.push(rec)?;
+        if created > 0 {
+            self.creations += created;
         }
+        Ok(())
     }
 }

@@ -51,7 +51,7 @@ impl Model for Log {
 }
 
 impl Log {
-    ghost use Rattle.std.specs.Prelude.{◌≡◌, ◌≢◌, ◌↔◌, ◌<◌, ◌≤◌, ◌+◌, ◌-◌, ◌^◌, ℕ, List, [], ◌∷◌, ◌++◌, false, None, Some, IsSome, IsOk, IfOk, OnOk, OnErr};
+    ghost use Rattle.std.specs.Prelude.{◌≡◌, ◌≢◌, ◌↔◌, ◌<◌, ◌≤◌, ◌+◌, ◌-◌, ◌^◌, ℕ, List, [], ◌∷◌, ◌++◌, true, false, None, Some, IsSome, IsOk, IfOk, OnOk, OnErr};
     ghost use Rattle.coda_fid.specs.declared.op.Record.{Record};
     ghost use Rattle.coda_cancel.specs.Cancel.{add, fold};
     ghost use Rattle.coda_cancel.specs.Weights.{fits};
@@ -171,8 +171,23 @@ impl Log {
         if !self.has_room(&rec) {
             return Err(LogFault::LogFull);
         }
+        match self.push(rec) {
+            Ok(()) => Ok(()),
+            Err(_) => Err(LogFault::Memory),
+        }
+    }
+
+    /// Puts an operation into the tail, by cancellation, where [`has_room`](Log::has_room) was answered so of it. Its number is
+    /// above all earlier ones. Fails for want of memory alone, and then leaves the log as it was.
+    pub fn push(&mut self, rec: Record) -> Result<(), AllocError>
+        requires later { self.old.last < rec.number }
+        requires room { fits 4096 16777216 (self.old.chunk ++ add self.old.records rec) ≡ true }
+        ensures log { OnOk result (self.new ≡ appended_to self.old rec) }
+        ensures run { (front back : List Record) → IsLogOf self.old front back → OnOk result (IsLogOf self.new front (back ++ rec ∷ [])) }
+        ensures err { OnErr result (self.new ≡ self.old) }
+    {
         if self.segments.reserve(1).is_err() {
-            return Err(LogFault::Memory);
+            return Err(AllocError);
         }
         let single = Segment {
             first: rec.number,
@@ -182,7 +197,7 @@ impl Log {
         };
         let before = self.tail.len();
         let Ok(least) = self.tail.add(rec) else {
-            return Err(LogFault::Memory);
+            return Err(AllocError);
         };
         self.last = single.last;
         let after = self.tail.len();

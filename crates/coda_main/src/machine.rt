@@ -9,9 +9,6 @@ use coda_engine::{Kind, LineFault, LineStop, Machine};
 use coda_script::read_line;
 use std::alloc::Global;
 
-/// The longest line whose columns can be counted; no script is so long.
-const LONGEST_LINE: usize = 4_294_967_294;
-
 /// How a line is refused that isn't built, or that the command doesn't take: at its first column.
 const NOT_BUILT: LineStop = LineStop::Refused(LineFault {
     column: 1,
@@ -44,9 +41,10 @@ fn stop_of(fault: coda_script::LineFault) -> LineStop
     ensures { StopsAs fault result }
 {
     match fault {
-        coda_script::LineFault::BadLine { column, kind } => {
-            LineStop::Refused(LineFault { column, kind })
-        }
+        coda_script::LineFault::BadLine { column, kind } => match u32::try_from(column) {
+            Ok(column) => LineStop::Refused(LineFault { column, kind }),
+            Err(_) => LineStop::Memory,
+        },
         coda_script::LineFault::Memory => LineStop::Memory,
     }
 }
@@ -59,9 +57,6 @@ impl Machine for CellMachine {
     ghost refuses = { CellRefuses };
 
     fn run(&mut self, alloc: Global, line: &[u8]) -> Result<Vec<u8>, LineStop> {
-        if line.len() >= LONGEST_LINE {
-            return Err(LineStop::Memory);
-        }
         let said = match read_line(alloc, line) {
             Ok(Some(said)) => said,
             Ok(None) => return Ok(Vec::new(alloc)),

@@ -4,7 +4,7 @@ use Rattle.coda_cancel.specs.Cancel.{add}
 use Rattle.coda_cancel.specs.Passing.{goes, new_last, undropped}
 use Rattle.coda_cancel.specs.Weights.{fits, total_weight}
 use Rattle.coda_cancel.proofs.Entered.{length_added, weight_added}
-use Rattle.coda_cancel.proofs.tail.Tail.fits_after.Goals as goal
+use Rattle.coda_cancel.proofs.tail.Tail.fits_with.Goals as goal
 
 pub returns-then-are_few : goal.returns-then-are_few
 returns-then-are_few c =

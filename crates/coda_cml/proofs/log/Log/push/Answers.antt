@@ -13,7 +13,7 @@ use Rattle.coda_cml.proofs.segments.PartedRecords.{turn_behind, ends_behind}
 use Rattle.coda_cml.proofs.segments.LastJoined.{parted_total, front_fits, last_regrouped}
 use Rattle.coda_cml.proofs.segments.PartsKept.{parts_are, append_keeps}
 use Rattle.coda_cml.proofs.segments.LogSteps.{below_later, upto_back, rising_add_behind, upto_add_behind, appended_log}
-use Rattle.coda_cml.proofs.log.Log.append.Goals as goal
+use Rattle.coda_cml.proofs.log.Log.push.Goals as goal
 
 pub add-requires : goal.add-requires
 add-requires c =
