@@ -22,3 +22,4 @@ pub mod KeptChunks
 pub mod KeptLines
 pub mod Alone
 pub mod Unlooked
+pub mod Ordered

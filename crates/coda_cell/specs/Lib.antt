@@ -13,3 +13,4 @@ pub mod Cells
 pub mod Runs
 pub mod Laws
 pub mod Alone
+pub mod Orders

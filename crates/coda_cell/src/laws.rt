@@ -1,6 +1,7 @@
 // What holds of every client.
 ghost use Rattle.coda_cell.specs.Alone.{AcceptedOperationsCertify, ClientsAloneMeetNoConflict};
 ghost use Rattle.coda_cell.specs.Laws.{OperationsKeepHeldBound};
+ghost use Rattle.coda_cell.specs.Orders.{RefusalsComeInOrder};
 
 /// A law of clients: where the directory that a client takes for the parent of an object binds that object, for each that has
 /// one, so it is after an operation of its own that the client accepts.
@@ -18,4 +19,10 @@ pub fn accepted_operations_certify()
 /// the operations of a chunk, the chunk is applied (Kistler and Satyanarayanan 1992).
 pub fn clients_alone_meet_no_conflict()
     ensures { ClientsAloneMeetNoConflict }
+{}
+
+/// A law of lines: one that names an actor that isn't there is refused for the leftmost of these, whatever else is wrong with it;
+/// then a log isn't sent over a link that is down; and an operation is refused for a log that is full last of all.
+pub fn refusals_come_in_order()
+    ensures { RefusalsComeInOrder }
 {}

@@ -25,6 +25,7 @@ pub use cell::Cell;
 pub use fault::CellFault;
 pub use laws::{
     accepted_operations_certify, clients_alone_meet_no_conflict, own_operations_keep_parents,
+    refusals_come_in_order,
 };
 pub use lines::is_built;
 pub use runs::{cells_are_kept, lines_keep_cells};

@@ -1,0 +1,61 @@
+-- In which order a line is refused.
+use Rattle.std.specs.Prelude.{◌≡◌, ℕ, true, false, List, [], ◌∷◌, ◌++◌, Option, Ok, Err}
+use Rattle.coda_fid.specs.declared.op.Op.{Op}
+use Rattle.coda_tree.specs.Volume.{Nodes}
+use Rattle.coda_script.specs.declared.line.Strength.TheVariants.{Down}
+use Rattle.coda_script.specs.declared.line.Task.{Task}
+use Rattle.coda_script.specs.declared.line.Task.TheVariants as task
+use Rattle.coda_script.specs.declared.line.Line.{Line}
+use Rattle.coda_script.specs.declared.line.Line.TheVariants as line
+use Rattle.coda_script.specs.declared.reply.Reply.{Reply}
+use Rattle.coda_cell.specs.Ask.{Asked, too_big}
+use Rattle.coda_cell.specs.State.{ClientState, CellState, Event}
+use Rattle.coda_cell.specs.Accepting.{sight_of, accept}
+use Rattle.coda_cell.specs.Asking.{look_ups, behind_fetches, operate}
+use Rattle.coda_cell.specs.Refusing.{refusal}
+use Rattle.coda_cell.specs.Steps.{Named, client_named, volume_named, server_named, holder_named, on_volume, Does}
+use Rattle.coda_cell.specs.declared.refused.Refused.{Refused}
+use Rattle.coda_cell.specs.declared.refused.Refused.TheVariants.{LogFull, LinkDown, NoSuchActor}
+
+-- the actors that a task names, from left to right
+abbrev pub named_in : CellState → Task → List Named
+named_in s (task.Create client volume path mode owner) = on_volume s client volume
+named_in s (task.Mkdir client volume path mode owner) = on_volume s client volume
+named_in s (task.Symlink client volume path target) = on_volume s client volume
+named_in s (task.Store client volume path content) = on_volume s client volume
+named_in s (task.Setattr client volume path attrs) = on_volume s client volume
+named_in s (task.Remove client volume path) = on_volume s client volume
+named_in s (task.Rmdir client volume path) = on_volume s client volume
+named_in s (task.Rename client volume from to) = on_volume s client volume
+named_in s (task.Read client volume path) = on_volume s client volume
+named_in s (task.List client volume path) = on_volume s client volume
+named_in s (task.Drain client volume server window) = client_named s client ∷ volume_named s volume ∷ holder_named s server volume ∷ []
+named_in s (task.Hardlink client volume from to) = []
+named_in s (task.Refresh client volume server) = []
+named_in s (task.Giveup client volume) = []
+
+-- the actors that a line names, from left to right, but those that it makes
+abbrev pub named_by : CellState → Line → List Named
+named_by s (line.Link client server strength) = client_named s client ∷ server_named s server ∷ []
+named_by s (line.Task t) = named_in s t
+named_by s (line.ShowVolume server volume) = holder_named s server volume ∷ []
+named_by s (line.ShowLog client volume) = on_volume s client volume
+named_by s _ = []
+
+-- all of them are there
+abbrev pub AreThere : List Named → Type 0
+AreThere [] = Unit {0}
+AreThere (n ∷ ns) = (n.there ≡ true) × AreThere ns
+
+-- In which order a line is refused, whatever else is wrong with it.
+pub record RefusalsComeInOrder : Type 0 where
+  -- first for the leftmost actor that isn't there, and then nothing happens
+  pub missing : (s : CellState) (said : Line) (reply : Reply) (events : List Event) (front back : List Named) (n : Named)
+      → Does s said reply events → named_by s said ≡ front ++ n ∷ back → AreThere front → n.there ≡ false → (reply ≡ refusal (NoSuchActor n.number)) × (events ≡ [])
+  -- then, where a log is to be sent, for a link that is down
+  pub unreached : (s : CellState) (client volume server : ℕ) (window : Option ℕ) (reply : Reply) (events : List Event)
+      → Does s (line.Task (task.Drain client volume server window)) reply events → AreThere (named_in s (task.Drain client volume server window)) → s.links client server ≡ Down
+      → (reply ≡ refusal LinkDown) × (events ≡ [])
+  -- an operation is refused for a log that is full last of all: else it would be accepted
+  pub full : (offers : Option Nodes) (c : ClientState) (time volume : ℕ) (ask : Asked) → (operate offers c time volume ask).said ≡ Err LogFull
+      → (op : Op) × (accept (sight_of (behind_fetches c (look_ups offers c.held volume ask)) volume) volume ask ≡ Ok op)
