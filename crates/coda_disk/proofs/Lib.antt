@@ -1,0 +1,5 @@
+mod Spans
+mod Puts
+mod Writes
+mod Fills
+mod Taken

@@ -1,0 +1,10 @@
+pub mod Told
+pub mod Passing
+pub mod Bays
+pub mod Memory
+pub mod Pasts
+pub mod Plans
+pub mod Images
+pub mod Laws
+pub mod Places
+pub mod Untold
