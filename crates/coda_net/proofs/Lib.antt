@@ -1,0 +1,5 @@
+mod Losing
+mod Kept
+mod Lost
+mod Found
+mod Waiting

@@ -1,0 +1,89 @@
+-- The parts that formats are made of: numbers, counted bytes, tags, what may be there, lists.
+use Rattle.std.specs.Prelude.{ℕ, zero, suc, ◌&&◌, ◌==◌, nat_le, Bool, true, false, List, [], ◌∷◌, length, Option, Some, None}
+use Rattle.coda_record.specs.Form.{Piece, empty, both, together, limited, Size, one, two, four, eight, number_piece, Form, gives, unknown, number, raw, tagged, such, Format, ◌>>=◌}
+
+-- ---- numbers
+
+abbrev pub number_of : Size → Format ℕ
+number_of size = record { form = number size; piece = number_piece size }
+
+abbrev pub u8 : Format ℕ
+u8 = number_of one
+
+abbrev pub u16 : Format ℕ
+u16 = number_of two
+
+abbrev pub u32 : Format ℕ
+u32 = number_of four
+
+abbrev pub u64 : Format ℕ
+u64 = number_of eight
+
+-- the values of a format that a test holds of
+abbrev pub where_holds : {A : Type 0} → (A → Bool) → Format A → Format A
+where_holds test f = record { form = such test f.form; piece = λ x. limited (test x) (f.piece x) }
+
+-- whether a number lies from one to another
+abbrev pub is_within : ℕ → ℕ → ℕ → Bool
+is_within low high n = nat_le low n && nat_le n high
+
+-- a number from one to another
+abbrev pub between : ℕ → ℕ → Format ℕ → Format ℕ
+between low high f = where_holds (is_within low high) f
+
+-- ---- bytes
+
+-- how many bytes there are, and these
+abbrev pub counted : Format ℕ → Format (List ℕ)
+counted f = record {
+  form = do
+    n ← f
+    raw n;
+  piece = λ bytes. both (f.piece (length bytes)) (record { bytes = bytes; fits = true });
+}
+
+-- ---- tags
+
+abbrev pub chosen : {A : Type 0} → Bool → Form A → Form A → Form A
+chosen true so other = so
+chosen false so other = other
+
+-- what stands behind each tag
+abbrev pub by_tag : {A : Type 0} → List (ℕ × Form A) → ℕ → Form A
+by_tag [] tag = unknown
+by_tag (c ∷ cs) tag = chosen (tag == c.0) c.1 (by_tag cs tag)
+
+-- one of some forms, each behind its tag
+abbrev pub one_of : {A : Type 0} → List (ℕ × Form A) → Form A
+one_of cases = tagged (by_tag cases)
+
+-- a value behind 1, or 0
+abbrev pub optional_piece : {A : Type 0} → Format A → Option A → Piece
+optional_piece f None = together (u8.piece 0 ∷ [])
+optional_piece f (Some x) = together (u8.piece 1 ∷ f.piece x ∷ [])
+
+abbrev pub optional : {A : Type 0} → Format A → Format (Option A)
+optional f = record {
+  form = one_of ((0, gives None) ∷ (1, f >>= λ x. gives (Some x)) ∷ []);
+  piece = optional_piece f;
+}
+
+-- ---- lists
+
+-- items, each in the format that the key of the one before it leaves
+abbrev pub items_piece : {K A : Type 0} → (K → Format A) → (A → K) → K → List A → Piece
+items_piece item key before [] = empty
+items_piece item key before (x ∷ xs) = both ((item before).piece x) (items_piece item key (key x) xs)
+
+-- so many items, and what stands behind them
+abbrev pub items : {K A B : Type 0} → (K → Format A) → (A → K) → K → ℕ → (List A → Form B) → Form B
+items item key before zero next = next []
+items item key before (suc n) next = item before >>= λ x. items item key (key x) n (λ xs. next (x ∷ xs))
+
+-- how many items there are, and these, the first in the format that a key leaves, and each further one in the format
+-- that the key of the one before it leaves
+abbrev pub list : {K A : Type 0} → (K → Format A) → (A → K) → K → Format (List A)
+list item key before = record {
+  form = u32 >>= λ n. items item key before n (λ xs. gives xs);
+  piece = λ xs. both (u32.piece (length xs)) (items_piece item key before xs);
+}

@@ -1,0 +1,20 @@
+//! Operations, records, reasons and verdicts as bytes: a table of formats, with its laws.
+#![tactic(auto)]
+
+mod answer;
+mod cursor;
+mod fault;
+mod last;
+mod law;
+pub mod lengths;
+pub mod parts;
+pub mod reading;
+mod records;
+pub mod writing;
+
+pub use answer::Answer;
+pub use cursor::{Cursor, Tag};
+pub use fault::Fault;
+pub use last::Last;
+pub use law::{each_part_is_exact, operations_are_exact, verdicts_are_exact};
+pub use records::Records;
