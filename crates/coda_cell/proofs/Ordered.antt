@@ -15,7 +15,6 @@ use Rattle.coda_tree.specs.declared.node.NodeKind.{NodeKind}
 use Rattle.coda_tree.specs.declared.node.NodeKind.TheVariants.{File, Link, Dir}
 use Rattle.coda_tree.specs.Bindings.{Name}
 use Rattle.coda_tree.specs.Volume.{Nodes}
-use Rattle.coda_script.specs.declared.line.Strength.{Strength}
 use Rattle.coda_script.specs.declared.line.Strength.TheVariants.{Down}
 use Rattle.coda_script.specs.declared.line.Task.{Task}
 use Rattle.coda_script.specs.declared.line.Task.TheVariants as task
@@ -23,13 +22,13 @@ use Rattle.coda_script.specs.declared.line.Line.{Line}
 use Rattle.coda_script.specs.declared.line.Line.TheVariants as line
 use Rattle.coda_script.specs.declared.reply.Reply.{Reply}
 use Rattle.coda_cell.specs.Ask.{Asked, Create, Mkdir, Symlink, Store, Setattr, Remove, Rmdir, Rename, Ending, ending, too_big}
-use Rattle.coda_cell.specs.Held.{Held, is_below, some_below}
+use Rattle.coda_cell.specs.Held.{is_below, some_below}
 use Rattle.coda_cell.specs.Looking.{then_find, held, found, step_in, step_from, resolve, entries_of}
 use Rattle.coda_cell.specs.State.{ClientState, ReplicaState, CellState, Event}
-use Rattle.coda_cell.specs.Accepting.{Sight, Accepted, is_used_up, next_fid, new_fid, unless_used, new_at, new_in, new_under, new_place, at_root, accept_creation, store_in, store_at, setattr_at, remove_in, remove_at, rmdir_of, rmdir_in, rmdir_at, held_bound, bound_in, bound_at, spot, place, is_dir_at, with_version, replaced_by, move_to, rename_to, rename_root, accept_rename, accept_remove, accept_rmdir, sight_of, accept}
+use Rattle.coda_cell.specs.Accepting.{Sight, Accepted, is_used_up, next_fid, unless_used, new_at, new_in, new_under, new_place, at_root, accept_creation, store_in, store_at, setattr_at, remove_in, remove_at, rmdir_of, rmdir_in, rmdir_at, held_bound, bound_in, bound_at, spot, place, is_dir_at, with_version, replaced_by, move_to, rename_to, rename_root, accept_rename, accept_remove, accept_rmdir, sight_of, accept}
 use Rattle.coda_cell.specs.Asking.{Said, answer_to, look_ups, behind_fetches, operate, operate_unless}
 use Rattle.coda_cell.specs.Refusing.{refusal}
-use Rattle.coda_cell.specs.Steps.{Named, first_missing, Doing, Unless, Naming, holder_named, drain, reply_to, ByBoth, DoesTask, Does}
+use Rattle.coda_cell.specs.Steps.{Named, first_missing, Doing, Unless, Naming, drain, reply_to, ByBoth, DoesTask, Does}
 use Rattle.coda_cell.specs.Orders.{named_in, named_by, AreThere, RefusalsComeInOrder}
 use Rattle.coda_cell.specs.declared.refused.Refused.{Refused}
 use Rattle.coda_cell.specs.declared.refused.Refused.TheVariants as refused
@@ -37,8 +36,8 @@ use Rattle.coda_cell.specs.declared.refused.Refused.TheVariants as refused
 -- ---- actors
 
 first_of : (front back : List Named) (n : Named) → AreThere front → n.there ≡ false → first_missing (front ++ n ∷ back) ≡ Some (refused.NoSuchActor n.number)
-first_of [] back n all no = ap (λ b. if b then first_missing back else Some (refused.NoSuchActor n.number)) no
-first_of (m ∷ front) back n all no = ap (λ b. if b then first_missing (front ++ n ∷ back) else Some (refused.NoSuchActor m.number)) all.0 ∙ first_of front back n all.1 no
+first_of [] back n all away = ap (λ b. if b then first_missing back else Some (refused.NoSuchActor n.number)) away
+first_of (m ∷ front) back n all away = ap (λ b. if b then first_missing (front ++ n ∷ back) else Some (refused.NoSuchActor m.number)) all.0 ∙ first_of front back n all.1 away
 
 all_there : (names : List Named) → AreThere names → first_missing names ≡ None
 all_there [] all = refl
@@ -48,12 +47,12 @@ none_named : (front back : List Named) (n : Named) → [] ≡ front ++ n ∷ bac
 none_named [] back n e = cc
 none_named (m ∷ front) back n e = cc
 
-module _ (s : CellState) (reply : Reply) (events : List Event) (front back : List Named) (n : Named) (all : AreThere front) (no : n.there ≡ false) where
+module _ (s : CellState) (reply : Reply) (events : List Event) (front back : List Named) (n : Named) (all : AreThere front) (away : n.there ≡ false) where
   abbrev IsRefused : Type 0
   IsRefused = (reply ≡ refusal (refused.NoSuchActor n.number)) × (events ≡ [])
 
   named : (names : List Named) (own : Doing) → Naming names own reply events → names ≡ front ++ n ∷ back → IsRefused
-  named names own does e = subst (λ o. Unless o own reply events) (ap first_missing e ∙ first_of front back n all no) does
+  named names own does e = subst (λ o. Unless o own reply events) (ap first_missing e ∙ first_of front back n all away) does
 
   task_missing : (t : Task) → DoesTask s t reply events → named_in s t ≡ front ++ n ∷ back → IsRefused
   task_missing (task.Create client volume path mode owner) does e = named _ _ does e
@@ -304,19 +303,19 @@ module _ (offers : Option Nodes) (c : ClientState) (time volume : ℕ) (ask : As
       why_is : (why : Refused) → (let r : Said = Err why in r) ≡ Err refused.LogFull → why ≡ refused.LogFull
       why_is why e = cc
 
-      no : (r : Accepted) → accepted ≡ r → (answer_to (entries_of (look_ups offers c.held volume ask)) (c.volumes volume) time volume r).said ≡ Err refused.LogFull → (op : Op) × (accepted ≡ Ok op)
-      no (Ok op) a e = (op, a)
-      no (Err why) a e =
+      answers_full : (r : Accepted) → accepted ≡ r → (answer_to (entries_of (look_ups offers c.held volume ask)) (c.volumes volume) time volume r).said ≡ Err refused.LogFull → (op : Op) × (accepted ≡ Ok op)
+      answers_full (Ok op) a e = (op, a)
+      answers_full (Err why) a e =
           let full : accepted ≡ Err refused.LogFull = a ∙ ap (λ w. Err w) (why_is why e) in
           absurd (subst IsElse full (accept_else (sight_of (behind_fetches c (look_ups offers c.held volume ask)) volume) volume ask))
 
       by : (o : Option ℕ) → (operate_unless o offers c time volume ask).said ≡ Err refused.LogFull → (op : Op) × (accepted ≡ Ok op)
       by (Some length) e = cc
-      by None e = no accepted refl e
+      by None e = answers_full accepted refl e
 
 pub refusals_come_in_order : RefusalsComeInOrder
 refusals_come_in_order = record {
-  missing = λ s said reply events front back n does e all no. line_missing s reply events front back n all no said does e;
+  missing = λ s said reply events front back n does e all away. line_missing s reply events front back n all away said does e;
   unreached = λ s client volume server window reply events does all down. link_down s client volume server window reply events does all down;
   full = λ offers c time volume ask is. log_full offers c time volume ask is;
 }

@@ -1,5 +1,5 @@
 -- Where acceptance misses nothing there is nothing to look up.
-use Rattle.std.proofs.Common.{◌≡◌, ◌≢◌, ℕ, List, [], ◌∷◌, ◌++◌, Option, Some, None, option_map, Result, Ok, Err, refl, sym, ap, ◌∙◌, subst, inl, inr}
+use Rattle.std.proofs.Common.{◌≡◌, ℕ, false, List, [], ◌∷◌, ◌++◌, Option, Some, None, option_map, Result, Ok, Err, refl, sym, ap, ◌∙◌, subst, inl, inr}
 use Rattle.std.specs.FinMap as map
 use Rattle.coda_fid.specs.Fid.{root_of}
 use Rattle.coda_fid.specs.declared.fid.Fid.{Fid}
@@ -11,9 +11,9 @@ use Rattle.coda_tree.specs.Bindings.{Name}
 use Rattle.coda_tree.specs.Volume.{Nodes, parent_of}
 use Rattle.coda_cell.specs.Ask.{Asked, too_big, Create, Mkdir, Symlink, Store, Setattr, Remove, Rmdir, Rename, Ending, ending, front_of}
 use Rattle.coda_cell.specs.declared.venus.Venus.{Venus}
-use Rattle.coda_cell.specs.Held.{Held, Fetch, AreBound, held_after_fetches}
+use Rattle.coda_cell.specs.Held.{Held, AreBound, held_after_fetches}
 use Rattle.coda_cell.specs.State.{ClientState}
-use Rattle.coda_cell.specs.Refusing.{OrMemory}
+use Rattle.coda_cell.specs.Refusing.{is_miss, OrMemory}
 use Rattle.coda_cell.specs.Code.{held_of, sight, IsClient, Gives}
 use Rattle.coda_cell.specs.Looking.{then_find, held, found, step_in, step_from, resolve, offered, fetch_of, look, looked, look_on, look_along}
 use Rattle.coda_cell.specs.Accepting.{Accepted, Sight, new_place, held_bound, bound_in, at_root, accept_creation, store_at, setattr_at, remove_at, rmdir_at, spot, bound_at, place, move_to, rename_to, rename_root, accept_rename, accept_remove, accept_rmdir, accept}
@@ -50,19 +50,19 @@ no_look_along offers h at [] n = by (map.get h.nodes at) refl n
     by : (o : Option Node) → map.get h.nodes at ≡ o → MissesNothing (held o at) → look offers h at ≡ []
     by None is m = absurd m
     by (Some node) is m = no_look offers h at node is
-no_look_along offers h at (name ∷ names) n = by (map.get h.nodes at) refl n
+no_look_along offers h at (name ∷ names) n = by (map.get h.nodes at) refl (λ next. no_look_along offers h next names) n
   where
-    goes : (r : Result Fid Refused) → MissesNothing (then_find r (λ next. resolve h.nodes next names)) → look_on r (λ next. look_along offers h next names) ≡ []
-    goes (Err why) m = refl
-    goes (Ok next) m = no_look_along offers h next names m
+    goes : (r : Result Fid Refused) → ((next : Fid) → MissesNothing (resolve h.nodes next names) → look_along offers h next names ≡ []) → MissesNothing (then_find r (λ next. resolve h.nodes next names)) → look_on r (λ next. look_along offers h next names) ≡ []
+    goes (Err why) rest m = refl
+    goes (Ok next) rest m = rest next m
 
-    by : (o : Option Node) → map.get h.nodes at ≡ o → MissesNothing (then_find (step_from o at name) (λ next. resolve h.nodes next names))
+    by : (o : Option Node) → map.get h.nodes at ≡ o → ((next : Fid) → MissesNothing (resolve h.nodes next names) → look_along offers h next names ≡ []) → MissesNothing (then_find (step_from o at name) (λ next. resolve h.nodes next names))
         → look offers h at ++ look_on (step_from (map.get (looked offers h at).nodes at) at name) (λ next. look_along offers (looked offers h at) next names) ≡ []
-    by None is m = absurd m
-    by (Some node) is m =
+    by None is rest m = absurd m
+    by (Some node) is rest m =
         let none = no_look offers h at node is in
         (λ i. none i ++ look_on (step_from (map.get (held_after_fetches h (none i)).nodes at) at name) (λ next. look_along offers (held_after_fetches h (none i)) next names))
-        ∙ goes (step_from (map.get h.nodes at) at name) (subst (λ o. MissesNothing (then_find (step_from o at name) (λ next. resolve h.nodes next names))) (sym is) m)
+        ∙ goes (step_from (map.get h.nodes at) at name) rest (subst (λ o. MissesNothing (then_find (step_from o at name) (λ next. resolve h.nodes next names))) (sym is) m)
 
 -- where a path leads is where its last name leads from its directory
 resolve_push : (m : Nodes) (at : Fid) (front : List Name) (name : Name)
@@ -73,33 +73,35 @@ resolve_push m at [] name = by (map.get m at) refl
         → then_find (step_from o at name) (λ next. held (map.get m next) next) ≡ then_find (held o at) (λ dir. then_find (step_from (map.get m dir) dir name) (λ fid. held (map.get m fid) fid))
     by None is = refl
     by (Some node) is = ap (λ o. then_find (step_from o at name) (λ fid. held (map.get m fid) fid)) (sym is)
-resolve_push m at (first ∷ front) name = by (step_from (map.get m at) at first)
+resolve_push m at (first ∷ front) name = by (step_from (map.get m at) at first) (λ next. resolve_push m next front name)
   where
-    by : (r : Result Fid Refused) → then_find r (λ next. resolve m next (front ++ name ∷ []))
+    by : (r : Result Fid Refused)
+        → ((next : Fid) → resolve m next (front ++ name ∷ []) ≡ then_find (resolve m next front) (λ dir. then_find (step_from (map.get m dir) dir name) (λ fid. held (map.get m fid) fid)))
+        → then_find r (λ next. resolve m next (front ++ name ∷ []))
         ≡ then_find (then_find r (λ next. resolve m next front)) (λ dir. then_find (step_from (map.get m dir) dir name) (λ fid. held (map.get m fid) fid))
-    by (Err why) = refl
-    by (Ok next) = resolve_push m next front name
+    by (Err why) rest = refl
+    by (Ok next) rest = rest next
 
 -- a path with a last name is its front and that name
 ended : (names : List Name) (e : List Name × Name) → ending names ≡ Some e → names ≡ e.0 ++ e.1 ∷ []
 ended [] e is = cc
 ended (name ∷ []) e is = let same : ([], name) ≡ e = cc in ap (λ (p : List Name × Name). p.0 ++ p.1 ∷ []) same
-ended (name ∷ other ∷ names) e is = by (ending (other ∷ names)) refl is
+ended (name ∷ other ∷ names) e is = by (ending (other ∷ names)) refl (ended (other ∷ names)) is
   where
-    by : (o : Ending) → ending (other ∷ names) ≡ o → option_map (λ (e : List Name × Name). (name ∷ e.0, e.1)) o ≡ Some e → name ∷ other ∷ names ≡ e.0 ++ e.1 ∷ []
-    by None none x = cc
-    by (Some d) some x =
+    by : (o : Ending) → ending (other ∷ names) ≡ o → ((d : List Name × Name) → ending (other ∷ names) ≡ Some d → other ∷ names ≡ d.0 ++ d.1 ∷ []) → option_map (λ (e : List Name × Name). (name ∷ e.0, e.1)) o ≡ Some e → name ∷ other ∷ names ≡ e.0 ++ e.1 ∷ []
+    by None none rest x = cc
+    by (Some d) some rest x =
         let same : (name ∷ d.0, d.1) ≡ e = cc in
-        ap (λ l. name ∷ l) (ended (other ∷ names) d some) ∙ ap (λ (p : List Name × Name). p.0 ++ p.1 ∷ []) same
+        ap (λ l. name ∷ l) (rest d some) ∙ ap (λ (p : List Name × Name). p.0 ++ p.1 ∷ []) same
 
 not_ended : (names : List Name) → ending names ≡ None → names ≡ []
 not_ended [] is = refl
 not_ended (name ∷ []) is = cc
-not_ended (name ∷ other ∷ names) is = by (ending (other ∷ names)) refl is
+not_ended (name ∷ other ∷ names) is = by (ending (other ∷ names)) refl (not_ended (other ∷ names)) is
   where
-    by : (o : Ending) → ending (other ∷ names) ≡ o → option_map (λ (e : List Name × Name). (name ∷ e.0, e.1)) o ≡ None → name ∷ other ∷ names ≡ []
-    by None none x = let no : other ∷ names ≡ [] = not_ended (other ∷ names) none in cc
-    by (Some d) some x = cc
+    by : (o : Ending) → ending (other ∷ names) ≡ o → (ending (other ∷ names) ≡ None → other ∷ names ≡ []) → option_map {U = List Name × Name} (λ (e : List Name × Name). (name ∷ e.0, e.1)) o ≡ None → name ∷ other ∷ names ≡ []
+    by None none rest x = let nil : other ∷ names ≡ [] = rest none in cc
+    by (Some d) some rest x = cc
 
 -- a path leads to the object of its spot
 leads_to_spot : (m : Nodes) (volume : ℕ) (e : List Name × Name) → resolve m (root_of volume) (e.0 ++ e.1 ∷ []) ≡ then_find (spot m volume e) (λ at. Ok at.1)
@@ -142,9 +144,9 @@ place_misses m volume e n = subst MissesNothing (sym (resolve_push m (root_of vo
     at None dir x = x
     at (Some node) dir x = in_kind node.kind x
 
-    by : (r : Result Fid Refused) → MissesNothing (then_find r (λ dir. then_find (bound_at m (map.get m dir) dir e.1) (λ b. Ok (dir, b)))) → MissesNothing (then_find r (λ dir. then_find (step_from (map.get m dir) dir e.1) (λ fid. held (map.get m fid) fid)))
-    by (Err why) x = first_misses (let r : Result Fid Refused = Err why in r) (λ dir. then_find (bound_at m (map.get m dir) dir e.1) (λ b. Ok (dir, b))) x
-    by (Ok dir) x = at (map.get m dir) dir (first_misses (bound_at m (map.get m dir) dir e.1) (λ b. Ok (dir, b)) x)
+    by : (r : Result Fid Refused) → MissesNothing {A = Fid × Option Fid} (then_find r (λ dir. then_find (bound_at m (map.get m dir) dir e.1) (λ b. Ok (dir, b)))) → MissesNothing (then_find r (λ dir. then_find (step_from (map.get m dir) dir e.1) (λ fid. held (map.get m fid) fid)))
+    by (Err why) x = first_misses {B = Fid × Option Fid} (let r : Result Fid Refused = Err why in r) (λ dir. then_find (bound_at m (map.get m dir) dir e.1) (λ b. Ok (dir, b))) x
+    by (Ok dir) x = at (map.get m dir) dir (first_misses {B = Fid × Option Fid} (bound_at m (map.get m dir) dir e.1) (λ b. Ok (dir, b)) x)
 
 -- ---- each ask
 
@@ -226,6 +228,28 @@ module _ (offers : Option Nodes) (s : Sight) (volume : ℕ) where
   no_look_ups (Rename from to) n = renaming from to (ending from) refl n
 
 -- ---- what a client answers that looked nothing up
+
+-- a refusal that is none for a missing object
+pub not_missing : (why : Refused) → is_miss why ≡ false → (let r : Accepted = Err why in MissesNothing r)
+not_missing (refused.Miss fid) e = cc
+not_missing refused.LogFull e = tt
+not_missing refused.NotFound e = tt
+not_missing refused.NotDir e = tt
+not_missing refused.Nothing e = tt
+not_missing (refused.Young age window) e = tt
+not_missing (refused.Frozen number home) e = tt
+not_missing refused.JournalFull e = tt
+not_missing refused.Exists e = tt
+not_missing refused.IsDir e = tt
+not_missing refused.NotEmpty e = tt
+not_missing refused.Loop e = tt
+not_missing (refused.TooBig length) e = tt
+not_missing refused.LinkDown e = tt
+not_missing (refused.NoSuchActor number) e = tt
+not_missing refused.AlreadyThere e = tt
+not_missing refused.CellFull e = tt
+not_missing refused.NotFile e = tt
+not_missing refused.Memory e = tt
 
 miss_or : {A : Type 0} (r : Result A Refused) (x : A) → Ok x ≡ r → MissesNothing r
 miss_or r x is = subst MissesNothing is tt

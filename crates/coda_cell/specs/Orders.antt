@@ -8,13 +8,12 @@ use Rattle.coda_script.specs.declared.line.Task.TheVariants as task
 use Rattle.coda_script.specs.declared.line.Line.{Line}
 use Rattle.coda_script.specs.declared.line.Line.TheVariants as line
 use Rattle.coda_script.specs.declared.reply.Reply.{Reply}
-use Rattle.coda_cell.specs.Ask.{Asked, too_big}
+use Rattle.coda_cell.specs.Ask.{Asked}
 use Rattle.coda_cell.specs.State.{ClientState, CellState, Event}
 use Rattle.coda_cell.specs.Accepting.{sight_of, accept}
 use Rattle.coda_cell.specs.Asking.{look_ups, behind_fetches, operate}
 use Rattle.coda_cell.specs.Refusing.{refusal}
 use Rattle.coda_cell.specs.Steps.{Named, client_named, volume_named, server_named, holder_named, on_volume, Does}
-use Rattle.coda_cell.specs.declared.refused.Refused.{Refused}
 use Rattle.coda_cell.specs.declared.refused.Refused.TheVariants.{LogFull, LinkDown, NoSuchActor}
 
 -- the actors that a task names, from left to right

@@ -1,5 +1,5 @@
 -- What a refusal is in a reply: its number and name, and what it names.
-use Rattle.std.specs.Prelude.{◌≡◌, ◌⊎◌, List, [], ◌∷◌, Result, Err}
+use Rattle.std.specs.Prelude.{◌≡◌, ◌⊎◌, Bool, true, false, List, [], ◌∷◌, Result, Err}
 use Rattle.coda_cml.specs.declared.fault.FreezeFault.{FreezeFault}
 use Rattle.coda_cml.specs.declared.fault.FreezeFault.TheVariants as freeze
 use Rattle.coda_script.specs.declared.refusal.Refusal.{Refusal}
@@ -65,6 +65,11 @@ refused_as (freeze.Frozen number home) = refused.Frozen number home
 refused_as freeze.Nothing = refused.Nothing
 refused_as (freeze.Young age window) = refused.Young age window
 refused_as freeze.Memory = refused.Memory
+
+-- whether an object is missing
+abbrev pub is_miss : Refused → Bool
+is_miss (refused.Miss fid) = true
+is_miss _ = false
 
 -- an answer is this one, or there was no memory for it
 abbrev pub OrMemory : {A : Type 0} → Result A Refused → Result A Refused → Type 0

@@ -197,8 +197,12 @@ impl Venus {
         // Where nothing that acceptance looks at is missing, there is nothing to fetch.
         match self.accept(volume, ask) {
             Ok(op) => self.enter(volume, time, op),
-            Err(Refused::Miss(_)) => self.operate_behind(offers, time, volume, ask),
-            Err(refusal) => Err(refusal),
+            Err(refusal) => {
+                if refusal.is_miss() {
+                    return self.operate_behind(offers, time, volume, ask);
+                }
+                Err(refusal)
+            }
         }
     }
 

@@ -1,6 +1,6 @@
 // Why a line isn't carried out, as the cell and its clients tell it.
 ghost use Rattle.std.specs.Prelude.{◌≡◌, ◌≢◌, IfOk};
-ghost use Rattle.coda_cell.specs.Refusing.{refusal, refusal_of, args_of, refused_as};
+ghost use Rattle.coda_cell.specs.Refusing.{refusal, refusal_of, args_of, refused_as, is_miss};
 
 use coda_cml::FreezeFault;
 use coda_fid::Fid;
@@ -74,6 +74,13 @@ pub fn refused_as(why: FreezeFault) -> Refused
 }
 
 impl Refused {
+    /// Whether an object is missing.
+    pub fn is_miss(&self) -> bool
+        ensures { result ≡ is_miss self.now }
+    {
+        matches!(self, Refused::Miss(_))
+    }
+
     // The refusal as it is numbered and named.
     fn refusal(self) -> Refusal
         requires { self ≢ Refused.Memory }
