@@ -1,7 +1,7 @@
 // The cell as a machine that runs the lines of a script.
 ghost use Rattle.std.specs.Prelude.{◌≡◌};
 ghost use Rattle.coda_cell.specs.Made.{nothing_made};
-ghost use Rattle.coda_main.specs.Shows.{Shows, StopsAs};
+ghost use Rattle.coda_main.specs.Shows.{Shows, stop_at};
 
 use crate::report::text_of;
 use coda_cell::{Cell, is_built};
@@ -38,7 +38,7 @@ impl CellMachine {
 
 // Why a line was not read.
 fn stop_of(fault: coda_script::LineFault) -> LineStop
-    ensures { StopsAs fault result }
+    ensures { result ≡ stop_at fault }
 {
     match fault {
         coda_script::LineFault::BadLine { column, kind } => match u32::try_from(column) {
