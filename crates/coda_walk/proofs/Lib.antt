@@ -1,0 +1,9 @@
+pub mod Lists
+pub mod Goes
+pub mod Steps
+pub mod Ways
+pub mod Blocks
+pub mod Choices
+pub mod Orders
+pub mod Loops
+pub mod Balance

@@ -1,0 +1,19 @@
+//! Plans for a cache of bounded size: who goes so that the rest fits.
+#![tactic(auto)]
+
+mod candidate;
+mod index;
+mod item;
+mod law;
+mod planned;
+mod planning;
+mod room;
+mod taking;
+#[cfg(test)]
+mod tests;
+
+pub use item::Item;
+pub use law::{plans_are_in_equilibrium, who_goes_is_right};
+pub use planned::Plan;
+pub use planning::plan;
+pub use room::who_goes;
