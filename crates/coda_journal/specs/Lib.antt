@@ -1,0 +1,13 @@
+pub mod Lengths
+pub mod Entries
+pub mod Header
+pub mod Image
+pub mod Heading
+pub mod Laws
+pub mod Reading
+pub mod Open
+pub mod Synced
+pub mod Made
+pub mod Journal
+pub mod Quiet
+pub mod Mount
