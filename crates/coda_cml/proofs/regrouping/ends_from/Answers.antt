@@ -1,4 +1,3 @@
-use Rattle.std.proofs.Common.{sym, ◌∙◌}
 use Rattle.coda_cml.proofs.segments.WidestJoins.{last_ends}
 use Rattle.coda_cml.proofs.regrouping.ends_from.Goals as goal
 

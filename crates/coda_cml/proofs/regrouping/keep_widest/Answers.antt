@@ -1,5 +1,5 @@
-use Rattle.std.proofs.Common.{◌≡◌, ◌<◌, ◌+◌, ◌||◌, get_or, sym, ap, ◌∙◌, arith}
-use Rattle.coda_cml.specs.Regrouping.{is_inside, is_within}
+use Rattle.std.proofs.Common.{◌+◌, ◌||◌, get_or, sym, ap, ◌∙◌, arith}
+use Rattle.coda_cml.specs.Regrouping.{is_within}
 use Rattle.coda_cml.proofs.segments.WidestJoins.{inside_more, next_above}
 use Rattle.coda_cml.proofs.regrouping.keep_widest.Goals as goal
 

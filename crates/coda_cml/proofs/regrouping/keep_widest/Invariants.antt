@@ -1,4 +1,4 @@
-use Rattle.std.proofs.Common.{◌≡◌, ◌≤◌, ◌<◌, ◌+◌, ◌-◌, ℕ, take, get_or, length}
+use Rattle.std.proofs.Common.{◌≡◌, ◌≤◌, ◌<◌, ℕ, take, get_or, length}
 use Rattle.std.specs.Vec.{vec_len, vec_capacity}
 use Rattle.coda_cancel.specs.declared.join.Join.{Join}
 use Rattle.coda_cml.specs.Regrouping.{is_inside, AreJoinsBelow, DoJoinsRise}

@@ -1,4 +1,4 @@
-use Rattle.std.proofs.Common.{◌≡◌, ◌-◌, ◌||◌, false, take, length, sym, ap, ◌∙◌, subst, arith}
+use Rattle.std.proofs.Common.{◌≡◌, ◌-◌, ◌||◌, take, length, sym, ap, ◌∙◌, subst, arith}
 use Rattle.coda_cml.specs.Regrouping.{is_inside, is_within, ends_from, AreJoinsBelow, DoJoinsRise}
 use Rattle.coda_cml.proofs.segments.WidestJoins.{cut_last, rise_cut, below_cut, rise_pushed, below_pushed, inside_pushed}
 use Rattle.coda_cml.proofs.regrouping.put_join.Goals as goal
