@@ -1,4 +1,4 @@
-use Rattle.std.proofs.Common.{◌≢◌, ◌+◌, subst, sym, ap, ◌∙◌}
+use Rattle.std.proofs.Common.{◌≢◌, ◌+◌, subst, sym, ◌∙◌}
 use Rattle.coda_plain.specs.Decisions.{Last}
 use Rattle.coda_replica.specs.Comes.{history_of, history_after}
 use Rattle.coda_replica.proofs.Repeats.{last_next, last_stays_all, again_is}
