@@ -1,0 +1,4 @@
+pub mod Keyed
+pub mod PutBack
+pub mod Repeats
+pub mod Coming
