@@ -1,5 +1,5 @@
 -- The cell of the code as a machine: what it does is what any cell by its histories may do that it shows.
-use Rattle.std.specs.Prelude.{◌≡◌, ℕ, nat_lt, List, if◌then◌else◌}
+use Rattle.std.specs.Prelude.{◌≡◌, ℕ, List}
 use Rattle.coda_engine.specs.declared.status.Kind.{Kind}
 use Rattle.coda_engine.specs.declared.machine.LineStop.{LineStop}
 use Rattle.coda_engine.specs.declared.machine.LineStop.TheVariants.{Refused, Memory as OutOfMemory}
@@ -25,7 +25,7 @@ CellGives old bytes text outside new =
 abbrev pub CellRefuses : CellMachine → List ℕ → ℕ → Kind → Type 0
 CellRefuses machine bytes column kind = (plain : MadeCell) → Shows plain machine → LineRefused plain bytes column kind
 
--- how a line stops that wasn't read: as its fault says; a column of 4 GiB or more, which no script has, can't be named
-abbrev pub stop_at : LineFault → LineStop
-stop_at (BadLine column kind) = if nat_lt column 4294967296 then Refused (record { column = column; kind = kind }) else OutOfMemory
-stop_at Memory = OutOfMemory
+-- a line that wasn't read stops as its fault says
+abbrev pub StopsAs : LineFault → LineStop → Type 0
+StopsAs (BadLine column kind) stop = stop ≡ Refused (record { column = column; kind = kind })
+StopsAs Memory stop = stop ≡ OutOfMemory

@@ -1,13 +1,16 @@
 // The cell as a machine that runs the lines of a script.
 ghost use Rattle.std.specs.Prelude.{◌≡◌};
 ghost use Rattle.coda_cell.specs.Made.{nothing_made};
-ghost use Rattle.coda_main.specs.Shows.{Shows, stop_at};
+ghost use Rattle.coda_main.specs.Shows.{Shows, StopsAs};
 
 use crate::report::text_of;
 use coda_cell::{Cell, is_built};
 use coda_engine::{Kind, LineFault, LineStop, Machine};
 use coda_script::read_line;
 use std::alloc::Global;
+
+/// The longest line whose columns can be counted; no script is so long.
+const LONGEST_LINE: usize = 4_294_967_294;
 
 /// How a line is refused that isn't built, or that the command doesn't take: at its first column.
 const NOT_BUILT: LineStop = LineStop::Refused(LineFault {
@@ -38,13 +41,12 @@ impl CellMachine {
 
 // Why a line was not read.
 fn stop_of(fault: coda_script::LineFault) -> LineStop
-    ensures { result ≡ stop_at fault }
+    ensures { StopsAs fault result }
 {
     match fault {
-        coda_script::LineFault::BadLine { column, kind } => match u32::try_from(column) {
-            Ok(column) => LineStop::Refused(LineFault { column, kind }),
-            Err(_) => LineStop::Memory,
-        },
+        coda_script::LineFault::BadLine { column, kind } => {
+            LineStop::Refused(LineFault { column, kind })
+        }
         coda_script::LineFault::Memory => LineStop::Memory,
     }
 }
@@ -57,6 +59,9 @@ impl Machine for CellMachine {
     ghost refuses = { CellRefuses };
 
     fn run(&mut self, alloc: Global, line: &[u8]) -> Result<Vec<u8>, LineStop> {
+        if line.len() >= LONGEST_LINE {
+            return Err(LineStop::Memory);
+        }
         let said = match read_line(alloc, line) {
             Ok(Some(said)) => said,
             Ok(None) => return Ok(Vec::new(alloc)),
