@@ -170,7 +170,6 @@ fn files_have_journals(rt: HostRuntime) -> Result<(), Fail> {
     for payload in &payloads {
         assert_eq!(rt; payload.bytes(), large.as_slice());
     }
-    bay.back(9, journal.into_disk());
     fs::remove_dir_all(&rt, "coda-disks")?;
     Ok(())
 }
