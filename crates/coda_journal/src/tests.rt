@@ -1,5 +1,5 @@
 use crate::{Frame, Header, Journal, JournalFault, Kind, MountFault};
-use coda_disk::{Bay, Disk, FileBay, MemBay, MemDisk};
+use coda_disk::{Bay, Disk, FileBay, MemDisk};
 use std::alloc::{AllocError, Global};
 use std::fs;
 use std::test::Fail;
@@ -121,21 +121,35 @@ fn appends_are_whole(rt: HostRuntime) -> Result<(), Fail> {
     Ok(())
 }
 
+// How many entries a disk has that is made anew and may make so many calls, after a crash; and whether it was made.
+fn made(
+    alloc: Global,
+    passes: u64,
+    choice: u64,
+) -> Result<(bool, Result<(u64, usize), MountFault>), AllocError> {
+    let mut disk = MemDisk::new(alloc, Vec::new(alloc), Vec::new(alloc))?;
+    disk.arm(passes);
+    match Journal::mount(alloc, disk, &HEADER) {
+        Ok(mount) => {
+            let image = mount.0.into_disk().image(choice)?;
+            Ok((true, mounted(alloc, image)?))
+        }
+        Err(unmounted) => {
+            let image = unmounted.disk.image(choice)?;
+            Ok((false, mounted(alloc, image)?))
+        }
+    }
+}
+
 // A disk that is made anew is empty, whichever of its calls fails.
 #[test]
 fn disks_are_made(rt: HostRuntime) -> Result<(), Fail> {
-    let alloc = rt.alloc();
     for passes in 0..11u64 {
         for choice in [0u64, 1, 2, 255] {
-            let mut bay = MemBay::new(alloc, Vec::new(alloc));
-            let mut disk = bay.take(1)?;
-            disk.arm(passes);
-            let (done, disk) = match Journal::mount(alloc, disk, &HEADER) {
-                Ok((journal, _)) => (true, journal.into_disk()),
-                Err(unmounted) => (false, unmounted.disk),
-            };
-            assert_eq!(rt; done, passes == 10);
-            assert_eq!(rt; mounted(alloc, disk.image(choice)?)?, Ok((0, 0)));
+            assert_eq!(rt;
+                made(rt.alloc(), passes, choice)?,
+                (passes == 10, Ok((0, 0)))
+            );
         }
     }
     Ok(())
