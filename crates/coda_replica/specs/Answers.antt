@@ -1,5 +1,6 @@
 -- What a replica answers to a chunk.
-use Rattle.std.specs.Prelude.{◌≡◌, ◌<◌, ℕ, ◌+◌, Bool, true, false, ◌==◌, ◌&&◌, nat_lt, if◌then◌else◌, List, Option, Some, None}
+use Rattle.std.specs.Prelude.{◌≡◌, ◌<◌, ◌≤◌, ℕ, ◌+◌, Bool, true, false, ◌==◌, ◌&&◌, nat_lt, if◌then◌else◌, List, Option, Some, None}
+use Rattle.std.specs.Option.{IsSome}
 use Rattle.coda_fid.specs.declared.op.Record.{Record}
 use Rattle.coda_tree.specs.declared.node.Node.{Node}
 use Rattle.coda_certify.specs.declared.verdict.Verdict.{Verdict}
@@ -35,14 +36,14 @@ answer_to last number verdict = if is_next last number then answer_of verdict el
 abbrev pub after_chunk : ReplicaState → ℕ → ℕ → List Record → ReplicaState
 after_chunk r client number recs = if is_next (last_for r client) number then decided r client number recs else r
 
--- why a chunk isn't decided: only the next one may be refused, for want of memory, or since no client has so many chunks
+-- why a chunk isn't decided: only the next one may be refused, since no client has so many chunks, or else for want of memory
 abbrev pub IsUndecided : Last → ℕ → ReplicaFault → Type 0
-IsUndecided last number Memory = is_next last number ≡ true
+IsUndecided last number Memory = (is_next last number ≡ true) × (number ≤ 4294967295)
 IsUndecided last number JournalFull = (is_next last number ≡ true) × (4294967295 < number)
 IsUndecided last number NotFound = ⊥
 
--- why a node isn't handed over: there is none, or memory is wanted
+-- why a node isn't handed over: there is none, or else memory is wanted
 abbrev pub IsUnfetched : Option Node → ReplicaFault → Type 0
-IsUnfetched held Memory = Unit {0}
+IsUnfetched held Memory = IsSome held
 IsUnfetched held NotFound = held ≡ None
 IsUnfetched held JournalFull = ⊥

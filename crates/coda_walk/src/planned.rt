@@ -11,5 +11,3 @@ pub struct Plan {
     /// The cached objects that go, in order.
     pub drop: Vec<Fid>,
 }
-
-// ---- who goes
