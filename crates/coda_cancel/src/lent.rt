@@ -8,7 +8,7 @@ use std::marker::Model;
 
 /// Records that are lent, in the order of their numbers.
 ///
-/// Contracts see the list of the records. Between those of a tail there may be gaps, which who reads them goes past.
+/// Contracts see the list of the records. Between those of a tail there may be gaps, which reading goes past.
 #[derive(Drop)]
 pub struct LentRecords<'a> {
     // Those of a slice, and then those that stand in places; so many together.

@@ -55,6 +55,6 @@ pub record RefusalsComeInOrder : Type 0 where
   pub unreached : (s : CellState) (client volume server : ℕ) (window : Option ℕ) (reply : Reply) (events : List Event)
       → Does s (line.Task (task.Drain client volume server window)) reply events → AreThere (named_in s (task.Drain client volume server window)) → s.links client server ≡ Down
       → (reply ≡ refusal LinkDown) × (events ≡ [])
-  -- an operation is refused for a log that is full last of all: else it would be accepted
+  -- an operation is refused for a log that is full only where acceptance has nothing against it
   pub full : (offers : Option Nodes) (c : ClientState) (time volume : ℕ) (ask : Asked) → (operate offers c time volume ask).said ≡ Err LogFull
       → (op : Op) × (accept (sight_of (behind_fetches c (look_ups offers c.held volume ask)) volume) volume ask ≡ Ok op)

@@ -22,7 +22,8 @@ pub fn clients_alone_meet_no_conflict()
 {}
 
 /// A law of lines: one that names an actor that isn't there is refused for the leftmost of these, whatever else is wrong with it;
-/// then a log isn't sent over a link that is down; and an operation is refused for a log that is full last of all.
+/// then a log isn't sent over a link that is down; and an operation is refused for a log that is full only where acceptance has nothing
+/// against it.
 pub fn refusals_come_in_order()
     ensures { RefusalsComeInOrder }
 {}
