@@ -1,16 +1,17 @@
 // The cell as a machine that runs the lines of a script.
-ghost use Rattle.std.specs.Prelude.{◌≡◌};
-ghost use Rattle.coda_cell.specs.Made.{nothing_made};
-ghost use Rattle.coda_main.specs.Shows.{Shows, StopsAs};
+ghost use Rattle.std.specs.Prelude.{◌≡◌, true, IfOk, IfErr, IfSome, Ok};
+ghost use Rattle.coda_engine.specs.declared.machine.LineStop.TheVariants.{Memory as OutOfMemory};
+ghost use Rattle.coda_script.specs.Lines.{line_of};
+ghost use Rattle.coda_cell.specs.State.{CellState};
+ghost use Rattle.coda_cell.specs.Steps.{is_built};
+ghost use Rattle.coda_cell.specs.Cells.{IsCell, AreOrderly};
+ghost use Rattle.coda_main.specs.Shows.{StopsSo, Answered, stop_at};
 
 use crate::report::text_of;
 use coda_cell::{Cell, is_built};
 use coda_engine::{Kind, LineFault, LineStop, Machine};
-use coda_script::read_line;
+use coda_script::{Line, read_line};
 use std::alloc::Global;
-
-/// The longest line whose columns can be counted; no script is so long.
-const LONGEST_LINE: usize = 4_294_967_294;
 
 /// How a line is refused that isn't built, or that the command doesn't take: at its first column.
 const NOT_BUILT: LineStop = LineStop::Refused(LineFault {
@@ -41,13 +42,49 @@ impl CellMachine {
 
 // Why a line was not read.
 fn stop_of(fault: coda_script::LineFault) -> LineStop
-    ensures { StopsAs fault result }
+    ensures { result ≡ stop_at fault }
 {
     match fault {
-        coda_script::LineFault::BadLine { column, kind } => {
-            LineStop::Refused(LineFault { column, kind })
-        }
+        coda_script::LineFault::BadLine { column, kind } => match u32::try_from(column) {
+            Ok(column) => LineStop::Refused(LineFault { column, kind }),
+            Err(_) => LineStop::Memory,
+        },
         coda_script::LineFault::Memory => LineStop::Memory,
+    }
+}
+
+// What a line says, which is then built; nothing where it is silent.
+fn built_line(alloc: Global, line: &[u8]) -> Result<Option<Line>, LineStop>
+    ensures spelled { IfOk result (λ o. line_of line.now ≡ Ok o) }
+    ensures built { IfOk result (λ o. IfSome o (λ said. is_built said ≡ true)) }
+    ensures refused { IfErr result (StopsSo line.now) }
+{
+    match read_line(alloc, line) {
+        Ok(Some(said)) => {
+            if is_built(&said) {
+                Ok(Some(said))
+            } else {
+                Err(NOT_BUILT)
+            }
+        }
+        Ok(None) => Ok(None),
+        Err(fault) => Err(stop_of(fault)),
+    }
+}
+
+// Carries out a line that is built, and writes its reply in the cell that it leaves.
+fn answer(alloc: Global, cell: &mut Cell, said: &Line) -> Result<Vec<u8>, LineStop>
+    requires { is_built said.now ≡ true }
+    ensures answered { IfOk result (λ text. (s : CellState) → IsCell s cell.old → AreOrderly s → Answered s said.now text.items cell.new) }
+    ensures memory { IfErr result (λ stop. stop ≡ OutOfMemory) }
+{
+    let reply = match cell.step(said) {
+        Ok(reply) => reply,
+        Err(_) => return Err(LineStop::Memory),
+    };
+    match text_of(alloc, cell, &reply) {
+        Ok(text) => Ok(text.into_vec()),
+        Err(_) => Err(LineStop::Memory),
     }
 }
 
@@ -59,24 +96,10 @@ impl Machine for CellMachine {
     ghost refuses = { CellRefuses };
 
     fn run(&mut self, alloc: Global, line: &[u8]) -> Result<Vec<u8>, LineStop> {
-        if line.len() >= LONGEST_LINE {
-            return Err(LineStop::Memory);
-        }
-        let said = match read_line(alloc, line) {
-            Ok(Some(said)) => said,
-            Ok(None) => return Ok(Vec::new(alloc)),
-            Err(fault) => return Err(stop_of(fault)),
-        };
-        if !is_built(&said) {
-            return Err(NOT_BUILT);
-        }
-        let reply = match self.cell.step(&said) {
-            Ok(reply) => reply,
-            Err(_) => return Err(LineStop::Memory),
-        };
-        match text_of(alloc, &self.cell, &reply) {
-            Ok(text) => Ok(text.into_vec()),
-            Err(_) => Err(LineStop::Memory),
+        match built_line(alloc, line) {
+            Ok(Some(said)) => answer(alloc, &mut self.cell, &said),
+            Ok(None) => Ok(Vec::new(alloc)),
+            Err(stop) => Err(stop),
         }
     }
 }

@@ -10,7 +10,7 @@ use thiserror::Error;
 pub enum LineFault {
     /// The line is wrong: its first wrong column, in bytes from 1, and what is wrong there.
     #[error("column {column}: {kind}")]
-    BadLine { column: u32, kind: Kind },
+    BadLine { column: u64, kind: Kind },
     /// There was no memory for what the line says.
     #[error("out of memory for a line")]
     Memory,

@@ -1,5 +1,5 @@
 // Reading a line.
-ghost use Rattle.std.specs.Prelude.{◌≡◌, ◌<◌, ◌-◌, ◌^◌, length, IfOk, IfSome, IfNone, true};
+ghost use Rattle.std.specs.Prelude.{◌≡◌, IfOk, IfSome, IfNone, true};
 ghost use Rattle.coda_script.specs.Reading.{read};
 ghost use Rattle.coda_script.specs.Table.{script, setup_forms, actor_forms, last_forms, extra_forms};
 ghost use Rattle.coda_script.specs.Lines.{first_byte, is_silent, read_words, line_of};
@@ -199,7 +199,6 @@ fn is_silent(line: &[u8]) -> bool
 // What a line says, if it says anything.
 #[tactic(auto, unfolding(crate::specs::Lines::line_of))]
 fn whole_line(alloc: Global, bytes: &[u8]) -> Result<Option<Line>, LineFault>
-    requires { length bytes.now < 2 ^ 32 - 1 }
     ensures { Gives (λ o. o) result (line_of bytes.now) }
 {
     if is_silent(bytes) {
@@ -211,7 +210,7 @@ fn whole_line(alloc: Global, bytes: &[u8]) -> Result<Option<Line>, LineFault>
 
 /// What a line of a script says: nothing for a blank line or a comment, which begins with `#`.
 ///
-/// A line has no newline in it, and is less than 4 GiB long. Reading goes once over the line, and takes memory for
+/// A line has no newline in it. Reading goes once over the line, and takes memory for
 /// what the line says and for one decoded word at a time.
 ///
 /// # Errors
@@ -225,8 +224,6 @@ fn whole_line(alloc: Global, bytes: &[u8]) -> Result<Option<Line>, LineFault>
 /// - what is no word of a line at all is `Text`;
 /// - `at T LINE` is `Mode` at column 1 where LINE is well formed and isn't what a client does in a thread.
 pub fn read_line(alloc: Global, bytes: &[u8]) -> Result<Option<Line>, LineFault>
-    requires { length bytes.now < 2 ^ 32 - 1 }
-
     // What is read is spelled so.
     ensures found { IfOk result (λ o. IfSome o (λ said. Says bytes.now said)) }
 

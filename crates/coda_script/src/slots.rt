@@ -15,11 +15,11 @@ use std::alloc::{AllocError, Global};
 
 // The fault at a byte of the line, counted from 0.
 fn fault(at: usize, kind: Kind) -> LineFault
-    requires { at < 4294967295 }
+    requires { at < 9223372036854775808 }
     ensures { result ≡ LineFault.BadLine (at + 1) kind }
 {
     LineFault::BadLine {
-        column: at as u32 + 1,
+        column: at as u64 + 1,
         kind,
     }
 }

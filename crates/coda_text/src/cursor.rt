@@ -1,4 +1,4 @@
-ghost use Rattle.std.specs.Prelude.{◌≡◌, ◌<◌, ◌-◌, ◌^◌, length};
+ghost use Rattle.std.specs.Prelude.{◌≡◌, ◌<◌, ◌^◌, length};
 ghost use Rattle.coda_text.specs.Words.{Split, split_of, rest_of};
 ghost use Rattle.coda_text.specs.Steps.{split_next, IsWithin};
 
@@ -7,8 +7,7 @@ use std::marker::Model;
 
 /// What is left of a line, word after word.
 ///
-/// A line is less than 4 GiB long, so that its columns fit in a `u32`. Each word is looked at once. Contracts see the
-/// words that are left.
+/// Each word is looked at once. Contracts see the words that are left.
 #[derive(Drop)]
 pub struct Cursor<'a> {
     line: &'a [u8],
@@ -20,7 +19,7 @@ impl<'a> Model for Cursor<'a> {
 
     ghost view = { λ c. split_next c.line.now c.next };
 
-    ghost invariant = { λ c. IsWithin c.line.now c.next × (length c.line.now < 2 ^ 32 - 1) };
+    ghost invariant = { λ c. IsWithin c.line.now c.next × (length c.line.now < 2 ^ 63) };
 }
 
 /// What stands next on a line, and at which byte, from 0.
@@ -39,9 +38,10 @@ impl<'a> Cursor<'a> {
 
     /// At the front of a line.
     pub fn of(line: &'a [u8]) -> Self
-        requires { length line.now < 2 ^ 32 - 1 }
         ensures { result ≡ split_of line.now }
     {
+        // Its clause says that the length is below 2^63.
+        let _length = line.len();
         Cursor {
             line,
             next: next_word(line, 0),
