@@ -1,4 +1,5 @@
 pub mod Lengths
+pub mod Fields
 pub mod Found
 pub mod ReadTo
 mod ByPieces

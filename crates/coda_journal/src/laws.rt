@@ -2,7 +2,7 @@
 ghost use Rattle.std.specs.Prelude.{ℕ, List, Some};
 ghost use Rattle.coda_disk.specs.Bays.{Crashed};
 ghost use Rattle.coda_journal.specs.Journal.{IsJournal};
-ghost use Rattle.coda_journal.specs.Laws.{EachImageIsFoundOnce, ReadingsAreNotForeign, NewDisksAreEmpty};
+ghost use Rattle.coda_journal.specs.Laws.{EachImageIsFoundOnce, ReadingsAreNotForeign, NewDisksAreEmpty, HeadersSayTheirFields, HeadersAreToldApart};
 ghost use Rattle.coda_journal.specs.Open.{Stands, IsOurs};
 ghost use Rattle.coda_journal.specs.declared.header.Header.{Header as AskedHeader};
 
@@ -34,4 +34,15 @@ pub fn journals_stay_ours<D: Disk>(journal: &Journal<D>, crashed: &D)
         → IsOurs header (D.told journal.now.disk) }
     ensures crash { (header : AskedHeader) (image : List ℕ) → IsOurs header (D.told journal.now.disk)
         → Crashed image (D.told journal.now.disk) (D.told crashed.now) → IsOurs header (D.told crashed.now) }
+{}
+
+/// A law of headers: each field of a header stands at its place in the first 64 bytes of a disk, whatever the gate and the selector
+/// are, and what is no field is zero.
+pub fn headers_say_their_fields()
+    ensures { HeadersSayTheirFields }
+{}
+
+/// A law of headers: no two have the same bytes.
+pub fn headers_are_told_apart()
+    ensures { HeadersAreToldApart }
 {}
