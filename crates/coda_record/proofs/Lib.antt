@@ -5,3 +5,7 @@ pub mod RecordBytes
 pub mod Tabled
 pub mod Offsets
 pub mod Spans
+pub mod EntriesAgree
+pub mod ListOf
+pub mod LastName
+pub mod Found

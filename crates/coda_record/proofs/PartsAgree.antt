@@ -4,8 +4,9 @@ use Rattle.std.specs.Prelude.{IsTrue, ◌==◌, Err}
 use Rattle.std.proofs.lemmas.Bool.{eqb-true}
 use Rattle.std.proofs.lemmas.List.{append-nil}
 use Rattle.coda_record.specs.Form.{Piece, empty, both, limited, number_piece, Size, one, two, four, eight, Form, gives, unknown, number, raw, tagged, such, part, Format}
-use Rattle.coda_record.specs.Parts.{number_of, u32, where_holds, counted, chosen, by_tag, one_of, optional, optional_piece, items_piece, items, list}
+use Rattle.coda_record.specs.Parts.{number_of, u32, where_holds, counted, chosen, by_tag, one_of, optional, optional_piece, items_piece, items, list, each, list_of, flag, flag_piece, flag_forms, in_words}
 use Rattle.coda_record.specs.Reading.{number_at, read}
+use Rattle.coda_record.specs.Spelling.{HasSpelling}
 use Rattle.coda_record.specs.Walks.{Always, Says, IsPlaced, Agrees}
 
 -- what always holds may be weakened
@@ -156,4 +157,27 @@ list_agrees item key before agrees = record {
   );
   said = λ xs fits. (length xs, items_piece item key before xs, refl, λ k. refl, subst (λ (p : Piece). Says (items item key before (length xs) (λ ys. gives ys)) p xs) (both_empty (items_piece item key before xs)) (items_said item key agrees before xs (λ ys. gives ys) empty xs (refl, refl)));
   placed = (tt, λ n. items_placed item key agrees before n (λ xs. gives xs) (λ xs. tt));
+}
+
+pub list_of_agrees : {A : Type 0} (f : Format A) → Agrees f → Agrees (list_of f)
+list_of_agrees f agrees = list_agrees (each f) (λ x. tt) tt (λ before. agrees)
+
+-- ---- flags, and values in other words
+
+flag_said : (b : Bool) → IsTrue (flag_piece b).fits → Says flag.form (flag_piece b) b
+flag_said false fits = (0, _, refl, (refl, refl))
+flag_said true fits = (1, _, refl, (refl, refl))
+
+pub flag_agrees : Agrees flag
+flag_agrees = record {
+  written = behind_tags flag_forms (λ p b. p ≡ flag_piece b) (refl, (refl, tt));
+  said = flag_said;
+  placed = tags_placed flag_forms (tt, (tt, tt));
+}
+
+pub in_words_agrees : {A B : Type 0} (to : A → B) (from : B → A) (f : Format A) → Agrees f → ((x : A) → HasSpelling f x → from (to x) ≡ x) → ((y : B) → to (from y) ≡ y) → Agrees (in_words to from f)
+in_words_agrees to from f agrees back there = record {
+  written = (agrees.written, λ x fits. both_empty (f.piece x) ∙ ap (λ z. f.piece z) (sym (back x fits)));
+  said = λ y fits. (from y, empty, sym (both_empty (f.piece (from y))), agrees.said (from y), (refl, there y));
+  placed = (agrees.placed, λ x. tt);
 }

@@ -20,7 +20,7 @@ items_bytes before (r ∷ rs) = ap (λ (b : List ℕ). ((record_above four befor
 pub records_bytes : (rs : List Record) → (items_piece (record_above four) (λ r. r.number) 0 rs).bytes ≡ flat_map (λ r. ((record_above four 0).piece r).bytes) rs
 records_bytes rs = items_bytes 0 rs
 
-record_op : (before : ℕ) (r : Record) → HasSpelling (record_above four before) r → HasSpelling (op four) r.op
+pub record_op : (before : ℕ) (r : Record) → HasSpelling (record_above four before) r → HasSpelling (op four) r.op
 unfolding record_above
 record_op before r fits = first_true _ _ (second_true _ _ (second_true _ _ fits))
 

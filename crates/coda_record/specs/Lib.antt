@@ -6,3 +6,4 @@ pub mod Parts
 pub mod Table
 pub mod Outcome
 pub mod Exact
+pub mod Entries

@@ -87,3 +87,34 @@ list item key before = record {
   form = u32 >>= λ n. items item key before n (λ xs. gives xs);
   piece = λ xs. both (u32.piece (length xs)) (items_piece item key before xs);
 }
+
+-- one format, whatever stands before
+abbrev pub each : {A : Type 0} → Format A → Unit {0} → Format A
+each f before = f
+
+-- how many items there are, and these, in whatever order
+abbrev pub list_of : {A : Type 0} → Format A → Format (List A)
+list_of f = list (each f) (λ x. tt) tt
+
+-- ---- flags, and values in other words
+
+abbrev pub flag_piece : Bool → Piece
+flag_piece false = together (u8.piece 0 ∷ [])
+flag_piece true = together (u8.piece 1 ∷ [])
+
+abbrev pub flag_forms : List (ℕ × Form Bool)
+flag_forms =
+    ((0, gives false)
+    ∷ (1, gives true)
+    ∷ [])
+
+-- 0 or 1
+abbrev pub flag : Format Bool
+flag = record { form = one_of flag_forms; piece = flag_piece }
+
+-- the values of another type, one for each value of a format
+abbrev pub in_words : {A B : Type 0} → (A → B) → (B → A) → Format A → Format B
+in_words to from f = record {
+  form = f >>= λ x. gives (to x);
+  piece = λ y. f.piece (from y);
+}

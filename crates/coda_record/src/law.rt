@@ -1,5 +1,6 @@
 ghost use Rattle.std.specs.Prelude.{ℕ};
 ghost use Rattle.coda_record.specs.Form.{Size};
+ghost use Rattle.coda_record.specs.Entries.{node, client_entry, client_payload, replica_entry};
 ghost use Rattle.coda_record.specs.Exact.{IsExact};
 ghost use Rattle.coda_record.specs.Table.{answer, attrs, fid, last, name, op, over, reason, record_above, records, sid, verdict};
 
@@ -26,4 +27,12 @@ pub fn verdicts_are_exact()
     ensures verdict { IsExact verdict }
     ensures last { IsExact last }
     ensures answer { IsExact answer }
+{}
+
+/// A law of the table: nodes and the entries of journals are exact, however wide the lengths of targets and contents are.
+pub fn entries_are_exact()
+    ensures node { (size : Size) → IsExact (node size) }
+    ensures single { (size : Size) → IsExact (client_entry size) }
+    ensures payload { (size : Size) → IsExact (client_payload size) }
+    ensures replica { (size : Size) → IsExact (replica_entry size) }
 {}
