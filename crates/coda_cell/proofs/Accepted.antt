@@ -98,7 +98,7 @@ unless_used_is : (used : Bool) (new fid : Fid) → unless_used used new ≡ Ok f
 unless_used_is true new fid h = cc
 unless_used_is false new fid h = (refl, ok_is new fid h)
 
-new_fid_is : (s : Sight) (volume : ℕ) (fid : Fid) → new_fid s volume ≡ Ok fid → (s.creations < 4294967295) × (map.get s.held.nodes fid ≡ None) × (fid ≡ next_fid s volume)
+pub new_fid_is : (s : Sight) (volume : ℕ) (fid : Fid) → new_fid s volume ≡ Ok fid → (s.creations < 4294967295) × (map.get s.held.nodes fid ≡ None) × (fid ≡ next_fid s volume)
 new_fid_is s volume fid h =
     let new = next_fid s volume in
     elim (is_used_up s) as (λ b. is_used_up s ≡ b → cond b (Err JournalFull) (unless_used (is_some (map.get s.held.nodes new)) new) ≡ Ok fid → (s.creations < 4294967295) × (map.get s.held.nodes fid ≡ None) × (fid ≡ new)) [
@@ -115,7 +115,7 @@ new_in_is s volume (File content) name fid h = cc
 new_in_is s volume (Link target) name fid h = cc
 new_in_is s volume (Dir entries) name fid h = let r = new_at_is s volume (map.get entries name) fid h in (tt, r.0, r.1)
 
-new_under_is : (s : Sight) (volume : ℕ) (o : Option Node) (dir : Fid) (name : Name) (fid : Fid) → new_under s volume o dir name ≡ Ok fid → IsDirNode o × (child_of o name ≡ None) × (new_fid s volume ≡ Ok fid)
+pub new_under_is : (s : Sight) (volume : ℕ) (o : Option Node) (dir : Fid) (name : Name) (fid : Fid) → new_under s volume o dir name ≡ Ok fid → IsDirNode o × (child_of o name ≡ None) × (new_fid s volume ≡ Ok fid)
 new_under_is s volume None dir name fid h = cc
 new_under_is s volume (Some node) dir name fid h = new_in_is s volume node.kind name fid h
 

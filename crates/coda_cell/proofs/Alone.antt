@@ -1,5 +1,5 @@
 -- What a client accepts that holds a whole volume certifies there.
-use Rattle.std.proofs.Common.{◌≡◌, ◌≢◌, ℕ, zero, suc, ◌+◌, ◌<◌, ◌≤◌, ◌==◌, ◌||◌, ◌&&◌, not, Bool, true, false, cond, List, [], ◌∷◌, length, Option, Some, None, IsSome, is_some, option_map, Result, Ok, Err, refl, sym, ap, subst, ◌∙◌, inl, inr, arith}
+use Rattle.std.proofs.Common.{◌≡◌, ℕ, zero, suc, ◌<◌, ◌≤◌, ◌==◌, ◌||◌, ◌&&◌, not, Bool, true, false, cond, List, [], ◌∷◌, length, Option, Some, None, IsSome, is_some, Ok, Err, refl, sym, ap, subst, ◌∙◌, inl, inr, arith}
 use Rattle.std.specs.Prelude.{nat_le}
 use Rattle.std.specs.FinMap as map
 use Rattle.std.specs.FinMap.{find}
@@ -20,31 +20,30 @@ use Rattle.coda_fid.specs.declared.op.Over.{Over}
 use Rattle.coda_fid.specs.declared.op.Op.{Op}
 use Rattle.coda_fid.specs.declared.op.Op.TheVariants.{Create as CreateOp, Mkdir as MkdirOp, Symlink as SymlinkOp, Store as StoreOp, Setattr as SetattrOp, Remove as RemoveOp, Rmdir as RmdirOp, Rename as RenameOp}
 use Rattle.coda_fid.specs.declared.op.Record.{Record}
-use Rattle.coda_fid.proofs.Fids.{fids_total, same_fid_is, same_fid_refl}
+use Rattle.coda_fid.proofs.Fids.{fids_total, same_fid_refl}
 use Rattle.coda_tree.specs.declared.node.Node.{Node}
 use Rattle.coda_tree.specs.declared.node.NodeKind.{NodeKind}
 use Rattle.coda_tree.specs.declared.node.NodeKind.TheVariants.{File, Link, Dir}
 use Rattle.coda_tree.specs.Bindings.{Name}
 use Rattle.coda_tree.specs.Tree.{Child, IsBelow, itself, under}
-use Rattle.coda_tree.specs.Volume.{Nodes, child, child_of, has, IsDir, IsDirNode, IsDirAt, IsVolume, parent_of, is_at_fid, is_below}
+use Rattle.coda_tree.specs.Volume.{Nodes, child, has, IsDir, IsDirNode, IsDirAt, IsVolume, parent_of, is_below}
 use Rattle.coda_tree.proofs.Below.{is_below_sound}
 use Rattle.coda_tree.proofs.Booleans.{or_true, has_some}
 use Rattle.coda_tree.proofs.Parents.{tied_fid, parent_is}
 use Rattle.coda_certify.specs.declared.reason.Reason.{Reason}
 use Rattle.coda_certify.specs.declared.reason.Reason.TheVariants.{NoDir, WrongKind, NameOther, Marked, NotEmpty, Loop, VolumeFull}
-use Rattle.coda_certify.specs.declared.verdict.Verdict.TheVariants.{Applied}
-use Rattle.coda_certify.specs.Checks.{Check, IsADir, IsUnmarked, IsThere, IsAFile, IsNoDir, IsDirKind, IsApart, IsNameFree, IsBoundTo, IsFidFree, IsOfVersion, IsEmptyDir, IsNotAbove, HasRoom, where_true, no_dir_of, marked_of, no_object_of, wrong_kind_of, is_no_dir, is_dir, is_no_file, creation_checks, store_checks, setattr_checks, remove_checks, rmdir_checks, move_checks, replace_checks, rename_checks, name_taken_of, fid_used_of, not_empty_in, version_of, change_of, not_empty_of, loop_of, name_other_of, full_of, reason_of, ◌otherwise◌, first_reason, checks, certify}
+use Rattle.coda_certify.specs.Checks.{Check, IsADir, IsUnmarked, IsNameFree, IsNotAbove, HasRoom, where_true, no_dir_of, marked_of, no_object_of, wrong_kind_of, is_no_dir, is_dir, is_no_file, creation_checks, store_checks, setattr_checks, remove_checks, rmdir_checks, move_checks, replace_checks, rename_checks, name_taken_of, fid_used_of, not_empty_in, version_of, change_of, not_empty_of, name_other_of, reason_of, ◌otherwise◌, first_reason, checks, certify}
 use Rattle.coda_certify.specs.Replay.{MayCreate, applied, replay, unless_refused}
 use Rattle.coda_certify.specs.Verdicts.{verdict_of}
 use Rattle.coda_plain.specs.Deeds.{created_by}
-use Rattle.coda_plain.specs.Decisions.{decision, or_replayed, sent_of}
+use Rattle.coda_plain.specs.Decisions.{or_replayed, sent_of}
 use Rattle.coda_cell.specs.Ask.{Asked, Create, Mkdir, Symlink, Store, Setattr, Remove, Rmdir, Rename, Ending, ending}
 use Rattle.coda_cell.specs.Held.{Held, Parents, below_within, is_below as is_held_below, held_after_operation, some_below}
 use Rattle.coda_cell.specs.Looking.{then_find, held, resolve}
 use Rattle.coda_cell.specs.Accepting.{Accepted, Sight, new_place, accept_creation, store_in, store_at, setattr_at, remove_in, remove_at, rmdir_of, rmdir_in, rmdir_at, spot, place, is_dir_kind, is_dir_at, with_version, replaced_by, move_to, rename_to, rename_root, accept_rename, accept_remove, accept_rmdir, accept}
 use Rattle.coda_cell.specs.declared.refused.Refused.TheVariants as refused
 use Rattle.coda_cell.specs.Alone.{IsWhole, AcceptedOperationsCertify, AreAccepted, no_more, one_more, ClientsAloneMeetNoConflict}
-use Rattle.coda_cell.proofs.Accepted.{MayMake, Relies, accepted_relies, ok_is, found_then, not_at_root, unless_is, or_none, place_is, root_stays, IsSpot, spot_is}
+use Rattle.coda_cell.proofs.Accepted.{Relies, accepted_relies, ok_is, found_then, not_at_root, unless_is, or_none, place_is, root_stays, IsSpot, spot_is}
 
 -- ---- checks that find nothing
 

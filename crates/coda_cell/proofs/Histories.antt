@@ -1,8 +1,9 @@
 -- What histories leave of clients and replicas.
-use Rattle.std.proofs.Common.{◌≡◌, ℕ, ◌+◌, ◌==◌, true, false, cond, List, [], ◌∷◌, ◌++◌, append-nil, Option, None, option_map, refl, sym, ap, ◌∙◌, arith}
+use Rattle.std.proofs.Common.{◌≡◌, ℕ, ◌+◌, ◌==◌, true, false, cond, List, [], ◌∷◌, ◌++◌, append-nil, Option, Some, None, option_map, refl, sym, ap, ◌∙◌, arith}
 use Rattle.std.proofs.lemmas.Bool.{eqb-true}
 use Rattle.coda_fid.specs.declared.op.Record.{Record}
 use Rattle.coda_certify.specs.declared.verdict.Verdict.TheVariants.{Applied, Conflict}
+use Rattle.coda_cancel.specs.Numbers.{IsRising}
 use Rattle.coda_certify.specs.Verdicts.{nodes_left}
 use Rattle.coda_cml.specs.declared.frozen.Frozen.{Frozen}
 use Rattle.coda_cml.specs.Segments.{records_upto, records_above}
@@ -14,7 +15,9 @@ use Rattle.coda_plain.specs.Logs.{front_by, back_by, front_of, back_of, LogAfter
 use Rattle.coda_plain.specs.Cell.{ClientEntry, Fetched, Did, deed_on, deeds_of}
 use Rattle.coda_plain.proofs.Lists.{left_push, follow_push, along}
 use Rattle.coda_plain.proofs.Chunking.{course_push, full_push}
+use Rattle.coda_plain.proofs.Ledger.{orderly}
 use Rattle.coda_plain.proofs.Logging.{logs_go_on}
+use Rattle.coda_plain.proofs.Ranges.{both_parts, above_rising}
 use Rattle.coda_cell.specs.State.{put, ClientVolume, new_volume, volume_after, pending, ClientState, new_client, client_after, client_after_all, ReplicaState, new_replica, replica_after, replica_after_all}
 use Rattle.coda_cell.specs.Made.{client_of}
 
@@ -86,10 +89,12 @@ volumes_are client blocks entries volume = volumes_after_all (new_client client 
 
 -- ---- what deeds leave of a volume, by the course of the volume
 
-frozen_by : Course → Option Frozen
+-- the frozen chunk, where there is one
+abbrev pub frozen_by : Course → Option Frozen
 frozen_by course = option_map (λ (cut : Cut). let frozen : Frozen = record { number = course.chunks; home = cut.home } in frozen) course.cut
 
 pub record IsOfCourse (v : ClientVolume) (deeds : List Deed) : Type 0 where
+  pub frozen : v.frozen ≡ frozen_by (course_of deeds)
   pub front : v.front ≡ front_of deeds
   pub back : v.back ≡ back_of deeds
   pub operations : v.operations ≡ (course_of deeds).operations
@@ -112,6 +117,13 @@ counts deeds (Froze number home last) is = (is.operations, is.creations ∙ ap c
 counts deeds (Settled number verdict) is = (is.operations, is.creations ∙ ap created_in (sym (append-nil (full_of deeds))), is.chunks)
 counts deeds Gaveup is = (is.operations, is.creations ∙ ap created_in (sym (append-nil (full_of deeds))), is.chunks)
 
+-- the chunk that is frozen behind a deed
+frozen_after : (deeds : List Deed) (deed : Deed) → IsOfCourse (volume_of deeds) deeds → MayDo deeds deed → (volume_after (volume_of deeds) deed).frozen ≡ frozen_by (course_after (course_of deeds) deed)
+frozen_after deeds (Operated rec) is may = is.frozen
+frozen_after deeds (Froze number home last) is may = refl
+frozen_after deeds (Settled number verdict) is may = refl
+frozen_after deeds Gaveup is may = sym (ap (option_map (λ (cut : Cut). let frozen : Frozen = record { number = (course_of deeds).chunks; home = cut.home } in frozen)) may)
+
 -- the two runs behind a deed
 runs : (deeds : List Deed) (deed : Deed) (front back : List Record) → IsOfCourse (volume_of deeds) deeds → LogAfter (front_of deeds) (back_of deeds) deed front back
     → ((volume_after (volume_of deeds) deed).front ≡ front) × ((volume_after (volume_of deeds) deed).back ≡ back)
@@ -129,6 +141,7 @@ shown_push deeds deed is may =
     let r = runs deeds deed (front_of (deeds ++ deed ∷ [])) (back_of (deeds ++ deed ∷ [])) is.1 (logs_go_on deeds deed is.0 may).1 in (
       follow_push MayDo deeds deed is.0 may,
       record {
+        frozen = ap (λ (v : ClientVolume). v.frozen) left ∙ frozen_after deeds deed is.1 may ∙ sym (ap frozen_by course);
         front = ap (λ (v : ClientVolume). v.front) left ∙ r.0;
         back = ap (λ (v : ClientVolume). v.back) left ∙ r.1;
         operations = ap (λ (v : ClientVolume). v.operations) left ∙ n.0 ∙ sym (ap (λ (c : Course). c.operations) course);
@@ -138,12 +151,26 @@ shown_push deeds deed is may =
     )
 
 pub shown : (deeds : List Deed) → AreLawful deeds → IsOfCourse (volume_of deeds) deeds
-shown deeds law = (along MayDo IsShown shown_push deeds (tt, record { front = refl; back = refl; operations = refl; creations = refl; chunks = refl }) law).1
+shown deeds law = (along MayDo IsShown shown_push deeds (tt, record { frozen = refl; front = refl; back = refl; operations = refl; creations = refl; chunks = refl }) law).1
 
--- where nothing is frozen, all that is pending is behind the chunk
-pub pending_are : (deeds : List Deed) → AreLawful deeds → (course_of deeds).cut ≡ None → ((volume_of deeds).front ≡ []) × ((volume_of deeds).back ≡ pending_of deeds) × (pending (volume_of deeds) ≡ pending_of deeds)
-pending_are deeds law thawed =
+both_runs : (cut : Option Cut) (run : List Record) → IsRising run → front_by cut run ++ back_by cut run ≡ run
+both_runs None run rising = refl
+both_runs (Some cut) run rising = both_parts cut.last run rising
+
+-- the operations of the frozen chunk and those behind it are what is pending
+pub runs_are : (deeds : List Deed) → AreLawful deeds → front_of deeds ++ back_of deeds ≡ pending_of deeds
+runs_are deeds law = both_runs (course_of deeds).cut (pending_of deeds) (above_rising (course_of deeds).done (full_of deeds) (orderly deeds law).1.rising)
+
+pub pending_are : (deeds : List Deed) → AreLawful deeds → pending (volume_of deeds) ≡ pending_of deeds
+pending_are deeds law = let is = shown deeds law in (λ i. is.front i ++ is.back i) ∙ runs_are deeds law
+
+cut_none : (chunks : ℕ) (o : Option Cut) → option_map (λ (cut : Cut). let frozen : Frozen = record { number = chunks; home = cut.home } in frozen) o ≡ None → o ≡ None
+cut_none chunks None none = refl
+cut_none chunks (Some cut) none = cc
+
+-- no chunk is frozen where the log has none, and then all that is pending is behind
+pub thawed_are : (deeds : List Deed) → AreLawful deeds → (volume_of deeds).frozen ≡ None → ((course_of deeds).cut ≡ None) × ((volume_of deeds).back ≡ pending_of deeds)
+thawed_are deeds law none =
     let is = shown deeds law in
-    let front : (volume_of deeds).front ≡ [] = is.front ∙ ap (λ c. front_by c (pending_of deeds)) thawed in
-    let back : (volume_of deeds).back ≡ pending_of deeds = is.back ∙ ap (λ c. back_by c (pending_of deeds)) thawed in
-    (front, back, (λ i. front i ++ back i))
+    let cut = cut_none (course_of deeds).chunks (course_of deeds).cut (sym is.frozen ∙ none) in
+    (cut, is.back ∙ ap (λ c. back_by c (pending_of deeds)) cut)

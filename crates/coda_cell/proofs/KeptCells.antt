@@ -6,8 +6,7 @@ use Rattle.coda_fid.specs.Fid.{fid_cmp}
 use Rattle.coda_tree.specs.Volume.{child_of}
 use Rattle.coda_cml.specs.Steady.{IsSteady}
 use Rattle.coda_script.specs.declared.line.Strength.{Strength}
-use Rattle.coda_plain.specs.Deeds.{course_of, pending_of, AreLawful}
-use Rattle.coda_plain.specs.Decisions.{last_of}
+use Rattle.coda_plain.specs.Deeds.{pending_of, AreLawful}
 use Rattle.coda_plain.specs.Cell.{ClientEntry, PlainCell, empty_cell}
 use Rattle.coda_plain.specs.Moves.{done_on}
 use Rattle.coda_plain.proofs.Soundness.{none_joins, runs_are_sound}
@@ -29,7 +28,7 @@ module _ (cell : MadeCell) (kept : IsKept cell) where
   -- a client's log is of what is pending by its history
   pub pending_is : (client blocks volume : ℕ) → pending ((client_of client (cell.acted.clients client).history blocks).volumes volume) ≡ pending_of (done_on cell.acted client volume)
   pending_is client blocks volume =
-      ap pending (volumes_are client blocks (cell.acted.clients client).history volume) ∙ (pending_are (done_on cell.acted client volume) (lawful client volume) (kept.settled.thawed client volume)).2
+      ap pending (volumes_are client blocks (cell.acted.clients client).history volume) ∙ pending_are (done_on cell.acted client volume) (lawful client volume)
 
   pub steady : (client volume : ℕ) → IsSteady (pending_of (done_on cell.acted client volume))
   steady client volume = ((sound_cells_are_promised cell.acted kept.sound none_joins).kept client volume).steady
@@ -58,7 +57,6 @@ first_kept = record {
   sound = runs_are_sound [] empty_cell refl;
   up = record { clients = λ client. refl; replicas = λ server volume. refl };
   made = record { numbered = λ client blocks e. cc; clients = λ client e. refl; volumes = λ client volume e. refl; replicas = λ server volume e. refl };
-  settled = record { thawed = λ client volume. refl; told = λ client volume server e. cc };
   holding = λ client blocks e. cc;
 }
 
@@ -82,23 +80,22 @@ volume_left cell volume server kept none = record {
   kept = record {
     sound = kept.sound;
     up = kept.up;
-    made = record { numbered = kept.made.numbered; clients = kept.made.clients; volumes = λ client v e. unmade v e (λ w. done_on cell.acted client w ≡ []) (kept.made.volumes client); replicas = λ s v e. unmade v e (λ w. (cell.acted.replicas s w).history ≡ []) (kept.made.replicas s) };
-    settled = record { thawed = kept.settled.thawed; told = told };
+    made = record { numbered = kept.made.numbered; clients = kept.made.clients; volumes = λ client v e. unmade v e (λ w. done_on cell.acted client w ≡ []) (kept.made.volumes client); replicas = elsewhere };
     holding = kept.holding;
   };
-  shown = volume_grown cell volume server (λ s. kept.made.replicas s volume none);
+  shown = volume_grown cell volume server (λ s. kept.made.replicas s volume (nowhere s));
 }
   where
     unmade : (v : ℕ) → cond (v == volume) (Some server) (cell.homes v) ≡ None → (P : ℕ → Type 0) → ((w : ℕ) → cell.homes w ≡ None → P w) → P v
     unmade v e P h = elim (v == volume) as (λ b. (v == volume) ≡ b → cond b (Some server) (cell.homes v) ≡ None → P v) [ true ↦ λ same f. cc | false ↦ λ other f. h v f ] refl e
 
-    -- nobody did anything on the volume
-    told : (client v s : ℕ) → cond (v == volume) (Some server) (cell.homes v) ≡ Some s → (last_of v (cell.acted.replicas s v).history client).number ≡ (course_of (done_on cell.acted client v)).chunks
-    told client v s e = elim (v == volume) as (λ b. (v == volume) ≡ b → cond b (Some server) (cell.homes v) ≡ Some s → (last_of v (cell.acted.replicas s v).history client).number ≡ (course_of (done_on cell.acted client v)).chunks) [
-      | true ↦ λ same f. (let at = eqb-true v volume same in
-          let home = ap cell.homes at ∙ none in
-          ap (λ h. (last_of v h client).number) (kept.made.replicas s v home) ∙ sym (ap (λ ds. (course_of ds).chunks) (kept.made.volumes client v home)))
-      | false ↦ λ other f. kept.settled.told client v s f
+    nowhere : (s : ℕ) → cell.homes volume ≢ Some s
+    nowhere s is = (let no : None ≡ Some s = sym none ∙ is in cc)
+
+    elsewhere : (s v : ℕ) → cond (v == volume) (Some server) (cell.homes v) ≢ Some s → (cell.acted.replicas s v).history ≡ []
+    elsewhere s v e = elim (v == volume) as (λ b. (v == volume) ≡ b → cond b (Some server) (cell.homes v) ≢ Some s → (cell.acted.replicas s v).history ≡ []) [
+      | true ↦ λ same f. subst (λ w. (cell.acted.replicas s w).history ≡ []) (sym (eqb-true v volume same)) (kept.made.replicas s volume (nowhere s))
+      | false ↦ λ other f. kept.made.replicas s v f
     ] refl e
 
 pub client_left : (cell : MadeCell) (client blocks : ℕ) → IsKept cell → cell.sizes client ≡ None → client ≢ 0 → IsLeft cell (ClientMade client blocks ∷ [])
@@ -108,7 +105,6 @@ client_left cell client blocks kept none some = record {
     sound = kept.sound;
     up = kept.up;
     made = record { numbered = numbered; clients = unmade; volumes = kept.made.volumes; replicas = kept.made.replicas };
-    settled = record { thawed = kept.settled.thawed; told = kept.settled.told };
     holding = holding;
   };
   shown = client_made cell client blocks (kept.made.clients client none);
@@ -134,13 +130,13 @@ client_left cell client blocks kept none some = record {
 pub ticked_left : (cell : MadeCell) (seconds : ℕ) → IsKept cell → IsLeft cell (Ticked seconds ∷ [])
 ticked_left cell seconds kept = record {
   moved = refl;
-  kept = record { sound = kept.sound; up = kept.up; made = record { numbered = kept.made.numbered; clients = kept.made.clients; volumes = kept.made.volumes; replicas = kept.made.replicas }; settled = record { thawed = kept.settled.thawed; told = kept.settled.told }; holding = kept.holding };
+  kept = record { sound = kept.sound; up = kept.up; made = record { numbered = kept.made.numbered; clients = kept.made.clients; volumes = kept.made.volumes; replicas = kept.made.replicas }; holding = kept.holding };
   shown = refl;
 }
 
 pub linked_left : (cell : MadeCell) (client server : ℕ) (strength : Strength) → IsKept cell → IsLeft cell (LinkSet client server strength ∷ [])
 linked_left cell client server strength kept = record {
   moved = refl;
-  kept = record { sound = kept.sound; up = kept.up; made = record { numbered = kept.made.numbered; clients = kept.made.clients; volumes = kept.made.volumes; replicas = kept.made.replicas }; settled = record { thawed = kept.settled.thawed; told = kept.settled.told }; holding = kept.holding };
+  kept = record { sound = kept.sound; up = kept.up; made = record { numbered = kept.made.numbered; clients = kept.made.clients; volumes = kept.made.volumes; replicas = kept.made.replicas }; holding = kept.holding };
   shown = refl;
 }

@@ -10,12 +10,12 @@ use Rattle.coda_certify.specs.Replay.{applied}
 use Rattle.coda_cancel.specs.Dropping.{mentioning, creates}
 use Rattle.coda_cml.specs.Steady.{any_record, makes_in, unbinds}
 use Rattle.coda_plain.specs.Histories.{In}
-use Rattle.coda_plain.specs.Deeds.{Deed, Operated, Course, course_after, course_of, full_of, pending_of, IsMade, MayOperate, AreLawful}
-use Rattle.coda_plain.specs.Decisions.{nodes_of, last_of}
+use Rattle.coda_plain.specs.Deeds.{Deed, Operated, course_of, full_of, pending_of, IsMade, MayOperate, AreLawful}
+use Rattle.coda_plain.specs.Decisions.{nodes_of}
 use Rattle.coda_plain.specs.Cell.{ClientEntry, Did, deeds_of, Actor, PlainCell}
 use Rattle.coda_plain.specs.Moves.{Move, AtClient, Does, done_on, IsNext, AreNamed, Moved}
 use Rattle.coda_plain.proofs.Lists.{some_record}
-use Rattle.coda_plain.proofs.Chunking.{course_push, in_above}
+use Rattle.coda_plain.proofs.Chunking.{in_above}
 use Rattle.coda_plain.proofs.AtClients.{next_made}
 use Rattle.coda_plain.proofs.Freshness.{next_objects_are_fresh}
 use Rattle.coda_plain.proofs.Soundness.{none_joins, runs_sound}
@@ -30,7 +30,7 @@ use Rattle.coda_cell.specs.Asking.{behind_fetches, next_record}
 use Rattle.coda_cell.specs.Kept.{AreChildrenKept, IsHolding}
 use Rattle.coda_cell.specs.Made.{MadeCell, client_of, grown, grown_all, moves_of}
 use Rattle.coda_cell.specs.Steps.{at_client}
-use Rattle.coda_cell.specs.Runs.{AreUp, AreMade, AreSettled, IsKept, IsLeft}
+use Rattle.coda_cell.specs.Runs.{AreUp, AreMade, IsKept, IsLeft}
 use Rattle.coda_cell.proofs.Accepted.{Relies, accepted_relies}
 use Rattle.coda_cell.proofs.AfterOperations.{bound_operation, has_operation}
 use Rattle.coda_cell.proofs.Fetches.{client_after_both, client_after_fetches}
@@ -102,14 +102,7 @@ module _ (cell : MadeCell) (number blocks : ℕ) (kept : IsKept cell) (there : c
       numbered = λ client b e. kept.made.numbered client b (ap (λ f. f client) (sym more.sizes) ∙ e);
       clients = λ client e. ap (λ (a : Actor ClientEntry). a.history) (more.others client (not_this client e)) ∙ kept.made.clients client (ap (λ f. f client) (sym more.sizes) ∙ e);
       volumes = λ client volume e. done client volume ∙ kept.made.volumes client volume (ap (λ f. f volume) (sym more.homes) ∙ e);
-      replicas = λ server volume e. ap (λ f. (f server volume).history) more.replicas ∙ kept.made.replicas server volume (ap (λ f. f volume) (sym more.homes) ∙ e);
-    }
-
-    settled : AreSettled new
-    settled = record {
-      thawed = λ client volume. ap (λ ds. (course_of ds).cut) (done client volume) ∙ kept.settled.thawed client volume;
-      told = λ client volume server e. ap (λ f. (last_of volume (f server volume).history client).number) more.replicas ∙ kept.settled.told client volume server (ap (λ f. f volume) (sym more.homes) ∙ e)
-          ∙ sym (ap (λ ds. (course_of ds).chunks) (done client volume));
+      replicas = λ server volume e. ap (λ f. (f server volume).history) more.replicas ∙ kept.made.replicas server volume (λ is. e (ap (λ f. f volume) more.homes ∙ is));
     }
 
     holding : (client b : ℕ) → new.sizes client ≡ Some b → IsHolding new.acted (client_of client (new.acted.clients client).history b)
@@ -127,7 +120,7 @@ module _ (cell : MadeCell) (number blocks : ℕ) (kept : IsKept cell) (there : c
     ]
 
     pub fetches_left : IsLeft cell (map (at_client number) (entries_of fetches))
-    fetches_left = record { moved = moved; kept = record { sound = runs_sound (moves_of events) cell.acted new.acted kept.sound moved; up = up_all cell events kept.up; made = made; settled = settled; holding = holding }; shown = shown_more cell number entries }
+    fetches_left = record { moved = moved; kept = record { sound = runs_sound (moves_of events) cell.acted new.acted kept.sound moved; up = up_all cell events kept.up; made = made; holding = holding }; shown = shown_more cell number entries }
 
 -- ---- an operation
 
@@ -222,16 +215,6 @@ module _ (cell : MadeCell) (number blocks : ℕ) (kept : IsKept cell) (there : c
     | inr other ↦ subst (P c w) (sym (deeds_else c w (inl (λ same. false≢true (sym other ∙ eq-eqb c number same))))) (else c w)
   ]
 
-  course_here : course_of (deeds ++ Operated next_operation ∷ []) ≡ course_after (course_of deeds) (Operated next_operation)
-  course_here = course_push deeds (Operated next_operation)
-
-  operation_settled : AreSettled next
-  operation_settled = record {
-    thawed = by_place (λ c w ds. (course_of ds).cut ≡ None) (ap (λ (x : Course). x.cut) course_here ∙ kept.settled.thawed number volume) kept.settled.thawed;
-    told = by_place (λ c w ds. (server : ℕ) → cell.homes w ≡ Some server → (last_of w (cell.acted.replicas server w).history c).number ≡ (course_of ds).chunks)
-        (λ server e. kept.settled.told number volume server e ∙ sym (ap (λ (x : Course). x.chunks) course_here)) kept.settled.told;
-  }
-
   operation_made : AreMade next
   operation_made = record {
     numbered = kept.made.numbered;
@@ -297,7 +280,6 @@ module _ (cell : MadeCell) (number blocks : ℕ) (kept : IsKept cell) (there : c
       sound = runs_sound (Does (AtClient number entry) ∷ []) cell.acted next.acted kept.sound operation_moved;
       up = up_all cell (at_client number entry ∷ []) kept.up;
       made = operation_made;
-      settled = operation_settled;
       holding = all_holding;
     };
     shown = shown_more cell number (entry ∷ []);

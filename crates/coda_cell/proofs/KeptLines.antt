@@ -64,7 +64,7 @@ pub record AreReplicated (cell : MadeCell) (volume : ℕ) (nodes : Nodes) : Type
   pub home : cell.homes volume ≡ Some server
   pub are : nodes_of volume (cell.acted.replicas server volume).history ≡ nodes
 
-offered_are : (cell : MadeCell) (number volume : ℕ) (nodes : Nodes) → offers_of (state_of cell) number volume ≡ Some nodes → AreReplicated cell volume nodes
+pub offered_are : (cell : MadeCell) (number volume : ℕ) (nodes : Nodes) → offers_of (state_of cell) number volume ≡ Some nodes → AreReplicated cell volume nodes
 offered_are cell number volume nodes e = by (cell.homes volume) refl e
   where
     by : (o : Option ℕ) → cell.homes volume ≡ o → option_and_then (λ (r : ReplicaState). reached (cell.links number r.server) r) (option_map (replica_of (λ s. (cell.acted.replicas s volume).history) volume) o) ≡ Some nodes → AreReplicated cell volume nodes

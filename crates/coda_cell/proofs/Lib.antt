@@ -18,8 +18,16 @@ pub mod Grown
 pub mod Moving
 pub mod KeptCells
 pub mod KeptClients
+pub mod LastChunks
+pub mod KeptDeeds
 pub mod KeptChunks
 pub mod KeptLines
+pub mod SpelledParts
+pub mod SpelledFolds
+pub mod SpelledNodes
+pub mod SpelledAsks
+pub mod SpelledCells
+pub mod SpelledLines
 pub mod Alone
 pub mod Unlooked
 pub mod Ordered

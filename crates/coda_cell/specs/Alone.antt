@@ -6,7 +6,7 @@ use Rattle.coda_fid.specs.declared.fid.Fid.{Fid}
 use Rattle.coda_fid.specs.declared.op.Op.{Op}
 use Rattle.coda_fid.specs.declared.op.Record.{Record}
 use Rattle.coda_tree.specs.declared.node.Node.{Node}
-use Rattle.coda_tree.specs.Volume.{Nodes, IsVolume, parent_of}
+use Rattle.coda_tree.specs.Volume.{IsVolume, parent_of}
 use Rattle.coda_certify.specs.declared.verdict.Verdict.TheVariants.{Applied}
 use Rattle.coda_certify.specs.Checks.{certify}
 use Rattle.coda_certify.specs.Verdicts.{verdict_of}

@@ -11,6 +11,7 @@ pub mod Steps
 pub mod Code
 pub mod Cells
 pub mod Runs
+pub mod Spelled
 pub mod Laws
 pub mod Alone
 pub mod Orders

@@ -3,8 +3,6 @@ use Rattle.std.specs.Prelude.{◌≡◌, ◌≢◌, ℕ, true, Some, None, List,
 use Rattle.coda_script.specs.declared.line.Line.{Line}
 use Rattle.coda_script.specs.declared.line.Line.TheVariants as line
 use Rattle.coda_script.specs.declared.reply.Reply.{Reply}
-use Rattle.coda_plain.specs.Deeds.{course_of}
-use Rattle.coda_plain.specs.Decisions.{last_of}
 use Rattle.coda_plain.specs.Cell.{PlainCell}
 use Rattle.coda_plain.specs.Moves.{done_on, Moved}
 use Rattle.coda_plain.specs.Sound.{IsSound}
@@ -19,25 +17,20 @@ pub record AreUp (cell : PlainCell) : Type 0 where
   pub clients : (client : ℕ) → (cell.clients client).up ≡ true
   pub replicas : (server volume : ℕ) → (cell.replicas server volume).up ≡ true
 
--- an actor that wasn't made did nothing, nobody did anything on a volume that wasn't made, and no client has the number 0
+-- a client that wasn't made did nothing, nobody did anything on a volume that wasn't made, a server decided nothing on a volume that was
+-- made elsewhere or not at all, and no client has the number 0
 pub record AreMade (cell : MadeCell) : Type 0 where
   pub numbered : (client blocks : ℕ) → cell.sizes client ≡ Some blocks → client ≢ 0
   pub clients : (client : ℕ) → cell.sizes client ≡ None → (cell.acted.clients client).history ≡ []
   pub volumes : (client volume : ℕ) → cell.homes volume ≡ None → done_on cell.acted client volume ≡ []
-  pub replicas : (server volume : ℕ) → cell.homes volume ≡ None → (cell.acted.replicas server volume).history ≡ []
+  pub replicas : (server volume : ℕ) → cell.homes volume ≢ Some server → (cell.acted.replicas server volume).history ≡ []
 
--- no chunk is on its way: none is frozen, and the last chunk of each client is the last that the volume's server decided for it
-pub record AreSettled (cell : MadeCell) : Type 0 where
-  pub thawed : (client volume : ℕ) → (course_of (done_on cell.acted client volume)).cut ≡ None
-  pub told : (client volume server : ℕ) → cell.homes volume ≡ Some server → (last_of volume (cell.acted.replicas server volume).history client).number ≡ (course_of (done_on cell.acted client volume)).chunks
-
--- What holds of a cell between two lines: its histories are sound, all actors are up, those that weren't made did nothing, no chunk
--- is on its way, and what each client holds is in order.
+-- What holds of a cell between two lines: its histories are sound, all actors are up, those that weren't made did nothing, and what
+-- each client holds is in order. A chunk may be frozen, and its server may have decided it already.
 pub record IsKept (cell : MadeCell) : Type 0 where
   pub sound : IsSound cell.acted
   pub up : AreUp cell.acted
   pub made : AreMade cell
-  pub settled : AreSettled cell
   pub holding : (client blocks : ℕ) → cell.sizes client ≡ Some blocks → IsHolding cell.acted (client_of client (cell.acted.clients client).history blocks)
 
 -- a line makes no client with the number 0

@@ -14,7 +14,9 @@ use Rattle.coda_script.specs.Lines.{line_of}
 use Rattle.coda_script.specs.Ranges.{InRange}
 use Rattle.coda_script.proofs.WholeLines.{is_found, is_in_range}
 use Rattle.coda_plain.specs.Cell.{empty_cell}
+use Rattle.coda_plain.specs.Deeds.{pending_of}
 use Rattle.coda_plain.specs.Laws.{IsRun}
+use Rattle.coda_plain.specs.Logs.{front_by}
 use Rattle.coda_plain.specs.Moves.{Move, done_on, Moved}
 use Rattle.coda_plain.specs.Promises.{ArePromised}
 use Rattle.coda_plain.proofs.Running.{moves_run}
@@ -25,7 +27,7 @@ use Rattle.coda_cell.specs.Steps.{is_built, Does}
 use Rattle.coda_cell.specs.Cells.{IsCell, Carried}
 use Rattle.coda_cell.specs.Runs.{IsKept, IsLeft, MakesNumbered}
 use Rattle.coda_cell.specs.declared.cell.Cell.{Cell}
-use Rattle.coda_cell.proofs.Histories.{volumes_are, pending_are}
+use Rattle.coda_cell.proofs.Histories.{volume_of, volumes_are, shown, runs_are, thawed_are}
 use Rattle.coda_cell.proofs.KeptCells.{lawful, client_there, first_kept}
 use Rattle.coda_cell.proofs.KeptLines.{lines_keep_cells}
 use Rattle.coda_cell.proofs.Moving.{moved_both}
@@ -95,10 +97,15 @@ of_pending cell client volume c kept is =
     let there = client_there cell kept client c is in
     let deeds = done_on cell.acted client volume in
     let volume_is = volumes_are client there.0 (cell.acted.clients client).history volume in
-    let p = pending_are deeds (lawful cell kept client volume) (kept.settled.thawed client volume) in
+    let law = lawful cell kept client volume in
+    let is = shown deeds law in
+    let chunk = ap fold (ap (λ (v : ClientVolume). v.front) volume_is ∙ is.front) in
     subst (IsOfPending cell client volume) there.2 (record {
-      chunk = ap fold (ap (λ (v : ClientVolume). v.front) volume_is ∙ p.0);
-      records = ap fold (ap (λ (v : ClientVolume). v.back) volume_is ∙ p.1);
+      parts = runs_are deeds law;
+      chunk = chunk;
+      records = ap fold (ap (λ (v : ClientVolume). v.back) volume_is ∙ is.back);
+      thawed = λ none. (let t = thawed_are deeds law (sym (ap (λ (v : ClientVolume). v.frozen) volume_is) ∙ none) in
+          (chunk ∙ ap (λ c. fold (front_by c (pending_of deeds))) t.0, ap fold (ap (λ (v : ClientVolume). v.back) volume_is ∙ t.1)));
     })
 
 pub has_run : (cell : MadeCell) → HasMoved nothing_made cell → HasRun cell
