@@ -25,6 +25,7 @@ pub mod KeptLines
 pub mod SpelledParts
 pub mod SpelledFolds
 pub mod SpelledNodes
+pub mod SpelledVerdicts
 pub mod SpelledAsks
 pub mod SpelledCells
 pub mod SpelledLines

@@ -1,9 +1,14 @@
 -- What actors did can be spelled, after whatever entries that can be.
-use Rattle.std.proofs.Common.{◌≡◌, ℕ, ◌==◌, ◌&&◌, true, false, cond, List, [], ◌∷◌, ◌++◌, append-nil, Some, None, refl, sym, ap, ◌∙◌, subst, inl, inr}
+use Rattle.std.proofs.Common.{◌≡◌, ℕ, ◌≤◌, ◌==◌, ◌&&◌, true, false, cond, List, [], ◌∷◌, ◌++◌, append-nil, Some, None, refl, sym, ap, ◌∙◌, subst, inl, inr, arith}
 use Rattle.std.proofs.lemmas.Bool.{eqb-true, cases_Bool, and_parts}
 use Rattle.std.specs.FinMap as map
+use Rattle.coda_fid.proofs.Fids.{fids_total}
+use Rattle.coda_fid.specs.Fid.{fid_cmp, root_of}
 use Rattle.coda_fid.specs.declared.op.Record.{Record}
-use Rattle.coda_tree.specs.Volume.{child_of}
+use Rattle.coda_tree.specs.declared.node.Node.{Node}
+use Rattle.coda_tree.specs.Volume.{Nodes, child_of, fresh, fresh_root}
+use Rattle.coda_certify.specs.declared.verdict.Verdict.TheVariants.{Applied}
+use Rattle.coda_certify.specs.Verdicts.{verdict_of}
 use Rattle.coda_cancel.specs.Cancel.{fold}
 use Rattle.coda_cancel.specs.Numbers.{AreAbove, IsRising}
 use Rattle.coda_cml.specs.Segments.{records_upto, records_above}
@@ -13,11 +18,11 @@ use Rattle.coda_record.specs.Spelling.{HasSpelling}
 use Rattle.coda_record.specs.Table as table
 use Rattle.coda_plain.specs.Histories.{In}
 use Rattle.coda_plain.specs.Deeds.{Deed, Operated, Froze, Settled, Gaveup, operation_in, full_of, Course, course_of, pending_of, Chunk, chunk_at, chunks_of, span_in, span_of, MayDo, AreLawful}
-use Rattle.coda_plain.specs.Decisions.{ReplicaEntry, Decided, Resolved, Kept, nodes_of}
+use Rattle.coda_plain.specs.Decisions.{ReplicaEntry, Decided, Resolved, Last, Kept, kept_after, kept_of, nodes_of, decision}
 use Rattle.coda_plain.specs.Cell.{ClientEntry, Fetched, Did, deeds_of, PlainCell, empty_cell}
 use Rattle.coda_plain.specs.Moves.{grown as grown_actor, Append, AtClient, AtReplica, Move, Does, Fails, Posts, Loses, Crashes, Recovers, after, done_on, MayAppend, Moved}
 use Rattle.coda_plain.specs.Sound.{IsSound}
-use Rattle.coda_plain.proofs.AtReplicas.{kept_push}
+use Rattle.coda_plain.proofs.AtReplicas.{kept_push, with_last_at}
 use Rattle.coda_plain.proofs.Chunking.{course_push, full_push, spans_in}
 use Rattle.coda_plain.proofs.Ledger.{orderly}
 use Rattle.coda_plain.proofs.Lists.{in_parts, told_last, follow_push, along}
@@ -27,9 +32,10 @@ use Rattle.coda_plain.proofs.Soundness.{none_joins, moves_keep_sound}
 use Rattle.coda_cell.specs.Held.{Held, held_after}
 use Rattle.coda_cell.specs.State.{ClientState, new_client}
 use Rattle.coda_cell.specs.Made.{client_of}
-use Rattle.coda_cell.specs.Spelled.{IsSpelled, AreSpelled, DidSpelled}
+use Rattle.coda_cell.specs.Spelled.{IsSpelled, AreSpelled, IsReplicaSpelled, DidSpelled}
 use Rattle.coda_cell.proofs.Histories.{client_push, number_stays}
 use Rattle.coda_cell.proofs.SpelledFolds.{AreAllSpelled, all_spelled, sent_spelled}
+use Rattle.coda_cell.proofs.SpelledVerdicts.{at_most_one_more, room_decided, verdict_spelled}
 use Rattle.coda_cell.proofs.SpelledNodes.{after_operation, after_decision, after_fetch, fresh_spelled}
 
 -- ---- chunks
@@ -139,7 +145,7 @@ held_by_deed h client volume Gaveup are is = are
 held_by : (cell : PlainCell) (h : Held) (client : ℕ) (entry : ClientEntry) → DidSpelled cell → MayAppend cell (AtClient client entry) → AreSpelled h.nodes → IsEntrySpelled client entry → AreSpelled (held_after h client entry).nodes
 held_by cell h client (Fetched fid parent node) did may are is =
     let from = may.1 in
-    after_fetch h.nodes (nodes_of from.1 (cell.replicas from.0 from.1).history) fid node are (did.replicas from.0 from.1) from.3
+    after_fetch h.nodes (nodes_of from.1 (cell.replicas from.0 from.1).history) fid node are (did.replicas from.0 from.1).nodes from.3
 held_by cell h client (Did volume deed) did may are is = held_by_deed h client volume deed are is
 
 -- an entry more of a client
@@ -168,15 +174,30 @@ at_client_spelled cell client entry did may is = record { operations = λ c v. (
 
 abbrev pub IsDecisionSpelled : ReplicaEntry → Type 0
 IsDecisionSpelled (Decided client number span) = HasSpelling u8 client
-IsDecisionSpelled (Resolved nodes lasts) = AreSpelled nodes
+IsDecisionSpelled (Resolved nodes lasts) = IsReplicaSpelled (record { nodes = nodes; lasts = lasts })
 
-nodes_by : (cell : PlainCell) (server volume : ℕ) (entry : ReplicaEntry) → IsSound cell → DidSpelled cell → MayAppend cell (AtReplica server volume entry) → IsDecisionSpelled entry
-    → AreSpelled (nodes_of volume ((cell.replicas server volume).history ++ entry ∷ []))
-nodes_by cell server volume (Decided client number span) sound did may is =
-    let law = (sound.agree none_joins).lawful client volume in
-    let are = subst AreAllSpelled (sym may.2.1) (span_all (done_on cell client volume) number law (did.operations client volume)) in
-    subst (λ (k : Kept). AreSpelled k.nodes) (sym (kept_push volume (cell.replicas server volume).history (Decided client number span))) (after_decision (nodes_of volume (cell.replicas server volume).history) client span (did.replicas server volume) is are)
-nodes_by cell server volume (Resolved nodes lasts) sound did may is = subst (λ (k : Kept). AreSpelled k.nodes) (sym (kept_push volume (cell.replicas server volume).history (Resolved nodes lasts))) is
+-- what a replica has behind its entry
+kept_by : (kept : Kept) (entry : ReplicaEntry) → IsReplicaSpelled kept → IsDecisionSpelled entry → ((client number : ℕ) (span : List Record) → entry ≡ Decided client number span → AreAllSpelled span) → IsReplicaSpelled (kept_after kept entry)
+kept_by kept (Decided client number span) was is spans =
+    let are = spans client number span refl in
+    record {
+      nodes = after_decision kept.nodes client span was.nodes is are;
+      room = room_decided kept.nodes client span was.room;
+      verdicts = λ c. with_last_at kept.lasts client (record { number = number; verdict = verdict_of (decision kept.nodes client span) }) c (λ (last : Last). HasSpelling table.verdict last.verdict)
+          (λ same. verdict_spelled kept.nodes client span was.nodes was.room is are) (λ off. was.verdicts c);
+    }
+kept_by kept (Resolved nodes lasts) was is spans = is
+
+spans_same : (c n : ℕ) (s : List Record) (client number : ℕ) (span : List Record) → Decided c n s ≡ Decided client number span → s ≡ span
+spans_same c n s client number span same = cc
+
+span_given : (cell : PlainCell) (server volume : ℕ) (entry : ReplicaEntry) → IsSound cell → DidSpelled cell → MayAppend cell (AtReplica server volume entry) → (client number : ℕ) (span : List Record) → entry ≡ Decided client number span → AreAllSpelled span
+span_given cell server volume (Decided c n s) sound did may client number span same =
+    let given = may.2 in
+    let law = (sound.agree none_joins).lawful c volume in
+    let span_is : s ≡ span = spans_same c n s client number span same in
+    subst AreAllSpelled (sym given.1 ∙ span_is) (span_all (done_on cell c volume) n law (did.operations c volume))
+span_given cell server volume (Resolved nodes lasts) sound did may client number span same = cc
 
 at_replica_spelled : (cell : PlainCell) (server volume : ℕ) (entry : ReplicaEntry) → IsSound cell → DidSpelled cell → MayAppend cell (AtReplica server volume entry) → IsDecisionSpelled entry → DidSpelled (after cell (Does (AtReplica server volume entry)))
 at_replica_spelled cell server volume entry sound did may is = record {
@@ -185,9 +206,11 @@ at_replica_spelled cell server volume entry sound did may is = record {
   held = did.held;
   replicas = λ s v. elim (cases_Bool ((s == server) && (v == volume))) [
     | inl at ↦ (let both = and_parts (s == server) (v == volume) at in
-        subst (λ b. AreSpelled (nodes_of v (cond b (grown_actor entry (cell.replicas server volume)) (cell.replicas s v)).history)) (sym at)
-        (subst (λ w. AreSpelled (nodes_of w ((cell.replicas server volume).history ++ entry ∷ []))) (sym (eqb-true v volume both.1)) (nodes_by cell server volume entry sound did may is)))
-    | inr off ↦ subst (λ b. AreSpelled (nodes_of v (cond b (grown_actor entry (cell.replicas server volume)) (cell.replicas s v)).history)) (sym off) (did.replicas s v)
+        let history = (cell.replicas server volume).history in
+        subst (λ b. IsReplicaSpelled (kept_of v (cond b (grown_actor entry (cell.replicas server volume)) (cell.replicas s v)).history)) (sym at)
+        (subst (λ w. IsReplicaSpelled (kept_of w (history ++ entry ∷ []))) (sym (eqb-true v volume both.1))
+        (subst IsReplicaSpelled (sym (kept_push volume history entry)) (kept_by (kept_of volume history) entry (did.replicas server volume) is (span_given cell server volume entry sound did may)))))
+    | inr off ↦ subst (λ b. IsReplicaSpelled (kept_of v (cond b (grown_actor entry (cell.replicas server volume)) (cell.replicas s v)).history)) (sym off) (did.replicas s v)
   ];
 }
 
@@ -230,5 +253,23 @@ none_held client blocks = record {
   bound = λ dir fid name e. (let no : None ≡ Some fid = ap (λ o. child_of o name) (sym (map.get-empty _ dir)) ∙ e in cc);
 }
 
+-- a fresh volume has its root alone
+few_fresh : (volume : ℕ) → map.len (fresh volume).nodes ≤ 100000
+few_fresh volume =
+    let nothing : Nodes = map.empty in
+    let none = map.len-empty fid_cmp Node in
+    let one = map.len-insert fids_total nothing (root_of volume) fresh_root in
+    let most = at_most_one_more (map.contains_key nothing (root_of volume)) (map.len nothing) in
+    omega (arith, none, one, most)
+
+applied_spelled : HasSpelling table.verdict Applied
+unfolding table.verdict
+applied_spelled = refl
+
 pub nothing_spelled : DidSpelled empty_cell
-nothing_spelled = record { operations = λ client volume rec i. absurd i; chunks = λ client volume. refl; held = none_held; replicas = λ server volume. fresh_spelled volume }
+nothing_spelled = record {
+  operations = λ client volume rec i. absurd i;
+  chunks = λ client volume. refl;
+  held = none_held;
+  replicas = λ server volume. record { nodes = fresh_spelled volume; room = few_fresh volume; verdicts = λ client. applied_spelled };
+}

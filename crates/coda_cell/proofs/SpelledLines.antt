@@ -28,9 +28,11 @@ use Rattle.coda_script.specs.declared.line.Line.TheVariants as line
 use Rattle.coda_script.specs.declared.reply.Reply.{Reply}
 use Rattle.coda_script.specs.declared.reply.Reply.TheVariants.{Done}
 use Rattle.coda_script.specs.Ranges.{IsClient, IsVolume, IsMode, IsOwner, IsNumber, AreServers, TaskInRange, InRange}
-use Rattle.coda_plain.specs.Deeds.{Operated}
+use Rattle.coda_plain.specs.Deeds.{Operated, course_of}
+use Rattle.coda_plain.specs.Decisions.{last_of}
 use Rattle.coda_plain.specs.Cell.{ClientEntry, Did}
 use Rattle.coda_plain.specs.Moves.{done_on}
+use Rattle.coda_plain.proofs.Soundness.{none_joins}
 use Rattle.coda_cell.specs.Ask.{Asked, Create, Mkdir, Symlink, Store, Setattr, Remove, Rmdir, Rename, too_long, too_big, object_of}
 use Rattle.coda_cell.specs.Held.{Held, Fetch, held_after_fetches}
 use Rattle.coda_cell.specs.Looking.{offered, fetch_of, looked, look_along, entries_of}
@@ -40,7 +42,7 @@ use Rattle.coda_cell.specs.Asking.{Answer, answers, look_ups, behind_fetches, ne
 use Rattle.coda_cell.specs.Made.{MadeCell, client_of, state_of, grown, grown_all, moves_of}
 use Rattle.coda_cell.specs.Steps.{Doing, Unless, first_missing, on_volume, client_named, volume_named, server_named, holder_named, no_volume, no_client, offers_of, stays, chunk_of, sent_from, sent_unless, drain, at_client, ByClient, ByBoth, bytes_of, Operates, DoesTask, alone, Does}
 use Rattle.coda_cell.specs.Runs.{IsKept, MakesNumbered}
-use Rattle.coda_cell.specs.Spelled.{IsSpelled, AreSpelled, CanBeSpelled, LinesKeepSpellings, ChunksCanBeSpelled}
+use Rattle.coda_cell.specs.Spelled.{IsSpelled, AreSpelled, CanBeSpelled, LinesKeepSpellings, MessagesCanBeSpelled}
 use Rattle.coda_cell.specs.declared.refused.Refused.{Refused}
 use Rattle.coda_cell.specs.declared.refused.Refused.TheVariants as refused
 use Rattle.coda_cell.proofs.Fetches.{keeps_look_ups}
@@ -152,7 +154,7 @@ module _ (cell : MadeCell) (kept : IsKept cell) (can : CanBeSpelled cell) (numbe
   offers = offers_of (state_of cell) number volume
 
   offers_spelled : (nodes : Nodes) → offers ≡ Some nodes → AreSpelled nodes
-  offers_spelled nodes e = let r = offered_are cell number volume nodes e in subst AreSpelled r.are (can.did.replicas r.server volume)
+  offers_spelled nodes e = let r = offered_are cell number volume nodes e in subst AreSpelled r.are (can.did.replicas r.server volume).nodes
 
   module _ (ask : Asked) (asked : too_big ask ≡ None → IsAskSpelled ask) where
     abbrev fetches : List Fetch
@@ -342,9 +344,17 @@ lines_keep_spellings old said reply events kept can range does =
       did = moves_spelled (moves_of events) old.acted (grown_all old events).acted left.moved kept.sound can.did (moves_are events are);
     }
 
-pub chunks_can_be_spelled : ChunksCanBeSpelled
-chunks_can_be_spelled = record {
+number_spelled_of : (cell : MadeCell) (server volume client : ℕ) → IsKept cell → CanBeSpelled cell → HasSpelling table.count (last_of volume (cell.acted.replicas server volume).history client).number
+number_spelled_of cell server volume client kept can =
+    let most = (kept.sound.agree none_joins).reached server volume client in
+    let few = (is_within 0 4294967295 eight (course_of (done_on cell.acted client volume)).chunks (can.did.chunks client volume)).1 in
+    within 0 4294967295 eight (last_of volume (cell.acted.replicas server volume).history client).number (omega arith) (omega (arith, most, few)) (omega (arith, most, few))
+
+pub messages_can_be_spelled : MessagesCanBeSpelled
+messages_can_be_spelled = record {
   first = record { clock = refl; clients = λ client blocks e. cc; volumes = λ volume server e. cc; did = nothing_spelled };
   lines = lines_keep_spellings;
   records = λ cell client volume number kept can. chunk_spelled (done_on cell.acted client volume) number (lawful cell kept client volume) (can.did.operations client volume);
+  numbers = number_spelled_of;
+  verdicts = λ cell server volume client can. (can.did.replicas server volume).verdicts client;
 }

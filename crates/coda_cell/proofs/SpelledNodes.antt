@@ -26,7 +26,7 @@ use Rattle.coda_plain.proofs.Holding.{either_ok}
 use Rattle.coda_cell.specs.Spelled.{IsSpelled, AreSpelled}
 use Rattle.coda_cell.proofs.AfterOperations.{IsBoundBy, bound_before}
 use Rattle.coda_cell.proofs.SpelledFolds.{AreAllSpelled, fold_spelled}
-use Rattle.coda_cell.proofs.SpelledParts.{within, is_within, sid_spelled, IsOpSpelled, made_spelled, made_dir_spelled, made_link_spelled, rename_parts}
+use Rattle.coda_cell.proofs.SpelledParts.{within, is_within, sid_spelled, IsOpSpelled, create_parts, mkdir_parts, symlink_parts, rename_parts}
 
 some_node : (x y : Node) → Some x ≡ Some y → x ≡ y
 some_node x y e = cc
@@ -108,9 +108,9 @@ versions_after m client rec are number is = versions_edited m (effects rec.time 
 -- ---- what is bound
 
 bound_spelled : (op : Op) (dir : Fid) (name : Name) (kid : Fid) → IsOpSpelled op → IsBoundBy op dir name kid → HasSpelling table.fid kid
-bound_spelled (Create d n f mode owner) dir name kid is at = subst (HasSpelling table.fid) (sym at.2) (made_spelled d n f mode owner is)
-bound_spelled (Mkdir d n f mode owner) dir name kid is at = subst (HasSpelling table.fid) (sym at.2) (made_dir_spelled d n f mode owner is)
-bound_spelled (Symlink d n f target mode owner) dir name kid is at = subst (HasSpelling table.fid) (sym at.2) (made_link_spelled d n f target mode owner is)
+bound_spelled (Create d n f mode owner) dir name kid is at = subst (HasSpelling table.fid) (sym at.2) (create_parts d n f mode owner is).1
+bound_spelled (Mkdir d n f mode owner) dir name kid is at = subst (HasSpelling table.fid) (sym at.2) (mkdir_parts d n f mode owner is).1
+bound_spelled (Symlink d n f target mode owner) dir name kid is at = subst (HasSpelling table.fid) (sym at.2) (symlink_parts d n f target mode owner is).1
 bound_spelled (Store f pre content) dir name kid is at = absurd at
 bound_spelled (Setattr f pre attrs) dir name kid is at = absurd at
 bound_spelled (Remove d n f pre) dir name kid is at = absurd at

@@ -173,15 +173,16 @@ unfolding table.op
 rename_parts from_dir from to_dir to fid over is =
     six_true (table.fid.piece from_dir).fits (table.name.piece from).fits (table.fid.piece to_dir).fits (table.name.piece to).fits (table.fid.piece fid).fits ((optional table.over).piece over).fits is
 
--- the object that a creation makes
-pub made_spelled : (dir : Fid) (name : List ℕ) (fid : Fid) (mode owner : ℕ) → IsOpSpelled (Create dir name fid mode owner) → HasSpelling table.fid fid
-unfolding table.op
-made_spelled dir name fid mode owner is = first_true _ _ (second_true _ _ (second_true _ _ is))
+-- the directory and the object of a creation
 
-pub made_dir_spelled : (dir : Fid) (name : List ℕ) (fid : Fid) (mode owner : ℕ) → IsOpSpelled (Mkdir dir name fid mode owner) → HasSpelling table.fid fid
+pub create_parts : (dir : Fid) (name : List ℕ) (fid : Fid) (mode owner : ℕ) → IsOpSpelled (Create dir name fid mode owner) → HasSpelling table.fid dir × HasSpelling table.fid fid
 unfolding table.op
-made_dir_spelled dir name fid mode owner is = first_true _ _ (second_true _ _ (second_true _ _ is))
+create_parts dir name fid mode owner is = (first_true _ _ is, first_true _ _ (second_true _ _ (second_true _ _ is)))
 
-pub made_link_spelled : (dir : Fid) (name : List ℕ) (fid : Fid) (target : List ℕ) (mode owner : ℕ) → IsOpSpelled (Symlink dir name fid target mode owner) → HasSpelling table.fid fid
+pub mkdir_parts : (dir : Fid) (name : List ℕ) (fid : Fid) (mode owner : ℕ) → IsOpSpelled (Mkdir dir name fid mode owner) → HasSpelling table.fid dir × HasSpelling table.fid fid
 unfolding table.op
-made_link_spelled dir name fid target mode owner is = first_true _ _ (second_true _ _ (second_true _ _ is))
+mkdir_parts dir name fid mode owner is = (first_true _ _ is, first_true _ _ (second_true _ _ (second_true _ _ is)))
+
+pub symlink_parts : (dir : Fid) (name : List ℕ) (fid : Fid) (target : List ℕ) (mode owner : ℕ) → IsOpSpelled (Symlink dir name fid target mode owner) → HasSpelling table.fid dir × HasSpelling table.fid fid
+unfolding table.op
+symlink_parts dir name fid target mode owner is = (first_true _ _ is, first_true _ _ (second_true _ _ (second_true _ _ is)))

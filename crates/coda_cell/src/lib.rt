@@ -28,4 +28,4 @@ pub use laws::{
     refusals_come_in_order,
 };
 pub use lines::is_built;
-pub use runs::{cells_are_kept, chunks_can_be_spelled, lines_keep_cells};
+pub use runs::{cells_are_kept, lines_keep_cells, messages_can_be_spelled};

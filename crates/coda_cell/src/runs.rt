@@ -1,6 +1,6 @@
 // What holds of cells over all their runs.
 ghost use Rattle.coda_cell.specs.Runs.{CellsAreKept, LinesKeepCells};
-ghost use Rattle.coda_cell.specs.Spelled.{ChunksCanBeSpelled};
+ghost use Rattle.coda_cell.specs.Spelled.{MessagesCanBeSpelled};
 
 /// A law of cells: one in which nothing was made is kept, and in one that is kept what each client holds is bound by its
 /// parents, and what is pending of it is steady.
@@ -15,8 +15,8 @@ pub fn lines_keep_cells()
     ensures { LinesKeepCells }
 {}
 
-/// A law of chunks: in a cell that is kept, lines whose numbers are in their ranges leave what messages can say; and the records that
-/// cancellation leaves of a chunk have a spelling.
-pub fn chunks_can_be_spelled()
-    ensures { ChunksCanBeSpelled }
+/// A law of messages: in a cell that is kept, lines whose numbers are in their ranges leave what messages can say; so the records that
+/// cancellation leaves of a chunk have a spelling, and what a replica answers to it.
+pub fn messages_can_be_spelled()
+    ensures { MessagesCanBeSpelled }
 {}
