@@ -22,6 +22,7 @@ pub mod LastChunks
 pub mod KeptDeeds
 pub mod KeptChunks
 pub mod KeptLines
+pub mod Thawed
 pub mod SpelledParts
 pub mod SpelledFolds
 pub mod SpelledNodes

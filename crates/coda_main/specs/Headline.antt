@@ -1,18 +1,16 @@
 -- What all runs of scripts have in common, in the words of a file system that replays logs.
-use Rattle.std.specs.Prelude.{◌≡◌, ◌≢◌, ℕ, Some, None, Ok, List, [], ◌++◌}
-use Rattle.coda_fid.specs.declared.op.Record.{Record}
+use Rattle.std.specs.Prelude.{◌≡◌, ℕ, Some, Ok, List, []}
 use Rattle.coda_tree.specs.Volume.{Nodes}
 use Rattle.coda_certify.specs.declared.reason.Reason.{Reason}
 use Rattle.coda_certify.specs.declared.verdict.Verdict.TheVariants.{Applied, Conflict}
 use Rattle.coda_certify.specs.Replay.{replay}
 use Rattle.coda_cancel.specs.Cancel.{fold}
 use Rattle.coda_engine.specs.Run.{Runs}
-use Rattle.coda_plain.specs.Deeds.{all_in, ended_of, full_of, pending_of}
+use Rattle.coda_plain.specs.Deeds.{pending_of}
 use Rattle.coda_plain.specs.Decisions.{Decision, verdict_on, nodes_by}
 use Rattle.coda_plain.specs.Cell.{Histories, empty_cell}
 use Rattle.coda_plain.specs.Moves.{done_on}
 use Rattle.coda_plain.specs.Laws.{IsRun}
-use Rattle.coda_plain.specs.Logs.{front_of, back_of}
 use Rattle.coda_plain.specs.Promises.{Decides, AreDecidedOnce, IsRefused, AreKept}
 use Rattle.coda_cell.specs.State.{log_of, ClientState}
 use Rattle.coda_cell.specs.Made.{MadeCell, nothing_made, state_of}
@@ -22,14 +20,11 @@ use Rattle.coda_main.specs.PlainRun.{LineGives}
 abbrev pub histories_of : MadeCell → Histories
 histories_of cell = record { clients = λ client. (cell.acted.clients client).history; replicas = λ server volume. (cell.acted.replicas server volume).history }
 
--- A client's log of a volume. The operations that no chunk applied are those of the frozen chunk, and then the others; the chunk has
--- what cancellation leaves of its own operations, and the records behind it are what it leaves of the others. Where no chunk is frozen,
--- the log is what it leaves of them all.
+-- A client's log of a volume: no chunk of it is on its way, and its records are what cancellation leaves of the operations that no
+-- chunk applied.
 pub record IsOfPending (cell : MadeCell) (client volume : ℕ) (c : ClientState) : Type 0 where
-  pub parts : front_of (done_on cell.acted client volume) ++ back_of (done_on cell.acted client volume) ≡ pending_of (done_on cell.acted client volume)
-  pub chunk : (log_of (c.volumes volume)).chunk ≡ fold (front_of (done_on cell.acted client volume))
-  pub records : (log_of (c.volumes volume)).records ≡ fold (back_of (done_on cell.acted client volume))
-  pub thawed : (log_of (c.volumes volume)).frozen ≡ None → ((log_of (c.volumes volume)).chunk ≡ []) × ((log_of (c.volumes volume)).records ≡ fold (pending_of (done_on cell.acted client volume)))
+  pub chunk : (log_of (c.volumes volume)).chunk ≡ []
+  pub records : (log_of (c.volumes volume)).records ≡ fold (pending_of (done_on cell.acted client volume))
 
 -- What a run of lines leaves: the histories are a run from nothing, so they keep what is promised of runs, and each client's log is
 -- what is left of what is pending by its history.
