@@ -1,0 +1,159 @@
+-- What each call makes of a cache.
+use Rattle.std.specs.Prelude.{ℕ, true, false, not, ◌&&◌, ◌==◌, if◌then◌else◌, List, [], ◌∷◌, Option, Some, None}
+use Rattle.std.specs.Prelude as prelude
+use Rattle.std.specs.Option.{option_map_or}
+use Rattle.std.specs.List.{filter}
+use Rattle.std.specs.FinMap as map
+use Rattle.std.specs.FinMap.{FinMap}
+use Rattle.coda_fid.specs.declared.fid.Fid.{Fid}
+use Rattle.coda_fid.specs.declared.op.Record.{Record}
+use Rattle.coda_fid.specs.declared.op.Over.{Over}
+use Rattle.coda_fid.specs.declared.op.Op.{Op}
+use Rattle.coda_fid.specs.declared.op.Op.TheVariants.{Create, Mkdir, Symlink, Remove, Rmdir, Rename}
+use Rattle.coda_fid.specs.Fid.{fid_cmp}
+use Rattle.coda_fid.specs.Op.{fids_of}
+use Rattle.coda_tree.specs.declared.node.Node.{Node}
+use Rattle.coda_tree.specs.Slots.{altered}
+use Rattle.coda_certify.specs.Replay.{applied}
+use Rattle.coda_cache.specs.declared.hold.Hold.{Hold}
+use Rattle.coda_cache.specs.Uses.{latest, except}
+use Rattle.coda_walk.specs.Going.{is_listed}
+use Rattle.coda_cache.specs.State.{CacheState, Holds, is_cached}
+use Rattle.coda_cache.specs.Ways.{at_or_below}
+
+-- ---- use and validity
+
+-- the cache after a cached node was used
+abbrev pub used : CacheState → Fid → CacheState
+used c f = if is_cached c f then record c { recency = latest c.recency f } else c
+
+-- a hold of a copy that is not valid
+abbrev pub not_valid : Hold → Hold
+not_valid hold = record hold { from = None }
+
+-- a hold of a dirty node
+abbrev pub made_dirty : Hold → Hold
+made_dirty hold = record hold { dirty = true }
+
+-- a hold under another parent
+abbrev pub under : Fid → Hold → Hold
+under dir hold = record hold { parent = Some dir }
+
+-- a hold of a new copy that is not dirty
+abbrev pub renewed : Option ℕ → Hold → Hold
+renewed from hold = record { parent = hold.parent; from = from; dirty = false }
+
+-- each hold changed
+abbrev pub each : (Fid → Hold → Hold) → Holds → Holds
+each change holds = map.from_entries (prelude.map (λ e. (e.0, change e.0 e.1)) (map.entries holds))
+
+-- the cache in which the copy of a node is not valid
+abbrev pub invalidated : CacheState → Fid → CacheState
+invalidated c f = record c { holds = altered c.holds f not_valid }
+
+-- a hold, not valid where the copy is of the volume and from the server
+abbrev pub valid_but_from : ℕ → ℕ → Fid → Hold → Hold
+valid_but_from volume server f hold = if (f.volume == volume) && option_map_or (λ s. s == server) hold.from false then not_valid hold else hold
+
+-- the cache in which no copy of a volume's node is valid that is from the server
+abbrev pub invalidated_from : CacheState → ℕ → ℕ → CacheState
+invalidated_from c volume server = record c { holds = each (valid_but_from volume server) c.holds }
+
+-- a hold, dirty where its fid is among the fids
+abbrev pub dirty_where : List Fid → Fid → Hold → Hold
+dirty_where fids f hold = record hold { dirty = is_listed fids f }
+
+-- the same for the nodes of a volume; those of others stay as they are
+abbrev pub dirty_in : ℕ → List Fid → Fid → Hold → Hold
+dirty_in volume fids f hold = if f.volume == volume then dirty_where fids f hold else hold
+
+-- the cache in which exactly these nodes, where they are cached, are dirty
+abbrev pub pinned_to : CacheState → List Fid → CacheState
+pinned_to c fids = record c { holds = each (dirty_where fids) c.holds }
+
+-- the cache in which exactly these nodes of a volume, where they are cached, are dirty: those that its log mentions
+abbrev pub pinned_in : CacheState → ℕ → List Fid → CacheState
+pinned_in c volume fids = record c { holds = each (dirty_in volume fids) c.holds }
+
+-- ---- putting
+
+-- the parent of a node that is put: its own one where it is cached
+abbrev pub kept_parent : Option Hold → Option Fid → Option Fid
+kept_parent None parent = parent
+kept_parent (Some hold) parent = hold.parent
+
+-- the cache with a node at f that is not dirty, and with its copy valid where it is from a server
+abbrev pub put_in : CacheState → Fid → Option Fid → Node → Option ℕ → CacheState
+put_in c f parent node from = record c {
+  nodes = map.insert c.nodes f node;
+  holds = map.insert c.holds f (record { parent = kept_parent (map.get c.holds f) parent; from = from; dirty = false });
+  recency = latest c.recency f;
+}
+
+-- the cache with these nodes put in turn, each under its parent and from its server
+abbrev pub put_all : CacheState → List (Fid × Option Fid × Node × ℕ) → CacheState
+put_all c [] = c
+put_all c (p ∷ puts) = put_all (put_in c p.0 p.1 p.2 (Some p.3)) puts
+
+-- the priorities of a walk, without those that are none
+abbrev pub given : List (Fid × ℕ) → FinMap fid_cmp ℕ
+given priorities = map.from_entries (filter (λ e. not (e.1 == 0)) priorities)
+
+-- the cache after a walk
+abbrev pub walked : CacheState → List (Fid × Option Fid × Node × ℕ) → List (Fid × ℕ) → CacheState
+walked c puts priorities = record (put_all c puts) { priorities = given priorities }
+
+-- ---- taking out
+
+-- the cache without a node
+abbrev pub without : CacheState → Fid → CacheState
+without c f = record c { nodes = map.remove c.nodes f; holds = map.remove c.holds f; recency = except c.recency f }
+
+-- the cache without these nodes
+abbrev pub dropped : CacheState → List Fid → CacheState
+dropped c [] = c
+dropped c (f ∷ fids) = dropped (without c f) fids
+
+-- the cache without a node and what is cached below it
+abbrev pub removed : CacheState → Fid → CacheState
+removed c f = dropped c (at_or_below c f)
+
+-- ---- operations
+
+-- the node that an operation takes out
+abbrev pub taken_out : Op → Option Fid
+taken_out (Remove dir name fid pre) = Some fid
+taken_out (Rmdir dir name fid pre) = Some fid
+taken_out (Rename from_dir from to_dir to fid over) = prelude.option_map (λ (o : Over). o.fid) over
+taken_out _ = None
+
+-- the hold of a node that an operation created in a directory
+abbrev pub new_hold : Fid → Hold
+new_hold dir = record { parent = Some dir; from = None; dirty = true }
+
+-- the cache in which a created node is held, and used last
+abbrev pub created : CacheState → Fid → Fid → CacheState
+created c dir f = record c { holds = map.insert c.holds f (new_hold dir); recency = latest c.recency f }
+
+-- the cache in which a node has another parent
+abbrev pub moved_under : CacheState → Fid → Fid → CacheState
+moved_under c f dir = record c { holds = altered c.holds f (under dir) }
+
+-- the cache in which a new node is held, or a moved one has its new parent
+abbrev pub placed : CacheState → Op → CacheState
+placed c (Create dir name fid mode owner) = created c dir fid
+placed c (Mkdir dir name fid mode owner) = created c dir fid
+placed c (Symlink dir name fid target mode owner) = created c dir fid
+placed c (Rename from_dir from to_dir to fid over) = moved_under c fid to_dir
+placed c _ = c
+
+-- the cache in which these nodes are dirty too, where they are cached
+abbrev pub dirtied : CacheState → List Fid → CacheState
+dirtied c [] = c
+dirtied c (f ∷ fids) = dirtied (record c { holds = altered c.holds f made_dirty }) fids
+
+-- The cache after a client's operation: the nodes change as it says, what it takes out goes with all that is cached below,
+-- a new node is held by its directory, a moved one by its new one, and what is mentioned is dirty.
+unfoldable pub mutated : CacheState → ℕ → Record → CacheState
+mutated c client rec =
+    dirtied (placed (option_map_or (λ f. dropped (record c { nodes = applied c.nodes client rec }) (at_or_below c f)) (taken_out rec.op) (record c { nodes = applied c.nodes client rec })) rec.op) (fids_of rec.op)

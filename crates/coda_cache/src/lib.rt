@@ -1,0 +1,18 @@
+//! The cache of a client: copies of nodes, how each is held, and in which order they were used.
+#![tactic(auto)]
+
+mod cache;
+mod fault;
+mod hold;
+mod holds;
+mod nodes;
+mod priorities;
+mod recency;
+mod room;
+mod row;
+
+pub use cache::Cache;
+pub use fault::CacheFault;
+pub use hold::Hold;
+pub use recency::Recency;
+pub use row::CacheRow;
