@@ -4,3 +4,5 @@ pub mod Keys
 pub mod Agreeing
 pub mod Sums
 pub mod Written
+pub mod Taken
+pub mod Operated

@@ -105,20 +105,36 @@ walked c puts priorities = record (put_all c puts) { priorities = given prioriti
 
 -- ---- taking out
 
+-- the map without these fids
+abbrev pub taken_from : {X : Type 0} → FinMap fid_cmp X → List Fid → FinMap fid_cmp X
+taken_from m [] = m
+taken_from m (f ∷ fids) = taken_from (map.remove m f) fids
+
+-- the fids but these
+abbrev pub except_all : List Fid → List Fid → List Fid
+except_all recency [] = recency
+except_all recency (f ∷ fids) = except_all (except recency f) fids
+
 -- the cache without a node
 abbrev pub without : CacheState → Fid → CacheState
 without c f = record c { nodes = map.remove c.nodes f; holds = map.remove c.holds f; recency = except c.recency f }
 
 -- the cache without these nodes
 abbrev pub dropped : CacheState → List Fid → CacheState
-dropped c [] = c
-dropped c (f ∷ fids) = dropped (without c f) fids
+dropped c fids = record c { nodes = taken_from c.nodes fids; holds = taken_from c.holds fids; recency = except_all c.recency fids }
 
 -- the cache without a node and what is cached below it
 abbrev pub removed : CacheState → Fid → CacheState
 removed c f = dropped c (at_or_below c f)
 
 -- ---- operations
+
+-- the directory and the fid of the node that an operation makes
+abbrev pub new_node : Op → Option (Fid × Fid)
+new_node (Create dir name fid mode owner) = Some (dir, fid)
+new_node (Mkdir dir name fid mode owner) = Some (dir, fid)
+new_node (Symlink dir name fid target mode owner) = Some (dir, fid)
+new_node _ = None
 
 -- the node that an operation takes out
 abbrev pub taken_out : Op → Option Fid
@@ -127,33 +143,44 @@ taken_out (Rmdir dir name fid pre) = Some fid
 taken_out (Rename from_dir from to_dir to fid over) = prelude.option_map (λ (o : Over). o.fid) over
 taken_out _ = None
 
--- the hold of a node that an operation created in a directory
+-- the node that an operation moves, and the directory that then binds it
+abbrev pub moved_node : Op → Option (Fid × Fid)
+moved_node (Rename from_dir from to_dir to fid over) = Some (fid, to_dir)
+moved_node _ = None
+
+-- what goes from a cache by an operation: the node that is taken out, with all that is cached below it
+abbrev pub taken_below : CacheState → Option Fid → List Fid
+taken_below c None = []
+taken_below c (Some f) = at_or_below c f
+
+-- the hold of a node that an operation made in a directory
 abbrev pub new_hold : Fid → Hold
 new_hold dir = record { parent = Some dir; from = None; dirty = true }
 
--- the cache in which a created node is held, and used last
-abbrev pub created : CacheState → Fid → Fid → CacheState
-created c dir f = record c { holds = map.insert c.holds f (new_hold dir); recency = latest c.recency f }
+-- the cache in which a new node is held by its directory, and used last
+abbrev pub held_new : Option (Fid × Fid) → CacheState → CacheState
+held_new None c = c
+held_new (Some p) c = record c { holds = map.insert c.holds p.1 (new_hold p.0); recency = latest c.recency p.1 }
 
--- the cache in which a node has another parent
-abbrev pub moved_under : CacheState → Fid → Fid → CacheState
-moved_under c f dir = record c { holds = altered c.holds f (under dir) }
+-- the holds in which a moved node has its new parent
+abbrev pub moved_in : Option (Fid × Fid) → Holds → Holds
+moved_in None holds = holds
+moved_in (Some p) holds = altered holds p.0 (under p.1)
 
--- the cache in which a new node is held, or a moved one has its new parent
-abbrev pub placed : CacheState → Op → CacheState
-placed c (Create dir name fid mode owner) = created c dir fid
-placed c (Mkdir dir name fid mode owner) = created c dir fid
-placed c (Symlink dir name fid target mode owner) = created c dir fid
-placed c (Rename from_dir from to_dir to fid over) = moved_under c fid to_dir
-placed c _ = c
+-- the cache in which a moved node has its new parent
+abbrev pub moved_under : Option (Fid × Fid) → CacheState → CacheState
+moved_under moved c = record c { holds = moved_in moved c.holds }
+
+-- the holds in which these nodes are dirty too
+abbrev pub all_dirty : Holds → List Fid → Holds
+all_dirty holds [] = holds
+all_dirty holds (f ∷ fids) = all_dirty (altered holds f made_dirty) fids
 
 -- the cache in which these nodes are dirty too, where they are cached
 abbrev pub dirtied : CacheState → List Fid → CacheState
-dirtied c [] = c
-dirtied c (f ∷ fids) = dirtied (record c { holds = altered c.holds f made_dirty }) fids
+dirtied c fids = record c { holds = all_dirty c.holds fids }
 
--- The cache after a client's operation: the nodes change as it says, what it takes out goes with all that is cached below,
+-- The cache after a client's operation: the nodes change as it says, what it takes out goes with all that was cached below,
 -- a new node is held by its directory, a moved one by its new one, and what is mentioned is dirty.
 unfoldable pub mutated : CacheState → ℕ → Record → CacheState
-mutated c client rec =
-    dirtied (placed (option_map_or (λ f. dropped (record c { nodes = applied c.nodes client rec }) (at_or_below c f)) (taken_out rec.op) (record c { nodes = applied c.nodes client rec })) rec.op) (fids_of rec.op)
+mutated c client rec = dirtied (moved_under (moved_node rec.op) (held_new (new_node rec.op) (dropped (record c { nodes = applied c.nodes client rec }) (taken_below c (taken_out rec.op))))) (fids_of rec.op)

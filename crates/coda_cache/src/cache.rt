@@ -14,6 +14,7 @@ ghost use Rattle.coda_cache.specs.declared.fault.CacheFault.TheVariants.{CacheFu
 ghost use Rattle.coda_cache.specs.Steps.{used, invalidated, invalidated_from, pinned_to, pinned_in, put_in, without, kept_parent, dropped};
 
 use crate::holds::HoldTable;
+use crate::operating::take_out_all;
 use crate::priorities::PriorityTable;
 use crate::{Hold, Recency, room};
 use coda_fid::Fid;
@@ -32,12 +33,12 @@ use std::marker::Model;
 /// time.
 #[derive(Drop)]
 pub struct Cache {
-    alloc: Global,
-    size: u32,
-    nodes: NodeMap,
-    holds: HoldTable,
-    recency: Recency,
-    priorities: PriorityTable,
+    pub(crate) alloc: Global,
+    pub(crate) size: u32,
+    pub(crate) nodes: NodeMap,
+    pub(crate) holds: HoldTable,
+    pub(crate) recency: Recency,
+    pub(crate) priorities: PriorityTable,
 }
 
 impl Model for Cache {
@@ -584,8 +585,6 @@ impl Cache {
     pub fn drop_all(&mut self, fids: &[Fid])
         ensures { self.new ≡ dropped self.old fids.now }
     {
-        for fid in fids {
-            self.take_out(*fid);
-        }
+        take_out_all(&mut self.nodes, &mut self.holds, &mut self.recency, fids);
     }
 }

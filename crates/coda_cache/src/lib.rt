@@ -1,11 +1,13 @@
 //! The cache of a client: copies of nodes, how each is held, and in which order they were used.
 #![tactic(auto)]
 
+mod applying;
 mod cache;
 mod fault;
 mod hold;
 mod holds;
 mod nodes;
+mod operating;
 mod priorities;
 mod recency;
 mod room;
