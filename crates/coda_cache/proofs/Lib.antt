@@ -6,3 +6,4 @@ pub mod Sums
 pub mod Written
 pub mod Taken
 pub mod Operated
+pub mod Small

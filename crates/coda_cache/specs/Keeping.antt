@@ -4,7 +4,7 @@ use Rattle.std.specs.FinMap as map
 use Rattle.coda_fid.specs.declared.fid.Fid.{Fid}
 use Rattle.coda_tree.specs.Volume.{Nodes, has}
 use Rattle.coda_walk.specs.Going.{is_listed}
-use Rattle.coda_cache.specs.State.{CacheState, Holds}
+use Rattle.coda_cache.specs.State.{CacheState, Holds, AreSmall}
 use Rattle.coda_cache.specs.declared.cache.Cache.TheInside.{Inside}
 
 pub record Agree (nodes : Nodes) (holds : Holds) (recency : List Fid) : Type 0 where
@@ -15,6 +15,11 @@ pub record Agree (nodes : Nodes) (holds : Holds) (recency : List Fid) : Type 0 w
 abbrev pub cache_of : Inside → CacheState
 cache_of a = record { size = a.size; nodes = a.nodes; holds = a.holds; recency = a.recency; priorities = a.priorities }
 
--- the parts of a cache agree
+-- the parts of a cache agree, and its nodes are small enough to be counted
+pub record AreWhole (nodes : Nodes) (holds : Holds) (recency : List Fid) : Type 0 where
+  pub agree : Agree nodes holds recency
+  pub small : AreSmall nodes
+
+-- so it is with those of a cache
 abbrev pub AreOne : Inside → Type 0
-AreOne a = Agree a.nodes a.holds a.recency
+AreOne a = AreWhole a.nodes a.holds a.recency

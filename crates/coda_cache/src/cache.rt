@@ -1,4 +1,4 @@
-ghost use Rattle.std.specs.Prelude.{◌≡◌, ◌≢◌, ℕ, Ok, Err, MatchResult, ◌<◌, ◌^◌, true, false, Some, None, IfOk, OnOk, OnErr, IsSome, IsSomeAnd, option_copied, is_some, List, [], ◌∷◌, ◌||◌, ◌&&◌, ◌++◌};
+ghost use Rattle.std.specs.Prelude.{◌≡◌, ◌⊎◌, ℕ, Ok, Err, MatchResult, ◌<◌, ◌^◌, true, false, Some, None, IfOk, OnOk, OnErr, IfErr, IsSomeAnd, option_copied, is_some, List, [], ◌∷◌, ◌||◌, ◌&&◌, ◌++◌};
 ghost use Rattle.std.specs.Prelude as prelude;
 ghost use Rattle.std.specs.FinMap as map;
 ghost use Rattle.std.specs.BTreeSet as btree;
@@ -9,14 +9,15 @@ ghost use Rattle.coda_cache.specs.Ways.{way_up, way_on, is_below, is_pinned, at_
 ghost use Rattle.coda_fid.specs.declared.fid.Fid.{Fid};
 ghost use Rattle.coda_cache.specs.State.{empty_cache, is_cached, parent_of, source_of, is_dirty, priority_of, blocks_at};
 ghost use Rattle.coda_cache.specs.Room.{item_of, items_of, way_of, with_ancestors, parent_then, way_from, kept_for, item_after, items_with, more_blocks, evicted_for};
-ghost use Rattle.coda_walk.specs.Going.{blocks_of};
+ghost use Rattle.coda_cache.specs.declared.fault.CacheFault as CacheFault;
 ghost use Rattle.coda_cache.specs.declared.fault.CacheFault.TheVariants.{CacheFull};
+ghost use Rattle.coda_tree.specs.Blocks.{blocks_of};
 ghost use Rattle.coda_cache.specs.Steps.{used, invalidated, invalidated_from, pinned_to, pinned_in, put_in, without, kept_parent, dropped};
 
 use crate::holds::HoldTable;
 use crate::operating::take_out_all;
 use crate::priorities::PriorityTable;
-use crate::{Hold, Recency, room};
+use crate::{CacheFault, Hold, Recency, room};
 use coda_fid::Fid;
 use crate::nodes::NodeMap;
 use coda_tree::Node;
@@ -267,6 +268,7 @@ impl Cache {
         node: Node,
         from: Option<u8>,
     ) -> Result<(), AllocError>
+        requires { blocks_of node.kind < 2 ^ 32 }
         ensures ok { OnOk result (self.new ≡ put_in self.old fid parent node from) }
         ensures err { OnErr result (self.new ≡ self.old) }
     {
@@ -284,7 +286,8 @@ impl Cache {
         node: Node,
         from: Option<u8>,
     ) -> Result<(), AllocError>
-        requires { IsSomeAnd (map.get self.old.holds fid) (λ hold. hold.parent ≡ parent) }
+        requires held { IsSomeAnd (map.get self.old.holds fid) (λ hold. hold.parent ≡ parent) }
+        requires small { blocks_of node.kind < 2 ^ 32 }
         ensures ok { OnOk result (self.new ≡ put_in self.old fid parent node from) }
         ensures err { OnErr result (self.new ≡ self.old) }
     {
@@ -302,7 +305,8 @@ impl Cache {
         node: Node,
         from: Option<u8>,
     ) -> Result<(), AllocError>
-        requires { map.get self.old.holds fid ≡ None }
+        requires free { map.get self.old.holds fid ≡ None }
+        requires small { blocks_of node.kind < 2 ^ 32 }
         ensures ok { OnOk result (self.new ≡ put_in self.old fid parent node from) }
         ensures err { OnErr result (self.new ≡ self.old) }
     {
@@ -378,7 +382,6 @@ impl Cache {
 
     /// The blocks that a cached node takes, 0 where it isn't cached.
     pub fn blocks(&self, fid: Fid) -> u32
-        requires { blocks_at self.now fid < 2 ^ 32 }
         ensures { result ≡ blocks_at self.now fid }
     {
         match self.nodes.get(fid) {
@@ -389,7 +392,6 @@ impl Cache {
 
     // What a plan has to know of a cached node.
     fn item(&self, pinned: &BTreeSet<Fid>, fid: Fid) -> Item
-        requires small { blocks_at self.now fid < 2 ^ 32 }
         requires pinned { (f : Fid) → btree.contains fid_cmp pinned.now f ≡ is_pinned self.now f }
         ensures { result ≡ item_of self.now fid }
     {
@@ -408,7 +410,6 @@ impl Cache {
 
     // The items of nodes.
     fn items_among(&self, pinned: &BTreeSet<Fid>, fids: &[Fid]) -> Result<Vec<Item>, AllocError>
-        requires small { (f : Fid) → blocks_at self.now f < 2 ^ 32 }
         requires pinned { (f : Fid) → btree.contains fid_cmp pinned.now f ≡ is_pinned self.now f }
         ensures { IfOk result (λ v. v.items ≡ prelude.map (item_of self.now) fids.now) }
     {
@@ -421,7 +422,6 @@ impl Cache {
 
     // The cached nodes in the order of their use.
     fn items(&self, pinned: &BTreeSet<Fid>) -> Result<Vec<Item>, AllocError>
-        requires small { (f : Fid) → blocks_at self.now f < 2 ^ 32 }
         requires pinned { (f : Fid) → btree.contains fid_cmp pinned.now f ≡ is_pinned self.now f }
         ensures { IfOk result (λ v. v.items ≡ items_of self.now) }
     {
@@ -513,7 +513,6 @@ impl Cache {
 
     // The blocks that a node needs besides those that are pinned.
     fn more_blocks(&self, pinned: &BTreeSet<Fid>, fid: Fid, blocks: u32) -> u32
-        requires small { blocks_at self.now fid < 2 ^ 32 }
         requires pinned { (f : Fid) → btree.contains fid_cmp pinned.now f ≡ is_pinned self.now f }
         ensures { result ≡ more_blocks self.now fid blocks }
     {
@@ -524,32 +523,52 @@ impl Cache {
         }
     }
 
-    /// Who goes for a node of so many blocks that is to be put under a parent, in order: as few as make the rest fit,
-    /// without the node and what it is to keep, and what is above all these. Fails where these and what is pinned don't
-    /// fit, or for want of memory.
-    pub fn evict_for(
+    // Who goes for a node of so many blocks that is put, or how many blocks are pinned and how many more are needed where
+    // these don't fit. Fails for want of memory alone.
+    fn going_for(
         &self,
         fid: Fid,
         parent: Option<Fid>,
         blocks: u32,
         keep: &[Fid],
     ) -> Result<Result<Vec<Fid>, (u64, u64)>, AllocError>
-        requires small { (f : Fid) → blocks_at self.now f < 2 ^ 32 }
-        requires fits { blocks_of (items_of self.now) < 2 ^ 62 }
         ensures { IfOk result (λ r. MatchResult r (λ v. evicted_for self.now fid parent blocks keep.now ≡ Ok v.items) (λ e. evicted_for self.now fid parent blocks keep.now ≡ Err (CacheFull e.0 e.1 self.now.size))) }
     {
         let pinned = self.pinned()?;
         let items = self.items(&pinned)?;
         let kept = self.kept_for(fid, parent, keep)?;
-        let pinned_blocks = room::pinned_blocks(&items);
-        let more = self.more_blocks(&pinned, fid, blocks) as u64;
-        let needed = more + room::needed_blocks(fid, &kept, &items);
-        if (self.size as u64) < pinned_blocks + needed {
+        let pinned_blocks = room::pinned_blocks(&items)?;
+        let more = self.more_blocks(&pinned, fid, blocks);
+        let needed = room::needed_blocks(fid, &kept, &items, more)?;
+        if !room::fits(self.size, pinned_blocks, needed) {
             return Ok(Err((pinned_blocks, needed)));
         }
         let items = self.items_with(items, fid, parent, blocks)?;
         let gone = who_goes(self.alloc, self.size as u64, &kept, &items)?;
         Ok(Ok(gone))
+    }
+
+    /// Who goes for a node of so many blocks that is to be put under a parent, in order: as few as make the rest fit, without
+    /// the node and what it is to keep, and what is above all these. A cached node has its own parent, and not this one.
+    ///
+    /// # Errors
+    ///
+    /// `CacheFull` exactly where the blocks that are pinned, and those that are needed besides, exceed the size; else only
+    /// `Memory`, which stands too for a number of blocks that doesn't fit in 64 bits.
+    pub fn evict_for(
+        &self,
+        fid: Fid,
+        parent: Option<Fid>,
+        blocks: u32,
+        keep: &[Fid],
+    ) -> Result<Vec<Fid>, CacheFault>
+        ensures gone { IfOk result (λ v. evicted_for self.now fid parent blocks keep.now ≡ Ok v.items) }
+        ensures causes { IfErr result (λ why. (why ≡ CacheFault.Memory) ⊎ (evicted_for self.now fid parent blocks keep.now ≡ Err why)) }
+    {
+        match self.going_for(fid, parent, blocks, keep)? {
+            Ok(gone) => Ok(gone),
+            Err((pinned, needed)) => { Err(CacheFault::CacheFull(pinned, needed, self.size as u64)) }
+        }
     }
 
     // Whether a node is another, or cached below it.

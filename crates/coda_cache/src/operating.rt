@@ -3,6 +3,7 @@ ghost use Rattle.std.specs.FinMap as map;
 ghost use Rattle.coda_fid.specs.Op.{fids_of};
 ghost use Rattle.coda_walk.specs.Going.{is_listed};
 ghost use Rattle.coda_certify.specs.Replay.{MayApply};
+ghost use Rattle.coda_cache.specs.State.{AreSmall};
 ghost use Rattle.coda_cache.specs.Uses.{latest};
 ghost use Rattle.coda_cache.specs.Steps.{new_node, taken_out, moved_node, taken_below, taken_from, except_all, moved_in, all_dirty, mutated};
 
@@ -164,6 +165,7 @@ impl Cache {
     fn create(&mut self, dir: Fid, fid: Fid, client: u8, rec: &Record) -> Result<(), AllocError>
         requires makes { new_node rec.now.op ≡ Some (dir, fid) }
         requires may { MayApply self.old.nodes rec.now.op }
+        requires small { AreSmall (mutated self.old client rec.now).nodes }
         ensures ok { OnOk result (self.new ≡ mutated self.old client rec.now) }
         ensures err { OnErr result (self.new ≡ self.old) }
     {
@@ -190,6 +192,7 @@ impl Cache {
     fn change(&mut self, client: u8, rec: &Record) -> Result<(), AllocError>
         requires makes { new_node rec.now.op ≡ None }
         requires may { MayApply self.old.nodes rec.now.op }
+        requires small { AreSmall (mutated self.old client rec.now).nodes }
         ensures ok { OnOk result (self.new ≡ mutated self.old client rec.now) }
         ensures err { OnErr result (self.new ≡ self.old) }
     {
@@ -208,7 +211,8 @@ impl Cache {
     ///
     /// Fails for want of memory alone, and then changes nothing.
     pub fn mutate(&mut self, client: u8, rec: &Record) -> Result<(), AllocError>
-        requires { MayApply self.old.nodes rec.now.op }
+        requires may { MayApply self.old.nodes rec.now.op }
+        requires small { AreSmall (mutated self.old client rec.now).nodes }
         ensures ok { OnOk result (self.new ≡ mutated self.old client rec.now) }
         ensures err { OnErr result (self.new ≡ self.old) }
     {

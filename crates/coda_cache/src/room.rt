@@ -1,29 +1,41 @@
-ghost use Rattle.std.specs.Prelude.{◌≡◌, ◌<◌, ◌≤◌, ◌^◌, cond};
-ghost use Rattle.coda_walk.specs.Going.{blocks_of};
+ghost use Rattle.std.specs.Prelude.{◌≡◌, ◌+◌, IfOk, cond, not, nat_lt};
 ghost use Rattle.coda_walk.specs.Going.{is_listed};
 ghost use Rattle.coda_cache.specs.Room.{pinned_blocks, is_needed, blocks_where};
 
 use coda_fid::Fid;
 use coda_walk::Item;
+use std::alloc::AllocError;
 
-// The blocks of an item, where it counts.
-fn counted(counts: bool, item: &Item) -> u64
-    ensures { result ≡ cond counts item.now.blocks 0 }
+// A sum, which fails where it doesn't fit in 64 bits.
+fn plus(blocks: u64, more: u64) -> Result<u64, AllocError>
+    ensures { IfOk result (λ sum. sum ≡ blocks + more) }
 {
-    if counts { item.blocks as u64 } else { 0 }
+    match blocks.checked_add(more) {
+        Some(sum) => Ok(sum),
+        None => Err(AllocError),
+    }
 }
 
-// The blocks of pinned items.
-pub(crate) fn pinned_blocks(items: &[Item]) -> u64
-    requires { blocks_of items.now < 2 ^ 62 }
-    ensures sum { result ≡ pinned_blocks items.now }
-    ensures few { result ≤ blocks_of items.now }
+// The blocks with those of an item, where it counts.
+fn plus_counted(blocks: u64, counts: bool, item: &Item) -> Result<u64, AllocError>
+    ensures { IfOk result (λ sum. sum ≡ blocks + cond counts item.now.blocks 0) }
+{
+    if counts {
+        plus(blocks, item.blocks as u64)
+    } else {
+        Ok(blocks)
+    }
+}
+
+// The blocks of pinned items, which fail where they don't fit in 64 bits.
+pub(crate) fn pinned_blocks(items: &[Item]) -> Result<u64, AllocError>
+    ensures { IfOk result (λ sum. sum ≡ pinned_blocks items.now) }
 {
     let mut blocks = 0;
     for item in items {
-        blocks += counted(item.pinned, item);
+        blocks = plus_counted(blocks, item.pinned, item)?;
     }
-    blocks
+    Ok(blocks)
 }
 
 // Whether a fid is among the fids.
@@ -40,15 +52,29 @@ fn is_needed(fid: Fid, kept: &[Fid], item: &Item) -> bool
     item.fid != fid && !item.pinned && is_listed(kept, item.fid)
 }
 
-// The blocks of the items that are needed besides that of an object.
-pub(crate) fn needed_blocks(fid: Fid, kept: &[Fid], items: &[Item]) -> u64
-    requires { blocks_of items.now < 2 ^ 62 }
-    ensures sum { result ≡ blocks_where (is_needed fid kept.now) items.now }
-    ensures few { result ≤ blocks_of items.now }
+// The blocks that an object needs and those of the items that are needed besides it, which fail where they don't fit in 64
+// bits.
+pub(crate) fn needed_blocks(
+    fid: Fid,
+    kept: &[Fid],
+    items: &[Item],
+    more: u32,
+) -> Result<u64, AllocError>
+    ensures { IfOk result (λ sum. sum ≡ more + blocks_where (is_needed fid kept.now) items.now) }
 {
-    let mut blocks = 0;
+    let mut blocks = more as u64;
     for item in items {
-        blocks += counted(is_needed(fid, kept, item), item);
+        blocks = plus_counted(blocks, is_needed(fid, kept, item), item)?;
     }
-    blocks
+    Ok(blocks)
+}
+
+// Whether blocks that are pinned and blocks that are needed fit in so many.
+pub(crate) fn fits(size: u32, pinned: u64, needed: u64) -> bool
+    ensures { result ≡ not (nat_lt size (pinned + needed)) }
+{
+    match pinned.checked_add(needed) {
+        Some(sum) => sum <= size as u64,
+        None => false,
+    }
 }

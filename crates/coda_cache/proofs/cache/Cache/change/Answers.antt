@@ -7,6 +7,7 @@ use Rattle.coda_cache.specs.State.{CacheState, Holds}
 use Rattle.coda_cache.specs.Steps.{taken_out, moved_node, taken_below, taken_from, except_all, moved_in, all_dirty, mutated}
 use Rattle.coda_cache.proofs.Agreeing.{agree_same}
 use Rattle.coda_cache.proofs.Operated.{agree_changed, mutated_changed}
+use Rattle.coda_cache.proofs.Small.{small_same}
 use Rattle.coda_cache.proofs.cache.Cache.change.Goals as goal
 
 pub invariant_of-self-2 : goal.invariant_of-self-2
@@ -17,9 +18,13 @@ invariant_of-self-2 c =
     let holds = c.mark.ensures
     ∙ ap (λ (m : Holds). all_dirty m (fids_of c.args.rec.now.op))
     (c.move_under.ensures ∙ (λ i. moved_in (c.moved_node.ensures i) ((c.take_out_all.ensures.holds ∙ ap (taken_from s.holds) gone) i))) in
-    agree_same _ c.take_out_all.new.nodes _ c.mark.new.holds _ c.take_out_all.new.recency
-    (c.take_out_all.ensures.nodes ∙ (λ i. taken_from (c.in_ok-apply.ensures.ok i) (gone i))) holds (c.take_out_all.ensures.recency ∙ ap (except_all s.recency) gone)
-    (agree_changed s c.args.client c.args.rec.now c.self.invariant c.requires.makes)
+    let nodes = c.take_out_all.ensures.nodes ∙ (λ i. taken_from (c.in_ok-apply.ensures.ok i) (gone i)) in
+    let left = sym (ap (λ (x : CacheState). mutated x c.args.client c.args.rec.now) c.self.view_is) ∙ mutated_changed s c.args.client c.args.rec.now c.requires.makes in
+    record {
+      agree = agree_same _ c.take_out_all.new.nodes _ c.mark.new.holds _ c.take_out_all.new.recency nodes holds (c.take_out_all.ensures.recency ∙ ap (except_all s.recency) gone)
+          (agree_changed s c.args.client c.args.rec.now c.self.invariant.agree c.requires.makes);
+      small = small_same _ _ (nodes ∙ sym (ap (λ (x : CacheState). x.nodes) left)) c.requires.small;
+    }
 
 pub returns-clause-ok : goal.returns-clause-ok
 returns-clause-ok c =
