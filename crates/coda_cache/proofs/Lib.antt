@@ -7,3 +7,5 @@ pub mod Written
 pub mod Taken
 pub mod Operated
 pub mod Small
+pub mod Climbs
+pub mod Kept

@@ -134,7 +134,7 @@ some_left true o = refl
 some_left false o = refl
 
 -- a node is at or below itself
-len_some : (holds : Holds) (f : Fid) → map.contains_key holds f ≡ true → (n : ℕ) × (map.len holds ≡ suc n)
+pub len_some : (holds : Holds) (f : Fid) → map.contains_key holds f ≡ true → (n : ℕ) × (map.len holds ≡ suc n)
 len_some holds f is = elim (map.len holds) as (λ n. map.len holds ≡ n → (k : ℕ) × (map.len holds ≡ suc k)) [
   | zero ↦ λ none. absurd (both_ways _ (ap (λ (h : Holds). map.contains_key h f) (map.empty_of_len holds none) ∙ ap (λ (o : Option Hold). is_some o) (map.get-empty fid_cmp f)) is)
   | suc k ↦ λ some. (k, some)

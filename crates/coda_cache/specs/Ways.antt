@@ -1,11 +1,11 @@
 -- The ways up in a cache, by the parents under which nodes are cached.
-use Rattle.std.specs.Prelude.{◌≡◌, ℕ, zero, suc, ◌<◌, Bool, true, ◌&&◌, List, [], ◌∷◌, Option, Some}
+use Rattle.std.specs.Prelude.{ℕ, zero, suc, Bool, ◌&&◌, List, [], ◌∷◌, Option}
 use Rattle.std.specs.Option.{option_map_or}
 use Rattle.std.specs.List.{filter, list_any}
 use Rattle.std.specs.FinMap as map
 use Rattle.coda_fid.specs.declared.fid.Fid.{Fid}
 use Rattle.coda_walk.specs.Going.{is_listed}
-use Rattle.coda_cache.specs.State.{CacheState, is_cached, parent_of, is_dirty}
+use Rattle.coda_cache.specs.State.{CacheState, parent_of, is_dirty}
 
 -- f, its parent, and so on, within so many steps
 abbrev pub way_within : CacheState → ℕ → Fid → List Fid
@@ -27,15 +27,6 @@ at_or_below c f = filter (λ g. is_below c g f) c.recency
 -- whether a node is pinned: it is dirty, or above one that is
 abbrev pub is_pinned : CacheState → Fid → Bool
 is_pinned c f = list_any (λ d. is_dirty c d && is_below c d f) c.recency
-
--- Each node has a hold, and its fid stands once in the order of use, and nothing else has; the parent of each is cached,
--- and stands less deep.
-pub record IsCache (c : CacheState) : Type 0 where
-  pub held : (f : Fid) → map.contains_key c.holds f ≡ is_cached c f
-  pub used : (f : Fid) → is_listed c.recency f ≡ is_cached c f
-  pub depth : Fid → ℕ
-  pub parents : (f p : Fid) → parent_of c f ≡ Some p → is_cached c p ≡ true
-  pub deeper : (f p : Fid) → parent_of c f ≡ Some p → depth p < depth f
 
 -- the way up from what may be there, within so many steps
 abbrev pub way_on : CacheState → ℕ → Option Fid → List Fid

@@ -5,6 +5,7 @@ ghost use Rattle.std.specs.BTreeSet as btree;
 ghost use Rattle.std.specs.List.{list_any, filter};
 ghost use Rattle.coda_fid.specs.Fid.{fid_cmp, same_fid};
 ghost use Rattle.coda_walk.specs.Going.{is_listed};
+ghost use Rattle.coda_cache.specs.Rows.{row_of, rows_of};
 ghost use Rattle.coda_cache.specs.Ways.{way_up, way_on, is_below, is_pinned, at_or_below};
 ghost use Rattle.coda_fid.specs.declared.fid.Fid.{Fid};
 ghost use Rattle.coda_cache.specs.State.{empty_cache, is_cached, parent_of, source_of, is_dirty, priority_of, blocks_at};
@@ -17,7 +18,7 @@ ghost use Rattle.coda_cache.specs.Steps.{used, invalidated, invalidated_from, pi
 use crate::holds::HoldTable;
 use crate::operating::take_out_all;
 use crate::priorities::PriorityTable;
-use crate::{CacheFault, Hold, Recency, room};
+use crate::{CacheFault, CacheRow, Hold, Recency, room};
 use coda_fid::Fid;
 use crate::nodes::NodeMap;
 use coda_tree::Node;
@@ -330,6 +331,39 @@ impl Cache {
         ensures { IfOk result (λ v. v.items ≡ self.now.recency) }
     {
         self.recency.list(self.alloc)
+    }
+
+    // What is told of a cached node.
+    fn row(&self, fid: Fid) -> CacheRow
+        ensures { result ≡ row_of self.now fid }
+    {
+        CacheRow {
+            fid,
+            parent: self.parent(fid),
+            priority: self.priority(fid),
+            blocks: self.blocks(fid),
+            valid: self.source(fid).is_some(),
+            dirty: self.is_dirty(fid),
+        }
+    }
+
+    // What is told of nodes.
+    fn rows_among(&self, fids: &[Fid]) -> Result<Vec<CacheRow>, AllocError>
+        ensures { IfOk result (λ v. v.items ≡ prelude.map (row_of self.now) fids.now) }
+    {
+        let mut rows = Vec::new(self.alloc);
+        for fid in fids {
+            rows.push(self.row(*fid))?;
+        }
+        Ok(rows)
+    }
+
+    /// What is told of all cached nodes, in the order of their fids. Fails for want of memory alone.
+    pub fn rows(&self) -> Result<Vec<CacheRow>, AllocError>
+        ensures { IfOk result (λ v. v.items ≡ rows_of self.now) }
+    {
+        let fids = self.holds.fids(self.alloc)?;
+        self.rows_among(&fids)
     }
 
     // A node, its parent, and so on.
