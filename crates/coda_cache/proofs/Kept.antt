@@ -68,7 +68,7 @@ pub agree_of : (c : CacheState) → IsCache c → Agree c.nodes c.holds c.recenc
 agree_of c k = record { held = k.held; used = k.used }
 
 -- a cache whose nodes have the same parents
-same_parents : (c n : CacheState) → IsCache c → Agree n.nodes n.holds n.recency → IsDistinct same_fid n.recency → ((f : Fid) → is_cached n f ≡ is_cached c f) → ((f : Fid) → parent_of n f ≡ parent_of c f) → IsCache n
+pub same_parents : (c n : CacheState) → IsCache c → Agree n.nodes n.holds n.recency → IsDistinct same_fid n.recency → ((f : Fid) → is_cached n f ≡ is_cached c f) → ((f : Fid) → parent_of n f ≡ parent_of c f) → IsCache n
 same_parents c n k a d has same = record {
   held = a.held;
   used = a.used;
@@ -95,7 +95,7 @@ used_kept c f k = (elim (is_cached c f) as (λ b. is_cached c f ≡ b → IsCach
   | false ↦ λ _. k
 ]) refl
 
-parent_altered : (holds : Holds) (f : Fid) (change : Hold → Hold) → ((hold : Hold) → (change hold).parent ≡ hold.parent) → (q : Fid) → parent_held (map.get (altered holds f change) q) ≡ parent_held (map.get holds q)
+pub parent_altered : (holds : Holds) (f : Fid) (change : Hold → Hold) → ((hold : Hold) → (change hold).parent ≡ hold.parent) → (q : Fid) → parent_held (map.get (altered holds f change) q) ≡ parent_held (map.get holds q)
 parent_altered holds f change same q = elim (fid_cases q f) [
   | inl at ↦ ap (λ x. parent_held (map.get (altered holds f change) x)) at ∙ ap parent_held (at_altered holds f change) ∙ changed (map.get holds f) ∙ ap (λ x. parent_held (map.get holds x)) (sym at)
   | inr off ↦ ap parent_held (off_altered holds f change q off)
@@ -157,7 +157,7 @@ dropped_kept c fids k may =
       deeper = λ f p is. k.deeper f p (at f p is).1;
     }
 
-listed_where : (test : Fid → Bool) (fids : List Fid) (f : Fid) → is_listed (filter test fids) f ≡ (test f && is_listed fids f)
+pub listed_where : (test : Fid → Bool) (fids : List Fid) (f : Fid) → is_listed (filter test fids) f ≡ (test f && is_listed fids f)
 listed_where test [] f = nothing (test f)
   where
     nothing : (b : Bool) → false ≡ (b && false)

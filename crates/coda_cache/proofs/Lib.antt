@@ -9,3 +9,4 @@ pub mod Operated
 pub mod Small
 pub mod Climbs
 pub mod Kept
+pub mod KeptMore

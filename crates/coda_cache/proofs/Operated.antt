@@ -160,7 +160,7 @@ pub self_below : (c : CacheState) (f : Fid) → Agree c.nodes c.holds c.recency 
 self_below c f a is = listed_filter (λ g. is_listed (way_up c g) f) c.recency f (self_on_way c f (a.held f ∙ is)) (a.used f ∙ is)
 
 -- a node that doesn't go was there before the operation exactly where it is there after it
-stays_there : (c : CacheState) (client : ℕ) (rec : Record) → Agree c.nodes c.holds c.recency → new_node rec.op ≡ None → (q : Fid) → is_listed (taken_below c (taken_out rec.op)) q ≡ false → has (applied c.nodes client rec) q ≡ has c.nodes q
+pub stays_there : (c : CacheState) (client : ℕ) (rec : Record) → Agree c.nodes c.holds c.recency → new_node rec.op ≡ None → (q : Fid) → is_listed (taken_below c (taken_out rec.op)) q ≡ false → has (applied c.nodes client rec) q ≡ has c.nodes q
 stays_there c client rec a is q stays = go (taken_out rec.op) (applied_left c.nodes client rec is) stays
   where
     go : (taken : Option Fid) → Left c.nodes (applied c.nodes client rec) taken → is_listed (taken_below c taken) q ≡ false → has (applied c.nodes client rec) q ≡ has c.nodes q
