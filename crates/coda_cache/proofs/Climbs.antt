@@ -105,3 +105,25 @@ module _ (c : CacheState) (k : IsCache c) where
       held : (o : Option Hold) → parent_held o ≡ Some p → is_some o ≡ true
       held None e = absurd (none-some p e)
       held (Some hold) e = refl
+
+  -- a node without a parent is the whole way up
+  pub way_top : (f : Fid) → is_cached c f ≡ true → parent_of c f ≡ None → way_up c f ≡ f ∷ []
+  unfolding way_up
+  way_top f there none =
+      let n = len_some c.holds f (k.held f ∙ there) in
+      ap (λ m. way_within c m f) n.1 ∙ ap (λ o. f ∷ option_map_or (λ q. way_within c n.0 q) o []) none
+
+  all_cached : (n : ℕ) (f q : Fid) → is_cached c f ≡ true → is_listed (way_within c n f) q ≡ true → is_cached c q ≡ true
+  all_cached zero f q there h = absurd (both_ways _ refl h)
+  all_cached (suc n) f q there h = (elim (same_fid f q) as (λ b. same_fid f q ≡ b → (b || is_listed (option_map_or (λ p. way_within c n p) (parent_of c f) []) q) ≡ true → is_cached c q ≡ true) [
+    | true ↦ λ e _. ap (is_cached c) (sym (same_fid_is f q e)) ∙ there
+    | false ↦ λ e rest. (elim (parent_of c f) as (λ o. parent_of c f ≡ o → is_listed (option_map_or (λ p. way_within c n p) o []) q ≡ true → is_cached c q ≡ true) [
+      | None ↦ λ is r. absurd (both_ways _ refl r)
+      | Some p ↦ λ is r. all_cached n p q (k.parents f p is) r
+    ]) refl rest
+  ]) refl h
+
+  -- what is on the way up is cached
+  pub way_cached : (f q : Fid) → is_cached c f ≡ true → is_below c f q ≡ true → is_cached c q ≡ true
+  unfolding way_up
+  way_cached f q there h = all_cached (map.len c.holds) f q there h

@@ -176,7 +176,7 @@ listed_where test (g ∷ fids) f = (elim (same_fid g f) as (λ b. same_fid g f �
   ])
 ]) refl
 
-both_true : (a b : Bool) → (a && b) ≡ true → (a ≡ true) × (b ≡ true)
+pub both_true : (a b : Bool) → (a && b) ≡ true → (a ≡ true) × (b ≡ true)
 both_true true b h = (refl, h)
 both_true false b h = absurd (both_ways _ refl h)
 

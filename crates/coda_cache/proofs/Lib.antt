@@ -10,3 +10,4 @@ pub mod Small
 pub mod Climbs
 pub mod Kept
 pub mod KeptMore
+pub mod Rightly

@@ -1,9 +1,11 @@
-ghost use Rattle.std.specs.Prelude.{ℕ, List, Option};
+ghost use Rattle.std.specs.Prelude.{◌≡◌, ℕ, List, Option, Ok};
 ghost use Rattle.coda_fid.specs.declared.fid.Fid.{Fid};
 ghost use Rattle.coda_fid.specs.declared.op.Record.{Record};
 ghost use Rattle.coda_tree.specs.declared.node.Node.{Node};
 ghost use Rattle.coda_cache.specs.State.{CacheState, empty_cache};
 ghost use Rattle.coda_cache.specs.Steps.{used, invalidated, invalidated_from, pinned_to, pinned_in, put_in, dropped, removed, mutated};
+ghost use Rattle.coda_walk.specs.Laws.{GoRightly};
+ghost use Rattle.coda_cache.specs.Room.{evicted_for, items_with, kept_for};
 ghost use Rattle.coda_cache.specs.Laws.{IsCache, MayHold, MayGo, MayMutate};
 
 /// Each step of a cache leaves a cache: its nodes are held, stand once in the order of use, and have parents that are cached
@@ -20,4 +22,10 @@ pub fn steps_keep_caches()
     ensures dropped { (c : CacheState) (fids : List Fid) → IsCache c → MayGo c fids → IsCache (dropped c fids) }
     ensures removed { (c : CacheState) (f : Fid) → IsCache c → IsCache (removed c f) }
     ensures mutated { (c : CacheState) (client : ℕ) (rec : Record) → IsCache c → MayMutate c rec.op → IsCache (mutated c client rec) }
+{}
+
+/// Who goes for a node that is put goes rightly: nobody goes who is pinned, who is kept or who is above one that stays; what
+/// stays fits, with the node; and nobody goes needlessly.
+pub fn who_goes_for_a_node_is_right()
+    ensures { (c : CacheState) (f : Fid) (parent : Option Fid) (blocks : ℕ) (keep gone : List Fid) → IsCache c → MayHold c f parent → evicted_for c f parent blocks keep ≡ Ok gone → GoRightly c.size (kept_for c f parent keep) (items_with c f parent blocks) gone }
 {}

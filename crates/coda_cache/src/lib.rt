@@ -17,6 +17,6 @@ mod row;
 pub use cache::Cache;
 pub use fault::CacheFault;
 pub use hold::Hold;
-pub use law::steps_keep_caches;
+pub use law::{steps_keep_caches, who_goes_for_a_node_is_right};
 pub use recency::Recency;
 pub use row::CacheRow;
