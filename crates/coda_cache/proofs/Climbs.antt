@@ -1,6 +1,6 @@
 -- The way up from a cached node: it ends, and goes by the node's parent.
-use Rattle.std.proofs.Common.{◌≡◌, ℕ, zero, suc, ◌<◌, ◌≤◌, Bool, true, false, cond, ◌||◌, ◌&&◌, List, [], ◌∷◌, Option, Some, None, IsSome, is_some, length, refl, sym, ap, ◌∙◌, subst, inl, inr, arith}
-use Rattle.std.specs.List.{filter, list_any, AllByRecursion, IsDistinct}
+use Rattle.std.proofs.Common.{◌≡◌, ℕ, zero, suc, ◌≤◌, Bool, true, false, cond, ◌||◌, List, [], ◌∷◌, Option, Some, None, IsSome, is_some, length, refl, sym, ap, ◌∙◌, subst, arith}
+use Rattle.std.specs.List.{list_any, AllByRecursion, IsDistinct}
 use Rattle.std.specs.Map.{lookup}
 use Rattle.std.specs.Option.{option_map_or}
 use Rattle.std.specs.Ordering.{eq_by_cmp}
@@ -12,13 +12,13 @@ use Rattle.std.proofs.lemmas.Cmp.{eq_by_cmp_equiv}
 use Rattle.std.proofs.lemmas.Map.Steps.{length-le_from_keys}
 use Rattle.coda_fid.specs.declared.fid.Fid.{Fid}
 use Rattle.coda_fid.specs.Fid.{fid_cmp, same_fid}
-use Rattle.coda_fid.proofs.Fids.{fids_total, same_fid_is, same_fid_refl}
+use Rattle.coda_fid.proofs.Fids.{fids_total, same_fid_is}
 use Rattle.coda_tree.proofs.Booleans.{has_some}
 use Rattle.coda_tree.proofs.Parents.{tied_fid}
 use Rattle.coda_walk.specs.Going.{is_listed}
 use Rattle.coda_cache.specs.declared.hold.Hold.{Hold}
 use Rattle.coda_cache.specs.State.{CacheState, is_cached, parent_of, parent_held}
-use Rattle.coda_cache.specs.Ways.{way_within, way_up, is_below, at_or_below}
+use Rattle.coda_cache.specs.Ways.{way_within, way_up, is_below}
 use Rattle.coda_cache.specs.Laws.{IsCache}
 use Rattle.coda_cache.proofs.Operated.{len_some}
 

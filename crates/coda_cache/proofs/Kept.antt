@@ -1,27 +1,27 @@
 -- Each step leaves a cache.
-use Rattle.std.proofs.Common.{◌≡◌, ◌≢◌, ℕ, zero, suc, ◌+◌, ◌<◌, Bool, true, false, cond, not, ◌||◌, ◌&&◌, List, [], ◌∷◌, ◌++◌, Option, Some, None, is_some, option_map, refl, sym, ap, ◌∙◌, subst, inl, inr, arith}
+use Rattle.std.proofs.Common.{◌≡◌, ℕ, Bool, true, false, cond, not, ◌||◌, ◌&&◌, List, [], ◌∷◌, ◌++◌, Option, Some, None, is_some, option_map, refl, sym, ap, ◌∙◌, inl, inr}
 use Rattle.std.specs.Prelude.{if◌then◌else◌}
 use Rattle.std.specs.List.{filter, AllByRecursion, IsDistinct}
 use Rattle.std.specs.FinMap as map
 use Rattle.std.proofs.lemmas.Bool.{both_ways}
-use Rattle.std.proofs.lemmas.Option.{none-some, same_Some}
+use Rattle.std.proofs.lemmas.Option.{none-some}
 use Rattle.coda_fid.specs.declared.fid.Fid.{Fid}
 use Rattle.coda_fid.specs.Fid.{fid_cmp, same_fid}
-use Rattle.coda_fid.proofs.Fids.{fids_total, exact_fids, same_fid_is, same_fid_refl}
+use Rattle.coda_fid.proofs.Fids.{same_fid_is}
 use Rattle.coda_tree.specs.declared.node.Node.{Node}
 use Rattle.coda_tree.specs.Slots.{altered}
-use Rattle.coda_tree.specs.Volume.{Nodes, has}
-use Rattle.coda_tree.proofs.Order.{fid_cases, get_here, get_else}
-use Rattle.coda_tree.proofs.Keyed.{at_altered, off_altered, not_same}
+use Rattle.coda_tree.specs.Volume.{has}
+use Rattle.coda_tree.proofs.Order.{fid_cases}
+use Rattle.coda_tree.proofs.Keyed.{at_altered, off_altered}
 use Rattle.coda_walk.specs.Going.{is_listed}
 use Rattle.coda_cache.specs.declared.hold.Hold.{Hold}
 use Rattle.coda_cache.specs.Uses.{except, latest}
 use Rattle.coda_cache.specs.State.{CacheState, Holds, empty_cache, is_cached, parent_of, parent_held}
-use Rattle.coda_cache.specs.Ways.{way_up, is_below, at_or_below}
+use Rattle.coda_cache.specs.Ways.{is_below, at_or_below}
 use Rattle.coda_cache.specs.Keeping.{Agree}
-use Rattle.coda_cache.specs.Steps.{used, each, not_valid, invalidated, invalidated_from, valid_but_from, dirty_where, dirty_in, pinned_to, pinned_in, put_in, kept_parent, taken_from, except_all, dropped, removed}
-use Rattle.coda_cache.specs.Laws.{IsCache, MayHold, MayGo}
-use Rattle.coda_cache.proofs.Agreeing.{agree_none, agree_used, agree_altered, agree_put, except_here}
+use Rattle.coda_cache.specs.Steps.{used, each, not_valid, invalidated, invalidated_from, valid_but_from, dirty_where, dirty_in, pinned_to, pinned_in, except_all, dropped, removed}
+use Rattle.coda_cache.specs.Laws.{IsCache, MayGo}
+use Rattle.coda_cache.proofs.Agreeing.{agree_none, agree_used, agree_altered, except_here}
 use Rattle.coda_cache.proofs.Written.{get_each, agree_each}
 use Rattle.coda_cache.proofs.Taken.{taken_at, agree_taken}
 use Rattle.coda_cache.proofs.Climbs.{below_by, child_cached}

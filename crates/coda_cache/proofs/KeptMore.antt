@@ -1,17 +1,16 @@
 -- A put and an operation leave a cache.
-use Rattle.std.proofs.Common.{◌≡◌, ◌≢◌, ℕ, suc, ◌+◌, ◌<◌, Bool, true, false, cond, not, ◌||◌, ◌&&◌, List, [], ◌∷◌, Option, Some, None, is_some, option_map, refl, sym, ap, ◌∙◌, subst, inl, inr, arith}
+use Rattle.std.proofs.Common.{◌≡◌, ◌≢◌, ℕ, suc, ◌+◌, ◌<◌, Bool, true, false, cond, ◌||◌, ◌&&◌, List, [], ◌∷◌, Option, Some, None, is_some, option_map, refl, sym, ap, ◌∙◌, subst, inl, inr, arith}
 use Rattle.std.specs.List.{IsDistinct}
 use Rattle.std.specs.FinMap as map
 use Rattle.std.proofs.lemmas.Bool.{both_ways}
 use Rattle.std.proofs.lemmas.Option.{none-some, same_Some}
 use Rattle.coda_fid.specs.declared.fid.Fid.{Fid}
 use Rattle.coda_fid.specs.declared.op.Op.{Op}
-use Rattle.coda_fid.specs.declared.op.Over.{Over}
 use Rattle.coda_fid.specs.declared.op.Record.{Record}
 use Rattle.coda_fid.specs.declared.op.Op.TheVariants.{Create, Mkdir, Symlink, Store, Setattr, Remove, Rmdir, Rename}
-use Rattle.coda_fid.specs.Fid.{fid_cmp, same_fid}
+use Rattle.coda_fid.specs.Fid.{same_fid}
 use Rattle.coda_fid.specs.Op.{fids_of}
-use Rattle.coda_fid.proofs.Fids.{fids_total, exact_fids, same_fid_is, same_fid_refl}
+use Rattle.coda_fid.proofs.Fids.{fids_total, exact_fids, same_fid_refl}
 use Rattle.coda_tree.specs.declared.node.Node.{Node}
 use Rattle.coda_tree.specs.Slots.{altered}
 use Rattle.coda_tree.specs.Volume.{Nodes, has, IsDirAt}
@@ -23,7 +22,7 @@ use Rattle.coda_walk.specs.Going.{is_listed}
 use Rattle.coda_cache.specs.declared.hold.Hold.{Hold}
 use Rattle.coda_cache.specs.Uses.{latest}
 use Rattle.coda_cache.specs.State.{CacheState, Holds, is_cached, parent_of, parent_held}
-use Rattle.coda_cache.specs.Ways.{is_below, at_or_below}
+use Rattle.coda_cache.specs.Ways.{is_below}
 use Rattle.coda_cache.specs.Keeping.{Agree}
 use Rattle.coda_cache.specs.Steps.{put_in, kept_parent, new_node, taken_out, moved_node, taken_below, taken_from, except_all, dropped, moved_in, under, made_dirty, all_dirty, new_hold, mutated}
 use Rattle.coda_cache.specs.Laws.{IsCache, MayHold, MayGo, MayMutate}
@@ -98,30 +97,37 @@ kept_none (Some hold) parent h = absurd (both_ways _ h refl)
 pub put_kept : (c : CacheState) (f : Fid) (parent : Option Fid) (node : Node) (from : Option ℕ) → IsCache c → MayHold c f parent → IsCache (put_in c f parent node from)
 put_kept c f parent node from k may = (elim (is_cached c f) as (λ b. is_cached c f ≡ b → IsCache n) [
   | true ↦ λ there. record {
-      held = a.held;
-      used = a.used;
-      once = distinct_latest c.recency f k.once;
-      depth = k.depth;
-      parents = λ q p is. still p (k.parents q p (sym (same there q) ∙ is));
-      deeper = λ q p is. k.deeper q p (sym (same there q) ∙ is);
-    }
+    held = a.held;
+    used = a.used;
+    once = distinct_latest c.recency f k.once;
+    depth = k.depth;
+    parents = λ q p is. still p (k.parents q p (sym (same there q) ∙ is));
+    deeper = λ q p is. k.deeper q p (sym (same there q) ∙ is);
+  }
   | false ↦ λ free. begun_kept c n k f parent free a (distinct_latest c.recency f k.once) here others (under_here ∙ kept_none (map.get c.holds f) parent (k.held f ∙ free)) (λ q apart. ap parent_held (get_else fids_total exact_fids c.holds f hold q apart)) may
 ]) refl
   where
     hold : Hold
     hold = record { parent = kept_parent (map.get c.holds f) parent; from = from; dirty = false }
+
     n : CacheState
     n = put_in c f parent node from
+
     a : Agree n.nodes n.holds n.recency
     a = agree_put c.nodes c.holds c.recency (agree_of c k) f node hold
+
     here : is_cached n f ≡ true
     here = ap (λ (o : Option Node). is_some o) (get_here fids_total c.nodes f node)
+
     others : (q : Fid) → q ≢ f → is_cached n q ≡ is_cached c q
     others q apart = ap (λ (o : Option Node). is_some o) (get_else fids_total exact_fids c.nodes f node q apart)
+
     under_here : parent_of n f ≡ kept_parent (map.get c.holds f) parent
     under_here = ap parent_held (get_here fids_total c.holds f hold)
+
     still : (p : Fid) → is_cached c p ≡ true → is_cached n p ≡ true
     still p there = elim (fid_cases p f) [ inl at ↦ ap (is_cached n) at ∙ here | inr apart ↦ others p apart ∙ there ]
+
     same : is_cached c f ≡ true → (q : Fid) → parent_of n q ≡ parent_of c q
     same there q = elim (fid_cases q f) [
       | inl at ↦ ap (parent_of n) at ∙ under_here ∙ kept_there (map.get c.holds f) parent (k.held f ∙ there) ∙ ap (parent_of c) (sym at)
@@ -240,18 +246,23 @@ changed_kept c client rec k may is = subst IsCache (sym (mutated_changed c clien
   where
     gone : List Fid
     gone = taken_below c (taken_out rec.op)
+
     n : Option (Fid × Fid) → CacheState
     n moved = record { size = c.size; nodes = taken_from (applied c.nodes client rec) gone; holds = all_dirty (moved_in moved (taken_from c.holds gone)) (fids_of rec.op); recency = except_all c.recency gone; priorities = c.priorities }
+
     left : IsCache (dropped c gone)
     left = dropped_kept c gone k (taken_may_go c (taken_out rec.op) k)
+
     a : (moved : Option (Fid × Fid)) → moved_node rec.op ≡ moved → Agree (n moved).nodes (n moved).holds (n moved).recency
     a moved e = subst (λ m. Agree (n m).nodes (n m).holds (n m).recency) e (agree_changed c client rec (agree_of c k) is)
+
     same : (moved : Option (Fid × Fid)) (q : Fid) → is_cached (n moved) q ≡ is_cached (dropped c gone) q
     same moved q = ap (λ (o : Option Node). is_some o) (taken_at (applied c.nodes client rec) gone q)
         ∙ (elim (is_listed gone q) as (λ b. is_listed gone q ≡ b → is_some (cond b None (map.get (applied c.nodes client rec) q)) ≡ is_some (cond b None (map.get c.nodes q))) [
           | true ↦ λ _. refl
           | false ↦ λ stays. stays_there c client rec (agree_of c k) is q stays
         ]) refl ∙ sym (ap (λ (o : Option Node). is_some o) (taken_at c.nodes gone q))
+
     go : (moved : Option (Fid × Fid)) → moved_node rec.op ≡ moved → IsCache (n moved)
     go None e = same_parents (dropped c gone) (n None) left (a None e) left.once (same None) (λ q. parent_dirty (taken_from c.holds gone) (fids_of rec.op) q)
     go (Some p) e = moved_kept c (n (Some p)) k gone left (a (Some p) e) left.once (same (Some p)) p.0 p.1 (λ q. parent_dirty (moved_in (Some p) (taken_from c.holds gone)) (fids_of rec.op) q)

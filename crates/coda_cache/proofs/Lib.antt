@@ -11,3 +11,4 @@ pub mod Climbs
 pub mod Kept
 pub mod KeptMore
 pub mod Rightly
+pub mod Removed

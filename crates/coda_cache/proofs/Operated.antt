@@ -1,5 +1,5 @@
 -- What an operation makes of a cache, and that its parts agree then.
-use Rattle.std.proofs.Common.{◌≡◌, ◌≢◌, ℕ, zero, suc, ◌+◌, ◌-◌, Bool, true, false, cond, not, ◌&&◌, ◌||◌, List, [], ◌∷◌, Option, Some, None, is_some, option_map, refl, sym, ap, ◌∙◌, subst, inl, inr, arith}
+use Rattle.std.proofs.Common.{◌≡◌, ◌≢◌, ℕ, zero, suc, Bool, true, false, cond, not, ◌&&◌, ◌||◌, List, [], ◌∷◌, Option, Some, None, is_some, refl, sym, ap, ◌∙◌, subst, inl, inr}
 use Rattle.std.specs.FinMap as map
 use Rattle.std.specs.List.{filter}
 use Rattle.std.proofs.lemmas.Option.{none-some, same_Some}
@@ -7,7 +7,6 @@ use Rattle.std.proofs.lemmas.Bool.{both_ways}
 use Rattle.coda_fid.specs.declared.fid.Fid.{Fid}
 use Rattle.coda_fid.specs.declared.op.Op.{Op}
 use Rattle.coda_fid.specs.declared.op.Record.{Record}
-use Rattle.coda_fid.specs.declared.op.Over.{Over}
 use Rattle.coda_fid.specs.declared.op.Op.TheVariants.{Create, Mkdir, Symlink, Store, Setattr, Remove, Rmdir, Rename}
 use Rattle.coda_fid.specs.Fid.{fid_cmp, same_fid}
 use Rattle.coda_fid.specs.Op.{fids_of}
@@ -215,9 +214,11 @@ mutated_made c client rec dir fid is = go rec.op is (applied c.nodes client rec)
 
 pub mutated_changed : (c : CacheState) (client : ℕ) (rec : Record) → new_node rec.op ≡ None →
     mutated c client rec ≡ record {
-      size = c.size; nodes = taken_from (applied c.nodes client rec) (taken_below c (taken_out rec.op));
+      size = c.size;
+      nodes = taken_from (applied c.nodes client rec) (taken_below c (taken_out rec.op));
       holds = all_dirty (moved_in (moved_node rec.op) (taken_from c.holds (taken_below c (taken_out rec.op)))) (fids_of rec.op);
-      recency = except_all c.recency (taken_below c (taken_out rec.op)); priorities = c.priorities;
+      recency = except_all c.recency (taken_below c (taken_out rec.op));
+      priorities = c.priorities;
     }
 unfolding mutated
 mutated_changed c client rec is = ap (λ (o : Option (Fid × Fid)). dirtied (moved_under (moved_node rec.op) (held_new o (dropped (record c { nodes = applied c.nodes client rec }) (taken_below c (taken_out rec.op))))) (fids_of rec.op)) is
@@ -231,6 +232,7 @@ new_free nodes holds recency op dir fid a is {now} same may = unheld (map.get ho
     unheld : (o : Option Hold) → is_some o ≡ false → o ≡ None
     unheld None h = refl
     unheld (Some hold) h = absurd (both_ways _ h refl)
+
     free : (op : Op) → new_node op ≡ Some (dir, fid) → MayApply now op → map.get now fid ≡ None
     free (Create d name f mode owner) is may = ap (λ (p : Fid × Fid). map.get now p.1) (sym (same_Some _ _ is)) ∙ may.fid_free
     free (Mkdir d name f mode owner) is may = ap (λ (p : Fid × Fid). map.get now p.1) (sym (same_Some _ _ is)) ∙ may.fid_free

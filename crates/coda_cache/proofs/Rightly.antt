@@ -1,6 +1,6 @@
 -- Who goes for a node that is put goes rightly.
 use Rattle.std.specs.Prelude.{◌⊎◌}
-use Rattle.std.proofs.Common.{◌≡◌, ◌≢◌, ℕ, zero, suc, ◌+◌, ◌-◌, ◌<◌, ◌≤◌, Bool, true, false, cond, not, ◌||◌, ◌&&◌, List, [], ◌∷◌, ◌++◌, Option, Some, None, is_some, refl, sym, ap, ◌∙◌, subst, inl, inr, arith, append-nil}
+use Rattle.std.proofs.Common.{◌≡◌, ◌≢◌, ℕ, zero, suc, ◌+◌, ◌-◌, ◌<◌, ◌≤◌, Bool, true, false, cond, not, ◌||◌, ◌&&◌, List, [], ◌∷◌, ◌++◌, Option, Some, None, is_some, refl, sym, ap, ◌∙◌, subst, inl, inr, arith}
 use Rattle.std.specs.Prelude as prelude
 use Rattle.std.specs.Prelude.{if◌then◌else◌, nat_lt, Ok, Err, Result, OnOk}
 use Rattle.std.specs.List.{filter, list_any, AllByRecursion, IsDistinct}
@@ -10,7 +10,7 @@ use Rattle.std.proofs.lemmas.Bool.{both_ways, ltb-false}
 use Rattle.std.proofs.lemmas.List.Folds.{list_any-append}
 use Rattle.std.proofs.lemmas.Option.{none-some, same_Some}
 use Rattle.coda_fid.specs.declared.fid.Fid.{Fid}
-use Rattle.coda_fid.specs.Fid.{fid_cmp, same_fid}
+use Rattle.coda_fid.specs.Fid.{same_fid}
 use Rattle.coda_fid.proofs.Fids.{fids_total, exact_fids, same_fid_is, same_fid_refl}
 use Rattle.coda_tree.specs.declared.node.Node.{Node}
 use Rattle.coda_tree.specs.declared.node.NodeKind.TheVariants.{Link}
@@ -23,12 +23,12 @@ use Rattle.coda_walk.proofs.Goes.{who_goes_rightly}
 use Rattle.coda_cache.specs.declared.hold.Hold.{Hold}
 use Rattle.coda_cache.specs.declared.fault.CacheFault.{CacheFault}
 use Rattle.coda_cache.specs.declared.fault.CacheFault.TheVariants.{CacheFull}
-use Rattle.coda_cache.specs.State.{CacheState, is_cached, is_dirty, parent_of, parent_held, source_of, priority_of, blocks_at}
-use Rattle.coda_cache.specs.Ways.{way_up, way_within, is_below, is_pinned}
+use Rattle.coda_cache.specs.State.{CacheState, is_cached, is_dirty, parent_of, parent_held, blocks_at}
+use Rattle.coda_cache.specs.Ways.{way_up, is_below, is_pinned}
 use Rattle.coda_cache.specs.Steps.{put_in, kept_parent}
-use Rattle.coda_cache.specs.Room.{item_of, items_of, pinned_blocks, way_of, with_ancestors, room_in, item_put, new_item, item_after, items_with, way_from, parent_then, kept_for, more_blocks, is_needed, needed_for, blocks_where, evicted_for}
+use Rattle.coda_cache.specs.Room.{item_of, items_of, pinned_blocks, way_of, with_ancestors, item_put, new_item, item_after, items_with, way_from, parent_then, kept_for, more_blocks, is_needed, needed_for, blocks_where, evicted_for}
 use Rattle.coda_cache.specs.Laws.{IsCache, MayHold}
-use Rattle.coda_cache.proofs.Climbs.{way_by, below_by, child_cached, way_top, way_cached}
+use Rattle.coda_cache.proofs.Climbs.{below_by, way_top, way_cached}
 use Rattle.coda_cache.proofs.Kept.{both_true}
 use Rattle.coda_cache.proofs.KeptMore.{put_kept}
 use Rattle.coda_cache.proofs.Operated.{self_on_way}
@@ -220,6 +220,7 @@ module _ (c : CacheState) (k : IsCache c) where
         kept_is : (o : Option Hold) → is_some o ≡ is_cached c f → parent_held o ≡ parent_of c f → kept_parent o parent ≡ parent_then c f parent
         kept_is None h e = ap (λ b. if b then parent_of c f else parent) h
         kept_is (Some hold) h e = e ∙ ap (λ b. if b then parent_of c f else parent) h
+
         as_put : parent_of (put_in c f parent blank None) g ≡ then_parent g
         as_put = elim (fid_cases g f) [
           | inl at ↦ ap (parent_of (put_in c f parent blank None)) at ∙ ap parent_held (get_here fids_total c.holds f _) ∙ kept_is (map.get c.holds f) (k.held f) refl ∙ sym then_here ∙ ap then_parent (sym at)
@@ -356,15 +357,19 @@ module _ (c : CacheState) (k : IsCache c) (f : Fid) (parent : Option Fid) (block
     where
       fid_is : (g : Fid) → ((cached_item c f blocks) g).fid ≡ g
       fid_is g = elim (same_fid g f) as (λ b. (cond b (item_put blocks (item_of c g)) (item_of c g)).fid ≡ g) [ true ↦ refl | false ↦ refl ]
+
       parent_is : (g : Fid) → ((cached_item c f blocks) g).parent ≡ cond (same_fid g f) (parent_then c f parent) (parent_of c g)
       parent_is g = (elim (same_fid g f) as (λ b. same_fid g f ≡ b → (cond b (item_put blocks (item_of c g)) (item_of c g)).parent ≡ cond b (parent_then c f parent) (parent_of c g)) [
         | true ↦ λ e. ap (parent_of c) (same_fid_is g f e) ∙ sym (ap (λ b. if b then parent_of c f else parent) there)
         | false ↦ λ _. refl
       ]) refl
+
       pinned_is : (g : Fid) → ((cached_item c f blocks) g).pinned ≡ is_pinned c g
       pinned_is g = elim (same_fid g f) as (λ b. (cond b (item_put blocks (item_of c g)) (item_of c g)).pinned ≡ is_pinned c g) [ true ↦ refl | false ↦ refl ]
+
       blocks_here : ((cached_item c f blocks) f).blocks ≡ blocks
       blocks_here = ap (λ b. (cond b (item_put blocks (item_of c f)) (item_of c f)).blocks) (same_fid_refl f)
+
       blocks_else : (g : Fid) → g ≢ f → ((cached_item c f blocks) g).blocks ≡ blocks_at c g
       blocks_else g apart = ap (λ b. (cond b (item_put blocks (item_of c g)) (item_of c g)).blocks) (not_same g f apart)
 
@@ -384,22 +389,28 @@ module _ (c : CacheState) (k : IsCache c) (f : Fid) (parent : Option Fid) (block
     where
       item_here : (other_item c f parent blocks) f ≡ new_item c f parent blocks
       item_here = ap (λ b. cond b (new_item c f parent blocks) (item_of c f)) (same_fid_refl f)
+
       item_else : (g : Fid) → g ≢ f → (other_item c f parent blocks) g ≡ item_of c g
       item_else g apart = ap (λ b. cond b (new_item c f parent blocks) (item_of c g)) (not_same g f apart)
+
       fid_is : (g : Fid) → ((other_item c f parent blocks) g).fid ≡ g
       fid_is g = (elim (same_fid g f) as (λ b. same_fid g f ≡ b → (cond b (new_item c f parent blocks) (item_of c g)).fid ≡ g) [ true ↦ λ e. sym (same_fid_is g f e) | false ↦ λ _. refl ]) refl
+
       parent_is : (g : Fid) → ((other_item c f parent blocks) g).parent ≡ cond (same_fid g f) (parent_then c f parent) (parent_of c g)
       parent_is g = elim (same_fid g f) as (λ b. (cond b (new_item c f parent blocks) (item_of c g)).parent ≡ cond b (parent_then c f parent) (parent_of c g)) [
         | true ↦ sym (ap (λ b. if b then parent_of c f else parent) free)
         | false ↦ refl
       ]
+
       pinned_is : (g : Fid) → ((other_item c f parent blocks) g).pinned ≡ is_pinned c g
       pinned_is g = (elim (same_fid g f) as (λ b. same_fid g f ≡ b → (cond b (new_item c f parent blocks) (item_of c g)).pinned ≡ is_pinned c g) [
         | true ↦ λ e. sym (ap (is_pinned c) (same_fid_is g f e) ∙ not_pinned free)
         | false ↦ λ _. refl
       ]) refl
+
       blocks_here : ((other_item c f parent blocks) f).blocks ≡ blocks
       blocks_here = ap (λ (i : Item). i.blocks) item_here
+
       blocks_else : (g : Fid) → g ≢ f → ((other_item c f parent blocks) g).blocks ≡ blocks_at c g
       blocks_else g apart = ap (λ (i : Item). i.blocks) (item_else g apart)
 

@@ -1,11 +1,11 @@
 -- What is left of maps and of the order of use when fids are taken out.
-use Rattle.std.proofs.Common.{◌≡◌, ◌≢◌, ℕ, zero, suc, ◌<◌, Bool, true, false, cond, not, ◌&&◌, ◌||◌, List, [], ◌∷◌, Option, Some, None, is_some, length, take, refl, sym, ap, ◌∙◌, inl, inr, arith}
+use Rattle.std.proofs.Common.{◌≡◌, ℕ, zero, suc, ◌<◌, Bool, true, false, cond, not, ◌&&◌, ◌||◌, List, [], ◌∷◌, Option, None, length, take, refl, sym, ap, ◌∙◌, inl, inr, arith}
 use Rattle.std.specs.Prelude.{slice_index_or}
 use Rattle.std.specs.FinMap as map
 use Rattle.std.specs.FinMap.{FinMap}
 use Rattle.coda_fid.specs.declared.fid.Fid.{Fid}
 use Rattle.coda_fid.specs.Fid.{fid_cmp, same_fid}
-use Rattle.coda_fid.proofs.Fids.{fids_total, exact_fids, same_fid_is, same_fid_refl}
+use Rattle.coda_fid.proofs.Fids.{fids_total, exact_fids, same_fid_refl}
 use Rattle.coda_tree.specs.Volume.{Nodes}
 use Rattle.coda_tree.proofs.Order.{fid_cases, gone_here, gone_else}
 use Rattle.coda_tree.proofs.Keyed.{not_same}

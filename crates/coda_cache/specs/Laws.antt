@@ -1,5 +1,5 @@
 -- What a cache is, and that with it room is made rightly.
-use Rattle.std.specs.Prelude.{◌≡◌, ℕ, ◌<◌, true, false, Option, Some, None, List}
+use Rattle.std.specs.Prelude.{◌≡◌, ℕ, ◌<◌, true, false, Option, Some, List}
 use Rattle.std.specs.List.{IsDistinct}
 use Rattle.std.specs.FinMap as map
 use Rattle.coda_fid.specs.declared.fid.Fid.{Fid}
@@ -9,7 +9,7 @@ use Rattle.coda_certify.specs.Replay.{MayApply}
 use Rattle.coda_walk.specs.Going.{is_listed}
 use Rattle.coda_cache.specs.State.{CacheState, is_cached, parent_of}
 use Rattle.coda_cache.specs.Ways.{is_below}
-use Rattle.coda_cache.specs.Steps.{new_node, taken_out, moved_node}
+use Rattle.coda_cache.specs.Steps.{taken_out, moved_node}
 
 -- Each node has a hold, and its fid stands once in the order of use, and nothing else has; the parent of each is cached,
 -- and stands less deep.

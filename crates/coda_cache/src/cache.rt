@@ -16,11 +16,11 @@ ghost use Rattle.coda_tree.specs.Blocks.{blocks_of};
 ghost use Rattle.coda_cache.specs.Steps.{used, invalidated, invalidated_from, pinned_to, pinned_in, put_in, without, kept_parent, dropped};
 
 use crate::holds::HoldTable;
+use crate::nodes::NodeMap;
 use crate::operating::take_out_all;
 use crate::priorities::PriorityTable;
 use crate::{CacheFault, CacheRow, Hold, Recency, room};
 use coda_fid::Fid;
-use crate::nodes::NodeMap;
 use coda_tree::Node;
 use coda_walk::{Item, who_goes};
 use std::alloc::{AllocError, Global};
@@ -601,7 +601,9 @@ impl Cache {
     {
         match self.going_for(fid, parent, blocks, keep)? {
             Ok(gone) => Ok(gone),
-            Err((pinned, needed)) => { Err(CacheFault::CacheFull(pinned, needed, self.size as u64)) }
+            Err((pinned, needed)) => {
+                Err(CacheFault::CacheFull(pinned, needed, self.size as u64))
+            }
         }
     }
 

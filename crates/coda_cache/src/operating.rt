@@ -5,7 +5,7 @@ ghost use Rattle.coda_walk.specs.Going.{is_listed};
 ghost use Rattle.coda_certify.specs.Replay.{MayApply};
 ghost use Rattle.coda_cache.specs.State.{AreSmall};
 ghost use Rattle.coda_cache.specs.Uses.{latest};
-ghost use Rattle.coda_cache.specs.Steps.{new_node, taken_out, moved_node, taken_below, taken_from, except_all, moved_in, all_dirty, mutated};
+ghost use Rattle.coda_cache.specs.Steps.{new_node, taken_out, moved_node, taken_below, taken_from, except_all, moved_in, all_dirty, mutated, removed};
 
 use crate::applying::apply;
 use crate::holds::HoldTable;
@@ -220,5 +220,12 @@ impl Cache {
             Some((dir, fid)) => self.create(dir, fid, client, rec),
             None => self.change(client, rec),
         }
+    }
+
+    /// Takes out a node and what is cached below it. Takes no memory.
+    pub fn remove(&mut self, fid: Fid)
+        ensures { self.new ≡ removed self.old fid }
+    {
+        self.holds.remove(&mut self.nodes, &mut self.recency, fid);
     }
 }

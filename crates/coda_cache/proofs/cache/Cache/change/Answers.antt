@@ -1,10 +1,7 @@
-use Rattle.std.proofs.Common.{◌≡◌, Option, List, sym, ap, ◌∙◌}
-use Rattle.coda_fid.specs.declared.fid.Fid.{Fid}
+use Rattle.std.proofs.Common.{◌≡◌, sym, ap, ◌∙◌}
 use Rattle.coda_fid.specs.Op.{fids_of}
-use Rattle.coda_tree.specs.Volume.{Nodes}
-use Rattle.coda_certify.specs.Replay.{applied}
 use Rattle.coda_cache.specs.State.{CacheState, Holds}
-use Rattle.coda_cache.specs.Steps.{taken_out, moved_node, taken_below, taken_from, except_all, moved_in, all_dirty, mutated}
+use Rattle.coda_cache.specs.Steps.{taken_out, taken_below, taken_from, except_all, moved_in, all_dirty, mutated}
 use Rattle.coda_cache.proofs.Agreeing.{agree_same}
 use Rattle.coda_cache.proofs.Operated.{agree_changed, mutated_changed}
 use Rattle.coda_cache.proofs.Small.{small_same}
