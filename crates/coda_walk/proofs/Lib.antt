@@ -7,3 +7,4 @@ pub mod Choices
 pub mod Orders
 pub mod Loops
 pub mod Balance
+pub mod Firsts

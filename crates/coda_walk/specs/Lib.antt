@@ -4,3 +4,4 @@ pub mod Planning
 pub mod Plannable
 pub mod Climbing
 pub mod Equilibrium
+pub mod Turns

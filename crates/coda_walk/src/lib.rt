@@ -13,7 +13,7 @@ mod taking;
 mod tests;
 
 pub use item::Item;
-pub use law::{plans_are_in_equilibrium, who_goes_is_right};
+pub use law::{plans_are_in_equilibrium, they_go_in_turn, who_goes_is_right};
 pub use planned::Plan;
 pub use planning::plan;
 pub use room::who_goes;
