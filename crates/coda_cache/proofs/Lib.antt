@@ -12,3 +12,4 @@ pub mod Kept
 pub mod KeptMore
 pub mod Rightly
 pub mod Removed
+pub mod Walked

@@ -107,11 +107,11 @@ way_is c (suc n) f = elim (parent_of c f) as (λ o. (f ∷ option_map_or (λ p. 
 taken_same : {X : Type 0} (m : FinMap fid_cmp X) (a b : List Fid) → ((q : Fid) → is_listed a q ≡ is_listed b q) → taken_from m a ≡ taken_from m b
 taken_same m a b same = map.same_map fids_total exact_fids _ _ (λ q. taken_at m a q ∙ ap (λ x. cond x None (map.get m q)) (same q) ∙ sym (taken_at m b q))
 
-filter_all : (fids : List Fid) → filter (λ (_ : Fid). true) fids ≡ fids
+pub filter_all : (fids : List Fid) → filter (λ (_ : Fid). true) fids ≡ fids
 filter_all [] = refl
 filter_all (g ∷ fids) = ap (λ l. g ∷ l) (filter_all fids)
 
-filter_twice : (one other both : Fid → Bool) (fids : List Fid) → ((g : Fid) → (one g && other g) ≡ both g) → filter other (filter one fids) ≡ filter both fids
+pub filter_twice : (one other both : Fid → Bool) (fids : List Fid) → ((g : Fid) → (one g && other g) ≡ both g) → filter other (filter one fids) ≡ filter both fids
 filter_twice one other both [] same = refl
 filter_twice one other both (g ∷ fids) same = (elim (one g) as (λ b. (b && other g) ≡ both g → filter other (cond b (g ∷ filter one fids) (filter one fids)) ≡ cond (both g) (g ∷ filter both fids) (filter both fids)) [
   | true ↦ λ e. (λ i. cond (e i) (g ∷ filter_twice one other both fids same i) (filter_twice one other both fids same i))

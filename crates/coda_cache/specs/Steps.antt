@@ -18,7 +18,7 @@ use Rattle.coda_certify.specs.Replay.{applied}
 use Rattle.coda_cache.specs.declared.hold.Hold.{Hold}
 use Rattle.coda_cache.specs.Uses.{latest, except}
 use Rattle.coda_walk.specs.Going.{is_listed}
-use Rattle.coda_cache.specs.State.{CacheState, Holds, is_cached}
+use Rattle.coda_cache.specs.State.{CacheState, Holds, Priorities, is_cached}
 use Rattle.coda_cache.specs.Ways.{at_or_below}
 
 -- ---- use and validity
@@ -95,13 +95,14 @@ abbrev pub put_all : CacheState → List (Fid × Option Fid × Node × ℕ) → 
 put_all c [] = c
 put_all c (p ∷ puts) = put_all (put_in c p.0 p.1 p.2 (Some p.3)) puts
 
--- the priorities of a walk, without those that are none
-abbrev pub given : List (Fid × ℕ) → FinMap fid_cmp ℕ
-given priorities = map.from_entries (filter (λ e. not (e.1 == 0)) priorities)
+-- the priorities with those that a walk gave, without those that are none; of two for one node the later counts
+abbrev pub given_to : Priorities → List (Fid × ℕ) → Priorities
+given_to priorities [] = priorities
+given_to priorities (e ∷ of) = given_to (if e.1 == 0 then priorities else map.insert priorities e.0 e.1) of
 
 -- the cache after a walk
 abbrev pub walked : CacheState → List (Fid × Option Fid × Node × ℕ) → List (Fid × ℕ) → CacheState
-walked c puts priorities = record (put_all c puts) { priorities = given priorities }
+walked c puts of = record (put_all c puts) { priorities = given_to map.empty of }
 
 -- ---- taking out
 

@@ -1,4 +1,4 @@
-ghost use Rattle.std.specs.Prelude.{◌≡◌, ◌⊎◌, ℕ, Ok, Err, MatchResult, ◌<◌, ◌^◌, true, false, Some, None, IfOk, OnOk, OnErr, IfErr, IsSomeAnd, option_copied, is_some, List, [], ◌∷◌, ◌||◌, ◌&&◌, ◌++◌};
+ghost use Rattle.std.specs.Prelude.{◌≡◌, Option, ◌⊎◌, ℕ, Ok, Err, MatchResult, ◌<◌, ◌^◌, true, false, Some, None, IfOk, OnOk, OnErr, IfErr, option_copied, is_some, List, [], ◌∷◌, ◌||◌, ◌&&◌, ◌++◌};
 ghost use Rattle.std.specs.Prelude as prelude;
 ghost use Rattle.std.specs.FinMap as map;
 ghost use Rattle.std.specs.BTreeSet as btree;
@@ -273,29 +273,23 @@ impl Cache {
         ensures ok { OnOk result (self.new ≡ put_in self.old fid parent node from) }
         ensures err { OnErr result (self.new ≡ self.old) }
     {
-        match self.holds.get(fid) {
-            Some(hold) => self.renew(fid, hold.parent, node, from),
-            None => self.begin(fid, parent, node, from),
+        if self.contains(fid) {
+            self.renew(fid, node, from);
+            Ok(())
+        } else {
+            self.begin(fid, parent, node, from)
         }
     }
 
-    // Puts a node in the place of a cached one.
-    fn renew(
-        &mut self,
-        fid: Fid,
-        parent: Option<Fid>,
-        node: Node,
-        from: Option<u8>,
-    ) -> Result<(), AllocError>
-        requires held { IsSomeAnd (map.get self.old.holds fid) (λ hold. hold.parent ≡ parent) }
+    // Puts a node in the place of a cached one. Takes no memory.
+    pub(crate) fn renew(&mut self, fid: Fid, node: Node, from: Option<u8>)
+        requires held { is_cached self.old fid ≡ true }
         requires small { blocks_of node.kind < 2 ^ 32 }
-        ensures ok { OnOk result (self.new ≡ put_in self.old fid parent node from) }
-        ensures err { OnErr result (self.new ≡ self.old) }
+        ensures { (parent : Option Fid) → self.new ≡ put_in self.old fid parent node from }
     {
-        self.nodes.put(fid, node)?;
+        self.nodes.set(fid, node);
         self.holds.renew(fid, from);
         self.recency.touch(fid);
-        Ok(())
     }
 
     // Puts a node that is not cached.
@@ -306,7 +300,7 @@ impl Cache {
         node: Node,
         from: Option<u8>,
     ) -> Result<(), AllocError>
-        requires free { map.get self.old.holds fid ≡ None }
+        requires free { is_cached self.old fid ≡ false }
         requires small { blocks_of node.kind < 2 ^ 32 }
         ensures ok { OnOk result (self.new ≡ put_in self.old fid parent node from) }
         ensures err { OnErr result (self.new ≡ self.old) }

@@ -13,6 +13,7 @@ mod priorities;
 mod recency;
 mod room;
 mod row;
+mod walking;
 
 pub use cache::Cache;
 pub use fault::CacheFault;

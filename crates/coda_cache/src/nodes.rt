@@ -149,6 +149,15 @@ fn set_attributes(nodes: &mut HashMap<Fid, Node>, fid: Fid, attrs: &Attrs, sid: 
     }
 }
 
+// Puts another node in the place of the one at a fid, where there is one.
+fn set(nodes: &mut HashMap<Fid, Node>, fid: Fid, node: Node)
+    ensures { ChangesAt nodes.old nodes.new fid (λ _. node) }
+{
+    if let Some(held) = nodes.get_mut(&fid) {
+        *held = node;
+    }
+}
+
 // Whether two places in directories are one.
 fn is_same_place(from: Fid, name: &Name, to: Fid, new: &Name) -> bool
     ensures { IsTrue result ↔ ((from ≡ to) × (name.now ≡ new.now)) }
@@ -180,6 +189,13 @@ impl NodeMap {
     {
         self.nodes.insert(fid, node)?;
         Ok(())
+    }
+
+    // Puts another node in the place of the one at a fid, where there is one. Takes no memory.
+    pub(crate) fn set(&mut self, fid: Fid, node: Node)
+        ensures { self.new ≡ changed self.old fid (λ _. node) }
+    {
+        set(&mut self.nodes, fid, node);
     }
 
     // Takes out the node at a fid.
