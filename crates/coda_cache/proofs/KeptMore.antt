@@ -24,8 +24,8 @@ use Rattle.coda_cache.specs.Uses.{latest}
 use Rattle.coda_cache.specs.State.{CacheState, Holds, is_cached, parent_of, parent_held}
 use Rattle.coda_cache.specs.Ways.{is_below}
 use Rattle.coda_cache.specs.Keeping.{Agree}
-use Rattle.coda_cache.specs.Steps.{put_in, kept_parent, new_node, taken_out, moved_node, taken_below, taken_from, except_all, dropped, moved_in, under, made_dirty, all_dirty, new_hold, mutated}
-use Rattle.coda_cache.specs.Laws.{IsCache, MayHold, MayGo, MayMutate}
+use Rattle.coda_cache.specs.Steps.{put_in, put_all, walked, kept_parent, new_node, taken_out, moved_node, taken_below, taken_from, except_all, dropped, moved_in, under, made_dirty, all_dirty, new_hold, mutated}
+use Rattle.coda_cache.specs.Laws.{IsCache, MayHold, MayHoldAll, MayGo, MayMutate}
 use Rattle.coda_cache.proofs.Agreeing.{agree_put}
 use Rattle.coda_cache.proofs.Climbs.{below_by, child_cached}
 use Rattle.coda_cache.proofs.Operated.{agree_made, agree_changed, applied_made, mutated_made, mutated_changed, stays_there, self_on_way}
@@ -273,3 +273,12 @@ mutated_kept c client rec k may = (elim (new_node rec.op) as (λ o. new_node rec
   | None ↦ λ is. changed_kept c client rec k may is
   | Some p ↦ λ is. made_kept c client rec p.0 p.1 k may.may is
 ]) refl
+
+-- ---- a walk
+
+put_all_kept : (c : CacheState) (puts : List (Fid × Option Fid × Node × ℕ)) → IsCache c → MayHoldAll c puts → IsCache (put_all c puts)
+put_all_kept c [] k may = k
+put_all_kept c (p ∷ puts) k may = put_all_kept (put_in c p.0 p.1 p.2 (Some p.3)) puts (put_kept c p.0 p.1 p.2 (Some p.3) k may.0) may.1
+
+pub walked_kept : (c : CacheState) (puts : List (Fid × Option Fid × Node × ℕ)) (of : List (Fid × ℕ)) → IsCache c → MayHoldAll c puts → IsCache (walked c puts of)
+walked_kept c puts of k may = let all = put_all_kept c puts k may in record { held = all.held; used = all.used; once = all.once; depth = all.depth; parents = all.parents; deeper = all.deeper }

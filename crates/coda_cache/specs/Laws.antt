@@ -1,15 +1,16 @@
 -- What a cache is, and that with it room is made rightly.
-use Rattle.std.specs.Prelude.{◌≡◌, ℕ, ◌<◌, true, false, Option, Some, List}
+use Rattle.std.specs.Prelude.{◌≡◌, ℕ, ◌<◌, true, false, Option, Some, List, [], ◌∷◌}
 use Rattle.std.specs.List.{IsDistinct}
 use Rattle.std.specs.FinMap as map
 use Rattle.coda_fid.specs.declared.fid.Fid.{Fid}
 use Rattle.coda_fid.specs.declared.op.Op.{Op}
 use Rattle.coda_fid.specs.Fid.{same_fid}
+use Rattle.coda_tree.specs.declared.node.Node.{Node}
 use Rattle.coda_certify.specs.Replay.{MayApply}
 use Rattle.coda_walk.specs.Going.{is_listed}
 use Rattle.coda_cache.specs.State.{CacheState, is_cached, parent_of}
 use Rattle.coda_cache.specs.Ways.{is_below}
-use Rattle.coda_cache.specs.Steps.{taken_out, moved_node}
+use Rattle.coda_cache.specs.Steps.{put_in, taken_out, moved_node}
 
 -- Each node has a hold, and its fid stands once in the order of use, and nothing else has; the parent of each is cached,
 -- and stands less deep.
@@ -36,3 +37,8 @@ pub record MayMutate (c : CacheState) (op : Op) : Type 0 where
   pub may : MayApply c.nodes op
   pub apart : (f dir : Fid) → moved_node op ≡ Some (f, dir) → is_below c dir f ≡ false
   pub stays : (f dir gone : Fid) → moved_node op ≡ Some (f, dir) → taken_out op ≡ Some gone → is_below c dir gone ≡ false
+
+-- nodes may be put in turn
+abbrev pub MayHoldAll : CacheState → List (Fid × Option Fid × Node × ℕ) → Type 0
+MayHoldAll c [] = Unit {0}
+MayHoldAll c (p ∷ puts) = MayHold c p.0 p.1 × MayHoldAll (put_in c p.0 p.1 p.2 (Some p.3)) puts

@@ -1,9 +1,8 @@
--- Who goes from a cache for a node or after an operation, and when that cannot make room.
+-- Who goes from a cache for a node, and when that cannot make room.
 use Rattle.std.specs.Prelude.{ℕ, ◌+◌, ◌-◌, Bool, true, false, not, ◌&&◌, ◌||◌, nat_lt, cond, is_some, if◌then◌else◌, List, [], ◌∷◌, ◌++◌, Option, Some, None, Result, Ok, Err}
 use Rattle.std.specs.Prelude as prelude
 use Rattle.std.specs.List.{filter}
 use Rattle.coda_fid.specs.declared.fid.Fid.{Fid}
-use Rattle.coda_fid.specs.declared.op.Record.{Record}
 use Rattle.coda_fid.specs.Fid.{same_fid}
 use Rattle.coda_walk.specs.declared.item.Item.{Item}
 use Rattle.coda_walk.specs.Going.{who_goes}
@@ -13,7 +12,6 @@ use Rattle.coda_cache.specs.declared.fault.CacheFault.TheVariants.{CacheFull}
 use Rattle.coda_walk.specs.Going.{is_listed}
 use Rattle.coda_cache.specs.State.{CacheState, is_cached, parent_of, source_of, is_dirty, priority_of, blocks_at}
 use Rattle.coda_cache.specs.Ways.{way_up, is_pinned}
-use Rattle.coda_cache.specs.Steps.{mutated, pinned_in}
 
 -- what a plan has to know of a cached node
 abbrev pub item_of : CacheState → Fid → Item
@@ -30,10 +28,6 @@ blocks_where test items = going.blocks_of (filter test items)
 -- the blocks of pinned nodes
 abbrev pub pinned_blocks : List Item → ℕ
 pinned_blocks items = blocks_where (λ i. i.pinned) items
-
--- the blocks of those among the fids that are not pinned
-abbrev pub further_blocks : List Fid → List Item → ℕ
-further_blocks kept items = blocks_where (λ i. not i.pinned && is_listed kept i.fid) items
 
 -- a node and what is above it, where it is cached
 abbrev pub way_of : CacheState → Fid → List Fid
@@ -94,20 +88,3 @@ needed_for c f parent blocks keep = more_blocks c f blocks + blocks_where (is_ne
 -- Who goes for a node of so many blocks that is put, or why it can't be.
 unfoldable pub evicted_for : CacheState → Fid → Option Fid → ℕ → List Fid → Result (List Fid) CacheFault
 evicted_for c f parent blocks keep = room_in c.size (pinned_blocks (items_of c)) (needed_for c f parent blocks keep) (kept_for c f parent keep) (items_with c f parent blocks)
-
--- ---- after an operation
-
--- the cache after an operation on a volume, whose log then mentions these
-abbrev pub operated : CacheState → ℕ → ℕ → Record → List Fid → CacheState
-operated c client volume rec mentioned = pinned_in (mutated c client rec) volume mentioned
-
--- the same as items
-abbrev pub items_operated : CacheState → ℕ → ℕ → Record → List Fid → List Item
-items_operated c client volume rec mentioned = items_of (operated c client volume rec mentioned)
-
--- Who goes after an operation that looked up nodes, or why it can't be done: what stays is pinned after it, or was looked up
--- or above that before it.
-unfoldable pub evicted_after : CacheState → ℕ → ℕ → Record → List Fid → List Fid → Result (List Fid) CacheFault
-evicted_after c client volume rec mentioned looked_up =
-    room_in c.size (pinned_blocks (items_operated c client volume rec mentioned)) (further_blocks (with_ancestors c looked_up) (items_operated c client volume rec mentioned)) (with_ancestors c looked_up)
-    (items_operated c client volume rec mentioned)

@@ -3,10 +3,10 @@ ghost use Rattle.coda_fid.specs.declared.fid.Fid.{Fid};
 ghost use Rattle.coda_fid.specs.declared.op.Record.{Record};
 ghost use Rattle.coda_tree.specs.declared.node.Node.{Node};
 ghost use Rattle.coda_cache.specs.State.{CacheState, empty_cache};
-ghost use Rattle.coda_cache.specs.Steps.{used, invalidated, invalidated_from, pinned_to, pinned_in, put_in, dropped, removed, mutated};
+ghost use Rattle.coda_cache.specs.Steps.{used, invalidated, invalidated_from, pinned_to, pinned_in, put_in, walked, dropped, removed, mutated};
 ghost use Rattle.coda_walk.specs.Laws.{GoRightly};
 ghost use Rattle.coda_cache.specs.Room.{evicted_for, items_with, kept_for};
-ghost use Rattle.coda_cache.specs.Laws.{IsCache, MayHold, MayGo, MayMutate};
+ghost use Rattle.coda_cache.specs.Laws.{IsCache, MayHold, MayHoldAll, MayGo, MayMutate};
 
 /// Each step of a cache leaves a cache: its nodes are held, stand once in the order of use, and have parents that are cached
 /// and less deep. A node is put under a parent that is cached; nodes go with what is below them; and a client moves no
@@ -19,6 +19,7 @@ pub fn steps_keep_caches()
     ensures pinned_to { (c : CacheState) (fids : List Fid) → IsCache c → IsCache (pinned_to c fids) }
     ensures pinned_in { (c : CacheState) (volume : ℕ) (fids : List Fid) → IsCache c → IsCache (pinned_in c volume fids) }
     ensures put { (c : CacheState) (f : Fid) (parent : Option Fid) (node : Node) (from : Option ℕ) → IsCache c → MayHold c f parent → IsCache (put_in c f parent node from) }
+    ensures walked { (c : CacheState) (puts : List (Fid × Option Fid × Node × ℕ)) (of : List (Fid × ℕ)) → IsCache c → MayHoldAll c puts → IsCache (walked c puts of) }
     ensures dropped { (c : CacheState) (fids : List Fid) → IsCache c → MayGo c fids → IsCache (dropped c fids) }
     ensures removed { (c : CacheState) (f : Fid) → IsCache c → IsCache (removed c f) }
     ensures mutated { (c : CacheState) (client : ℕ) (rec : Record) → IsCache c → MayMutate c rec.op → IsCache (mutated c client rec) }

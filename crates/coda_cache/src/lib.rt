@@ -13,6 +13,8 @@ mod priorities;
 mod recency;
 mod room;
 mod row;
+#[cfg(test)]
+mod tests;
 mod walking;
 
 pub use cache::Cache;

@@ -31,3 +31,6 @@ returns-clause-removed c = λ s f k. kept.removed_kept s f k
 
 pub returns-clause-mutated : goal.returns-clause-mutated
 returns-clause-mutated c = λ s client rec k may. more.mutated_kept s client rec k may
+
+pub returns-clause-walked : goal.returns-clause-walked
+returns-clause-walked c = λ s puts of k may. more.walked_kept s puts of k may
