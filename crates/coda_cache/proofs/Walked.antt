@@ -9,7 +9,6 @@ use Rattle.coda_fid.specs.declared.fid.Fid.{Fid}
 use Rattle.coda_fid.specs.Fid.{fid_cmp, same_fid}
 use Rattle.coda_fid.proofs.Fids.{fids_total, exact_fids, same_fid_is, same_fid_refl}
 use Rattle.coda_tree.specs.declared.node.Node.{Node}
-use Rattle.coda_tree.specs.Volume.{Nodes, has}
 use Rattle.coda_tree.proofs.Order.{fid_cases, get_here, get_else, gone_here, gone_else, insert_removed}
 use Rattle.coda_tree.proofs.Keyed.{not_same}
 use Rattle.coda_walk.specs.Going.{is_listed}
@@ -19,7 +18,7 @@ use Rattle.coda_cache.specs.State.{CacheState, Priorities, is_cached}
 use Rattle.coda_cache.specs.Keeping.{Agree}
 use Rattle.coda_cache.specs.Steps.{kept_parent, put_in, put_all, given_to, without}
 use Rattle.coda_cache.specs.Walking.{blank, begun, begun_all, undone, AreCached}
-use Rattle.coda_cache.proofs.Agreeing.{agree_put, forgotten, except_here}
+use Rattle.coda_cache.proofs.Agreeing.{agree_put, forgotten}
 use Rattle.coda_cache.proofs.Uses.{filter_joined, all_but_none, same_turned}
 use Rattle.coda_cache.proofs.Removed.{filter_twice, filter_all}
 
@@ -87,12 +86,16 @@ alike_put a b p puts r = record {
   where
     held : CacheState → Hold
     held c = record { parent = kept_parent (map.get c.holds p.0) p.1; from = Some p.3; dirty = false }
+
     apart_from : (q : Fid) → q ≢ p.0 → is_listed (fids_put puts) q ≡ false → is_listed (fids_put (p ∷ puts)) q ≡ false
     apart_from q apart other = ap (λ t. t || is_listed (fids_put puts) q) (not_same p.0 q (λ same. apart (sym same))) ∙ other
+
     first : given_first (p ∷ puts) p.0 ≡ p.1
     first = ap (λ t. cond t p.1 (given_first puts p.0)) (same_fid_refl p.0)
+
     same_held : held a ≡ held b
     same_held = λ i. record { parent = ((λ j. kept_parent (map.get a.holds p.0) (sym first j)) ∙ r.parents p.0 ∙ (λ j. kept_parent (map.get b.holds p.0) (first j))) i; from = Some p.3; dirty = false }
+
     here : (q : Fid) → q ≡ p.0 → map.get (map.insert a.holds p.0 (held a)) q ≡ map.get (map.insert b.holds p.0 (held b)) q
     here q at = ap (map.get (map.insert a.holds p.0 (held a))) at ∙ get_here fids_total a.holds p.0 (held a) ∙ ap Some same_held ∙ sym (ap (map.get (map.insert b.holds p.0 (held b))) at ∙ get_here fids_total b.holds p.0 (held b))
 
@@ -152,6 +155,7 @@ blank_alike a b puts f parent agree free listed given r = record {
   where
     held : Hold
     held = record { parent = kept_parent (map.get b.holds f) parent; from = None; dirty = false }
+
     differs : (q : Fid) → is_listed (fids_put puts) q ≡ false → q ≢ f
     differs q other same = both_ways _ other (ap (is_listed (fids_put puts)) same ∙ listed)
 

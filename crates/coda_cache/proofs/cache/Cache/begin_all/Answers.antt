@@ -1,5 +1,4 @@
-use Rattle.std.proofs.Common.{◌≡◌, take, sym, ap, ◌∙◌, add-one}
-use Rattle.coda_cache.specs.State.{CacheState}
+use Rattle.std.proofs.Common.{take, sym, ap, ◌∙◌, add-one}
 use Rattle.coda_cache.specs.Walking.{begun, begun_all}
 use Rattle.coda_cache.proofs.Walked.{begun_more}
 use Rattle.coda_cache.proofs.cache.Cache.begin_all.Goals as goal

@@ -1,4 +1,4 @@
-use Rattle.std.proofs.Common.{◌≡◌, None, Option, Result, OnOk, OnErr, List, [], ◌∷◌, ◌++◌, false, ap, ◌∙◌, subst}
+use Rattle.std.proofs.Common.{◌≡◌, None, Option, Result, OnOk, OnErr, false, ap, ◌∙◌, subst}
 use Rattle.std.specs.Prelude.{Ok, Err}
 use Rattle.std.specs.declared.alloc.AllocError.{AllocError}
 use Rattle.coda_fid.specs.declared.fid.Fid.{Fid}

@@ -1,6 +1,6 @@
-use Rattle.std.proofs.Common.{◌≡◌, Some, List, ◌∷◌, sym, ap, ◌∙◌, subst}
+use Rattle.std.proofs.Common.{Some, List, sym, ap, ◌∙◌, subst}
 use Rattle.coda_cache.specs.State.{CacheState}
-use Rattle.coda_cache.specs.Steps.{put_all, put_in}
+use Rattle.coda_cache.specs.Steps.{put_all}
 use Rattle.coda_cache.specs.Walking.{AreCached, AreCounted}
 use Rattle.coda_cache.proofs.Walked.{Put, are_still_cached}
 use Rattle.coda_cache.proofs.cache.Cache.put_each.Goals as goal

@@ -1,7 +1,7 @@
 use Rattle.std.proofs.Common.{◌≡◌, List, sym, ap, ◌∙◌, subst}
-use Rattle.coda_cache.specs.State.{CacheState, Priorities}
+use Rattle.coda_cache.specs.State.{CacheState}
 use Rattle.coda_cache.specs.Keeping.{Agree}
-use Rattle.coda_cache.specs.Steps.{put_all, walked}
+use Rattle.coda_cache.specs.Steps.{put_all}
 use Rattle.coda_cache.specs.Walking.{AreCached, begun_all}
 use Rattle.coda_cache.proofs.Walked.{Put, all_cached, put_after_blanks}
 use Rattle.coda_cache.proofs.cache.Cache.put_walk.Goals as goal

@@ -1,5 +1,4 @@
-use Rattle.std.proofs.Common.{◌≡◌, ◌+◌, List, sym, ap, ◌∙◌, arith}
-use Rattle.coda_fid.specs.declared.fid.Fid.{Fid}
+use Rattle.std.proofs.Common.{sym, ap, ◌∙◌, arith}
 use Rattle.coda_cache.specs.State.{CacheState}
 use Rattle.coda_cache.specs.Walking.{undone}
 use Rattle.coda_cache.proofs.Walked.{undone_last}
