@@ -1,0 +1,16 @@
+mod Lists
+mod Alike
+mod Names
+mod Again
+mod Twice
+mod Whole
+mod There
+mod Logged
+mod Once
+mod Apart
+mod Trees
+mod Walk
+mod Complete
+mod Leaders
+mod Past
+mod Settled

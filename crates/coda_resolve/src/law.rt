@@ -1,0 +1,70 @@
+ghost use Rattle.coda_resolve.specs.Settled.{ResolvedAreEqualOrMarked, ResolvedStay, MarkedStay};
+ghost use Rattle.coda_resolve.specs.Resolution.{TakenUpAreEqualOrMarked, SecondChangesNothing};
+ghost use Rattle.coda_resolve.specs.Placement.{SettledBindApart, SettledBindAlone, LeadersHaveAll};
+ghost use Rattle.coda_resolve.specs.Trees.{TreesStayTrees};
+ghost use Rattle.coda_resolve.specs.Past.{RecalledAreOfOneHistory};
+ghost use Rattle.coda_resolve.specs.Outcome.{WalkIsTakenUp};
+
+/// A law of resolution: an object that some replica has is the same at all replicas after its
+/// resolution, or marked at all of them (Kumar and Satyanarayanan 1993).
+pub fn resolved_are_equal_or_marked()
+    ensures { ResolvedAreEqualOrMarked }
+{}
+
+/// A law of resolution: what is the same at all replicas after a resolution stays so in the next one,
+/// where an object is a directory at all replicas or at none.
+pub fn resolved_stay()
+    ensures { ResolvedStay }
+{}
+
+/// A law of resolution: what is marked after a resolution stays as each replica has it in the next one,
+/// which makes no new mark.
+pub fn marked_stay()
+    ensures { MarkedStay }
+{}
+
+/// A law of resolution: each object that a resolution takes up is then the same at all replicas, or
+/// marked at all of them (Kumar and Satyanarayanan 1993).
+pub fn taken_up_are_equal_or_marked()
+    ensures { TakenUpAreEqualOrMarked }
+{}
+
+/// A law of resolution: a second one right after the first takes up no other objects, touches none of
+/// them and makes no new mark.
+pub fn second_changes_nothing()
+    ensures { SecondChangesNothing }
+{}
+
+/// A law of resolution: of replicas of one history, no two directories that are the same everywhere
+/// after a resolution bind one object.
+pub fn settled_bind_apart()
+    ensures { SettledBindApart }
+{}
+
+/// A law of resolution: no replica of one history binds an object in another directory than the one that
+/// is the same everywhere after the resolution and binds it.
+pub fn settled_bind_alone()
+    ensures { SettledBindAlone }
+{}
+
+/// A law of resolution: each replica of one history is a tree again after a resolution.
+pub fn trees_stay_trees()
+    ensures { TreesStayTrees }
+{}
+
+/// A law of resolution: the walk in path order meets nothing but what is taken up, and of replicas of one history all of it.
+pub fn walk_is_taken_up()
+    ensures { WalkIsTakenUp }
+{}
+
+/// A law of resolution: replicas that are placed, and remember what took out what they lost, are of one
+/// history.
+pub fn recalled_are_of_one_history()
+    ensures { RecalledAreOfOneHistory }
+{}
+
+/// A law of resolution: the missing updates of a kind that a copy has contain every other copy's just where
+/// it has all of them.
+pub fn leaders_have_all()
+    ensures { LeadersHaveAll }
+{}
