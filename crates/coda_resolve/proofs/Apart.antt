@@ -19,7 +19,7 @@ use Rattle.coda_resolve.specs.Merged.{attributes_of, merged_bindings}
 use Rattle.coda_resolve.specs.Causes.{is_cross_kind, cause}
 use Rattle.coda_resolve.specs.Settling.{Same, dominating, fate_by, fate_from, fate}
 use Rattle.coda_resolve.specs.Settled.{is_dir, HasKind, AreOneKind}
-use Rattle.coda_resolve.specs.Resolution.{View, Views, copies_at, fate_at, IsTakenUp, child_in}
+use Rattle.coda_resolve.specs.Resolution.{Objects, Replicas, copies_at, fate_at, IsTakenUp, child_in}
 use Rattle.coda_resolve.specs.Placement.{SomeOf, IsIn, IsCrossApart, ArePartedCopies, AreOfOneHistory}
 use Rattle.coda_resolve.proofs.Lists.{some_none}
 use Rattle.coda_resolve.proofs.Again.{unmarked, no_cross}
@@ -84,7 +84,7 @@ merged_of copies look held n f kinds e is = by_lowest (first_some copies) refl e
 
 -- ---- views
 
-pub some_view : (P : Option Held → Type 0) (f : Fid) (views : Views) → SomeOf P (copies_at views f) → (view : View) × (IsIn view views × P (finmap.get view f))
+pub some_view : (P : Option Held → Type 0) (f : Fid) (views : Replicas) → SomeOf P (copies_at views f) → (view : Objects) × (IsIn view views × P (finmap.get view f))
 some_view P f [] s = absurd s
 some_view P f (view ∷ views) (inl p) = (view, (inl refl, p))
 some_view P f (view ∷ views) (inr s) = let m = some_view P f views s in (m.0, (inr m.1.0, m.1.1))
@@ -96,22 +96,22 @@ fid_cases a b h = go (same_fid a b) refl
     go true e = same_fid_is a b e
     go false e = absurd (h (λ is. true≢false (sym (subst (λ x. same_fid a x ≡ true) is (same_fid_refl a)) ∙ e)))
 
-pub bind_alone : (views : Views) (root d e f : Fid) (n k : Name) (one : Held) (view : View) → AreOfOneHistory views root → IsTakenUp views root d → fate_at views d ≡ Same one → finmap.get (bindings one.node.kind) n ≡ Some f → IsIn view views → child_in view e k ≡ Some f → d ≡ e
+pub bind_alone : (views : Replicas) (root d e f : Fid) (n k : Name) (one : Held) (view : Objects) → AreOfOneHistory views root → IsTakenUp views root d → fate_at views d ≡ Same one → finmap.get (bindings one.node.kind) n ≡ Some f → IsIn view views → child_in view e k ≡ Some f → d ≡ e
 bind_alone views root d e f n k one view history up same is inview bound = fid_cases d e (λ apart.
     let free = no_cause_of (copies_at views d) (copies_at views) one n f (history.kinds d) same is in
     let m = some_view (Binds n f) d views (fate_bound (copies_at views d) (copies_at views) one n f same is) in
     not_parted (copies_at views d) (copies_at views) (finmap.get m.0 d) (finmap.get view d) free
-    (in_map (λ (v : View). finmap.get v d) views m.0 m.1.0)
-    (in_map (λ (v : View). finmap.get v d) views view inview)
+    (in_map (λ (v : Objects). finmap.get v d) views m.0 m.1.0)
+    (in_map (λ (v : Objects). finmap.get v d) views view inview)
     (history.placed m.0 view d e f n k m.1.0 inview m.1.1 bound apart up))
 
-pub bind_apart : (views : Views) (root d e f : Fid) (n k : Name) (one other : Held) → AreOfOneHistory views root → IsTakenUp views root d → IsTakenUp views root e → fate_at views d ≡ Same one → fate_at views e ≡ Same other → finmap.get (bindings one.node.kind) n ≡ Some f → finmap.get (bindings other.node.kind) k ≡ Some f → d ≡ e
+pub bind_apart : (views : Replicas) (root d e f : Fid) (n k : Name) (one other : Held) → AreOfOneHistory views root → IsTakenUp views root d → IsTakenUp views root e → fate_at views d ≡ Same one → fate_at views e ≡ Same other → finmap.get (bindings one.node.kind) n ≡ Some f → finmap.get (bindings other.node.kind) k ≡ Some f → d ≡ e
 bind_apart views root d e f n k one other history up_d up_e same_d same_e is_d is_e =
     let m = some_view (Binds k f) e views (fate_bound (copies_at views e) (copies_at views) other k f same_e is_e) in
     bind_alone views root d e f n k one m.0 history up_d same_d is_d m.1.0 m.1.1
 
 -- and none binds it at two names
-pub bind_once : (views : Views) (root d e f : Fid) (n k : Name) (one other : Held) → AreOfOneHistory views root → IsTakenUp views root d → IsTakenUp views root e → fate_at views d ≡ Same one → fate_at views e ≡ Same other → finmap.get (bindings one.node.kind) n ≡ Some f → finmap.get (bindings other.node.kind) k ≡ Some f → (d ≡ e) × (n ≡ k)
+pub bind_once : (views : Replicas) (root d e f : Fid) (n k : Name) (one other : Held) → AreOfOneHistory views root → IsTakenUp views root d → IsTakenUp views root e → fate_at views d ≡ Same one → fate_at views e ≡ Same other → finmap.get (bindings one.node.kind) n ≡ Some f → finmap.get (bindings other.node.kind) k ≡ Some f → (d ≡ e) × (n ≡ k)
 bind_once views root d e f n k one other history up_d up_e same_d same_e is_d is_e =
     let is = bind_apart views root d e f n k one other history up_d up_e same_d same_e is_d is_e in
     let free = no_cause_of (copies_at views d) (copies_at views) one n f (history.kinds d) same_d is_d in

@@ -19,7 +19,7 @@ use Rattle.coda_tree.specs.Volume.{bindings}
 use Rattle.coda_reslog.specs.declared.change.Held.{Held}
 use Rattle.coda_resolve.specs.Copies.{first_some}
 use Rattle.coda_resolve.specs.Settling.{Same}
-use Rattle.coda_resolve.specs.Resolution.{Views, copies_at, fate_at, IsTakenUp, at_root, below}
+use Rattle.coda_resolve.specs.Resolution.{Replicas, copies_at, fate_at, IsTakenUp, at_root, below}
 use Rattle.coda_resolve.specs.Placement.{IsIn, AreOfOneHistory}
 use Rattle.coda_resolve.specs.Outcome.{next_up, walk, levels_of, taken_up}
 use Rattle.coda_resolve.proofs.Names.{any_append}
@@ -55,14 +55,14 @@ one_fid_is : (a b : Fid) → one_fid a b ≡ true → a ≡ b
 one_fid_is a b e = exact_fids a b ((Equal-is (fid_cmp a b)).0 e)
 
 -- the fids of all that the replicas hold
-abbrev all_keys : Views → List Fid
+abbrev all_keys : Replicas → List Fid
 all_keys views = flat_map (λ view. finmap.keys view) views
 
 or_true : (b : Bool) → (b || true) ≡ true
 or_true true = refl
 or_true false = refl
 
-held_somewhere : (views : Views) (f : Fid) → (first_some (copies_at views f) ≡ None → ⊥) → list_any (one_fid f) (all_keys views) ≡ true
+held_somewhere : (views : Replicas) (f : Fid) → (first_some (copies_at views f) ≡ None → ⊥) → list_any (one_fid f) (all_keys views) ≡ true
 held_somewhere [] f h = absurd (h refl)
 held_somewhere (view ∷ views) f h = any_append (one_fid f) (finmap.keys view) (all_keys views) ∙ by (finmap.get view f) refl h (held_somewhere views f)
   where
@@ -70,7 +70,7 @@ held_somewhere (view ∷ views) f h = any_append (one_fid f) (finmap.keys view) 
     by None e h more = ap (λ b. list_any (one_fid f) (finmap.keys view) || b) (more h) ∙ or_true (list_any (one_fid f) (finmap.keys view))
     by (Some held) e h more = ap (λ b. b || list_any (one_fid f) (all_keys views)) (sym (finmap.contains_key-keys view f) ∙ ap is_some e)
 
-many_keys : (views : Views) → length (all_keys views) + 1 ≡ levels_of views
+many_keys : (views : Replicas) → length (all_keys views) + 1 ≡ levels_of views
 many_keys [] = refl
 many_keys (view ∷ views) =
     let more = many_keys views in
@@ -81,26 +81,26 @@ many_keys (view ∷ views) =
 -- ---- how deep an object is
 
 -- the directory is the same everywhere after the resolution, and binds the object
-record IsNext (views : Views) (d f : Fid) : Type 0 where
+record IsNext (views : Replicas) (d f : Fid) : Type 0 where
   name : Name
   held : Held
   same : fate_at views d ≡ Same held
   bound : finmap.get (bindings held.node.kind) name ≡ Some f
 
 -- the object is so many bindings below the root
-abbrev At : Views → Fid → ℕ → Fid → Type 0
+abbrev At : Replicas → Fid → ℕ → Fid → Type 0
 At views root zero f = f ≡ root
 At views root (suc k) f = (d : Fid) × (IsNext views d f × At views root k d)
 
-taken_at : (views : Views) (root f : Fid) → IsTakenUp views root f → (k : ℕ) × At views root k f
+taken_at : (views : Replicas) (root f : Fid) → IsTakenUp views root f → (k : ℕ) × At views root k f
 taken_at views root g (at_root f is) = (zero, is)
 taken_at views root g (below d n f held same bound up) = let m = taken_at views root d up in (suc m.0, (d, (record { name = n; held = held; same = same; bound = bound }, m.1)))
 
-at_taken : (views : Views) (root : Fid) (k : ℕ) (f : Fid) → At views root k f → IsTakenUp views root f
+at_taken : (views : Replicas) (root : Fid) (k : ℕ) (f : Fid) → At views root k f → IsTakenUp views root f
 at_taken views root zero f is = at_root f is
 at_taken views root (suc k) f a = below a.0 a.1.0.name f a.1.0.held a.1.0.same a.1.0.bound (at_taken views root k a.0 a.1.1)
 
-module _ (views : Views) (root : Fid) (history : AreOfOneHistory views root) where
+module _ (views : Replicas) (root : Fid) (history : AreOfOneHistory views root) where
   never_root : (d : Fid) → IsNext views d root → ⊥
   never_root d next =
       let v = some_view (Binds next.name root) d views (fate_bound (copies_at views d) (copies_at views) next.held next.name root next.same next.bound) in
@@ -154,27 +154,27 @@ module _ (views : Views) (root : Fid) (history : AreOfOneHistory views root) whe
 -- ---- the walk
 
 -- the object is so many bindings below the other
-abbrev Down : Views → ℕ → Fid → Fid → Type 0
+abbrev Down : Replicas → ℕ → Fid → Fid → Type 0
 Down views zero g f = f ≡ g
 Down views (suc k) g f = (h : Fid) × (IsNext views g h × Down views k h f)
 
-down_more : (views : Views) (k : ℕ) (g d f : Fid) → Down views k g d → IsNext views d f → Down views (suc k) g f
+down_more : (views : Replicas) (k : ℕ) (g d f : Fid) → Down views k g d → IsNext views d f → Down views (suc k) g f
 down_more views zero g d f a next = (f, (subst (λ x. IsNext views x f) a next, refl))
 down_more views (suc k) g d f a next = (a.0, (a.1.0, down_more views k a.0 d f a.1.1 next))
 
-at_down : (views : Views) (root : Fid) (k : ℕ) (f : Fid) → At views root k f → Down views k root f
+at_down : (views : Replicas) (root : Fid) (k : ℕ) (f : Fid) → At views root k f → Down views k root f
 at_down views root zero f a = a
 at_down views root (suc k) f a = down_more views k root a.0 f (at_down views root k a.0 a.1.1) a.1.0
 
-next_in : (views : Views) (d f : Fid) → IsNext views d f → IsIn f (next_up (fate_at views d))
+next_in : (views : Replicas) (d f : Fid) → IsNext views d f → IsIn f (next_up (fate_at views d))
 next_in views d f next = subst (λ r. IsIn f (next_up r)) (sym next.same) (in_values (bindings next.held.node.kind) next.name f next.bound)
 
-walk_meets : (views : Views) (levels k : ℕ) (g f : Fid) → Down views k g f → k < levels → IsIn f (walk levels views g)
+walk_meets : (views : Replicas) (levels k : ℕ) (g f : Fid) → Down views k g f → k < levels → IsIn f (walk levels views g)
 walk_meets views zero k g f a lt = absurd (omega arith)
 walk_meets views (suc levels) zero g f a lt = inl (sym a)
 walk_meets views (suc levels) (suc k) g f a lt = inr (in_flat (walk levels views) (next_up (fate_at views g)) a.0 f (next_in views g a.0 a.1.0) (walk_meets views levels k a.0 f a.1.1 (omega arith)))
 
-pub taken_up_is_met : (views : Views) (root f : Fid) → AreOfOneHistory views root → IsTakenUp views root f → IsIn f (taken_up views root)
+pub taken_up_is_met : (views : Replicas) (root f : Fid) → AreOfOneHistory views root → IsTakenUp views root f → IsIn f (taken_up views root)
 taken_up_is_met views root f history up =
     let m = taken_at views root f up in
     walk_meets views (levels_of views) m.0 root f (at_down views root m.0 f m.1) (not_deep views root history m.0 f m.1)

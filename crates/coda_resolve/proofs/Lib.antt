@@ -14,3 +14,4 @@ mod Complete
 mod Leaders
 mod Past
 mod Settled
+mod Collected

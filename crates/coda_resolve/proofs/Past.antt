@@ -19,7 +19,7 @@ use Rattle.coda_resolve.specs.Missing.{missing}
 use Rattle.coda_resolve.specs.Merged.{merged_bindings}
 use Rattle.coda_resolve.specs.Causes.{all_lost, fids_lost, in_order, is_double}
 use Rattle.coda_resolve.specs.Settling.{Same}
-use Rattle.coda_resolve.specs.Resolution.{View, copies_at, fate_at, IsTakenUp, at_root, below, child_in}
+use Rattle.coda_resolve.specs.Resolution.{Objects, copies_at, fate_at, IsTakenUp, at_root, below, child_in}
 use Rattle.coda_resolve.specs.Placement.{SomeOf, IsIn, IsCrossApart, ArePartedCopies, ArePlaced, AreOfOneHistory}
 use Rattle.coda_resolve.specs.Past.{Recalled, views_of, IsAhead, Crosses, Loses, ArePartedAt, AreRecalled}
 use Rattle.coda_resolve.proofs.Lists.{some_none}
@@ -30,7 +30,7 @@ use Rattle.coda_resolve.proofs.Once.{value_in}
 use Rattle.coda_resolve.proofs.Apart.{not_parted, no_cause_of, merged_of}
 
 -- each view is that of a replica
-replica_of : (rs : List Recalled) (view : View) → IsIn view (views_of rs) → (r : Recalled) × (IsIn r rs × (r.view ≡ view))
+replica_of : (rs : List Recalled) (view : Objects) → IsIn view (views_of rs) → (r : Recalled) × (IsIn r rs × (r.view ≡ view))
 replica_of [] view s = absurd s
 replica_of (r ∷ rs) view (inl is) = (r, (inl refl, is))
 replica_of (r ∷ rs) view (inr s) = let m = replica_of rs view s in (m.0, (inr m.1.0, m.1.1))
@@ -41,7 +41,7 @@ binder P f (r ∷ rs) (inl p) = (r, (inl refl, p))
 binder P f (r ∷ rs) (inr s) = let m = binder P f rs s in (m.0, (inr m.1.0, m.1.1))
 
 copy_in : (rs : List Recalled) (r : Recalled) (f : Fid) → IsIn r rs → IsIn (finmap.get r.view f) (copies_at (views_of rs) f)
-copy_in rs r f s = in_map (λ (v : View). finmap.get v f) (views_of rs) r.view (in_map (λ (x : Recalled). x.view) rs r s)
+copy_in rs r f s = in_map (λ (v : Objects). finmap.get v f) (views_of rs) r.view (in_map (λ (x : Recalled). x.view) rs r s)
 
 module _ (rs : List Recalled) (root : Fid) (all : AreRecalled rs root) where
   -- what a replica holds, or never held
@@ -117,10 +117,10 @@ module _ (rs : List Recalled) (root : Fid) (all : AreRecalled rs root) where
   placed a b d e f n k ina inb is_d is_e ne up =
       let r = replica_of rs a ina in
       let s = replica_of rs b inb in
-      let dr : child_in r.0.view d n ≡ Some f = subst (λ (v : View). child_in v d n ≡ Some f) (sym r.1.1) is_d in
-      let es : child_in s.0.view e k ≡ Some f = subst (λ (v : View). child_in v e k ≡ Some f) (sym s.1.1) is_e in
+      let dr : child_in r.0.view d n ≡ Some f = subst (λ (v : Objects). child_in v d n ≡ Some f) (sym r.1.1) is_d in
+      let es : child_in s.0.view e k ≡ Some f = subst (λ (v : Objects). child_in v e k ≡ Some f) (sym s.1.1) is_e in
       let p = parted r.0 s.0 d r.1.0 s.1.0 (binds_here r.0 d n f dr) (taken_kept d up s.0 s.1.0) (all.placed r.0 s.0 d e f n k r.1.0 s.1.0 dr es ne) in
-      subst (λ (v : View). ArePartedCopies (copies_at (views_of rs) d) (finmap.get v d) (finmap.get b d)) r.1.1 (subst (λ (v : View). ArePartedCopies (copies_at (views_of rs) d) (finmap.get r.0.view d) (finmap.get v d)) s.1.1 p)
+      subst (λ (v : Objects). ArePartedCopies (copies_at (views_of rs) d) (finmap.get v d) (finmap.get b d)) r.1.1 (subst (λ (v : Objects). ArePartedCopies (copies_at (views_of rs) d) (finmap.get r.0.view d) (finmap.get v d)) s.1.1 p)
 
   pub of_one_history : AreOfOneHistory (views_of rs) root
   of_one_history = record { trees = all.trees; kinds = all.kinds; placed = placed }

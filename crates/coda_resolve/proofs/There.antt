@@ -15,7 +15,7 @@ use Rattle.coda_resolve.specs.Merged.{same_binding, shared, agreed, is_on, bindi
 use Rattle.coda_resolve.specs.Causes.{cause}
 use Rattle.coda_resolve.specs.Settling.{Same, dominating, fate_by, fate_from, fate}
 use Rattle.coda_resolve.specs.Settled.{IsEqualOrMarked}
-use Rattle.coda_resolve.specs.Resolution.{Views, copies_at, IsTakenUp, at_root, below, IsResolved, IsTreeView, AreTrees}
+use Rattle.coda_resolve.specs.Resolution.{Replicas, copies_at, IsTakenUp, at_root, below, IsResolved, IsTreeView, AreTrees}
 use Rattle.coda_resolve.specs.Placement.{SomeOf}
 use Rattle.coda_resolve.proofs.Lists.{some_none}
 use Rattle.coda_resolve.proofs.Names.{flat, among, get_made}
@@ -99,16 +99,16 @@ none_first : (copy : Option Held) (copies : Copies) → first_some (copy ∷ cop
 none_first None copies e = (refl, e)
 none_first (Some held) copies e = absurd (some_none held e)
 
-there : (root d f : Fid) (n : Name) (views : Views) → AllByRecursion (IsTreeView root) views → SomeOf (Binds n f) (copies_at views d) → first_some (copies_at views f) ≢ None
+there : (root d f : Fid) (n : Name) (views : Replicas) → AllByRecursion (IsTreeView root) views → SomeOf (Binds n f) (copies_at views d) → first_some (copies_at views f) ≢ None
 there root d f n [] trees s e = s
 there root d f n (view ∷ views) trees (inl bound) e = true≢false (sym (trees.0.there d n f bound) ∙ ap is_some (none_first (finmap.get view f) (copies_at views f) e).0)
 there root d f n (view ∷ views) trees (inr more) e = there root d f n views trees.1 more (none_first (finmap.get view f) (copies_at views f) e).1
 
-pub taken_up_is_there : (views : Views) (root : Fid) → AreTrees root views → (f : Fid) → IsTakenUp views root f → first_some (copies_at views f) ≢ None
+pub taken_up_is_there : (views : Replicas) (root : Fid) → AreTrees root views → (f : Fid) → IsTakenUp views root f → first_some (copies_at views f) ≢ None
 taken_up_is_there [] root trees g up e = trees
 taken_up_is_there (view ∷ views) root trees g (at_root f is) e = true≢false (sym (trees.0.rooted) ∙ ap is_some (ap (finmap.get view) (sym is) ∙ (none_first (finmap.get view f) (copies_at views f) e).0))
 taken_up_is_there (view ∷ views) root trees g (below d n f held same is up) e = there root d f n (view ∷ views) trees (fate_bound (copies_at (view ∷ views) d) (copies_at (view ∷ views)) held n f same is) e
 
-pub taken_up_equal_or_marked : (views later : Views) (root f : Fid) → AreTrees root views → IsResolved views root later → IsTakenUp views root f → IsEqualOrMarked (copies_at later f)
+pub taken_up_equal_or_marked : (views later : Replicas) (root f : Fid) → AreTrees root views → IsResolved views root later → IsTakenUp views root f → IsEqualOrMarked (copies_at later f)
 taken_up_equal_or_marked views later root f trees resolved up =
     subst IsEqualOrMarked (sym (resolved f up)) (equal_or_marked (copies_at views f) (copies_at views) (λ gone. taken_up_is_there views root trees f up (gone_absent (copies_at views f) (copies_at views) (first_some (copies_at views f)) gone)))

@@ -14,7 +14,7 @@ use Rattle.coda_reslog.specs.declared.change.Held.{Held}
 use Rattle.coda_resolve.specs.declared.why.Why.{Why}
 use Rattle.coda_resolve.specs.Copies.{bindings_of, first_some}
 use Rattle.coda_resolve.specs.Settling.{Fate, Same, Marked, Gone, settled_copy, stand_in_by}
-use Rattle.coda_resolve.specs.Resolution.{View, Views, copies_at, fate_at, IsTakenUp, at_root, below, IsTreeView, AreTrees, has_in, child_in}
+use Rattle.coda_resolve.specs.Resolution.{Objects, Replicas, copies_at, fate_at, IsTakenUp, at_root, below, IsTreeView, AreTrees, has_in, child_in}
 use Rattle.coda_resolve.specs.Placement.{IsIn, AreOfOneHistory}
 use Rattle.coda_resolve.specs.Trees.{KeepsOwn, marked_there, further, IsInstalled}
 use Rattle.coda_resolve.proofs.Lists.{some_none}
@@ -25,12 +25,12 @@ use Rattle.coda_resolve.proofs.Apart.{bind_alone, some_view, bind_once}
 
 -- ---- views
 
-tree_in : (root : Fid) (view : View) (views : Views) → AllByRecursion (IsTreeView root) views → IsIn view views → IsTreeView root view
+tree_in : (root : Fid) (view : Objects) (views : Replicas) → AllByRecursion (IsTreeView root) views → IsIn view views → IsTreeView root view
 tree_in root view [] trees s = absurd s
 tree_in root view (v ∷ views) trees (inl is) = subst (IsTreeView root) is trees.0
 tree_in root view (v ∷ views) trees (inr s) = tree_in root view views trees.1 s
 
-pub tree_of : (root : Fid) (view : View) (views : Views) → AreTrees root views → IsIn view views → IsTreeView root view
+pub tree_of : (root : Fid) (view : Objects) (views : Replicas) → AreTrees root views → IsIn view views → IsTreeView root view
 tree_of root view [] trees s = absurd s
 tree_of root view (v ∷ views) trees s = tree_in root view (v ∷ views) trees s
 
@@ -60,7 +60,7 @@ settled_binds (Marked why) (Some low) None n f there e = absurd (stand_in_binds 
 settled_binds (Marked why) lowest (Some own) n f there e = inr (why, (refl, e))
 settled_binds Gone lowest copy n f there e = absurd (there refl)
 
-module _ (views : Views) (root : Fid) (view after : View) (history : AreOfOneHistory views root) (inview : IsIn view views) (installed : IsInstalled views root view after) where
+module _ (views : Replicas) (root : Fid) (view after : Objects) (history : AreOfOneHistory views root) (inview : IsIn view views) (installed : IsInstalled views root view after) where
   own : IsTreeView root view
   own = tree_of root view views history.trees inview
 

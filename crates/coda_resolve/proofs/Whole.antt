@@ -11,7 +11,7 @@ use Rattle.coda_resolve.specs.Merged.{attributes_of}
 use Rattle.coda_resolve.specs.Causes.{cause}
 use Rattle.coda_resolve.specs.Settling.{Fate, Same, Marked, Gone, dir_fate, leaf_fate, fate_by, fate_from, fate, settled_copy, settled, is_new}
 use Rattle.coda_resolve.specs.Settled.{AreOneKind}
-use Rattle.coda_resolve.specs.Resolution.{Views, copies_at, fate_at, settled_at, IsTakenUp, at_root, below, IsResolved}
+use Rattle.coda_resolve.specs.Resolution.{Replicas, copies_at, fate_at, settled_at, IsTakenUp, at_root, below, IsResolved}
 use Rattle.coda_resolve.proofs.Again.{attributes_cause}
 use Rattle.coda_resolve.proofs.Twice.{resolved_stay, marked_stay, is_same, is_gone}
 
@@ -84,7 +84,7 @@ stays_settled copies look later kinds = by_fate (fate copies look) refl
 
 -- ---- the volume
 
-module _ (views later : Views) (root : Fid) (kinds : (g : Fid) → AreOneKind (copies_at views g)) (resolved : IsResolved views root later) where
+module _ (views later : Replicas) (root : Fid) (kinds : (g : Fid) → AreOneKind (copies_at views g)) (resolved : IsResolved views root later) where
   stays_at : (f : Fid) → IsTakenUp views root f → ((held : Held) → fate_at later f ≡ Same held → fate_at views f ≡ Same held) × ((settled_at later f ≡ copies_at later f) × (is_new (copies_at later f) (fate_at later f) ≡ false))
   stays_at f up = subst (λ c. ((held : Held) → fate c (copies_at later) ≡ Same held → fate_at views f ≡ Same held) × ((settled c (copies_at later) ≡ c) × (is_new c (fate c (copies_at later)) ≡ false))) (sym (resolved f up)) (stays_settled (copies_at views f) (copies_at views) (copies_at later) (kinds f))
 

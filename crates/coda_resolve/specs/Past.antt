@@ -10,16 +10,16 @@ use Rattle.coda_reslog.specs.declared.change.Held.{Held}
 use Rattle.coda_resolve.specs.Copies.{Copies, is_marked, log_of}
 use Rattle.coda_resolve.specs.Causes.{is_cross_kind, fids_lost}
 use Rattle.coda_resolve.specs.Settled.{AreOneKind}
-use Rattle.coda_resolve.specs.Resolution.{View, Views, copies_at, AreTrees, child_in}
+use Rattle.coda_resolve.specs.Resolution.{Objects, Replicas, copies_at, AreTrees, child_in}
 use Rattle.coda_resolve.specs.Placement.{IsIn, AreOfOneHistory}
 
 -- a replica: what it holds, whether it ever held an object, and the updates of the object that it has, or had last
 pub record Recalled : Type 0 where
-  pub view : View
+  pub view : Objects
   pub had : Fid → Bool
   pub last : Fid → Counts
 
-abbrev pub views_of : List Recalled → Views
+abbrev pub views_of : List Recalled → Replicas
 views_of rs = map (λ r. r.view) rs
 
 -- the updates of an object that it holds are those in its copy, and of an object that it never held it has none

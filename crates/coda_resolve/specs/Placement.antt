@@ -12,7 +12,7 @@ use Rattle.coda_resolve.specs.Missing.{knows, has_update, missing, leads}
 use Rattle.coda_resolve.specs.Causes.{is_cross_kind}
 use Rattle.coda_resolve.specs.Settling.{Same}
 use Rattle.coda_resolve.specs.Settled.{AreOneKind}
-use Rattle.coda_resolve.specs.Resolution.{View, Views, copies_at, fate_at, IsTakenUp, AreTrees, child_in}
+use Rattle.coda_resolve.specs.Resolution.{Objects, Replicas, copies_at, fate_at, IsTakenUp, AreTrees, child_in}
 
 -- some item has the property
 abbrev pub SomeOf : {X : Type 0} → (X → Type 0) → List X → Type 0
@@ -38,22 +38,22 @@ abbrev pub ArePartedCopies : Copies → Option Held → Option Held → Type 0
 ArePartedCopies copies a b = ((is_marked a ≡ true) ⊎ (is_marked b ≡ true)) ⊎ (IsCrossApart copies a b ⊎ IsCrossApart copies b a)
 
 -- where two replicas bind an object in different directories, their copies of each of these that is taken up are parted
-abbrev pub ArePlaced : Views → Fid → Type 0
-ArePlaced views root = (a b : View) (d e f : Fid) (n k : Name) → IsIn a views → IsIn b views → child_in a d n ≡ Some f → child_in b e k ≡ Some f → d ≢ e → IsTakenUp views root d → ArePartedCopies (copies_at views d) (finmap.get a d) (finmap.get b d)
+abbrev pub ArePlaced : Replicas → Fid → Type 0
+ArePlaced views root = (a b : Objects) (d e f : Fid) (n k : Name) → IsIn a views → IsIn b views → child_in a d n ≡ Some f → child_in b e k ≡ Some f → d ≢ e → IsTakenUp views root d → ArePartedCopies (copies_at views d) (finmap.get a d) (finmap.get b d)
 
 -- replicas of one history: trees in which each object has one kind, and each is placed
-pub record AreOfOneHistory (views : Views) (root : Fid) : Type 0 where
+pub record AreOfOneHistory (views : Replicas) (root : Fid) : Type 0 where
   pub trees : AreTrees root views
   pub kinds : (f : Fid) → AreOneKind (copies_at views f)
   pub placed : ArePlaced views root
 
 -- of replicas of one history, no two directories that are the same everywhere after a resolution bind one object
 abbrev pub SettledBindApart : Type 0
-SettledBindApart = (views : Views) (root d e f : Fid) (n k : Name) (one other : Held) → AreOfOneHistory views root → IsTakenUp views root d → IsTakenUp views root e → fate_at views d ≡ Same one → fate_at views e ≡ Same other → finmap.get (bindings one.node.kind) n ≡ Some f → finmap.get (bindings other.node.kind) k ≡ Some f → d ≡ e
+SettledBindApart = (views : Replicas) (root d e f : Fid) (n k : Name) (one other : Held) → AreOfOneHistory views root → IsTakenUp views root d → IsTakenUp views root e → fate_at views d ≡ Same one → fate_at views e ≡ Same other → finmap.get (bindings one.node.kind) n ≡ Some f → finmap.get (bindings other.node.kind) k ≡ Some f → d ≡ e
 
 -- and no replica binds an object in another directory than the one that is the same everywhere and binds it
 abbrev pub SettledBindAlone : Type 0
-SettledBindAlone = (views : Views) (root d e f : Fid) (n k : Name) (one : Held) (view : View) → AreOfOneHistory views root → IsTakenUp views root d → fate_at views d ≡ Same one → finmap.get (bindings one.node.kind) n ≡ Some f → IsIn view views → child_in view e k ≡ Some f → d ≡ e
+SettledBindAlone = (views : Replicas) (root d e f : Fid) (n k : Name) (one : Held) (view : Objects) → AreOfOneHistory views root → IsTakenUp views root d → fate_at views d ≡ Same one → finmap.get (bindings one.node.kind) n ≡ Some f → IsIn view views → child_in view e k ≡ Some f → d ≡ e
 
 -- a copy's missing updates of a kind contain every other's just where it has each missing update of the kind
 abbrev pub LeadersHaveAll : Type 0
