@@ -12,12 +12,13 @@ use Rattle.coda_tree.specs.declared.node.NodeKind.TheVariants.{Dir}
 use Rattle.coda_tree.specs.Volume.{with_kind}
 use Rattle.coda_vv.specs.Vector.{joined}
 use Rattle.coda_reslog.specs.declared.entry.ResEntry.{ResEntry}
+use Rattle.coda_reslog.specs.Rings.{last_entries}
 use Rattle.coda_reslog.specs.declared.change.Held.{Held}
 use Rattle.coda_resolve.specs.declared.why.Why.{Why}
 use Rattle.coda_resolve.specs.declared.why.Why.TheVariants.{Kept, Wrapped, CrossRename, NameName, DoubleName, RemoveUpdate, AttrAttr}
 use Rattle.coda_resolve.specs.Copies.{Copies, vector_of, log_of, is_marked, first_some}
 use Rattle.coda_resolve.specs.Missing.{missing, wrapped}
-use Rattle.coda_resolve.specs.Merged.{binding, names, merged_bindings, is_attr, leading, first_or, first_of_copies, attributes_of, updates_of, stands_in, followed_by, last_updates, log_of_copies, merged}
+use Rattle.coda_resolve.specs.Merged.{binding, names, merged_bindings, is_attr, leading, first_or, first_of_copies, attributes_of, updates_of, stands_in, followed_by, log_of_copies, merged}
 use Rattle.coda_resolve.specs.Causes.{where_so, kept, is_cross_kind, cross_rename, name_name, fids_lost, all_lost, in_order, times, is_double, double_name, is_updated, remove_update, attr_attr, cause}
 use Rattle.coda_resolve.proofs.Lists.{some_none, find_none, find_less, joined_itself, last_again}
 use Rattle.coda_resolve.proofs.Alike.{alike, any_alike, none_missing, not_wrapped, leads_alike}
@@ -99,7 +100,7 @@ fold_same : {A : Type 0} (f : A → A → A) (a : A) (xs : Copies) (g : Option H
 fold_same f a [] g held e h = refl
 fold_same f a (x ∷ xs) g held e h = ap (λ b. fold f b (map g (alike held xs))) (ap (f a) e ∙ h) ∙ fold_same f a xs g held e h
 
-last_logs : (copies : Copies) → last_updates (log_of_copies copies) ≡ log_of_copies copies
+last_logs : (copies : Copies) → last_entries (log_of_copies copies) ≡ log_of_copies copies
 last_logs [] = refl
 last_logs (copy ∷ copies) = last_again 256 (fold followed_by (log_of copy) (map log_of copies))
 
@@ -140,7 +141,7 @@ module _ (copies : Copies) (look : Fid → Copies) (held : Held) (free : cause c
     same_updates = fold_same joined (updates_of copies) others vector_of (merged copies held) refl (joined_itself (updates_of copies))
 
     same_log : log_of_copies all ≡ log_of_copies copies
-    same_log = ap last_updates (fold_same followed_by (log_of_copies copies) others log_of (merged copies held) refl (followed_by_itself (log_of_copies copies))) ∙ last_logs copies
+    same_log = ap last_entries (fold_same followed_by (log_of_copies copies) others log_of (merged copies held) refl (followed_by_itself (log_of_copies copies))) ∙ last_logs copies
 
     pub merged_again : merged all (merged copies held) ≡ merged copies held
     merged_again = λ i. record {

@@ -1,6 +1,7 @@
 -- What a list collects, entry by entry.
-use Rattle.std.proofs.Common.{◌≡◌, ◌+◌, ℕ, zero, suc, arith, Bool, Some, slice_get, List, [], ◌∷◌, ◌++◌, take, sym, ap, ◌∙◌, append_assoc}
+use Rattle.std.proofs.Common.{◌≡◌, ◌+◌, ℕ, zero, suc, arith, Bool, Some, slice_get, get_or, length, drop, ◌-◌, ◌≤◌, List, [], ◌∷◌, ◌++◌, take, sym, ap, ◌∙◌, append_assoc}
 use Rattle.std.specs.List.{filter}
+use Rattle.std.proofs.lemmas.List.{take_all}
 use Rattle.std.proofs.lemmas.List.Elements.{filter-append}
 use Rattle.coda_reslog.specs.declared.entry.ResEntry.{ResEntry}
 
@@ -10,7 +11,7 @@ front_more [] index entry e = absurd cc
 front_more (first ∷ rest) zero entry e = let same : first ≡ entry = cc in λ j. same j ∷ []
 front_more (first ∷ rest) (suc index) entry e = λ j. first ∷ front_more rest index entry e j
 
-one_more : (entries : List ResEntry) (index : ℕ) (entry : ResEntry) → Some entry ≡ slice_get entries index → take (index + 1) entries ≡ take index entries ++ entry ∷ []
+pub one_more : (entries : List ResEntry) (index : ℕ) (entry : ResEntry) → Some entry ≡ slice_get entries index → take (index + 1) entries ≡ take index entries ++ entry ∷ []
 one_more entries index entry e = let next : index + 1 ≡ suc index = omega arith in ap (λ n. take n entries) next ∙ front_more entries index entry (sym e)
 
 -- what passes of one entry more
@@ -28,3 +29,11 @@ then_passes t before one more found all first then =
     ∙ ap (λ front. front ++ filter t more) first
     ∙ append_assoc before (filter t one) (filter t more)
     ∙ ap (λ rest. before ++ rest) (sym (filter-append t one more))
+
+-- a list that has a first item
+pub split_first : {X : Type 0} (xs : List X) (x : X) → 1 ≤ length xs → x ≡ get_or xs 0 x → xs ≡ x ∷ take (length xs - 1) (drop 1 xs)
+split_first [] x some is = absurd (omega arith)
+split_first (y ∷ ys) x some is = λ i. sym is i ∷ whole i
+  where
+    whole : ys ≡ take (length (y ∷ ys) - 1) ys
+    whole = sym (take_all (length (y ∷ ys) - 1) ys (omega arith))

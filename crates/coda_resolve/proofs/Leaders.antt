@@ -1,12 +1,14 @@
 -- The copies that lead are those that have each missing update.
-use Rattle.std.proofs.Common.{◌≡◌, Bool, true, false, cond, not, List, [], ◌∷◌, Option, refl, sym, ap, ◌∙◌, ◌||◌, inl, inr, ◌↔◌}
+use Rattle.std.proofs.Common.{◌≡◌, Bool, true, false, cond, not, List, [], ◌∷◌, Option, Some, None, refl, sym, ap, ◌∙◌, ◌||◌, inl, inr, ◌↔◌}
 use Rattle.std.specs.List.{list_all, list_any, filter, flat_map}
 use Rattle.std.proofs.lemmas.Bool.{true≢false, and_parts, and_from}
 use Rattle.coda_reslog.specs.declared.entry.ResEntry.{ResEntry}
 use Rattle.coda_reslog.specs.declared.change.Held.{Held}
 use Rattle.coda_resolve.specs.Copies.{Copies, log_of}
 use Rattle.coda_resolve.specs.Missing.{has_update, is_missing, missing, has_all_of, leads}
+use Rattle.coda_resolve.specs.Merged.{is_attr, leading}
 use Rattle.coda_resolve.specs.Placement.{IsIn}
+use Rattle.coda_resolve.proofs.Lists.{both_ways}
 use Rattle.coda_resolve.proofs.Logged.{any_in}
 
 module _ {X : Type 0} (t : X → Bool) where
@@ -49,3 +51,21 @@ leaders_have_all kind copies copy = (to, from)
 
     from : ((u : ResEntry) → IsIn u (missing copies) → kind u ≡ true → has_update u copy ≡ true) → leads kind copies copy ≡ true
     from h = all_from (λ other. has_all_of kind copies other copy) copies (λ other i. all_from (λ v. not (kind v) || (not (has_update v other) || has_update v copy)) (missing copies) (λ u s. implies (kind u) (has_update u other) (has_update u copy) (h u s)))
+
+-- it leads just where it has each missing update of the kind
+pub leads_all : (kind : ResEntry → Bool) (copies : Copies) (copy : Option Held) → leads kind copies copy ≡ list_all (λ u. not (kind u) || has_update u copy) (missing copies)
+leads_all kind copies copy = both_ways (leads kind copies copy) (list_all (λ u. not (kind u) || has_update u copy) (missing copies))
+    (λ e. all_from (λ u. not (kind u) || has_update u copy) (missing copies) (λ u s. either (kind u) (has_update u copy) ((leaders_have_all kind copies copy).0 e u s)))
+    (λ e. (leaders_have_all kind copies copy).1 (λ u s k. one_of (kind u) (has_update u copy) (all_at (λ v. not (kind v) || has_update v copy) (missing copies) u e s) k))
+  where
+    either : (a b : Bool) → (a ≡ true → b ≡ true) → (not a || b) ≡ true
+    either true b h = h refl
+    either false b h = refl
+
+    one_of : (a b : Bool) → (not a || b) ≡ true → a ≡ true → b ≡ true
+    one_of true b e k = e
+    one_of false b e k = absurd (true≢false (sym k))
+
+-- whether the copy has each of the missing changes of attributes decides whether it leads
+pub leading_when : (all : Copies) (held : Held) (updates : List ResEntry) (b : Bool) → updates ≡ missing all → b ≡ list_all (λ u. not (is_attr u) || has_update u (Some held)) updates → leading all (Some held) ≡ cond b (Some held) None
+leading_when all held updates b is e = ap (λ t. cond t (Some held) None) (leads_all is_attr all (Some held) ∙ ap (list_all (λ u. not (is_attr u) || has_update u (Some held))) (sym is) ∙ sym e)

@@ -15,3 +15,6 @@ mod Leaders
 mod Past
 mod Settled
 mod Collected
+mod Stamped
+mod Gaps
+mod Followed

@@ -12,6 +12,7 @@ use Rattle.coda_tree.specs.Bindings.{Name, Bindings}
 use Rattle.coda_tree.specs.Volume.{with_kind}
 use Rattle.coda_vv.specs.Vector.{Counts, joined}
 use Rattle.coda_reslog.specs.declared.entry.ResEntry.{ResEntry}
+use Rattle.coda_reslog.specs.Rings.{last_entries}
 use Rattle.coda_reslog.specs.declared.entry.ResKind.{ResKind}
 use Rattle.coda_reslog.specs.declared.entry.ResKind.TheVariants.{Add, Drop, Rename, Cross, Attr}
 use Rattle.coda_reslog.specs.declared.change.Held.{Held}
@@ -115,14 +116,10 @@ stands_in log u = list_any (λ v. (v.origin == u.origin) && (v.seq == u.seq)) lo
 abbrev pub followed_by : List ResEntry → List ResEntry → List ResEntry
 followed_by log other = log ++ filter (λ u. not (stands_in log u)) other
 
--- the last 256 updates
-abbrev pub last_updates : List ResEntry → List ResEntry
-last_updates log = drop (length log - 256) log
-
 -- the log of the lowest copy, followed by the updates of the next ones that aren't there yet
 abbrev pub log_of_copies : Copies → List ResEntry
 log_of_copies [] = []
-log_of_copies (copy ∷ copies) = last_updates (fold followed_by (log_of copy) (map log_of copies))
+log_of_copies (copy ∷ copies) = last_entries (fold followed_by (log_of copy) (map log_of copies))
 
 -- the merged directory, with the attributes of that copy
 abbrev pub merged : Copies → Held → Held

@@ -37,9 +37,13 @@ most origin (copy ∷ copies) = max (count (vector_of copy) origin) (most origin
 abbrev pub servers : List ℕ
 servers = range_with_len 1 8
 
+-- the server's missing updates, by server and number, in order
+abbrev pub gaps_of : Copies → ℕ → List (ℕ × ℕ)
+gaps_of copies origin = map (λ seq. (origin, seq)) (range_with_len (fewest origin copies + 1) (most origin copies - fewest origin copies))
+
 -- the missing updates, by server and number, in order
 abbrev pub gaps : Copies → List (ℕ × ℕ)
-gaps copies = flat_map (λ origin. map (λ seq. (origin, seq)) (range_with_len (fewest origin copies + 1) (most origin copies - fewest origin copies))) servers
+gaps copies = flat_map (gaps_of copies) servers
 
 -- whether the update of that server and number stands in some log
 abbrev pub is_logged : Copies → ℕ × ℕ → Bool

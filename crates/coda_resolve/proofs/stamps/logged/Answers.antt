@@ -1,0 +1,7 @@
+use Rattle.std.proofs.Common.{[], ap, ◌∙◌}
+use Rattle.coda_resolve.specs.Stamps.{has_stamp}
+use Rattle.coda_resolve.proofs.Stamped.{none_stamped}
+use Rattle.coda_resolve.proofs.stamps.logged.Goals as goal
+
+pub returns : goal.returns
+returns c = c.in_ok-add_copies.ensures [] (none_stamped c.new-stamps.result c.new-stamps.ensures.empty)
