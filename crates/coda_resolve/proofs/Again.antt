@@ -6,7 +6,8 @@ use Rattle.std.specs.FinMap as finmap
 use Rattle.std.proofs.Math.Dec.{eqb}
 use Rattle.std.proofs.lemmas.Bool.{eq-eqb}
 use Rattle.std.proofs.lemmas.List.{append-nil}
-use Rattle.coda_fid.specs.Fid.{same_fid}
+use Rattle.coda_fid.specs.Fid.{same_fid, fid_cmp}
+use Rattle.coda_fid.specs.Name.{name_cmp}
 use Rattle.coda_fid.specs.declared.fid.Fid.{Fid}
 use Rattle.coda_tree.specs.declared.node.NodeKind.TheVariants.{Dir}
 use Rattle.coda_tree.specs.Volume.{with_kind}
@@ -19,10 +20,10 @@ use Rattle.coda_resolve.specs.declared.why.Why.TheVariants.{Kept, Wrapped, Cross
 use Rattle.coda_resolve.specs.Copies.{Copies, vector_of, log_of, is_marked, first_some}
 use Rattle.coda_resolve.specs.Missing.{missing, wrapped}
 use Rattle.coda_resolve.specs.Merged.{binding, names, merged_bindings, is_attr, leading, first_or, first_of_copies, attributes_of, updates_of, stands_in, followed_by, log_of_copies, merged}
-use Rattle.coda_resolve.specs.Causes.{where_so, kept, is_cross_kind, cross_rename, name_name, fids_lost, all_lost, in_order, times, is_double, double_name, is_updated, remove_update, attr_attr, cause}
-use Rattle.coda_resolve.proofs.Lists.{some_none, find_none, find_less, joined_itself, last_again}
+use Rattle.coda_resolve.specs.Causes.{where_so, kept, is_cross_kind, cross_rename, name_name, fids_lost, all_lost, times, is_double, double_name, least, conflicts_of, updated_of, remove_update, attr_attr, cause}
+use Rattle.coda_resolve.proofs.Lists.{some_none, filter_less, least_none, joined_itself, last_again}
 use Rattle.coda_resolve.proofs.Alike.{alike, any_alike, none_missing, not_wrapped, leads_alike}
-use Rattle.coda_resolve.proofs.Names.{binding_alike, merged_alike}
+use Rattle.coda_resolve.proofs.Names.{merged_alike}
 
 -- ---- causes
 
@@ -45,13 +46,13 @@ then_none o os e h = ap (λ x. first_some (x ∷ os)) e ∙ h
 pub unmarked : (copies : Copies) (look : Fid → Copies) → cause copies look ≡ None → list_any is_marked copies ≡ false
 unmarked copies look e = no_cause (list_any is_marked copies) Kept ((first_none (kept copies) _ e).0)
 
-pub single : (copies : Copies) (look : Fid → Copies) → cause copies look ≡ None → find (is_double copies) (in_order (finmap.values (merged_bindings copies))) ≡ None
+pub single : (copies : Copies) (look : Fid → Copies) → cause copies look ≡ None → filter (is_double copies) (finmap.values (merged_bindings copies)) ≡ []
 single copies look e =
     let a = (first_none (kept copies) _ e).1 in
     let b = (first_none (option_map (λ (gap : ℕ × ℕ). Wrapped gap.0 gap.1) (wrapped copies)) _ a).1 in
     let c = (first_none (cross_rename copies) _ b).1 in
     let d = (first_none (name_name copies) _ c).1 in
-    nothing_mapped DoubleName _ ((first_none (double_name copies) _ d).0)
+    least_none fid_cmp (filter (is_double copies) (finmap.values (merged_bindings copies))) (nothing_mapped DoubleName _ ((first_none (double_name copies) _ d).0))
 
 pub not_wrapped_so : (copies : Copies) (look : Fid → Copies) → cause copies look ≡ None → wrapped copies ≡ None
 not_wrapped_so copies look e = nothing_mapped (λ (gap : ℕ × ℕ). Wrapped gap.0 gap.1) _ ((first_none (option_map (λ (gap : ℕ × ℕ). Wrapped gap.0 gap.1) (wrapped copies)) _ (first_none (kept copies) _ e).1).0)
@@ -132,9 +133,9 @@ module _ (copies : Copies) (look : Fid → Copies) (held : Held) (free : cause c
         then_none (kept all) _ (ap (λ b. where_so b Kept) (any_alike (merged copies held) is_marked (copy ∷ others) plain))
         (then_none (option_map (λ (gap : ℕ × ℕ). Wrapped gap.0 gap.1) (wrapped all)) _ (ap (option_map (λ (gap : ℕ × ℕ). Wrapped gap.0 gap.1)) (not_wrapped (merged copies held) copy others))
         (then_none (cross_rename all) _ (ap (λ us. where_so (list_any (λ (u : ResEntry). is_cross_kind u.kind) us) CrossRename) (none_missing (merged copies held) (copy ∷ others)))
-        (then_none (name_name all) _ (ap (option_map NameName) (find_none (λ n. not (is_some (binding all n))) (names all) (λ n. ap (λ o. not (is_some o)) (binding_alike (merged copies held) copy others n))))
-        (then_none (double_name all) _ (ap (option_map DoubleName) (ap (λ m. find (is_double all) (in_order (finmap.values m))) same_merged ∙ find_less (is_double copies) (is_double all) (in_order (finmap.values (merged_bindings copies))) not_double (single copies look free)))
-        (then_none (remove_update all later) _ (ap (option_map RemoveUpdate) (find_none (λ f. list_any (λ u. is_updated all later u.lost u f) (missing all)) (in_order (all_lost all)) (λ f. ap (list_any (λ u. is_updated all later u.lost u f)) (none_missing (merged copies held) (copy ∷ others)))))
+        (then_none (name_name all) _ (ap (λ us. option_map NameName (least name_cmp (flat_map (conflicts_of all) us))) (none_missing (merged copies held) (copy ∷ others)))
+        (then_none (double_name all) _ (ap (λ fs. option_map DoubleName (least fid_cmp fs)) (ap (λ m. filter (is_double all) (finmap.values m)) same_merged ∙ filter_less (is_double copies) (is_double all) (finmap.values (merged_bindings copies)) not_double (single copies look free)))
+        (then_none (remove_update all later) _ (ap (λ us. option_map RemoveUpdate (least fid_cmp (flat_map (λ u. updated_of all later u u.lost) us))) (none_missing (merged copies held) (copy ∷ others)))
         (then_none (attr_attr all) _ (ap (λ o. where_so (not (is_some o)) AttrAttr) attributes) refl))))))
 
     same_updates : updates_of all ≡ updates_of copies

@@ -26,6 +26,15 @@ module _ {X : Type 0} where
       go false a e (inl is) more = subst (λ z. t z ≡ false) is a
       go false a e (inr s) more = more e s
 
+  pub filter_passes : (t : X → Bool) (xs : List X) (x : X) → filter t xs ≡ [] → IsIn x xs → t x ≡ false
+  filter_passes t [] x e s = absurd s
+  filter_passes t (y ∷ ys) x e s = go (t y) refl e s (filter_passes t ys x)
+    where
+      go : (b : Bool) → t y ≡ b → cond b (y ∷ filter t ys) (filter t ys) ≡ [] → IsIn x (y ∷ ys) → (filter t ys ≡ [] → IsIn x ys → t x ≡ false) → t x ≡ false
+      go true a e s more = absurd cc
+      go false a e (inl is) more = subst (λ z. t z ≡ false) is a
+      go false a e (inr s) more = more e s
+
   pub some_append_left : (P : X → Type 0) (xs ys : List X) → SomeOf P xs → SomeOf P (xs ++ ys)
   some_append_left P [] ys s = absurd s
   some_append_left P (x ∷ xs) ys (inl p) = inl p

@@ -17,7 +17,7 @@ use Rattle.coda_reslog.specs.declared.change.Held.{Held}
 use Rattle.coda_resolve.specs.Copies.{vector_of, bindings_of}
 use Rattle.coda_resolve.specs.Missing.{missing}
 use Rattle.coda_resolve.specs.Merged.{merged_bindings}
-use Rattle.coda_resolve.specs.Causes.{all_lost, fids_lost, in_order, is_double}
+use Rattle.coda_resolve.specs.Causes.{all_lost, fids_lost, is_double}
 use Rattle.coda_resolve.specs.Settling.{Same}
 use Rattle.coda_resolve.specs.Resolution.{Objects, copies_at, fate_at, IsTakenUp, at_root, below, child_in}
 use Rattle.coda_resolve.specs.Placement.{SomeOf, IsIn, IsCrossApart, ArePartedCopies, ArePlaced, AreOfOneHistory}
@@ -25,7 +25,7 @@ use Rattle.coda_resolve.specs.Past.{Recalled, views_of, IsAhead, Crosses, Loses,
 use Rattle.coda_resolve.proofs.Lists.{some_none}
 use Rattle.coda_resolve.proofs.Again.{single}
 use Rattle.coda_resolve.proofs.There.{Binds, fate_bound}
-use Rattle.coda_resolve.proofs.Logged.{find_passes, in_any, in_map, in_flat, stands_missing}
+use Rattle.coda_resolve.proofs.Logged.{filter_passes, in_any, in_map, in_flat, stands_missing}
 use Rattle.coda_resolve.proofs.Once.{value_in}
 use Rattle.coda_resolve.proofs.Apart.{not_parted, no_cause_of, merged_of}
 
@@ -90,7 +90,7 @@ module _ (rs : List Recalled) (root : Fid) (all : AreRecalled rs root) where
       (ap (λ v. nat_le x.seq (count v x.origin)) (sym (last_is a p ina ka)) ∙ x.other) in
       let lost : IsIn d (all_lost (copies_at (views_of rs) p)) = in_flat (λ (u : ResEntry). fids_lost u.lost) (missing (copies_at (views_of rs) p)) m.0 d m.1.0 (x.each m.0 m.1.1.0 m.1.1.1.0 m.1.1.1.1) in
       let found : list_any (same_fid d) (all_lost (copies_at (views_of rs) p)) ≡ true = in_any (same_fid d) (all_lost (copies_at (views_of rs) p)) d lost (same_fid_refl d) in
-      let passes = find_passes (is_double (copies_at (views_of rs) p)) (in_order (finmap.values (merged_bindings (copies_at (views_of rs) p)))) d (single (copies_at (views_of rs) p) (copies_at (views_of rs)) free) (value_in (merged_bindings (copies_at (views_of rs) p)) n d (ap (λ b. finmap.get b n) merge ∙ is)) in
+      let passes = filter_passes (is_double (copies_at (views_of rs) p)) (finmap.values (merged_bindings (copies_at (views_of rs) p))) d (single (copies_at (views_of rs) p) (copies_at (views_of rs)) free) (value_in (merged_bindings (copies_at (views_of rs) p)) n d (ap (λ b. finmap.get b n) merge ∙ is)) in
       true≢false (sym found ∙ right _ _ passes)
     where
       right : (a b : Bool) → (a || b) ≡ false → b ≡ false

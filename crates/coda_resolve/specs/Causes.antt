@@ -1,11 +1,14 @@
 -- Why a directory is marked.
 use Rattle.std.specs.Prelude.{ℕ, ◌+◌, Bool, true, false, not, cond, ◌&&◌, ◌||◌, nat_le, List, [], ◌∷◌, Option, Some, None, is_some}
-use Rattle.std.specs.List.{list_any, find, flat_map, zip}
+use Rattle.std.specs.List.{list_any, filter, flat_map, fold, zip}
 use Rattle.std.specs.Option.{option_map}
 use Rattle.std.specs.FinMap as finmap
-use Rattle.std.specs.FinSet as set
 use Rattle.coda_fid.specs.Fid.{fid_cmp, same_fid}
+use Rattle.std.specs.declared.cmp.Ordering.{Ordering}
+use Rattle.std.specs.declared.cmp.Ordering.TheVariants.{Less, Equal, Greater}
+use Rattle.coda_fid.specs.Name.{name_cmp}
 use Rattle.coda_fid.specs.declared.fid.Fid.{Fid}
+use Rattle.coda_tree.specs.Bindings.{Name}
 use Rattle.coda_vv.specs.Vector.{Counts, includes}
 use Rattle.coda_reslog.specs.declared.entry.ResEntry.{ResEntry}
 use Rattle.coda_reslog.specs.declared.entry.ResKind.{ResKind}
@@ -16,7 +19,7 @@ use Rattle.coda_resolve.specs.declared.why.Why.{Why}
 use Rattle.coda_resolve.specs.declared.why.Why.TheVariants.{Kept, Wrapped, CrossRename, NameName, DoubleName, RemoveUpdate, AttrAttr}
 use Rattle.coda_resolve.specs.Copies.{Copies, bindings_of, is_marked, first_some}
 use Rattle.coda_resolve.specs.Missing.{missing, wrapped, has_update}
-use Rattle.coda_resolve.specs.Merged.{names, binding, merged_bindings, attributes_of}
+use Rattle.coda_resolve.specs.Merged.{names_of, binding, merged_bindings, attributes_of}
 
 -- the cause, where the test holds
 abbrev pub where_so : Bool → Why → Option Why
@@ -38,9 +41,28 @@ is_cross_kind Attr = false
 abbrev pub cross_rename : Copies → Option Why
 cross_rename copies = where_so (list_any (λ u. is_cross_kind u.kind) (missing copies)) CrossRename
 
+-- the lesser of two that stand so to each other
+abbrev pub lesser_by : {X : Type 0} → Ordering → X → X → X
+lesser_by Less one other = one
+lesser_by Equal one other = one
+lesser_by Greater one other = other
+
+-- the least so far and one more: the lesser of them
+abbrev pub least_with : {X : Type 0} → (X → X → Ordering) → Option X → X → Option X
+least_with cmp None x = Some x
+least_with cmp (Some least) x = Some (lesser_by (cmp least x) least x)
+
+-- the least of them
+abbrev pub least : {X : Type 0} → (X → X → Ordering) → List X → Option X
+least cmp xs = fold (least_with cmp) None xs
+
+-- the names that the update names, where the copies cannot be merged
+abbrev pub conflicts_of : Copies → ResEntry → List Name
+conflicts_of copies u = filter (λ n. not (is_some (binding copies n))) (names_of u)
+
 -- the least name at which the copies cannot be merged
 abbrev pub name_name : Copies → Option Why
-name_name copies = option_map NameName (find (λ n. not (is_some (binding copies n))) (names copies))
+name_name copies = option_map NameName (least name_cmp (flat_map (conflicts_of copies) (missing copies)))
 
 -- the object that an update took out
 abbrev pub fids_lost : Option Lost → List Fid
@@ -50,10 +72,6 @@ fids_lost (Some lost) = lost.fid ∷ []
 -- the objects that missing updates took out
 abbrev pub all_lost : Copies → List Fid
 all_lost copies = flat_map (λ u. fids_lost u.lost) (missing copies)
-
--- the fids, each once and in order
-abbrev pub in_order : List Fid → List Fid
-in_order fids = set.items (set.from_list {R = fid_cmp} fids)
 
 -- how often the fid stands in the list
 abbrev pub times : Fid → List Fid → ℕ
@@ -66,21 +84,25 @@ is_double copies f = nat_le 2 (times f (finmap.values (merged_bindings copies)))
 
 -- the least fid that the merged directory binds twice, or binds though a missing update took it out
 abbrev pub double_name : Copies → Option Why
-double_name copies = option_map DoubleName (find (is_double copies) (in_order (finmap.values (merged_bindings copies))))
+double_name copies = option_map DoubleName (least fid_cmp (filter (is_double copies) (finmap.values (merged_bindings copies))))
 
 -- whether there is a copy that binds something or has updates that the vector hasn't
 abbrev pub is_newer : Counts → Option Held → Bool
 is_newer vector None = false
 is_newer vector (Some held) = not (includes vector held.vector.0) || nat_le 1 (finmap.len (bindings_of (Some held)))
 
--- whether the update took the object out, while a replica that lacks the update has it with something that the update didn't see
-abbrev pub is_updated : Copies → (Fid → Copies) → Option Lost → ResEntry → Fid → Bool
-is_updated copies look None u f = false
-is_updated copies look (Some lost) u f = same_fid lost.fid f && list_any (λ (p : Option Held × Option Held). not (has_update u p.0) && is_newer lost.vector.0 p.1) (zip copies (look f))
+-- whether a replica that lacks the update has the object with something that the update didn't see
+abbrev pub is_updated : Copies → Copies → ResEntry → Counts → Bool
+is_updated copies objects u vector = list_any (λ (p : Option Held × Option Held). not (has_update u p.0) && is_newer vector p.1) (zip copies objects)
+
+-- the object that the update took out, if a replica that lacks the update has it with something that the update didn't see
+abbrev pub updated_of : Copies → (Fid → Copies) → ResEntry → Option Lost → List Fid
+updated_of copies look u None = []
+updated_of copies look u (Some lost) = cond (is_updated copies (look lost.fid) u lost.vector.0) (lost.fid ∷ []) []
 
 -- the least fid that a missing update took out, while a replica that lacks the update has it with something that the update didn't see
 abbrev pub remove_update : Copies → (Fid → Copies) → Option Why
-remove_update copies look = option_map RemoveUpdate (find (λ f. list_any (λ u. is_updated copies look u.lost u f) (missing copies)) (in_order (all_lost copies)))
+remove_update copies look = option_map RemoveUpdate (least fid_cmp (flat_map (λ u. updated_of copies look u u.lost) (missing copies)))
 
 -- no copy's missing changes of attributes contain every other's
 abbrev pub attr_attr : Copies → Option Why

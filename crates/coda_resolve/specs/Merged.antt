@@ -56,9 +56,13 @@ abbrev pub names_in : Option Name → List Name
 names_in None = []
 names_in (Some n) = n ∷ []
 
+-- the names that the update names
+abbrev pub names_of : ResEntry → List Name
+names_of u = names_in u.name ++ names_in u.other
+
 -- each name that some copy binds or some missing update names, in order
 abbrev pub names : Copies → List Name
-names copies = set.items (set.from_list {R = name_cmp} (flat_map (λ copy. finmap.keys (bindings_of copy)) copies ++ flat_map (λ u. names_in u.name ++ names_in u.other) (missing copies)))
+names copies = set.items (set.from_list {R = name_cmp} (flat_map (λ copy. finmap.keys (bindings_of copy)) copies ++ flat_map names_of (missing copies)))
 
 -- the name with what it binds, where it binds something
 abbrev pub bound_at : Name → Option (Option Fid) → Option (Name × Fid)
