@@ -18,3 +18,5 @@ mod Collected
 mod Stamped
 mod Gaps
 mod Followed
+mod Bound
+mod Led
