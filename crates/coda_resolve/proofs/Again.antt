@@ -23,7 +23,7 @@ use Rattle.coda_resolve.specs.Merged.{binding, names, merged_bindings, is_attr, 
 use Rattle.coda_resolve.specs.Causes.{where_so, kept, is_cross_kind, cross_rename, name_name, fids_lost, all_lost, times, is_double, double_name, least, conflicts_of, updated_of, remove_update, attr_attr, cause}
 use Rattle.coda_resolve.proofs.Lists.{some_none, filter_less, least_none, joined_itself, last_again}
 use Rattle.coda_resolve.proofs.Alike.{alike, any_alike, none_missing, not_wrapped, leads_alike}
-use Rattle.coda_resolve.proofs.Names.{merged_alike}
+use Rattle.coda_resolve.proofs.MergedNames.{merged_alike}
 
 -- ---- causes
 

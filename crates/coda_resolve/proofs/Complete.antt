@@ -22,7 +22,7 @@ use Rattle.coda_resolve.specs.Settling.{Same}
 use Rattle.coda_resolve.specs.Resolution.{Replicas, copies_at, fate_at, IsTakenUp, at_root, below}
 use Rattle.coda_resolve.specs.Placement.{IsIn, AreOfOneHistory}
 use Rattle.coda_resolve.specs.Outcome.{next_up, walk, levels_of, taken_up}
-use Rattle.coda_resolve.proofs.Names.{any_append}
+use Rattle.coda_resolve.proofs.MergedNames.{any_append}
 use Rattle.coda_resolve.proofs.Logged.{any_in, in_flat}
 use Rattle.coda_resolve.proofs.There.{Binds, fate_bound, taken_up_is_there}
 use Rattle.coda_resolve.proofs.Apart.{bind_apart, some_view}

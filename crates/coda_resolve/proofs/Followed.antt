@@ -13,7 +13,7 @@ use Rattle.coda_resolve.specs.declared.stamps.Stamp.{Stamp}
 use Rattle.coda_resolve.specs.Copies.{Copies, log_of}
 use Rattle.coda_resolve.specs.Merged.{stands_in, followed_by, log_of_copies}
 use Rattle.coda_resolve.specs.Stamps.{is_stamped, has_stamp, AreStamps, HasLog}
-use Rattle.coda_resolve.proofs.Names.{any_append}
+use Rattle.coda_resolve.proofs.MergedNames.{any_append}
 use Rattle.coda_resolve.proofs.Collected.{one_more}
 use Rattle.coda_resolve.proofs.Stamped.{none_stamped}
 

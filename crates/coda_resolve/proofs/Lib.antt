@@ -1,6 +1,6 @@
 mod Lists
 mod Alike
-mod Names
+mod MergedNames
 mod Again
 mod Twice
 mod Whole
@@ -20,3 +20,4 @@ mod Gaps
 mod Followed
 mod Bound
 mod Led
+mod LeastNames

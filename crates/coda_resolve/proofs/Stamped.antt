@@ -16,7 +16,7 @@ use Rattle.coda_resolve.specs.Copies.{Copies, log_of}
 use Rattle.coda_resolve.specs.declared.stamps.Stamp.{Stamp}
 use Rattle.coda_resolve.specs.Stamps.{stamp_cmp, is_stamped, has_stamp, AreStamps}
 use Rattle.coda_resolve.proofs.Lists.{both_ways}
-use Rattle.coda_resolve.proofs.Names.{any_append}
+use Rattle.coda_resolve.proofs.MergedNames.{any_append}
 use Rattle.coda_resolve.proofs.Collected.{one_more}
 
 eq_then : (r s : Ordering) → is_eq (ordering_then r s) ≡ (is_eq r && is_eq s)

@@ -18,7 +18,7 @@ use Rattle.coda_resolve.specs.Settled.{IsEqualOrMarked}
 use Rattle.coda_resolve.specs.Resolution.{Replicas, copies_at, IsTakenUp, at_root, below, IsResolved, IsTreeView, AreTrees}
 use Rattle.coda_resolve.specs.Placement.{SomeOf}
 use Rattle.coda_resolve.proofs.Lists.{some_none}
-use Rattle.coda_resolve.proofs.Names.{flat, among, get_made}
+use Rattle.coda_resolve.proofs.MergedNames.{flat, among, get_made}
 use Rattle.coda_resolve.proofs.Settled.{equal_or_marked}
 use Rattle.coda_resolve.proofs.Twice.{is_same, own_dominating, leaf_same, dir_same}
 use Rattle.coda_resolve.proofs.Whole.{gone_absent}
