@@ -6,12 +6,12 @@ use Rattle.std.proofs.lemmas.List.Elements.{filter-append}
 use Rattle.coda_reslog.specs.declared.entry.ResEntry.{ResEntry}
 
 -- a front with one entry more
-front_more : (entries : List ResEntry) (index : ℕ) (entry : ResEntry) → slice_get entries index ≡ Some entry → take (suc index) entries ≡ take index entries ++ entry ∷ []
+front_more : {X : Type 0} (entries : List X) (index : ℕ) (entry : X) → slice_get entries index ≡ Some entry → take (suc index) entries ≡ take index entries ++ entry ∷ []
 front_more [] index entry e = absurd cc
 front_more (first ∷ rest) zero entry e = let same : first ≡ entry = cc in λ j. same j ∷ []
 front_more (first ∷ rest) (suc index) entry e = λ j. first ∷ front_more rest index entry e j
 
-pub one_more : (entries : List ResEntry) (index : ℕ) (entry : ResEntry) → Some entry ≡ slice_get entries index → take (index + 1) entries ≡ take index entries ++ entry ∷ []
+pub one_more : {X : Type 0} (entries : List X) (index : ℕ) (entry : X) → Some entry ≡ slice_get entries index → take (index + 1) entries ≡ take index entries ++ entry ∷ []
 one_more entries index entry e = let next : index + 1 ≡ suc index = omega arith in ap (λ n. take n entries) next ∙ front_more entries index entry (sym e)
 
 -- what passes of one entry more

@@ -21,3 +21,6 @@ mod Followed
 mod Bound
 mod Led
 mod LeastNames
+mod Rebound
+mod Counts
+mod Sorted

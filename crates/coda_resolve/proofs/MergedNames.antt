@@ -13,7 +13,7 @@ use Rattle.coda_fid.specs.declared.fid.Fid.{Fid}
 use Rattle.coda_tree.specs.Bindings.{Name, Bindings}
 use Rattle.coda_reslog.specs.declared.change.Held.{Held}
 use Rattle.coda_resolve.specs.Copies.{Copies, bindings_of}
-use Rattle.coda_resolve.specs.Merged.{binding, agreed, is_on, names, bound_at, merged_bindings}
+use Rattle.coda_resolve.specs.Merged.{binding, agreed, is_on, names, bound_at, flat, merged_bindings}
 use Rattle.coda_resolve.proofs.Alike.{alike, leader_alike}
 
 -- whether two names are one
@@ -23,11 +23,6 @@ same_name a b = eq_by_cmp name_cmp a b
 pub name_true : (a b : Name) → same_name a b ≡ true → a ≡ b
 unfolding same_name
 name_true a b e = exact_bytes a b ((Equal-is (name_cmp a b)).0 e)
-
--- what is bound, where the copies can be merged
-abbrev pub flat : Option (Option Fid) → Option Fid
-flat None = None
-flat (Some o) = o
 
 -- whether the name is among these
 abbrev pub among : Name → List Name → Bool
@@ -70,15 +65,15 @@ any_append t (x ∷ xs) ys = go (t x) (any_append t xs ys)
     go false e = e
 
 -- a name that is not among those of the copies is bound by none of them
-unbound : (n : Name) (held : Held) (copies : Copies) (others : List Name) → among n (set.items (set.from_list {R = name_cmp} (flat_map (λ copy. finmap.keys (bindings_of copy)) (Some held ∷ copies) ++ others))) ≡ false → finmap.get (bindings_of (Some held)) n ≡ None
+pub unbound : (n : Name) (copy : Option Held) (copies : Copies) (others : List Name) → among n (set.items (set.from_list {R = name_cmp} (flat_map (λ c. finmap.keys (bindings_of c)) (copy ∷ copies) ++ others))) ≡ false → finmap.get (bindings_of copy) n ≡ None
 unfolding same_name
-unbound n held copies others e = nothing (finmap.get (bindings_of (Some held)) n) (finmap.contains_key-keys (bindings_of (Some held)) n ∙ first_none (list_any (eq_by_cmp name_cmp n) (finmap.keys (bindings_of (Some held)))) (list_any (eq_by_cmp name_cmp n) rest) (sym (any_append (eq_by_cmp name_cmp n) (finmap.keys (bindings_of (Some held))) rest) ∙ ap (list_any (eq_by_cmp name_cmp n)) (sym (assoc (finmap.keys (bindings_of (Some held))) (flat_map (λ copy. finmap.keys (bindings_of copy)) copies) others)) ∙ sym (set.contains-from_list nat_list_cmp_total all n) ∙ set.contains-items (set.from_list {R = name_cmp} all) n ∙ e))
+unbound n copy copies others e = nothing (finmap.get (bindings_of copy) n) (finmap.contains_key-keys (bindings_of copy) n ∙ first_none (list_any (eq_by_cmp name_cmp n) (finmap.keys (bindings_of copy))) (list_any (eq_by_cmp name_cmp n) rest) (sym (any_append (eq_by_cmp name_cmp n) (finmap.keys (bindings_of copy)) rest) ∙ ap (list_any (eq_by_cmp name_cmp n)) (sym (assoc (finmap.keys (bindings_of copy)) (flat_map (λ c. finmap.keys (bindings_of c)) copies) others)) ∙ sym (set.contains-from_list nat_list_cmp_total all n) ∙ set.contains-items (set.from_list {R = name_cmp} all) n ∙ e))
   where
     rest : List Name
-    rest = flat_map (λ copy. finmap.keys (bindings_of copy)) copies ++ others
+    rest = flat_map (λ c. finmap.keys (bindings_of c)) copies ++ others
 
     all : List Name
-    all = flat_map (λ copy. finmap.keys (bindings_of copy)) (Some held ∷ copies) ++ others
+    all = flat_map (λ c. finmap.keys (bindings_of c)) (copy ∷ copies) ++ others
 
     assoc : (xs ys zs : List Name) → (xs ++ ys) ++ zs ≡ xs ++ (ys ++ zs)
     assoc [] ys zs = refl
@@ -101,4 +96,4 @@ merged_alike held copy copies = finmap.same_map nat_list_cmp_total exact_bytes _
   where
     by_name : (n : Name) (b : Bool) → among n (names (alike held (copy ∷ copies))) ≡ b → cond b (flat (binding (alike held (copy ∷ copies)) n)) None ≡ finmap.get (bindings_of (Some held)) n
     by_name n true e = ap flat (binding_alike held copy copies n)
-    by_name n false e = sym (unbound n held (alike held copies) _ e)
+    by_name n false e = sym (unbound n (Some held) (alike held copies) _ e)

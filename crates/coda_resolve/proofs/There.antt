@@ -11,14 +11,14 @@ use Rattle.coda_tree.specs.Volume.{bindings}
 use Rattle.coda_reslog.specs.declared.change.Held.{Held}
 use Rattle.coda_resolve.specs.Copies.{Copies, bindings_of, first_some}
 use Rattle.coda_resolve.specs.Missing.{leads, leader}
-use Rattle.coda_resolve.specs.Merged.{same_binding, shared, agreed, is_on, binding, names, merged_bindings, first_or, first_of_copies, attributes_of}
+use Rattle.coda_resolve.specs.Merged.{same_binding, shared, agreed, is_on, binding, names, flat, merged_bindings, first_or, first_of_copies, attributes_of}
 use Rattle.coda_resolve.specs.Causes.{cause}
 use Rattle.coda_resolve.specs.Settling.{Same, dominating, fate_by, fate_from, fate}
 use Rattle.coda_resolve.specs.Settled.{IsEqualOrMarked}
 use Rattle.coda_resolve.specs.Resolution.{Replicas, copies_at, IsTakenUp, at_root, below, IsResolved, IsTreeView, AreTrees}
 use Rattle.coda_resolve.specs.Placement.{SomeOf}
 use Rattle.coda_resolve.proofs.Lists.{some_none}
-use Rattle.coda_resolve.proofs.MergedNames.{flat, among, get_made}
+use Rattle.coda_resolve.proofs.MergedNames.{among, get_made}
 use Rattle.coda_resolve.proofs.Settled.{equal_or_marked}
 use Rattle.coda_resolve.proofs.Twice.{is_same, own_dominating, leaf_same, dir_same}
 use Rattle.coda_resolve.proofs.Whole.{gone_absent}

@@ -1,5 +1,5 @@
 -- What a directory becomes where no cause marks it.
-use Rattle.std.specs.Prelude.{◌-◌, Bool, true, false, not, cond, ◌&&◌, ◌||◌, ◌==◌, List, [], ◌∷◌, ◌++◌, map, length, drop, Option, Some, None}
+use Rattle.std.specs.Prelude.{◌≡◌, ◌-◌, Bool, true, false, not, cond, ◌&&◌, ◌||◌, ◌==◌, List, [], ◌∷◌, ◌++◌, map, length, drop, Option, Some, None}
 use Rattle.std.specs.List.{filter, list_any, list_all, flat_map, filter_map, fold}
 use Rattle.std.specs.FinMap as finmap
 use Rattle.std.specs.FinSet as set
@@ -69,6 +69,20 @@ abbrev pub bound_at : Name → Option (Option Fid) → Option (Name × Fid)
 bound_at n None = None
 bound_at n (Some None) = None
 bound_at n (Some (Some f)) = Some (n, f)
+
+-- what is bound, where the copies can be merged
+abbrev pub flat : Option (Option Fid) → Option Fid
+flat None = None
+flat (Some o) = o
+
+-- what the first of the copies binds
+abbrev pub first_bindings : Copies → Bindings
+first_bindings [] = finmap.empty
+first_bindings (copy ∷ copies) = bindings_of copy
+
+-- the second binds as the merged directory does where the test passes, and else as the first
+abbrev pub IsSettled : Copies → (Name → Bool) → Bindings → Bindings → Type 0
+IsSettled copies t old new = (n : Name) → finmap.get new n ≡ cond (t n) (flat (binding copies n)) (finmap.get old n)
 
 -- what the merged directory binds
 abbrev pub merged_bindings : Copies → Bindings

@@ -1,0 +1,82 @@
+ghost use Rattle.std.specs.Prelude.{◌≡◌, ◌++◌, true, option_copied, map, IfOk, IfErr};
+ghost use Rattle.std.specs.FinMap as finmap;
+ghost use Rattle.std.specs.FinMap.{is_sorted};
+ghost use Rattle.coda_fid.specs.Fid.{fid_cmp};
+ghost use Rattle.coda_resolve.specs.Resolution.{copies_at};
+ghost use Rattle.coda_resolve.specs.Views.{IsIndexOf, IsGapFor, objects_in, objects_of, replicas_of, AreInOrder};
+
+use coda_fid::Fid;
+use coda_reslog::{Held, HeldObjects};
+use std::alloc::{AllocError, Global};
+use std::cmp::Ordering;
+
+/// What a reachable replica of a volume holds.
+#[derive(Debug, Drop)]
+pub struct View {
+    /// The replica's server, from 1 to 8.
+    pub server: u8,
+    /// The volume.
+    pub volume: u32,
+    /// The objects, with what the replica holds of each, in increasing order of fids.
+    pub held: HeldObjects,
+}
+
+// Where the object is, or where it would go.
+fn search(items: &[(Fid, Held)], fid: Fid) -> Result<usize, usize>
+    requires { is_sorted fid_cmp items.now ≡ true }
+    ensures found { IfOk result (λ i. IsIndexOf items.now fid i) }
+    ensures absent { IfErr result (λ i. IsGapFor items.now fid i) }
+{
+    let mut low = 0;
+    let mut high = items.len();
+    while low < high {
+        let mid = low + (high - low) / 2;
+        match items[mid].0.cmp(&fid) {
+            Ordering::Less => low = mid + 1,
+            Ordering::Equal => return Ok(mid),
+            Ordering::Greater => high = mid,
+        }
+    }
+    Err(low)
+}
+
+// What is held of the object.
+fn held_in(items: &[(Fid, Held)], fid: Fid) -> Option<&Held>
+    requires { is_sorted fid_cmp items.now ≡ true }
+    ensures { option_copied result ≡ finmap.get (objects_in items.now) fid }
+{
+    match search(items, fid) {
+        Ok(at) => Some(&items[at].1),
+        Err(_) => None,
+    }
+}
+
+// The copies so far, with those of the views.
+fn with_views<'a>(
+    mut copies: Vec<Option<&'a Held>>,
+    views: &'a [View],
+    fid: Fid,
+) -> Result<Vec<Option<&'a Held>>, AllocError>
+    requires { AreInOrder views.now }
+    ensures { IfOk result (λ all. map option_copied all.items ≡ map option_copied copies.entry.items ++ copies_at (replicas_of views.now) fid) }
+{
+    match views {
+        [] => Ok(copies),
+        [first, rest @ ..] => {
+            copies.push(held_in(first.held.objects(), fid))?;
+            with_views(copies, rest, fid)
+        }
+    }
+}
+
+// What each replica holds of the object.
+pub(crate) fn copies_at<'a>(
+    alloc: Global,
+    views: &'a [View],
+    fid: Fid,
+) -> Result<Vec<Option<&'a Held>>, AllocError>
+    requires { AreInOrder views.now }
+    ensures { IfOk result (λ copies. map option_copied copies.items ≡ copies_at (replicas_of views.now) fid) }
+{
+    with_views(Vec::new(alloc), views, fid)
+}
