@@ -108,6 +108,10 @@ remove_update copies look = option_map RemoveUpdate (least fid_cmp (flat_map (λ
 abbrev pub attr_attr : Copies → Option Why
 attr_attr copies = where_so (not (is_some (attributes_of copies))) AttrAttr
 
+-- the update that stands in no log any more, if there is one
+abbrev pub wrapped_by : Option (ℕ × ℕ) → Option Why
+wrapped_by gap = option_map (λ (g : ℕ × ℕ). Wrapped g.0 g.1) gap
+
 -- why the directory is marked, where it is: the first cause that holds
 abbrev pub cause : Copies → (Fid → Copies) → Option Why
 cause copies look = first_some (

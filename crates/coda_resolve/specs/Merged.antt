@@ -10,7 +10,7 @@ use Rattle.coda_fid.specs.declared.fid.Fid.{Fid}
 use Rattle.coda_tree.specs.declared.node.NodeKind.TheVariants.{Dir}
 use Rattle.coda_tree.specs.Bindings.{Name, Bindings}
 use Rattle.coda_tree.specs.Volume.{with_kind}
-use Rattle.coda_vv.specs.Vector.{Counts, joined}
+use Rattle.coda_vv.specs.Vector.{Counts, joined, no_updates}
 use Rattle.coda_reslog.specs.declared.entry.ResEntry.{ResEntry}
 use Rattle.coda_reslog.specs.Rings.{last_entries}
 use Rattle.coda_reslog.specs.declared.entry.ResKind.{ResKind}
@@ -123,7 +123,7 @@ attributes_of copies = first_of_copies (leading copies) copies
 
 -- the updates of all copies
 abbrev pub updates_of : Copies → Counts
-updates_of [] = []
+updates_of [] = no_updates
 updates_of (copy ∷ copies) = fold joined (vector_of copy) (map vector_of copies)
 
 -- whether the update stands in the log

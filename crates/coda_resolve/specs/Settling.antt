@@ -7,20 +7,13 @@ use Rattle.coda_tree.specs.declared.node.NodeKind.{NodeKind}
 use Rattle.coda_tree.specs.declared.node.NodeKind.TheVariants.{File, Link, Dir}
 use Rattle.coda_vv.specs.Vector.{includes, no_updates}
 use Rattle.coda_reslog.specs.declared.change.Held.{Held}
+pub use Rattle.coda_resolve.specs.declared.fate.Fate.{Fate}
+pub use Rattle.coda_resolve.specs.declared.fate.Fate.TheVariants.{Same, Marked, Gone}
 use Rattle.coda_resolve.specs.declared.why.Why.{Why}
 use Rattle.coda_resolve.specs.declared.why.Why.TheVariants.{Kept, FileFile}
 use Rattle.coda_resolve.specs.Copies.{Copies, vector_of, is_marked, first_some}
 use Rattle.coda_resolve.specs.Merged.{merged, attributes_of, first_of_copies}
 use Rattle.coda_resolve.specs.Causes.{cause}
-
--- what becomes of an object
-pub data Fate : Type 0 where
-  -- all replicas hold this
-  Same : (held : Held) → Fate
-  -- all have it marked, each with what it held
-  Marked : (why : Why) → Fate
-  -- no replica holds it
-  Gone : Fate
 
 -- the directory is marked for the cause, or merged with the attributes of that copy
 abbrev pub dir_fate : Copies → Option Why → Option Held → Fate

@@ -109,9 +109,8 @@ fn joined(vector: Vv, copies: &[Option<&Held>]) -> Vv
     }
 }
 
-// The updates of all copies, of which there is one.
+// The updates of all copies.
 pub(crate) fn updates(copies: &[Option<&Held>]) -> Vv
-    requires { copies.now ≢ [] }
     ensures { result.0 ≡ updates_of (map option_copied copies.now) }
 {
     match copies {
