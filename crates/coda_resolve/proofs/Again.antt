@@ -1,7 +1,7 @@
 -- A second resolution of what is the same everywhere.
 use Rattle.std.proofs.Common.{◌≡◌, ℕ, Bool, true, false, cond, not, List, [], ◌∷◌, ◌++◌, Option, Some, None, is_some, refl, ap, ◌∙◌, map, ◌&&◌, ◌||◌}
 use Rattle.std.specs.Prelude.{nat_le, option_map}
-use Rattle.std.specs.List.{list_any, find, filter, flat_map, fold}
+use Rattle.std.specs.List.{list_any, filter, flat_map, fold}
 use Rattle.std.specs.FinMap as finmap
 use Rattle.std.proofs.Math.Dec.{eqb}
 use Rattle.std.proofs.lemmas.Bool.{eq-eqb}
@@ -19,7 +19,7 @@ use Rattle.coda_resolve.specs.declared.why.Why.{Why}
 use Rattle.coda_resolve.specs.declared.why.Why.TheVariants.{Kept, Wrapped, CrossRename, NameName, DoubleName, RemoveUpdate, AttrAttr}
 use Rattle.coda_resolve.specs.Copies.{Copies, vector_of, log_of, is_marked, first_some}
 use Rattle.coda_resolve.specs.Missing.{missing, wrapped}
-use Rattle.coda_resolve.specs.Merged.{binding, names, merged_bindings, is_attr, leading, first_or, first_of_copies, attributes_of, updates_of, stands_in, followed_by, log_of_copies, merged}
+use Rattle.coda_resolve.specs.Merged.{merged_bindings, is_attr, leading, first_or, first_of_copies, attributes_of, updates_of, stands_in, followed_by, log_of_copies, merged}
 use Rattle.coda_resolve.specs.Causes.{where_so, kept, is_cross_kind, cross_rename, name_name, fids_lost, all_lost, times, is_double, double_name, least, conflicts_of, updated_of, remove_update, attr_attr, cause}
 use Rattle.coda_resolve.proofs.Lists.{some_none, filter_less, least_none, joined_itself, last_again}
 use Rattle.coda_resolve.proofs.Alike.{alike, any_alike, none_missing, not_wrapped, leads_alike}

@@ -1,5 +1,5 @@
 -- A log that follows another.
-use Rattle.std.proofs.Common.{◌≡◌, ℕ, ◌+◌, Bool, true, false, cond, not, Some, Option, slice_get, List, [], ◌∷◌, ◌++◌, take, refl, sym, ap, ◌∙◌, append_assoc, map, ◌&&◌, ◌||◌}
+use Rattle.std.proofs.Common.{◌≡◌, ℕ, ◌+◌, Bool, true, false, cond, not, Some, slice_get, List, [], ◌∷◌, ◌++◌, take, refl, sym, ap, ◌∙◌, append_assoc, map, ◌||◌}
 use Rattle.std.specs.Prelude.{◌==◌}
 use Rattle.std.specs.List.{list_any, filter, fold}
 use Rattle.std.specs.BTreeSet.{BTreeSet}
@@ -7,12 +7,11 @@ use Rattle.std.proofs.lemmas.Bool.{true≢false, and_parts, eqb-true}
 use Rattle.std.proofs.lemmas.List.{append-nil}
 use Rattle.std.proofs.lemmas.List.Elements.{filter-append}
 use Rattle.coda_reslog.specs.declared.entry.ResEntry.{ResEntry}
-use Rattle.coda_reslog.specs.declared.change.Held.{Held}
 use Rattle.coda_reslog.specs.Rings.{last_entries}
 use Rattle.coda_resolve.specs.declared.stamps.Stamp.{Stamp}
 use Rattle.coda_resolve.specs.Copies.{Copies, log_of}
 use Rattle.coda_resolve.specs.Merged.{stands_in, followed_by, log_of_copies}
-use Rattle.coda_resolve.specs.Stamps.{is_stamped, has_stamp, AreStamps, HasLog}
+use Rattle.coda_resolve.specs.Stamps.{is_stamped, AreStamps, HasLog}
 use Rattle.coda_resolve.proofs.MergedNames.{any_append}
 use Rattle.coda_resolve.proofs.Collected.{one_more}
 use Rattle.coda_resolve.proofs.Stamped.{none_stamped}

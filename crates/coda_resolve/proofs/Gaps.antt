@@ -1,5 +1,5 @@
 -- Numbers that are looked for one after the other.
-use Rattle.std.proofs.Common.{◌≡◌, ℕ, ◌+◌, ◌-◌, ◌<◌, zero, suc, Bool, true, false, not, cond, List, [], ◌∷◌, Option, Some, None, map, refl, ap, ◌∙◌, arith}
+use Rattle.std.proofs.Common.{◌≡◌, ℕ, ◌+◌, ◌-◌, ◌<◌, suc, Bool, true, false, not, cond, List, [], ◌∷◌, Option, Some, None, map, refl, ap, ◌∙◌, arith}
 use Rattle.std.specs.Option.{option_map, option_or}
 use Rattle.std.specs.List.{find, flat_map, range_with_len}
 use Rattle.std.specs.BTreeSet.{BTreeSet}

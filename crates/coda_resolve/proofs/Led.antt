@@ -1,17 +1,16 @@
 -- Which copy leads on a name, by the names on which each lacks an update.
-use Rattle.std.proofs.Common.{◌≡◌, Bool, true, false, cond, not, List, [], ◌∷◌, Option, Some, None, refl, sym, ap, ◌∙◌, subst, map, ◌&&◌, ◌||◌}
+use Rattle.std.proofs.Common.{◌≡◌, Bool, true, false, cond, not, List, [], ◌∷◌, Option, Some, None, refl, sym, ap, ◌∙◌, subst, ◌&&◌, ◌||◌}
 use Rattle.std.specs.Prelude.{option_map}
 use Rattle.std.specs.FinMap as finmap
-use Rattle.std.specs.List.{find, list_any, list_all, AllByRecursion}
+use Rattle.std.specs.List.{find, list_any, list_all}
 use Rattle.coda_fid.specs.declared.fid.Fid.{Fid}
 use Rattle.coda_tree.specs.Bindings.{Name, Bindings}
 use Rattle.coda_reslog.specs.declared.change.Held.{Held}
-use Rattle.coda_reslog.specs.declared.entry.ResEntry.{ResEntry}
 use Rattle.coda_resolve.specs.declared.claims.Claim.{Claim}
 use Rattle.coda_resolve.specs.Copies.{Copies, bindings_of}
 use Rattle.coda_resolve.specs.Missing.{has_update, missing, leads, leader}
 use Rattle.coda_resolve.specs.Merged.{is_on, same_binding, shared, agreed, binding}
-use Rattle.coda_resolve.specs.Claims.{has_name, lacks_on, AreLacking, AreClaims, AreClaimsOf, copy_of, copies_of}
+use Rattle.coda_resolve.specs.Claims.{has_name, AreLacking, AreClaims, AreClaimsOf, copy_of, copies_of}
 use Rattle.coda_resolve.proofs.Lists.{some_none}
 use Rattle.coda_resolve.proofs.Leaders.{leads_all}
 
@@ -43,16 +42,16 @@ module _ (all : Copies) (n : Name) (claims rest : List Claim) (first : Claim) (s
   led_here to e is =
       ap Some is
       ∙ sym (
-        ap (λ cs. option_map (at_name n) (find (leads (is_on n) all) (copies_of cs))) split
-        ∙ ap (λ b. option_map (at_name n) (cond b (Some (copy_of first)) (find (leads (is_on n) all) (copies_of rest)))) (leads_named all (copy_of first) first.lacking n apart.0 ∙ ap not e)
+      ap (λ cs. option_map (at_name n) (find (leads (is_on n) all) (copies_of cs))) split
+      ∙ ap (λ b. option_map (at_name n) (cond b (Some (copy_of first)) (find (leads (is_on n) all) (copies_of rest)))) (leads_named all (copy_of first) first.lacking n apart.0 ∙ ap not e)
       )
 
   pub led_further : (result : Option (Option Fid)) → has_name first.lacking n ≡ true → result ≡ option_map (at_name n) (find (leads (is_on n) all) (copies_of rest)) → result ≡ option_map (at_name n) (find (leads (is_on n) all) (copies_of claims))
   led_further result e is =
       is
       ∙ sym (
-        ap (λ cs. option_map (at_name n) (find (leads (is_on n) all) (copies_of cs))) split
-        ∙ ap (λ b. option_map (at_name n) (cond b (Some (copy_of first)) (find (leads (is_on n) all) (copies_of rest)))) (leads_named all (copy_of first) first.lacking n apart.0 ∙ ap not e)
+      ap (λ cs. option_map (at_name n) (find (leads (is_on n) all) (copies_of cs))) split
+      ∙ ap (λ b. option_map (at_name n) (cond b (Some (copy_of first)) (find (leads (is_on n) all) (copies_of rest)))) (leads_named all (copy_of first) first.lacking n apart.0 ∙ ap not e)
       )
 
 -- what all bind alike

@@ -8,7 +8,7 @@ use Rattle.coda_vv.specs.Vector.{count}
 use Rattle.coda_reslog.specs.declared.entry.ResEntry.{ResEntry}
 use Rattle.coda_reslog.specs.declared.change.Held.{Held}
 use Rattle.coda_resolve.specs.Copies.{Copies, vector_of, log_of}
-use Rattle.coda_resolve.specs.Missing.{knows, has_update, is_missing, missing, fewest, most, gaps_of, gaps, is_logged, servers}
+use Rattle.coda_resolve.specs.Missing.{knows, has_update, is_missing, missing, fewest, most, gaps, is_logged, servers}
 use Rattle.coda_resolve.specs.Causes.{cause}
 use Rattle.coda_resolve.specs.Placement.{SomeOf, IsIn}
 use Rattle.coda_resolve.proofs.Lists.{some_none}

@@ -1,5 +1,5 @@
 -- What the merged directory binds, from what the first copy binds and the names of the missing updates.
-use Rattle.std.proofs.Common.{◌≡◌, ℕ, Bool, true, false, cond, not, List, [], ◌∷◌, ◌++◌, Option, Some, None, refl, sym, ap, ◌∙◌, subst, ◌&&◌, ◌||◌}
+use Rattle.std.proofs.Common.{◌≡◌, Bool, true, false, cond, not, List, [], ◌∷◌, ◌++◌, Option, Some, None, refl, sym, ap, ◌∙◌, ◌&&◌, ◌||◌}
 use Rattle.std.specs.FinMap as finmap
 use Rattle.std.specs.FinSet as set
 use Rattle.std.specs.Ordering.{eq_by_cmp}
@@ -14,7 +14,7 @@ use Rattle.coda_tree.specs.Bindings.{Name, Bindings}
 use Rattle.coda_reslog.specs.declared.change.Held.{Held}
 use Rattle.coda_reslog.specs.declared.entry.ResEntry.{ResEntry}
 use Rattle.coda_resolve.specs.Copies.{Copies, bindings_of}
-use Rattle.coda_resolve.specs.Missing.{has_update, missing, leads, leader}
+use Rattle.coda_resolve.specs.Missing.{has_update, missing, leads}
 use Rattle.coda_resolve.specs.Merged.{is_name_of, is_on, agreed, binding, names_in, names_of, names, flat, first_bindings, IsSettled, merged_bindings}
 use Rattle.coda_resolve.proofs.Leaders.{leads_all}
 use Rattle.coda_resolve.proofs.MergedNames.{same_name, among, get_made, any_append, unbound}

@@ -1,5 +1,5 @@
 -- What a directory becomes where no cause marks it.
-use Rattle.std.specs.Prelude.{◌≡◌, ◌-◌, Bool, true, false, not, cond, ◌&&◌, ◌||◌, ◌==◌, List, [], ◌∷◌, ◌++◌, map, length, drop, Option, Some, None}
+use Rattle.std.specs.Prelude.{◌≡◌, Bool, true, false, not, cond, ◌&&◌, ◌||◌, ◌==◌, List, [], ◌∷◌, ◌++◌, map, Option, Some, None}
 use Rattle.std.specs.List.{filter, list_any, list_all, flat_map, filter_map, fold}
 use Rattle.std.specs.FinMap as finmap
 use Rattle.std.specs.FinSet as set

@@ -70,11 +70,7 @@ fn add_lacking(
 }
 
 // The names on which the copy lacks one of the updates.
-fn lacking(
-    alloc: Global,
-    copy: Option<&Held>,
-    updates: &[&ResEntry],
-) -> Result<Entries, AllocError>
+fn lacking(alloc: Global, copy: Option<&Held>, updates: &[&ResEntry]) -> Result<Entries, AllocError>
     ensures { IfOk result (λ names. AreLacking (lent updates.now) (option_copied copy.entry) names) }
 {
     let mut names = Entries::new(alloc);

@@ -47,11 +47,7 @@ fn values(alloc: Global, entries: &Entries) -> Result<Vec<Fid>, AllocError>
 }
 
 // Adds a fid to those met once and, where it was there, to those met twice.
-fn add_fid(
-    once: &mut BTreeSet<Fid>,
-    twice: &mut BTreeSet<Fid>,
-    fid: Fid,
-) -> Result<(), AllocError>
+fn add_fid(once: &mut BTreeSet<Fid>, twice: &mut BTreeSet<Fid>, fid: Fid) -> Result<(), AllocError>
     ensures { OnOk result ((fids : List Fid) → AreTwice once.old twice.old fids → AreTwice once.new twice.new (fids ++ fid ∷ [])) }
 {
     let added = once.insert(fid)?;

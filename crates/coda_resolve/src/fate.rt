@@ -71,9 +71,7 @@ fn includes_all(vector: &Vv, copies: &[Option<&Held>]) -> bool
 {
     match copies {
         [] => true,
-        [first, rest @ ..] => {
-            includes(vector, &vector_of(*first)) && includes_all(vector, rest)
-        }
+        [first, rest @ ..] => { includes(vector, &vector_of(*first)) && includes_all(vector, rest) }
     }
 }
 

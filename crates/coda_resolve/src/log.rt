@@ -13,11 +13,7 @@ use std::alloc::{AllocError, Global};
 use std::collections::BTreeSet;
 
 // Adds the update to the ring, unless it is among the updates.
-fn push_new(
-    ring: &mut Ring,
-    stamps: &BTreeSet<Stamp>,
-    update: &ResEntry,
-) -> Result<(), AllocError>
+fn push_new(ring: &mut Ring, stamps: &BTreeSet<Stamp>, update: &ResEntry) -> Result<(), AllocError>
     ensures { OnOk result ((known updates : List ResEntry) → AreStamps stamps.now known → ring.old ≡ last_entries updates → ring.new ≡ last_entries (updates ++ filter (λ u. not (stands_in known u)) (update.now ∷ []))) }
 {
     if !has_stamp(stamps, update.origin, update.seq) {
@@ -28,11 +24,7 @@ fn push_new(
 }
 
 // Adds the updates of the log to the ring that aren't among the updates.
-fn push_all_new(
-    ring: &mut Ring,
-    stamps: &BTreeSet<Stamp>,
-    log: &Ring,
-) -> Result<(), AllocError>
+fn push_all_new(ring: &mut Ring, stamps: &BTreeSet<Stamp>, log: &Ring) -> Result<(), AllocError>
     ensures { OnOk result ((known updates : List ResEntry) → AreStamps stamps.now known → ring.old ≡ last_entries updates → ring.new ≡ last_entries (updates ++ filter (λ u. not (stands_in known u)) log.now)) }
 {
     for index in 0..log.len() {
@@ -45,11 +37,7 @@ fn push_all_new(
 }
 
 // Adds a log to the ring and to the updates.
-fn follow(
-    ring: &mut Ring,
-    stamps: &mut BTreeSet<Stamp>,
-    log: &Ring,
-) -> Result<(), AllocError>
+fn follow(ring: &mut Ring, stamps: &mut BTreeSet<Stamp>, log: &Ring) -> Result<(), AllocError>
     ensures { OnOk result ((updates : List ResEntry) → HasLog stamps.old ring.old updates → HasLog stamps.new ring.new (followed_by updates log.now)) }
 {
     push_all_new(ring, stamps, log)?;

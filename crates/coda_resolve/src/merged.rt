@@ -89,10 +89,7 @@ fn attributes_in<'a>(updates: &[&ResEntry], copies: &[Option<&'a Held>]) -> Opti
 }
 
 // The lowest copy that is there and whose missing changes of attributes contain every other's.
-pub(crate) fn attributes<'a>(
-    updates: &[&ResEntry],
-    copies: &[Option<&'a Held>],
-) -> Option<&'a Held>
+pub(crate) fn attributes<'a>(updates: &[&ResEntry], copies: &[Option<&'a Held>]) -> Option<&'a Held>
     requires { lent updates.now ≡ missing (map option_copied copies.now) }
     ensures { option_copied result ≡ attributes_of (map option_copied copies.now) }
 {

@@ -56,12 +56,7 @@ fn is_newer(vector: &Vv, copy: Option<&Held>) -> bool
 }
 
 // Whether the replica lacks the update, and has the object with something that the update didn't see.
-fn is_updated_at(
-    copy: Option<&Held>,
-    object: Option<&Held>,
-    update: &ResEntry,
-    vector: &Vv,
-) -> bool
+fn is_updated_at(copy: Option<&Held>, object: Option<&Held>, update: &ResEntry, vector: &Vv) -> bool
     ensures { result ≡ (not (has_update update.now (option_copied copy.entry)) && is_newer vector.now.0 (option_copied object.entry)) }
 {
     !has_update(copy, update) && is_newer(vector, object)

@@ -1,6 +1,5 @@
 use Rattle.std.proofs.Common.{sym, ap, ◌∙◌, is_some}
 use Rattle.std.proofs.lemmas.Result.{on_ok_weaker}
-use Rattle.coda_resolve.specs.Claims.{has_name}
 use Rattle.coda_resolve.proofs.Bound.{named_already, name_added_as}
 use Rattle.coda_resolve.proofs.claims.add_name.Goals as goal
 

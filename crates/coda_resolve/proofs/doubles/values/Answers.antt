@@ -1,5 +1,4 @@
-use Rattle.std.proofs.Common.{ap, ◌∙◌, sym, arith}
-use Rattle.std.specs.FinMap as finmap
+use Rattle.std.proofs.Common.{◌∙◌, arith}
 use Rattle.coda_resolve.proofs.Counts.{value_more, all_values}
 use Rattle.coda_resolve.proofs.doubles.values.Goals as goal
 

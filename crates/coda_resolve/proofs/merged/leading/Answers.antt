@@ -1,5 +1,4 @@
 use Rattle.std.proofs.Common.{Some, None, cond, sym, ap, ◌∙◌, option_copied}
-use Rattle.coda_reslog.specs.declared.change.Held.{Held}
 use Rattle.coda_resolve.specs.Merged.{leading}
 use Rattle.coda_resolve.proofs.Leaders.{leading_when}
 use Rattle.coda_resolve.proofs.merged.leading.Goals as goal

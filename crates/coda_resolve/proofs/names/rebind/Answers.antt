@@ -1,4 +1,4 @@
-use Rattle.std.proofs.Common.{◌≡◌, List, ℕ, cond, Some, None, refl, sym, ap, ◌∙◌}
+use Rattle.std.proofs.Common.{cond, refl, sym, ap, ◌∙◌}
 use Rattle.std.specs.FinMap as finmap
 use Rattle.std.specs.Ordering.{eq_by_cmp}
 use Rattle.std.proofs.lemmas.Result.{on_ok_weaker}

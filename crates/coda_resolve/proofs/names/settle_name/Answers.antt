@@ -1,4 +1,4 @@
-use Rattle.std.proofs.Common.{◌≡◌, Option, map, option_copied, sym, ap, ◌∙◌, subst}
+use Rattle.std.proofs.Common.{Option, map, option_copied, sym, ap, ◌∙◌, subst}
 use Rattle.std.proofs.lemmas.Result.{on_ok_weaker}
 use Rattle.coda_tree.specs.Bindings.{Name}
 use Rattle.coda_resolve.specs.Merged.{is_name_of, flat, IsSettled}

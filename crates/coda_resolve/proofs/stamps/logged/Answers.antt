@@ -1,5 +1,4 @@
-use Rattle.std.proofs.Common.{[], ap, ◌∙◌}
-use Rattle.coda_resolve.specs.Stamps.{has_stamp}
+use Rattle.std.proofs.Common.{[]}
 use Rattle.coda_resolve.proofs.Stamped.{none_stamped}
 use Rattle.coda_resolve.proofs.stamps.logged.Goals as goal
 
