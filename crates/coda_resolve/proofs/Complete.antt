@@ -30,7 +30,7 @@ use Rattle.coda_resolve.proofs.Trees.{tree_of}
 
 -- ---- lists and maps
 
-all_from_in : {X : Type 0} (P : X → Type 0) (xs : List X) → ((x : X) → IsIn x xs → P x) → AllByRecursion P xs
+pub all_from_in : {X : Type 0} (P : X → Type 0) (xs : List X) → ((x : X) → IsIn x xs → P x) → AllByRecursion P xs
 all_from_in P [] h = tt
 all_from_in P (x ∷ xs) h = (h x (inl refl), all_from_in P xs (λ y s. h y (inr s)))
 
@@ -48,11 +48,14 @@ in_values : (m : Bindings) (n : Name) (f : Fid) → finmap.get m n ≡ Some f �
 in_values m n f e = let at = entry_index nat_list_cmp_total exact_bytes m n f e in in_seconds (finmap.entries m) at.0 n f at.1
 
 -- whether two fids are one, by their order
-abbrev one_fid : Fid → Fid → Bool
+abbrev pub one_fid : Fid → Fid → Bool
 one_fid = eq_by_cmp fid_cmp
 
-one_fid_is : (a b : Fid) → one_fid a b ≡ true → a ≡ b
+pub one_fid_is : (a b : Fid) → one_fid a b ≡ true → a ≡ b
 one_fid_is a b e = exact_fids a b ((Equal-is (fid_cmp a b)).0 e)
+
+pub one_itself : (f : Fid) → one_fid f f ≡ true
+one_itself f = (eq_by_cmp_equiv fids_total).refl f
 
 -- the fids of all that the replicas hold
 abbrev all_keys : Replicas → List Fid
@@ -81,14 +84,14 @@ many_keys (view ∷ views) =
 -- ---- how deep an object is
 
 -- the directory is the same everywhere after the resolution, and binds the object
-record IsNext (views : Replicas) (d f : Fid) : Type 0 where
-  name : Name
-  held : Held
-  same : fate_at views d ≡ Same held
-  bound : finmap.get (bindings held.node.kind) name ≡ Some f
+pub record IsNext (views : Replicas) (d f : Fid) : Type 0 where
+  pub name : Name
+  pub held : Held
+  pub same : fate_at views d ≡ Same held
+  pub bound : finmap.get (bindings held.node.kind) name ≡ Some f
 
 -- the object is so many bindings below the root
-abbrev At : Replicas → Fid → ℕ → Fid → Type 0
+abbrev pub At : Replicas → Fid → ℕ → Fid → Type 0
 At views root zero f = f ≡ root
 At views root (suc k) f = (d : Fid) × (IsNext views d f × At views root k d)
 
@@ -96,7 +99,7 @@ taken_at : (views : Replicas) (root f : Fid) → IsTakenUp views root f → (k :
 taken_at views root g (at_root f is) = (zero, is)
 taken_at views root g (below d n f held same bound up) = let m = taken_at views root d up in (suc m.0, (d, (record { name = n; held = held; same = same; bound = bound }, m.1)))
 
-at_taken : (views : Replicas) (root : Fid) (k : ℕ) (f : Fid) → At views root k f → IsTakenUp views root f
+pub at_taken : (views : Replicas) (root : Fid) (k : ℕ) (f : Fid) → At views root k f → IsTakenUp views root f
 at_taken views root zero f is = at_root f is
 at_taken views root (suc k) f a = below a.0 a.1.0.name f a.1.0.held a.1.0.same a.1.0.bound (at_taken views root k a.0 a.1.1)
 
@@ -106,7 +109,7 @@ module _ (views : Replicas) (root : Fid) (history : AreOfOneHistory views root) 
       let v = some_view (Binds next.name root) d views (fate_bound (copies_at views d) (copies_at views) next.held next.name root next.same next.bound) in
       (tree_of root v.0 views history.trees v.1.0).unbound d next.name v.1.1
 
-  one_depth : (i j : ℕ) (f : Fid) → At views root i f → At views root j f → i ≡ j
+  pub one_depth : (i j : ℕ) (f : Fid) → At views root i f → At views root j f → i ≡ j
   one_depth zero zero f a b = refl
   one_depth zero (suc j) f a b = absurd (never_root b.0 (subst (IsNext views b.0) a b.1.0))
   one_depth (suc i) zero f a b = absurd (never_root a.0 (subst (IsNext views a.0) b a.1.0))
@@ -154,7 +157,7 @@ module _ (views : Replicas) (root : Fid) (history : AreOfOneHistory views root) 
 -- ---- the walk
 
 -- the object is so many bindings below the other
-abbrev Down : Replicas → ℕ → Fid → Fid → Type 0
+abbrev pub Down : Replicas → ℕ → Fid → Fid → Type 0
 Down views zero g f = f ≡ g
 Down views (suc k) g f = (h : Fid) × (IsNext views g h × Down views k h f)
 

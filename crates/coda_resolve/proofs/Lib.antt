@@ -11,6 +11,7 @@ mod Apart
 mod Trees
 mod Walk
 mod Complete
+mod Single
 mod Leaders
 mod Past
 mod Settled

@@ -1,6 +1,7 @@
 -- The outcome of a resolution, as data.
 use Rattle.std.specs.Prelude.{◌≡◌, ◌≢◌, ◌↔◌, ℕ, ◌+◌, zero, suc, true, cond, nat_le, List, [], ◌∷◌, ◌++◌, Option, Some, None}
-use Rattle.std.specs.List.{filter_map, flat_map}
+use Rattle.std.specs.List.{filter_map, flat_map, IsDistinct}
+use Rattle.std.specs.Ordering.{eq_by_cmp}
 use Rattle.std.specs.FinMap as finmap
 use Rattle.std.specs.FinMap.{is_sorted}
 use Rattle.std.specs.Option.{option_map}
@@ -92,7 +93,8 @@ IsTouched views root f = SomeOf (λ view. node_in (left_of views root view) f �
 abbrev pub later_of : {X : Type 0} → (X → ℕ) → X → X → X
 later_of number one other = cond (nat_le (number other) (number one)) one other
 
--- the walk meets nothing but what is taken up, and of replicas of one history all of it
+-- the walk meets nothing but what is taken up, and of replicas of one history all of it, each object once
 pub record WalkIsTakenUp : Type 0 where
   pub nothing_else : (views : Replicas) (root f : Fid) → IsIn f (taken_up views root) → IsTakenUp views root f
   pub all : (views : Replicas) (root f : Fid) → AreOfOneHistory views root → IsTakenUp views root f → IsIn f (taken_up views root)
+  pub once : (views : Replicas) (root : Fid) → AreOfOneHistory views root → IsDistinct (eq_by_cmp fid_cmp) (taken_up views root)

@@ -52,7 +52,8 @@ pub fn trees_stay_trees()
     ensures { TreesStayTrees }
 {}
 
-/// A law of resolution: the walk in path order meets nothing but what is taken up, and of replicas of one history all of it.
+/// A law of resolution: the walk in path order meets nothing but what is taken up, and of replicas of one
+/// history all of it, each object once.
 pub fn walk_is_taken_up()
     ensures { WalkIsTakenUp }
 {}

@@ -86,12 +86,15 @@ struct Root {
     marked: bool,
 }
 
-// What a directory binds: one name.
-fn entries(alloc: Global, text: &str, vnode: u32) -> Result<Entries, AllocError> {
+// What the directory binds: the name, unless the update took it out.
+fn entries(alloc: Global, root: Root) -> Result<Entries, AllocError> {
     let mut entries = Entries::new(alloc);
-    if let Some(name) = name(alloc, text)? {
+    if root.kind == ResKind::Drop {
+        return Ok(entries);
+    }
+    if let Some(name) = name(alloc, root.text)? {
         if entries.find(&name).is_none() {
-            entries.insert(name, fid(vnode))?;
+            entries.insert(name, fid(root.vnode))?;
         }
     }
     Ok(entries)
@@ -99,7 +102,7 @@ fn entries(alloc: Global, text: &str, vnode: u32) -> Result<Entries, AllocError>
 
 // What the replica holds of the root.
 fn held(alloc: Global, root: Root) -> Result<Held, AllocError> {
-    let entries = entries(alloc, root.text, root.vnode)?;
+    let entries = entries(alloc, root)?;
     let update = update(
         alloc,
         root.origin,
@@ -217,8 +220,16 @@ fn directories_are_merged_or_marked(rt: HostRuntime) -> Result<(), Fail> {
         (added, by_two("g", 2, ResKind::Cross), ("cross-rename", 0)),
         (added, by_two("f", 2, ResKind::Add), ("name-name", 0)),
         (added, by_two("g", 1, ResKind::Add), ("double-name", 0)),
-        (by_one("f", 0, ResKind::Drop), by_two("g", 2, ResKind::Add), ("remove-update", 0)),
-        (by_one("f", 1, ResKind::Attr), by_two("f", 1, ResKind::Attr), ("attr-attr", 0)),
+        (
+            by_one("f", 0, ResKind::Drop),
+            by_two("g", 2, ResKind::Add),
+            ("remove-update", 0),
+        ),
+        (
+            by_one("f", 1, ResKind::Attr),
+            by_two("f", 1, ResKind::Attr),
+            ("attr-attr", 0),
+        ),
     ];
     for (one, other, fate) in rows {
         assert_eq!(rt; of_roots(rt.alloc(), one, other)?, fate);
