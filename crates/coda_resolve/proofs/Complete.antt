@@ -141,7 +141,7 @@ module _ (views : Replicas) (root : Fid) (history : AreOfOneHistory views root) 
       other y m false e = refl
       other y m true e = let le = m.1.0 in let same = one_depth (suc k) m.0 y (subst (At views root (suc k)) (one_fid_is f y e) a) m.1.1 in absurd (omega arith)
 
-  not_deep : (k : ℕ) (f : Fid) → At views root k f → k < levels_of views
+  pub not_deep : (k : ℕ) (f : Fid) → At views root k f → k < levels_of views
   not_deep k f a =
       let few = length-le_from_is_member (eq_by_cmp_equiv fids_total) (line k f a) (all_keys views) (apart_on_line k f a) there in
       let count = line_length k f a in

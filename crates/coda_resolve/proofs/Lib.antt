@@ -9,7 +9,7 @@ mod Logged
 mod Once
 mod Apart
 mod Trees
-mod Walk
+mod Walked
 mod Complete
 mod Single
 mod Leaders
@@ -25,3 +25,4 @@ mod LeastNames
 mod Rebound
 mod Counts
 mod Sorted
+mod Stack

@@ -1,17 +1,13 @@
 -- The walk meets each object once, where the replicas are of one history.
-use Rattle.std.proofs.Common.{◌≡◌, ◌<◌, ◌≤◌, ◌+◌, ℕ, zero, suc, Bool, true, false, cond, List, [], ◌∷◌, ◌++◌, Option, Some, None, refl, sym, ap, ◌∙◌, subst, inl, inr, map, arith, ◌⊎◌, ◌||◌}
-use Rattle.std.specs.Prelude.{nat_le}
+use Rattle.std.proofs.Common.{◌≡◌, ◌<◌, ◌≤◌, ◌+◌, ℕ, zero, suc, Bool, true, false, cond, List, [], ◌∷◌, ◌++◌, refl, sym, ap, ◌∙◌, subst, inl, inr, arith, ◌⊎◌, ◌||◌}
 use Rattle.std.specs.FinMap as finmap
-use Rattle.std.specs.List.{flat_map, filter, AllByRecursion, IsDistinct}
+use Rattle.std.specs.List.{flat_map, AllByRecursion, IsDistinct}
 use Rattle.std.proofs.lemmas.Bool.{true≢false, leb-false}
 use Rattle.coda_fid.specs.Fid.{same_fid}
 use Rattle.coda_fid.specs.declared.fid.Fid.{Fid}
 use Rattle.coda_fid.proofs.Fids.{same_fid_refl}
-use Rattle.coda_tree.specs.Bindings.{Name, Bindings}
 use Rattle.coda_tree.specs.Volume.{bindings}
-use Rattle.coda_tree.specs.declared.node.NodeKind.{NodeKind}
 use Rattle.coda_reslog.specs.declared.change.Held.{Held}
-use Rattle.coda_resolve.specs.declared.why.Why.{Why}
 use Rattle.coda_resolve.specs.Causes.{times, is_double}
 use Rattle.coda_resolve.specs.Merged.{merged_bindings}
 use Rattle.coda_resolve.specs.Settling.{Fate, Same, Marked, Gone}
@@ -22,7 +18,7 @@ use Rattle.coda_resolve.proofs.Again.{single}
 use Rattle.coda_resolve.proofs.Apart.{bind_apart, no_cause_of, merged_of}
 use Rattle.coda_resolve.proofs.Complete.{IsNext, At, Down, one_fid, one_fid_is, one_itself, at_taken, one_depth, all_from_in}
 use Rattle.coda_resolve.proofs.Logged.{filter_passes}
-use Rattle.coda_resolve.proofs.Walk.{value_at}
+use Rattle.coda_resolve.proofs.Walked.{value_at}
 
 -- ---- lists
 
@@ -93,7 +89,7 @@ all_at_in P (y ∷ xs) x a (inr s) = all_at_in P xs x a.1 s
 -- ---- the walk
 
 module _ (views : Replicas) (root : Fid) (history : AreOfOneHistory views root) where
-  next_from : (g h : Fid) → IsIn h (next_up (fate_at views g)) → IsNext views g h
+  pub next_from : (g h : Fid) → IsIn h (next_up (fate_at views g)) → IsNext views g h
   next_from g h s = by (fate_at views g) refl s
     where
       by : (result : Fate) → fate_at views g ≡ result → IsIn h (next_up result) → IsNext views g h

@@ -33,7 +33,7 @@ pub(crate) fn lesser(least: Option<Fid>, fid: Fid) -> Option<Fid>
 }
 
 // The fids that a directory binds, in the order of their names.
-fn values(alloc: Global, entries: &Entries) -> Result<Vec<Fid>, AllocError>
+pub(crate) fn values(alloc: Global, entries: &Entries) -> Result<Vec<Fid>, AllocError>
     ensures { IfOk result (λ fids. fids.items ≡ finmap.values entries.now) }
 {
     let mut fids = Vec::new(alloc);

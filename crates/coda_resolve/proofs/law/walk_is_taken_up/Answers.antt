@@ -1,7 +1,7 @@
 use Rattle.std.proofs.Common.{refl}
 use Rattle.coda_resolve.specs.Resolution.{at_root}
 use Rattle.coda_resolve.specs.Outcome.{levels_of}
-use Rattle.coda_resolve.proofs.Walk.{walk_is_taken_up}
+use Rattle.coda_resolve.proofs.Walked.{walk_is_taken_up}
 use Rattle.coda_resolve.proofs.Complete.{taken_up_is_met}
 use Rattle.coda_resolve.proofs.Single.{met_once}
 use Rattle.coda_resolve.proofs.law.walk_is_taken_up.Goals as goal
