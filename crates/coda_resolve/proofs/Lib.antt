@@ -26,3 +26,4 @@ mod Rebound
 mod Counts
 mod Sorted
 mod Stack
+mod Marking

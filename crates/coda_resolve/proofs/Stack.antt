@@ -1,5 +1,5 @@
 -- A walk with a stack.
-use Rattle.std.proofs.Common.{◌≡◌, ◌<◌, ◌≤◌, ◌+◌, ◌-◌, ℕ, zero, suc, List, [], ◌∷◌, ◌++◌, refl, sym, ap, ◌∙◌, subst, inl, inr, arith, append_assoc, length, drop, get_or, reverse, map}
+use Rattle.std.proofs.Common.{◌≡◌, ◌<◌, ◌≤◌, ◌+◌, ◌-◌, ℕ, zero, suc, List, [], ◌∷◌, ◌++◌, refl, sym, ap, ◌∙◌, subst, inl, inr, arith, append_assoc, length, drop, get_or, reverse}
 use Rattle.std.specs.List.{flat_map, AllByRecursion}
 use Rattle.coda_fid.specs.declared.fid.Fid.{Fid}
 use Rattle.coda_resolve.specs.Resolution.{Replicas, fate_at}

@@ -1,4 +1,4 @@
-use Rattle.std.proofs.Common.{◌++◌, reverse, sym, ap, ◌∙◌}
+use Rattle.std.proofs.Common.{◌++◌, reverse, sym, ap}
 use Rattle.coda_resolve.proofs.Stack.{file_next, link_next}
 use Rattle.coda_resolve.proofs.walking.push_next.Goals as goal
 

@@ -1,7 +1,6 @@
 use Rattle.std.proofs.Common.{◌≡◌, ◌++◌, reverse}
 use Rattle.std.specs.List.{flat_map}
 use Rattle.coda_resolve.specs.Outcome.{walk, levels_of, taken_up}
-use Rattle.coda_resolve.specs.Placement.{AreOfOneHistory}
 use Rattle.coda_resolve.specs.Taken.{fids_of, AreFates}
 use Rattle.coda_resolve.specs.Views.{replicas_of}
 use Rattle.coda_resolve.proofs.Stack.{AllBelow}
