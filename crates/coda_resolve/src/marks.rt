@@ -26,12 +26,7 @@ fn some_unmarked(copies: &[Option<&Held>]) -> bool
 }
 
 // The mark of the object for the cause, where it is new.
-fn mark_for(
-    alloc: Global,
-    views: &[View],
-    fid: Fid,
-    why: &Why,
-) -> Result<Option<Mark>, AllocError>
+fn mark_for(alloc: Global, views: &[View], fid: Fid, why: &Why) -> Result<Option<Mark>, AllocError>
     requires { AreInOrder views.now }
     ensures { IfOk result (λ mark. mark ≡ mark_by (copies_at (replicas_of views.now) fid) fid (Fate.Marked why.now)) }
 {
@@ -71,15 +66,14 @@ fn with_mark(mut marks: Vec<Mark>, mark: Option<Mark>) -> Result<Vec<Mark>, Allo
 
 /// The marks that a resolution makes anew, in path order.
 ///
-/// The replicas are of one history.
+/// That they are all of them holds of replicas of one history.
 ///
 /// # Errors
 ///
 /// There is no memory.
 pub fn new_marks(alloc: Global, views: &[View], root: Fid) -> Result<Vec<Mark>, AllocError>
-    requires order { AreInOrder views.now }
-    requires history { AreOfOneHistory (replicas_of views.now) root }
-    ensures { IfOk result (λ marks. marks.items ≡ marks_of (replicas_of views.now) root) }
+    requires { AreInOrder views.now }
+    ensures { IfOk result (λ marks. AreOfOneHistory (replicas_of views.now) root → marks.items ≡ marks_of (replicas_of views.now) root) }
 {
     let objects = walk(alloc, views, root)?;
     let mut marks = Vec::new(alloc);

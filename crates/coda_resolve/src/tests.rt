@@ -2,7 +2,7 @@ ghost use Rattle.std.specs.Prelude.{◌≡◌, true, IfOk};
 ghost use Rattle.std.specs.FinMap.{is_sorted};
 ghost use Rattle.coda_fid.specs.Fid.{fid_cmp};
 
-use crate::{Fate, View, Why, fate_at};
+use crate::{Fate, View, Why, fate_at, new_marks, walk};
 use coda_fid::{Bytes, Fid, Name, Sid};
 use coda_reslog::{Held, HeldObjects, Lost, ResEntry, ResKind, Ring};
 use coda_tree::{Entries, Node, NodeKind};
@@ -249,6 +249,42 @@ fn files_are_taken_over_or_marked(rt: HostRuntime) -> Result<(), Fail> {
         let one = file(rt.alloc(), one)?;
         let other = file(rt.alloc(), other)?;
         assert_eq!(rt; of_two(rt.alloc(), one, other)?, fate);
+    }
+    Ok(())
+}
+
+// What two replicas that have these copies of the root take up, by the digits of the objects, and how many marks are new.
+fn of_walk(alloc: Global, one: Root, other: Root) -> Result<(u64, usize), AllocError> {
+    let one = view(alloc, 1, held(alloc, one)?)?;
+    let other = view(alloc, 2, held(alloc, other)?)?;
+    let views = [one, other];
+    let mut digits = 1u64;
+    for taken in &walk(alloc, &views, fid(0))? {
+        digits = digits
+            .saturating_mul(10)
+            .saturating_add(u64::from(taken.fid.vnode));
+    }
+    let marks = new_marks(alloc, &views, fid(0))?;
+    Ok((digits, marks.len()))
+}
+
+// What is bound below a merged directory is taken up in the order of names, and nothing below a marked one.
+#[test]
+fn objects_are_taken_up_in_path_order(rt: HostRuntime) -> Result<(), Fail> {
+    let rows = [
+        (
+            by_one("g", 1, ResKind::Add),
+            by_two("f", 2, ResKind::Add),
+            (1021, 0),
+        ),
+        (
+            by_one("f", 1, ResKind::Add),
+            by_two("f", 2, ResKind::Add),
+            (10, 1),
+        ),
+    ];
+    for (one, other, taken) in rows {
+        assert_eq!(rt; of_walk(rt.alloc(), one, other)?, taken);
     }
     Ok(())
 }

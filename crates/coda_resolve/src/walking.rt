@@ -52,15 +52,15 @@ fn push_next(alloc: Global, stack: Vec<Fid>, fate: &Fate) -> Result<Vec<Fid>, Al
 
 /// What a resolution takes up, in path order, with what becomes of each object.
 ///
-/// The replicas are of one history. A tree may be as deep as it has objects: the walk has a stack of its own.
+/// That it is all of that, each object once, holds of replicas of one history; of others the walk may want memory without
+/// end. A tree may be as deep as it has objects: the walk has a stack of its own.
 ///
 /// # Errors
 ///
 /// There is no memory.
 pub fn walk(alloc: Global, views: &[View], root: Fid) -> Result<Vec<Taken>, AllocError>
-    requires order { AreInOrder views.now }
-    requires history { AreOfOneHistory (replicas_of views.now) root }
-    ensures fids { IfOk result (λ taken. fids_of taken.items ≡ taken_up (replicas_of views.now) root) }
+    requires { AreInOrder views.now }
+    ensures fids { IfOk result (λ taken. AreOfOneHistory (replicas_of views.now) root → fids_of taken.items ≡ taken_up (replicas_of views.now) root) }
     ensures fates { IfOk result (λ taken. AreFates (replicas_of views.now) taken.items) }
 {
     let mut taken = Vec::new(alloc);

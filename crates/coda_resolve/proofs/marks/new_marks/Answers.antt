@@ -9,8 +9,8 @@ pub loop-taken-preserved : goal.loop-taken-preserved
 loop-taken-preserved c = mark_more (replicas_of c.args.views.now) c.deref-taken-items.result.now c.loop-taken.taken-index c.taken-item.result c.loop-taken.marks.items c.in_ok-marks.marks.items c.in_ok-mark.mark c.loop-taken-test.true c.taken-item.is c.loop-taken.invariant c.in_ok-mark.ensures c.in_ok-marks.ensures
 
 pub returns : goal.returns
-returns c =
+returns c = λ history.
     let replicas = replicas_of c.args.views.now in
     c.loop-taken.invariant
     ∙ ap (filter_map (mark_at replicas)) (take_all c.loop-taken.taken-index c.deref-taken-items.result.now c.loop-taken-test.false ∙ c.deref-taken-items.ensures.value)
-    ∙ marks_all replicas c.args.root c.in_ok-objects.objects.items c.in_ok-objects.ensures.fates c.in_ok-objects.ensures.fids
+    ∙ marks_all replicas c.args.root c.in_ok-objects.objects.items c.in_ok-objects.ensures.fates (c.in_ok-objects.ensures.fids history)
