@@ -51,6 +51,8 @@ impl MemBay {
         ensures here { OnOk result (get nat_cmp self.new.places number ≡ Some (Some disk)) }
         ensures others { (k : ℕ) → k ≢ number → get nat_cmp self.new.places k ≡ get nat_cmp self.old.places k }
         ensures same { OnErr result ((k : ℕ) → get nat_cmp self.new.places k ≡ get nat_cmp self.old.places k) }
+        ensures counts { (self.new.disk_faults ≡ self.old.disk_faults) × (self.new.disk_arms ≡ self.old.disk_arms) }
+        ensures images { self.new.images ≡ self.old.images }
     {
         match self.places.insert(number, Some(disk)) {
             Ok(_) => Ok(()),
