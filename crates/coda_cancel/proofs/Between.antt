@@ -1,10 +1,10 @@
 -- What stands in the index between two numbers of one object.
 use Rattle.std.proofs.Common.{◌≡◌, ℕ, ◌≤◌, true, false, List, [], ◌∷◌, refl, ap, sym, ◌∙◌, subst, arith}
 use Rattle.std.specs.Option.{IfSome}
-use Rattle.std.specs.Prelude.{IsTrue, slice_get}
+use Rattle.std.specs.Prelude.{IsTrue, slice_get, ⊤}
 use Rattle.std.specs.Ordering.{nat_cmp, is_gt, ordering_then, ordering_reverse}
 use Rattle.std.specs.declared.cmp.Ordering.TheVariants.{Less, Equal, Greater}
-use Rattle.std.specs.declared.ops.Bound.TheVariants.{Included}
+use Rattle.std.specs.declared.ops.Bound.TheVariants.{Included, Unbounded}
 use Rattle.std.specs.BTreeMap.Range.{IsLeBy}
 use Rattle.std.specs.BTreeSet.{BTreeSet, IsKeyRangeOf}
 use Rattle.std.proofs.lemmas.Cmp.{tied_itself}
@@ -39,26 +39,39 @@ same_object f from last q low high =
       | Greater ↦ λ _ h. absurd (true≢false h)
     ] refl low
 
-abbrev Bounds : BTreeSet Mention → Fid → ℕ → ℕ → List Mention → Type 0
-Bounds s f from last found = IsKeyRangeOf mention_cmp (Included (mention f from)) (Included (mention f last)) s found
+-- the index from a mention on
+abbrev Range : BTreeSet Mention → Mention → List Mention → Type 0
+Range s start found = IsKeyRangeOf mention_cmp (Included start) Unbounded s found
 
--- the range, as it was asked for
-pub asked : (s : BTreeSet Mention) (f : Fid) (from last : ℕ) (start end : Mention) (found : List Mention) → start ≡ mention f from → end ≡ mention f last → IsKeyRangeOf mention_cmp (Included start) (Included end) s found → Bounds s f from last found
-asked s f from last start end found low high is = subst (λ (p : Mention × Mention). IsKeyRangeOf mention_cmp (Included p.0) (Included p.1) s found) (λ i. (low i, high i)) is
+module _ (s : BTreeSet Mention) (f : Fid) (from last : ℕ) (found : List Mention) (range : Range s (mention f from) found) where
+  pub none_found : found ≡ [] → NoneBetween s f from last
+  none_found none number low high = range.5 none (mention f number) (own_le f from number low, tt)
 
-pub none_found : (s : BTreeSet Mention) (f : Fid) (from last : ℕ) (found : List Mention) → Bounds s f from last found → found ≡ [] → NoneBetween s f from last
-none_found s f from last found range none number low high = range.5 none (mention f number) (own_le f from number low, own_le f number last high)
+  module _ (first : Mention) (rest : List Mention) (is : found ≡ first ∷ rest) where
+    -- what is found first is no later than what is there
+    least : (number : ℕ) → from ≤ number → has s f number ≡ true → IsLeBy mention_cmp first (mention f number)
+    least number low there = subst (λ l. IfSome (slice_get l 0) (λ k. IsLeBy mention_cmp k (mention f number))) is (range.2 (mention f number) (own_le f from number low, tt) there)
 
-pub first_found : (s : BTreeSet Mention) (f : Fid) (from last : ℕ) (first : Mention) (rest found : List Mention) → Bounds s f from last found → found ≡ first ∷ rest → IsFirst s f from last first.number
-first_found s f from last first rest found range is =
-    let here = subst (λ l. IfSome (slice_get l 0) (λ k. (IsLeBy mention_cmp (mention f from) k × IsLeBy mention_cmp k (mention f last)) × IsTrue (has s k.fid k.number))) is range.1 in
-    let same : f ≡ first.fid = same_object f from last first here.0.0 here.0.1 in
-    let one : first ≡ mention f first.number = λ i. mention (sym same i) first.number in (
-      le_own f from first.number (subst (λ (m : Mention). IsLeBy mention_cmp (mention f from) m) one here.0.0),
-      le_own f first.number last (subst (λ (m : Mention). IsLeBy mention_cmp m (mention f last)) one here.0.1),
-      subst (λ g. has s g first.number ≡ true) (sym same) here.1,
-      λ between low below. false_from_ne_true (has s f between) (λ there.
-          let least = subst (λ l. IfSome (slice_get l 0) (λ k. IsLeBy mention_cmp k (mention f between))) is (range.2 (mention f between) (own_le f from between low, own_le f between last (omega (arith, below, le_own f first.number last (subst (λ (m : Mention). IsLeBy mention_cmp m (mention f last)) one here.0.1)))) there) in
-          let over : first.number ≤ between = le_own f first.number between (subst (λ (m : Mention). IsLeBy mention_cmp m (mention f between)) one least) in
-          absurd (omega (arith, over, below))),
+    here : (IsLeBy mention_cmp (mention f from) first × ⊤) × IsTrue (has s first.fid first.number)
+    here = subst (λ l. IfSome (slice_get l 0) (λ k. (IsLeBy mention_cmp (mention f from) k × ⊤) × IsTrue (has s k.fid k.number))) is range.1
+
+    own : f ≡ first.fid → first ≡ mention f first.number
+    own same = λ i. mention (sym same i) first.number
+
+    pub first_found : first.fid ≡ f → first.number ≤ last → IsFirst s f from last first.number
+    first_found same below = (
+      le_own f from first.number (subst (λ (m : Mention). IsLeBy mention_cmp (mention f from) m) (own (sym same)) here.0.0),
+      below,
+      subst (λ g. has s g first.number ≡ true) same here.1,
+      λ between low less. false_from_ne_true (has s f between) (λ there.
+          let over : first.number ≤ between = le_own f first.number between (subst (λ (m : Mention). IsLeBy mention_cmp m (mention f between)) (own (sym same)) (least between low there)) in
+          absurd (omega (arith, over, less))),
     )
+
+    -- of the object there is none up to the last number, where the first is of another, or later
+    pub other_found : (first.fid ≡ f → first.number ≤ last → ⊥) → NoneBetween s f from last
+    other_found other number low high = false_from_ne_true (has s f number) (λ there.
+        let le = least number low there in
+        let same : f ≡ first.fid = same_object f from number first here.0.0 le in
+        let below : first.number ≤ number = le_own f first.number number (subst (λ (m : Mention). IsLeBy mention_cmp m (mention f number)) (own same) le) in
+        absurd (other (sym same) (omega (arith, below, high))))

@@ -1,13 +1,16 @@
 -- What leaves where an operation is added: its numbers, how many, and what they weigh, record by record.
 use Rattle.std.proofs.Common.{◌≡◌, ℕ, ◌+◌, ◌<◌, ◌≤◌, Bool, true, false, cond, List, [], ◌∷◌, ◌++◌, Option, Some, None, length, length-append, take, drop, get_or, refl, sym, ap, ◌∙◌, arith}
 use Rattle.std.specs.Option.{option_or}
-use Rattle.std.proofs.lemmas.Bool.{le-leb}
+use Rattle.std.specs.Prelude.{is_some}
+use Rattle.std.proofs.lemmas.Bool.{le-leb, true≢false}
 use Rattle.std.proofs.lemmas.List.{append-nil, take_more, take-append-drop}
 use Rattle.coda_fid.specs.declared.fid.Fid.{Fid}
 use Rattle.coda_fid.specs.declared.op.Op.{Op}
 use Rattle.coda_fid.specs.declared.op.Record.{Record}
 use Rattle.coda_fid.specs.Op.{carried, weight_of}
-use Rattle.coda_cancel.specs.Cancel.{object}
+use Rattle.coda_fid.specs.declared.op.Op.TheVariants.{Create, Mkdir, Symlink, Store, Setattr, Remove, Rmdir, Rename}
+use Rattle.coda_cancel.specs.Cancel.{object, cancels}
+use Rattle.coda_cancel.specs.Dropping.{drops, writes_over}
 use Rattle.coda_cancel.specs.Mentions.{is_upto}
 use Rattle.coda_cancel.specs.Numbers.{numbers, lesser, least}
 use Rattle.coda_cancel.specs.Passing.{goes, undropped}
@@ -132,3 +135,37 @@ total-front i rs = let all = ap total_weight (sym (take-append-drop i rs)) ∙ t
 pub or_same : (o : Option ℕ) (n : ℕ) → option_or o (Some n) ≡ or_number o n
 or_same (Some k) n = refl
 or_same None n = refl
+
+-- an operation without a kept version makes nothing needless
+module _ (o : Op) (none : carried o ≡ None) where
+  pub never_cancels : (rs : List Record) → cancels o rs ≡ false
+  never_cancels rs = elim o as (λ o. carried o ≡ None → cancels o rs ≡ false) [
+    | Create dir name fid mode owner ↦ λ h. refl
+    | Mkdir dir name fid mode owner ↦ λ h. refl
+    | Symlink dir name fid target mode owner ↦ λ h. refl
+    | Store fid pre content ↦ λ h. refl
+    | Setattr fid pre attrs ↦ λ h. refl
+    | Remove dir name fid pre ↦ λ h. absurd (true≢false (ap is_some h))
+    | Rmdir dir name fid pre ↦ λ h. absurd (true≢false (ap is_some h))
+    | Rename from_dir from to_dir to fid over ↦ λ h. refl
+  ] none
+
+  never_drops : (earlier : Op) → drops o earlier ≡ false
+  never_drops earlier = elim o as (λ o. carried o ≡ None → drops o earlier ≡ false) [
+    | Create dir name fid mode owner ↦ λ h. refl
+    | Mkdir dir name fid mode owner ↦ λ h. refl
+    | Symlink dir name fid target mode owner ↦ λ h. refl
+    | Store fid pre content ↦ λ h. absurd (true≢false (ap is_some h))
+    | Setattr fid pre attrs ↦ λ h. absurd (true≢false (ap is_some h))
+    | Remove dir name fid pre ↦ λ h. absurd (true≢false (ap is_some h))
+    | Rmdir dir name fid pre ↦ λ h. absurd (true≢false (ap is_some h))
+    | Rename from_dir from to_dir to fid over ↦ λ h. ap (λ over. writes_over over earlier) h
+  ] none
+
+  pub none_numbered : (rs : List Record) → numbers (goes false o) rs ≡ []
+  none_numbered [] = refl
+  none_numbered (r ∷ rs) = ap (λ b. cond b (r.number ∷ numbers (goes false o) rs) (numbers (goes false o) rs)) (never_drops r.op) ∙ none_numbered rs
+
+  pub none_dropped : (rs : List Record) → undropped (goes false o) rs ≡ rs
+  none_dropped [] = refl
+  none_dropped (r ∷ rs) = ap (λ b. cond b (undropped (goes false o) rs) (r ∷ undropped (goes false o) rs)) (never_drops r.op) ∙ ap (λ l. r ∷ l) (none_dropped rs)

@@ -55,23 +55,9 @@ pub(crate) fn is_light(kept: u64, added: u64, weight: u64) -> bool
     kept <= weight && added <= weight - kept
 }
 
-// The object for which an operation carries a version; one that no volume has where it carries none.
-fn object(op: &Op) -> Fid
-    ensures { result ≡ object (carried op.now) }
-{
-    match op.carried() {
-        Some(over) => over.fid,
-        None => Fid {
-            volume: 0,
-            vnode: 0,
-            uniq: 0,
-        },
-    }
-}
-
 // Whether a record goes where the operation is added.
 fn goes(op: &Op, cancelled: bool, fid: Fid, earlier: &Op) -> bool
-    requires { fid ≡ object (carried op.now) }
+    requires { object (carried op.now) ≡ fid }
     ensures { result ≡ goes cancelled op.now earlier.now }
 {
     if cancelled {
@@ -81,7 +67,8 @@ fn goes(op: &Op, cancelled: bool, fid: Fid, earlier: &Op) -> bool
     }
 }
 
-/// What goes where an operation is added. Looks at the records that mention its object.
+/// What goes where an operation is added. Looks at the records that mention the object that it has a kept version of, if
+/// it has one.
 pub(crate) fn leaving_with(shelf: &Shelf, index: &BTreeSet<Mention>, op: &Op) -> Leaving
     requires indexed { Covers index.now shelf.now.records }
     requires light { total_weight shelf.now.records < 2 ^ 64 }
@@ -90,7 +77,27 @@ pub(crate) fn leaving_with(shelf: &Shelf, index: &BTreeSet<Mention>, op: &Op) ->
     ensures count { result.count + length (undropped (goes result.cancelled op.now) shelf.now.records) ≡ length shelf.now.records }
     ensures weight { result.weight + total_weight (undropped (goes result.cancelled op.now) shelf.now.records) ≡ total_weight shelf.now.records }
 {
-    let fid = object(op);
+    match op.carried() {
+        Some(over) => leaving_of(shelf, index, op, over.fid),
+        None => Leaving {
+            cancelled: false,
+            least: None,
+            count: 0,
+            weight: 0,
+        },
+    }
+}
+
+// What goes where an operation on an object is added.
+fn leaving_of(shelf: &Shelf, index: &BTreeSet<Mention>, op: &Op, fid: Fid) -> Leaving
+    requires own { object (carried op.now) ≡ fid }
+    requires indexed { Covers index.now shelf.now.records }
+    requires light { total_weight shelf.now.records < 2 ^ 64 }
+    ensures cancelled { result.cancelled ≡ cancels op.now shelf.now.records }
+    ensures least { result.least ≡ least (numbers (goes result.cancelled op.now) shelf.now.records) }
+    ensures count { result.count + length (undropped (goes result.cancelled op.now) shelf.now.records) ≡ length shelf.now.records }
+    ensures weight { result.weight + total_weight (undropped (goes result.cancelled op.now) shelf.now.records) ≡ total_weight shelf.now.records }
+{
     let last = shelf.last();
     let cancelled = cancels(shelf, index, op);
     let mut least = None;

@@ -133,10 +133,14 @@ fn first_between(index: &BTreeSet<Mention>, fid: Fid, from: u64, last: u64) -> O
     ensures some { IfSome result (IsFirst index.now fid from last) }
     ensures none { IfNone result (NoneBetween index.now fid from last) }
 {
+    // One bound alone, since each costs a search.
     let start = Mention { fid, number: from };
-    let end = Mention { fid, number: last };
-    match index.range(start..=end).next() {
-        Some(mention) => Some(mention.number),
-        None => None,
+    let Some(mention) = index.range(start..).next() else {
+        return None;
+    };
+    if mention.fid == fid && mention.number <= last {
+        Some(mention.number)
+    } else {
+        None
     }
 }

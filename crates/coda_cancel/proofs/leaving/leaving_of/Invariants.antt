@@ -3,7 +3,7 @@ use Rattle.coda_cancel.specs.Numbers.{numbers, least}
 use Rattle.coda_cancel.specs.Passing.{goes, undropped}
 use Rattle.coda_cancel.specs.Weights.{total_weight}
 use Rattle.coda_cancel.proofs.Walks.{upto, beyond}
-use Rattle.coda_cancel.proofs.leaving.leaving_with.Given as goal
+use Rattle.coda_cancel.proofs.leaving.leaving_of.Given as goal
 
 abbrev pub invariant-loop-number : goal.invariant-loop-number
 invariant-loop-number l = record {
