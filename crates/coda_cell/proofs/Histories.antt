@@ -4,13 +4,13 @@ use Rattle.std.proofs.lemmas.Bool.{eqb-true}
 use Rattle.coda_fid.specs.declared.op.Record.{Record}
 use Rattle.coda_certify.specs.declared.verdict.Verdict.TheVariants.{Applied, Conflict}
 use Rattle.coda_cancel.specs.Numbers.{IsRising}
-use Rattle.coda_certify.specs.Verdicts.{nodes_left}
+use Rattle.coda_certify.specs.Verdicts.{verdict_of, nodes_left}
 use Rattle.coda_cml.specs.declared.frozen.Frozen.{Frozen}
 use Rattle.coda_cml.specs.Segments.{records_upto, records_above}
 use Rattle.coda_tree.specs.Volume.{fresh}
 use Rattle.coda_plain.specs.Histories.{left_by}
 use Rattle.coda_plain.specs.Deeds.{Deed, Operated, Froze, Settled, Gaveup, operation_in, full_of, created_by, created_in, Cut, Course, course_after, course_of, pending_of, MayDo, AreLawful}
-use Rattle.coda_plain.specs.Decisions.{ReplicaEntry, Decided, Resolved, no_lasts, Kept, kept_after, nodes_of, decision}
+use Rattle.coda_plain.specs.Decisions.{ReplicaEntry, Decided, Resolved, with_last, no_lasts, Kept, kept_after, nodes_of, last_of, decision}
 use Rattle.coda_plain.specs.Logs.{front_by, back_by, front_of, back_of, LogAfter}
 use Rattle.coda_plain.specs.Cell.{ClientEntry, Fetched, Did, deed_on, deeds_of}
 use Rattle.coda_plain.proofs.Lists.{left_push, follow_push, along}
@@ -35,7 +35,7 @@ pub number_stays : (c : ClientState) (entries : List ClientEntry) → (client_af
 number_stays c [] = refl
 number_stays c (entry ∷ entries) = number_stays (client_after c entry) entries
 
-server_after : (r : ReplicaState) (entry : ReplicaEntry) → (replica_after r entry).server ≡ r.server
+pub server_after : (r : ReplicaState) (entry : ReplicaEntry) → (replica_after r entry).server ≡ r.server
 server_after r (Decided client number span) = refl
 server_after r (Resolved nodes lasts) = refl
 
@@ -56,6 +56,20 @@ nodes_after_all r kept (entry ∷ entries) same = nodes_after_all (replica_after
 -- the nodes of a replica are those that its history leaves
 pub nodes_are : (server volume : ℕ) (entries : List ReplicaEntry) → (replica_after_all (new_replica server volume) entries).tree.nodes ≡ nodes_of volume entries
 nodes_are server volume entries = nodes_after_all (new_replica server volume) (record { nodes = (fresh volume).nodes; lasts = no_lasts }) entries refl
+
+-- ---- a replica's last decisions
+
+lasts_after : (r : ReplicaState) (kept : Kept) (entry : ReplicaEntry) → r.tree.nodes ≡ kept.nodes → ((client : ℕ) → r.lasts client ≡ kept.lasts client) → (client : ℕ) → (replica_after r entry).lasts client ≡ (kept_after kept entry).lasts client
+lasts_after r kept (Decided client number span) same lasts q = λ i. with_last (λ c. lasts c i) client (record { number = number; verdict = verdict_of (decision (same i) client span) }) q
+lasts_after r kept (Resolved nodes lasts) same before q = refl
+
+lasts_after_all : (r : ReplicaState) (kept : Kept) (entries : List ReplicaEntry) → r.tree.nodes ≡ kept.nodes → ((client : ℕ) → r.lasts client ≡ kept.lasts client) → (client : ℕ) → (replica_after_all r entries).lasts client ≡ (left_by kept_after kept entries).lasts client
+lasts_after_all r kept [] same lasts = lasts
+lasts_after_all r kept (entry ∷ entries) same lasts = lasts_after_all (replica_after r entry) (kept_after kept entry) entries (nodes_after r kept entry same) (lasts_after r kept entry same lasts)
+
+-- what a replica keeps of the last chunk of a client is what its history leaves
+pub lasts_are : (server volume : ℕ) (entries : List ReplicaEntry) (client : ℕ) → (replica_after_all (new_replica server volume) entries).lasts client ≡ last_of volume entries client
+lasts_are server volume entries = lasts_after_all (new_replica server volume) (record { nodes = (fresh volume).nodes; lasts = no_lasts }) entries refl (λ client. refl)
 
 -- ---- a client's volumes
 

@@ -24,12 +24,11 @@ use Rattle.coda_cml.proofs.runs.WithoutObject.{makes_parts}
 use Rattle.coda_cell.specs.Ask.{Asked}
 use Rattle.coda_cell.specs.Held.{Fetch}
 use Rattle.coda_cell.specs.Looking.{fetched, entries_of}
-use Rattle.coda_cell.specs.State.{put, pending, ClientVolume, volume_after, ClientState, new_client, client_after, Event}
+use Rattle.coda_cell.specs.State.{put, pending, ClientVolume, volume_after, ClientState, new_client, client_after, Event, at_client}
 use Rattle.coda_cell.specs.Accepting.{Sight, sight_of, accept, next_fid}
 use Rattle.coda_cell.specs.Asking.{behind_fetches, next_record}
 use Rattle.coda_cell.specs.Kept.{AreChildrenKept, IsHolding}
 use Rattle.coda_cell.specs.Made.{MadeCell, client_of, grown, grown_all, moves_of}
-use Rattle.coda_cell.specs.Steps.{at_client}
 use Rattle.coda_cell.specs.Runs.{AreUp, AreMade, IsKept, IsLeft}
 use Rattle.coda_cell.proofs.Accepted.{Relies, accepted_relies}
 use Rattle.coda_cell.proofs.AfterOperations.{bound_operation, has_operation}

@@ -9,11 +9,10 @@ use Rattle.coda_plain.specs.Decisions.{ReplicaEntry, Decided, last_of}
 use Rattle.coda_plain.specs.Cell.{ClientEntry, Did, Actor}
 use Rattle.coda_plain.specs.Moves.{Move, AtClient, AtReplica, Does, done_on, IsSent, IsBacked, Moved, grown as grown_actor}
 use Rattle.coda_plain.proofs.Soundness.{none_joins, runs_sound}
-use Rattle.coda_cell.specs.State.{pending, ClientState, new_client, client_after, Event, Entered}
+use Rattle.coda_cell.specs.State.{pending, ClientState, new_client, client_after, Event, Entered, at_client}
 use Rattle.coda_cell.specs.Held.{Held, AreBound, held_after_deed}
 use Rattle.coda_cell.specs.Kept.{AreWithin, AreChildrenKept, IsHolding}
 use Rattle.coda_cell.specs.Made.{MadeCell, client_of, grown}
-use Rattle.coda_cell.specs.Steps.{at_client}
 use Rattle.coda_cell.specs.Runs.{AreMade, IsKept, IsLeft}
 use Rattle.coda_cell.proofs.Grown.{replica_grown}
 use Rattle.coda_cell.proofs.Histories.{client_push, volumes_are, pending_are}

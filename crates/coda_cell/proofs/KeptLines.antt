@@ -1,5 +1,5 @@
 -- What each line does keeps a cell.
-use Rattle.std.proofs.Common.{◌≡◌, ℕ, ◌+◌, Bool, true, false, cond, List, [], ◌∷◌, ◌++◌, map, Option, Some, None, is_some, option_map, Ok, Err, refl, sym, ap, ◌∙◌, subst, inl, inr, ◌⊎◌}
+use Rattle.std.proofs.Common.{◌≡◌, ℕ, ◌+◌, Bool, true, false, cond, List, [], ◌∷◌, ◌++◌, map, Option, Some, None, is_some, option_map, Result, Ok, Err, refl, sym, ap, ◌∙◌, subst, inl, inr, ◌⊎◌}
 use Rattle.std.specs.Prelude.{nat_le}
 use Rattle.std.specs.Option.{option_and_then, unwrap_or}
 use Rattle.std.specs.FinMap as finite
@@ -31,12 +31,13 @@ use Rattle.coda_plain.proofs.Volumes.{volumes}
 use Rattle.coda_cell.specs.Ask.{Asked, Create, Mkdir, Symlink, Store, Setattr, Remove, Rmdir, Rename, too_big, object_of}
 use Rattle.coda_cell.specs.Held.{Held, Fetch, AreBound, held_after_fetches}
 use Rattle.coda_cell.specs.Looking.{look_along, entries_of}
-use Rattle.coda_cell.specs.State.{pending, ClientState, new_client, ReplicaState, new_replica, Event, Entered}
+use Rattle.coda_cell.specs.State.{pending, ClientState, new_client, ReplicaState, new_replica, Event, Entered, at_client}
 use Rattle.coda_cell.specs.Accepting.{Accepted, sight_of, accept}
 use Rattle.coda_cell.specs.Asking.{Answer, answers, look_ups, behind_fetches, next_record, has_room, is_full, answer_to, operate_unless, operate, read, list}
 use Rattle.coda_cell.specs.Kept.{AreWithin, AreChildrenKept, IsHolding}
 use Rattle.coda_cell.specs.Made.{MadeCell, client_of, replica_of, state_of, grown_all}
-use Rattle.coda_cell.specs.Steps.{first_missing, on_volume, client_named, volume_named, server_named, holder_named, no_volume, no_client, no_room, Doing, Unless, reached, offers_of, stays, Sending, chunk_of, sent_from, sent_unless, drain, at_client, ByClient, ByBoth, bytes_of, Operates, DoesTask, alone, Does}
+use Rattle.coda_cell.specs.Steps.{first_missing, on_volume, client_named, volume_named, server_named, holder_named, no_volume, no_client, no_room, Doing, Unless, reached, offers_of, ByClient, ByBoth, bytes_of, Operates, DoesTask, alone, Does}
+use Rattle.coda_cell.specs.Sending.{Freezing, freezing, ruling, drained_of, drained, drain}
 use Rattle.coda_cell.specs.Runs.{IsKept, IsLeft, MakesNumbered, LinesKeepCells}
 use Rattle.coda_cell.specs.declared.refused.Refused.{Refused}
 use Rattle.coda_cell.specs.declared.refused.Refused.TheVariants as refused
@@ -45,7 +46,7 @@ use Rattle.coda_cell.proofs.Fetches.{bound_along, bound_look_ups, client_after_b
 use Rattle.coda_cell.proofs.Histories.{nodes_are, server_stays}
 use Rattle.coda_cell.proofs.KeptCells.{client_there, volume_left, client_left, ticked_left, linked_left}
 use Rattle.coda_cell.proofs.KeptChildren.{kept_children_along, kept_children_look_ups}
-use Rattle.coda_cell.proofs.KeptChunks.{sendings_left}
+use Rattle.coda_cell.proofs.KeptChunks.{gone, ruled_on_left}
 use Rattle.coda_cell.proofs.KeptClients.{IsReplicated, the_client, fetches_left, operated_left}
 use Rattle.coda_cell.proofs.Moving.{has_more, left_none, left_both}
 use Rattle.coda_cell.proofs.Offered.{fetched_along_is_offered, fetched_is_offered, has_along, has_look_ups}
@@ -208,25 +209,17 @@ module _ (cell : MadeCell) (number blocks : ℕ) (kept : IsKept cell) (there : c
   home_is : home.server ≡ server
   home_is = server_stays (new_replica server volume) (cell.acted.replicas server volume).history
 
-  nodes_is : home.tree.nodes ≡ nodes_of volume (cell.acted.replicas server volume).history
-  nodes_is = nodes_are server volume (cell.acted.replicas server volume).history
+  drained_left : (o : Result Freezing Refused) → freezing now window server (sender.volumes volume) ≡ o → IsLeft cell (drained_of number volume (sender.volumes volume) home o).events
+  drained_left (Err why) is = left_none cell kept
+  drained_left (Ok f) is =
+      ruled_on_left cell number blocks kept there volume server homed f (gone cell number blocks kept there volume server homed now window f is) home refl (ruling number f.number f.span home) refl
 
-  abbrev events_at : ℕ → Nodes → Sending → List Event
-  events_at at nodes chunk =
-      at_client number (Did volume (Froze chunk.number at chunk.last)) ∷ Entered (AtReplica at volume (Decided number chunk.number chunk.span))
-      ∷ at_client number (Did volume (Settled chunk.number (verdict_of (decision nodes number chunk.span)))) ∷ []
-
-  sent_left : (o : Option FreezeFault) → freeze_refusal (sender.volumes volume).frozen now window (segments_of (sender.volumes volume).back) ≡ o → IsLeft cell (sent_unless o now window number volume (sender.volumes volume) home).events
-  sent_left (Some why) is = left_none cell kept
-  sent_left None is = by (nat_le 4294967295 (sender.volumes volume).chunks)
-    where
-      by : (full : Bool) → IsLeft cell (cond full (stays refused.JournalFull (sender.volumes volume) home) (sent_from number volume (chunk_of now window (sender.volumes volume)) (sender.volumes volume) home)).events
-      by true = left_none cell kept
-      by false = subst (IsLeft cell) (λ i. events_at (sym home_is i) (sym nodes_is i) (chunk_of now window (sender.volumes volume))) (sendings_left cell number blocks kept there volume server homed now window is)
+  all_left : IsLeft cell (drained now window number volume (sender.volumes volume) home).events
+  all_left = drained_left (freezing now window home.server (sender.volumes volume)) (ap (λ s. freezing now window s (sender.volumes volume)) (sym home_is))
 
   drain_left : (strength : Strength) → IsLeft cell (drain strength now window number volume (sender.volumes volume) home).events
-  drain_left Strong = sent_left (freeze_refusal (sender.volumes volume).frozen now window (segments_of (sender.volumes volume).back)) refl
-  drain_left Weak = sent_left (freeze_refusal (sender.volumes volume).frozen now window (segments_of (sender.volumes volume).back)) refl
+  drain_left Strong = all_left
+  drain_left Weak = all_left
   drain_left Down = left_none cell kept
 
 -- ---- lines

@@ -8,10 +8,9 @@ use Rattle.coda_plain.specs.Logs.{BeginsWith}
 use Rattle.coda_plain.specs.Moves.{with_client, grown as grown_actor, Append, AtClient, AtReplica, Move, Does, after as after_move, done_on, Moved}
 use Rattle.coda_plain.proofs.AtClients.{made_more}
 use Rattle.coda_plain.proofs.Staying.{clients_run}
-use Rattle.coda_cell.specs.State.{CellState, Event, VolumeMade, ClientMade, Ticked, LinkSet, Entered, after, after_all}
+use Rattle.coda_cell.specs.State.{CellState, Event, VolumeMade, ClientMade, Ticked, LinkSet, Entered, after, after_all, at_client}
 use Rattle.coda_cell.specs.Made.{MadeCell, state_of, grown, grown_all, move_of, moves_of}
 use Rattle.coda_cell.specs.Runs.{AreUp, IsKept, IsLeft}
-use Rattle.coda_cell.specs.Steps.{at_client}
 use Rattle.coda_cell.proofs.Grown.{client_grown}
 
 -- ---- events and others behind them

@@ -28,7 +28,8 @@ use Rattle.coda_cell.specs.State.{ClientState, ReplicaState, CellState, Event}
 use Rattle.coda_cell.specs.Accepting.{Sight, Accepted, is_used_up, next_fid, unless_used, new_at, new_in, new_under, new_place, at_root, accept_creation, store_in, store_at, setattr_at, remove_in, remove_at, rmdir_of, rmdir_in, rmdir_at, held_bound, bound_in, bound_at, spot, place, is_dir_at, with_version, replaced_by, move_to, rename_to, rename_root, accept_rename, accept_remove, accept_rmdir, sight_of, accept}
 use Rattle.coda_cell.specs.Asking.{Said, answer_to, look_ups, behind_fetches, operate, operate_unless}
 use Rattle.coda_cell.specs.Refusing.{refusal}
-use Rattle.coda_cell.specs.Steps.{Named, first_missing, Doing, Unless, Naming, drain, reply_to, ByBoth, DoesTask, Does}
+use Rattle.coda_cell.specs.Steps.{Named, first_missing, Doing, Unless, Naming, reply_to, ByBoth, DoesTask, Does}
+use Rattle.coda_cell.specs.Sending.{drain}
 use Rattle.coda_cell.specs.Orders.{named_in, named_by, AreThere, RefusalsComeInOrder}
 use Rattle.coda_cell.specs.declared.refused.Refused.{Refused}
 use Rattle.coda_cell.specs.declared.refused.Refused.TheVariants as refused
@@ -111,6 +112,10 @@ then_else (Err refused.NotDir) next n m = tt
 then_else (Err refused.Nothing) next n m = tt
 then_else (Err (refused.Young age window)) next n m = tt
 then_else (Err (refused.Frozen number home)) next n m = tt
+then_else (Err (refused.NotFrozen number)) next n m = tt
+then_else (Err (refused.WrongNumber kept number)) next n m = tt
+then_else (Err (refused.NoMessage number)) next n m = tt
+then_else (Err (refused.BadMessage at)) next n m = tt
 then_else (Err refused.JournalFull) next n m = tt
 then_else (Err refused.Exists) next n m = tt
 then_else (Err refused.IsDir) next n m = tt

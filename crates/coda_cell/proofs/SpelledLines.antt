@@ -1,5 +1,5 @@
 -- What each line leaves can be spelled, where its numbers are in their ranges.
-use Rattle.std.proofs.Common.{◌≡◌, ℕ, ◌<◌, ◌≤◌, ◌+◌, ◌==◌, ◌||◌, Bool, true, false, cond, List, [], ◌∷◌, ◌++◌, length, map, min, Option, Some, None, is_some, Ok, Err, refl, sym, ap, ◌∙◌, subst, inl, inr, arith}
+use Rattle.std.proofs.Common.{◌≡◌, ℕ, ◌<◌, ◌≤◌, ◌+◌, ◌==◌, ◌||◌, Bool, true, false, cond, List, [], ◌∷◌, ◌++◌, length, map, min, Option, Some, None, is_some, Result, Ok, Err, refl, sym, ap, ◌∙◌, subst, inl, inr, arith}
 use Rattle.std.specs.Prelude.{nat_lt, nat_le, IfSome}
 use Rattle.std.specs.Option.{unwrap_or}
 use Rattle.std.specs.FinMap as finite
@@ -13,7 +13,14 @@ use Rattle.coda_tree.specs.declared.node.Node.{Node}
 use Rattle.coda_tree.specs.Volume.{Nodes, parent_of}
 use Rattle.coda_cml.specs.Chunks.{freeze_refusal}
 use Rattle.coda_cml.specs.Segments.{segments_of}
+use Rattle.coda_cml.specs.Steps.{settle_refusal}
 use Rattle.coda_cml.specs.declared.fault.FreezeFault.{FreezeFault}
+use Rattle.coda_cml.specs.declared.fault.SettleFault.{SettleFault}
+use Rattle.coda_cml.specs.declared.frozen.Frozen.{Frozen}
+use Rattle.coda_fid.specs.declared.op.Record.{Record}
+use Rattle.coda_record.specs.declared.answer.Answer.{Answer as RecordAnswer}
+use Rattle.coda_record.specs.declared.answer.Answer.TheVariants.{Applied, Conflict, Behind, Old}
+use Rattle.coda_replica.specs.Answers.{is_next, told}
 use Rattle.coda_record.specs.Form.{one, two, four, eight}
 use Rattle.coda_record.specs.Parts.{u8, u16, u32, u64}
 use Rattle.coda_record.specs.Spelling.{HasSpelling}
@@ -36,11 +43,12 @@ use Rattle.coda_plain.proofs.Soundness.{none_joins}
 use Rattle.coda_cell.specs.Ask.{Asked, Create, Mkdir, Symlink, Store, Setattr, Remove, Rmdir, Rename, too_long, too_big, object_of}
 use Rattle.coda_cell.specs.Held.{Held, Fetch, held_after_fetches}
 use Rattle.coda_cell.specs.Looking.{offered, fetch_of, looked, look_along, entries_of}
-use Rattle.coda_cell.specs.State.{ClientVolume, ClientState, ReplicaState, new_client, Event, VolumeMade, ClientMade, Ticked, LinkSet, Entered}
+use Rattle.coda_cell.specs.State.{ClientVolume, ClientState, ReplicaState, new_client, Event, VolumeMade, ClientMade, Ticked, LinkSet, Entered, at_client}
 use Rattle.coda_cell.specs.Accepting.{Accepted, sight_of, accept}
 use Rattle.coda_cell.specs.Asking.{Answer, answers, look_ups, behind_fetches, next_record, has_room, is_full, answer_to, operate_unless, operate, read, list}
 use Rattle.coda_cell.specs.Made.{MadeCell, client_of, state_of, grown, grown_all, moves_of}
-use Rattle.coda_cell.specs.Steps.{Doing, Unless, first_missing, on_volume, client_named, volume_named, server_named, holder_named, no_volume, no_client, offers_of, stays, chunk_of, sent_from, sent_unless, drain, at_client, ByClient, ByBoth, bytes_of, Operates, DoesTask, alone, Does}
+use Rattle.coda_cell.specs.Steps.{Doing, Unless, first_missing, on_volume, client_named, volume_named, server_named, holder_named, no_volume, no_client, offers_of, ByClient, ByBoth, bytes_of, Operates, DoesTask, alone, Does}
+use Rattle.coda_cell.specs.Sending.{Freezing, frozen_now, frozen_unless, freezing_of, freezing, Ruling, decides, ruling_of, ruling, Taking, taken, taken_unless, taking, deeds_at, entries_at, answered_to, ruled_on, drained_of, drain}
 use Rattle.coda_cell.specs.Runs.{IsKept, MakesNumbered}
 use Rattle.coda_cell.specs.Spelled.{IsSpelled, AreSpelled, CanBeSpelled, LinesKeepSpellings, MessagesCanBeSpelled}
 use Rattle.coda_cell.specs.declared.refused.Refused.{Refused}
@@ -203,21 +211,78 @@ module _ (cell : MadeCell) (kept : IsKept cell) (can : CanBeSpelled cell) (numbe
 
 -- ---- a chunk
 
-module _ (cell : MadeCell) (can : CanBeSpelled cell) (number blocks : ℕ) (there : cell.sizes number ≡ Some blocks) (volume : ℕ) where
-  freezes_spelled : (v : ClientVolume) (r : ReplicaState) (now window : ℕ) (o : Option FreezeFault) → AreEventsSpelled (sent_unless o now window number volume v r).events
-  freezes_spelled v r now window (Some why) = tt
-  freezes_spelled v r now window None = by (nat_le 4294967295 v.chunks) refl
-    where
-      by : (full : Bool) → nat_le 4294967295 v.chunks ≡ full → AreEventsSpelled (cond full (stays refused.JournalFull v r) (sent_from number volume (chunk_of now window v) v r)).events
-      by true e = tt
-      by false e = (
-          let few : v.chunks < 4294967295 = grind (arith, nat_tests, e) in
-          (within 0 4294967295 eight (v.chunks + 1) (omega arith) (omega (arith, few)) (omega (arith, few)), (byte number (can.clients number blocks there), (tt, tt))))
+-- what is ruled can be spelled
+decided_spelled : (server volume client number : ℕ) (span : List Record) (r : ReplicaState) (ruled : Ruling) → HasSpelling u8 client → ruling client number span r ≡ Ok ruled → AreEventsSpelled (entries_at server volume ruled.entries)
+decided_spelled server volume client number span r ruled byte e = by (is_next (r.lasts client) number) (nat_lt 4294967295 number) e
+  where
+    by : (next full : Bool) → ruling_of next full client number span r ≡ Ok ruled → AreEventsSpelled (entries_at server volume ruled.entries)
+    by true true e = cc
+    by true false e = (let same : decides client number span r ≡ ruled = cc in subst (λ (x : Ruling). AreEventsSpelled (entries_at server volume x.entries)) same (byte, tt))
+    by false full e =
+        let tells : Ruling = record { answer = told (r.lasts client) number; entries = []; replica = r } in
+        let same : tells ≡ ruled = cc in
+        subst (λ (x : Ruling). AreEventsSpelled (entries_at server volume x.entries)) same tt
 
-  drain_spelled : (v : ClientVolume) (r : ReplicaState) (now window : ℕ) (strength : Strength) → AreEventsSpelled (drain strength now window number volume v r).events
-  drain_spelled v r now window Strong = freezes_spelled v r now window (freeze_refusal v.frozen now window (segments_of v.back))
-  drain_spelled v r now window Weak = freezes_spelled v r now window (freeze_refusal v.frozen now window (segments_of v.back))
-  drain_spelled v r now window Down = tt
+-- and so can what is taken
+took_spelled : (client volume number : ℕ) (answer : RecordAnswer) (v : ClientVolume) (took : Taking) → taking number answer v ≡ Ok took → AreEventsSpelled (deeds_at client volume took.deeds)
+took_spelled client volume number answer v took e = by (settle_refusal v.frozen number) e
+  where
+    taken_spelled : (answer : RecordAnswer) → AreEventsSpelled (deeds_at client volume (taken number answer v).deeds)
+    taken_spelled Applied = (tt, tt)
+    taken_spelled (Conflict refused why) = (tt, tt)
+    taken_spelled (Behind last) = tt
+    taken_spelled (Old last) = tt
+    by : (o : Option SettleFault) → taken_unless o number answer v ≡ Ok took → AreEventsSpelled (deeds_at client volume took.deeds)
+    by (Some why) e = cc
+    by None e = (let same : taken number answer v ≡ took = cc in subst (λ (x : Taking). AreEventsSpelled (deeds_at client volume x.deeds)) same (taken_spelled answer))
+
+-- and what is frozen
+froze_spelled : (client volume now window server : ℕ) (v : ClientVolume) (f : Freezing) → freezing now window server v ≡ Ok f → AreEventsSpelled (deeds_at client volume f.deeds)
+froze_spelled client volume now window server v f e = by v.frozen e
+  where
+    room : (b : Bool) → nat_le 4294967295 v.chunks ≡ b → (let r : Result Freezing Refused = cond b (Err refused.JournalFull) (Ok (frozen_now now window server v)) in r) ≡ Ok f → AreEventsSpelled (deeds_at client volume f.deeds)
+    room true few e = cc
+    room false few e =
+        let same : frozen_now now window server v ≡ f = cc in
+        let low : v.chunks < 4294967295 = grind (arith, nat_tests, few) in
+        subst (λ (x : Freezing). AreEventsSpelled (deeds_at client volume x.deeds)) same (within 0 4294967295 eight (v.chunks + 1) (omega arith) (omega (arith, low)) (omega (arith, low)), tt)
+    here : (o : Option FreezeFault) → frozen_unless o now window server v ≡ Ok f → AreEventsSpelled (deeds_at client volume f.deeds)
+    here (Some why) e = cc
+    here None e = room (nat_le 4294967295 v.chunks) refl e
+    there : (chunk : Frozen) (b : Bool) → (let r : Result Freezing Refused = cond b (Ok (record { number = chunk.number; span = v.front; deeds = []; volume = v })) (Err (refused.Frozen chunk.number chunk.home)) in r) ≡ Ok f
+        → AreEventsSpelled (deeds_at client volume f.deeds)
+    there chunk false e = cc
+    there chunk true e =
+        let kept : Freezing = record { number = chunk.number; span = v.front; deeds = []; volume = v } in
+        let same : kept ≡ f = cc in
+        subst (λ (x : Freezing). AreEventsSpelled (deeds_at client volume x.deeds)) same tt
+    by : (o : Option Frozen) → freezing_of o now window server v ≡ Ok f → AreEventsSpelled (deeds_at client volume f.deeds)
+    by None e = here (freeze_refusal None now window (segments_of v.back)) e
+    by (Some chunk) e = there chunk (chunk.home == server) e
+
+module _ (cell : MadeCell) (can : CanBeSpelled cell) (number blocks : ℕ) (there : cell.sizes number ≡ Some blocks) (volume : ℕ) (v : ClientVolume) (r : ReplicaState) (now window : ℕ) where
+  sender_byte : HasSpelling u8 number
+  sender_byte = byte number (can.clients number blocks there)
+
+  module _ (f : Freezing) (froze : AreEventsSpelled (deeds_at number volume f.deeds)) where
+    exchange_spelled : (ruled : Ruling) (server : ℕ) → AreEventsSpelled (entries_at ruled.replica.server volume ruled.entries) → (o : Result Taking Refused) → taking f.number ruled.answer f.volume ≡ o → AreEventsSpelled (answered_to number volume f ruled o).events
+    exchange_spelled ruled server entries (Err why) e = both_spelled (deeds_at number volume f.deeds) (entries_at ruled.replica.server volume ruled.entries) froze entries
+    exchange_spelled ruled server entries (Ok took) e =
+        both_spelled (deeds_at number volume f.deeds) (entries_at ruled.replica.server volume ruled.entries ++ deeds_at number volume took.deeds) froze
+        (both_spelled (entries_at ruled.replica.server volume ruled.entries) (deeds_at number volume took.deeds) entries (took_spelled number volume f.number ruled.answer f.volume took e))
+
+    ruled_spelled : (o : Result Ruling Refused) → ruling number f.number f.span r ≡ o → AreEventsSpelled (ruled_on number volume f r o).events
+    ruled_spelled (Err why) e = froze
+    ruled_spelled (Ok ruled) e = exchange_spelled ruled ruled.replica.server (decided_spelled ruled.replica.server volume number f.number f.span r ruled sender_byte e) (taking f.number ruled.answer f.volume) refl
+
+  drained_spelled : (o : Result Freezing Refused) → freezing now window r.server v ≡ o → AreEventsSpelled (drained_of number volume v r o).events
+  drained_spelled (Err why) e = tt
+  drained_spelled (Ok f) e = ruled_spelled f (froze_spelled number volume now window r.server v f e) (ruling number f.number f.span r) refl
+
+  drain_spelled : (strength : Strength) → AreEventsSpelled (drain strength now window number volume v r).events
+  drain_spelled Strong = drained_spelled (freezing now window r.server v) refl
+  drain_spelled Weak = drained_spelled (freezing now window r.server v) refl
+  drain_spelled Down = tt
 
 -- ---- what is asked
 

@@ -15,7 +15,7 @@ use Rattle.coda_cell.specs.State.{pending, log_of, ClientState, ReplicaState, Ce
 use Rattle.coda_cell.specs.Steps.{Doing, Named}
 use Rattle.coda_cell.specs.Code.{replica_state, IsClientAt}
 use Rattle.coda_cell.specs.declared.cell.Cell.{Cell}
-use Rattle.coda_cell.specs.declared.replica.Replica.{Replica}
+use Rattle.coda_replica.specs.State.{ReplicaState as Replica}
 use Rattle.coda_cell.specs.declared.links.Ends.{Ends}
 
 -- the order of links: by client, then by server

@@ -1,5 +1,5 @@
 -- What the parts of the code stand for.
-use Rattle.std.specs.Prelude.{◌≡◌, ◌<◌, ◌≤◌, ◌+◌, ℕ, Bool, true, false, List, ◌++◌, Option, Some, None, Result, Ok, ◌⊎◌, Err}
+use Rattle.std.specs.Prelude.{◌≡◌, ◌<◌, ◌≤◌, ◌+◌, ℕ, Bool, true, false, List, ◌++◌, Option, Some, None, Result, Ok, ◌⊎◌, Err, ⊤}
 use Rattle.std.specs.Option.{option_map}
 use Rattle.std.specs.Borrow.{Bor}
 use Rattle.std.specs.BTreeMap as tree
@@ -22,14 +22,17 @@ use Rattle.coda_cell.specs.State.{put, ClientVolume, new_volume, volume_after, l
 use Rattle.coda_cell.specs.Accepting.{Sight}
 use Rattle.coda_cell.specs.Ask.{Asked, asked}
 use Rattle.coda_cell.specs.Asking.{Said, Answer, next_record, has_room, is_full, operate, read, list}
-use Rattle.coda_cell.specs.Steps.{Outcome, drain}
+use Rattle.coda_record.specs.declared.answer.Answer.{Answer as RecordAnswer}
+use Rattle.coda_cml.specs.declared.fault.SettleFault.{SettleFault}
+use Rattle.coda_cell.specs.Refusing.{settle_refused_as}
+use Rattle.coda_cell.specs.Sending.{Freezing, Ruling, Taking, Outcome, drain}
 use Rattle.coda_cell.specs.declared.request.Request.{Request}
 use Rattle.coda_cell.specs.declared.request.Request.TheVariants as request
 use Rattle.coda_cell.specs.declared.refused.Refused.{Refused}
 use Rattle.coda_cell.specs.declared.refused.Refused.TheVariants as refused
 use Rattle.coda_cell.specs.declared.venus.Venus.{Venus}
 use Rattle.coda_cell.specs.declared.volume_log.VolumeLog.{VolumeLog}
-use Rattle.coda_cell.specs.declared.replica.Replica.{Replica}
+use Rattle.coda_replica.specs.State.{ReplicaState as Replica, last_for}
 
 -- how many objects a client created in a volume, where it did something there
 abbrev pub creations_in : Option VolumeLog → ℕ
@@ -111,7 +114,7 @@ IsClientAt (Some c) None = ⊥
 
 -- what a replica is
 abbrev pub replica_state : Replica → ReplicaState
-replica_state r = record { server = r.server; tree = r.volume }
+replica_state r = record { server = r.server; tree = r.tree; lasts = λ client. last_for r client }
 
 -- the nodes of a volume that is offered
 abbrev pub nodes_offered : Option (Bor Tree) → Option Nodes
@@ -130,6 +133,35 @@ pub record Finds (fetches : List Fetch) (old : Held) (volume : ℕ) (path : List
 -- a client gave this answer, and is then what that leaves; or there was no memory
 abbrev pub Gives : Answer → ClientState → Said → Venus → Type 0
 Gives answer c said new = (said ≡ Err refused.Memory) ⊎ ((said ≡ answer.said) × IsClient (client_after_all c answer.entries) new)
+
+-- a chunk was frozen for a server, by its number, or refused; and the log is then that of what this leaves of the volume
+abbrev pub FreezesTo : Result Freezing Refused → ClientVolume → Result ℕ Refused → VolumeLog → Type 0
+FreezesTo (Ok f) v said log = (said ≡ Ok f.number) × IsVolumeLog f.volume log
+FreezesTo (Err why) v said log = (said ≡ Err why) × IsVolumeLog v log
+
+abbrev pub Freezes : Result Freezing Refused → ClientVolume → Result ℕ Refused → VolumeLog → Type 0
+Freezes wanted v said log = (said ≡ Err refused.Memory) ⊎ FreezesTo wanted v said log
+
+-- a replica answered a chunk, or refused it, and is then what this leaves
+abbrev pub RulesTo : Result Ruling Refused → ReplicaState → Result RecordAnswer Refused → Replica → Type 0
+RulesTo (Ok ruling) r said replica = (said ≡ Ok ruling.answer) × (replica_state replica ≡ ruling.replica)
+RulesTo (Err why) r said replica = (said ≡ Err why) × (replica_state replica ≡ r)
+
+abbrev pub Rules : Result Ruling Refused → ReplicaState → Result RecordAnswer Refused → Replica → Type 0
+Rules wanted r said replica = (said ≡ Err refused.Memory) ⊎ RulesTo wanted r said replica
+
+-- the chunk is frozen, or why it isn't
+abbrev pub found_frozen : Option SettleFault → Result ⊤ Refused
+found_frozen None = Ok tt
+found_frozen (Some why) = Err (settle_refused_as why)
+
+-- an answer was taken, or refused
+abbrev pub TakesTo : Result Taking Refused → ClientVolume → Result ⊤ Refused → VolumeLog → Type 0
+TakesTo (Ok taking) v said log = (said ≡ Ok tt) × IsVolumeLog taking.volume log
+TakesTo (Err why) v said log = (said ≡ Err why) × IsVolumeLog v log
+
+abbrev pub Takes : Result Taking Refused → ClientVolume → Result ⊤ Refused → VolumeLog → Type 0
+Takes wanted v said log = (said ≡ Err refused.Memory) ⊎ TakesTo wanted v said log
 
 -- a client's volume and a replica came to this, and are then what that leaves; or there was no memory
 abbrev pub Drains : Outcome → Said → VolumeLog → Replica → Type 0

@@ -7,6 +7,7 @@ pub mod Made
 pub mod Refusing
 pub mod Accepting
 pub mod Asking
+pub mod Sending
 pub mod Steps
 pub mod Code
 pub mod Cells

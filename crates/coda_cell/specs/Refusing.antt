@@ -2,6 +2,8 @@
 use Rattle.std.specs.Prelude.{◌≡◌, ◌⊎◌, Bool, true, false, List, [], ◌∷◌, Result, Err}
 use Rattle.coda_cml.specs.declared.fault.FreezeFault.{FreezeFault}
 use Rattle.coda_cml.specs.declared.fault.FreezeFault.TheVariants as freeze
+use Rattle.coda_cml.specs.declared.fault.SettleFault.{SettleFault}
+use Rattle.coda_cml.specs.declared.fault.SettleFault.TheVariants as settle
 use Rattle.coda_script.specs.declared.refusal.Refusal.{Refusal}
 use Rattle.coda_script.specs.declared.refusal.Refusal.TheVariants as named
 use Rattle.coda_script.specs.declared.reply.Arg.{Arg}
@@ -19,6 +21,8 @@ refusal_of refused.LogFull = named.LogFull
 refusal_of refused.Nothing = named.Nothing
 refusal_of (refused.Young age window) = named.Young
 refusal_of (refused.Frozen number home) = named.Frozen
+refusal_of (refused.NotFrozen number) = named.NotFrozen
+refusal_of (refused.WrongNumber kept number) = named.WrongNumber
 refusal_of refused.JournalFull = named.JournalFull
 refusal_of refused.Exists = named.Exists
 refusal_of refused.IsDir = named.IsDir
@@ -31,6 +35,8 @@ refusal_of (refused.NoSuchActor number) = named.NoSuchActor
 refusal_of refused.AlreadyThere = named.AlreadyThere
 refusal_of refused.CellFull = named.CellFull
 refusal_of refused.NotFile = named.NotFile
+refusal_of (refused.NoMessage number) = named.NoMessage
+refusal_of (refused.BadMessage at) = named.BadMessage
 refusal_of refused.Memory = named.CellFull
 
 -- what the refusal names, in the order in which it is printed
@@ -41,6 +47,8 @@ args_of refused.LogFull = []
 args_of refused.Nothing = []
 args_of (refused.Young age window) = Number age ∷ Number window ∷ []
 args_of (refused.Frozen number home) = Number number ∷ Number home ∷ []
+args_of (refused.NotFrozen number) = Number number ∷ []
+args_of (refused.WrongNumber kept number) = Number kept ∷ Number number ∷ []
 args_of refused.JournalFull = []
 args_of refused.Exists = []
 args_of refused.IsDir = []
@@ -53,6 +61,8 @@ args_of (refused.NoSuchActor number) = Number number ∷ []
 args_of refused.AlreadyThere = []
 args_of refused.CellFull = []
 args_of refused.NotFile = []
+args_of (refused.NoMessage number) = Number number ∷ []
+args_of (refused.BadMessage at) = Number at ∷ []
 args_of refused.Memory = []
 
 -- the refusal as a reply
@@ -65,6 +75,12 @@ refused_as (freeze.Frozen number home) = refused.Frozen number home
 refused_as freeze.Nothing = refused.Nothing
 refused_as (freeze.Young age window) = refused.Young age window
 refused_as freeze.Memory = refused.Memory
+
+-- why an answer isn't taken, as a line is refused for it
+abbrev pub settle_refused_as : SettleFault → Refused
+settle_refused_as (settle.NotFrozen number) = refused.NotFrozen number
+settle_refused_as (settle.WrongNumber kept number) = refused.WrongNumber kept number
+settle_refused_as settle.Memory = refused.Memory
 
 -- whether an object is missing
 abbrev pub is_miss : Refused → Bool

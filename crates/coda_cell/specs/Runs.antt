@@ -54,11 +54,3 @@ LinesKeepCells = (old : MadeCell) (said : Line) (reply : Reply) (events : List E
 pub record CellsAreKept : Type 0 where
   pub first : IsKept nothing_made
   pub orderly : (cell : MadeCell) → IsKept cell → AreOrderly (state_of cell)
-
--- no chunk is frozen
-abbrev pub AreThawed : MadeCell → Type 0
-AreThawed cell = (client volume : ℕ) → (course_of (done_on cell.acted client volume)).cut ≡ None
-
--- No line leaves a chunk frozen, where none was: a drain settles what it freezes.
-abbrev pub LinesLeaveNoneFrozen : Type 0
-LinesLeaveNoneFrozen = (old : MadeCell) (said : Line) (reply : Reply) (events : List Event) → AreThawed old → Does (state_of old) said reply events → AreThawed (grown_all old events)

@@ -3,7 +3,7 @@ use Rattle.std.specs.Prelude.{ℕ, ◌+◌, min, ◌==◌, ◌&&◌, if◌then�
 use Rattle.std.specs.Option.{option_map}
 use Rattle.coda_fid.specs.declared.op.Record.{Record}
 use Rattle.coda_tree.specs.Volume.{Nodes, Tree, fresh}
-use Rattle.coda_certify.specs.Verdicts.{nodes_left}
+use Rattle.coda_certify.specs.Verdicts.{verdict_of, nodes_left}
 use Rattle.coda_cancel.specs.Cancel.{fold}
 use Rattle.coda_cml.specs.Segments.{segments_of, records_upto, records_above}
 use Rattle.coda_cml.specs.State.{LogState}
@@ -12,7 +12,7 @@ use Rattle.coda_cml.specs.declared.frozen.Frozen.{Frozen}
 use Rattle.coda_script.specs.declared.line.Strength.{Strength}
 use Rattle.coda_script.specs.declared.line.Strength.TheVariants.{Down}
 use Rattle.coda_plain.specs.Deeds.{Deed, Operated, Froze, Settled, Gaveup, created_by}
-use Rattle.coda_plain.specs.Decisions.{ReplicaEntry, Decided, Resolved, decision}
+use Rattle.coda_plain.specs.Decisions.{ReplicaEntry, Decided, Resolved, Last, with_last, no_lasts, decision}
 use Rattle.coda_plain.specs.Cell.{ClientEntry, Fetched, Did}
 use Rattle.coda_plain.specs.Moves.{Append, AtClient, AtReplica}
 use Rattle.coda_cell.specs.Held.{Held, nothing_held, held_after}
@@ -90,14 +90,15 @@ client_after_all c (entry ∷ entries) = client_after_all (client_after c entry)
 
 -- ---- a replica
 
--- one server's copy of a volume
+-- one server's copy of a volume, and the last chunk of each client that it decided, with its verdict
 pub record ReplicaState : Type 0 where
   pub server : ℕ
   pub tree : Tree
+  pub lasts : ℕ → Last
 
 -- a replica that was just made
 abbrev pub new_replica : ℕ → ℕ → ReplicaState
-new_replica server volume = record { server = server; tree = fresh volume }
+new_replica server volume = record { server = server; tree = fresh volume; lasts = no_lasts }
 
 -- a volume whose nodes are others
 abbrev pub with_nodes : Tree → Nodes → Tree
@@ -105,8 +106,11 @@ with_nodes tree nodes = record tree { nodes = nodes }
 
 -- a replica after an entry
 abbrev pub replica_after : ReplicaState → ReplicaEntry → ReplicaState
-replica_after r (Decided client number span) = record r { tree = with_nodes r.tree (nodes_left r.tree.nodes (decision r.tree.nodes client span)) }
-replica_after r (Resolved nodes lasts) = record r { tree = with_nodes r.tree nodes }
+replica_after r (Decided client number span) = record r {
+  tree = with_nodes r.tree (nodes_left r.tree.nodes (decision r.tree.nodes client span));
+  lasts = with_last r.lasts client (record { number = number; verdict = verdict_of (decision r.tree.nodes client span) });
+}
+replica_after r (Resolved nodes lasts) = record r { tree = with_nodes r.tree nodes; lasts = lasts }
 
 -- a replica after entries in order
 abbrev pub replica_after_all : ReplicaState → List ReplicaEntry → ReplicaState
@@ -136,6 +140,10 @@ pub data Event : Type 0 where
   LinkSet : (client server : ℕ) (strength : Strength) → Event
   -- the history of an actor has one more entry
   Entered : (append : Append) → Event
+
+-- an entry of a client, as it happens
+abbrev pub at_client : ℕ → ClientEntry → Event
+at_client client entry = Entered (AtClient client entry)
 
 -- a cell in which nothing was made; all links are down
 abbrev pub empty_state : CellState

@@ -1,14 +1,8 @@
 -- What a line does in a cell: a relation of the state before, the line, its reply, and what happens.
-use Rattle.std.specs.Prelude.{◌≡◌, ℕ, ◌+◌, Bool, true, false, ◌==◌, nat_le, is_some, if◌then◌else◌, List, [], ◌∷◌, length, map, replicate, Option, Some, None, Ok, Err}
+use Rattle.std.specs.Prelude.{◌≡◌, ℕ, Bool, true, false, ◌==◌, nat_le, is_some, if◌then◌else◌, List, [], ◌∷◌, length, map, replicate, Option, Some, None, Ok, Err}
 use Rattle.std.specs.Option.{option_map_or, option_and_then, unwrap_or}
 use Rattle.std.specs.List.{list_any}
-use Rattle.coda_fid.specs.declared.op.Record.{Record}
 use Rattle.coda_tree.specs.Volume.{Nodes}
-use Rattle.coda_certify.specs.Verdicts.{verdict_of}
-use Rattle.coda_cml.specs.Segments.{segments_of, records_upto}
-use Rattle.coda_cml.specs.Chunks.{freeze_refusal}
-use Rattle.coda_cml.specs.Fronts.{chunk_end}
-use Rattle.coda_cml.specs.declared.fault.FreezeFault.{FreezeFault}
 use Rattle.coda_script.specs.declared.line.Strength.{Strength}
 use Rattle.coda_script.specs.declared.line.Strength.TheVariants.{Strong, Weak, Down}
 use Rattle.coda_script.specs.declared.line.Content.{Content}
@@ -17,19 +11,15 @@ use Rattle.coda_script.specs.declared.line.Task.{Task}
 use Rattle.coda_script.specs.declared.line.Task.TheVariants as task
 use Rattle.coda_script.specs.declared.line.Line.{Line}
 use Rattle.coda_script.specs.declared.line.Line.TheVariants as line
-use Rattle.coda_script.specs.declared.reply.Answer.TheVariants.{Decided as DecidedAs}
 use Rattle.coda_script.specs.declared.reply.Reply.{Reply}
-use Rattle.coda_script.specs.declared.reply.Reply.TheVariants.{Opened, Accepted, Drained, ShowVolume, ShowLog}
-use Rattle.coda_plain.specs.Deeds.{Froze, Settled}
-use Rattle.coda_plain.specs.Decisions.{Decided, decision}
-use Rattle.coda_plain.specs.Cell.{ClientEntry, Did}
-use Rattle.coda_plain.specs.Moves.{AtClient, AtReplica}
+use Rattle.coda_script.specs.declared.reply.Reply.TheVariants.{Opened, Accepted, ShowVolume, ShowLog}
 use Rattle.coda_cell.specs.Ask.{Asked, Create, Mkdir, Symlink, Store, Setattr, Remove, Rmdir, Rename}
-use Rattle.coda_cell.specs.State.{ClientVolume, volume_after, ClientState, ReplicaState, replica_after, CellState, Event, VolumeMade, ClientMade, Ticked, LinkSet, Entered}
-use Rattle.coda_cell.specs.Refusing.{refusal, refused_as}
+use Rattle.coda_cell.specs.State.{ClientState, ReplicaState, CellState, Event, VolumeMade, ClientMade, Ticked, LinkSet, at_client}
+use Rattle.coda_cell.specs.Refusing.{refusal}
+use Rattle.coda_cell.specs.Sending.{drain}
 use Rattle.coda_cell.specs.Asking.{Said, Answer, operate, read, list}
 use Rattle.coda_cell.specs.declared.refused.Refused.{Refused}
-use Rattle.coda_cell.specs.declared.refused.Refused.TheVariants.{JournalFull, LinkDown, NoSuchActor, AlreadyThere, CellFull}
+use Rattle.coda_cell.specs.declared.refused.Refused.TheVariants.{NoSuchActor, AlreadyThere, CellFull}
 
 -- ---- which lines are built
 
@@ -138,66 +128,7 @@ reached Down r = None
 abbrev pub offers_of : CellState → ℕ → ℕ → Option Nodes
 offers_of s client volume = option_and_then (λ (r : ReplicaState). reached (s.links client r.server) r) (s.replicas volume)
 
--- ---- sending a log
-
--- what a client and a replica come to: a reply or a refusal, what happens, and what that leaves the client of the volume, and the
--- replica
-pub record Outcome : Type 0 where
-  pub said : Said
-  pub events : List Event
-  pub volume : ClientVolume
-  pub replica : ReplicaState
-
--- a refusal, by which nothing happens
-abbrev pub stays : Refused → ClientVolume → ReplicaState → Outcome
-stays why v r = record { said = Err why; events = []; volume = v; replica = r }
-
--- a chunk: its number, its last operation, and its operations
-pub record Sending : Type 0 where
-  pub number : ℕ
-  pub last : ℕ
-  pub span : List Record
-
--- the chunk that a client freezes of a volume: as long a front of what is pending as may go, and no more than 64 records of it
-abbrev pub chunk_of : ℕ → ℕ → ClientVolume → Sending
-chunk_of now window v = record {
-  number = v.chunks + 1;
-  last = chunk_end now window 64 v.back;
-  span = records_upto (chunk_end now window 64 v.back) v.back;
-}
-
--- a chunk of a client on a volume is frozen for the server of a replica, decided there, and settled
-abbrev pub sent_from : ℕ → ℕ → Sending → ClientVolume → ReplicaState → Outcome
-sent_from client volume chunk v r = record {
-  said = Ok (Drained chunk.number (DecidedAs (verdict_of (decision r.tree.nodes client chunk.span))));
-  events = Entered (AtClient client (Did volume (Froze chunk.number r.server chunk.last)))
-      ∷ Entered (AtReplica r.server volume (Decided client chunk.number chunk.span))
-      ∷ Entered (AtClient client (Did volume (Settled chunk.number (verdict_of (decision r.tree.nodes client chunk.span)))))
-      ∷ [];
-  volume = volume_after (volume_after v (Froze chunk.number r.server chunk.last)) (Settled chunk.number (verdict_of (decision r.tree.nodes client chunk.span)));
-  replica = replica_after r (Decided client chunk.number chunk.span);
-}
-
--- a client freezes at most 2^32 - 1 chunks of a volume
-abbrev pub sent_unless : Option FreezeFault → ℕ → ℕ → ℕ → ℕ → ClientVolume → ReplicaState → Outcome
-sent_unless (Some why) now window client volume v r = stays (refused_as why) v r
-sent_unless None now window client volume v r = if nat_le 4294967295 v.chunks then stays JournalFull v r else sent_from client volume (chunk_of now window v) v r
-
--- what is pending is sent as far as it may go by the window, unless nothing of it may
-abbrev pub drained : ℕ → ℕ → ℕ → ℕ → ClientVolume → ReplicaState → Outcome
-drained now window client volume v r = sent_unless (freeze_refusal v.frozen now window (segments_of v.back)) now window client volume v r
-
--- the client of this number sends what is pending of a volume to the replica, where the link is up
-abbrev pub drain : Strength → ℕ → ℕ → ℕ → ℕ → ClientVolume → ReplicaState → Outcome
-drain Strong now window client volume v r = drained now window client volume v r
-drain Weak now window client volume v r = drained now window client volume v r
-drain Down now window client volume v r = stays LinkDown v r
-
 -- ---- what a line does
-
--- an entry of a client, as it happens
-abbrev pub at_client : ℕ → ClientEntry → Event
-at_client client entry = Entered (AtClient client entry)
 
 -- a client answers
 pub record ByClient (s : CellState) (number volume : ℕ) (ask : Option Nodes → ClientState → Answer) (reply : Reply) (events : List Event) : Type 0 where

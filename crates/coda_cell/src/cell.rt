@@ -12,9 +12,9 @@ ghost use Rattle.coda_cell.specs.Code.{replica_state};
 use crate::fault::CellFault;
 use crate::links::{Ends, put_link};
 use crate::refused::Refused;
-use crate::replica::Replica;
 use crate::venus::Venus;
 use coda_cml::Log;
+use coda_replica::Replica;
 use coda_script::{Numbers, Reply, Strength};
 use coda_tree::Volume;
 use std::alloc::{AllocError, Global};
@@ -105,7 +105,7 @@ impl Cell {
         ensures { (s : CellState) → IsCell s self.now → option_copied result ≡ volume_at (s.replicas volume) server }
     {
         match self.replicas.get(&volume) {
-            Some(replica) if replica.server == server => Some(&replica.volume),
+            Some(replica) if replica.server() == server => Some(replica.volume()),
             _ => None,
         }
     }
@@ -132,7 +132,7 @@ impl Cell {
         ensures { result ≡ (holder_in self.now server volume).there }
     {
         match self.replicas.get(&volume) {
-            Some(replica) => replica.server == server,
+            Some(replica) => replica.server() == server,
             None => false,
         }
     }
@@ -206,7 +206,7 @@ impl Cell {
     fn put_volume(&mut self, volume: u32, server: u8) -> Result<(), AllocError>
         ensures { (s : CellState) → IsCell s self.old → OnOk result (IsCell (after s (VolumeMade volume server)) self.new) }
     {
-        let replica = Replica::new(self.alloc, server, volume)?;
+        let replica = Replica::new(self.alloc, volume, server)?;
         self.servers.push(server)?;
         put_replica(&mut self.replicas, volume, replica)
     }

@@ -14,7 +14,6 @@ mod links;
 mod looking;
 mod parents;
 mod refused;
-mod replica;
 mod request;
 mod runs;
 mod tasks;
@@ -28,6 +27,4 @@ pub use laws::{
     refusals_come_in_order,
 };
 pub use lines::is_built;
-pub use runs::{
-    cells_are_kept, lines_keep_cells, lines_leave_none_frozen, messages_can_be_spelled,
-};
+pub use runs::{cells_are_kept, lines_keep_cells, messages_can_be_spelled};

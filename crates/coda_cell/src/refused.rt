@@ -1,8 +1,8 @@
 // Why a line isn't carried out, as the cell and its clients tell it.
 ghost use Rattle.std.specs.Prelude.{◌≡◌, ◌≢◌, IfOk};
-ghost use Rattle.coda_cell.specs.Refusing.{refusal, refusal_of, args_of, refused_as, is_miss};
+ghost use Rattle.coda_cell.specs.Refusing.{refusal, refusal_of, args_of, refused_as, settle_refused_as, is_miss};
 
-use coda_cml::FreezeFault;
+use coda_cml::{FreezeFault, SettleFault};
 use coda_fid::Fid;
 use coda_script::{Arg, Args, Refusal, Reply};
 use std::alloc::{AllocError, Global};
@@ -22,6 +22,10 @@ pub enum Refused {
     Young(u64, u64),
     /// The chunk of this number is frozen, for this server.
     Frozen(u64, u8),
+    /// An answer came to the chunk of this number, and none is frozen.
+    NotFrozen(u64),
+    /// The chunk of the first number is frozen, and an answer came to the second.
+    WrongNumber(u64, u64),
     /// A history has as many entries of a kind as there may be.
     JournalFull,
     /// The new name is bound, or the path is that of the root, or the new fid is in use.
@@ -46,6 +50,10 @@ pub enum Refused {
     CellFull,
     /// What must be a file is a link.
     NotFile,
+    /// No message of this number is on its way.
+    NoMessage(u64),
+    /// The bytes of the message are none, from this offset on.
+    BadMessage(u64),
     /// There was no memory, which ends the run.
     Memory,
 }
@@ -73,6 +81,17 @@ pub fn refused_as(why: FreezeFault) -> Refused
     }
 }
 
+/// Why an answer isn't taken, as a line is refused for it.
+pub fn settle_refused_as(why: SettleFault) -> Refused
+    ensures { result ≡ settle_refused_as why }
+{
+    match why {
+        SettleFault::NotFrozen(number) => Refused::NotFrozen(number),
+        SettleFault::WrongNumber(kept, number) => Refused::WrongNumber(kept, number),
+        SettleFault::Memory => Refused::Memory,
+    }
+}
+
 impl Refused {
     /// Whether an object is missing.
     pub fn is_miss(&self) -> bool
@@ -93,6 +112,8 @@ impl Refused {
             Refused::Nothing => Refusal::Nothing,
             Refused::Young(_, _) => Refusal::Young,
             Refused::Frozen(_, _) => Refusal::Frozen,
+            Refused::NotFrozen(_) => Refusal::NotFrozen,
+            Refused::WrongNumber(_, _) => Refusal::WrongNumber,
             Refused::JournalFull => Refusal::JournalFull,
             Refused::Exists => Refusal::Exists,
             Refused::IsDir => Refusal::IsDir,
@@ -105,6 +126,8 @@ impl Refused {
             Refused::AlreadyThere => Refusal::AlreadyThere,
             Refused::CellFull => Refusal::CellFull,
             Refused::NotFile => Refusal::NotFile,
+            Refused::NoMessage(_) => Refusal::NoMessage,
+            Refused::BadMessage(_) => Refusal::BadMessage,
             Refused::Memory => unreachable!(),
         }
     }
@@ -122,6 +145,12 @@ impl Refused {
             }
             Refused::Frozen(number, home) => {
                 vec![in alloc; Arg::Number(number), Arg::Number(u64::from(home))]?
+            }
+            Refused::NotFrozen(number) => vec![in alloc; Arg::Number(number)]?,
+            Refused::NoMessage(number) => vec![in alloc; Arg::Number(number)]?,
+            Refused::BadMessage(at) => vec![in alloc; Arg::Number(at)]?,
+            Refused::WrongNumber(kept, number) => {
+                vec![in alloc; Arg::Number(kept), Arg::Number(number)]?
             }
             _ => Vec::new(alloc),
         };

@@ -1,5 +1,5 @@
 // What holds of cells over all their runs.
-ghost use Rattle.coda_cell.specs.Runs.{CellsAreKept, LinesKeepCells, LinesLeaveNoneFrozen};
+ghost use Rattle.coda_cell.specs.Runs.{CellsAreKept, LinesKeepCells};
 ghost use Rattle.coda_cell.specs.Spelled.{MessagesCanBeSpelled};
 
 /// A law of cells: one in which nothing was made is kept, and in one that is kept what each client holds is bound by its
@@ -19,9 +19,4 @@ pub fn lines_keep_cells()
 /// cancellation leaves of a chunk have a spelling, and what a replica answers to it.
 pub fn messages_can_be_spelled()
     ensures { MessagesCanBeSpelled }
-{}
-
-/// A law of lines: none leaves a chunk frozen, where none was, since a drain settles what it freezes.
-pub fn lines_leave_none_frozen()
-    ensures { LinesLeaveNoneFrozen }
 {}

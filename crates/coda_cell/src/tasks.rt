@@ -7,7 +7,8 @@ ghost use Rattle.coda_script.specs.declared.line.Strength.TheVariants as Strengt
 ghost use Rattle.coda_cml.specs.Steady.{IsSteady};
 ghost use Rattle.coda_cell.specs.Held.{AreBound};
 ghost use Rattle.coda_cell.specs.State.{pending, ClientState};
-ghost use Rattle.coda_cell.specs.Steps.{reached, drain};
+ghost use Rattle.coda_cell.specs.Steps.{reached};
+ghost use Rattle.coda_cell.specs.Sending.{drain};
 ghost use Rattle.coda_cell.specs.Code.{IsClientAt, replica_state, nodes_offered, requested, answer_of, GivesAt, SendsAt, SendsBetween};
 ghost use Rattle.coda_cell.specs.Cells.{ends_cmp};
 
@@ -17,10 +18,10 @@ use crate::draining::{Until, send};
 use crate::fault::CellFault;
 use crate::links::{Ends, strength};
 use crate::refused::Refused;
-use crate::replica::Replica;
 use crate::request::Request;
 use crate::venus::Venus;
 use coda_fid::{Bytes, Path};
+use coda_replica::Replica;
 use coda_script::{Content, Reply, Strength, Task};
 use coda_tree::Volume;
 use std::alloc::{AllocError, Global};
@@ -41,8 +42,8 @@ fn offers(strength: Strength, replica: &Replica) -> Option<&Volume>
     ensures { nodes_offered result ≡ reached strength (replica_state replica.now) }
 {
     match strength {
-        Strength::Strong => Some(&replica.volume),
-        Strength::Weak => Some(&replica.volume),
+        Strength::Strong => Some(replica.volume()),
+        Strength::Weak => Some(replica.volume()),
         Strength::Down => None,
     }
 }
@@ -57,7 +58,7 @@ fn offers_of<'a>(
     ensures { nodes_offered result ≡ option_and_then (λ r. reached (unwrap_or (tree.get ends_cmp links.now (record { client = client; server = r.server })) Strength.Down) r) (option_map replica_state (tree.get nat_cmp replicas.now volume)) }
 {
     match replicas.get(&volume) {
-        Some(replica) => offers(strength(links, client, replica.server), replica),
+        Some(replica) => offers(strength(links, client, replica.server()), replica),
         None => None,
     }
 }
@@ -79,7 +80,6 @@ fn answer_at(
 
 // Has a client send what is pending of a volume to a replica, where the client is there.
 fn send_at(
-    alloc: Global,
     strength: Strength,
     until: Until,
     clients: &mut BTreeMap<u8, Venus>,
@@ -91,12 +91,11 @@ fn send_at(
     ensures { (c : ClientState) → IsClientAt (Some c) (tree.get nat_cmp clients.old client) → IsSteady (pending (c.volumes volume)) → SendsAt (drain strength until.now until.window client volume (c.volumes volume) (replica_state replica.old)) c volume client result clients.old clients.new replica.new }
 {
     let venus = clients.get_mut(&client).unwrap();
-    send(alloc, strength, until, client, volume, venus, replica)
+    send(strength, until, client, volume, venus, replica)
 }
 
 // Has a client send what is pending of a volume to the volume's replica, where both are there.
 fn send_between(
-    alloc: Global,
     links: &BTreeMap<Ends, Strength>,
     until: Until,
     clients: &mut BTreeMap<u8, Venus>,
@@ -109,8 +108,8 @@ fn send_between(
     ensures { (c : ClientState) → IsClientAt (Some c) (tree.get nat_cmp clients.old client) → IsSteady (pending (c.volumes volume)) → SendsBetween (λ server. unwrap_or (tree.get ends_cmp links.now (record { client = client; server = server })) Strength.Down) until.now until.window c volume client result clients.old clients.new replicas.old replicas.new }
 {
     let replica = replicas.get_mut(&volume).unwrap();
-    let strength = strength(links, client, replica.server);
-    send_at(alloc, strength, until, clients, client, volume, replica)
+    let strength = strength(links, client, replica.server());
+    send_at(strength, until, clients, client, volume, replica)
 }
 
 // The bytes of content that is one byte, so many times.
@@ -205,7 +204,6 @@ impl Cell {
             window,
         };
         let said = send_between(
-            self.alloc,
             &self.links,
             until,
             &mut self.clients,

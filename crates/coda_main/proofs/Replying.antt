@@ -16,9 +16,10 @@ use Rattle.coda_script.specs.declared.reply.Reply.TheVariants.{Opened, Accepted,
 use Rattle.coda_cell.specs.declared.refused.Refused.{Refused}
 use Rattle.coda_cell.specs.declared.refused.Refused.TheVariants.{NoSuchActor}
 use Rattle.coda_cell.specs.Refusing.{refusal}
-use Rattle.coda_cell.specs.State.{ClientState, CellState, Event, VolumeMade, ClientMade, Ticked, LinkSet}
+use Rattle.coda_cell.specs.State.{ClientState, CellState, Event, VolumeMade, ClientMade, Ticked, LinkSet, at_client}
 use Rattle.coda_cell.specs.Asking.{Answer}
-use Rattle.coda_cell.specs.Steps.{Doing, Unless, Naming, Happens, ByClient, ByBoth, Does, DoesTask, first_missing, client_named, volume_named, server_named, holder_named, on_volume, no_volume, no_client, drain, offers_of, reply_to, at_client, alone, is_built, is_built_task}
+use Rattle.coda_cell.specs.Steps.{Doing, Unless, Naming, Happens, ByClient, ByBoth, Does, DoesTask, first_missing, client_named, volume_named, server_named, holder_named, on_volume, no_volume, no_client, offers_of, reply_to, alone, is_built, is_built_task}
+use Rattle.coda_cell.specs.Sending.{drain}
 use Rattle.coda_cell.specs.Made.{MadeCell, state_of, grown_all}
 use Rattle.coda_main.specs.PlainRun.{LineGives}
 use Rattle.coda_main.specs.Texts.{text_of}

@@ -13,7 +13,7 @@ use Rattle.coda_script.specs.Ranges.{InRange}
 use Rattle.coda_script.proofs.WholeLines.{is_found, is_in_range}
 use Rattle.coda_plain.specs.Cell.{empty_cell}
 use Rattle.coda_plain.specs.Deeds.{pending_of}
-use Rattle.coda_plain.specs.Logs.{front_by, back_by}
+use Rattle.coda_plain.specs.Logs.{front_by}
 use Rattle.coda_plain.specs.Moves.{Move, done_on, Moved}
 use Rattle.coda_plain.specs.Promises.{ArePromised}
 use Rattle.coda_plain.proofs.Running.{moves_run}
@@ -22,12 +22,11 @@ use Rattle.coda_cell.specs.State.{ClientVolume, ClientState, CellState}
 use Rattle.coda_cell.specs.Made.{MadeCell, nothing_made, state_of, grown_all, moves_of}
 use Rattle.coda_cell.specs.Steps.{is_built, Does}
 use Rattle.coda_cell.specs.Cells.{IsCell, AreOrderly, Carried}
-use Rattle.coda_cell.specs.Runs.{IsKept, MakesNumbered, AreThawed}
-use Rattle.coda_cell.proofs.Histories.{volumes_are, shown}
+use Rattle.coda_cell.specs.Runs.{IsKept, MakesNumbered}
+use Rattle.coda_cell.proofs.Histories.{volumes_are, shown, runs_are, thawed_are}
 use Rattle.coda_cell.proofs.KeptCells.{lawful, client_there, first_kept, orderly}
 use Rattle.coda_cell.proofs.KeptLines.{lines_keep_cells}
 use Rattle.coda_cell.proofs.Moving.{moved_both}
-use Rattle.coda_cell.proofs.Thawed.{lines_leave_none_frozen}
 use Rattle.coda_main.specs.Texts.{text_of}
 use Rattle.coda_main.specs.PlainRun.{LineGives, LineRefused}
 use Rattle.coda_main.specs.Shows.{Shows, CellGives, Answered}
@@ -73,50 +72,48 @@ unbuilt_refused plain bytes said spelled unbuilt = inr (record { said = said; sp
 
 -- ---- runs
 
--- from a cell that is kept the actors moved, it is kept, and no chunk is frozen
+-- from a cell that is kept the actors moved, and it is kept
 pub record HasMoved (old new : MadeCell) : Type 0 where
   pub moves : List Move
   pub moved : Moved old.acted moves new.acted
   pub kept : IsKept new
-  pub thawed : AreThawed new
 
-gives_moved : (old new : MadeCell) (bytes text : List ℕ) (outside : List (List ℕ)) → IsKept old → AreThawed old → LineGives old bytes text outside new → HasMoved old new
-gives_moved old new bytes text outside kept thawed (o, inl silent) = subst (HasMoved old) (sym silent.2) (record { moves = []; moved = refl; kept = kept; thawed = thawed })
-gives_moved old new bytes text outside kept thawed (o, inr x) =
+gives_moved : (old new : MadeCell) (bytes text : List ℕ) (outside : List (List ℕ)) → IsKept old → LineGives old bytes text outside new → HasMoved old new
+gives_moved old new bytes text outside kept (o, inl silent) = subst (HasMoved old) (sym silent.2) (record { moves = []; moved = refl; kept = kept })
+gives_moved old new bytes text outside kept (o, inr x) =
     let left = lines_keep_cells old x.said x.reply x.step.events kept (read_numbered bytes x.said x.spelled) x.step.does in
-    subst (HasMoved old) (sym x.step.grows) (record { moves = moves_of x.step.events; moved = left.moved; kept = left.kept; thawed = lines_leave_none_frozen old x.said x.reply x.step.events thawed x.step.does })
+    subst (HasMoved old) (sym x.step.grows) (record { moves = moves_of x.step.events; moved = left.moved; kept = left.kept })
 
 moved_on : (old mid new : MadeCell) → HasMoved old mid → HasMoved mid new → HasMoved old new
-moved_on old mid new a b = record { moves = a.moves ++ b.moves; moved = moved_both old.acted mid.acted new.acted a.moves b.moves a.moved b.moved; kept = b.kept; thawed = b.thawed }
+moved_on old mid new a b = record { moves = a.moves ++ b.moves; moved = moved_both old.acted mid.acted new.acted a.moves b.moves a.moved b.moved; kept = b.kept }
 
-pub runs_moved : (old new : MadeCell) (ls : List (List ℕ)) (report : List ℕ) (outside : List (List ℕ)) → IsKept old → AreThawed old → Runs LineGives old ls report outside new → HasMoved old new
-runs_moved old new [] report outside kept thawed run = subst (HasMoved old) (sym run.2) (record { moves = []; moved = refl; kept = kept; thawed = thawed })
-runs_moved old new (l ∷ more) report outside kept thawed run =
-    let first = gives_moved old run.0 l run.1 run.3 kept thawed run.5 in
-    moved_on old run.0 new first (runs_moved run.0 new more run.2 run.4 first.kept first.thawed run.6)
+pub runs_moved : (old new : MadeCell) (ls : List (List ℕ)) (report : List ℕ) (outside : List (List ℕ)) → IsKept old → Runs LineGives old ls report outside new → HasMoved old new
+runs_moved old new [] report outside kept run = subst (HasMoved old) (sym run.2) (record { moves = []; moved = refl; kept = kept })
+runs_moved old new (l ∷ more) report outside kept run =
+    let first = gives_moved old run.0 l run.1 run.3 kept run.5 in
+    moved_on old run.0 new first (runs_moved run.0 new more run.2 run.4 first.kept run.6)
 
 -- ---- what runs leave
 
-first_thawed : AreThawed nothing_made
-first_thawed client volume = refl
-
-of_pending : (cell : MadeCell) (client volume : ℕ) (c : ClientState) → IsKept cell → AreThawed cell → (state_of cell).clients client ≡ Some c → IsOfPending cell client volume c
-of_pending cell client volume c kept thawed is =
+of_pending : (cell : MadeCell) (client volume : ℕ) (c : ClientState) → IsKept cell → (state_of cell).clients client ≡ Some c → IsOfPending cell client volume c
+of_pending cell client volume c kept is =
     let there = client_there cell kept client c is in
     let deeds = done_on cell.acted client volume in
     let volume_is = volumes_are client there.0 (cell.acted.clients client).history volume in
     let law = lawful cell kept client volume in
     let is = shown deeds law in
     subst (IsOfPending cell client volume) there.2 (record {
-      chunk = ap fold (ap (λ (v : ClientVolume). v.front) volume_is ∙ is.front ∙ ap (λ c. front_by c (pending_of deeds)) (thawed client volume));
-      records = ap fold (ap (λ (v : ClientVolume). v.back) volume_is ∙ is.back ∙ ap (λ c. back_by c (pending_of deeds)) (thawed client volume));
+      chunk = ap fold (ap (λ (v : ClientVolume). v.front) volume_is ∙ is.front);
+      records = ap fold (ap (λ (v : ClientVolume). v.back) volume_is ∙ is.back);
+      pending = runs_are deeds law;
+      thawed = λ none. ap (λ o. front_by o (pending_of deeds)) (thawed_are deeds law (sym (ap (λ (v : ClientVolume). v.frozen) volume_is) ∙ none)).0;
     })
 
 pub has_run : (cell : MadeCell) → HasMoved nothing_made cell → HasRun cell
-has_run cell m = record { run = moves_run m.moves empty_cell cell.acted first_kept.sound m.moved; logs = λ client volume c is. of_pending cell client volume c m.kept m.thawed is }
+has_run cell m = record { run = moves_run m.moves empty_cell cell.acted first_kept.sound m.moved; logs = λ client volume c is. of_pending cell client volume c m.kept is }
 
 pub scripts_run : ScriptsRun
-scripts_run ls report outside cell run = has_run cell (runs_moved nothing_made cell ls report outside first_kept first_thawed run)
+scripts_run ls report outside cell run = has_run cell (runs_moved nothing_made cell ls report outside first_kept run)
 
 promised : (ls : List (List ℕ)) (report : List ℕ) (outside : List (List ℕ)) (cell : MadeCell) → Runs LineGives nothing_made ls report outside cell → ArePromised (histories_of cell)
 promised ls report outside cell run = (scripts_run ls report outside cell run).run.promised none_joins
@@ -139,12 +136,12 @@ logs_are_pending ls report outside cell run client volume c is = (scripts_run ls
 -- ---- what a report tells
 
 ran_moved : (new : MadeCell) (all : Bool) (read front rest report : List ℕ) (outside : List (List ℕ)) → Ran LineGives nothing_made all read front rest report outside new → HasRun new
-ran_moved new all read front rest report outside ran = has_run new (runs_moved nothing_made new _ report outside first_kept first_thawed ran.runs)
+ran_moved new all read front rest report outside ran = has_run new (runs_moved nothing_made new _ report outside first_kept ran.runs)
 
 broke_moved : (new : MadeCell) (all : Bool) (read front rest written : List ℕ) (outside : List (List ℕ)) → BrokeOff LineGives nothing_made all read front rest written outside new → HasRun new
 broke_moved new all read front rest written outside b =
-    let before = runs_moved nothing_made b.state b.before b.report b.answers first_kept first_thawed b.runs in
-    has_run new (moved_on nothing_made b.state new before (gives_moved b.state new b.line _ b.answered before.kept before.thawed b.did))
+    let before = runs_moved nothing_made b.state b.before b.report b.answers first_kept b.runs in
+    has_run new (moved_on nothing_made b.state new before (gives_moved b.state new b.line _ b.answered before.kept b.did))
 
 -- a report is of a cell that has run
 abbrev RunsSo : Bool → List ℕ → List ℕ → List (List ℕ) → Status → Type 0

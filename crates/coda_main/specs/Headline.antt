@@ -1,5 +1,5 @@
 -- What all runs of scripts have in common, in the words of a file system that replays logs.
-use Rattle.std.specs.Prelude.{◌≡◌, ℕ, Some, Ok, List, []}
+use Rattle.std.specs.Prelude.{◌≡◌, ℕ, Some, None, Ok, List, [], ◌++◌}
 use Rattle.coda_tree.specs.Volume.{Nodes}
 use Rattle.coda_certify.specs.declared.reason.Reason.{Reason}
 use Rattle.coda_certify.specs.declared.verdict.Verdict.TheVariants.{Applied, Conflict}
@@ -7,6 +7,7 @@ use Rattle.coda_certify.specs.Replay.{replay}
 use Rattle.coda_cancel.specs.Cancel.{fold}
 use Rattle.coda_engine.specs.Run.{Runs}
 use Rattle.coda_plain.specs.Deeds.{pending_of}
+use Rattle.coda_plain.specs.Logs.{front_of, back_of}
 use Rattle.coda_plain.specs.Decisions.{Decision, verdict_on, nodes_by}
 use Rattle.coda_plain.specs.Cell.{Histories, empty_cell}
 use Rattle.coda_plain.specs.Moves.{done_on}
@@ -20,11 +21,13 @@ use Rattle.coda_main.specs.PlainRun.{LineGives}
 abbrev pub histories_of : MadeCell → Histories
 histories_of cell = record { clients = λ client. (cell.acted.clients client).history; replicas = λ server volume. (cell.acted.replicas server volume).history }
 
--- A client's log of a volume: no chunk of it is on its way, and its records are what cancellation leaves of the operations that no
--- chunk applied.
+-- A client's log of a volume, of the operations that no chunk applied: the chunk that is on its way is what cancellation leaves of its own
+-- operations, the first of them, and the other records are what it leaves of the rest. No chunk is on its way exactly where none is frozen.
 pub record IsOfPending (cell : MadeCell) (client volume : ℕ) (c : ClientState) : Type 0 where
-  pub chunk : (log_of (c.volumes volume)).chunk ≡ []
-  pub records : (log_of (c.volumes volume)).records ≡ fold (pending_of (done_on cell.acted client volume))
+  pub chunk : (log_of (c.volumes volume)).chunk ≡ fold (front_of (done_on cell.acted client volume))
+  pub records : (log_of (c.volumes volume)).records ≡ fold (back_of (done_on cell.acted client volume))
+  pub pending : front_of (done_on cell.acted client volume) ++ back_of (done_on cell.acted client volume) ≡ pending_of (done_on cell.acted client volume)
+  pub thawed : (log_of (c.volumes volume)).frozen ≡ None → front_of (done_on cell.acted client volume) ≡ []
 
 -- What a run of lines leaves: the histories are a run from nothing, so they keep what is promised of runs, and each client's log is
 -- what is left of what is pending by its history.
@@ -60,6 +63,7 @@ ConflictsNameASentRecord =
 abbrev pub OperationsAreKept : Type 0
 OperationsAreKept = Always (λ cell. (client volume : ℕ) → AreKept (histories_of cell) client volume)
 
--- A client's log of a volume is what cancellation leaves of its pending operations.
+-- A client's log of a volume is what cancellation leaves of its pending operations: of those of the chunk that is on its way, and of the
+-- others.
 abbrev pub LogsArePending : Type 0
 LogsArePending = Always (λ cell. (client volume : ℕ) (c : ClientState) → (state_of cell).clients client ≡ Some c → IsOfPending cell client volume c)

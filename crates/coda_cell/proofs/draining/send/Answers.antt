@@ -3,7 +3,7 @@ use Rattle.coda_script.specs.declared.line.Strength.{Strength}
 use Rattle.std.specs.Prelude.{Err}
 use Rattle.coda_cell.specs.declared.refused.Refused.TheVariants.{LinkDown}
 use Rattle.coda_cell.specs.Asking.{Said}
-use Rattle.coda_cell.specs.Steps.{drain}
+use Rattle.coda_cell.specs.Sending.{drain}
 use Rattle.coda_cell.specs.Code.{replica_state, Sends}
 use Rattle.coda_cell.proofs.Drains.{sends_down}
 use Rattle.coda_cell.proofs.draining.send.Goals as goal

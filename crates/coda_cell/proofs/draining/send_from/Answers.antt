@@ -1,6 +1,6 @@
 use Rattle.std.proofs.Common.{refl, sym, subst, rules}
 use Rattle.coda_cell.specs.Code.{IsLogAt, replica_state}
-use Rattle.coda_cell.specs.Steps.{drained}
+use Rattle.coda_cell.specs.Sending.{drained}
 use Rattle.coda_cell.proofs.Drains.{sends_some, sends_none}
 use Rattle.coda_cell.proofs.draining.send_from.Goals as goal
 

@@ -1,24 +1,27 @@
-use Rattle.std.proofs.Common.{◌≡◌, ◌<◌, arith, Option, None, false, sym, ap, subst, ◌∙◌}
-use Rattle.std.specs.Prelude.{nat_le}
-use Rattle.std.proofs.lemmas.Bool.Decides.{nat_tests}
-use Rattle.coda_cml.specs.State.{LogState}
-use Rattle.coda_cml.specs.Chunks.{freeze_refusal}
-use Rattle.coda_cml.specs.Segments.{segments_of}
-use Rattle.coda_cml.specs.declared.frozen.Frozen.{Frozen}
-use Rattle.coda_cell.specs.Steps.{Outcome}
+use Rattle.std.proofs.Common.{◌≡◌, Ok, Err, sym, ap, subst}
+use Rattle.std.specs.Result.{IsErrAnd}
+use Rattle.coda_script.specs.declared.reply.Answer.{Answer}
+use Rattle.coda_script.specs.declared.reply.Reply.TheVariants.{Drained}
+use Rattle.coda_cell.specs.Asking.{Said}
 use Rattle.coda_cell.specs.Code.{replica_state, Drains}
-use Rattle.coda_cell.proofs.Drains.{drained_is}
+use Rattle.coda_cell.specs.Sending.{drained}
+use Rattle.coda_cell.specs.declared.refused.Refused.{Refused}
+use Rattle.coda_cell.proofs.Exchanges.{exchange_refused, exchange_done}
 use Rattle.coda_cell.proofs.draining.send_log.Goals as goal
+
+-- what `?` hands on
+residual_is : (result : Said) (why : Refused) → IsErrAnd result (λ e. e ≡ why) → result ≡ Err why
+residual_is (Ok reply) why is = absurd is
+residual_is (Err e) why is = ap (λ w. Err w) is
+
+pub returns-in_err-take : goal.returns-in_err-take
+returns-in_err-take c = λ v is steady.
+    subst (λ (said : Said). Drains (drained c.args.until.now c.args.until.window c.args.client c.args.volume v (replica_state c.args.replica.now)) said c.take.new.log c.rule.new.replica) (sym (residual_is c.from_residual-in_err-take.result c.in_err-take.field-0.0 c.from_residual-in_err-take.ensures.1))
+    (exchange_refused c.args.until.now c.args.until.window c.args.client c.args.volume c.args.log.now c.freeze_for.new.log c.args.replica.now c.rule.new.replica c.server.result c.in_ok-chunk.chunk c.chunk.result.now c.in_ok-answer.answer c.server.ensures
+    c.in_ok-chunk.ensures c.chunk.ensures.records c.in_ok-answer.ensures v is steady c.in_err-take.field-0.0 c.take.new.log c.in_err-take.ensures)
 
 pub returns : goal.returns
 returns c = λ v is steady.
-    let now = c.args.until.now in
-    let window = c.args.until.window in
-    let free : freeze_refusal v.frozen now window (segments_of v.back) ≡ None =
-    ap (λ (o : Option Frozen). freeze_refusal o now window (segments_of v.back)) (sym (ap (λ (l : LogState). l.frozen) is.log)) ∙ sym (c.refusal.ensures.run v.front v.back is.runs) ∙ c.in_default.is in
-    let low = c.if-chunks-ge-MOST_CHUNKS.false in
-    let same : c.chunks.result ≡ v.chunks = c.chunks.ensures ∙ ap (λ (l : LogState). l.chunks) is.log in
-    let fewer : v.chunks < 4294967295 = omega (arith, low, same) in
-    let few : nat_le 4294967295 v.chunks ≡ false = grind (arith, nat_tests, fewer) in
-    subst (λ (o : Outcome). Drains o c.send_chunk.result c.send_chunk.new.log c.send_chunk.new.replica) (sym (drained_is now window c.args.client c.args.volume v (replica_state c.args.replica.now) free few))
-    (c.send_chunk.ensures c.args.volume v is steady free)
+    subst (λ (answer : Answer). Drains (drained c.args.until.now c.args.until.window c.args.client c.args.volume v (replica_state c.args.replica.now)) (Ok (Drained c.in_ok-chunk.chunk answer)) c.take.new.log c.rule.new.replica) (sym c.reply_answer.ensures)
+    (exchange_done c.args.until.now c.args.until.window c.args.client c.args.volume c.args.log.now c.freeze_for.new.log c.args.replica.now c.rule.new.replica c.server.result c.in_ok-chunk.chunk c.chunk.result.now c.in_ok-answer.answer c.server.ensures
+    c.in_ok-chunk.ensures c.chunk.ensures.records c.in_ok-answer.ensures v is steady c.take.new.log c.in_ok-take.ensures)

@@ -1,7 +1,7 @@
 use Rattle.std.proofs.Common.{sym, ap, subst, ◌∙◌, rules}
 use Rattle.std.specs.Prelude.{Some}
 use Rattle.std.specs.Option.{option_copied_mut}
-use Rattle.coda_cell.specs.Steps.{drain}
+use Rattle.coda_cell.specs.Sending.{drain}
 use Rattle.coda_cell.specs.Code.{IsClientAt, replica_state}
 use Rattle.coda_cell.proofs.Events.{sends_at}
 use Rattle.coda_cell.proofs.tasks.send_at.Goals as goal
