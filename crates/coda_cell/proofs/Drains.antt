@@ -1,5 +1,5 @@
 -- What a client and a replica come to, from what the calls of a log leave.
-use Rattle.std.proofs.Common.{◌≡◌, ◌≢◌, ℕ, ◌+◌, ◌==◌, Bool, true, false, cond, List, [], ◌++◌, Option, Some, None, Result, Ok, Err, refl, sym, ap, subst, ◌∙◌, inl, inr, arith}
+use Rattle.std.proofs.Common.{◌≡◌, ◌≢◌, ℕ, ◌==◌, Bool, true, false, cond, List, [], ◌++◌, Option, Some, None, Result, Ok, Err, refl, sym, ap, subst, ◌∙◌, inl, inr, arith}
 use Rattle.std.specs.Prelude.{◌≤◌, nat_le, nat_lt, ⊤, ◌↔◌}
 use Rattle.std.specs.BTreeMap as tree
 use Rattle.std.specs.FinMap as map
@@ -34,7 +34,7 @@ use Rattle.coda_plain.specs.Decisions.{Decided, with_last, sent_of, decision}
 use Rattle.coda_plain.proofs.Volumes.{sent_decides}
 use Rattle.coda_cell.specs.State.{put, ClientVolume, new_volume, pending, log_of, volume_after, ClientState, with_nodes, ReplicaState, new_replica as new_state, replica_after}
 use Rattle.coda_cell.specs.Asking.{Said}
-use Rattle.coda_cell.specs.Refusing.{refused_as, settle_refused_as}
+use Rattle.coda_cell.specs.Refusing.{settle_refused_as}
 use Rattle.coda_cell.specs.Sending.{Freezing, frozen_now, frozen_unless, freezing_of, freezing, ruling_of, ruling, Taking, settles, taken, taken_unless, taking, Outcome, stays, drained_of, drained}
 use Rattle.coda_cell.specs.Code.{IsVolumeLog, IsLogAt, IsClient, replica_state, RulesTo, Takes, Drains, Sends, with_volume}
 use Rattle.coda_cell.specs.declared.refused.Refused.{Refused}
@@ -101,12 +101,14 @@ is_freezing now window server v code f is e = by v.frozen refl e
         room false e =
             let same : frozen_now now window server v ≡ f = cc in
             subst (IsFreezing server v) same (record { front = refl; pending_is = parts v code now window server is none free ∙ ap (λ l. l ++ v.back) (sym (none_sent v code is none)) })
+
     there : (chunk : Frozen) (b : Bool) → (let r : Result Freezing Refused = cond b (Ok (record { number = chunk.number; span = v.front; deeds = []; volume = v })) (Err (refused.Frozen chunk.number chunk.home)) in r) ≡ Ok f → IsFreezing server v f
     there chunk false e = cc
     there chunk true e =
         let kept : Freezing = record { number = chunk.number; span = v.front; deeds = []; volume = v } in
         let same : kept ≡ f = cc in
         subst (IsFreezing server v) same (record { front = refl; pending_is = refl })
+
     by : (o : Option Frozen) → v.frozen ≡ o → freezing_of o now window server v ≡ Ok f → IsFreezing server v f
     by None none e = here none (freeze_refusal None now window (segments_of v.back)) refl e
     by (Some chunk) some e = there chunk (chunk.home == server) e
@@ -147,9 +149,9 @@ module _ (r new : Replica) (client number : ℕ) (recs span : List Record) (answ
   decides_so : is_next (last_for r client) number ≡ true → (full : Bool) → nat_lt 4294967295 number ≡ full → RulesTo (ruling_of true full client number span s) s (Ok answer) new
   decides_so next true full = (let low = room next in let high = ltb-true 4294967295 number full in absurd (omega (arith, low, high)))
   decides_so next false full = (
-      ap Ok (answer_is ∙ ap (λ b. cond b (answer_of (verdict_of (replay r.tree.nodes client recs))) (told (last_for r client) number)) next ∙ ap answer_of same),
-      ap replica_state (new_is ∙ ap (λ b. cond b (decided r client number recs) r) next) ∙ decided_is r client number recs span volume sent,
-    )
+    ap Ok (answer_is ∙ ap (λ b. cond b (answer_of (verdict_of (replay r.tree.nodes client recs))) (told (last_for r client) number)) next ∙ ap answer_of same),
+    ap replica_state (new_is ∙ ap (λ b. cond b (decided r client number recs) r) next) ∙ decided_is r client number recs span volume sent,
+  )
 
   pub rules_so : RulesTo (ruling client number span s) s (Ok answer) new
   rules_so = by (is_next (last_for r client) number) refl
@@ -157,9 +159,9 @@ module _ (r new : Replica) (client number : ℕ) (recs span : List Record) (answ
       by : (b : Bool) → is_next (last_for r client) number ≡ b → RulesTo (ruling_of b (nat_lt 4294967295 number) client number span s) s (Ok answer) new
       by true next = decides_so next (nat_lt 4294967295 number) refl
       by false next = (
-          ap Ok (answer_is ∙ ap (λ b. cond b (answer_of (verdict_of (replay r.tree.nodes client recs))) (told (last_for r client) number)) next),
-          ap replica_state (new_is ∙ ap (λ b. cond b (decided r client number recs) r) next),
-        )
+        ap Ok (answer_is ∙ ap (λ b. cond b (answer_of (verdict_of (replay r.tree.nodes client recs))) (told (last_for r client) number)) next),
+        ap replica_state (new_is ∙ ap (λ b. cond b (decided r client number recs) r) next),
+      )
 
 -- a replica that was just made
 pub new_is : (volume server : ℕ) → replica_state (new_replica volume server) ≡ new_state server volume
@@ -216,10 +218,12 @@ module _ (v : ClientVolume) (code : VolumeLog) (number : ℕ) (verdict : Verdict
     where
       kept : IsVolumeLog v (record { log = new; creations = code.creations })
       kept = subst (λ (l : LogState). IsVolumeLog v (record { log = l; creations = code.creations })) (sym same) is
+
       refused_by : (w : SettleFault) → w ≢ settle.Memory → result ≡ Err w → Takes (taking number answer v) v (Err (settle_refused_as w)) (record { log = new; creations = code.creations })
       refused_by w other failed =
           let wanted : taking number answer v ≡ Err (settle_refused_as w) = ap (λ o. taken_unless o number answer v) (sym frozen_is ∙ (causes w other).0 failed) in
           subst (λ (o : Result Taking Refused). Takes o v (Err (settle_refused_as w)) (record { log = new; creations = code.creations })) (sym wanted) (inr (refl, kept))
+
       by : (w : SettleFault) → result ≡ Err w → Takes (taking number answer v) v (Err (settle_refused_as w)) (record { log = new; creations = code.creations })
       by settle.Memory failed = inl refl
       by (settle.NotFrozen n) failed = refused_by (settle.NotFrozen n) (λ e. cc) failed

@@ -1,5 +1,5 @@
 -- What entries and events make of a cell, and what is carried out.
-use Rattle.std.proofs.Common.{◌≡◌, ◌≢◌, ℕ, ◌==◌, Bool, true, false, cond, List, [], ◌∷◌, ◌++◌, append-nil, map, Option, Some, None, is_some, option_map, Result, Ok, Err, IfOk, refl, sym, ap, subst, ◌∙◌, inl, inr, ◌⊎◌, arith}
+use Rattle.std.proofs.Common.{◌≡◌, ◌≢◌, ℕ, ◌==◌, Bool, true, false, cond, List, [], ◌∷◌, ◌++◌, append-nil, map, Option, Some, None, is_some, option_map, Result, Ok, Err, IfOk, refl, sym, ap, subst, ◌∙◌, inl, inr, arith}
 use Rattle.std.specs.Option.{option_map_or, option_and_then, unwrap_or}
 use Rattle.std.specs.List.{list_any}
 use Rattle.std.specs.Prelude.{nat_le, nat_lt}
@@ -280,15 +280,18 @@ freezing_left now window server v f e = by v.frozen e
     room : (b : Bool) → (let r : Result Freezing Refused = cond b (Err refused.JournalFull) (Ok (frozen_now now window server v)) in r) ≡ Ok f → IsLeftByDeeds v f
     room true e = cc
     room false e = (let same : frozen_now now window server v ≡ f = cc in subst (IsLeftByDeeds v) same (record { volume = refl; still = ((λ h c. refl), tt) }))
+
     here : (o : Option FreezeFault) → frozen_unless o now window server v ≡ Ok f → IsLeftByDeeds v f
     here (Some why) e = cc
     here None e = room (nat_le 4294967295 v.chunks) e
+
     there : (chunk : Frozen) (b : Bool) → (let r : Result Freezing Refused = cond b (Ok (record { number = chunk.number; span = v.front; deeds = []; volume = v })) (Err (refused.Frozen chunk.number chunk.home)) in r) ≡ Ok f → IsLeftByDeeds v f
     there chunk false e = cc
     there chunk true e =
         let kept : Freezing = record { number = chunk.number; span = v.front; deeds = []; volume = v } in
         let same : kept ≡ f = cc in
         subst (IsLeftByDeeds v) same (record { volume = refl; still = tt })
+
     by : (o : Option Frozen) → freezing_of o now window server v ≡ Ok f → IsLeftByDeeds v f
     by None e = here (freeze_refusal None now window (segments_of v.back)) e
     by (Some chunk) e = there chunk (chunk.home == server) e

@@ -223,6 +223,7 @@ module _ (cell : MadeCell) (number blocks : ℕ) (kept : IsKept cell) (there : c
           room : (b : Bool) → (let r : Result Freezing Refused = cond b (Err refused.JournalFull) (Ok (frozen_now now window server log)) in r) ≡ Ok f → IsGone cell number server volume f
           room true e = cc
           room false e = (let same : frozen_now now window server log ≡ f = cc in subst (IsGone cell number server volume) same (gone_now none free))
+
       held : (chunk : Frozen) → log.frozen ≡ Some chunk → (b : Bool) → (chunk.home == server) ≡ b
           → (let r : Result Freezing Refused = cond b (Ok (record { number = chunk.number; span = log.front; deeds = []; volume = log })) (Err (refused.Frozen chunk.number chunk.home)) in r) ≡ Ok f → IsGone cell number server volume f
       held chunk some false home e = cc
@@ -230,6 +231,7 @@ module _ (cell : MadeCell) (number blocks : ℕ) (kept : IsKept cell) (there : c
           let kept : Freezing = record { number = chunk.number; span = log.front; deeds = []; volume = log } in
           let same : kept ≡ f = cc in
           subst (IsGone cell number server volume) same (gone_before chunk some (eqb-true chunk.home server home))
+
       by : (o : Option Frozen) → log.frozen ≡ o → freezing_of o now window server log ≡ Ok f → IsGone cell number server volume f
       by None none e = here none (freeze_refusal None now window (segments_of log.back)) refl e
       by (Some chunk) some e = held chunk some (chunk.home == server) refl e
@@ -291,6 +293,7 @@ module _ (cell : MadeCell) (kept : IsKept cell) (volume server : ℕ) (homed : c
           let both = and_parts (number == kept_last.number) (nat_lt 0 number) e in
           let same : number ≡ kept_last.number = eqb-true number kept_last.number both.0 in
           keeps_verdict cell.acted client server volume number kept_last.verdict (record { up = kept.up.replicas server volume; some = ltb-true 0 number both.1; last = λ i. record { number = sym same i; verdict = kept_last.verdict } })
+
       by : (b : Bool) → KeepsAnswer cell.acted client server volume number (cond b (Behind kept_last.number) (cond ((number == kept_last.number) && nat_lt 0 number) (answer_of kept_last.verdict) (Old kept_last.number)))
       by true = tt
       by false = here ((number == kept_last.number) && nat_lt 0 number) refl

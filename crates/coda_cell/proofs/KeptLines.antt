@@ -1,6 +1,5 @@
 -- What each line does keeps a cell.
 use Rattle.std.proofs.Common.{◌≡◌, ℕ, ◌+◌, Bool, true, false, cond, List, [], ◌∷◌, ◌++◌, map, Option, Some, None, is_some, option_map, Result, Ok, Err, refl, sym, ap, ◌∙◌, subst, inl, inr, ◌⊎◌}
-use Rattle.std.specs.Prelude.{nat_le}
 use Rattle.std.specs.Option.{option_and_then, unwrap_or}
 use Rattle.std.specs.FinMap as finite
 use Rattle.coda_fid.specs.Fid.{root_of}
@@ -9,10 +8,6 @@ use Rattle.coda_fid.specs.declared.op.Op.{Op}
 use Rattle.coda_fid.specs.declared.op.Record.{Record}
 use Rattle.coda_tree.specs.Bindings.{Name}
 use Rattle.coda_tree.specs.Volume.{Nodes, has}
-use Rattle.coda_certify.specs.Verdicts.{verdict_of}
-use Rattle.coda_cml.specs.Chunks.{freeze_refusal}
-use Rattle.coda_cml.specs.Segments.{segments_of}
-use Rattle.coda_cml.specs.declared.fault.FreezeFault.{FreezeFault}
 use Rattle.coda_script.specs.declared.line.Strength.{Strength}
 use Rattle.coda_script.specs.declared.line.Strength.TheVariants.{Strong, Weak, Down}
 use Rattle.coda_script.specs.declared.line.Task.{Task}
@@ -22,16 +17,16 @@ use Rattle.coda_script.specs.declared.line.Line.TheVariants as line
 use Rattle.coda_script.specs.declared.reply.Reply.{Reply}
 use Rattle.coda_script.specs.declared.reply.Reply.TheVariants.{Done}
 use Rattle.coda_plain.specs.Histories.{In}
-use Rattle.coda_plain.specs.Deeds.{Froze, Settled, Operated, IsMade}
-use Rattle.coda_plain.specs.Decisions.{Decided, decision, nodes_of}
+use Rattle.coda_plain.specs.Deeds.{Operated, IsMade}
+use Rattle.coda_plain.specs.Decisions.{nodes_of}
 use Rattle.coda_plain.specs.Cell.{Did}
-use Rattle.coda_plain.specs.Moves.{AtReplica, done_on}
+use Rattle.coda_plain.specs.Moves.{done_on}
 use Rattle.coda_plain.proofs.Soundness.{none_joins}
 use Rattle.coda_plain.proofs.Volumes.{volumes}
 use Rattle.coda_cell.specs.Ask.{Asked, Create, Mkdir, Symlink, Store, Setattr, Remove, Rmdir, Rename, too_big, object_of}
 use Rattle.coda_cell.specs.Held.{Held, Fetch, AreBound, held_after_fetches}
 use Rattle.coda_cell.specs.Looking.{look_along, entries_of}
-use Rattle.coda_cell.specs.State.{pending, ClientState, new_client, ReplicaState, new_replica, Event, Entered, at_client}
+use Rattle.coda_cell.specs.State.{pending, ClientState, new_client, ReplicaState, new_replica, Event, at_client}
 use Rattle.coda_cell.specs.Accepting.{Accepted, sight_of, accept}
 use Rattle.coda_cell.specs.Asking.{Answer, answers, look_ups, behind_fetches, next_record, has_room, is_full, answer_to, operate_unless, operate, read, list}
 use Rattle.coda_cell.specs.Kept.{AreWithin, AreChildrenKept, IsHolding}
@@ -232,7 +227,7 @@ module _ (cell : MadeCell) (kept : IsKept cell) where
   unless_own (Some why) own reply events rest does = nothing_left events does.1
   unless_own None own reply events rest does = rest refl does
 
-  replica_there : (volume : ℕ) (r : ReplicaState) → (state_of cell).replicas volume ≡ Some r → (server : ℕ) × (cell.homes volume ≡ Some server) × (replica_of (λ s. (cell.acted.replicas s volume).history) volume server ≡ r)
+  pub replica_there : (volume : ℕ) (r : ReplicaState) → (state_of cell).replicas volume ≡ Some r → (server : ℕ) × (cell.homes volume ≡ Some server) × (replica_of (λ s. (cell.acted.replicas s volume).history) volume server ≡ r)
   replica_there volume r is = by (cell.homes volume) is
     where
       by : (o : Option ℕ) → option_map (replica_of (λ s. (cell.acted.replicas s volume).history) volume) o ≡ Some r → (server : ℕ) × (o ≡ Some server) × (replica_of (λ s. (cell.acted.replicas s volume).history) volume server ≡ r)

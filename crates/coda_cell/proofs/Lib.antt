@@ -19,9 +19,11 @@ pub mod Grown
 pub mod Moving
 pub mod KeptCells
 pub mod KeptClients
+pub mod LastChunks
 pub mod KeptDeeds
 pub mod KeptChunks
 pub mod KeptLines
+pub mod Decided
 pub mod SpelledParts
 pub mod SpelledFolds
 pub mod SpelledNodes

@@ -232,6 +232,7 @@ took_spelled client volume number answer v took e = by (settle_refusal v.frozen 
     taken_spelled (Conflict refused why) = (tt, tt)
     taken_spelled (Behind last) = tt
     taken_spelled (Old last) = tt
+
     by : (o : Option SettleFault) → taken_unless o number answer v ≡ Ok took → AreEventsSpelled (deeds_at client volume took.deeds)
     by (Some why) e = cc
     by None e = (let same : taken number answer v ≡ took = cc in subst (λ (x : Taking). AreEventsSpelled (deeds_at client volume x.deeds)) same (taken_spelled answer))
@@ -246,9 +247,11 @@ froze_spelled client volume now window server v f e = by v.frozen e
         let same : frozen_now now window server v ≡ f = cc in
         let low : v.chunks < 4294967295 = grind (arith, nat_tests, few) in
         subst (λ (x : Freezing). AreEventsSpelled (deeds_at client volume x.deeds)) same (within 0 4294967295 eight (v.chunks + 1) (omega arith) (omega (arith, low)) (omega (arith, low)), tt)
+
     here : (o : Option FreezeFault) → frozen_unless o now window server v ≡ Ok f → AreEventsSpelled (deeds_at client volume f.deeds)
     here (Some why) e = cc
     here None e = room (nat_le 4294967295 v.chunks) refl e
+
     there : (chunk : Frozen) (b : Bool) → (let r : Result Freezing Refused = cond b (Ok (record { number = chunk.number; span = v.front; deeds = []; volume = v })) (Err (refused.Frozen chunk.number chunk.home)) in r) ≡ Ok f
         → AreEventsSpelled (deeds_at client volume f.deeds)
     there chunk false e = cc
@@ -256,6 +259,7 @@ froze_spelled client volume now window server v f e = by v.frozen e
         let kept : Freezing = record { number = chunk.number; span = v.front; deeds = []; volume = v } in
         let same : kept ≡ f = cc in
         subst (λ (x : Freezing). AreEventsSpelled (deeds_at client volume x.deeds)) same tt
+
     by : (o : Option Frozen) → freezing_of o now window server v ≡ Ok f → AreEventsSpelled (deeds_at client volume f.deeds)
     by None e = here (freeze_refusal None now window (segments_of v.back)) e
     by (Some chunk) e = there chunk (chunk.home == server) e

@@ -1,13 +1,20 @@
 -- What holds of a cell between two lines, and what each line makes of it.
-use Rattle.std.specs.Prelude.{◌≡◌, ◌≢◌, ℕ, true, Some, None, List, []}
+use Rattle.std.specs.Prelude.{◌≡◌, ◌≢◌, ◌<◌, ℕ, ◌+◌, true, Some, None, Ok, List, []}
+use Rattle.coda_certify.specs.Verdicts.{verdict_of}
+use Rattle.coda_cml.specs.Segments.{segments_of}
+use Rattle.coda_cml.specs.Chunks.{freeze_refusal}
 use Rattle.coda_script.specs.declared.line.Line.{Line}
 use Rattle.coda_script.specs.declared.line.Line.TheVariants as line
+use Rattle.coda_script.specs.declared.reply.Answer.TheVariants as reply
 use Rattle.coda_script.specs.declared.reply.Reply.{Reply}
-use Rattle.coda_plain.specs.Deeds.{course_of}
+use Rattle.coda_script.specs.declared.reply.Reply.TheVariants.{Drained}
+use Rattle.coda_plain.specs.Decisions.{decision}
 use Rattle.coda_plain.specs.Cell.{PlainCell}
 use Rattle.coda_plain.specs.Moves.{done_on, Moved}
 use Rattle.coda_plain.specs.Sound.{IsSound}
-use Rattle.coda_cell.specs.State.{Event, after_all}
+use Rattle.coda_cell.specs.Asking.{Said}
+use Rattle.coda_cell.specs.Sending.{frozen_now, drained}
+use Rattle.coda_cell.specs.State.{ClientVolume, ClientState, ReplicaState, Event, after_all}
 use Rattle.coda_cell.specs.Kept.{IsHolding}
 use Rattle.coda_cell.specs.Made.{MadeCell, nothing_made, client_of, state_of, grown_all, moves_of}
 use Rattle.coda_cell.specs.Steps.{Does}
@@ -54,3 +61,15 @@ LinesKeepCells = (old : MadeCell) (said : Line) (reply : Reply) (events : List E
 pub record CellsAreKept : Type 0 where
   pub first : IsKept nothing_made
   pub orderly : (cell : MadeCell) → IsKept cell → AreOrderly (state_of cell)
+
+-- what a drain says, by the verdict on what it freezes
+abbrev pub decided_as : ℕ → ℕ → ℕ → ClientVolume → ReplicaState → Said
+decided_as now window client v r = Ok (Drained (v.chunks + 1) (reply.Decided (verdict_of (decision r.tree.nodes client (frozen_now now window r.server v).span))))
+
+-- In a cell that is kept, where a client has no chunk of a volume frozen and may freeze one, a drain is answered by the verdict on it:
+-- by that of all its operations, where they certify, and else by that of what is sent of them.
+abbrev pub DrainsAreDecided : Type 0
+DrainsAreDecided =
+    (cell : MadeCell) (client volume now window : ℕ) (c : ClientState) (r : ReplicaState) → IsKept cell → (state_of cell).clients client ≡ Some c → (state_of cell).replicas volume ≡ Some r
+    → (c.volumes volume).frozen ≡ None → freeze_refusal None now window (segments_of (c.volumes volume).back) ≡ None → (c.volumes volume).chunks < 4294967295
+    → (drained now window client volume (c.volumes volume) r).said ≡ decided_as now window client (c.volumes volume) r

@@ -42,7 +42,10 @@ fn freeze_now(until: Until, log: &mut VolumeLog, server: u8) -> Result<u64, Refu
     if log.log.chunks() >= MOST_CHUNKS {
         return Err(Refused::JournalFull);
     }
-    match log.log.freeze(server, until.now, until.window, MOST_TOGETHER) {
+    match log
+        .log
+        .freeze(server, until.now, until.window, MOST_TOGETHER)
+    {
         Ok(number) => Ok(number),
         Err(_) => Err(Refused::Memory),
     }

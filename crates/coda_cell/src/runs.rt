@@ -1,5 +1,5 @@
 // What holds of cells over all their runs.
-ghost use Rattle.coda_cell.specs.Runs.{CellsAreKept, LinesKeepCells};
+ghost use Rattle.coda_cell.specs.Runs.{CellsAreKept, DrainsAreDecided, LinesKeepCells};
 ghost use Rattle.coda_cell.specs.Spelled.{MessagesCanBeSpelled};
 
 /// A law of cells: one in which nothing was made is kept, and in one that is kept what each client holds is bound by its
@@ -19,4 +19,10 @@ pub fn lines_keep_cells()
 /// cancellation leaves of a chunk have a spelling, and what a replica answers to it.
 pub fn messages_can_be_spelled()
     ensures { MessagesCanBeSpelled }
+{}
+
+/// A law of drains: in a cell that is kept, where no chunk of a client's volume is frozen and nothing stands against a freeze, a drain is
+/// answered by the verdict on the operations that it freezes.
+pub fn drains_are_decided()
+    ensures { DrainsAreDecided }
 {}

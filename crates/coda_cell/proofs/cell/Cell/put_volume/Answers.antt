@@ -1,4 +1,4 @@
-use Rattle.std.proofs.Common.{sym, ap, ◌∙◌, rules}
+use Rattle.std.proofs.Common.{ap, ◌∙◌, rules}
 use Rattle.coda_cell.specs.Code.{replica_state}
 use Rattle.coda_cell.proofs.Drains.{new_is}
 use Rattle.coda_cell.proofs.cell.Cell.put_volume.Goals as goal
