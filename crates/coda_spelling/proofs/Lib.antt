@@ -1,0 +1,5 @@
+pub mod SpelledParts
+mod BoundBefore
+pub mod SpelledNodes
+pub mod SpelledVerdicts
+pub mod SpelledRecords
