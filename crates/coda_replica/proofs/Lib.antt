@@ -2,3 +2,10 @@ pub mod Keyed
 pub mod PutBack
 pub mod Repeats
 pub mod Coming
+pub mod Growing
+pub mod Appends
+pub mod Keeps
+pub mod Standings
+pub mod Decides
+pub mod Reading
+pub mod Recoveries

@@ -10,7 +10,7 @@ use Rattle.coda_record.specs.declared.answer.Answer.{Answer}
 use Rattle.coda_record.specs.declared.answer.Answer.TheVariants.{Applied, Conflict, Behind, Old}
 use Rattle.coda_replica.specs.State.{ReplicaState, last_for, decided}
 use Rattle.coda_replica.specs.declared.fault.ReplicaFault.{ReplicaFault}
-use Rattle.coda_replica.specs.declared.fault.ReplicaFault.TheVariants.{NotFound, JournalFull, Memory}
+use Rattle.coda_replica.specs.declared.fault.ReplicaFault.TheVariants.{Down, NotFound, JournalFull, DiskFault, Memory}
 
 -- a verdict as an answer
 abbrev pub answer_of : Verdict → Answer
@@ -40,10 +40,14 @@ after_chunk r client number recs = if is_next (last_for r client) number then de
 abbrev pub IsUndecided : Last → ℕ → ReplicaFault → Type 0
 IsUndecided last number Memory = (is_next last number ≡ true) × (number ≤ 4294967295)
 IsUndecided last number JournalFull = (is_next last number ≡ true) × (4294967295 < number)
+IsUndecided last number Down = ⊥
 IsUndecided last number NotFound = ⊥
+IsUndecided last number DiskFault = ⊥
 
 -- why a node isn't handed over: there is none, or else memory is wanted
 abbrev pub IsUnfetched : Option Node → ReplicaFault → Type 0
 IsUnfetched held Memory = IsSome held
 IsUnfetched held NotFound = held ≡ None
+IsUnfetched held Down = ⊥
 IsUnfetched held JournalFull = ⊥
+IsUnfetched held DiskFault = ⊥

@@ -2,3 +2,8 @@ pub mod State
 pub mod Answers
 pub mod Comes
 pub mod Laws
+pub mod History
+pub mod Standing
+pub mod Deciding
+pub mod Recovering
+pub mod Entering

@@ -52,3 +52,7 @@ decided r client number recs = record r {
   tree = record r.tree { nodes = nodes_left r.tree.nodes (replay r.tree.nodes client recs) };
   lasts = map.insert r.lasts client (record { client = client; number = number; verdict = verdict_of (replay r.tree.nodes client recs) });
 }
+
+-- a replica with another last decision of a client, or with none
+abbrev pub with_last : ReplicaState → ℕ → Option Last → ReplicaState
+with_last r client was = record r { lasts = put_back r.lasts client was }

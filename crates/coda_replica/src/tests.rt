@@ -30,8 +30,8 @@ fn creation(alloc: Global, number: u64, name: &[u8], fid: Fid) -> Result<Record,
 }
 
 // A replica whose last chunk of client 1 has this number, at most 2: chunk 1 was applied, and chunk 2 conflicts with it.
-fn replica_at(alloc: Global, last: u64) -> Result<Replica, Fail> {
-    let mut replica = Replica::new(alloc, 7, 1)?;
+fn replica_at(alloc: Global, last: u64) -> Result<Decider, Fail> {
+    let mut replica = Decider::new(alloc, 7, 1)?;
     if last > 0 {
         replica.decide(1, 1, &[creation(alloc, 1, b"a", fid(1))?])?;
     }

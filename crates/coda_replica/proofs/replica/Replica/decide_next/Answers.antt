@@ -1,36 +1,60 @@
-use Rattle.std.proofs.Common.{◌≡◌, IsSome, refl, sym, ap, ◌∙◌, subst}
+use Rattle.std.proofs.Common.{rules, refl, inr, arith, ap, sym, subst, ◌∙◌, ◌≡◌, ◌+◌, ◌≤◌, length}
+use Rattle.std.specs.Prelude.{Err, Ok, IsSome}
 use Rattle.std.specs.FinMap as map
-use Rattle.coda_record.specs.declared.last.Last.{Last}
-use Rattle.coda_certify.specs.declared.verdict.Verdict.{Verdict}
-use Rattle.coda_certify.specs.declared.verdict.Verdict.TheVariants.{Applied}
-use Rattle.coda_certify.specs.Replay.{replay as replayed}
+use Rattle.std.specs.Int.{w32}
+use Rattle.coda_certify.specs.Replay.{replay}
 use Rattle.coda_certify.specs.Verdicts.{verdict_of}
-use Rattle.coda_replica.specs.State.{Lasts, ReplicaState, put_back, decided}
-use Rattle.coda_replica.proofs.PutBack.{put_there, put_over, put_back_was}
+use Rattle.coda_certify.specs.declared.verdict.Verdict.TheVariants.{Applied}
+use Rattle.coda_journal.specs.Entries.{framed}
+use Rattle.coda_record.specs.declared.last.Last.{Last}
+use Rattle.coda_record.specs.declared.entry.ReplicaEntry.TheVariants.{Decide}
+use Rattle.coda_replica.specs.State.{ReplicaState}
+use Rattle.coda_replica.specs.History.{payload_of, payloads_of}
+use Rattle.coda_replica.specs.Deciding.{decision_entry, NextDeciding}
+use Rattle.coda_replica.proofs.PutBack.{put_there}
+use Rattle.coda_replica.proofs.Growing.{applied_is_shortest}
+use Rattle.coda_replica.proofs.Standings.{idle}
+use Rattle.coda_replica.proofs.Decides.{next_refused, next_kept}
+use Rattle.coda_replica.proofs.Keeps.{never_kept}
 use Rattle.coda_replica.proofs.replica.Replica.decide_next.Goals as goal
 
-pub put_back-requires : goal.put_back-requires
-put_back-requires c =
-    let room : Last = record { client = c.args.client; number = c.args.number; verdict = Applied } in
-    subst (λ (m : Lasts). IsSome (map.get m c.args.client)) (sym c.in_ok-was.ensures.ok) (subst IsSome (sym (put_there c.self.inside.lasts c.args.client room)) refl)
+pub returns-then-not-has_room-clause-decides : goal.returns-then-not-has_room-clause-decides
+returns-then-not-has_room-clause-decides g c = λ header history up next.
+    let old = c.args.self.now in
+    let entry = decision_entry old.decider c.args.client c.args.number c.args.recs.now in
+    let full = c.has_room.ensures.full c.if-not-has_room.true in
+    let size = ap length c.in_ok-applied.ensures in
+    let least = applied_is_shortest c.args.client c.args.number c.args.recs.now (verdict_of (replay old.decider.tree.nodes c.args.client c.args.recs.now)) in
+    record {
+      any_moment = idle (g.D.Disk.told old.journal.disk) header old.journal.start old.journal.used old.journal.area (payloads_of history) (payload_of entry) up.journal (λ x h left. g.met.D.Disk.only_now old.journal.disk x h left);
+      answers = (inr (omega (arith, full, size, least)), (refl, refl, refl));
+    }
 
-pub put_back-requires-in-Err : goal.put_back-requires-in-Err
-put_back-requires-in-Err c =
-    let room : Last = record { client = c.args.client; number = c.args.number; verdict = Applied } in
-    subst (λ (m : Lasts). IsSome (map.get m c.args.client)) (sym c.in_ok-was.ensures.ok) (subst IsSome (sym (put_there c.self.inside.lasts c.args.client room)) refl)
+pub keep_verdict-requires-clause-there : goal.keep_verdict-requires-clause-there
+keep_verdict-requires-clause-there g c =
+    let old = c.args.self.now in
+    let last : Last = record { client = c.args.client; number = c.args.number; verdict = verdict_of (replay old.decider.tree.nodes c.args.client c.args.recs.now) } in
+    subst (λ (r : ReplicaState). IsSome (map.get r.lasts c.args.client)) (sym c.in_ok-verdict.ensures.ok) (subst IsSome (sym (put_there old.decider.lasts c.args.client last)) refl)
 
-pub returns-in-Ok-clause-ok : goal.returns-in-Ok-clause-ok
-returns-in-Ok-clause-ok c =
-    let room : Last = record { client = c.args.client; number = c.args.number; verdict = Applied } in
-    let last : Last = record { client = c.args.client; number = c.args.number; verdict = c.in-Ok.verdict } in
-    let lasts : c.put_back.new.self ≡ map.insert c.self.inside.lasts c.args.client (record { client = c.args.client; number = c.args.number; verdict = verdict_of (replayed c.self.inside.volume.nodes c.args.client c.args.recs.now) }) =
-    c.put_back.ensures ∙ ap (λ (m : Lasts). map.insert m c.args.client last) c.in_ok-was.ensures.ok ∙ put_over c.self.inside.lasts c.args.client room last
-    ∙ ap (λ (v : Verdict). map.insert c.self.inside.lasts c.args.client (record { client = c.args.client; number = c.args.number; verdict = v })) c.in-Ok.ensures.verdict in
-    (λ i. record { server = c.self.inside.server; tree = c.in-Ok.ensures.volume i; lasts = lasts i }) ∙ ap (λ (r : ReplicaState). decided r c.args.client c.args.number c.args.recs.now) c.self.view_is
+pub returns-in_err-keep_verdict-clause-decides : goal.returns-in_err-keep_verdict-clause-decides
+returns-in_err-keep_verdict-clause-decides g c = λ header history up next.
+    let old = c.args.self.now in
+    let e = c.in_err-keep_verdict.field-0.0 in
+    let is : c.from_residual-in_err-keep_verdict.result ≡ Err e = search rules in
+    let w = c.in_err-keep_verdict.ensures in
+    subst (NextDeciding g.D.Disk.told header old history c.args.client c.args.number c.args.recs.now c.keep_verdict.new.self) (sym is)
+      (next_refused g.D.Disk.told header old history c.args.client c.args.number c.args.recs.now up c.requires.client c.requires.records next c.requires.few c.keep_verdict.new.self c.decide_next.new.self c.in_ok-verdict.was' c.in_ok-verdict.verdict e
+        c.in_ok-verdict.ensures.verdict c.in_ok-verdict.ensures.was c.in_ok-verdict.ensures.ok (w.keeps header (payloads_of history) up.journal) w.fullness w.back)
 
-pub returns-in-Err-clause-err : goal.returns-in-Err-clause-err
-returns-in-Err-clause-err c =
-    let room : Last = record { client = c.args.client; number = c.args.number; verdict = Applied } in
-    let lasts : c.put_back-in-Err.new.self ≡ c.self.inside.lasts =
-    c.put_back-in-Err.ensures ∙ ap (λ (m : Lasts). put_back m c.args.client c.in_ok-was.was') c.in_ok-was.ensures.ok ∙ put_back_was c.self.inside.lasts c.args.client room c.in_ok-was.was' c.in_ok-was.ensures.was in
-    (λ i. record { server = c.self.inside.server; tree = c.in-Err.ensures.err i; lasts = lasts i }) ∙ c.self.view_is
+pub returns-in_err-keep_verdict-clause-never : goal.returns-in_err-keep_verdict-clause-never
+returns-in_err-keep_verdict-clause-never g c =
+    let e = c.in_err-keep_verdict.field-0.0 in
+    let is : c.from_residual-in_err-keep_verdict.result ≡ Err e = search rules in
+    never_kept c.from_residual-in_err-keep_verdict.result e is c.in_err-keep_verdict.ensures.fault
+
+pub returns-clause-decides : goal.returns-clause-decides
+returns-clause-decides g c = λ header history up next.
+    let old = c.args.self.now in
+    let w = c.in_ok-keep_verdict.ensures in
+    next_kept g.D.Disk.told header old history c.args.client c.args.number c.args.recs.now up c.requires.client c.requires.records next c.requires.few c.keep_verdict.new.self c.in_ok-verdict.verdict tt
+      c.in_ok-verdict.ensures.verdict (w.same ∙ c.in_ok-verdict.ensures.ok) (w.keeps header (payloads_of history) up.journal) w.fullness

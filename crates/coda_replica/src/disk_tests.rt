@@ -1,0 +1,121 @@
+use super::*;
+use coda_certify::Reason;
+use coda_disk::MemDisk;
+use coda_fid::{Fid, Name, Op, Record};
+use coda_journal::{Header, Kind, MountFault};
+use coda_record::Answer;
+use std::alloc::{AllocError, Global};
+use std::test::Fail;
+
+const HEADER: Header = Header {
+    kind: Kind::Replica,
+    number: 7,
+    server: 1,
+    group: 1,
+    area: 1,
+    cache: 0,
+};
+
+// The creation of the file `a` in the root, as operation 1 of client 1.
+fn creation(alloc: Global, uniq: u32) -> Result<Record, Fail> {
+    Ok(Record {
+        number: 1,
+        time: 0,
+        op: Op::Create {
+            dir: Fid::root(7),
+            name: Name::read(alloc, b"a")?,
+            fid: Fid {
+                volume: 7,
+                vnode: 1,
+                uniq,
+            },
+            mode: 0o644,
+            owner: 0,
+        },
+    })
+}
+
+// A replica on the disk that is left by this image, and how many entries it has.
+fn recovered(alloc: Global, image: Vec<u8>) -> Result<(Replica<MemDisk>, u64), Fail> {
+    let disk = MemDisk::new(alloc, image, Vec::new(alloc))?;
+    match Replica::recover(alloc, disk, &HEADER) {
+        Ok(found) => Ok(found),
+        Err(_) => Err(Fail::new("it isn't recovered")),
+    }
+}
+
+// The image of a replica that decided so many chunks of client 1: the first was applied, and the second is in conflict with it.
+fn image_of(alloc: Global, chunks: u64) -> Result<Vec<u8>, Fail> {
+    let (mut replica, _) = recovered(alloc, Vec::new(alloc))?;
+    for number in 0..chunks {
+        replica.decide(1, number + 1, &[creation(alloc, number as u32 + 1)?])?;
+    }
+    Ok(replica.down().image(0)?)
+}
+
+// What the disk of a replica says once it decided chunks: how many there are, and the answer to the last one.
+#[test]
+fn decisions_are_recovered(rt: HostRuntime) -> Result<(), Fail> {
+    let alloc = rt.alloc();
+    let answers = [
+        Answer::Old(0),
+        Answer::Applied,
+        Answer::Conflict(
+            1,
+            Reason::NameTaken(Fid {
+                volume: 7,
+                vnode: 1,
+                uniq: 1,
+            }),
+        ),
+    ];
+    for (chunks, wanted) in answers.iter().enumerate() {
+        let (mut replica, count) = recovered(alloc, image_of(alloc, chunks as u64)?)?;
+        assert_eq!(rt; count, chunks as u64);
+        assert_eq!(rt; replica.decide(1, chunks as u64, &[])?, *wanted);
+        assert_eq!(rt; replica.volume().len(), if chunks == 0 { 1 } else { 2 });
+        assert_eq!(rt; (replica.server(), replica.is_down()), (1, false));
+        assert_eq!(rt; replica.fetch(1, Fid::root(7))?.mode, 0o755);
+    }
+    Ok(())
+}
+
+// How many entries there are after a chunk behind so many, where so many calls of the disk pass, and after a crash; whether
+// the chunk was decided, and whether the replica is down.
+fn decided(
+    alloc: Global,
+    chunks: u64,
+    passes: u64,
+    choice: u64,
+) -> Result<(bool, bool, u64), Fail> {
+    let (mut replica, _) = recovered(alloc, image_of(alloc, chunks)?)?;
+    replica.arm(passes);
+    let done = replica
+        .decide(1, chunks + 1, &[creation(alloc, chunks as u32 + 1)?])
+        .is_ok();
+    let down = replica.is_down();
+    if down {
+        let refused = replica.decide(1, chunks + 1, &[]);
+        assert_eq!(in alloc; refused, Err(ReplicaFault::Down));
+        assert_eq!(in alloc; replica.fetch(1, Fid::root(7)).is_err(), true);
+    }
+    let (_, count) = recovered(alloc, replica.down().image(choice)?)?;
+    Ok((done, down, count))
+}
+
+// A decision, of a chunk that is applied and of one in conflict, is there or isn't, whichever of its four calls fails; by
+// choice 180 a gate that wasn't synced is 1.
+#[test]
+fn decisions_are_whole(rt: HostRuntime) -> Result<(), Fail> {
+    for chunks in 0..2u64 {
+        for passes in 0..5u64 {
+            for choice in [0u64, 1, 7, 180] {
+                let (done, down, count) = decided(rt.alloc(), chunks, passes, choice)?;
+                assert_eq!(rt; (done, down), (passes == 4, passes < 4));
+                assert_eq!(rt; count == chunks || count == chunks + 1, true);
+                assert_eq!(rt; done && count == chunks, false);
+            }
+        }
+    }
+    Ok(())
+}
