@@ -57,7 +57,7 @@ module _ {D : Type 0} (told : D → Told) (header : Header) (old : Replica D) (h
 
   pub may_follow : MayFollow header history entry
   may_follow = subst (λ (r : ReplicaState). MayFollow header history (decision_entry r client number recs)) (sym up.state)
-    ((follows, refl), decision_spelled header history client number recs up.lawful is are (omega (arith, follows)) high)
+      ((follows, refl), decision_spelled header history client number recs up.lawful is are (omega (arith, follows)) high)
 
   -- the decision is kept
   pub grows : (new : Replica D) → new.down ≡ false → IsJournal told header new.journal (payloads_of history ++ payload_of entry ∷ []) → new.decider ≡ decided old.decider client number recs → IsUp told header new (history ++ entry ∷ [])
@@ -101,16 +101,16 @@ module _ {D : Type 0} (told : D → Told) (header : Header) (old : Replica D) (h
       → IsFullness {D = D} {T = Unit {0}} old.journal (Decide client number recs verdict) (Err e) → IsBack {T = Unit {0}} mid client was verdict new.decider (Err e) → NextDeciding told header old history client number recs new (Err e)
   next_refused new mid was verdict e verdict_is was_is mid_is =
       subst (λ (v : Verdict). Keeping {D = D} {T = Unit {0}} told header old.journal (payloads_of history) (payload_of (Decide client number recs v)) new (Err e)
-          → IsFullness {D = D} {T = Unit {0}} old.journal (Decide client number recs v) (Err e) → IsBack {T = Unit {0}} mid client was v new.decider (Err e) → NextDeciding told header old history client number recs new (Err e)) (sym verdict_is)
-        (refused_so new mid was e was_is mid_is)
+      → IsFullness {D = D} {T = Unit {0}} old.journal (Decide client number recs v) (Err e) → IsBack {T = Unit {0}} mid client was v new.decider (Err e) → NextDeciding told header old history client number recs new (Err e)) (sym verdict_is)
+      (refused_so new mid was e was_is mid_is)
 
   pub next_kept : (new : Replica D) (verdict : Verdict) (x : Unit {0}) → verdict ≡ verdict_of (replay old.decider.tree.nodes client recs) → new.decider ≡ decided old.decider client number recs
       → Keeping {D = D} {T = Unit {0}} told header old.journal (payloads_of history) (payload_of (Decide client number recs verdict)) new (Ok x)
       → IsFullness {D = D} {T = Unit {0}} old.journal (Decide client number recs verdict) (Ok x) → NextDeciding told header old history client number recs new (Ok verdict)
   next_kept new verdict x verdict_is decider_is =
       subst (λ (v : Verdict). Keeping {D = D} {T = Unit {0}} told header old.journal (payloads_of history) (payload_of (Decide client number recs v)) new (Ok x)
-          → IsFullness {D = D} {T = Unit {0}} old.journal (Decide client number recs v) (Ok x) → NextDeciding told header old history client number recs new (Ok v)) (sym verdict_is)
-        (λ k f. record { any_moment = k.any_moment; answers = (refl, not_full f, grows new k.answers.0 k.answers.1 decider_is) })
+      → IsFullness {D = D} {T = Unit {0}} old.journal (Decide client number recs v) (Ok x) → NextDeciding told header old history client number recs new (Ok v)) (sym verdict_is)
+      (λ k f. record { any_moment = k.any_moment; answers = (refl, not_full f, grows new k.answers.0 k.answers.1 decider_is) })
 
 -- the answer to a chunk that was decided
 pub next_decided : {D : Type 0} (told : D → Told) (header : Header) (old : Replica D) (history : List ReplicaEntry) (client number : ℕ) (recs : List Record) → IsUp told header old history → is_next (last_for old.decider client) number ≡ true

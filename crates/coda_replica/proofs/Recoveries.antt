@@ -83,16 +83,26 @@ module _ (header : Header) (t0 t1 : Told) (start used : ℕ) (payloads : List (L
     honest = m.is_open.honest;
     leaves = m.leaves;
     now = now;
-    why_not = inr (breaks_old at b, m.is_open.durable, record {
-      past = b.past;
-      payload = b.payload;
-      rest = b.rest;
-      reads = subst (Reads header t1.seen) b.same m.is_open.reads;
-      lawful = b.lawful;
-      misfit = b.misfit;
-      here = place_on_disk at b low room;
-    });
+    why_not = inr (
+      breaks_old at b,
+      m.is_open.durable,
+      record {
+        past = b.past;
+        payload = b.payload;
+        rest = b.rest;
+        reads = subst (Reads header t1.seen) b.same m.is_open.reads;
+        lawful = b.lawful;
+        misfit = b.misfit;
+        here = place_on_disk at b low room;
+      },
+    );
   }
+
+  -- the payloads are no history, or memory is wanted
+  pub not_recovered : (why : MountFault) → ((at : ℕ) → why ≡ Foreign at → Breaks header payloads start at) → why ≢ DiskFault → start ≤ 64 + area_bytes header → used < area_bytes header → NotRecovered header t0 t1 why
+  not_recovered (Foreign at) breaks fault low room = foreign at (breaks at refl) low room
+  not_recovered DiskFault breaks fault low room = absurd (fault refl)
+  not_recovered Memory breaks fault low room = no_memory
 
 -- ---- a disk on which replicas with this header alone wrote
 

@@ -2,9 +2,9 @@ use super::*;
 use coda_certify::Reason;
 use coda_disk::MemDisk;
 use coda_fid::{Fid, Name, Op, Record};
-use coda_journal::{Header, Kind, MountFault};
+use coda_journal::{Frame, Header, Journal, Kind, MountFault};
 use coda_record::Answer;
-use std::alloc::{AllocError, Global};
+use std::alloc::Global;
 use std::test::Fail;
 
 const HEADER: Header = Header {
@@ -80,27 +80,22 @@ fn decisions_are_recovered(rt: HostRuntime) -> Result<(), Fail> {
     Ok(())
 }
 
-// How many entries there are after a chunk behind so many, where so many calls of the disk pass, and after a crash; whether
-// the chunk was decided, and whether the replica is down.
-fn decided(
-    alloc: Global,
-    chunks: u64,
-    passes: u64,
-    choice: u64,
-) -> Result<(bool, bool, u64), Fail> {
+// What became of a chunk: whether it was decided, whether the replica is down then, whether it refuses all that follows for
+// that, and how many entries there are after a crash.
+type Fate = (bool, bool, bool, u64);
+
+// The fate of a chunk behind so many, where so many calls of the disk pass.
+fn fate(alloc: Global, chunks: u64, passes: u64, choice: u64) -> Result<Fate, Fail> {
     let (mut replica, _) = recovered(alloc, image_of(alloc, chunks)?)?;
     replica.arm(passes);
-    let done = replica
-        .decide(1, chunks + 1, &[creation(alloc, chunks as u32 + 1)?])
-        .is_ok();
+    let chunk = [creation(alloc, chunks as u32 + 1)?];
+    let done = replica.decide(1, chunks + 1, &chunk).is_ok();
+    let again = replica.decide(1, chunks + 1, &chunk);
+    let fetched = replica.fetch(1, Fid::root(7)).is_err();
+    let refused = fetched && again == Err(ReplicaFault::Down);
     let down = replica.is_down();
-    if down {
-        let refused = replica.decide(1, chunks + 1, &[]);
-        assert_eq!(in alloc; refused, Err(ReplicaFault::Down));
-        assert_eq!(in alloc; replica.fetch(1, Fid::root(7)).is_err(), true);
-    }
     let (_, count) = recovered(alloc, replica.down().image(choice)?)?;
-    Ok((done, down, count))
+    Ok((done, down, refused, count))
 }
 
 // A decision, of a chunk that is applied and of one in conflict, is there or isn't, whichever of its four calls fails; by
@@ -110,12 +105,41 @@ fn decisions_are_whole(rt: HostRuntime) -> Result<(), Fail> {
     for chunks in 0..2u64 {
         for passes in 0..5u64 {
             for choice in [0u64, 1, 7, 180] {
-                let (done, down, count) = decided(rt.alloc(), chunks, passes, choice)?;
-                assert_eq!(rt; (done, down), (passes == 4, passes < 4));
-                assert_eq!(rt; count == chunks || count == chunks + 1, true);
-                assert_eq!(rt; done && count == chunks, false);
+                let (done, down, refused, count) = fate(rt.alloc(), chunks, passes, choice)?;
+                assert_eq!(rt;
+                    (done, down, refused),
+                    (passes == 4, passes < 4, passes < 4)
+                );
+                let there = passes == 4 || passes >= 2 && count > chunks;
+                assert_eq!(rt; count, chunks + there as u64);
             }
         }
+    }
+    Ok(())
+}
+
+// Why a replica isn't recovered from a disk with one decision and this payload behind it.
+fn unfit(alloc: Global, payload: &[u8]) -> Result<MountFault, Fail> {
+    let disk = MemDisk::new(alloc, image_of(alloc, 1)?, Vec::new(alloc))?;
+    let Ok((mut journal, _)) = Journal::mount(alloc, disk, &HEADER) else {
+        return Err(Fail::new("it isn't mounted"));
+    };
+    journal.append(&Frame::new(alloc, payload)?)?;
+    match Replica::recover(alloc, journal.into_disk(), &HEADER) {
+        Ok(_) => Err(Fail::new("it is recovered")),
+        Err(unmounted) => Ok(unmounted.why),
+    }
+}
+
+// A payload that is no spelling, one that decides the same chunk again, and one of a verdict that the replay doesn't give are
+// foreign at their gates, behind 64 bytes of header and the 69 of the first entry.
+#[test]
+fn other_payloads_are_foreign(rt: HostRuntime) -> Result<(), Fail> {
+    let alloc = rt.alloc();
+    let first = *b"\x01\x01\0\0\0\0\0\0\0\x01\0\0\0\0\0";
+    let second = *b"\x01\x01\0\0\0\0\0\0\0\x02\0\0\0\0\x01\0\0\0\0\0\0\0\x01\x0a";
+    for payload in [b"abc".as_slice(), &first, &second] {
+        assert_eq!(rt; unfit(alloc, payload)?, MountFault::Foreign(64 + 69));
     }
     Ok(())
 }

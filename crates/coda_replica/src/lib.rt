@@ -16,6 +16,6 @@ pub use law::{answers_tell_the_last, chunks_are_decided_once, repeats_are_answer
 pub use replica::Replica;
 
 #[cfg(test)]
-mod tests;
-#[cfg(test)]
 mod disk_tests;
+#[cfg(test)]
+mod tests;

@@ -62,12 +62,14 @@ fn enter(alloc: Global, decider: &mut Decider, payload: &[u8]) -> Result<(), Unf
     ensures misfit { result ≡ Err Unfit.Misfit → IsUnfit decider.old payload.now }
 {
     match read_replica(alloc, payload) {
-        Ok(ReplicaEntry::Decide {
-            client,
-            number,
-            recs,
-            verdict,
-        }) => enter_decision(decider, client, number, recs.records(), verdict),
+        Ok(
+            ReplicaEntry::Decide {
+                client,
+                number,
+                recs,
+                verdict,
+            },
+        ) => enter_decision(decider, client, number, recs.records(), verdict),
         Err(RecordFault::BadRecord(_)) => Err(Unfit::Misfit),
         Err(RecordFault::Memory) => Err(Unfit::Memory),
     }

@@ -23,6 +23,6 @@ loop-payload-preserved c =
     let more = one_more payloads i payload c.loop-payload-test.true c.payload-item.is in
     let place : c.saturating_add-place.result ≡ min (c.loop-payload.place + (5 + length payload)) (2 ^ 64 - 1) = c.saturating_add-place.ensures ∙ ap (λ (n : ℕ). min (c.loop-payload.place + (5 + n)) (2 ^ 64 - 1)) c.len.ensures.count in (
       λ header fresh. subst (λ (ps : List (List ℕ)). AreEntered header ps c.enter.new.decider) (sym more)
-        (entered_push header (take i payloads) payload c.loop-payload.decider c.enter.new.decider (c.loop-payload.invariant.0 header fresh) (subst (λ (p : List ℕ). Enters c.loop-payload.decider p c.enter.new.decider) c.bytes.ensures c.in-Ok.ensures.ok)),
+          (entered_push header (take i payloads) payload c.loop-payload.decider c.enter.new.decider (c.loop-payload.invariant.0 header fresh) (subst (λ (p : List ℕ). Enters c.loop-payload.decider p c.enter.new.decider) c.bytes.ensures c.in-Ok.ensures.ok)),
       place ∙ place_push c.args.start c.loop-payload.place (take i payloads) payload c.loop-payload.invariant.1 ∙ sym (ap (λ (ps : List (List ℕ)). min (c.args.start + length (blocks w32 ps)) (2 ^ 64 - 1)) more),
     )

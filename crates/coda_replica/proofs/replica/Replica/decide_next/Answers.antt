@@ -43,8 +43,8 @@ returns-in_err-keep_verdict-clause-decides g c = λ header history up next.
     let is : c.from_residual-in_err-keep_verdict.result ≡ Err e = search rules in
     let w = c.in_err-keep_verdict.ensures in
     subst (NextDeciding g.D.Disk.told header old history c.args.client c.args.number c.args.recs.now c.keep_verdict.new.self) (sym is)
-      (next_refused g.D.Disk.told header old history c.args.client c.args.number c.args.recs.now up c.requires.client c.requires.records next c.requires.few c.keep_verdict.new.self c.decide_next.new.self c.in_ok-verdict.was' c.in_ok-verdict.verdict e
-        c.in_ok-verdict.ensures.verdict c.in_ok-verdict.ensures.was c.in_ok-verdict.ensures.ok (w.keeps header (payloads_of history) up.journal) w.fullness w.back)
+    (next_refused g.D.Disk.told header old history c.args.client c.args.number c.args.recs.now up c.requires.client c.requires.records next c.requires.few c.keep_verdict.new.self c.decide_next.new.self c.in_ok-verdict.was' c.in_ok-verdict.verdict e
+    c.in_ok-verdict.ensures.verdict c.in_ok-verdict.ensures.was c.in_ok-verdict.ensures.ok (w.keeps header (payloads_of history) up.journal) w.fullness w.back)
 
 pub returns-in_err-keep_verdict-clause-never : goal.returns-in_err-keep_verdict-clause-never
 returns-in_err-keep_verdict-clause-never g c =
@@ -57,4 +57,4 @@ returns-clause-decides g c = λ header history up next.
     let old = c.args.self.now in
     let w = c.in_ok-keep_verdict.ensures in
     next_kept g.D.Disk.told header old history c.args.client c.args.number c.args.recs.now up c.requires.client c.requires.records next c.requires.few c.keep_verdict.new.self c.in_ok-verdict.verdict tt
-      c.in_ok-verdict.ensures.verdict (w.same ∙ c.in_ok-verdict.ensures.ok) (w.keeps header (payloads_of history) up.journal) w.fullness
+    c.in_ok-verdict.ensures.verdict (w.same ∙ c.in_ok-verdict.ensures.ok) (w.keeps header (payloads_of history) up.journal) w.fullness
