@@ -24,10 +24,8 @@ pub mod KeptDeeds
 pub mod KeptChunks
 pub mod KeptLines
 pub mod Decided
-pub mod SpelledParts
 pub mod SpelledFolds
-pub mod SpelledNodes
-pub mod SpelledVerdicts
+pub mod SpelledDecisions
 pub mod SpelledAsks
 pub mod SpelledCells
 pub mod SpelledLines

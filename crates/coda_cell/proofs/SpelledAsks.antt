@@ -26,9 +26,9 @@ use Rattle.coda_cell.specs.Ask.{Asked, Create, Mkdir, Symlink, Store, Setattr, R
 use Rattle.coda_cell.specs.Held.{is_below, some_below}
 use Rattle.coda_cell.specs.Looking.{then_find, held, step_from, resolve}
 use Rattle.coda_cell.specs.Accepting.{Sight, next_fid, new_under, new_place, accept_creation, store_in, store_at, setattr_at, remove_in, remove_at, rmdir_of, rmdir_in, rmdir_at, bound_at, spot, place, is_dir_at, with_version, replaced_by, move_to, rename_to, rename_root, accept_rename, accept_remove, accept_rmdir, accept}
-use Rattle.coda_cell.specs.Spelled.{AreSpelled}
+use Rattle.coda_spelling.specs.Spelled.{AreSpelled}
 use Rattle.coda_cell.proofs.Accepted.{ok_is, found_then, not_at_root, held_is, step_is, spot_is, place_is, new_fid_is, new_under_is, unless_is, unless_below, root_stays}
-use Rattle.coda_cell.proofs.SpelledParts.{below, name_spelled, fid_spelled, over_spelled, IsOverSpelled, some_over, IsOpSpelled, create_spelled, mkdir_spelled, symlink_spelled, store_spelled, setattr_spelled, remove_spelled, rmdir_spelled, rename_spelled}
+use Rattle.coda_spelling.proofs.SpelledParts.{below, name_spelled, fid_spelled, over_spelled, IsOverSpelled, some_over, IsOpSpelled, create_spelled, mkdir_spelled, symlink_spelled, store_spelled, setattr_spelled, remove_spelled, rmdir_spelled, rename_spelled}
 
 -- what is asked is in its ranges: names, modes, owners, targets, content and attributes
 abbrev pub IsAskSpelled : Asked → Type 0

@@ -1,12 +1,9 @@
 -- What actors did can be spelled, after whatever entries that can be.
-use Rattle.std.proofs.Common.{◌≡◌, ℕ, ◌≤◌, ◌==◌, ◌&&◌, true, false, cond, List, [], ◌∷◌, ◌++◌, append-nil, Some, None, refl, sym, ap, ◌∙◌, subst, inl, inr, arith}
+use Rattle.std.proofs.Common.{◌≡◌, ℕ, ◌==◌, ◌&&◌, true, false, cond, List, [], ◌∷◌, ◌++◌, append-nil, Some, None, refl, sym, ap, ◌∙◌, subst, inl, inr}
 use Rattle.std.proofs.lemmas.Bool.{eqb-true, cases_Bool, and_parts}
 use Rattle.std.specs.FinMap as map
-use Rattle.coda_fid.proofs.Fids.{fids_total}
-use Rattle.coda_fid.specs.Fid.{fid_cmp, root_of}
 use Rattle.coda_fid.specs.declared.op.Record.{Record}
-use Rattle.coda_tree.specs.declared.node.Node.{Node}
-use Rattle.coda_tree.specs.Volume.{Nodes, child_of, fresh, fresh_root}
+use Rattle.coda_tree.specs.Volume.{child_of}
 use Rattle.coda_certify.specs.declared.verdict.Verdict.TheVariants.{Applied}
 use Rattle.coda_certify.specs.Verdicts.{verdict_of}
 use Rattle.coda_cancel.specs.Cancel.{fold}
@@ -32,11 +29,13 @@ use Rattle.coda_plain.proofs.Soundness.{none_joins, moves_keep_sound}
 use Rattle.coda_cell.specs.Held.{Held, held_after}
 use Rattle.coda_cell.specs.State.{ClientState, new_client}
 use Rattle.coda_cell.specs.Made.{client_of}
-use Rattle.coda_cell.specs.Spelled.{IsSpelled, AreSpelled, IsReplicaSpelled, DidSpelled}
+use Rattle.coda_spelling.specs.Spelled.{IsSpelled, AreSpelled, AreAllSpelled}
+use Rattle.coda_cell.specs.Spelled.{IsReplicaSpelled, DidSpelled}
 use Rattle.coda_cell.proofs.Histories.{client_push, number_stays}
-use Rattle.coda_cell.proofs.SpelledFolds.{AreAllSpelled, all_spelled, sent_spelled}
-use Rattle.coda_cell.proofs.SpelledVerdicts.{at_most_one_more, room_decided, verdict_spelled}
-use Rattle.coda_cell.proofs.SpelledNodes.{after_operation, after_decision, after_fetch, fresh_spelled}
+use Rattle.coda_cell.proofs.SpelledFolds.{all_spelled, sent_spelled}
+use Rattle.coda_cell.proofs.SpelledDecisions.{after_decision, room_decided, verdict_spelled}
+use Rattle.coda_spelling.proofs.SpelledNodes.{after_operation, after_fetch, fresh_spelled}
+use Rattle.coda_spelling.proofs.SpelledVerdicts.{fresh_room}
 
 -- ---- chunks
 
@@ -184,7 +183,7 @@ kept_by kept (Decided client number span) was is spans =
       nodes = after_decision kept.nodes client span was.nodes is are;
       room = room_decided kept.nodes client span was.room;
       verdicts = λ c. with_last_at kept.lasts client (record { number = number; verdict = verdict_of (decision kept.nodes client span) }) c (λ (last : Last). HasSpelling table.verdict last.verdict)
-          (λ same. verdict_spelled kept.nodes client span was.nodes was.room is are) (λ off. was.verdicts c);
+          (λ same. verdict_spelled kept.nodes client span was.nodes is are was.room) (λ off. was.verdicts c);
     }
 kept_by kept (Resolved nodes lasts) was is spans = is
 
@@ -253,15 +252,6 @@ none_held client blocks = record {
   bound = λ dir fid name e. (let no : None ≡ Some fid = ap (λ o. child_of o name) (sym (map.get-empty _ dir)) ∙ e in cc);
 }
 
--- a fresh volume has its root alone
-few_fresh : (volume : ℕ) → map.len (fresh volume).nodes ≤ 100000
-few_fresh volume =
-    let nothing : Nodes = map.empty in
-    let none = map.len-empty fid_cmp Node in
-    let one = map.len-insert fids_total nothing (root_of volume) fresh_root in
-    let most = at_most_one_more (map.contains_key nothing (root_of volume)) (map.len nothing) in
-    omega (arith, none, one, most)
-
 applied_spelled : HasSpelling table.verdict Applied
 unfolding table.verdict
 applied_spelled = refl
@@ -271,5 +261,5 @@ nothing_spelled = record {
   operations = λ client volume rec i. absurd i;
   chunks = λ client volume. refl;
   held = none_held;
-  replicas = λ server volume. record { nodes = fresh_spelled volume; room = few_fresh volume; verdicts = λ client. applied_spelled };
+  replicas = λ server volume. record { nodes = fresh_spelled volume; room = fresh_room volume; verdicts = λ client. applied_spelled };
 }

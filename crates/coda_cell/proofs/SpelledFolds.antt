@@ -19,13 +19,8 @@ use Rattle.coda_record.specs.Parts.{items_piece}
 use Rattle.coda_record.specs.Spelling.{HasSpelling}
 use Rattle.coda_record.specs.Table as table
 use Rattle.coda_plain.specs.Histories.{In}
-use Rattle.coda_cell.specs.Spelled.{IsSpelled}
-use Rattle.coda_cell.proofs.SpelledParts.{both_true, is_within, over_spelled, over_parts, IsOverSpelled, some_over, over_some, IsOpSpelled, store_spelled, setattr_spelled, remove_spelled, rmdir_spelled, rename_spelled, store_parts, setattr_parts, remove_parts, rmdir_parts, rename_parts}
-
--- each of the records can be spelled
-abbrev pub AreAllSpelled : List Record → Type 0
-AreAllSpelled [] = Unit {0}
-AreAllSpelled (rec ∷ recs) = IsSpelled rec × AreAllSpelled recs
+use Rattle.coda_spelling.specs.Spelled.{IsSpelled, AreAllSpelled}
+use Rattle.coda_spelling.proofs.SpelledParts.{both_true, is_within, over_spelled, over_parts, IsOverSpelled, some_over, over_some, IsOpSpelled, store_spelled, setattr_spelled, remove_spelled, rmdir_spelled, rename_spelled, store_parts, setattr_parts, remove_parts, rmdir_parts, rename_parts}
 
 pub all_spelled : (recs : List Record) → ((rec : Record) → In rec recs → IsSpelled rec) → AreAllSpelled recs
 all_spelled [] each = tt

@@ -50,7 +50,8 @@ use Rattle.coda_cell.specs.Made.{MadeCell, client_of, state_of, grown, grown_all
 use Rattle.coda_cell.specs.Steps.{Doing, Unless, first_missing, on_volume, client_named, volume_named, server_named, holder_named, no_volume, no_client, offers_of, ByClient, ByBoth, bytes_of, Operates, DoesTask, alone, Does}
 use Rattle.coda_cell.specs.Sending.{Freezing, frozen_now, frozen_unless, freezing_of, freezing, Ruling, decides, ruling_of, ruling, Taking, taken, taken_unless, taking, deeds_at, entries_at, answered_to, ruled_on, drained_of, drain}
 use Rattle.coda_cell.specs.Runs.{IsKept, MakesNumbered}
-use Rattle.coda_cell.specs.Spelled.{IsSpelled, AreSpelled, CanBeSpelled, LinesKeepSpellings, MessagesCanBeSpelled}
+use Rattle.coda_spelling.specs.Spelled.{IsSpelled, AreSpelled}
+use Rattle.coda_cell.specs.Spelled.{CanBeSpelled, LinesKeepSpellings, MessagesCanBeSpelled}
 use Rattle.coda_cell.specs.declared.refused.Refused.{Refused}
 use Rattle.coda_cell.specs.declared.refused.Refused.TheVariants as refused
 use Rattle.coda_cell.proofs.Fetches.{keeps_look_ups}
@@ -58,10 +59,10 @@ use Rattle.coda_cell.proofs.Histories.{number_stays}
 use Rattle.coda_cell.proofs.KeptCells.{client_there, lawful}
 use Rattle.coda_cell.proofs.KeptLines.{offered_are, lines_keep_cells}
 use Rattle.coda_cell.proofs.Offered.{offered_is}
-use Rattle.coda_cell.proofs.SpelledParts.{within, is_within, below, attrs_spelled, both_true}
+use Rattle.coda_spelling.proofs.SpelledParts.{within, is_within, below, attrs_spelled, both_true}
 use Rattle.coda_cell.proofs.SpelledAsks.{IsAskSpelled, accepted_spelled}
 use Rattle.coda_cell.proofs.SpelledCells.{IsAppendSpelled, AreMovesSpelled, moves_spelled, nothing_spelled, chunk_spelled}
-use Rattle.coda_cell.proofs.SpelledNodes.{after_fetch}
+use Rattle.coda_spelling.proofs.SpelledNodes.{after_fetch}
 
 -- ---- events
 

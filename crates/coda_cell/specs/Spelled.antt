@@ -1,16 +1,13 @@
 -- What messages can say: each number, name and version in the range that its format has.
 use Rattle.std.specs.Prelude.{◌≡◌, ◌≤◌, ℕ, Some, List}
 use Rattle.std.specs.FinMap as map
-use Rattle.coda_fid.specs.declared.fid.Fid.{Fid}
 use Rattle.coda_fid.specs.declared.op.Record.{Record}
-use Rattle.coda_tree.specs.declared.node.Node.{Node}
-use Rattle.coda_tree.specs.Bindings.{Name}
-use Rattle.coda_tree.specs.Volume.{Nodes, child}
 use Rattle.coda_cancel.specs.Cancel.{fold}
 use Rattle.coda_record.specs.Form.{four}
 use Rattle.coda_record.specs.Parts.{u64}
 use Rattle.coda_record.specs.Spelling.{HasSpelling}
 use Rattle.coda_record.specs.Table as table
+use Rattle.coda_spelling.specs.Spelled.{IsSpelled, AreSpelled}
 use Rattle.coda_script.specs.declared.line.Line.{Line}
 use Rattle.coda_script.specs.declared.reply.Reply.{Reply}
 use Rattle.coda_script.specs.Ranges.{InRange}
@@ -23,17 +20,6 @@ use Rattle.coda_cell.specs.State.{Event}
 use Rattle.coda_cell.specs.Made.{MadeCell, nothing_made, client_of, state_of, grown_all}
 use Rattle.coda_cell.specs.Steps.{Does}
 use Rattle.coda_cell.specs.Runs.{IsKept}
-
--- the record of an operation, but for whether its number may follow another
-pub record IsSpelled (rec : Record) : Type 0 where
-  pub number : HasSpelling table.ordinal rec.number
-  pub time : HasSpelling u64 rec.time
-  pub op : HasSpelling (table.op four) rec.op
-
--- the versions of nodes, and the objects that they bind
-pub record AreSpelled (m : Nodes) : Type 0 where
-  pub versions : (fid : Fid) (node : Node) → map.get m fid ≡ Some node → HasSpelling table.sid node.sid
-  pub bound : (dir fid : Fid) (name : Name) → child m dir name ≡ Some fid → HasSpelling table.fid fid
 
 -- what a replica has: its nodes, as many as a volume may have at most, and the verdict on the last chunk of each client
 pub record IsReplicaSpelled (kept : Kept) : Type 0 where

@@ -14,7 +14,7 @@ use crate::links::{Ends, put_link};
 use crate::refused::Refused;
 use crate::venus::Venus;
 use coda_cml::Log;
-use coda_replica::Replica;
+use coda_replica::Decider;
 use coda_script::{Numbers, Reply, Strength};
 use coda_tree::Volume;
 use std::alloc::{AllocError, Global};
@@ -33,7 +33,7 @@ pub struct Cell {
     /// The server of each volume, in the order of making.
     pub servers: Vec<u8>,
     /// The replica of each volume.
-    pub replicas: BTreeMap<u32, Replica>,
+    pub replicas: BTreeMap<u32, Decider>,
     /// The clients, by their numbers.
     pub clients: BTreeMap<u8, Venus>,
     /// The links that were set; the others are down.
@@ -61,9 +61,9 @@ pub fn answered(alloc: Global, said: Result<Reply, Refused>) -> Result<Reply, Ce
 
 // Puts a replica at the number of a volume. Fails for want of memory alone.
 fn put_replica(
-    replicas: &mut BTreeMap<u32, Replica>,
+    replicas: &mut BTreeMap<u32, Decider>,
     volume: u32,
-    replica: Replica,
+    replica: Decider,
 ) -> Result<(), AllocError>
     ensures { OnOk result ((v : ℕ) → option_map replica_state (tree.get nat_cmp replicas.new v) ≡ put (λ w. option_map replica_state (tree.get nat_cmp replicas.old w)) volume (Some (replica_state replica)) v) }
 {
@@ -206,7 +206,7 @@ impl Cell {
     fn put_volume(&mut self, volume: u32, server: u8) -> Result<(), AllocError>
         ensures { (s : CellState) → IsCell s self.old → OnOk result (IsCell (after s (VolumeMade volume server)) self.new) }
     {
-        let replica = Replica::new(self.alloc, volume, server)?;
+        let replica = Decider::new(self.alloc, volume, server)?;
         self.servers.push(server)?;
         put_replica(&mut self.replicas, volume, replica)
     }

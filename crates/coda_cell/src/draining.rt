@@ -14,7 +14,7 @@ use crate::volume_log::VolumeLog;
 use coda_certify::Verdict;
 use coda_fid::Record;
 use coda_record::Answer;
-use coda_replica::{Replica, ReplicaFault};
+use coda_replica::{Decider, ReplicaFault};
 use coda_script::{Answer as ReplyAnswer, Reply, Strength};
 
 /// The most chunks of a volume that a client freezes.
@@ -69,7 +69,7 @@ pub fn freeze_for(until: Until, log: &mut VolumeLog, server: u8) -> Result<u64, 
 
 /// What a replica answers to a client's chunk, by the records that were sent.
 pub fn rule(
-    replica: &mut Replica,
+    replica: &mut Decider,
     client: u8,
     number: u64,
     recs: &[Record],
@@ -135,7 +135,7 @@ fn send_log(
     client: u8,
     volume: u32,
     log: &mut VolumeLog,
-    replica: &mut Replica,
+    replica: &mut Decider,
 ) -> Result<Reply, Refused>
     ensures { (v : ClientVolume) → IsVolumeLog v log.old → IsSteady (pending v) → Drains (drained until.now until.window client volume v (replica_state replica.old)) result log.new replica.new }
 {
@@ -154,7 +154,7 @@ fn send_from(
     number: u8,
     volume: u32,
     client: &mut Venus,
-    replica: &mut Replica,
+    replica: &mut Decider,
 ) -> Result<Reply, Refused>
     ensures { (c : ClientState) → IsClient c client.old → IsSteady (pending (c.volumes volume)) → Sends (drained until.now until.window number volume (c.volumes volume) (replica_state replica.old)) c volume result client.new replica.new }
 {
@@ -171,7 +171,7 @@ pub fn send(
     number: u8,
     volume: u32,
     client: &mut Venus,
-    replica: &mut Replica,
+    replica: &mut Decider,
 ) -> Result<Reply, Refused>
     ensures { (c : ClientState) → IsClient c client.old → IsSteady (pending (c.volumes volume)) → Sends (drain strength until.now until.window number volume (c.volumes volume) (replica_state replica.old)) c volume result client.new replica.new }
 {

@@ -21,7 +21,7 @@ use crate::refused::Refused;
 use crate::request::Request;
 use crate::venus::Venus;
 use coda_fid::{Bytes, Path};
-use coda_replica::Replica;
+use coda_replica::Decider;
 use coda_script::{Content, Reply, Strength, Task};
 use coda_tree::Volume;
 use std::alloc::{AllocError, Global};
@@ -38,7 +38,7 @@ const FILE_MODE: u16 = 0o644;
 const AGING_WINDOW: u64 = 600;
 
 // The volume of a replica, where its server can be reached.
-fn offers(strength: Strength, replica: &Replica) -> Option<&Volume>
+fn offers(strength: Strength, replica: &Decider) -> Option<&Volume>
     ensures { nodes_offered result ≡ reached strength (replica_state replica.now) }
 {
     match strength {
@@ -51,7 +51,7 @@ fn offers(strength: Strength, replica: &Replica) -> Option<&Volume>
 // What a client can fetch of a volume.
 fn offers_of<'a>(
     links: &BTreeMap<Ends, Strength>,
-    replicas: &'a BTreeMap<u32, Replica>,
+    replicas: &'a BTreeMap<u32, Decider>,
     client: u8,
     volume: u32,
 ) -> Option<&'a Volume>
@@ -85,7 +85,7 @@ fn send_at(
     clients: &mut BTreeMap<u8, Venus>,
     client: u8,
     volume: u32,
-    replica: &mut Replica,
+    replica: &mut Decider,
 ) -> Result<Reply, Refused>
     requires { IsSome (tree.get nat_cmp clients.old client) }
     ensures { (c : ClientState) → IsClientAt (Some c) (tree.get nat_cmp clients.old client) → IsSteady (pending (c.volumes volume)) → SendsAt (drain strength until.now until.window client volume (c.volumes volume) (replica_state replica.old)) c volume client result clients.old clients.new replica.new }
@@ -99,7 +99,7 @@ fn send_between(
     links: &BTreeMap<Ends, Strength>,
     until: Until,
     clients: &mut BTreeMap<u8, Venus>,
-    replicas: &mut BTreeMap<u32, Replica>,
+    replicas: &mut BTreeMap<u32, Decider>,
     client: u8,
     volume: u32,
 ) -> Result<Reply, Refused>
