@@ -45,10 +45,10 @@ fn recovered(alloc: Global, image: Vec<u8>) -> Result<(Replica<MemDisk>, u64), F
 }
 
 // The image of a replica that decided so many chunks of client 1: the first was applied, and the second is in conflict with it.
-fn image_of(alloc: Global, chunks: u64) -> Result<Vec<u8>, Fail> {
+fn image_of(alloc: Global, chunks: u32) -> Result<Vec<u8>, Fail> {
     let (mut replica, _) = recovered(alloc, Vec::new(alloc))?;
-    for number in 0..chunks {
-        replica.decide(1, number + 1, &[creation(alloc, number as u32 + 1)?])?;
+    for uniq in 1..=chunks {
+        replica.decide(1, u64::from(uniq), &[creation(alloc, uniq)?])?;
     }
     Ok(replica.down().image(0)?)
 }
@@ -69,11 +69,11 @@ fn decisions_are_recovered(rt: HostRuntime) -> Result<(), Fail> {
             }),
         ),
     ];
-    for (chunks, wanted) in answers.iter().enumerate() {
-        let (mut replica, count) = recovered(alloc, image_of(alloc, chunks as u64)?)?;
-        assert_eq!(rt; count, chunks as u64);
-        assert_eq!(rt; replica.decide(1, chunks as u64, &[])?, *wanted);
-        assert_eq!(rt; replica.volume().len(), if chunks == 0 { 1 } else { 2 });
+    for (chunks, wanted) in [0, 1, 2].iter().zip(&answers) {
+        let (mut replica, count) = recovered(alloc, image_of(alloc, *chunks)?)?;
+        assert_eq!(rt; count, u64::from(*chunks));
+        assert_eq!(rt; replica.decide(1, u64::from(*chunks), &[])?, *wanted);
+        assert_eq!(rt; replica.volume().len(), if *chunks == 0 { 1 } else { 2 });
         assert_eq!(rt; (replica.server(), replica.is_down()), (1, false));
         assert_eq!(rt; replica.fetch(1, Fid::root(7))?.mode, 0o755);
     }
@@ -85,12 +85,13 @@ fn decisions_are_recovered(rt: HostRuntime) -> Result<(), Fail> {
 type Fate = (bool, bool, bool, u64);
 
 // The fate of a chunk behind so many, where so many calls of the disk pass.
-fn fate(alloc: Global, chunks: u64, passes: u64, choice: u64) -> Result<Fate, Fail> {
+fn fate(alloc: Global, chunks: u32, passes: u64, choice: u64) -> Result<Fate, Fail> {
     let (mut replica, _) = recovered(alloc, image_of(alloc, chunks)?)?;
     replica.arm(passes);
-    let chunk = [creation(alloc, chunks as u32 + 1)?];
-    let done = replica.decide(1, chunks + 1, &chunk).is_ok();
-    let again = replica.decide(1, chunks + 1, &chunk);
+    let chunk = [creation(alloc, chunks.wrapping_add(1))?];
+    let number = u64::from(chunks) + 1;
+    let done = replica.decide(1, number, &chunk).is_ok();
+    let again = replica.decide(1, number, &chunk);
     let fetched = replica.fetch(1, Fid::root(7)).is_err();
     let refused = fetched && again == Err(ReplicaFault::Down);
     let down = replica.is_down();
@@ -102,7 +103,7 @@ fn fate(alloc: Global, chunks: u64, passes: u64, choice: u64) -> Result<Fate, Fa
 // choice 180 a gate that wasn't synced is 1.
 #[test]
 fn decisions_are_whole(rt: HostRuntime) -> Result<(), Fail> {
-    for chunks in 0..2u64 {
+    for chunks in 0..2u32 {
         for passes in 0..5u64 {
             for choice in [0u64, 1, 7, 180] {
                 let (done, down, refused, count) = fate(rt.alloc(), chunks, passes, choice)?;
@@ -110,8 +111,8 @@ fn decisions_are_whole(rt: HostRuntime) -> Result<(), Fail> {
                     (done, down, refused),
                     (passes == 4, passes < 4, passes < 4)
                 );
-                let there = passes == 4 || passes >= 2 && count > chunks;
-                assert_eq!(rt; count, chunks + there as u64);
+                let there = passes == 4 || passes >= 2 && count > u64::from(chunks);
+                assert_eq!(rt; count, u64::from(chunks) + u64::from(there));
             }
         }
     }
