@@ -24,6 +24,11 @@ use Rattle.coda_replica.specs.declared.fault.ReplicaFault.{ReplicaFault}
 use Rattle.coda_replica.specs.declared.fault.ReplicaFault.TheVariants.{Down, NotFound, JournalFull, DiskFault, Memory}
 use Rattle.coda_replica.specs.declared.replica.Replica.{Replica}
 
+-- a fault of the disk, and nothing else, takes a replica down
+abbrev pub Falls : {T : Type 0} → Bool → Bool → Result T ReplicaFault → Type 0
+Falls old new (Err DiskFault) = new ≡ true
+Falls old new result = new ≡ old
+
 -- ---- one entry
 
 -- What adding an entry answers where there is room: it is there, or a call of the disk failed.

@@ -1,3 +1,8 @@
+ghost use Rattle.std.specs.Prelude.{◌≡◌, [], ◌∷◌, false, IfOk};
+ghost use Rattle.coda_record.specs.Form.{four};
+ghost use Rattle.coda_record.specs.Spelling.{HasSpelling};
+ghost use Rattle.coda_record.specs.Table.{records as some_records};
+
 use super::*;
 use coda_certify::Reason;
 use coda_disk::MemDisk;
@@ -17,13 +22,16 @@ const HEADER: Header = Header {
 };
 
 // The creation of the file `a` in the root, as operation 1 of client 1.
-fn creation(alloc: Global, uniq: u32) -> Result<Record, Fail> {
+fn creation(alloc: Global, uniq: u32) -> Result<Record, Fail>
+    ensures { IfOk result (λ r. HasSpelling (some_records four) (r ∷ [])) }
+{
+    let name = Name::read(alloc, b"a")?;
     Ok(Record {
         number: 1,
         time: 0,
         op: Op::Create {
             dir: Fid::root(7),
-            name: Name::read(alloc, b"a")?,
+            name,
             fid: Fid {
                 volume: 7,
                 vnode: 1,
@@ -36,7 +44,9 @@ fn creation(alloc: Global, uniq: u32) -> Result<Record, Fail> {
 }
 
 // A replica on the disk that is left by this image, and how many entries it has.
-fn recovered(alloc: Global, image: Vec<u8>) -> Result<(Replica<MemDisk>, u64), Fail> {
+fn recovered(alloc: Global, image: Vec<u8>) -> Result<(Replica<MemDisk>, u64), Fail>
+    ensures { IfOk result (λ r. r.0.down ≡ false) }
+{
     let disk = MemDisk::new(alloc, image, Vec::new(alloc))?;
     match Replica::recover(alloc, disk, &HEADER) {
         Ok(found) => Ok(found),
@@ -72,8 +82,16 @@ fn decisions_are_recovered(rt: HostRuntime) -> Result<(), Fail> {
     for (chunks, wanted) in [0, 1, 2].iter().zip(&answers) {
         let (mut replica, count) = recovered(alloc, image_of(alloc, *chunks)?)?;
         assert_eq!(rt; count, u64::from(*chunks));
-        assert_eq!(rt; replica.decide(1, u64::from(*chunks), &[])?, *wanted);
-        assert_eq!(rt; replica.volume().len(), if *chunks == 0 { 1 } else { 2 });
+        assert_eq!(rt;
+            replica.decide(1, u64::from(*chunks), &[creation(alloc, 9)?])?,
+            *wanted
+        );
+        let made = Fid {
+            volume: 7,
+            vnode: 1,
+            uniq: 1,
+        };
+        assert_eq!(rt; replica.fetch(1, made).is_ok(), *chunks > 0);
         assert_eq!(rt; (replica.server(), replica.is_down()), (1, false));
         assert_eq!(rt; replica.fetch(1, Fid::root(7))?.mode, 0o755);
     }

@@ -44,7 +44,7 @@ pub struct Replica<D> {
 }
 
 impl<D: Disk> Replica<D> {
-    ghost use Rattle.coda_replica.specs.Deciding.{Decides, DecidesNext, Keeps, IsFullness, IsBack, IsAppendFault, IsKeepFault};
+    ghost use Rattle.coda_replica.specs.Deciding.{Decides, DecidesNext, Keeps, IsFullness, IsBack, IsAppendFault, IsKeepFault, Falls};
     ghost use Rattle.coda_replica.specs.Recovering.{Recovered, NotRecovered};
     ghost use Rattle.coda_replica.specs.Standing.{IsUp, IsReplicaDisk};
 
@@ -116,6 +116,7 @@ impl<D: Disk> Replica<D> {
         ensures full { (self.old.journal.area < self.old.journal.used + vec_len frame.now.bytes) ↔ (result ≡ Err ReplicaFault.JournalFull) }
         ensures fault { IfErr result IsAppendFault }
         ensures same { self.new.decider ≡ self.old.decider }
+        ensures falls { Falls self.old.down self.new.down result }
         ensures later { D.faults self.old.journal.disk ≤ D.faults self.new.journal.disk }
         ensures cause { IsErrOf result ReplicaFault.DiskFault → Rose (D.faults self.old.journal.disk) (D.faults self.new.journal.disk) }
         ensures arms { D.arms self.new.journal.disk ≡ D.arms self.old.journal.disk }
@@ -146,6 +147,7 @@ impl<D: Disk> Replica<D> {
         ensures fullness { IsFullness self.old.journal (DecideEntry client number recs.now verdict.now) result }
         ensures fault { IfErr result IsKeepFault }
         ensures same { self.new.decider ≡ self.old.decider }
+        ensures falls { Falls self.old.down self.new.down result }
         ensures later { D.faults self.old.journal.disk ≤ D.faults self.new.journal.disk }
         ensures cause { IsErrOf result ReplicaFault.DiskFault → Rose (D.faults self.old.journal.disk) (D.faults self.new.journal.disk) }
         ensures arms { D.arms self.new.journal.disk ≡ D.arms self.old.journal.disk }
@@ -171,6 +173,7 @@ impl<D: Disk> Replica<D> {
         ensures fault { IfErr result IsKeepFault }
         ensures same { OnOk result (self.new.decider ≡ self.old.decider) }
         ensures put_back { OnErr result (self.new.decider ≡ with_last self.old.decider client was) }
+        ensures falls { Falls self.old.down self.new.down result }
         ensures later { D.faults self.old.journal.disk ≤ D.faults self.new.journal.disk }
         ensures cause { IsErrOf result ReplicaFault.DiskFault → Rose (D.faults self.old.journal.disk) (D.faults self.new.journal.disk) }
         ensures arms { D.arms self.new.journal.disk ≡ D.arms self.old.journal.disk }
@@ -205,6 +208,7 @@ impl<D: Disk> Replica<D> {
         ensures fault { IfErr result IsKeepFault }
         ensures same { OnOk result (self.new.decider ≡ self.old.decider) }
         ensures back { IsBack self.old.decider client was verdict.now self.new.decider result }
+        ensures falls { Falls self.old.down self.new.down result }
         ensures later { D.faults self.old.journal.disk ≤ D.faults self.new.journal.disk }
         ensures cause { IsErrOf result ReplicaFault.DiskFault → Rose (D.faults self.old.journal.disk) (D.faults self.new.journal.disk) }
         ensures arms { D.arms self.new.journal.disk ≡ D.arms self.old.journal.disk }
@@ -229,6 +233,7 @@ impl<D: Disk> Replica<D> {
         requires few { number ≤ 4294967295 }
         ensures decides { (header : AskedHeader) → DecidesNext D.told header self.old client number recs.now self.new result }
         ensures never { (result ≢ Err ReplicaFault.Down) × (result ≢ Err ReplicaFault.NotFound) }
+        ensures falls { Falls self.old.down self.new.down result }
         ensures later { D.faults self.old.journal.disk ≤ D.faults self.new.journal.disk }
         ensures cause { IsErrOf result ReplicaFault.DiskFault → Rose (D.faults self.old.journal.disk) (D.faults self.new.journal.disk) }
         ensures arms { D.arms self.new.journal.disk ≡ D.arms self.old.journal.disk }
@@ -268,6 +273,7 @@ impl<D: Disk> Replica<D> {
         ensures decides { (header : AskedHeader) → Decides D.told header self.old client number recs.now self.new result }
         ensures down { self.old.down ≡ true → (result ≡ Err ReplicaFault.Down) × (self.new ≡ self.old) }
         ensures only_down { result ≡ Err ReplicaFault.Down → self.old.down ≡ true }
+        ensures falls { Falls self.old.down self.new.down result }
         ensures later { D.faults self.old.journal.disk ≤ D.faults self.new.journal.disk }
         ensures cause { IsErrOf result ReplicaFault.DiskFault → Rose (D.faults self.old.journal.disk) (D.faults self.new.journal.disk) }
         ensures arms { D.arms self.new.journal.disk ≡ D.arms self.old.journal.disk }
