@@ -44,7 +44,7 @@ in_seconds (x ∷ es) zero n f e = inl (ap (λ (o : Option (Name × Fid)). secon
 in_seconds (x ∷ es) (suc i) n f e = inr (in_seconds es i n f e)
 
 -- what is bound is among what a directory binds
-in_values : (m : Bindings) (n : Name) (f : Fid) → finmap.get m n ≡ Some f → IsIn f (finmap.values m)
+pub in_values : (m : Bindings) (n : Name) (f : Fid) → finmap.get m n ≡ Some f → IsIn f (finmap.values m)
 in_values m n f e = let at = entry_index nat_list_cmp_total exact_bytes m n f e in in_seconds (finmap.entries m) at.0 n f at.1
 
 -- whether two fids are one, by their order

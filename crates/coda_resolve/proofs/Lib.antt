@@ -27,3 +27,8 @@ mod Counts
 mod Sorted
 mod Stack
 mod Marking
+mod Changed
+mod Parts
+mod Sameness
+mod Renewing
+mod Reaching

@@ -1,14 +1,18 @@
 -- Objects in order of their fids: what a search finds.
-use Rattle.std.proofs.Common.{◌≡◌, ℕ, zero, suc, ◌<◌, ◌≤◌, true, cond, [], ◌∷◌, length, get_or, Some, None, Ordering, refl, sym, ap, ◌∙◌, subst, inl, inr, arith}
+use Rattle.std.proofs.Common.{◌≡◌, ℕ, zero, suc, ◌<◌, ◌≤◌, true, cond, [], ◌∷◌, length, get_or, Some, None, Ordering, refl, sym, ap, ◌∙◌, subst, inl, inr, arith, map}
 use Rattle.std.specs.declared.cmp.Ordering.TheVariants.{Less, Equal, Greater}
-use Rattle.std.specs.Ordering.{ordering_reverse, is_eq}
+use Rattle.std.specs.Ordering.{ordering_reverse, is_eq, is_lt}
+use Rattle.std.specs.List.{AllByRecursion}
+use Rattle.std.specs.List.Sorted.{IsStrictlySortedBy}
+use Rattle.std.specs.Map.{lookup, keys_of}
+use Rattle.std.specs.BTreeMap.{is_at}
 use Rattle.std.specs.FinMap as finmap
 use Rattle.std.specs.FinMap.Entries.{is_sorted, find, below_all}
 use Rattle.std.proofs.lemmas.Bool.{cases_lt}
 use Rattle.coda_fid.specs.Fid.{fid_cmp}
 use Rattle.coda_fid.specs.declared.fid.Fid.{Fid}
 use Rattle.coda_fid.proofs.Fids.{exact_fids, fids_total}
-use Rattle.coda_tree.proofs.Booleans.{and_true, lt_less, to_T}
+use Rattle.coda_tree.proofs.Booleans.{and_true, and_both, lt_less, to_T}
 use Rattle.coda_reslog.specs.declared.change.Held.{Held}
 use Rattle.coda_resolve.specs.Views.{HeldPairs, IsIndexOf, IsGapFor, objects_in}
 
@@ -77,3 +81,24 @@ held_there es fid i d up at = sym (finmap.get-from_sorted fid_cmp es fid (to_T _
 
 pub held_nowhere : (es : HeldPairs) (fid : Fid) (i : ℕ) → is_sorted fid_cmp es ≡ true → IsGapFor es fid i → None ≡ finmap.get (objects_in es) fid
 held_nowhere es fid i up gap = sym (finmap.get-from_sorted fid_cmp es fid (to_T _ up) ∙ find_gap es fid i gap)
+
+-- ---- the entries of an ordered map
+
+below_each : (x : Fid) (es : HeldPairs) → AllByRecursion (λ y. fid_cmp x y ≡ Less) (keys_of es) → below_all fid_cmp x es ≡ true
+below_each x [] a = refl
+below_each x (e ∷ es) a = and_both _ _ (ap is_lt a.0) (below_each x es a.1)
+
+pub sorted_entries : (es : HeldPairs) → IsStrictlySortedBy fid_cmp (keys_of es) → is_sorted fid_cmp es ≡ true
+unfolding IsStrictlySortedBy
+sorted_entries [] s = refl
+sorted_entries (e ∷ es) s = and_both _ _ (below_each e.0 es s.0) (sorted_entries es s.1)
+
+pub find_entry : (es : HeldPairs) (f : Fid) → find fid_cmp f es ≡ lookup (is_at (fid_cmp f)) es
+find_entry [] f = refl
+find_entry (e ∷ es) f = ap (cond (is_eq (fid_cmp f e.0)) (Some e.1)) (find_entry es f)
+
+pub entries_hold : (objects es : HeldPairs) (f : Fid) → objects ≡ es → IsStrictlySortedBy fid_cmp (keys_of es) → finmap.get (objects_in objects) f ≡ lookup (is_at (fid_cmp f)) es
+entries_hold objects es f is s = ap (λ l. finmap.get (objects_in l) f) is ∙ finmap.get-from_sorted fid_cmp es f (to_T _ (sorted_entries es s)) ∙ find_entry es f
+
+pub keys_in_order : (es : HeldPairs) → is_sorted fid_cmp es ≡ true → finmap.keys (objects_in es) ≡ map (λ e. e.0) es
+keys_in_order es up = ap (map (λ (e : Fid × Held). e.0)) (finmap.entries-from_sorted fid_cmp es (to_T _ up))

@@ -1,5 +1,5 @@
 -- A walk with a stack.
-use Rattle.std.proofs.Common.{◌≡◌, ◌<◌, ◌≤◌, ◌+◌, ◌-◌, ℕ, zero, suc, List, [], ◌∷◌, ◌++◌, refl, sym, ap, ◌∙◌, subst, inl, inr, arith, append_assoc, length, drop, get_or, reverse}
+use Rattle.std.proofs.Common.{◌≡◌, ◌<◌, ◌≤◌, ◌+◌, ◌-◌, ℕ, zero, suc, List, [], ◌∷◌, ◌++◌, Bor, Option, Some, None, option_copied, refl, sym, ap, ◌∙◌, subst, inl, inr, arith, append_assoc, length, drop, get_or, reverse}
 use Rattle.std.specs.List.{flat_map, AllByRecursion}
 use Rattle.coda_fid.specs.declared.fid.Fid.{Fid}
 use Rattle.coda_resolve.specs.Resolution.{Replicas, fate_at}
@@ -13,6 +13,7 @@ use Rattle.coda_fid.specs.Name.{name_cmp}
 use Rattle.coda_tree.specs.Volume.{bindings}
 use Rattle.coda_tree.specs.declared.node.NodeKind.TheVariants.{File, Link}
 use Rattle.coda_reslog.specs.declared.change.Held.{Held}
+use Rattle.coda_resolve.specs.Copies.{bindings_of}
 use Rattle.coda_resolve.specs.Settling.{Fate, Same}
 use Rattle.coda_resolve.specs.Taken.{fids_of, AreFates}
 use Rattle.coda_resolve.proofs.Complete.{At, not_deep}
@@ -104,7 +105,7 @@ one_more_taken views taken new f fate is a e = (subst (AreFates views) (sym is) 
 
 -- ---- files and links bind nothing
 
-no_items : {X : Type 0} (xs : List X) → length xs ≡ 0 → xs ≡ []
+pub no_items : {X : Type 0} (xs : List X) → length xs ≡ 0 → xs ≡ []
 no_items [] e = refl
 no_items (x ∷ xs) e = absurd (omega arith)
 
@@ -116,3 +117,12 @@ file_next fate held content is kind = ap next_up is ∙ ap (λ k. finmap.values 
 
 pub link_next : (fate : Fate) (held : Held) (target : List ℕ) → fate ≡ Same held → held.node.kind ≡ Link target → next_up fate ≡ []
 link_next fate held target is kind = ap next_up is ∙ ap (λ k. finmap.values (bindings k)) kind ∙ no_values
+
+pub absent_values : (copy : Option (Bor Held)) → copy ≡ None → finmap.values (bindings_of (option_copied copy)) ≡ []
+absent_values copy is = ap (λ c. finmap.values (bindings_of (option_copied c))) is ∙ no_values
+
+pub file_values : (copy : Option (Bor Held)) (held : Bor Held) → copy ≡ Some held → (content : List ℕ) → held.now.node.kind ≡ File content → finmap.values (bindings_of (option_copied copy)) ≡ []
+file_values copy held is content kind = ap (λ c. finmap.values (bindings_of (option_copied c))) is ∙ ap (λ k. finmap.values (bindings k)) kind ∙ no_values
+
+pub link_values : (copy : Option (Bor Held)) (held : Bor Held) → copy ≡ Some held → (target : List ℕ) → held.now.node.kind ≡ Link target → finmap.values (bindings_of (option_copied copy)) ≡ []
+link_values copy held is target kind = ap (λ c. finmap.values (bindings_of (option_copied c))) is ∙ ap (λ k. finmap.values (bindings k)) kind ∙ no_values

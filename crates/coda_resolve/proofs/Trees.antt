@@ -60,6 +60,20 @@ settled_binds (Marked why) (Some low) None n f there e = absurd (stand_in_binds 
 settled_binds (Marked why) lowest (Some own) n f there e = inr (why, (refl, e))
 settled_binds Gone lowest copy n f there e = absurd (there refl)
 
+module _ (views : Replicas) (root : Fid) (view : Objects) (history : AreOfOneHistory views root) (inview : IsIn view views) where
+  -- nothing that is taken up and the same everywhere stands below a marked directory
+  pub own_apart : (d : Fid) → KeepsOwn views root view d → (one : Held) → IsTakenUp views root d → fate_at views d ≡ Same one → ⊥
+  own_apart e (marked_there d why up is) one up_too same = true≢false (ap is_same (sym same ∙ is))
+  own_apart e (further d n f keeps bound) one (at_root g is) same = (tree_of root view views history.trees inview).unbound d n (bound ∙ ap Some is)
+  own_apart e (further d n f keeps bound) one (below c k g held same_c is up) same =
+      own_apart c (subst (KeepsOwn views root view) (sym (bind_alone views root c d f k n held view history up same_c is inview bound)) keeps) held up same_c
+
+  -- nothing that is taken up is bound in a directory that keeps what it binds
+  pub kept_apart : (d : Fid) (n : Name) (f : Fid) → KeepsOwn views root view d → child_in view d n ≡ Some f → IsTakenUp views root f → ⊥
+  kept_apart d n g keeps bound (at_root f is) = (tree_of root view views history.trees inview).unbound d n (bound ∙ ap Some is)
+  kept_apart d n g keeps bound (below c k f held same is up) =
+      own_apart c (subst (KeepsOwn views root view) (sym (bind_alone views root c d f k n held view history up same is inview bound)) keeps) held up same
+
 module _ (views : Replicas) (root : Fid) (view after : Objects) (history : AreOfOneHistory views root) (inview : IsIn view views) (installed : IsInstalled views root view after) where
   own : IsTreeView root view
   own = tree_of root view views history.trees inview
@@ -72,13 +86,6 @@ module _ (views : Replicas) (root : Fid) (view after : Objects) (history : AreOf
 
   taken_has : (f : Fid) → IsTakenUp views root f → has_in after f ≡ true
   taken_has f up = ap is_some (installed.taken f up) ∙ settles (fate_at views f) (first_some (copies_at views f)) (finmap.get view f) (there f up) (low f up)
-
-  -- nothing that is taken up stands below a marked directory
-  own_apart : (d : Fid) → KeepsOwn views root view d → (one : Held) → IsTakenUp views root d → fate_at views d ≡ Same one → ⊥
-  own_apart e (marked_there d why up is) one up_too same = true≢false (ap is_same (sym same ∙ is))
-  own_apart e (further d n f keeps bound) one (at_root g is) same = own.unbound d n (bound ∙ ap Some is)
-  own_apart e (further d n f keeps bound) one (below c k g held same_c is up) same =
-      own_apart c (subst (KeepsOwn views root view) (sym (bind_alone views root c d f k n held view history up same_c is inview bound)) keeps) held up same_c
 
   -- what a directory binds after it
   child_cases : (d : Fid) (n : Name) (f : Fid) → child_in after d n ≡ Some f → ((one : Held) × (IsTakenUp views root d × ((fate_at views d ≡ Same one) × (finmap.get (bindings one.node.kind) n ≡ Some f)))) ⊎ (KeepsOwn views root view d × (child_in view d n ≡ Some f))
@@ -132,11 +139,11 @@ module _ (views : Replicas) (root : Fid) (view after : Objects) (history : AreOf
         (λ (o : (one : Held) × (IsTakenUp views root e × ((fate_at views e ≡ Same one) × (finmap.get (bindings one.node.kind) k ≡ Some f)))).
         bind_once views root d e f n k m.0 o.0 history m.1.0 o.1.0 m.1.1.0 o.1.1.0 m.1.1.1 o.1.1.1)
         (λ (o : KeepsOwn views root view e × (child_in view e k ≡ Some f)).
-        absurd (own_apart d (subst (KeepsOwn views root view) (sym (bind_alone views root d e f n k m.0 view history m.1.0 m.1.1.0 m.1.1.1 inview o.1)) o.0) m.0 m.1.0 m.1.1.0))
+        absurd (own_apart views root view history inview d (subst (KeepsOwn views root view) (sym (bind_alone views root d e f n k m.0 view history m.1.0 m.1.1.0 m.1.1.1 inview o.1)) o.0) m.0 m.1.0 m.1.1.0))
         (child_cases e k f is_e))
         (λ (m : KeepsOwn views root view d × (child_in view d n ≡ Some f)). ⊎_elim
         (λ (o : (one : Held) × (IsTakenUp views root e × ((fate_at views e ≡ Same one) × (finmap.get (bindings one.node.kind) k ≡ Some f)))).
-        absurd (own_apart e (subst (KeepsOwn views root view) (sym (bind_alone views root e d f k n o.0 view history o.1.0 o.1.1.0 o.1.1.1 inview m.1)) m.0) o.0 o.1.0 o.1.1.0))
+        absurd (own_apart views root view history inview e (subst (KeepsOwn views root view) (sym (bind_alone views root e d f k n o.0 view history o.1.0 o.1.1.0 o.1.1.1 inview m.1)) m.0) o.0 o.1.0 o.1.1.0))
         (λ (o : KeepsOwn views root view e × (child_in view e k ≡ Some f)). own.once d n e k f m.1 o.1)
         (child_cases e k f is_e))
         (child_cases d n f is_d);

@@ -51,7 +51,7 @@ fn copy_ring(ring: &Option<Ring>) -> Result<Option<Ring>, AllocError>
 }
 
 // The same, in memory of its own.
-fn copy_held(held: &Held) -> Result<Held, AllocError>
+pub(crate) fn copy_held(held: &Held) -> Result<Held, AllocError>
     ensures { IfOk result (λ copy. copy ≡ held.now) }
 {
     let node = held.node.copy()?;

@@ -41,7 +41,7 @@ fn search(items: &[(Fid, Held)], fid: Fid) -> Result<usize, usize>
 }
 
 // What is held of the object.
-fn held_in(items: &[(Fid, Held)], fid: Fid) -> Option<&Held>
+pub(crate) fn held_in(items: &[(Fid, Held)], fid: Fid) -> Option<&Held>
     requires { is_sorted fid_cmp items.now ≡ true }
     ensures { option_copied result ≡ finmap.get (objects_in items.now) fid }
 {

@@ -22,7 +22,7 @@ pub struct Taken {
 }
 
 // Puts the fids on the stack, the first of them on top.
-fn push_all(mut stack: Vec<Fid>, fids: &[Fid]) -> Result<Vec<Fid>, AllocError>
+pub(crate) fn push_all(mut stack: Vec<Fid>, fids: &[Fid]) -> Result<Vec<Fid>, AllocError>
     ensures { IfOk result (λ all. reverse all.items ≡ fids.now ++ reverse stack.items) }
 {
     for step in 0..fids.len() {

@@ -1,0 +1,188 @@
+// What a resolution makes of one replica.
+ghost use Rattle.std.specs.Prelude.{◌≡◌, ◌++◌, ◌∷◌, [], ◌||◌, true, not, cond, map, IfOk, OnOk, List};
+ghost use Rattle.std.specs.List.{filter};
+ghost use Rattle.std.specs.BTreeMap.{get};
+ghost use Rattle.std.specs.FinMap as finmap;
+ghost use Rattle.std.specs.FinMap.{is_sorted};
+ghost use Rattle.coda_fid.specs.Fid.{fid_cmp};
+ghost use Rattle.coda_fid.specs.declared.fid.Fid.{Fid};
+ghost use Rattle.coda_resolve.specs.Counted.{has_fid};
+ghost use Rattle.coda_resolve.specs.Outcome.{taken_up};
+ghost use Rattle.coda_resolve.specs.Placement.{IsIn, AreOfOneHistory};
+ghost use Rattle.coda_resolve.specs.Resolution.{Objects, Replicas};
+ghost use Rattle.coda_resolve.specs.Changes.{is_among};
+ghost use Rattle.coda_resolve.specs.Renewals.{IsRenewal, left_at, AreRenewed, is_mark, marked_among, IsPart};
+ghost use Rattle.coda_resolve.specs.Taken.{fids_of, AreFates};
+ghost use Rattle.coda_resolve.specs.Views.{objects_in, objects_of, replicas_of, AreInOrder};
+
+use crate::below::below;
+use crate::fate::Fate;
+use crate::renewal::{Renewal, renewal_of};
+use crate::view::{View, held_in};
+use crate::walking::Taken;
+use coda_fid::Fid;
+use coda_reslog::{Change, Fids, Held, HeldObjects};
+use std::alloc::{AllocError, Global};
+use std::collections::{BTreeMap, BTreeSet};
+
+// The change of a replica, and the objects of which it then has another node, a new one, or none any more.
+#[derive(Drop)]
+pub(crate) struct Part {
+    pub(crate) change: Change,
+    pub(crate) touched: Vec<Fid>,
+}
+
+// What is held anew of some objects, and of which of them the node is another.
+#[derive(Drop)]
+struct Renewals {
+    held: BTreeMap<Fid, Held>,
+    touched: Vec<Fid>,
+}
+
+// ---- what is held anew
+
+// Adds the fid where this is so.
+fn add_where(fids: &mut Vec<Fid>, fid: Fid, so: bool) -> Result<(), AllocError>
+    ensures { OnOk result (fids.new.items ≡ fids.old.items ++ cond so (fid ∷ []) []) }
+{
+    if so {
+        fids.push(fid)?;
+    }
+    Ok(())
+}
+
+// Adds what is held anew of an object, where anything is.
+fn add_renewal(
+    held: &mut BTreeMap<Fid, Held>,
+    touched: &mut Vec<Fid>,
+    fid: Fid,
+    renewal: Option<Renewal>,
+) -> Result<(), AllocError>
+    ensures { OnOk result ((views : Replicas) (view : Objects) (objects : List Fid) → IsRenewal (finmap.get view fid) (left_at views view fid) renewal → AreRenewed views view objects held.old touched.old.items → AreRenewed views view (objects ++ fid ∷ []) held.new touched.new.items) }
+{
+    let Some(renewal) = renewal else {
+        return Ok(());
+    };
+    add_where(touched, fid, renewal.touched)?;
+    held.insert(fid, renewal.held)?;
+    Ok(())
+}
+
+// What the replica holds anew of the objects.
+fn renewed(
+    alloc: Global,
+    views: &[View],
+    view: &View,
+    objects: &[Taken],
+) -> Result<Renewals, AllocError>
+    requires order { AreInOrder views.now }
+    requires sorted { is_sorted fid_cmp view.now.held ≡ true }
+    requires fates { AreFates (replicas_of views.now) objects.now }
+    ensures { IfOk result (λ renewed. AreRenewed (replicas_of views.now) (objects_of view.now) (fids_of objects.now) renewed.held renewed.touched.items) }
+{
+    let mut held = BTreeMap::new(alloc);
+    let mut touched = Vec::new(alloc);
+    for object in objects {
+        let own = held_in(view.held.objects(), object.fid);
+        let renewal = renewal_of(alloc, views, object.fid, &object.fate, own)?;
+        add_renewal(&mut held, &mut touched, object.fid, renewal)?;
+    }
+    Ok(Renewals { held, touched })
+}
+
+// The objects in the order of their fids.
+fn in_order(alloc: Global, held: BTreeMap<Fid, Held>) -> Result<HeldObjects, AllocError>
+    ensures sorted { IfOk result (λ objects. is_sorted fid_cmp objects ≡ true) }
+    ensures same { IfOk result (λ objects. (f : Fid) → finmap.get (objects_in objects) f ≡ get fid_cmp held f) }
+{
+    let mut items = Vec::new(alloc);
+    for (fid, object) in held {
+        items.push((fid, object))?;
+    }
+    Ok(HeldObjects::from_vec(items))
+}
+
+// ---- what goes
+
+// Whether all replicas have the object marked.
+fn is_mark(fate: &Fate) -> bool
+    ensures { result ≡ is_mark fate.now }
+{
+    match fate {
+        Fate::Same(_) => false,
+        Fate::Marked(_) => true,
+        Fate::Gone => false,
+    }
+}
+
+// Those of the objects that all replicas have marked.
+pub(crate) fn marked(alloc: Global, objects: &[Taken]) -> Result<Vec<Fid>, AllocError>
+    ensures { IfOk result (λ fids. fids.items ≡ marked_among objects.now) }
+{
+    let mut fids = Vec::new(alloc);
+    for object in objects {
+        add_where(&mut fids, object.fid, is_mark(&object.fate))?;
+    }
+    Ok(fids)
+}
+
+// Adds the objects to the set.
+fn add_taken(set: &mut BTreeSet<Fid>, objects: &[Taken]) -> Result<(), AllocError>
+    ensures { OnOk result ((f : Fid) → has_fid set.new f ≡ (has_fid set.old f || is_among (fids_of objects.now) f)) }
+{
+    for object in objects {
+        set.insert(object.fid)?;
+    }
+    Ok(())
+}
+
+// The objects of the replica that aren't in the set, in their order.
+fn gone(alloc: Global, held: &[(Fid, Held)], left: &BTreeSet<Fid>) -> Result<Vec<Fid>, AllocError>
+    ensures { IfOk result (λ fids. fids.items ≡ filter (λ f. not (has_fid left.now f)) (map (λ object. object.0) held.now)) }
+{
+    let mut fids = Vec::new(alloc);
+    for object in held {
+        add_where(&mut fids, object.0, !left.contains(&object.0))?;
+    }
+    Ok(fids)
+}
+
+// Adds the fids behind the others.
+fn add_all(fids: &mut Vec<Fid>, more: &[Fid]) -> Result<(), AllocError>
+    ensures { OnOk result (fids.new.items ≡ fids.old.items ++ more.now) }
+{
+    for fid in more {
+        fids.push(*fid)?;
+    }
+    Ok(())
+}
+
+// ---- the replica
+
+// What a resolution makes of one of the replicas, from what it takes up and what all replicas have marked of that.
+pub(crate) fn part_of(
+    alloc: Global,
+    views: &[View],
+    view: &View,
+    objects: &[Taken],
+    marked: &[Fid],
+) -> Result<Part, AllocError>
+    requires order { AreInOrder views.now }
+    requires sorted { is_sorted fid_cmp view.now.held ≡ true }
+    requires fates { AreFates (replicas_of views.now) objects.now }
+    requires marked { marked.now ≡ marked_among objects.now }
+    ensures { IfOk result (λ part. (root : Fid) → AreOfOneHistory (replicas_of views.now) root → fids_of objects.now ≡ taken_up (replicas_of views.now) root → IsIn (objects_of view.now) (replicas_of views.now) → IsPart (replicas_of views.now) root (objects_of view.now) part.change part.touched.items) }
+{
+    let mut left = below(alloc, view, marked)?;
+    add_taken(&mut left, objects)?;
+    let gone = gone(alloc, view.held.objects(), &left)?;
+    let renewed = renewed(alloc, views, view, objects)?;
+    let mut touched = renewed.touched;
+    add_all(&mut touched, &gone)?;
+    let held = in_order(alloc, renewed.held)?;
+    let change = Change {
+        held,
+        gone: Fids::from_vec(gone),
+    };
+    Ok(Part { change, touched })
+}
