@@ -32,3 +32,4 @@ mod Parts
 mod Sameness
 mod Renewing
 mod Reaching
+mod After

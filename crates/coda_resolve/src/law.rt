@@ -4,6 +4,7 @@ ghost use Rattle.coda_resolve.specs.Placement.{SettledBindApart, SettledBindAlon
 ghost use Rattle.coda_resolve.specs.Trees.{TreesStayTrees};
 ghost use Rattle.coda_resolve.specs.Past.{RecalledAreOfOneHistory};
 ghost use Rattle.coda_resolve.specs.Outcome.{WalkIsTakenUp};
+ghost use Rattle.coda_resolve.specs.Outcomes.{ChangesLeaveEqualOrMarked, ChangesKeepOneHistory, SecondOutcomeIsNothing};
 
 /// A law of resolution: an object that some replica has is the same at all replicas after its
 /// resolution, or marked at all of them (Kumar and Satyanarayanan 1993).
@@ -68,4 +69,22 @@ pub fn recalled_are_of_one_history()
 /// it has all of them.
 pub fn leaders_have_all()
     ensures { LeadersHaveAll }
+{}
+
+/// A law of resolution: after the changes that `merge` makes, each object that was taken up is the same node, with the same
+/// updates and log, at all replicas, or it is marked at all of them for the first cause that holds (Kumar and
+/// Satyanarayanan 1993).
+pub fn changes_leave_equal_or_marked()
+    ensures { ChangesLeaveEqualOrMarked }
+{}
+
+/// A law of resolution: after the changes that `merge` makes of replicas of one history, they are of one history again;
+/// so each is a tree.
+pub fn changes_keep_one_history()
+    ensures { ChangesKeepOneHistory }
+{}
+
+/// A law of resolution: a second `merge` right after the changes of a first has no change, no mark, and touches nothing.
+pub fn second_outcome_is_nothing()
+    ensures { SecondOutcomeIsNothing }
 {}
