@@ -33,3 +33,5 @@ mod Sameness
 mod Renewing
 mod Reaching
 mod After
+mod Lasting
+mod Merging

@@ -134,7 +134,7 @@ fate_of views [] i t are lt is = absurd (omega arith)
 fate_of views (o ∷ objects) zero t are lt is = subst (λ (x : Taken). x.fate ≡ fate_at views x.fid) (sym is) are.0
 fate_of views (o ∷ objects) (suc i) t are lt is = fate_of views objects i t are.1 (omega arith) is
 
-front_of : {X : Type 0} (xs : List X) (i : ℕ) (x : X) → i < length xs → x ≡ get_or xs i x → take (i + 1) xs ≡ take i xs ++ x ∷ []
+pub front_of : {X : Type 0} (xs : List X) (i : ℕ) (x : X) → i < length xs → x ≡ get_or xs i x → take (i + 1) xs ≡ take i xs ++ x ∷ []
 front_of xs i x lt is =
     let next : i + 1 ≡ suc i = omega arith in
     ap (λ n. take n xs) next ∙ take-suc xs i x lt ∙ ap (λ y. take i xs ++ y ∷ []) (sym is)

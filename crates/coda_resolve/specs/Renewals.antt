@@ -1,7 +1,8 @@
 -- What is new in what a replica holds.
-use Rattle.std.specs.Prelude.{◌≡◌, ◌≢◌, Bool, true, false, not, List, map, Option, Some, None}
-use Rattle.std.specs.List.{filter}
+use Rattle.std.specs.Prelude.{◌≡◌, ◌≢◌, ℕ, Bool, true, false, not, List, map, Option, Some, None}
+use Rattle.std.specs.List.{AllZip, filter}
 use Rattle.std.specs.BTreeMap.{BTreeMap, get}
+use Rattle.std.specs.BTreeSet.{BTreeSet}
 use Rattle.coda_fid.specs.Fid.{fid_cmp}
 use Rattle.coda_fid.specs.declared.fid.Fid.{Fid}
 use Rattle.coda_reslog.specs.declared.change.Held.{Held}
@@ -9,10 +10,11 @@ use Rattle.coda_reslog.specs.declared.change.Change.{Change}
 use Rattle.coda_resolve.specs.declared.renewal.Renewal.{Renewal}
 use Rattle.coda_resolve.specs.declared.walking.Taken.{Taken}
 use Rattle.coda_resolve.specs.Copies.{first_some}
+use Rattle.coda_resolve.specs.Counted.{has_fid}
 use Rattle.coda_resolve.specs.Settling.{Fate, Same, Marked, Gone, settled_copy}
 use Rattle.coda_resolve.specs.Resolution.{Objects, Replicas, copies_at, fate_at}
 use Rattle.std.specs.FinMap as finmap
-use Rattle.coda_resolve.specs.Changes.{is_among, node_of, changed, IsReplicaChange}
+use Rattle.coda_resolve.specs.Changes.{is_among, node_of, nodes_at, changed, afterwards, IsReplicaChange}
 
 -- they are the same just where this is so
 abbrev pub Tells : {X : Type 0} → Bool → X → X → Type 0
@@ -49,3 +51,12 @@ marked_among objects = map (λ object. object.fid) (filter (λ object. is_mark o
 pub record IsPart (views : Replicas) (root : Fid) (view : Objects) (change : Change) (touched : List Fid) : Type 0 where
   pub replica : IsReplicaChange views root view change
   pub tells : (f : Fid) → Tells (not (is_among touched f)) (node_of (finmap.get (changed view change) f)) (node_of (finmap.get view f))
+
+-- the changes
+abbrev pub changes_of : List (ℕ × Change) → List Change
+changes_of changes = map (λ change. change.1) changes
+
+-- the changes of some of the replicas, and all objects of which one of these then has another node
+pub record AreParts (views : Replicas) (root : Fid) (done : Replicas) (changes : List (ℕ × Change)) (touched : BTreeSet Fid) : Type 0 where
+  pub replicas : AllZip (IsReplicaChange views root) done (changes_of changes)
+  pub tells : (f : Fid) → Tells (not (has_fid touched f)) (nodes_at (afterwards done (changes_of changes)) f) (nodes_at done f)

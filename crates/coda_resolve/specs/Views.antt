@@ -1,5 +1,5 @@
 -- What the reachable replicas hold, as lists in order of fids.
-use Rattle.std.specs.Prelude.{◌≡◌, ℕ, ◌<◌, ◌≤◌, true, List, length, map, slice_index_or}
+use Rattle.std.specs.Prelude.{◌≡◌, ℕ, ◌<◌, ◌≤◌, true, List, [], ◌∷◌, length, map, slice_index_or}
 use Rattle.std.specs.List.{AllByRecursion}
 use Rattle.std.specs.FinMap as finmap
 use Rattle.std.specs.FinMap.{is_sorted}
@@ -40,3 +40,8 @@ replicas_of views = map objects_of views
 -- each view has its objects in order of fids
 abbrev pub AreInOrder : List View → Type 0
 AreInOrder views = AllByRecursion (λ view. is_sorted fid_cmp view.held ≡ true) views
+
+-- the volume of the views: that of the first
+abbrev pub volume_of : List View → ℕ
+volume_of [] = 0
+volume_of (view ∷ views) = view.volume

@@ -1,9 +1,11 @@
 ghost use Rattle.std.specs.Prelude.{◌≡◌, ◌++◌, not, option_copied, map, option_to_list, IfOk};
 ghost use Rattle.std.specs.List.{list_any};
 ghost use Rattle.coda_resolve.specs.Copies.{is_marked};
-ghost use Rattle.coda_resolve.specs.Outcome.{mark_by, marks_of};
+ghost use Rattle.coda_fid.specs.declared.fid.Fid.{Fid};
+ghost use Rattle.coda_resolve.specs.Outcome.{mark_by, marks_of, taken_up};
 ghost use Rattle.coda_resolve.specs.Placement.{AreOfOneHistory};
 ghost use Rattle.coda_resolve.specs.Resolution.{copies_at};
+ghost use Rattle.coda_resolve.specs.Taken.{fids_of, AreFates};
 ghost use Rattle.coda_resolve.specs.Views.{replicas_of, AreInOrder};
 
 use crate::copies::is_marked;
@@ -64,6 +66,24 @@ fn with_mark(mut marks: Vec<Mark>, mark: Option<Mark>) -> Result<Vec<Mark>, Allo
     }
 }
 
+// The new marks of these objects, in their order.
+pub(crate) fn marks_among(
+    alloc: Global,
+    views: &[View],
+    objects: &[Taken],
+) -> Result<Vec<Mark>, AllocError>
+    requires order { AreInOrder views.now }
+    requires fates { AreFates (replicas_of views.now) objects.now }
+    ensures { IfOk result (λ marks. (root : Fid) → fids_of objects.now ≡ taken_up (replicas_of views.now) root → marks.items ≡ marks_of (replicas_of views.now) root) }
+{
+    let mut marks = Vec::new(alloc);
+    for taken in objects {
+        let mark = mark_of(alloc, views, taken)?;
+        marks = with_mark(marks, mark)?;
+    }
+    Ok(marks)
+}
+
 /// The marks that a resolution makes anew, in path order.
 ///
 /// That they are all of them holds of replicas of one history.
@@ -76,10 +96,6 @@ pub fn new_marks(alloc: Global, views: &[View], root: Fid) -> Result<Vec<Mark>, 
     ensures { IfOk result (λ marks. AreOfOneHistory (replicas_of views.now) root → marks.items ≡ marks_of (replicas_of views.now) root) }
 {
     let objects = walk(alloc, views, root)?;
-    let mut marks = Vec::new(alloc);
-    for taken in &objects {
-        let mark = mark_of(alloc, views, taken)?;
-        marks = with_mark(marks, mark)?;
-    }
+    let marks = marks_among(alloc, views, &objects)?;
     Ok(marks)
 }

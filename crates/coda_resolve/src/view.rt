@@ -5,6 +5,7 @@ ghost use Rattle.coda_fid.specs.Fid.{fid_cmp};
 ghost use Rattle.coda_resolve.specs.Resolution.{copies_at};
 ghost use Rattle.coda_resolve.specs.Views.{IsIndexOf, IsGapFor, objects_in, objects_of, replicas_of, AreInOrder};
 
+use crate::lasts::Lasts;
 use coda_fid::Fid;
 use coda_reslog::{Held, HeldObjects};
 use std::alloc::{AllocError, Global};
@@ -19,6 +20,8 @@ pub struct View {
     pub volume: u32,
     /// The objects, with what the replica holds of each, in increasing order of fids.
     pub held: HeldObjects,
+    /// The last decision of each client that has any.
+    pub lasts: Lasts,
 }
 
 // Where the object is, or where it would go.
