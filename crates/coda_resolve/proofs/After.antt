@@ -1,41 +1,35 @@
 -- What the replicas hold after their changes.
-use Rattle.std.proofs.Common.{◌≡◌, ◌≢◌, ◌↔◌, ℕ, Bool, true, false, cond, not, List, [], ◌∷◌, ◌++◌, Option, Some, None, is_some, length, refl, sym, ap, ◌∙◌, subst, ◌⊎◌, inl, inr, ⊎_elim, map}
+use Rattle.std.proofs.Common.{◌≡◌, ℕ, Bool, true, false, cond, not, List, [], ◌∷◌, Option, Some, None, is_some, length, refl, sym, ap, ◌∙◌, subst, ◌⊎◌, inl, inr, ⊎_elim, map}
 use Rattle.std.specs.FinMap as finmap
 use Rattle.std.specs.FinMap.Entries.{is_sorted, find}
 use Rattle.std.specs.List.{AllByRecursion, AllZip, filter, filter_map, list_any, cons_option}
-use Rattle.std.specs.Ordering.{eq_by_cmp}
 use Rattle.std.proofs.lemmas.Bool.{true≢false}
 use Rattle.std.proofs.lemmas.Cmp.{eq_by_cmp_equiv}
 use Rattle.coda_fid.specs.Fid.{fid_cmp}
 use Rattle.coda_fid.specs.declared.fid.Fid.{Fid}
 use Rattle.coda_fid.proofs.Fids.{fids_total}
 use Rattle.coda_tree.proofs.Booleans.{to_T}
-use Rattle.coda_tree.specs.Bindings.{Name}
 use Rattle.coda_tree.specs.Tree.{IsBelow, itself, under}
-use Rattle.coda_tree.specs.Volume.{bindings}
-use Rattle.coda_tree.specs.declared.node.Node.{Node}
 use Rattle.coda_tree.specs.declared.node.NodeKind.{NodeKind}
 use Rattle.coda_tree.specs.declared.node.NodeKind.TheVariants.{File, Link, Dir}
 use Rattle.coda_reslog.specs.declared.change.Held.{Held}
 use Rattle.coda_reslog.specs.declared.change.Change.{Change}
-use Rattle.coda_resolve.specs.declared.why.Why.{Why}
 use Rattle.coda_resolve.specs.declared.why.Mark.{Mark}
 use Rattle.coda_resolve.specs.Copies.{Copies, bindings_of, is_marked, first_some}
-use Rattle.coda_resolve.specs.Missing.{leads}
-use Rattle.coda_resolve.specs.Merged.{is_attr, attributes_of, first_of_copies, merged}
+use Rattle.coda_resolve.specs.Merged.{attributes_of, first_of_copies}
 use Rattle.coda_resolve.specs.Causes.{cause}
 use Rattle.coda_resolve.specs.Settling.{Fate, Same, Marked, Gone, dominating, leaf_fate, dir_fate, fate_by, fate_from, fate, settled_copy, stand_in_by, is_new}
-use Rattle.coda_resolve.specs.Settled.{is_dir, HasKind, AreOneKind, IsEverywhere, IsMarkedEverywhere}
+use Rattle.coda_resolve.specs.Settled.{is_dir, HasKind, IsEverywhere}
 use Rattle.coda_resolve.specs.Resolution.{Objects, Replicas, copies_at, fate_at, settled_at, IsTakenUp, at_root, below, IsResolved, has_in, child_in, IsTreeView, AreTrees}
-use Rattle.coda_resolve.specs.Placement.{IsIn, SomeOf, AreOfOneHistory, ArePlaced, ArePartedCopies}
+use Rattle.coda_resolve.specs.Placement.{IsIn, AreOfOneHistory, ArePlaced, ArePartedCopies}
 use Rattle.coda_resolve.specs.Trees.{KeepsOwn, marked_there, further, IsInstalled}
-use Rattle.coda_resolve.specs.Outcome.{mark_by, marks_of, taken_up, levels_of}
+use Rattle.coda_resolve.specs.Outcome.{mark_by, taken_up, levels_of}
 use Rattle.coda_resolve.specs.Views.{objects_in}
-use Rattle.coda_resolve.specs.Changes.{changed, IsChange, IsReplicaChange, AreChanges, afterwards, node_of, nodes_at, IsTouched, IsCount, IsOutcome}
+use Rattle.coda_resolve.specs.Changes.{changed, IsReplicaChange, AreChanges, afterwards, node_of, nodes_at, IsOutcome}
 use Rattle.coda_resolve.specs.Outcomes.{AreAsFated, IsNoChange, IsNoOutcome}
 use Rattle.coda_resolve.proofs.Lists.{some_none}
 use Rattle.coda_resolve.proofs.Settled.{marked_everywhere}
-use Rattle.coda_resolve.proofs.Twice.{is_same, is_gone, picked, own_dominating, lowest_kind, leaf_same, dir_same}
+use Rattle.coda_resolve.proofs.Twice.{is_same, picked, own_dominating, lowest_kind, leaf_same, dir_same}
 use Rattle.coda_resolve.proofs.Whole.{gone_absent, second_changes_nothing}
 use Rattle.coda_resolve.proofs.There.{taken_up_is_there}
 use Rattle.coda_resolve.proofs.Trees.{tree_of, tree_after}

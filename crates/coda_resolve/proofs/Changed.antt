@@ -1,17 +1,15 @@
 -- What a replica holds after a change.
-use Rattle.std.proofs.Common.{◌≡◌, Bool, true, false, cond, not, List, [], ◌∷◌, ◌++◌, Option, Some, None, is_some, refl, sym, ap, ◌∙◌, subst, inl, inr, ◌&&◌, ◌||◌, map}
+use Rattle.std.proofs.Common.{◌≡◌, Bool, true, false, cond, not, List, [], ◌∷◌, ◌++◌, Option, Some, None, refl, sym, ap, ◌∙◌, subst, inl, inr, ◌&&◌, ◌||◌}
 use Rattle.std.specs.FinMap as finmap
 use Rattle.std.specs.FinMap.Entries.{find, is_sorted}
 use Rattle.std.specs.List.{filter, list_any}
 use Rattle.std.specs.Ordering.{eq_by_cmp}
-use Rattle.std.specs.declared.cmp.Ordering.TheVariants.{Equal}
 use Rattle.std.specs.Cmp.{Equal-is}
 use Rattle.std.proofs.lemmas.Cmp.{eq_by_cmp_equiv}
 use Rattle.coda_fid.specs.Fid.{fid_cmp, same_fid}
 use Rattle.coda_fid.specs.declared.fid.Fid.{Fid}
 use Rattle.coda_fid.proofs.Fids.{exact_fids, fids_total, same_fid_is, same_fid_refl}
 use Rattle.coda_tree.proofs.Booleans.{to_T}
-use Rattle.coda_reslog.specs.declared.change.Held.{Held}
 use Rattle.coda_reslog.specs.declared.change.Change.{Change}
 use Rattle.coda_resolve.specs.Resolution.{Objects, has_in}
 use Rattle.coda_resolve.specs.Placement.{IsIn}

@@ -1,18 +1,16 @@
 -- The changes of all replicas, one replica more.
-use Rattle.std.proofs.Common.{◌≡◌, ◌≢◌, ◌↔◌, ◌<◌, ◌≤◌, ℕ, ◌+◌, zero, suc, arith, Bool, true, false, cond, not, List, [], ◌∷◌, ◌++◌, Option, length, length-append, get_or, take, refl, sym, ap, ◌∙◌, subst, inl, inr, ◌||◌, map}
+use Rattle.std.proofs.Common.{◌≡◌, ◌≢◌, ◌<◌, ℕ, ◌+◌, zero, suc, arith, Bool, true, false, not, List, [], ◌∷◌, ◌++◌, length, get_or, take, refl, sym, ap, ◌∙◌, subst, inl, inr, ◌||◌, map}
 use Rattle.std.specs.FinMap as finmap
 use Rattle.std.specs.FinMap.{is_sorted}
-use Rattle.std.specs.List.{AllZip, AllByRecursion, list_any, IsDistinct, flat_map}
+use Rattle.std.specs.List.{AllZip, list_any}
 use Rattle.std.specs.List.Sorted.{IsStrictlySortedBy}
-use Rattle.std.specs.Ordering.{eq_by_cmp}
 use Rattle.std.specs.BTreeMap.{is_at}
 use Rattle.std.specs.BTreeSet.{BTreeSet, Updates}
 use Rattle.std.proofs.Math.Seq.{take-suc}
 use Rattle.std.proofs.lemmas.List.{map-append}
 use Rattle.std.proofs.lemmas.Map.Keys.{IsDistinct-from_sorted}
-use Rattle.coda_fid.specs.Fid.{fid_cmp, same_fid}
+use Rattle.coda_fid.specs.Fid.{fid_cmp}
 use Rattle.coda_fid.specs.declared.fid.Fid.{Fid}
-use Rattle.coda_tree.specs.declared.node.Node.{Node}
 use Rattle.coda_reslog.specs.declared.change.Change.{Change}
 use Rattle.coda_resolve.specs.declared.view.View.{View}
 use Rattle.coda_resolve.specs.declared.why.Mark.{Mark}
@@ -20,7 +18,7 @@ use Rattle.coda_resolve.specs.Resolution.{Objects, Replicas}
 use Rattle.coda_resolve.specs.Placement.{IsIn}
 use Rattle.coda_resolve.specs.Outcome.{marks_of}
 use Rattle.coda_resolve.specs.Counted.{has_fid}
-use Rattle.coda_resolve.specs.Changes.{is_among, changed, IsReplicaChange, afterwards, node_of, nodes_at, IsTouched, IsCount, IsOutcome}
+use Rattle.coda_resolve.specs.Changes.{is_among, changed, IsReplicaChange, afterwards, node_of, nodes_at, IsOutcome}
 use Rattle.coda_resolve.specs.Renewals.{Tells, IsPart, AreParts, changes_of}
 use Rattle.coda_resolve.specs.Views.{objects_of, replicas_of, AreInOrder}
 use Rattle.coda_resolve.proofs.Changed.{one_test, among_in, in_among}
@@ -62,9 +60,9 @@ part_more views root done view changes new server change touched set fids is add
   replicas = subst (AllZip (IsReplicaChange views root) (done ++ view ∷ [])) (sym all) (zip_more (IsReplicaChange views root) done (changes_of changes) view change are.replicas part.replica);
   tells = λ f.
       let now : nodes_at (afterwards (done ++ view ∷ []) (changes_of new)) f ≡ nodes_at (afterwards done (changes_of changes)) f ++ node_of (finmap.get (changed view change) f) ∷ [] =
-          ap (λ cs. nodes_at (afterwards (done ++ view ∷ []) cs) f) all
-          ∙ ap (λ vs. nodes_at vs f) (after_more (IsReplicaChange views root) done (changes_of changes) view change are.replicas)
-          ∙ map-append (λ (v : Objects). node_of (finmap.get v f)) (afterwards done (changes_of changes)) (changed view change ∷ []) in
+      ap (λ cs. nodes_at (afterwards (done ++ view ∷ []) cs) f) all
+      ∙ ap (λ vs. nodes_at vs f) (after_more (IsReplicaChange views root) done (changes_of changes) view change are.replicas)
+      ∙ map-append (λ (v : Objects). node_of (finmap.get v f)) (afterwards done (changes_of changes)) (changed view change ∷ []) in
       let before : nodes_at (done ++ view ∷ []) f ≡ nodes_at done f ++ node_of (finmap.get view f) ∷ [] = map-append (λ (v : Objects). node_of (finmap.get v f)) done (view ∷ []) in
       subst (λ b. Tells (not b) (nodes_at (afterwards (done ++ view ∷ []) (changes_of new)) f) (nodes_at (done ++ view ∷ []) f)) (sym (added f))
       (subst (λ l. Tells (not (has_fid touched f || is_among fids f)) l (nodes_at (done ++ view ∷ []) f)) (sym now)

@@ -2,7 +2,7 @@
 use Rattle.std.proofs.Common.{◌≡◌, ◌≢◌, Bool, true, false, cond, not, List, [], ◌∷◌, ◌++◌, Option, Some, None, is_some, refl, sym, ap, ◌∙◌, subst, ◌⊎◌, inl, inr, ⊎_elim, ◌&&◌, ◌||◌, map}
 use Rattle.std.specs.FinMap as finmap
 use Rattle.std.specs.FinMap.Entries.{is_sorted}
-use Rattle.std.specs.List.{filter, list_any}
+use Rattle.std.specs.List.{filter}
 use Rattle.std.specs.BTreeMap.{BTreeMap, get}
 use Rattle.std.specs.BTreeSet.{BTreeSet}
 use Rattle.std.proofs.lemmas.Bool.{true≢false}
@@ -13,16 +13,15 @@ use Rattle.coda_reslog.specs.declared.change.Held.{Held}
 use Rattle.coda_reslog.specs.declared.change.Change.{Change}
 use Rattle.coda_resolve.specs.declared.walking.Taken.{Taken}
 use Rattle.coda_resolve.specs.declared.why.Why.{Why}
-use Rattle.coda_resolve.specs.Copies.{first_some}
 use Rattle.coda_resolve.specs.Settling.{Fate, Same, Marked, Gone}
 use Rattle.coda_resolve.specs.Counted.{has_fid}
 use Rattle.coda_resolve.specs.Taken.{fids_of, AreFates}
 use Rattle.coda_resolve.specs.Reached.{IsReached, start, onward, AreReached}
-use Rattle.coda_resolve.specs.Resolution.{Objects, Replicas, copies_at, fate_at, IsTakenUp, at_root, has_in}
+use Rattle.coda_resolve.specs.Resolution.{Objects, Replicas, fate_at, IsTakenUp, at_root, has_in}
 use Rattle.coda_resolve.specs.Placement.{IsIn, AreOfOneHistory}
 use Rattle.coda_resolve.specs.Outcome.{taken_up, levels_of}
 use Rattle.coda_resolve.specs.Trees.{KeepsOwn, marked_there, further, IsInstalled}
-use Rattle.coda_resolve.specs.Changes.{is_among, changed, node_of, IsChange, IsReplicaChange}
+use Rattle.coda_resolve.specs.Changes.{is_among, changed, node_of, IsChange}
 use Rattle.coda_resolve.specs.Renewals.{Tells, left_at, AreRenewed, is_mark, marked_among, IsPart}
 use Rattle.coda_resolve.specs.Views.{objects_in}
 use Rattle.coda_resolve.proofs.Lists.{some_none}

@@ -1,5 +1,5 @@
 -- A search of what a replica binds below some objects.
-use Rattle.std.proofs.Common.{◌≡◌, Bool, true, false, cond, not, List, [], ◌∷◌, ◌++◌, Option, Some, None, refl, sym, ap, ◌∙◌, subst, ◌⊎◌, inl, inr, ⊎_elim, ◌||◌}
+use Rattle.std.proofs.Common.{◌≡◌, Bool, true, false, cond, not, List, [], ◌∷◌, ◌++◌, refl, sym, ap, ◌∙◌, subst, ◌⊎◌, inl, inr, ⊎_elim, ◌||◌}
 use Rattle.std.specs.FinMap as finmap
 use Rattle.std.specs.List.{list_any}
 use Rattle.std.specs.BTreeMap.{is_at}
@@ -8,7 +8,6 @@ use Rattle.std.proofs.lemmas.Bool.{true≢false}
 use Rattle.coda_fid.specs.Fid.{fid_cmp, same_fid}
 use Rattle.coda_fid.specs.declared.fid.Fid.{Fid}
 use Rattle.coda_fid.proofs.Fids.{same_fid_is, same_fid_refl}
-use Rattle.coda_tree.specs.Bindings.{Name}
 use Rattle.coda_resolve.specs.Copies.{bindings_of}
 use Rattle.coda_resolve.specs.Resolution.{Objects, child_in}
 use Rattle.coda_resolve.specs.Counted.{has_fid}

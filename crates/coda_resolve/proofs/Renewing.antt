@@ -1,8 +1,7 @@
 -- What is held anew, object by object.
-use Rattle.std.proofs.Common.{◌≡◌, ◌≢◌, ◌<◌, ℕ, ◌+◌, zero, suc, arith, Bool, true, false, cond, not, List, [], ◌∷◌, ◌++◌, Option, Some, None, length, get_or, take, refl, sym, ap, ◌∙◌, subst, ◌⊎◌, inl, inr, ⊎_elim, ◌||◌, map}
+use Rattle.std.proofs.Common.{◌≡◌, ◌≢◌, ◌<◌, ℕ, ◌+◌, zero, suc, arith, Bool, true, false, cond, not, List, [], ◌∷◌, ◌++◌, Some, None, length, get_or, take, refl, sym, ap, ◌∙◌, subst, ◌⊎◌, inl, inr, ⊎_elim, ◌||◌, map}
 use Rattle.std.specs.FinMap as finmap
-use Rattle.std.specs.List.{filter, list_any}
-use Rattle.std.specs.Ordering.{eq_by_cmp}
+use Rattle.std.specs.List.{filter}
 use Rattle.std.specs.BTreeMap.{BTreeMap, get, Updates, is_at}
 use Rattle.std.specs.Map.{lookup}
 use Rattle.std.specs.BTreeSet as set

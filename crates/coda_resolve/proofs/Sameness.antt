@@ -1,5 +1,5 @@
 -- Tests of whether two things are the same.
-use Rattle.std.proofs.Common.{◌≡◌, ◌≢◌, ℕ, ◌+◌, ◌≤◌, zero, suc, arith, true, List, [], ◌∷◌, Option, Some, None, slice_get, take, length, refl, sym, ap, ◌∙◌, subst}
+use Rattle.std.proofs.Common.{◌≡◌, ◌≢◌, ℕ, ◌+◌, ◌≤◌, zero, suc, arith, true, List, [], ◌∷◌, slice_get, take, refl, sym, ap, ◌∙◌, subst}
 use Rattle.std.specs.FinMap as finmap
 use Rattle.std.specs.declared.cmp.Ordering.TheVariants.{Less, Equal, Greater}
 use Rattle.std.specs.Ordering.{is_eq}

@@ -1,5 +1,5 @@
 -- Objects in order of their fids: what a search finds.
-use Rattle.std.proofs.Common.{◌≡◌, ℕ, zero, suc, ◌<◌, ◌≤◌, true, cond, [], ◌∷◌, length, get_or, Some, None, Ordering, refl, sym, ap, ◌∙◌, subst, inl, inr, arith, map}
+use Rattle.std.proofs.Common.{◌≡◌, ℕ, ◌-◌, zero, suc, ◌<◌, ◌≤◌, ◌+◌, Bool, true, false, cond, [], ◌∷◌, length, get_or, Some, None, Ordering, refl, sym, ap, ◌∙◌, subst, inl, inr, arith, map}
 use Rattle.std.specs.declared.cmp.Ordering.TheVariants.{Less, Equal, Greater}
 use Rattle.std.specs.Ordering.{ordering_reverse, is_eq, is_lt}
 use Rattle.std.specs.List.{AllByRecursion}
@@ -9,6 +9,7 @@ use Rattle.std.specs.BTreeMap.{is_at}
 use Rattle.std.specs.FinMap as finmap
 use Rattle.std.specs.FinMap.Entries.{is_sorted, find, below_all}
 use Rattle.std.proofs.lemmas.Bool.{cases_lt}
+use Rattle.std.proofs.lemmas.List.{get_or_default}
 use Rattle.coda_fid.specs.Fid.{fid_cmp}
 use Rattle.coda_fid.specs.declared.fid.Fid.{Fid}
 use Rattle.coda_fid.proofs.Fids.{exact_fids, fids_total}
@@ -102,3 +103,44 @@ entries_hold objects es f is s = ap (λ l. finmap.get (objects_in l) f) is ∙ f
 
 pub keys_in_order : (es : HeldPairs) → is_sorted fid_cmp es ≡ true → finmap.keys (objects_in es) ≡ map (λ e. e.0) es
 keys_in_order es up = ap (map (λ (e : Fid × Held). e.0)) (finmap.entries-from_sorted fid_cmp es (to_T _ up))
+
+-- ---- whether objects are in order
+
+next_below : (e : Fid × Held) (es : HeldPairs) → is_sorted fid_cmp es ≡ true → (1 ≤ length es → fid_cmp e.0 (get_or es 0 e).0 ≡ Less) → below_all fid_cmp e.0 es ≡ true
+next_below e [] up first = refl
+next_below e (x ∷ es) up first = and_both _ _ (ap is_lt (first (omega arith))) (further es (and_true _ _ up).0)
+  where
+    further : (rest : HeldPairs) → below_all fid_cmp x.0 rest ≡ true → below_all fid_cmp e.0 rest ≡ true
+    further [] h = refl
+    further (y ∷ rest) h = let k = and_true _ _ h in and_both _ _ (ap is_lt (fids_total.trans e.0 x.0 y.0 (first (omega arith)) (lt_less _ k.0))) (further rest k.1)
+
+pub in_order_by : (es : HeldPairs) → ((j : ℕ) (d : Fid × Held) → j + 1 < length es → fid_cmp (get_or es j d).0 (get_or es (j + 1) d).0 ≡ Less) → is_sorted fid_cmp es ≡ true
+in_order_by [] h = refl
+in_order_by (e ∷ es) h =
+    let up : is_sorted fid_cmp es ≡ true = in_order_by es (λ j d lt. let place : suc (j + 1) ≡ suc j + 1 = omega arith in (λ i. fid_cmp (get_or es j d).0 (get_or (e ∷ es) (place i) d).0) ∙ h (suc j) d (omega arith)) in
+    and_both _ _ (next_below e es up (λ some. h 0 e (omega arith))) up
+
+pub not_in_order : (es : HeldPairs) (j : ℕ) (d : Fid × Held) (o : Ordering) → o ≡ fid_cmp (get_or es j d).0 (get_or es (j + 1) d).0 → (o ≡ Less → ⊥) → j + 1 < length es → false ≡ is_sorted fid_cmp es
+not_in_order es j d o is other lt = by (is_sorted fid_cmp es) refl
+  where
+    by : (b : Bool) → is_sorted fid_cmp es ≡ b → false ≡ b
+    by true up = absurd (other (is ∙ sorted_at es up j (j + 1) d (omega arith) lt))
+    by false up = refl
+
+pub out_of_order : (es : HeldPairs) (at : ℕ) (x y : Fid × Held) (o : Ordering) → o ≡ fid_cmp (get_or es (at - 1) x).0 (get_or es at y).0 → (o ≡ Less → ⊥) → 1 ≤ at → at < length es → false ≡ is_sorted fid_cmp es
+out_of_order es at x y o is other some lt =
+    not_in_order es (at - 1) x o (is ∙ ap (λ (e : Fid × Held). fid_cmp (get_or es (at - 1) x).0 e.0) (get_or_default es at y x lt ∙ (λ i. get_or es (place i) x))) other (omega arith)
+  where
+    place : at ≡ at - 1 + 1
+    place = omega arith
+
+pub below_next : (es : HeldPairs) (at : ℕ) (x y : Fid × Held) → Less ≡ fid_cmp (get_or es (at - 1) x).0 (get_or es at y).0 → 1 ≤ at → at < length es → ((j : ℕ) (d : Fid × Held) → j + 1 < at → fid_cmp (get_or es j d).0 (get_or es (j + 1) d).0 ≡ Less) → (j : ℕ) (d : Fid × Held) → j + 1 < at + 1 → fid_cmp (get_or es j d).0 (get_or es (j + 1) d).0 ≡ Less
+below_next es at x y is some lt sofar j d within = elim (cases_lt (j + 1) at) [
+  | inl before ↦ sofar j d before
+  | inr ge ↦
+      let first : j ≡ at - 1 = omega arith in
+      let second : j + 1 ≡ at = omega arith in
+      (λ i. fid_cmp (get_or es (first i) d).0 (get_or es (second i) d).0)
+      ∙ (λ i. fid_cmp (get_or_default es (at - 1) d x (omega arith) i).0 (get_or_default es at d y lt i).0)
+      ∙ sym is
+]

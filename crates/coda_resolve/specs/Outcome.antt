@@ -1,5 +1,5 @@
 -- The outcome of a resolution, as data.
-use Rattle.std.specs.Prelude.{◌≡◌, ℕ, ◌+◌, zero, suc, cond, List, [], ◌∷◌, Option, Some, None}
+use Rattle.std.specs.Prelude.{ℕ, ◌+◌, zero, suc, cond, List, [], ◌∷◌, Option, Some, None}
 use Rattle.std.specs.List.{filter_map, flat_map, IsDistinct}
 use Rattle.std.specs.Ordering.{eq_by_cmp}
 use Rattle.std.specs.FinMap as finmap

@@ -1,4 +1,4 @@
-ghost use Rattle.std.specs.Prelude.{◌≡◌, ◌++◌, true, option_copied, map, IfOk, IfErr};
+ghost use Rattle.std.specs.Prelude.{◌≡◌, ◌++◌, ◌↔◌, true, IsTrue, option_copied, map, IfOk, IfErr};
 ghost use Rattle.std.specs.FinMap as finmap;
 ghost use Rattle.std.specs.FinMap.{is_sorted};
 ghost use Rattle.coda_fid.specs.Fid.{fid_cmp};
@@ -51,6 +51,30 @@ pub(crate) fn held_in(items: &[(Fid, Held)], fid: Fid) -> Option<&Held>
     match search(items, fid) {
         Ok(at) => Some(&items[at].1),
         Err(_) => None,
+    }
+}
+
+// Whether the objects are in increasing order of fids.
+fn is_in_order(items: &[(Fid, Held)]) -> bool
+    ensures { result ≡ is_sorted fid_cmp items.now }
+{
+    for at in 1..items.len() {
+        match items[at - 1].0.cmp(&items[at].0) {
+            Ordering::Less => {}
+            Ordering::Equal => return false,
+            Ordering::Greater => return false,
+        }
+    }
+    true
+}
+
+/// Whether each view has its objects in increasing order of fids.
+pub fn are_in_order(views: &[View]) -> bool
+    ensures { IsTrue result ↔ AreInOrder views.now }
+{
+    match views {
+        [] => true,
+        [first, rest @ ..] => is_in_order(first.held.objects()) && are_in_order(rest),
     }
 }
 

@@ -1,4 +1,4 @@
-use Rattle.std.proofs.Common.{sym, ap, ◌∙◌, ◌++◌, reverse}
+use Rattle.std.proofs.Common.{sym, ap, ◌++◌, reverse}
 use Rattle.coda_resolve.proofs.Stack.{absent_values, file_values, link_values}
 use Rattle.coda_resolve.proofs.below.push_bound.Goals as goal
 

@@ -1,4 +1,4 @@
-use Rattle.std.proofs.Common.{reverse, sym, ap, ◌∙◌, ◌++◌, List}
+use Rattle.std.proofs.Common.{reverse, sym, ap, ◌∙◌, ◌++◌}
 use Rattle.std.specs.FinMap as finmap
 use Rattle.coda_resolve.specs.Copies.{bindings_of}
 use Rattle.coda_resolve.specs.Views.{objects_in, objects_of}

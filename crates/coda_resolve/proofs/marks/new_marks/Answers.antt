@@ -1,7 +1,5 @@
-use Rattle.std.proofs.Common.{◌∙◌, ap, sym, subst}
-use Rattle.coda_resolve.specs.Outcome.{taken_up}
+use Rattle.std.proofs.Common.{◌∙◌, ap}
 use Rattle.coda_resolve.specs.Taken.{fids_of}
-use Rattle.coda_resolve.specs.Views.{replicas_of}
 use Rattle.coda_resolve.proofs.marks.new_marks.Goals as goal
 
 pub returns : goal.returns

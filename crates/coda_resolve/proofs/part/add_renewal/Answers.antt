@@ -1,4 +1,4 @@
-use Rattle.std.proofs.Common.{Some, None, subst, sym}
+use Rattle.std.proofs.Common.{subst}
 use Rattle.std.specs.FinMap as finmap
 use Rattle.coda_resolve.specs.Renewals.{IsRenewal, left_at}
 use Rattle.coda_resolve.proofs.Renewing.{stays, comes}

@@ -1,4 +1,4 @@
-use Rattle.std.proofs.Common.{◌≡◌, ◌≤◌, take}
+use Rattle.std.proofs.Common.{◌≡◌, take}
 use Rattle.std.specs.FinMap as finmap
 use Rattle.coda_resolve.proofs.same.same_entries.Given as goal
 
