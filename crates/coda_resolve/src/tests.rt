@@ -2,8 +2,10 @@ ghost use Rattle.std.specs.Prelude.{◌≡◌, true, IfOk};
 ghost use Rattle.std.specs.FinMap.{is_sorted};
 ghost use Rattle.coda_fid.specs.Fid.{fid_cmp};
 
-use crate::{Fate, View, Why, fate_at, new_marks, walk};
+use crate::{Fate, Lasts, View, Why, are_in_order, fate_at, merge, new_marks, walk};
+use coda_certify::Verdict;
 use coda_fid::{Bytes, Fid, Name, Sid};
+use coda_record::Last;
 use coda_reslog::{Held, HeldObjects, Lost, ResEntry, ResKind, Ring};
 use coda_tree::{Entries, Node, NodeKind};
 use coda_vv::Vv;
@@ -138,21 +140,29 @@ fn view(alloc: Global, server: u8, held: Held) -> Result<View, AllocError>
         server,
         volume: 7,
         held: HeldObjects::from_vec(items),
+        lasts: Lasts::from_vec(Vec::new(alloc)),
     })
+}
+
+// The cause, in a word, with the number that it tells.
+fn cause(why: &Why) -> (&'static str, u64) {
+    match why {
+        Why::Kept => ("kept", 0),
+        Why::Wrapped(_, seq) => ("wrapped", *seq),
+        Why::CrossRename => ("cross-rename", 0),
+        Why::NameName(_) => ("name-name", 0),
+        Why::DoubleName(_) => ("double-name", 0),
+        Why::RemoveUpdate(_) => ("remove-update", 0),
+        Why::AttrAttr => ("attr-attr", 0),
+        Why::FileFile => ("file-file", 0),
+    }
 }
 
 // What became of the object, in a word, with the number told, or that of all updates.
 fn told(fate: &Fate) -> (&'static str, u64) {
     match fate {
         Fate::Same(held) => ("same", held.vector.0[0].saturating_add(held.vector.0[1])),
-        Fate::Marked(Why::Kept) => ("kept", 0),
-        Fate::Marked(Why::Wrapped(_, seq)) => ("wrapped", *seq),
-        Fate::Marked(Why::CrossRename) => ("cross-rename", 0),
-        Fate::Marked(Why::NameName(_)) => ("name-name", 0),
-        Fate::Marked(Why::DoubleName(_)) => ("double-name", 0),
-        Fate::Marked(Why::RemoveUpdate(_)) => ("remove-update", 0),
-        Fate::Marked(Why::AttrAttr) => ("attr-attr", 0),
-        Fate::Marked(Why::FileFile) => ("file-file", 0),
+        Fate::Marked(why) => cause(why),
         Fate::Gone => ("gone", 0),
     }
 }
@@ -286,5 +296,195 @@ fn objects_are_taken_up_in_path_order(rt: HostRuntime) -> Result<(), Fail> {
     for (one, other, taken) in rows {
         assert_eq!(rt; of_walk(rt.alloc(), one, other)?, taken);
     }
+    Ok(())
+}
+
+// ---- whole volumes
+
+// A directory that servers 1 and 2 updated so many times, which binds these names, with these updates in its log.
+fn directory(
+    alloc: Global,
+    counts: (u64, u64),
+    bound: &[(&'static str, u32)],
+    updates: Vec<ResEntry>,
+) -> Result<Held, AllocError> {
+    let mut entries = Entries::new(alloc);
+    for (text, vnode) in bound {
+        if let Some(name) = name(alloc, *text)? {
+            if entries.find(&name).is_none() {
+                entries.insert(name, fid(*vnode))?;
+            }
+        }
+    }
+    let mut ring = Ring::new(alloc)?;
+    for update in updates {
+        ring.push(update);
+    }
+    Ok(Held {
+        node: node(NodeKind::Dir(entries), false),
+        vector: Vv([counts.0, counts.1, 0, 0, 0, 0, 0, 0]),
+        ring: Some(ring),
+    })
+}
+
+// A replica that holds the root and, as the objects of these numbers, what else there is.
+fn replica(
+    alloc: Global,
+    server: u8,
+    root: Held,
+    others: Vec<(u32, Held)>,
+) -> Result<View, AllocError> {
+    let mut items = vec![in alloc; (fid(0), root)]?;
+    for (vnode, held) in others {
+        items.push((fid(vnode), held))?;
+    }
+    Ok(View {
+        server,
+        volume: 7,
+        held: HeldObjects::from_vec(items),
+        lasts: Lasts::from_vec(Vec::new(alloc)),
+    })
+}
+
+// What a resolution makes of the views: behind a 1 two digits for each replica, how many objects it holds anew and how many
+// go; the first cause, where an object is marked; how many are marked, and how many touched.
+fn made(alloc: Global, views: &[View]) -> Result<(u64, (&'static str, u64), usize, u64), AllocError> {
+    if !are_in_order(views) {
+        return Ok((0, ("out of order", 0), 0, 0));
+    }
+    let outcome = merge(alloc, views)?;
+    let mut digits = 1u64;
+    for (_, change) in outcome.changes.changes() {
+        let held = change.held.objects().len() as u64;
+        let gone = change.gone.fids().len() as u64;
+        digits = digits.saturating_mul(10).saturating_add(held);
+        digits = digits.saturating_mul(10).saturating_add(gone);
+    }
+    let marks = outcome.marks.marks();
+    let first = match marks {
+        [] => ("none", 0),
+        [first, ..] => cause(&first.why),
+    };
+    Ok((digits, first, marks.len(), outcome.touched))
+}
+
+// Each of two replicas added a file: both get what the other has.
+fn apart(alloc: Global) -> Result<[View; 2], AllocError> {
+    let added = vec![in alloc; update(alloc, 1, 1, ResKind::Add, "f", 1)?]?;
+    let root = directory(alloc, (1, 0), &[("f", 1)], added)?;
+    let files = vec![in alloc; (1, file(alloc, (1, 0))?)]?;
+    let one = replica(alloc, 1, root, files)?;
+    let added = vec![in alloc; update(alloc, 2, 1, ResKind::Add, "g", 2)?]?;
+    let root = directory(alloc, (0, 1), &[("g", 2)], added)?;
+    let files = vec![in alloc; (2, file(alloc, (0, 1))?)]?;
+    let other = replica(alloc, 2, root, files)?;
+    Ok([one, other])
+}
+
+// A replica as both are after that.
+fn together(alloc: Global, server: u8) -> Result<View, AllocError> {
+    let mut added = vec![in alloc; update(alloc, 1, 1, ResKind::Add, "f", 1)?]?;
+    added.push(update(alloc, 2, 1, ResKind::Add, "g", 2)?)?;
+    let root = directory(alloc, (1, 1), &[("f", 1), ("g", 2)], added)?;
+    let mut files = vec![in alloc; (1, file(alloc, (1, 0))?)]?;
+    files.push((2, file(alloc, (0, 1))?))?;
+    replica(alloc, server, root, files)
+}
+
+#[test]
+fn a_second_resolution_changes_nothing(rt: HostRuntime) -> Result<(), Fail> {
+    let views = apart(rt.alloc())?;
+    assert_eq!(rt; made(rt.alloc(), &views)?, (12020, ("none", 0), 0, 3));
+    let views = [together(rt.alloc(), 1)?, together(rt.alloc(), 2)?];
+    assert_eq!(rt; made(rt.alloc(), &views)?, (10000, ("none", 0), 0, 0));
+    Ok(())
+}
+
+// A replica to which a server added a directory.
+fn with_directory(alloc: Global, server: u8) -> Result<View, AllocError> {
+    let added = vec![in alloc; update(alloc, 1, 1, ResKind::Add, "d", 1)?]?;
+    let root = directory(alloc, (1, 0), &[("d", 1)], added)?;
+    let empty = directory(alloc, (0, 0), &[], Vec::new(alloc))?;
+    let others = vec![in alloc; (1, empty)]?;
+    replica(alloc, server, root, others)
+}
+
+// A replica that has no update.
+fn fresh(alloc: Global, server: u8) -> Result<View, AllocError> {
+    let root = directory(alloc, (0, 0), &[], Vec::new(alloc))?;
+    replica(alloc, server, root, Vec::new(alloc))
+}
+
+#[test]
+fn a_directory_that_a_replica_lacks_comes(rt: HostRuntime) -> Result<(), Fail> {
+    let views = [with_directory(rt.alloc(), 1)?, fresh(rt.alloc(), 2)?];
+    assert_eq!(rt; made(rt.alloc(), &views)?, (10020, ("none", 0), 0, 2));
+    Ok(())
+}
+
+#[test]
+fn two_of_three_replicas_agree(rt: HostRuntime) -> Result<(), Fail> {
+    let alloc = rt.alloc();
+    let views = [with_directory(alloc, 1)?, fresh(alloc, 2)?, with_directory(alloc, 3)?];
+    assert_eq!(rt; made(alloc, &views)?, (1002000, ("none", 0), 0, 2));
+    Ok(())
+}
+
+#[test]
+fn a_log_that_wrapped_marks_its_directory(rt: HostRuntime) -> Result<(), Fail> {
+    let alloc = rt.alloc();
+    let mut updates = Vec::new(alloc);
+    for seq in 1..=257 {
+        updates.push(update(alloc, 1, seq, ResKind::Attr, "", 0)?)?;
+    }
+    let root = directory(alloc, (257, 0), &[], updates)?;
+    let views = [replica(alloc, 1, root, Vec::new(alloc))?, fresh(alloc, 2)?];
+    assert_eq!(rt; made(alloc, &views)?, (11010, ("wrapped", 1), 1, 1));
+    Ok(())
+}
+
+// What is taken out goes; what stands below a marked directory stays.
+#[test]
+fn objects_go_with_their_names(rt: HostRuntime) -> Result<(), Fail> {
+    let alloc = rt.alloc();
+    let dropped = vec![in alloc; update(alloc, 1, 1, ResKind::Drop, "f", 1)?]?;
+    let one = replica(alloc, 1, directory(alloc, (1, 0), &[], dropped)?, Vec::new(alloc))?;
+    let root = directory(alloc, (0, 0), &[("f", 1)], Vec::new(alloc))?;
+    let other = replica(alloc, 2, root, vec![in alloc; (1, file(alloc, (0, 0))?)]?)?;
+    assert_eq!(rt; made(alloc, &[one, other])?, (10011, ("none", 0), 0, 2));
+    let one = fresh(alloc, 1)?;
+    let mut root = directory(alloc, (0, 0), &[("f", 1)], Vec::new(alloc))?;
+    root.node.marked = true;
+    let other = replica(alloc, 2, root, vec![in alloc; (1, file(alloc, (0, 0))?)]?)?;
+    assert_eq!(rt; made(alloc, &[one, other])?, (11000, ("kept", 0), 1, 1));
+    Ok(())
+}
+
+// A decision of a client.
+fn last(client: u8, number: u64) -> Last {
+    Last {
+        client,
+        number,
+        verdict: Verdict::Applied,
+    }
+}
+
+// Of each client the decision of the greatest number stays.
+#[test]
+fn decisions_are_joined(rt: HostRuntime) -> Result<(), Fail> {
+    let alloc = rt.alloc();
+    let mut one = fresh(alloc, 1)?;
+    one.lasts = Lasts::from_vec(vec![in alloc; last(2, 1), last(5, 4)]?);
+    let mut other = fresh(alloc, 2)?;
+    other.lasts = Lasts::from_vec(vec![in alloc; last(2, 3), last(3, 1), last(5, 2)]?);
+    let views = [one, other];
+    let mut digits = 0u64;
+    if are_in_order(&views) {
+        for last in merge(alloc, &views)?.lasts.lasts() {
+            digits = digits.saturating_mul(10).saturating_add(u64::from(last.client));
+            digits = digits.saturating_mul(10).saturating_add(last.number);
+        }
+    }
+    assert_eq!(rt; digits, 233154);
     Ok(())
 }
