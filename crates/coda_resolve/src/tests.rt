@@ -348,7 +348,10 @@ fn replica(
 
 // What a resolution makes of the views: behind a 1 two digits for each replica, how many objects it holds anew and how many
 // go; the first cause, where an object is marked; how many are marked, and how many touched.
-fn made(alloc: Global, views: &[View]) -> Result<(u64, (&'static str, u64), usize, u64), AllocError> {
+fn made(
+    alloc: Global,
+    views: &[View],
+) -> Result<(u64, (&'static str, u64), usize, u64), AllocError> {
     if !are_in_order(views) {
         return Ok((0, ("out of order", 0), 0, 0));
     }
@@ -425,7 +428,11 @@ fn a_directory_that_a_replica_lacks_comes(rt: HostRuntime) -> Result<(), Fail> {
 #[test]
 fn two_of_three_replicas_agree(rt: HostRuntime) -> Result<(), Fail> {
     let alloc = rt.alloc();
-    let views = [with_directory(alloc, 1)?, fresh(alloc, 2)?, with_directory(alloc, 3)?];
+    let views = [
+        with_directory(alloc, 1)?,
+        fresh(alloc, 2)?,
+        with_directory(alloc, 3)?,
+    ];
     assert_eq!(rt; made(alloc, &views)?, (1002000, ("none", 0), 0, 2));
     Ok(())
 }
@@ -448,7 +455,12 @@ fn a_log_that_wrapped_marks_its_directory(rt: HostRuntime) -> Result<(), Fail> {
 fn objects_go_with_their_names(rt: HostRuntime) -> Result<(), Fail> {
     let alloc = rt.alloc();
     let dropped = vec![in alloc; update(alloc, 1, 1, ResKind::Drop, "f", 1)?]?;
-    let one = replica(alloc, 1, directory(alloc, (1, 0), &[], dropped)?, Vec::new(alloc))?;
+    let one = replica(
+        alloc,
+        1,
+        directory(alloc, (1, 0), &[], dropped)?,
+        Vec::new(alloc),
+    )?;
     let root = directory(alloc, (0, 0), &[("f", 1)], Vec::new(alloc))?;
     let other = replica(alloc, 2, root, vec![in alloc; (1, file(alloc, (0, 0))?)]?)?;
     assert_eq!(rt; made(alloc, &[one, other])?, (10011, ("none", 0), 0, 2));
@@ -481,7 +493,9 @@ fn decisions_are_joined(rt: HostRuntime) -> Result<(), Fail> {
     let mut digits = 0u64;
     if are_in_order(&views) {
         for last in merge(alloc, &views)?.lasts.lasts() {
-            digits = digits.saturating_mul(10).saturating_add(u64::from(last.client));
+            digits = digits
+                .saturating_mul(10)
+                .saturating_add(u64::from(last.client));
             digits = digits.saturating_mul(10).saturating_add(last.number);
         }
     }
