@@ -1,0 +1,67 @@
+-- What the parts of the code stand for.
+use Rattle.std.specs.Prelude.{◌≡◌, ◌<◌, ◌≤◌, ◌+◌, ℕ, Bool, true, false, nat_le, [], ◌∷◌, ◌++◌, Option, Some, None, ◌⊎◌}
+use Rattle.std.specs.BTreeMap as tree
+use Rattle.std.specs.Ordering.{nat_cmp}
+use Rattle.coda_fid.specs.declared.op.Record.{Record}
+use Rattle.coda_cancel.specs.Cancel.{add, fold}
+use Rattle.coda_cancel.specs.Weights.{fits}
+use Rattle.coda_plain.specs.Deeds.{created_by}
+use Rattle.coda_cml.specs.State.{IsLogOf}
+use Rattle.coda_venus.specs.Held.{Held}
+use Rattle.coda_venus.specs.State.{ClientVolume, new_volume, log_of, ClientState}
+use Rattle.coda_venus.specs.Accepting.{Sight}
+use Rattle.coda_venus.specs.declared.client.Client.{Client}
+use Rattle.coda_venus.specs.declared.volume_log.VolumeLog.{VolumeLog}
+
+-- whether the log would keep within its limits with one operation more: 4,096 records, and 16 MiB
+abbrev pub has_room : ClientVolume → Record → Bool
+has_room v rec = fits 4096 16777216 (fold v.front ++ fold (v.back ++ rec ∷ []))
+
+-- a client accepts at most 2^32 - 1 operations on a volume
+abbrev pub is_full : ClientVolume → Bool
+is_full v = nat_le 4294967295 v.operations
+
+-- how many objects a client created in a volume, where it did something there
+abbrev pub creations_in : Option VolumeLog → ℕ
+creations_in None = 0
+creations_in (Some code) = code.creations
+
+-- a log with its count of creations is that of what a client has of a volume
+pub record IsVolumeLog (v : ClientVolume) (code : VolumeLog) : Type 0 where
+  pub runs : IsLogOf code.log v.front v.back
+  pub log : code.log ≡ log_of v
+  pub creations : code.creations ≡ v.creations
+  pub few : v.operations ≤ 4294967295
+
+-- the same where a client did something on the volume; else there is none
+abbrev pub IsLogAt : ClientVolume → Option VolumeLog → Type 0
+IsLogAt v None = v ≡ new_volume
+IsLogAt v (Some code) = IsVolumeLog v code
+
+-- an operation may go behind the log: it is the next, there is room for it, and for what it creates
+pub record MayPush (code : VolumeLog) (rec : Record) : Type 0 where
+  pub next : rec.number ≡ code.log.last + 1
+  pub few : code.log.last < 4294967295
+  pub room : fits 4096 16777216 (code.log.chunk ++ add code.log.records rec) ≡ true
+  pub creations : (code.creations < 4294967295) ⊎ (created_by rec.op ≡ 0)
+
+-- what a client holds
+abbrev pub held_of : Client → Held
+held_of code = record { nodes = code.nodes; parents = code.parents }
+
+-- what a client sees of a volume, but for what its log mentions: where each object that is held is bound by its parent, nothing is held
+-- below a directory that binds nothing
+abbrev pub sight : Client → ℕ → Sight
+sight code volume = record {
+  number = code.number;
+  held = held_of code;
+  creations = creations_in (tree.get nat_cmp code.logs volume);
+  is_dirty = λ fid. false;
+}
+
+-- the code is the client
+pub record IsClient (c : ClientState) (code : Client) : Type 0 where
+  pub number : c.number ≡ code.number
+  pub blocks : c.blocks ≡ code.blocks
+  pub held : c.held ≡ held_of code
+  pub logs : (volume : ℕ) → IsLogAt (c.volumes volume) (tree.get nat_cmp code.logs volume)

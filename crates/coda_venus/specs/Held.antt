@@ -1,0 +1,85 @@
+-- What a client holds: nodes, and the directory that is the parent of each.
+use Rattle.std.specs.Prelude.{ℕ, suc, zero, Bool, false, ◌&&◌, ◌||◌, not, List, [], ◌∷◌, Option, Some, None, ◌≡◌}
+use Rattle.std.specs.Option.{option_map_or}
+use Rattle.std.specs.List.{list_any}
+use Rattle.std.specs.FinMap as map
+use Rattle.std.specs.FinMap.{FinMap}
+use Rattle.coda_fid.specs.Fid.{same_fid, fid_cmp}
+use Rattle.coda_fid.specs.declared.fid.Fid.{Fid}
+use Rattle.coda_fid.specs.declared.op.Over.{Over}
+use Rattle.coda_fid.specs.declared.op.Op.{Op}
+use Rattle.coda_fid.specs.declared.op.Op.TheVariants.{Create, Mkdir, Symlink, Store, Setattr, Remove, Rmdir, Rename}
+use Rattle.coda_fid.specs.declared.op.Record.{Record}
+use Rattle.coda_tree.specs.declared.node.Node.{Node}
+use Rattle.coda_tree.specs.Bindings.{Name}
+use Rattle.coda_tree.specs.Volume.{Nodes, child}
+use Rattle.coda_certify.specs.Replay.{applied}
+
+-- the parent of each object that has one
+abbrev pub Parents : Type 0
+Parents = FinMap fid_cmp Fid
+
+-- the finite map of a list of entries
+abbrev pub parents_in : List (Fid × Fid) → Parents
+parents_in entries = map.from_entries entries
+
+pub record Held : Type 0 where
+  pub nodes : Nodes
+  pub parents : Parents
+
+abbrev pub nothing_held : Held
+nothing_held = record { nodes = map.empty; parents = map.empty }
+
+-- ---- going up
+
+-- whether g is met on the way up from f, within so many steps
+abbrev pub below_within : Parents → ℕ → Fid → Fid → Bool
+below_within parents zero f g = same_fid f g
+below_within parents (suc steps) f g = same_fid f g || option_map_or (λ p. below_within parents steps p g) (map.get parents f) false
+
+-- whether f is g or is held below it: no way up has more steps than there are parents
+unfoldable pub is_below : Parents → Fid → Fid → Bool
+is_below parents f g = below_within parents (map.len parents) f g
+
+-- whether some object that passes a test is held below f, and is another
+unfoldable pub some_below : Held → (Fid → Bool) → Fid → Bool
+some_below held test f = list_any (λ g. not (same_fid g f) && (test g && is_below held.parents g f)) (map.keys held.nodes)
+
+-- each object with a parent is bound there
+abbrev pub AreBound : Held → Type 0
+AreBound held = (f p : Fid) → map.get held.parents f ≡ Some p → (name : Name) × (child held.nodes p name ≡ Some f)
+
+-- ---- what entries leave
+
+-- the parents, with that of an object that is held now
+abbrev pub with_parent : Parents → Fid → Option Fid → Parents
+with_parent parents fid None = parents
+with_parent parents fid (Some parent) = map.insert parents fid parent
+
+-- the parents without that of an object that is replaced
+abbrev pub without_over : Parents → Option Over → Parents
+without_over parents None = parents
+without_over parents (Some over) = map.remove parents over.fid
+
+-- the parents after the client's own operation
+abbrev pub parents_after : Parents → Op → Parents
+parents_after parents (Create dir name fid mode owner) = map.insert parents fid dir
+parents_after parents (Mkdir dir name fid mode owner) = map.insert parents fid dir
+parents_after parents (Symlink dir name fid target mode owner) = map.insert parents fid dir
+parents_after parents (Store fid pre content) = parents
+parents_after parents (Setattr fid pre attrs) = parents
+parents_after parents (Remove dir name fid pre) = map.remove parents fid
+parents_after parents (Rmdir dir name fid pre) = map.remove parents fid
+parents_after parents (Rename from_dir from to_dir to fid over) = map.insert (without_over parents over) fid to_dir
+
+-- what is held after an operation of the client with this number
+abbrev pub held_after_operation : Held → ℕ → Record → Held
+held_after_operation held client rec = record { nodes = applied held.nodes client rec; parents = parents_after held.parents rec.op }
+
+-- what is held after a fetch
+abbrev pub held_after_fetch : Held → Fid → Option Fid → Node → Held
+held_after_fetch held fid parent node = record { nodes = map.insert held.nodes fid node; parents = with_parent held.parents fid parent }
+
+-- what is held once an object was dropped
+abbrev pub held_after_drop : Held → Fid → Held
+held_after_drop held fid = record { nodes = map.remove held.nodes fid; parents = map.remove held.parents fid }

@@ -1,0 +1,9 @@
+pub mod Ask
+pub mod Held
+pub mod Looking
+pub mod State
+pub mod Accepting
+pub mod History
+pub mod Code
+pub mod Standing
+pub mod Keeping

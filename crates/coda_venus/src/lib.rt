@@ -1,0 +1,20 @@
+//! Clients: what one caches, its logs, and which operations it accepts; and the disk that keeps it.
+#![tactic(auto)]
+
+mod accepting;
+mod ask;
+mod client;
+mod looking;
+mod parents;
+mod refused;
+mod seen;
+mod venus;
+mod volume_log;
+
+pub use ask::Ask;
+pub use client::Client;
+pub use parents::ParentTable;
+pub use refused::Refused;
+pub use seen::Seen;
+pub use venus::Venus;
+pub use volume_log::VolumeLog;
