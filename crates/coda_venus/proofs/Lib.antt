@@ -1,3 +1,5 @@
 pub mod Endings
 pub mod ParentMap
 pub mod HeldBelow
+pub mod Chunked
+pub mod Unsettled

@@ -1,5 +1,5 @@
 -- What the calls of a client answer, and what they keep.
-use Rattle.std.specs.Prelude.{◌≡◌, ◌<◌, ◌+◌, ℕ, true, false, List, [], ◌∷◌, ◌++◌, length, Option, Some, None, Result, Ok, Err}
+use Rattle.std.specs.Prelude.{◌≡◌, ◌⊎◌, option_map, ◌<◌, ◌+◌, ℕ, true, false, List, [], ◌∷◌, ◌++◌, length, Option, Some, None, Result, Ok, Err}
 use Rattle.std.specs.Int.{w32}
 use Rattle.std.specs.FinMap as map
 use Rattle.coda_fid.specs.Fid.{root_of}
@@ -18,7 +18,9 @@ use Rattle.coda_journal.specs.Entries.{framed}
 use Rattle.coda_journal.specs.Journal.{IsBeforeOrAfter}
 use Rattle.coda_journal.specs.declared.header.Header.{Header}
 use Rattle.coda_journal.specs.declared.journal.Journal.{Journal}
+use Rattle.coda_cml.specs.Steps.{settle_refusal}
 use Rattle.coda_venus.specs.Looking.{then_find, resolve}
+use Rattle.coda_venus.specs.State.{ClientVolume}
 use Rattle.coda_venus.specs.History.{Payload, payload_of, payloads_of}
 use Rattle.coda_venus.specs.Standing.{IsUp, StandsFor}
 use Rattle.coda_venus.specs.declared.refused.Refused.{Refused}
@@ -38,6 +40,10 @@ abbrev pub unsettled_as : SettleFault → Refused
 unsettled_as (settling.NotFrozen number) = NotFrozen number
 unsettled_as (settling.WrongNumber frozen number) = WrongNumber frozen number
 unsettled_as settling.Memory = Memory
+
+-- why the verdict on a chunk isn't taken: want of memory, or that the chunk isn't the frozen one
+abbrev pub IsUnsettled : ClientVolume → ℕ → Refused → Type 0
+IsUnsettled v number why = (why ≡ Memory) ⊎ (option_map unsettled_as (settle_refusal v.frozen number) ≡ Some why)
 
 -- ---- what a client shows
 

@@ -8,6 +8,7 @@ mod looking;
 mod parents;
 mod refused;
 mod seen;
+mod settling;
 mod venus;
 mod volume_log;
 
