@@ -1,0 +1,17 @@
+//! Letters between clients and servers as what they say: chunks on their way to be decided, and the answers to them.
+#![tactic(auto)]
+
+mod delivering;
+mod fault;
+mod law;
+mod losing;
+mod sending;
+
+pub use delivering::deliver;
+pub use fault::LetterFault;
+pub use law::{bytes_tell_messages, chunks_are_light};
+pub use losing::lose;
+pub use sending::{post_answer, send_chunk};
+
+#[cfg(test)]
+mod tests;
