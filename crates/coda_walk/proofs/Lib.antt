@@ -8,3 +8,9 @@ pub mod Orders
 pub mod Loops
 pub mod Balance
 pub mod Firsts
+pub mod Ranks
+pub mod Freed
+pub mod Queued
+pub mod Puts
+pub mod Pooled
+pub mod Departs

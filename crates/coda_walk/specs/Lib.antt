@@ -5,3 +5,5 @@ pub mod Plannable
 pub mod Climbing
 pub mod Equilibrium
 pub mod Turns
+pub mod Queue
+pub mod Leaving

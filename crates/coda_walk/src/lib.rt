@@ -5,8 +5,11 @@ mod candidate;
 mod index;
 mod item;
 mod law;
+mod leaving;
 mod planned;
 mod planning;
+mod queue;
+mod rank;
 mod room;
 mod taking;
 #[cfg(test)]
@@ -14,6 +17,8 @@ mod tests;
 
 pub use item::Item;
 pub use law::{plans_are_in_equilibrium, they_go_in_turn, who_goes_is_right};
+pub use leaving::Gone;
 pub use planned::Plan;
 pub use planning::plan;
+pub use queue::Queue;
 pub use room::who_goes;

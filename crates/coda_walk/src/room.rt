@@ -1,12 +1,15 @@
-ghost use Rattle.std.specs.Prelude.{◌≡◌, ◌<◌, ◌≤◌, ◌^◌, nat_le, Option, Some, IfOk, OnOk, true, false, length, ◌||◌, List};
+ghost use Rattle.std.specs.Prelude.{◌≡◌, ◌<◌, ◌≤◌, ◌^◌, nat_le, Option, Some, IfOk, IfSome, OnOk, true, false, length, ◌||◌, ◌++◌, ◌∷◌, [], List};
 ghost use Rattle.std.specs.List.{list_any, filter};
 ghost use Rattle.std.specs.Option.{option_map_or};
 ghost use Rattle.std.specs.BTreeSet as set;
 ghost use Rattle.coda_fid.specs.declared.fid.Fid.{Fid};
 ghost use Rattle.coda_fid.specs.Fid.{fid_cmp, same_fid};
 ghost use Rattle.coda_walk.specs.Going.{blocks_of, is_listed, is_under, may_go, goes_before, sooner, is_free, first_to_go, next_to_go, without, who_goes};
+ghost use Rattle.std.specs.Bool.{OnTrue};
+ghost use Rattle.coda_walk.specs.declared.item.Item.{Item};
+ghost use Rattle.coda_walk.specs.Queue.{IsQueueOf};
 
-use crate::Item;
+use crate::{Item, Queue};
 use coda_fid::Fid;
 use std::alloc::{AllocError, Global};
 use std::collections::BTreeSet;
@@ -134,8 +137,8 @@ fn others(alloc: Global, items: &[Item], fid: Fid) -> Result<Vec<Item>, AllocErr
     Ok(left)
 }
 
-// Who goes beside those that are in a set.
-pub(crate) fn going(
+// Who goes beside those that are in a set, found by a look at all that are left for each that goes.
+fn going_plainly(
     alloc: Global,
     size: u64,
     kept: &BTreeSet<Fid>,
@@ -158,6 +161,63 @@ pub(crate) fn going(
         }
     }
     Ok(gone)
+}
+
+// Puts in an item whose object has none, and answers whether it has none.
+fn put_new(queue: &mut Queue, item: &Item) -> Result<bool, AllocError>
+    ensures { (items : List Item) → IsQueueOf queue.old items → IfOk result (λ new. OnTrue new (IsQueueOf queue.new (items ++ item.now ∷ []))) }
+{
+    if queue.get(item.fid).is_some() {
+        return Ok(false);
+    }
+    queue.put(*item)?;
+    Ok(true)
+}
+
+// The queue of items, where no object has two of them.
+fn queue_of(alloc: Global, items: &[Item]) -> Result<Option<Queue>, AllocError>
+    ensures { IfOk result (λ o. IfSome o (λ queue. IsQueueOf queue items.now)) }
+{
+    let mut queue = Queue::new(alloc);
+    for item in items {
+        if !put_new(&mut queue, item)? {
+            return Ok(None);
+        }
+    }
+    Ok(Some(queue))
+}
+
+// Who goes beside those that are in a set, found by a queue, where that can be made.
+fn going_by_queue(
+    alloc: Global,
+    size: u64,
+    kept: &BTreeSet<Fid>,
+    items: &[Item],
+) -> Result<Option<Vec<Fid>>, AllocError>
+    ensures { (fids : List Fid) → ((f : Fid) → set.contains fid_cmp kept.now f ≡ is_listed fids f) → IfOk result (λ o. IfSome o (λ v. v.items ≡ who_goes size fids items.now)) }
+{
+    match queue_of(alloc, items)? {
+        Some(queue) => match queue.who_goes(alloc, size, kept)? {
+            Some(gone) => Ok(Some(gone.fids)),
+            None => Ok(None),
+        },
+        None => Ok(None),
+    }
+}
+
+// Who goes beside those that are in a set. It takes logarithmic time for each item, where no object has two.
+pub(crate) fn going(
+    alloc: Global,
+    size: u64,
+    kept: &BTreeSet<Fid>,
+    items: &[Item],
+) -> Result<Vec<Fid>, AllocError>
+    ensures { (fids : List Fid) → ((f : Fid) → set.contains fid_cmp kept.now f ≡ is_listed fids f) → IfOk result (λ v. v.items ≡ who_goes size fids items.now) }
+{
+    match going_by_queue(alloc, size, kept, items)? {
+        Some(gone) => Ok(gone),
+        None => going_plainly(alloc, size, kept, items),
+    }
 }
 
 /// Who goes from a cache of so many blocks, in order, so that the rest fits: one item after the other, each the first of
