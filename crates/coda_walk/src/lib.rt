@@ -1,4 +1,4 @@
-//! Plans for a cache of bounded size: who goes so that the rest fits.
+//! Plans for a cache of bounded size: who goes so that the rest fits, and a queue of which that is found fast.
 #![tactic(auto)]
 
 mod candidate;

@@ -1,6 +1,7 @@
-use crate::{Item, plan, who_goes};
+use crate::{Item, Queue, plan, who_goes};
 use coda_fid::Fid;
 use std::alloc::{AllocError, Global};
+use std::collections::BTreeSet;
 use std::test::Fail;
 
 // An object of volume 7.
@@ -107,5 +108,39 @@ fn objects_go_without_candidates(rt: HostRuntime) -> Result<(), Fail> {
     assert_eq!(rt; drop.as_slice(), [5].as_slice());
     let gone = who_goes(rt.alloc(), 0, &[fid(0)], &items)?;
     assert_eq!(rt; gone.as_slice(), [fid(5)].as_slice());
+    Ok(())
+}
+
+// A queue of the root and three files of one block each, of which the second was used last.
+fn queue(alloc: Global) -> Result<Queue, AllocError> {
+    let mut queue = Queue::new(alloc);
+    queue.put(cached(0, None, false))?;
+    queue.put(cached(5, Some(fid(0)), false))?;
+    queue.put(cached(6, Some(fid(0)), false))?;
+    queue.put(cached(7, Some(fid(0)), false))?;
+    queue.put(cached(5, Some(fid(0)), false))?;
+    Ok(queue)
+}
+
+// Items go from a queue by their use, and the directory above them once nothing is under it.
+#[test]
+fn items_go_from_a_queue(rt: HostRuntime) -> Result<(), Fail> {
+    let kept = BTreeSet::new(rt.alloc());
+    let mut queue = queue(rt.alloc())?;
+    assert_eq!(rt; queue.blocks(), 4);
+    let gone = queue.who_goes(rt.alloc(), 2, &kept)?;
+    assert!(rt;
+        gone.is_some_and(|gone| gone.fits && gone.fids.as_slice() == [fid(6), fid(7)].as_slice())
+    );
+    queue.take_out(fid(6))?;
+    assert!(rt; queue.get(fid(6)).is_none());
+    queue.change(cached(7, Some(fid(0)), true))?;
+    let gone = queue.who_goes(rt.alloc(), 0, &kept)?;
+    assert!(rt; gone.is_some_and(|gone| !gone.fits && gone.fids.as_slice() == [fid(5)].as_slice()));
+    queue.change(cached(7, Some(fid(0)), false))?;
+    let gone = queue.who_goes(rt.alloc(), 0, &kept)?;
+    assert!(rt;
+        gone.is_some_and(|gone| gone.fids.as_slice() == [fid(7), fid(5), fid(0)].as_slice())
+    );
     Ok(())
 }
