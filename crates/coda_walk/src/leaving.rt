@@ -220,6 +220,13 @@ fn go_at(
     }
 }
 
+// Whether blocks fit in so many.
+fn fit(blocks: u64, size: u64) -> bool
+    ensures { result ≡ nat_le blocks size }
+{
+    blocks <= size
+}
+
 // The next one goes, where one is to go and may. Answers whether all have gone that do.
 fn step(
     queue: &Queue,
@@ -229,7 +236,7 @@ fn step(
 ) -> Result<bool, AllocError>
     ensures { (fids : List Fid) (items : List Item) → IsQueueOf queue.now items → AreKept kept.now fids → AreInTurn queue.now leaving.old (pool_of queue.now leaving.old) size fids items → IfOk result (λ over. IsTurn over queue.now leaving.new size fids items) }
 {
-    if leaving.left <= size {
+    if fit(leaving.left, size) {
         return Ok(true);
     }
     match pop(&queue.free, &mut leaving.pool) {
@@ -271,7 +278,7 @@ impl Queue {
         let mut leaving = self.begin(alloc);
         for _step in 0..u64::MAX {
             if step(self, size, kept, &mut leaving)? {
-                let fits = leaving.left <= size;
+                let fits = fit(leaving.left, size);
                 return Ok(Some(Gone {
                     fids: leaving.gone,
                     fits,
