@@ -1,5 +1,5 @@
 -- Pieces of a script, one after another, and its end.
-use Rattle.std.proofs.Common.{◌≡◌, ◌≢◌, ℕ, ◌+◌, Bool, true, false, List, [], ◌∷◌, ◌++◌, length, eqb, refl, sym, ap, ◌∙◌, append_assoc, inl, inr, Option}
+use Rattle.std.proofs.Common.{◌≡◌, ◌≢◌, ℕ, ◌+◌, Bool, true, false, List, [], ◌∷◌, ◌++◌, length, eqb, refl, sym, ap, ◌∙◌, append_assoc, inl, inr, arith, length-append, Option}
 use Rattle.std.specs.Str.Lines.{lines, strip_carriage_return}
 use Rattle.std.specs.Io.KnownBytes.{Appends}
 use Rattle.std.proofs.lemmas.List.{append-nil}
@@ -41,22 +41,24 @@ broke_more read front rest written more outside new b = record {
   answers = b.answers;
   state = b.state;
   runs = b.runs;
-  part = b.part;
-  missing = b.missing;
+  text = b.text;
   answered = b.answered;
   did = b.did;
+  missing = b.missing;
   some = b.some;
   wrote = b.wrote;
+  late = b.late;
   said = b.said;
 }
 
 -- what ends a run among these bytes ends it among these and more
-pub stops_more : {M : Type 0} (gives : Gives M) (refuses : Refuses M) (start new : M) (read written more : List ℕ) (outside : List (List ℕ)) (status : Status)
-    → StopsAmong gives refuses start new read written outside status → StopsAmong gives refuses start new (read ++ more) written outside status
-stops_more gives refuses start new read written more outside Done h = absurd h
-stops_more gives refuses start new read written more outside Usage h = absurd h
-stops_more gives refuses start new read written more outside SourceFault h = absurd h
-stops_more gives refuses start new read written more outside (Script line column kind) h = (
+pub stops_more : {M : Type 0} (gives : Gives M) (refuses : Refuses M) (most : ℕ) (start new : M) (read written more : List ℕ) (outside : List (List ℕ)) (status : Status)
+    → StopsAmong gives refuses most start new read written outside status → StopsAmong gives refuses most start new (read ++ more) written outside status
+unfolding broke_more
+stops_more gives refuses most start new read written more outside Done h = absurd h
+stops_more gives refuses most start new read written more outside Usage h = absurd h
+stops_more gives refuses most start new read written more outside SourceFault h = absurd h
+stops_more gives refuses most start new read written more outside (Script line column kind) h = (
   h.0,
   h.1 ++ more,
   h.2,
@@ -68,25 +70,25 @@ stops_more gives refuses start new read written more outside (Script line column
   h.5,
   h.6,
 )
-stops_more gives refuses start new read written more outside TooLong h = (
+stops_more gives refuses most start new read written more outside TooLong h = (
   h.0,
   h.1 ++ more,
   ran_more false read h.0 h.1 written more outside new h.2,
   (h.3.0, h.3.1, h.3.2 ++ more, rw (h.3.3, append_assoc h.3.0 (h.3.1 ∷ h.3.2) more) refl, h.3.4, h.3.5, h.3.6),
 )
-stops_more gives refuses start new read written more outside SinkFault h = (h.0, h.1 ++ more, broke_more read h.0 h.1 written more outside new h.2)
-stops_more gives refuses start new read written more outside Memory h =
+stops_more gives refuses most start new read written more outside SinkFault h = (h.0, h.1 ++ more, broke_more read h.0 h.1 written more outside new h.2, h.3)
+stops_more gives refuses most start new read written more outside Memory h =
     (h.0, (h.1.0, h.1.1 ++ more, h.1.2, ran_more false read h.1.0 h.1.1 h.1.2 more outside h.0 h.1.3, h.1.4))
 
-pub advances_stop : {M : Type 0} (gives : Gives M) (refuses : Refuses M) (a b c : Option (List ℕ)) (p q : Place M) (new : M) (bs cs more all : List ℕ) (status : Status)
-    → Advances gives a b p bs q → Stops gives refuses b c q new cs status → all ≡ (bs ++ cs) ++ more → Stops gives refuses a c p new all status
-advances_stop gives refuses a b c p q new bs cs more all status first stop e = (
+pub advances_stop : {M : Type 0} (gives : Gives M) (refuses : Refuses M) (most : ℕ) (a b c : Option (List ℕ)) (p q : Place M) (new : M) (bs cs more all : List ℕ) (status : Status)
+    → Advances gives a b p bs q → Stops gives refuses most b c q new cs status → all ≡ (bs ++ cs) ++ more → Stops gives refuses most a c p new all status
+advances_stop gives refuses most a b c p q new bs cs more all status first stop e = (
   first.0 ++ stop.0,
   first.1 ++ stop.1,
   Appends-trans a b c first.0 stop.0 first.2 stop.2,
   λ start read report outside s.
       rw (e, ← append_assoc read (bs ++ cs) more, ← append_assoc read bs cs, ← append_assoc report first.0 stop.0, ← append_assoc outside first.1 stop.1)
-      (stops_more gives refuses start new ((read ++ bs) ++ cs) ((report ++ first.0) ++ stop.0) more ((outside ++ first.1) ++ stop.1) status
+      (stops_more gives refuses most start new ((read ++ bs) ++ cs) ((report ++ first.0) ++ stop.0) more ((outside ++ first.1) ++ stop.1) status
       (stop.3 start (read ++ bs) (report ++ first.0) (outside ++ first.1) (first.3 start read report outside s))),
 )
 
@@ -107,26 +109,27 @@ broke_all all read front rest written outside new b = record {
   answers = b.answers;
   state = b.state;
   runs = b.runs;
-  part = b.part;
-  missing = b.missing;
+  text = b.text;
   answered = b.answered;
   did = b.did;
+  missing = b.missing;
   some = b.some;
   wrote = b.wrote;
+  late = b.late;
   said = b.said;
 }
 
 -- a run that ended on the way has its status whatever came after
-pub answers_all : {M : Type 0} (gives : Gives M) (refuses : Refuses M) (start new : M) (all : Bool) (read written : List ℕ) (outside : List (List ℕ)) (status : Status)
-    → StopsAmong gives refuses start new read written outside status → Answers gives refuses start new all read written outside status
-answers_all gives refuses start new all read written outside Done h = absurd h
-answers_all gives refuses start new all read written outside Usage h = absurd h
-answers_all gives refuses start new all read written outside SourceFault h = absurd h
-answers_all gives refuses start new all read written outside (Script line column kind) h =
+pub answers_all : {M : Type 0} (gives : Gives M) (refuses : Refuses M) (most : ℕ) (start new : M) (all : Bool) (read written : List ℕ) (outside : List (List ℕ)) (status : Status)
+    → StopsAmong gives refuses most start new read written outside status → Answers gives refuses start new all read written outside status
+answers_all gives refuses most start new all read written outside Done h = absurd h
+answers_all gives refuses most start new all read written outside Usage h = absurd h
+answers_all gives refuses most start new all read written outside SourceFault h = absurd h
+answers_all gives refuses most start new all read written outside (Script line column kind) h =
     (h.0, h.1, h.2, h.3, elim h.4 [ inl n ↦ inl n | inr n ↦ absurd (false≢true n.0) ], h.5, h.6)
-answers_all gives refuses start new all read written outside TooLong h = h
-answers_all gives refuses start new all read written outside SinkFault h = (h.0, h.1, broke_all all read h.0 h.1 written outside new h.2)
-answers_all gives refuses start new all read written outside Memory h = (h.0, (h.1.0, h.1.1, h.1.2, ran_all all read h.1.0 h.1.1 h.1.2 outside h.0 h.1.3, h.1.4))
+answers_all gives refuses most start new all read written outside TooLong h = h
+answers_all gives refuses most start new all read written outside SinkFault h = (h.0, h.1, broke_all all read h.0 h.1 written outside new h.2)
+answers_all gives refuses most start new all read written outside Memory h = (h.0, (h.1.0, h.1.1, h.1.2, ran_all all read h.1.0 h.1.1 h.1.2 outside h.0 h.1.3, h.1.4))
 
 -- a list of no length is empty, and others aren't
 pub none_of : (xs : List ℕ) → true ≡ eqb (length xs) 0 → xs ≡ []
@@ -171,12 +174,13 @@ last_broke read report part missing outside answered new p s some did left = rec
   answers = outside;
   state = p.state;
   runs = s.ran.runs;
-  part = part;
-  missing = missing;
+  text = part ++ missing;
   answered = answered;
   did = did;
+  missing = missing;
   some = left;
-  wrote = refl;
+  wrote = sym (append_assoc report part missing);
+  late = omega (arith, length-append report part);
   said = refl;
 }
 
@@ -226,15 +230,15 @@ line_advances a b p q text answered free held gives pending count bytes =
     (text, answered, held, λ start read report outside s. stands_line read report text outside answered p q s free gives pending count bytes)
 
 pub full_stops : {M : Type 0} (gives : Gives M) (refuses : Refuses M) (a : Option (List ℕ)) (p : Place M) (b : ℕ) → IsFull p.pending p.lines p.bytes
-    → Stops gives refuses a a p p.state (b ∷ []) TooLong
+    → Stops gives refuses 0 a a p p.state (b ∷ []) TooLong
 full_stops gives refuses a p b passed = ([], [], Appends-nil a, λ start read report outside s. stop_long gives refuses read report outside b p s passed)
 
 pub memory_stops : {M : Type 0} (gives : Gives M) (refuses : Refuses M) (a b : Option (List ℕ)) (p : Place M) (new : M) (bs : List ℕ) → Appends a b []
-    → Stops gives refuses a b p new bs Memory
+    → Stops gives refuses 0 a b p new bs Memory
 memory_stops gives refuses a b p new bs held = ([], [], held, λ start read report outside s. stop_memory gives refuses new read report bs outside p s)
 
 pub line_stops : {M : Type 0} (gives : Gives M) (refuses : Refuses M) (a b : Option (List ℕ)) (p : Place M) (new : M) (status : Status) → HasRoom p.pending p.lines p.bytes
-    → LineStops gives refuses a b p.state new (strip_carriage_return p.pending) (p.lines + 1) status → Stops gives refuses a b p new (10 ∷ []) status
+    → LineStops gives refuses a b p.state new (strip_carriage_return p.pending) (p.lines + 1) status → Stops gives refuses 0 a b p new (10 ∷ []) status
 line_stops gives refuses a b p new Done free h = absurd h
 line_stops gives refuses a b p new Usage free h = absurd h
 line_stops gives refuses a b p new SourceFault free h = absurd h

@@ -54,7 +54,7 @@ goes_counted {start = start} l0 l1 h0 h1 h2 p q piece go step =
     rw (s.size, length-append go.0 piece, go.5.size) refl
 
 pub goes_stop : {M : Type 0} (gives : Gives M) (refuses : Refuses M) (start new : M) (l0 l1 l2 h0 h1 h2 : Option (List ℕ)) (p : Place M) (piece : List ℕ) (status : Status)
-    → Goes gives start l0 l1 h0 h1 p → Consumes l1 l2 piece → p.bytes + length piece ≤ 16777217 → Stops gives refuses h1 h2 p new piece status
+    → Goes gives start l0 l1 h0 h1 p → Consumes l1 l2 piece → p.bytes + length piece ≤ 16777217 → Stops gives refuses 65536 h1 h2 p new piece status
     → (outside : List (List ℕ)) × Reports gives refuses start new l0 l2 h0 h2 outside status
 goes_stop gives refuses start new l0 l1 l2 h0 h1 h2 p piece status go took few stop = (
   go.2 ++ stop.1,
@@ -63,15 +63,15 @@ goes_stop gives refuses start new l0 l1 l2 h0 h1 h2 p piece status go took few s
     go.1 ++ stop.0,
     Consumes-trans l0 l1 l2 go.0 piece go.3 took,
     Appends-trans h0 h1 h2 go.1 stop.0 go.4 stop.2,
-    answers_all gives refuses start new (is_at_end l2) (go.0 ++ piece) (go.1 ++ stop.0) (go.2 ++ stop.1) status (stop.3 start go.0 go.1 go.2 go.5),
+    answers_all gives refuses 65536 start new (is_at_end l2) (go.0 ++ piece) (go.1 ++ stop.0) (go.2 ++ stop.1) status (stop.3 start go.0 go.1 go.2 go.5),
     (let read = length-append go.0 piece in let size = go.5.size in omega (arith, read, size, few)),
   ),
 )
 
 pub goes_no_source_fault : {M : Type 0} (gives : Gives M) (refuses : Refuses M) (start new : M) (l0 l1 h0 h1 h2 : Option (List ℕ)) (p : Place M) (piece : List ℕ) (status : Status)
-    → Goes gives start l0 l1 h0 h1 p → Stops gives refuses h1 h2 p new piece status → status ≢ SourceFault
+    → Goes gives start l0 l1 h0 h1 p → Stops gives refuses 65536 h1 h2 p new piece status → status ≢ SourceFault
 goes_no_source_fault gives refuses start new l0 l1 h0 h1 h2 p piece status go stop e =
-    let Among : Status → Type 0 = λ s. StopsAmong gives refuses start new (go.0 ++ piece) (go.1 ++ stop.0) (go.2 ++ stop.1) s in
+    let Among : Status → Type 0 = λ s. StopsAmong gives refuses 65536 start new (go.0 ++ piece) (go.1 ++ stop.0) (go.2 ++ stop.1) s in
     subst Among e (stop.3 start go.0 go.1 go.2 go.5)
 
 at_end_is : (left : Option (List ℕ)) → IsAtEnd left → is_at_end left ≡ true

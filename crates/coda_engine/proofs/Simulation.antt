@@ -1,5 +1,5 @@
 -- What a machine reports, a plainer machine reports whose states it shows.
-use Rattle.std.proofs.Common.{◌≢◌, ℕ, Bool, List, [], ◌∷◌, ◌++◌, refl, Option}
+use Rattle.std.proofs.Common.{◌≢◌, ℕ, Bool, List, [], ◌∷◌, refl, Option}
 use Rattle.coda_engine.specs.Machine.{Gives, Refuses}
 use Rattle.coda_engine.specs.Run.{Runs, Ran, BrokeOff, Answers, Reports, is_at_end}
 use Rattle.coda_engine.specs.declared.status.Kind.{Kind}
@@ -36,7 +36,7 @@ pub broke_shown : {P M : Type 0} {Shows : P → M → Type 0} {plain : Gives P} 
     → (p' : P) × BrokeOff plain p all read front rest written outside p' × Shows p' m'
 broke_shown sim p m m' all read front rest written outside shows b =
     let run = runs_shown sim p m b.state b.before b.report b.answers shows b.runs in
-    let last = sim.step run.0 b.state m' b.line (b.part ++ b.missing) b.answered run.2 b.did in (
+    let last = sim.step run.0 b.state m' b.line b.text b.answered run.2 b.did in (
       last.0,
       record {
         split = b.split;
@@ -49,12 +49,13 @@ broke_shown sim p m m' all read front rest written outside shows b =
         answers = b.answers;
         state = run.0;
         runs = run.1;
-        part = b.part;
-        missing = b.missing;
+        text = b.text;
         answered = b.answered;
         did = last.1;
+        missing = b.missing;
         some = b.some;
         wrote = b.wrote;
+        late = b.late;
         said = b.said;
       },
       last.2,

@@ -1,5 +1,5 @@
 -- What a byte, a line and a stop do to where a run stands.
-use Rattle.std.proofs.Common.{◌≡◌, ◌≢◌, ℕ, ◌+◌, ◌<◌, Bool, false, List, [], ◌∷◌, ◌++◌, length, refl, ap, ◌∙◌, append_assoc, inl, inr, arith, length-append}
+use Rattle.std.proofs.Common.{◌≡◌, ◌≢◌, ℕ, ◌+◌, ◌<◌, Bool, false, List, [], ◌∷◌, ◌++◌, length, refl, sym, ap, ◌∙◌, append_assoc, inl, inr, arith, length-append}
 use Rattle.std.specs.Str.Lines.{lines, strip_carriage_return}
 use Rattle.std.proofs.lemmas.List.{append-nil}
 use Rattle.std.proofs.lemmas.List.Elements.{All-push, All-nil}
@@ -8,7 +8,7 @@ use Rattle.std.proofs.lemmas.Bool.Decides.{eqb_tells}
 use Rattle.coda_engine.specs.Lines.{HasNoNewline, IsWholeLines, IsWithinLimits}
 use Rattle.coda_engine.specs.Machine.{Gives, Refuses}
 use Rattle.coda_engine.specs.Run.{Runs, Ran, Answers}
-use Rattle.coda_engine.specs.Reading.{Place, HasRoom, IsFull, Stands}
+use Rattle.coda_engine.specs.Reading.{Place, HasRoom, IsFull, Stands, StopsAmong}
 use Rattle.coda_engine.specs.declared.status.Kind.{Kind}
 use Rattle.coda_engine.specs.declared.status.Status.TheVariants.{Script, SinkFault, TooLong, Memory}
 use Rattle.coda_engine.proofs.Splitting.{lines-more, lines-ended, lines-last}
@@ -174,7 +174,7 @@ stop_script gives refuses read report outside column kind place s free refused =
 pub stop_sink : {M : Type 0} (gives : Gives M) (refuses : Refuses M) {start : M} (read report part missing : List ℕ) (outside answered : List (List ℕ)) (new : M) (place : Place M)
     → Stands gives start read report outside place → HasRoom place.pending place.lines place.bytes
     → gives place.state (strip_carriage_return place.pending) (part ++ missing) answered new → missing ≢ []
-    → Answers gives refuses start new false (read ++ 10 ∷ []) (report ++ part) (outside ++ answered) SinkFault
+    → StopsAmong gives refuses 0 start new (read ++ 10 ∷ []) (report ++ part) (outside ++ answered) SinkFault
 stop_sink gives refuses read report part missing outside answered new place s free did some = (
   read ++ 10 ∷ [],
   [],
@@ -189,14 +189,16 @@ stop_sink gives refuses read report part missing outside answered new place s fr
     answers = outside;
     state = place.state;
     runs = s.ran.runs;
-    part = part;
-    missing = missing;
+    text = part ++ missing;
     answered = answered;
     did = did;
+    missing = missing;
     some = some;
-    wrote = refl;
+    wrote = sym (append_assoc report part missing);
+    late = omega (arith, length-append report part);
     said = refl;
   },
+  omega (arith, length-append report part),
 )
 
 -- want of memory

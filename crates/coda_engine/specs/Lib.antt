@@ -4,5 +4,7 @@ pub mod Status
 pub mod Run
 pub mod Exact
 pub mod Reading
+pub mod Gathering
 pub mod Place
+pub mod Waiting
 pub use Rattle.coda_io.specs.Faults

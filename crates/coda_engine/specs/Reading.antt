@@ -1,10 +1,10 @@
 -- Where a reader of a script stands between two bytes.
-use Rattle.std.specs.Prelude.{◌≡◌, ◌≢◌, ℕ, ◌<◌, ◌≤◌, ◌⊎◌, true, false, List, [], ◌++◌, length, Option}
+use Rattle.std.specs.Prelude.{◌≡◌, ◌≢◌, ℕ, ◌+◌, ◌<◌, ◌≤◌, ◌⊎◌, true, false, List, [], ◌++◌, length, Option}
 use Rattle.std.specs.Str.Lines.{lines}
 use Rattle.std.specs.Io.KnownBytes.{Appends, Consumes}
 use Rattle.coda_engine.specs.Lines.{HasNoNewline, IsWithinLimits}
 use Rattle.coda_engine.specs.Machine.{Gives, Refuses}
-use Rattle.coda_engine.specs.Run.{Ran, Answers}
+use Rattle.coda_engine.specs.Run.{Ran, BrokeOff, Answers}
 use Rattle.coda_engine.specs.declared.status.Status.{Status}
 use Rattle.coda_engine.specs.declared.status.Status.TheVariants.{Done, Usage, Script, SourceFault, SinkFault, TooLong, Memory}
 
@@ -53,22 +53,25 @@ Advances {M} gives held_old held_new old bytes new =
     × ((start : M) (read report : List ℕ) (outside : List (List ℕ)) → Stands gives start read report outside old
     → Stands gives start (read ++ bytes) (report ++ text) (outside ++ answered) new)
 
--- the statuses that end a run among these bytes
-abbrev pub StopsAmong : {M : Type 0} → Gives M → Refuses M → M → M → List ℕ → List ℕ → List (List ℕ) → Status → Type 0
-StopsAmong gives refuses start new read written outside Done = ⊥
-StopsAmong gives refuses start new read written outside Usage = ⊥
-StopsAmong gives refuses start new read written outside SourceFault = ⊥
-StopsAmong gives refuses start new read written outside (Script line column kind) = Answers gives refuses start new false read written outside (Script line column kind)
-StopsAmong gives refuses start new read written outside SinkFault = Answers gives refuses start new false read written outside SinkFault
-StopsAmong gives refuses start new read written outside TooLong = Answers gives refuses start new false read written outside TooLong
-StopsAmong gives refuses start new read written outside Memory = Answers gives refuses start new false read written outside Memory
+-- The statuses that end a run among these bytes. Where the sink refused, at most so many bytes are missing of the replies to the
+-- lines before the last.
+abbrev pub StopsAmong : {M : Type 0} → Gives M → Refuses M → ℕ → M → M → List ℕ → List ℕ → List (List ℕ) → Status → Type 0
+StopsAmong gives refuses most start new read written outside Done = ⊥
+StopsAmong gives refuses most start new read written outside Usage = ⊥
+StopsAmong gives refuses most start new read written outside SourceFault = ⊥
+StopsAmong gives refuses most start new read written outside (Script line column kind) = Answers gives refuses start new false read written outside (Script line column kind)
+StopsAmong gives refuses most start new read written outside SinkFault =
+    (front : List ℕ) × (rest : List ℕ) × (broke : BrokeOff gives start false read front rest written outside new) × (length broke.report ≤ length written + most)
+StopsAmong gives refuses most start new read written outside TooLong = Answers gives refuses start new false read written outside TooLong
+StopsAmong gives refuses most start new read written outside Memory = Answers gives refuses start new false read written outside Memory
 
--- The run ended among these further bytes, and left the machine at new.
-abbrev pub Stops : {M : Type 0} → Gives M → Refuses M → Option (List ℕ) → Option (List ℕ) → Place M → M → List ℕ → Status → Type 0
-Stops {M} gives refuses held_old held_new old new bytes status =
+-- The run ended among these further bytes, and left the machine at new. Where the sink refused, at most so many bytes are missing of
+-- the replies to the lines before the last.
+abbrev pub Stops : {M : Type 0} → Gives M → Refuses M → ℕ → Option (List ℕ) → Option (List ℕ) → Place M → M → List ℕ → Status → Type 0
+Stops {M} gives refuses most held_old held_new old new bytes status =
     (text : List ℕ) × (answered : List (List ℕ)) × Appends held_old held_new text
     × ((start : M) (read report : List ℕ) (outside : List (List ℕ)) → Stands gives start read report outside old
-    → StopsAmong gives refuses start new (read ++ bytes) (report ++ text) (outside ++ answered) status)
+    → StopsAmong gives refuses most start new (read ++ bytes) (report ++ text) (outside ++ answered) status)
 
 -- The input ended here, and the run left the machine at new.
 abbrev pub Ends : {M : Type 0} → Gives M → Refuses M → Option (List ℕ) → Option (List ℕ) → Place M → M → Status → Type 0

@@ -44,8 +44,8 @@ abbrev pub IsCutShort : {M : Type 0} → Gives M → M → M → Bool → List �
 IsCutShort gives start new all read written outside =
     (front : List ℕ) × (rest : List ℕ) × (report : List ℕ) × Ran gives start all read front rest report outside new × IsPrefix written report
 
--- Of the bytes read, those in front are whole lines within the limits, and the machine ran them. Of the reply to the last of
--- them only a front was written, behind the whole report of the lines before it.
+-- Of the bytes read, those in front are whole lines within the limits, and the machine ran them. Of their report only a front was
+-- written; of the replies to the lines before the last at most 64 KiB are missing, which were gathered.
 pub record BrokeOff {M : Type 0} (gives : Gives M) (start : M) (all : Bool) (read front rest written : List ℕ) (outside : List (List ℕ)) (new : M) : Type 0 where
   pub split : read ≡ front ++ rest
   pub whole : IsWholeLines front ⊎ (IsTrue all × (rest ≡ []))
@@ -57,12 +57,13 @@ pub record BrokeOff {M : Type 0} (gives : Gives M) (start : M) (all : Bool) (rea
   pub answers : List (List ℕ)
   pub state : M
   pub runs : Runs gives start before report answers state
-  pub part : List ℕ
-  pub missing : List ℕ
+  pub text : List ℕ
   pub answered : List (List ℕ)
-  pub did : gives state line (part ++ missing) answered new
+  pub did : gives state line text answered new
+  pub missing : List ℕ
   pub some : missing ≢ []
-  pub wrote : written ≡ report ++ part
+  pub wrote : report ++ text ≡ written ++ missing
+  pub late : length report ≤ length written + 65536
   pub said : outside ≡ answers ++ answered
 
 -- A run from start that left new, read these bytes, which may be all there are, wrote these, and had these answers of the
@@ -80,7 +81,7 @@ Answers gives refuses start new all read written outside TooLong =
 -- all whole lines ran
 Answers gives refuses start new all read written outside SourceFault =
     (front : List ℕ) × (rest : List ℕ) × Ran gives start false read front rest written outside new × HasNoNewline rest × IsWithinLimits read
--- the lines up to the one whose reply wasn't written whole ran
+-- some whole lines ran, and not all of their report was written
 Answers gives refuses start new all read written outside SinkFault =
     (front : List ℕ) × (rest : List ℕ) × BrokeOff gives start all read front rest written outside new
 -- some whole lines ran; what the machine is after the line that found no memory isn't said

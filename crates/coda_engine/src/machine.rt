@@ -22,7 +22,7 @@ pub enum LineStop {
 
 /// What runs the lines of a script, one after another.
 pub trait Machine {
-    ghost use Rattle.std.specs.Prelude.{ℕ, List, IfOk, IfErr};
+    ghost use Rattle.std.specs.Prelude.{ℕ, ◌≤◌, ◌+◌, List, IfOk, IfErr, OnOk};
     ghost use Rattle.coda_engine.specs.declared.status.Kind.{Kind};
     ghost use Rattle.coda_engine.specs.Machine.{HasReason};
 
@@ -33,13 +33,18 @@ pub trait Machine {
     // In this state the line is refused at this column, for this.
     ghost refuses: { Self → List ℕ → ℕ → Kind → Type 0 };
 
+    // After so many lines the machine may run another.
+    ghost ready: { Self → ℕ → Type 0 };
+
     /// Runs a line, which has no newline, and answers the bytes of its reply: none, or lines that each have their
-    /// newline.
+    /// newline. A script has at most 16,777,216 lines.
     ///
     /// # Errors
     ///
     /// `Refused` where the machine refuses the line; nothing has changed then. `Memory` where there was no memory.
     fn run(&mut self, alloc: Global, line: &[u8]) -> Result<Vec<u8>, LineStop>
+        requires { (lines : ℕ) × (lines ≤ 16777216) × ready self.old lines }
+        ensures ready { OnOk result ((lines : ℕ) → ready self.old lines → ready self.new (lines + 1)) }
         ensures ok { IfOk result (λ text. (outside : List (List ℕ)) × gives self.old line.now text.items outside self.new) }
         ensures reason { IfErr result (HasReason refuses self.old line.now self.new) };
 }

@@ -1,13 +1,13 @@
 // The reading of a script, byte by byte.
-ghost use Rattle.std.specs.Prelude.{◌≡◌, ◌≤◌, ℕ, List, IfErr, OnOk, Err};
+ghost use Rattle.std.specs.Prelude.{◌≡◌, ◌≤◌, ℕ, ◌+◌, List, IfErr, OnOk, Err};
 ghost use Rattle.std.specs.Str.Lines.{strip_carriage_return};
-ghost use Rattle.std.specs.Io.KnownBytes.{Appends};
 ghost use Rattle.coda_io.specs.Faults.{Rose};
-ghost use Rattle.coda_engine.specs.Reading.{LineStops};
+ghost use Rattle.coda_engine.specs.Gathering.{Forwards, LineHalts};
+ghost use Rattle.coda_engine.specs.Waiting.{waiting};
 
+use crate::gathering::Gathered;
 use crate::machine::{LineStop, Machine};
 use crate::status::Status;
-use crate::writing::write_all;
 use coda_io::Sink;
 use std::alloc::Global;
 
@@ -40,22 +40,25 @@ fn without_carriage_return(line: &[u8]) -> &[u8]
     }
 }
 
-// Runs a line and writes its reply.
+// Runs a line, and its reply comes behind those that were gathered.
 fn run_line<M: Machine, K: Sink>(
     alloc: Global,
     machine: &mut M,
     number: u32,
     line: &[u8],
+    gathered: &mut Gathered,
     sink: &mut K,
 ) -> Result<(), Status>
-    ensures ok { OnOk result ((text : List ℕ) × (answered : List (List ℕ)) × Appends (K.held sink.old) (K.held sink.new) text
+    requires { (lines : ℕ) × (lines ≤ 16777216) × M.ready machine.old lines }
+    ensures ready { OnOk result ((lines : ℕ) → M.ready machine.old lines → M.ready machine.new (lines + 1)) }
+    ensures ok { OnOk result ((text : List ℕ) × (answered : List (List ℕ)) × Forwards (K.held sink.old) (K.held sink.new) (waiting gathered.old) (waiting gathered.new) text
         × M.gives machine.old line.now text answered machine.new) }
-    ensures stops { IfErr result (LineStops M.gives M.refuses (K.held sink.old) (K.held sink.new) machine.old machine.new line.now number) }
+    ensures stops { IfErr result (LineHalts M.gives M.refuses (K.held sink.old) (K.held sink.new) (waiting gathered.old) (waiting gathered.new) machine.old machine.new line.now number) }
     ensures later { K.faults sink.old ≤ K.faults sink.new }
     ensures sink_fault { result ≡ Err Status.SinkFault → Rose (K.faults sink.old) (K.faults sink.new) }
 {
     match machine.run(alloc, line) {
-        Ok(text) => match write_all(sink, &text) {
+        Ok(text) => match gathered.add(&text, sink) {
             Ok(()) => Ok(()),
             Err(_) => Err(Status::SinkFault),
         },
@@ -72,7 +75,9 @@ impl Reader {
     ghost use Rattle.std.specs.Prelude.{◌≡◌, ◌<◌, ◌≤◌, ◌+◌, ◌∷◌, [], IfErr, OnOk, Err, MatchBool};
     ghost use Rattle.coda_io.specs.Faults.{Rose};
     ghost use Rattle.coda_engine.specs.Reading.{HasRoom, IsFull, Advances, Stops, Ends};
+    ghost use Rattle.coda_engine.specs.Gathering.{Gathers, Halts};
     ghost use Rattle.coda_engine.specs.Place.{place};
+    ghost use Rattle.coda_engine.specs.Waiting.{waiting};
 
     /// A reader at the start of a script.
     pub fn new(alloc: Global) -> Reader
@@ -106,15 +111,22 @@ impl Reader {
     }
 
     // Runs the line under way, which a newline ends.
-    fn end_line<M: Machine, K: Sink>(&mut self, machine: &mut M, sink: &mut K) -> Result<(), Status>
-        requires { HasRoom self.old.pending.items self.old.lines self.old.bytes }
-        ensures ok { OnOk result (Advances M.gives (K.held sink.old) (K.held sink.new) (place machine.old self.old) (10 ∷ []) (place machine.new self.new)) }
-        ensures stops { IfErr result (Stops M.gives M.refuses (K.held sink.old) (K.held sink.new) (place machine.old self.old) machine.new (10 ∷ [])) }
+    fn end_line<M: Machine, K: Sink>(
+        &mut self,
+        machine: &mut M,
+        gathered: &mut Gathered,
+        sink: &mut K,
+    ) -> Result<(), Status>
+        requires room { HasRoom self.old.pending.items self.old.lines self.old.bytes }
+        requires ready { M.ready machine.old self.old.lines }
+        ensures ready { OnOk result (M.ready machine.new self.new.lines) }
+        ensures ok { OnOk result (Gathers M.gives (K.held sink.old) (K.held sink.new) (waiting gathered.old) (waiting gathered.new) (place machine.old self.old) (10 ∷ []) (place machine.new self.new)) }
+        ensures stops { IfErr result (Halts M.gives M.refuses (K.held sink.old) (K.held sink.new) (waiting gathered.old) (waiting gathered.new) (place machine.old self.old) machine.new (10 ∷ [])) }
         ensures later { K.faults sink.old ≤ K.faults sink.new }
         ensures sink_fault { result ≡ Err Status.SinkFault → Rose (K.faults sink.old) (K.faults sink.new) }
     {
         let line = without_carriage_return(&self.pending);
-        run_line(self.alloc, machine, self.lines + 1, line, sink)?;
+        run_line(self.alloc, machine, self.lines + 1, line, gathered, sink)?;
         self.pending.clear();
         self.bytes += 1;
         self.lines += 1;
@@ -126,10 +138,13 @@ impl Reader {
         &mut self,
         machine: &mut M,
         byte: u8,
+        gathered: &mut Gathered,
         sink: &mut K,
     ) -> Result<(), Status>
-        ensures ok { OnOk result (Advances M.gives (K.held sink.old) (K.held sink.new) (place machine.old self.old) (byte ∷ []) (place machine.new self.new)) }
-        ensures stops { IfErr result (Stops M.gives M.refuses (K.held sink.old) (K.held sink.new) (place machine.old self.old) machine.new (byte ∷ [])) }
+        requires { M.ready machine.old self.old.lines }
+        ensures ready { OnOk result (M.ready machine.new self.new.lines) }
+        ensures ok { OnOk result (Gathers M.gives (K.held sink.old) (K.held sink.new) (waiting gathered.old) (waiting gathered.new) (place machine.old self.old) (byte ∷ []) (place machine.new self.new)) }
+        ensures stops { IfErr result (Halts M.gives M.refuses (K.held sink.old) (K.held sink.new) (waiting gathered.old) (waiting gathered.new) (place machine.old self.old) machine.new (byte ∷ [])) }
         ensures later { K.faults sink.old ≤ K.faults sink.new }
         ensures sink_fault { result ≡ Err Status.SinkFault → Rose (K.faults sink.old) (K.faults sink.new) }
     {
@@ -137,7 +152,7 @@ impl Reader {
             return Err(Status::TooLong);
         }
         if byte == NEWLINE {
-            return self.end_line(machine, sink);
+            return self.end_line(machine, gathered, sink);
         }
         if self.pending.push(byte).is_err() {
             return Err(Status::Memory);
@@ -146,7 +161,28 @@ impl Reader {
         Ok(())
     }
 
-    /// Takes a piece of the script, and runs each line as soon as its newline comes.
+    // Takes a piece of the script, and runs each line as soon as its newline comes.
+    fn take<M: Machine, K: Sink>(
+        &mut self,
+        machine: &mut M,
+        piece: &[u8],
+        gathered: &mut Gathered,
+        sink: &mut K,
+    ) -> Result<(), Status>
+        requires { M.ready machine.old self.old.lines }
+        ensures ready { OnOk result (M.ready machine.new self.new.lines) }
+        ensures ok { OnOk result (Gathers M.gives (K.held sink.old) (K.held sink.new) (waiting gathered.old) (waiting gathered.new) (place machine.old self.old) piece.now (place machine.new self.new)) }
+        ensures stops { IfErr result (Halts M.gives M.refuses (K.held sink.old) (K.held sink.new) (waiting gathered.old) (waiting gathered.new) (place machine.old self.old) machine.new piece.now) }
+        ensures later { K.faults sink.old ≤ K.faults sink.new }
+        ensures sink_fault { result ≡ Err Status.SinkFault → Rose (K.faults sink.old) (K.faults sink.new) }
+    {
+        for byte in piece {
+            self.take_byte(machine, *byte, gathered, sink)?;
+        }
+        Ok(())
+    }
+
+    /// Takes a piece of the script, runs each line as soon as its newline comes, and writes the replies.
     ///
     /// # Errors
     ///
@@ -157,19 +193,26 @@ impl Reader {
         piece: &[u8],
         sink: &mut K,
     ) -> Result<(), Status>
+        requires { M.ready machine.old self.old.lines }
+        ensures ready { OnOk result (M.ready machine.new self.new.lines) }
         ensures ok { OnOk result (Advances M.gives (K.held sink.old) (K.held sink.new) (place machine.old self.old) piece.now (place machine.new self.new)) }
-        ensures stops { IfErr result (Stops M.gives M.refuses (K.held sink.old) (K.held sink.new) (place machine.old self.old) machine.new piece.now) }
+        ensures stops { IfErr result (Stops M.gives M.refuses 65536 (K.held sink.old) (K.held sink.new) (place machine.old self.old) machine.new piece.now) }
         ensures later { K.faults sink.old ≤ K.faults sink.new }
         ensures sink_fault { result ≡ Err Status.SinkFault → Rose (K.faults sink.old) (K.faults sink.new) }
     {
-        for byte in piece {
-            self.take_byte(machine, *byte, sink)?;
+        let mut gathered = Gathered::new(self.alloc);
+        match self.take(machine, piece, &mut gathered, sink) {
+            Ok(()) => match gathered.flush(sink) {
+                Ok(()) => Ok(()),
+                Err(_) => Err(Status::SinkFault),
+            },
+            Err(status) => Err(gathered.close(status, sink)),
         }
-        Ok(())
     }
 
-    /// Ends the script: runs a last line that has no newline.
+    /// Ends the script: runs a last line that has no newline, and writes its reply.
     pub fn finish<M: Machine, K: Sink>(self, machine: &mut M, sink: &mut K) -> Status
+        requires { M.ready machine.old self.lines }
         ensures ends { Ends M.gives M.refuses (K.held sink.old) (K.held sink.new) (place machine.old self) machine.new result }
         ensures no_source_fault { result ≡ Status.SourceFault → ⊥ }
         ensures later { K.faults sink.old ≤ K.faults sink.new }
@@ -179,8 +222,16 @@ impl Reader {
         if line.is_empty() {
             return Status::Done;
         }
-        match run_line(self.alloc, machine, self.lines + 1, line, sink) {
-            Ok(()) => Status::Done,
+        let mut gathered = Gathered::new(self.alloc);
+        match run_line(
+            self.alloc,
+            machine,
+            self.lines + 1,
+            line,
+            &mut gathered,
+            sink,
+        ) {
+            Ok(()) => gathered.close(Status::Done, sink),
             Err(status) => status,
         }
     }

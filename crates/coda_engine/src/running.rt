@@ -26,7 +26,8 @@ fn run_pieces<M: Machine, S: Source, K: Sink>(
     source: &mut S,
     sink: &mut K,
 ) -> Status
-    requires { 0 < length buffer.old }
+    requires some { 0 < length buffer.old }
+    requires ready { M.ready machine.old 0 }
     ensures report { (outside : List (List ℕ)) × Reports M.gives M.refuses machine.old machine.new (S.left source.old) (S.left source.new) (K.held sink.old) (K.held sink.new) outside result }
     ensures source_fault { result ≡ Status.SourceFault → Rose (S.faults source.old) (S.faults source.new) }
     ensures sink_fault { result ≡ Status.SinkFault → Rose (K.faults sink.old) (K.faults sink.new) }
@@ -59,6 +60,7 @@ pub fn run<M: Machine, S: Source, K: Sink>(
     source: &mut S,
     sink: &mut K,
 ) -> Status
+    requires { M.ready machine.old 0 }
     ensures report { (outside : List (List ℕ)) × Reports M.gives M.refuses machine.old machine.new (S.left source.old) (S.left source.new) (K.held sink.old) (K.held sink.new) outside result }
     ensures source_fault { result ≡ Status.SourceFault → Rose (S.faults source.old) (S.faults source.new) }
     ensures sink_fault { result ≡ Status.SinkFault → Rose (K.faults sink.old) (K.faults sink.new) }

@@ -50,7 +50,7 @@ pub enum Status {
     Script { line: u32, column: u32, kind: Kind },
     /// A read of the script was refused.
     SourceFault,
-    /// A write of the report was refused, or took nothing: the last line that ran has its reply written in part or not at all.
+    /// A write of the report was refused, or took nothing: a front of the report of the lines that ran is written, not all of it.
     SinkFault,
     /// A byte was read that passes 16 MiB or begins line 200,001.
     TooLong,

@@ -1,28 +1,17 @@
-use Rattle.std.proofs.Common.{◌≡◌, ◌++◌, ◌∷◌, [], ◌+◌, get_or, take, drop, sym, ◌∙◌, ap, arith}
-use Rattle.std.proofs.lemmas.List.{take_more, take-append-drop}
-use Rattle.std.proofs.lemmas.Result.{err_from_is_err_and}
 use Rattle.coda_engine.specs.Place.{place}
-use Rattle.coda_engine.proofs.Feeding.{advances_none, advances_more, advances_stop}
+use Rattle.coda_engine.proofs.Forwarding.{few_wait, flush_advances, flush_stops, close_stops}
 use Rattle.coda_engine.proofs.reader.Reader.feed.Goals as goal
 
-pub loop-byte-init : goal.loop-byte-init
-loop-byte-init g c = (advances_none _ (place c.args.machine.now c.args.self.now), omega arith)
+pub returns-in-Ok-flush-clause-ok : goal.returns-in-Ok-flush-clause-ok
+returns-in-Ok-flush-clause-ok g c =
+    flush_advances _ _ _ _ _ _ (place c.args.machine.now c.args.self.now) (place c.take.new.machine c.take.new.self) _ c.new-gathered.ensures c.in-Ok.ensures.ok c.flush.ensures.sent c.in-Ok-flush.ensures.ok
 
-pub loop-byte-preserved : goal.loop-byte-preserved
-loop-byte-preserved g c =
-    let piece = c.args.piece.now in
-    let i = c.loop-byte.byte-index in (
-      rw (take_more piece i 0 c.loop-byte-test.true)
-          (advances_more _ _ _ (place c.args.machine.now c.args.self.now) (place c.loop-byte.machine c.loop-byte.self) (place c.take_byte.new.machine c.take_byte.new.self) (take i piece) _ c.loop-byte.invariant.0 c.in_ok-take_byte.ensures.ok),
-      omega arith,
-    )
+pub returns-in-Ok-clause-stops : goal.returns-in-Ok-clause-stops
+returns-in-Ok-clause-stops g c =
+    let left = c.flush.new.self in
+    flush_stops g.M.Machine.gives g.M.Machine.refuses _ _ _ _ _ _ (place c.args.machine.now c.args.self.now) (place c.take.new.machine c.take.new.self) _ c.new-gathered.ensures c.in-Ok.ensures.ok c.flush.ensures.sent c.in-Err-flush.ensures.err (few_wait left.bytes.items left.taken _ left.bytes.ok.0 left.few)
 
-pub returns-in_err-take_byte-clause-stops : goal.returns-in_err-take_byte-clause-stops
-returns-in_err-take_byte-clause-stops g c =
-    let piece = c.args.piece.now in
-    let i = c.loop-byte.byte-index in
-    let all : piece ≡ (take i piece ++ get_or piece i 0 ∷ []) ++ drop (i + 1) piece =
-    sym (take-append-drop (i + 1) piece) ∙ ap (λ front. front ++ drop (i + 1) piece) (take_more piece i 0 c.loop-byte-test.true) in
-    let p = err_from_is_err_and c.from_residual.result c.from_residual.ensures.1 in
-    rw (p.1, p.2)
-    (advances_stop g.M.Machine.gives g.M.Machine.refuses _ _ _ (place c.args.machine.now c.args.self.now) (place c.loop-byte.machine c.loop-byte.self) _ (take i piece) _ (drop (i + 1) piece) piece _ c.loop-byte.invariant.0 c.in_err-take_byte.ensures.stops all)
+pub returns-clause-stops : goal.returns-clause-stops
+returns-clause-stops g c =
+    let left = c.close.new.self in
+    close_stops g.M.Machine.gives g.M.Machine.refuses _ _ _ _ _ _ (place c.args.machine.now c.args.self.now) _ _ _ _ c.new-gathered.ensures c.in-Err.ensures.stops c.close.ensures.sent (few_wait left.bytes.items left.taken _ left.bytes.ok.0 left.few) c.close.ensures.closes

@@ -1,20 +1,19 @@
 use Rattle.std.proofs.Common.{rules, refl}
-use Rattle.std.proofs.KnownBytes.{Appends-nil}
 use Rattle.coda_engine.specs.Place.{place}
-use Rattle.coda_engine.proofs.Feeding.{byte_advances, full_stops, memory_stops}
+use Rattle.coda_engine.proofs.Forwarding.{byte_gathers, full_halts, memory_halts}
 use Rattle.coda_engine.proofs.reader.Reader.take_byte.Goals as goal
 
 pub returns-then-is_full-clause-stops : goal.returns-then-is_full-clause-stops
 returns-then-is_full-clause-stops g c =
-    full_stops g.M.Machine.gives g.M.Machine.refuses _ (place c.args.machine.now c.args.self.now) c.args.byte c.if-is_full.ensures
+    full_halts g.M.Machine.gives g.M.Machine.refuses _ _ (place c.args.machine.now c.args.self.now) c.args.byte c.if-is_full.ensures
 
 pub returns-then-byte-eq-NEWLINE-clause-ok : goal.returns-then-byte-eq-NEWLINE-clause-ok
 returns-then-byte-eq-NEWLINE-clause-ok g c = rw c.if-byte-eq-NEWLINE.true c.end_line.ensures.ok
 
 pub returns-then-is_err-clause-stops : goal.returns-then-is_err-clause-stops
 returns-then-is_err-clause-stops g c =
-    memory_stops g.M.Machine.gives g.M.Machine.refuses _ _ (place c.args.machine.now c.args.self.now) c.args.machine.now _ (Appends-nil _)
+    memory_halts g.M.Machine.gives g.M.Machine.refuses _ _ (place c.args.machine.now c.args.self.now) c.args.machine.now _
 
 pub returns-clause-ok : goal.returns-clause-ok
 returns-clause-ok g c =
-    byte_advances _ (place c.args.machine.now c.args.self.now) _ c.args.byte c.if-is_full.ensures c.if-byte-eq-NEWLINE.false refl (search rules) refl refl
+    byte_gathers _ _ (place c.args.machine.now c.args.self.now) _ c.args.byte c.if-is_full.ensures c.if-byte-eq-NEWLINE.false refl (search rules) refl refl

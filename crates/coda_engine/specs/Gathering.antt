@@ -1,0 +1,42 @@
+-- What lines do where their replies are gathered before the sink gets them.
+use Rattle.std.specs.Prelude.{◌≡◌, ◌≢◌, ℕ, ◌⊎◌, List, [], ◌++◌, Option, Some}
+use Rattle.std.specs.Io.KnownBytes.{Appends}
+use Rattle.coda_engine.specs.Machine.{Gives, Refuses}
+use Rattle.coda_engine.specs.Reading.{Place, LineStops, Advances, Stops}
+use Rattle.coda_engine.specs.declared.status.Status.{Status}
+use Rattle.coda_engine.specs.declared.status.Status.TheVariants.{Done, Usage, Script, SourceFault, SinkFault, TooLong, Memory}
+
+-- This text came behind the replies that waited, and the sink got what waits no more.
+abbrev pub Forwards : Option (List ℕ) → Option (List ℕ) → List ℕ → List ℕ → List ℕ → Type 0
+Forwards held_old held_new waiting_old waiting_new text =
+    (sent : List ℕ) × Appends held_old held_new sent × (sent ++ waiting_new ≡ waiting_old ++ text)
+
+-- The line with this number may end the run; the replies of the lines before it were gathered.
+abbrev pub LineHalts : {M : Type 0} → Gives M → Refuses M → Option (List ℕ) → Option (List ℕ) → List ℕ → List ℕ → M → M → List ℕ → ℕ → Status → Type 0
+LineHalts gives refuses held_old held_new waiting_old waiting_new old new line number status =
+    (sent : List ℕ) × Appends held_old held_new sent × LineStops gives refuses (Some waiting_old) (Some (sent ++ waiting_new)) old new line number status
+
+-- These further bytes took the run from old to new, and what they gave came behind the replies that waited.
+abbrev pub Gathers : {M : Type 0} → Gives M → Option (List ℕ) → Option (List ℕ) → List ℕ → List ℕ → Place M → List ℕ → Place M → Type 0
+Gathers gives held_old held_new waiting_old waiting_new old bytes new =
+    (sent : List ℕ) × Appends held_old held_new sent × Advances gives (Some waiting_old) (Some (sent ++ waiting_new)) old bytes new
+
+-- The run ended among these further bytes, and left the machine at new. Of the replies that were gathered none is lost.
+abbrev pub Halts : {M : Type 0} → Gives M → Refuses M → Option (List ℕ) → Option (List ℕ) → List ℕ → List ℕ → Place M → M → List ℕ → Status → Type 0
+Halts gives refuses held_old held_new waiting_old waiting_new old new bytes status =
+    (sent : List ℕ) × Appends held_old held_new sent × Stops gives refuses 0 (Some waiting_old) (Some (sent ++ waiting_new)) old new bytes status
+
+-- the status stays and nothing is left to be written, or something is left since the sink refused
+abbrev pub IsClosed : Status → List ℕ → Status → Type 0
+IsClosed status left last = ((last ≡ status) × (left ≡ [])) ⊎ ((last ≡ SinkFault) × (left ≢ []))
+
+-- A run that ends with the first status ends with the last one, where of the replies that wait these are left when the sink was
+-- asked to take them.
+abbrev pub Closes : Status → List ℕ → Status → Type 0
+Closes SinkFault left last = last ≡ SinkFault
+Closes Memory left last = last ≡ Memory
+Closes Done left last = IsClosed Done left last
+Closes Usage left last = IsClosed Usage left last
+Closes (Script line column kind) left last = IsClosed (Script line column kind) left last
+Closes SourceFault left last = IsClosed SourceFault left last
+Closes TooLong left last = IsClosed TooLong left last
