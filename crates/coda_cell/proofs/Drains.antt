@@ -42,6 +42,7 @@ use Rattle.coda_cell.specs.declared.refused.Refused.TheVariants as refused
 use Rattle.coda_cell.specs.declared.volume_log.VolumeLog.{VolumeLog}
 use Rattle.coda_cell.specs.declared.venus.Venus.{Venus}
 use Rattle.coda_cell.proofs.Families.{put_same, put_both}
+use Rattle.coda_cell.proofs.LightLogs.{weight_in, settled_light}
 
 -- a log is told by its runs, its chunk's number and its counts
 pub log_is : (v : ClientVolume) (log : LogState) → IsLogOf log v.front v.back → log.frozen ≡ v.frozen → log.last ≡ v.operations → log.chunks ≡ v.chunks → log ≡ log_of v
@@ -183,6 +184,7 @@ settled_log v code number verdict new is steady left settles =
           (ap (λ (l : LogState). l.chunks) left ∙ settled_chunks verdict code.log ∙ ap (λ (l : LogState). l.chunks) is.log);
       creations = is.creations;
       few = is.few;
+      light = (let before = is.light in let less = settled_light verdict code.log in let same = ap weight_in left in omega (arith, before, less, same));
     }
 
 -- where a log settles a chunk, nothing stands against it

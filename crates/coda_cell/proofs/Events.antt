@@ -35,7 +35,7 @@ use Rattle.coda_cell.specs.Asking.{Said, Answer}
 use Rattle.coda_cell.specs.Sending.{Freezing, frozen_now, frozen_unless, freezing_of, freezing, Ruling, decides, ruling_of, ruling, Taking, taken, taken_unless, taking, deeds_at, entries_at, Outcome, answered_to, ruled_on, drained_of, drain}
 use Rattle.coda_cell.specs.Steps.{Named, client_named, volume_named, server_named, holder_named, on_volume, first_missing, Doing, Unless, reply_to, reached, offers_of, ByClient, ByBoth}
 use Rattle.coda_cell.specs.Code.{IsClient, IsClientAt, replica_state, Gives, GivesAt, Sends, SendsAt, SendsBetween, with_volume}
-use Rattle.coda_cell.specs.Cells.{ends_cmp, IsCell, AreOrderly, Carried, client_in, volume_in, server_in, holder_in}
+use Rattle.coda_cell.specs.Cells.{linked_in, IsNetwork, IsCell, AreOrderly, Carried, client_in, volume_in, server_in, holder_in}
 use Rattle.coda_cell.specs.declared.refused.Refused.{Refused}
 use Rattle.coda_cell.specs.declared.refused.Refused.TheVariants as refused
 use Rattle.coda_cell.specs.declared.cell.Cell.{Cell}
@@ -112,9 +112,9 @@ module _ (s : CellState) (code : Cell) (is : IsCell s code) where
 
   -- what a client can fetch is what the code offers
   pub offers_are : (n v : ℕ) (offers : Option Nodes)
-      → offers ≡ option_and_then (λ r. reached (unwrap_or (tree.get ends_cmp code.links (record { client = n; server = r.server })) Down) r) (option_map replica_state (tree.get nat_cmp code.replicas v)) → offers_of s n v ≡ offers
+      → offers ≡ option_and_then (λ r. reached (linked_in code.net n r.server) r) (option_map replica_state (tree.get nat_cmp code.replicas v)) → offers_of s n v ≡ offers
   offers_are n v offers e =
-      (λ i. option_and_then (λ (r : ReplicaState). reached (is.links n r.server i) r) (is.replicas v i)) ∙ sym e
+      (λ i. option_and_then (λ (r : ReplicaState). reached (is.net.links_are n r.server i) r) (is.replicas v i)) ∙ sym e
 
 -- ---- what is carried out
 
@@ -165,8 +165,18 @@ are_there a b h = go a.number b.number a.there b.there h
     go m n true false h = cc
     go m n false y h = cc
 
+-- three actors that are there
+pub all_there : (a b c : Named) → first_missing (a ∷ b ∷ c ∷ []) ≡ None → (a.there ≡ true) × (b.there ≡ true) × (c.there ≡ true)
+all_there a b c h = go a.number b.number c.number a.there b.there c.there h
+  where
+    go : (l m n : ℕ) (x y z : Bool) → first_missing (record { number = l; there = x } ∷ record { number = m; there = y } ∷ record { number = n; there = z } ∷ []) ≡ None → (x ≡ true) × (y ≡ true) × (z ≡ true)
+    go l m n true true true h = (refl, refl, refl)
+    go l m n true true false h = cc
+    go l m n true false z h = cc
+    go l m n false y z h = cc
+
 module _ (s : CellState) (code new : Cell) (n volume : ℕ) (cell : IsCell s code) (orderly : AreOrderly s) (there : is_some (tree.get nat_cmp code.clients n) ≡ true)
-    (same : (new.clock ≡ code.clock) × (new.servers ≡ code.servers) × (new.replicas ≡ code.replicas) × (new.links ≡ code.links)) where
+    (same : (new.clock ≡ code.clock) × (new.servers ≡ code.servers) × (new.replicas ≡ code.replicas) × (new.net ≡ code.net)) where
   -- a client answered
   pub client_carried : (ask : Option Nodes → ClientState → Answer) (offers : Option Nodes) (said : Said) (reply : Reply) → offers_of s n volume ≡ offers → reply ≡ reply_to said → said ≢ Err refused.Memory
       → ((c : ClientState) → IsClientAt (Some c) (tree.get nat_cmp code.clients n) → AreBound c.held → GivesAt (ask offers c) c n said code.clients new.clients) → Carried (ByClient s n volume ask) s reply new
@@ -188,7 +198,7 @@ module _ (s : CellState) (code new : Cell) (n volume : ℕ) (cell : IsCell s cod
               replicas = λ v. cell.replicas v ∙ ap (λ m. option_map replica_state (tree.get nat_cmp m v)) (sym same.2);
               clients = λ m. subst (IsClientAt (put s.clients n (Some (client_after_all c answer.entries)) m)) (sym (g.3 m))
                   (put_both IsClientAt s.clients (tree.get nat_cmp code.clients) n (Some (client_after_all c answer.entries)) (Some g.1) cell.clients (subst (λ o. IsClient (client_after_all c (ask o c).entries) g.1) (sym offered) g.2) m);
-              links = λ a b. cell.links a b ∙ ap (λ m. unwrap_or (tree.get ends_cmp m (record { client = a; server = b })) Down) (sym same.3);
+              net = subst (IsNetwork s.links s.waiting s.posted) (sym same.3) cell.net;
             });
           }
 
@@ -213,7 +223,7 @@ client_left : (s : CellState) (n : ℕ) (c : ClientState) (entry : ClientEntry) 
 client_left s n c entry is = λ i. record s { clients = put s.clients n (ap (option_map (λ (x : ClientState). client_after x entry)) is i) }
 
 -- entries of the replica's history
-replica_left_all : (s : CellState) (volume : ℕ) (r : ReplicaState) (entries : List ReplicaEntry) → s.replicas volume ≡ Some r
+pub replica_left_all : (s : CellState) (volume : ℕ) (r : ReplicaState) (entries : List ReplicaEntry) → s.replicas volume ≡ Some r
     → after_all s (entries_at r.server volume entries) ≡ record s { replicas = put s.replicas volume (Some (replica_after_all r entries)) }
 replica_left_all s volume r [] there = sym (λ i. record s { replicas = λ q. put_same s.replicas volume (Some r) there q i })
 replica_left_all s volume r (entry ∷ entries) there =
@@ -226,15 +236,15 @@ replica_left_all s volume r (entry ∷ entries) there =
     ∙ (λ i. record s { replicas = λ q. put_put s.replicas volume (Some next) (Some (replica_after_all next entries)) q i })
 
 -- deeds that change nothing of what is held
-abbrev IsHoldingStill : Deed → Type 0
+abbrev pub IsHoldingStill : Deed → Type 0
 IsHoldingStill deed = (held : Held) (client : ℕ) → held_after_deed held client deed ≡ held
 
-abbrev AreHoldingStill : List Deed → Type 0
+abbrev pub AreHoldingStill : List Deed → Type 0
 AreHoldingStill [] = Unit {0}
 AreHoldingStill (deed ∷ deeds) = IsHoldingStill deed × AreHoldingStill deeds
 
 -- a client after such deeds on a volume
-deeds_left : (c : ClientState) (volume : ℕ) (deeds : List Deed) → AreHoldingStill deeds → client_after_all c (map (Did volume) deeds) ≡ with_volume c volume (left_by volume_after (c.volumes volume) deeds)
+pub deeds_left : (c : ClientState) (volume : ℕ) (deeds : List Deed) → AreHoldingStill deeds → client_after_all c (map (Did volume) deeds) ≡ with_volume c volume (left_by volume_after (c.volumes volume) deeds)
 deeds_left c volume [] still = λ i. record c { volumes = λ v. sym (put_same c.volumes volume (c.volumes volume) refl v) i }
 deeds_left c volume (deed ∷ deeds) still =
     let next = client_after c (Did volume deed) in
@@ -329,7 +339,7 @@ taking_deeds number answer v took e = by (settle_refusal v.frozen number) e
 -- ---- whatever they come to
 
 module _ (s : CellState) (n volume now window : ℕ) (c : ClientState) (r : ReplicaState) (is : s.clients n ≡ Some c) (there : s.replicas volume ≡ Some r) where
-  abbrev IsComeTo : Outcome → Type 0
+  abbrev pub IsComeTo : Outcome → Type 0
   IsComeTo x = after_all s x.events ≡ with_both s n (with_volume c volume x.volume) volume x.replica
 
   module _ (f : Freezing) (froze : freezing now window r.server (c.volumes volume) ≡ Ok f) where
@@ -360,13 +370,13 @@ module _ (s : CellState) (n volume now window : ℕ) (c : ClientState) (r : Repl
   drained_comes (Err why) e = stays_left s n volume c r is there
   drained_comes (Ok f) e = ruled_comes f e (ruling n f.number f.span r) refl
 
-  drain_left : (strength : Strength) → IsComeTo (drain strength now window n volume (c.volumes volume) r)
+  pub drain_left : (strength : Strength) → IsComeTo (drain strength now window n volume (c.volumes volume) r)
   drain_left Strong = drained_comes (freezing now window r.server (c.volumes volume)) refl
   drain_left Weak = drained_comes (freezing now window r.server (c.volumes volume)) refl
   drain_left Down = stays_left s n volume c r is there
 
 module _ (s : CellState) (code new : Cell) (n volume window : ℕ) (cell : IsCell s code) (orderly : AreOrderly s) (there : is_some (tree.get nat_cmp code.clients n) ≡ true)
-    (same : (new.clock ≡ code.clock) × (new.servers ≡ code.servers) × (new.links ≡ code.links)) where
+    (same : (new.clock ≡ code.clock) × (new.servers ≡ code.servers) × (new.net ≡ code.net)) where
   -- a client and a replica came to something
   pub both_carried : (strengths : ℕ → Strength) (said : Said) (reply : Reply) → ((server : ℕ) → s.links n server ≡ strengths server) → reply ≡ reply_to said → said ≢ Err refused.Memory
       → ((c : ClientState) → IsClientAt (Some c) (tree.get nat_cmp code.clients n) → IsSteady (pending (c.volumes volume)) → SendsBetween strengths code.clock window c volume n said code.clients new.clients code.replicas new.replicas)
@@ -393,6 +403,6 @@ module _ (s : CellState) (code new : Cell) (n volume window : ℕ) (cell : IsCel
                   (ap Some (ap (λ (o : Outcome). o.replica) outcome_is ∙ sym x.decided)) v ∙ ap (option_map replica_state) (sym (x.replicas v));
               clients = λ m. subst (IsClientAt (put s.clients n (Some c') m)) (sym (x.clients m))
                   (put_both IsClientAt s.clients (tree.get nat_cmp code.clients) n (Some c') (Some x.venus) cell.clients (subst (λ (o : Outcome). IsClient (with_volume c volume o.volume) x.venus) (sym outcome_is) x.client) m);
-              links = λ a b. cell.links a b ∙ ap (λ m. unwrap_or (tree.get ends_cmp m (record { client = a; server = b })) Down) (sym same.2);
+              net = subst (IsNetwork s.links s.waiting s.posted) (sym same.2) cell.net;
             });
           }

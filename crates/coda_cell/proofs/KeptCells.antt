@@ -58,6 +58,7 @@ first_kept = record {
   up = record { clients = λ client. refl; replicas = λ server volume. refl };
   made = record { numbered = λ client blocks e. cc; clients = λ client e. refl; volumes = λ client volume e. refl; replicas = λ server volume e. refl };
   holding = λ client blocks e. cc;
+  letters = record { numbered = tt; pooled = tt };
 }
 
 pub cells_are_kept : CellsAreKept
@@ -82,6 +83,7 @@ volume_left cell volume server kept none = record {
     up = kept.up;
     made = record { numbered = kept.made.numbered; clients = kept.made.clients; volumes = λ client v e. unmade v e (λ w. done_on cell.acted client w ≡ []) (kept.made.volumes client); replicas = elsewhere };
     holding = kept.holding;
+    letters = record { numbered = kept.letters.numbered; pooled = kept.letters.pooled };
   };
   shown = volume_grown cell volume server (λ s. kept.made.replicas s volume (nowhere s));
 }
@@ -106,6 +108,7 @@ client_left cell client blocks kept none some = record {
     up = kept.up;
     made = record { numbered = numbered; clients = unmade; volumes = kept.made.volumes; replicas = kept.made.replicas };
     holding = holding;
+    letters = record { numbered = kept.letters.numbered; pooled = kept.letters.pooled };
   };
   shown = client_made cell client blocks (kept.made.clients client none);
 }
@@ -130,13 +133,13 @@ client_left cell client blocks kept none some = record {
 pub ticked_left : (cell : MadeCell) (seconds : ℕ) → IsKept cell → IsLeft cell (Ticked seconds ∷ [])
 ticked_left cell seconds kept = record {
   moved = refl;
-  kept = record { sound = kept.sound; up = kept.up; made = record { numbered = kept.made.numbered; clients = kept.made.clients; volumes = kept.made.volumes; replicas = kept.made.replicas }; holding = kept.holding };
+  kept = record { sound = kept.sound; up = kept.up; made = record { numbered = kept.made.numbered; clients = kept.made.clients; volumes = kept.made.volumes; replicas = kept.made.replicas }; holding = kept.holding; letters = record { numbered = kept.letters.numbered; pooled = kept.letters.pooled } };
   shown = refl;
 }
 
 pub linked_left : (cell : MadeCell) (client server : ℕ) (strength : Strength) → IsKept cell → IsLeft cell (LinkSet client server strength ∷ [])
 linked_left cell client server strength kept = record {
   moved = refl;
-  kept = record { sound = kept.sound; up = kept.up; made = record { numbered = kept.made.numbered; clients = kept.made.clients; volumes = kept.made.volumes; replicas = kept.made.replicas }; holding = kept.holding };
+  kept = record { sound = kept.sound; up = kept.up; made = record { numbered = kept.made.numbered; clients = kept.made.clients; volumes = kept.made.volumes; replicas = kept.made.replicas }; holding = kept.holding; letters = record { numbered = kept.letters.numbered; pooled = kept.letters.pooled } };
   shown = refl;
 }

@@ -38,6 +38,7 @@ use Rattle.coda_cell.proofs.KeptCells.{lawful, pending_is}
 use Rattle.coda_cell.proofs.NamedObjects.{accepted_names, accepted_creates}
 use Rattle.coda_cell.proofs.Within.{within_operation}
 use Rattle.coda_cell.proofs.KeptChildren.{unbinds_mentions, kept_children_operation, kept_children_beside, removes_empty}
+use Rattle.coda_cell.proofs.LettersOn.{letters_on}
 use Rattle.coda_cell.proofs.Moving.{HasMore, has_more, shown_more, done_here, done_elsewhere, done_same, made_stays, up_all}
 
 -- ---- what a client holds, while others go on
@@ -119,7 +120,7 @@ module _ (cell : MadeCell) (number blocks : ℕ) (kept : IsKept cell) (there : c
     ]
 
     pub fetches_left : IsLeft cell (map (at_client number) (entries_of fetches))
-    fetches_left = record { moved = moved; kept = record { sound = runs_sound (moves_of events) cell.acted new.acted kept.sound moved; up = up_all cell events kept.up; made = made; holding = holding }; shown = shown_more cell number entries }
+    fetches_left = record { moved = moved; kept = record { sound = runs_sound (moves_of events) cell.acted new.acted kept.sound moved; up = up_all cell events kept.up; made = made; holding = holding; letters = letters_on (moves_of events) cell new kept.sound moved kept.letters more.waiting more.pool more.posted }; shown = shown_more cell number entries }
 
 -- ---- an operation
 
@@ -280,6 +281,7 @@ module _ (cell : MadeCell) (number blocks : ℕ) (kept : IsKept cell) (there : c
       up = up_all cell (at_client number entry ∷ []) kept.up;
       made = operation_made;
       holding = all_holding;
+      letters = letters_on (Does (AtClient number entry) ∷ []) cell next kept.sound operation_moved kept.letters refl refl refl;
     };
     shown = shown_more cell number (entry ∷ []);
   }

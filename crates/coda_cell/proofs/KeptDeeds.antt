@@ -18,6 +18,7 @@ use Rattle.coda_cell.proofs.Grown.{replica_grown}
 use Rattle.coda_cell.proofs.Histories.{client_push, volumes_are, pending_are}
 use Rattle.coda_cell.proofs.KeptCells.{pending_is}
 use Rattle.coda_cell.proofs.KeptClients.{holding_on}
+use Rattle.coda_cell.proofs.LettersOn.{letters_on}
 use Rattle.coda_cell.proofs.Moving.{HasMore, has_more, shown_more, done_here, done_elsewhere, done_same, up_all}
 
 -- ---- a deed that changes nothing of what its client holds
@@ -122,7 +123,7 @@ module _ (cell : MadeCell) (number blocks : ℕ) (kept : IsKept cell) (there : c
   pub deed_left : IsLeft cell (at_client number entry ∷ [])
   deed_left = record {
     moved = moved;
-    kept = record { sound = runs_sound moves cell.acted next.acted kept.sound moved; up = up_all cell (at_client number entry ∷ []) kept.up; made = made; holding = all_holding };
+    kept = record { sound = runs_sound moves cell.acted next.acted kept.sound moved; up = up_all cell (at_client number entry ∷ []) kept.up; made = made; holding = all_holding; letters = letters_on moves cell next kept.sound moved kept.letters refl refl refl };
     shown = shown_more cell number (entry ∷ []);
   }
 
@@ -162,6 +163,7 @@ module _ (cell : MadeCell) (kept : IsKept cell) (volume server : ℕ) (homed : c
       up = up_all cell (event ∷ []) kept.up;
       made = decision_made;
       holding = λ c b e. holding_on (Does (AtReplica server volume decided) ∷ []) cell.acted after.acted (client_of c (cell.acted.clients c).history b) decision_moved (kept.holding c b e);
+      letters = letters_on (Does (AtReplica server volume decided) ∷ []) cell after kept.sound decision_moved kept.letters refl refl refl;
     };
     shown = replica_grown cell server volume decided;
   }

@@ -1,6 +1,7 @@
 -- What each line does keeps a cell.
-use Rattle.std.proofs.Common.{◌≡◌, ℕ, ◌+◌, Bool, true, false, cond, List, [], ◌∷◌, ◌++◌, map, Option, Some, None, is_some, option_map, Result, Ok, Err, refl, sym, ap, ◌∙◌, subst, inl, inr, ◌⊎◌}
-use Rattle.std.specs.Option.{option_and_then, unwrap_or}
+use Rattle.std.proofs.Common.{◌≡◌, ℕ, ◌+◌, ◌==◌, Bool, true, false, cond, List, [], ◌∷◌, ◌++◌, map, Option, Some, None, is_some, option_map, Result, Ok, Err, refl, sym, ap, ◌∙◌, subst, inl, inr, ◌⊎◌}
+use Rattle.std.specs.Option.{option_and_then, option_map_or, unwrap_or}
+use Rattle.std.proofs.lemmas.Bool.{eqb-true}
 use Rattle.std.specs.FinMap as finite
 use Rattle.coda_fid.specs.Fid.{root_of}
 use Rattle.coda_fid.specs.declared.fid.Fid.{Fid}
@@ -31,18 +32,21 @@ use Rattle.coda_cell.specs.Accepting.{Accepted, sight_of, accept}
 use Rattle.coda_cell.specs.Asking.{Answer, answers, look_ups, behind_fetches, next_record, has_room, is_full, answer_to, operate_unless, operate, read, list}
 use Rattle.coda_cell.specs.Kept.{AreWithin, AreChildrenKept, IsHolding}
 use Rattle.coda_cell.specs.Made.{MadeCell, client_of, replica_of, state_of, grown_all}
-use Rattle.coda_cell.specs.Steps.{first_missing, on_volume, client_named, volume_named, server_named, holder_named, no_volume, no_client, no_room, Doing, Unless, reached, offers_of, ByClient, ByBoth, bytes_of, Operates, DoesTask, alone, Does}
-use Rattle.coda_cell.specs.Sending.{Freezing, freezing, ruling, drained_of, drained, drain}
+use Rattle.coda_letters.specs.Sent.{Sent, ChunkSent, AnswerSent, client_of as sender_of, server_of, sent_at}
+use Rattle.coda_cell.specs.Messages.{sends, chunk_comes, answer_comes}
+use Rattle.coda_cell.specs.Steps.{first_missing, on_volume, on_holder, client_named, volume_named, server_named, holder_named, no_volume, no_client, no_room, Doing, Unless, reached, offers_of, ByClient, ByBoth, BySend, ByRuling, ByTaking, bytes_of, Operates, DoesTask, Comes, link_down, Delivers, Loses, alone, Does}
+use Rattle.coda_cell.specs.Sending.{Freezing, freezing, ruling, taking, drained_of, drained, drain}
 use Rattle.coda_cell.specs.Runs.{IsKept, IsLeft, MakesNumbered, LinesKeepCells}
 use Rattle.coda_cell.specs.declared.refused.Refused.{Refused}
 use Rattle.coda_cell.specs.declared.refused.Refused.TheVariants as refused
-use Rattle.coda_cell.proofs.Events.{are_there}
+use Rattle.coda_cell.proofs.Events.{are_there, all_there}
 use Rattle.coda_cell.proofs.Fetches.{bound_along, bound_look_ups, client_after_both, client_after_fetches}
 use Rattle.coda_cell.proofs.Histories.{nodes_are, server_stays}
 use Rattle.coda_cell.proofs.KeptCells.{client_there, volume_left, client_left, ticked_left, linked_left}
 use Rattle.coda_cell.proofs.KeptChildren.{kept_children_along, kept_children_look_ups}
 use Rattle.coda_cell.proofs.KeptChunks.{gone, ruled_on_left}
 use Rattle.coda_cell.proofs.KeptClients.{IsReplicated, the_client, fetches_left, operated_left}
+use Rattle.coda_cell.proofs.KeptLetters.{IsWaiting, waits, lost_left, sends_left, chunk_comes_left, answer_comes_left}
 use Rattle.coda_cell.proofs.Moving.{has_more, left_none, left_both}
 use Rattle.coda_cell.proofs.Offered.{fetched_along_is_offered, fetched_is_offered, has_along, has_look_ups}
 use Rattle.coda_cell.proofs.Within.{within_along, within_look_ups}
@@ -266,6 +270,49 @@ module _ (cell : MadeCell) (kept : IsKept cell) where
       subst (IsLeft cell) (sym (did.happened ∙ (λ i. (drain (cell.links client (sym r.2 i).server) cell.clock window client volume ((sym c.2 i).volumes volume) (sym r.2 i)).events)))
       (drain_left cell client c.0 kept c.1 volume r.0 r.1 cell.clock window (cell.links client (replica_of (λ s. (cell.acted.replicas s volume).history) volume r.0).server))) does
 
+  -- a server that holds a volume is the volume's own
+  pub holder_there : (volume server : ℕ) → (holder_named (state_of cell) server volume).there ≡ true → cell.homes volume ≡ Some server
+  holder_there volume server is = by (cell.homes volume) is
+    where
+      by : (o : Option ℕ) → option_map_or (λ (r : ReplicaState). r.server == server) (option_map (replica_of (λ s. (cell.acted.replicas s volume).history) volume) o) false ≡ true → o ≡ Some server
+      by None e = cc
+      by (Some home) e = ap Some (sym (server_stays (new_replica home volume) (cell.acted.replicas home volume).history) ∙ eqb-true (replica_of (λ s. (cell.acted.replicas s volume).history) volume home).server server e)
+
+  -- and its replica is what its history leaves
+  pub replica_is : (volume server : ℕ) (r : ReplicaState) → cell.homes volume ≡ Some server → (state_of cell).replicas volume ≡ Some r → replica_of (λ s. (cell.acted.replicas s volume).history) volume server ≡ r
+  replica_is volume server r homed is = (let e = sym (ap (option_map (replica_of (λ s. (cell.acted.replicas s volume).history) volume)) homed) ∙ is in cc)
+
+  pub homed : (client volume server : ℕ) → first_missing (on_holder (state_of cell) client volume server) ≡ None → cell.homes volume ≡ Some server
+  homed client volume server all = holder_there volume server (all_there (client_named (state_of cell) client) (volume_named (state_of cell) volume) (holder_named (state_of cell) server volume) all).2
+
+  send_left : (client volume server window : ℕ) (reply : Reply) (events : List Event) → Unless (first_missing (on_holder (state_of cell) client volume server)) (BySend (state_of cell) client volume server window) reply events → IsLeft cell events
+  send_left client volume server window reply events does = unless_own (first_missing (on_holder (state_of cell) client volume server)) (BySend (state_of cell) client volume server window) reply events (λ all did.
+      let c = client_there cell kept client did.client did.there in
+      subst (IsLeft cell) (sym (did.happened ∙ ap (λ (x : ClientState). (sends (state_of cell) client volume server window (x.volumes volume)).events) (sym c.2)))
+      (sends_left cell (state_of cell) client c.0 kept c.1 volume server (homed client volume server all) window)) does
+
+  comes_left : (sent : Sent) (reply : Reply) (events : List Event) → IsWaiting cell.acted sent → Comes (state_of cell) sent reply events → IsLeft cell events
+  comes_left (ChunkSent client server volume number span) reply events is does =
+      unless_own (first_missing (on_holder (state_of cell) client volume server)) (ByRuling (state_of cell) client server volume number span) reply events (λ all did.
+      let home = homed client volume server all in
+      let same = replica_is volume server did.replica home did.there in
+      subst (IsLeft cell) (sym (did.happened ∙ ap (λ x. (chunk_comes (state_of cell) client server volume number span x).events) (sym same)))
+      (chunk_comes_left cell (state_of cell) kept volume server home client number span is (ruling client number span (replica_of (λ s. (cell.acted.replicas s volume).history) volume server)) refl)) does
+  comes_left (AnswerSent server client volume number answer) reply events is does =
+      unless_own (first_missing (on_holder (state_of cell) client volume server)) (ByTaking (state_of cell) client volume number answer) reply events (λ all did.
+      let c = client_there cell kept client did.client did.there in
+      subst (IsLeft cell) (sym (did.happened ∙ ap (λ (x : ClientState). (answer_comes client volume number answer (x.volumes volume)).events) (sym c.2)))
+      (answer_comes_left cell client c.0 kept c.1 volume server (homed client volume server all) server number answer is (taking number answer ((client_of client (cell.acted.clients client).history c.0).volumes volume)) refl)) does
+
+  delivers_left : (message : ℕ) (o : Option Sent) (reply : Reply) (events : List Event) → sent_at message cell.waiting ≡ o → Delivers (state_of cell) message o reply events → IsLeft cell events
+  delivers_left message None reply events e does = nothing_left events does.1
+  delivers_left message (Some sent) reply events e does = unless_own (link_down (cell.links (sender_of sent) (server_of sent))) (Comes (state_of cell) sent) reply events
+      (λ up did. comes_left sent reply events (waits cell.acted message cell.waiting sent kept.letters.pooled e) did) does
+
+  loses_left : (message : ℕ) (o : Option Sent) (reply : Reply) (events : List Event) → Loses message o reply events → IsLeft cell events
+  loses_left message None reply events does = nothing_left events does.1
+  loses_left message (Some sent) reply events does = subst (IsLeft cell) (sym does.1) (lost_left cell message kept)
+
   task_left : (t : Task) (reply : Reply) (events : List Event) → DoesTask (state_of cell) t reply events → IsLeft cell events
   task_left (task.Create client volume path mode owner) reply events does = operates_left client volume (Create path (unwrap_or mode 420) (unwrap_or owner 0)) reply events does
   task_left (task.Mkdir client volume path mode owner) reply events does = operates_left client volume (Mkdir path (unwrap_or mode 493) (unwrap_or owner 0)) reply events does
@@ -313,6 +360,9 @@ module _ (cell : MadeCell) (kept : IsKept cell) where
   line_left (line.Task t) reply events numbered does = task_left t reply events does
   line_left (line.ShowVolume server volume) reply events numbered does = unless_own (first_missing (holder_named (state_of cell) server volume ∷ [])) _ reply events (λ all did. nothing_left events did.1) does
   line_left (line.ShowLog client volume) reply events numbered does = unless_own (first_missing (on_volume (state_of cell) client volume)) _ reply events (λ all did. nothing_left events did.1) does
+  line_left (line.Send client volume server window) reply events numbered does = send_left client volume server (unwrap_or window 600) reply events does
+  line_left (line.Deliver message) reply events numbered does = delivers_left message (sent_at message cell.waiting) reply events refl does
+  line_left (line.Lose message) reply events numbered does = loses_left message (sent_at message cell.waiting) reply events does
   line_left _ reply events numbered does = absurd does
 
 pub lines_keep_cells : LinesKeepCells

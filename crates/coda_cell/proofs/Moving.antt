@@ -8,7 +8,7 @@ use Rattle.coda_plain.specs.Logs.{BeginsWith}
 use Rattle.coda_plain.specs.Moves.{with_client, grown as grown_actor, Append, AtClient, AtReplica, Move, Does, after as after_move, done_on, Moved}
 use Rattle.coda_plain.proofs.AtClients.{made_more}
 use Rattle.coda_plain.proofs.Staying.{clients_run}
-use Rattle.coda_cell.specs.State.{CellState, Event, VolumeMade, ClientMade, Ticked, LinkSet, Entered, after, after_all, at_client}
+use Rattle.coda_cell.specs.State.{CellState, Event, VolumeMade, ClientMade, Ticked, LinkSet, Entered, Posted, Lost, after, after_all, at_client}
 use Rattle.coda_cell.specs.Made.{MadeCell, state_of, grown, grown_all, move_of, moves_of}
 use Rattle.coda_cell.specs.Runs.{AreUp, IsKept, IsLeft}
 use Rattle.coda_cell.proofs.Grown.{client_grown}
@@ -62,6 +62,8 @@ up_grown cell (ClientMade client blocks) up = up
 up_grown cell (Ticked seconds) up = up
 up_grown cell (LinkSet client server strength) up = up
 up_grown cell (Entered append) up = up_after cell.acted append up
+up_grown cell (Posted sent) up = record { clients = up.clients; replicas = up.replicas }
+up_grown cell (Lost message) up = record { clients = up.clients; replicas = up.replicas }
 
 pub up_all : (cell : MadeCell) (events : List Event) → AreUp cell.acted → AreUp (grown_all cell events).acted
 up_all cell [] up = up
@@ -69,7 +71,7 @@ up_all cell (event ∷ events) up = up_all (grown cell event) events (up_grown c
 
 -- ---- what was made stays made
 
-deeds_both : (volume : ℕ) (first rest : List ClientEntry) → deeds_of volume (first ++ rest) ≡ deeds_of volume first ++ deeds_of volume rest
+pub deeds_both : (volume : ℕ) (first rest : List ClientEntry) → deeds_of volume (first ++ rest) ≡ deeds_of volume first ++ deeds_of volume rest
 deeds_both volume [] rest = refl
 deeds_both volume (entry ∷ first) rest = ap (λ l. deed_on volume entry ++ l) (deeds_both volume first rest) ∙ sym (append_assoc (deed_on volume entry) (deeds_of volume first) (deeds_of volume rest))
 
@@ -92,6 +94,9 @@ pub record HasMore (old new : MadeCell) (number : ℕ) (entries : List ClientEnt
   pub replicas : new.acted.replicas ≡ old.acted.replicas
   pub sizes : new.sizes ≡ old.sizes
   pub homes : new.homes ≡ old.homes
+  pub waiting : new.waiting ≡ old.waiting
+  pub pool : new.acted.pool ≡ old.acted.pool
+  pub posted : new.acted.posted ≡ old.acted.posted
 
 other_client : (cell : PlainCell) (number c : ℕ) (next : Actor ClientEntry) → c ≢ number → (with_client cell number next).clients c ≡ cell.clients c
 other_client cell number c next other = elim (cases_Bool (c == number)) [
@@ -106,10 +111,13 @@ one_more cell number entry = record {
   replicas = refl;
   sizes = refl;
   homes = refl;
+  waiting = refl;
+  pool = refl;
+  posted = refl;
 }
 
 pub has_more : (cell : MadeCell) (number : ℕ) (entries : List ClientEntry) → HasMore cell (grown_all cell (map (at_client number) entries)) number entries
-has_more cell number [] = record { here = sym (append-nil (cell.acted.clients number).history); others = λ c other. refl; replicas = refl; sizes = refl; homes = refl }
+has_more cell number [] = record { here = sym (append-nil (cell.acted.clients number).history); others = λ c other. refl; replicas = refl; sizes = refl; homes = refl; waiting = refl; pool = refl; posted = refl }
 has_more cell number (entry ∷ entries) =
     let one = one_more cell number entry in
     let rest = has_more (grown cell (at_client number entry)) number entries in
@@ -119,6 +127,9 @@ has_more cell number (entry ∷ entries) =
       replicas = rest.replicas;
       sizes = rest.sizes;
       homes = rest.homes;
+      waiting = rest.waiting;
+      pool = rest.pool;
+      posted = rest.posted;
     }
 
 pub shown_more : (cell : MadeCell) (number : ℕ) (entries : List ClientEntry) → state_of (grown_all cell (map (at_client number) entries)) ≡ after_all (state_of cell) (map (at_client number) entries)

@@ -1,5 +1,5 @@
 -- In which order a line is refused.
-use Rattle.std.proofs.Common.{◌≡◌, ℕ, Bool, true, false, if◌then◌else◌, List, [], ◌∷◌, ◌++◌, ◌==◌, ◌||◌, ◌&&◌, not, is_some, Option, Some, None, Result, Ok, Err, refl, sym, ap, ◌∙◌, subst}
+use Rattle.std.proofs.Common.{◌≡◌, ℕ, Bool, true, false, if◌then◌else◌, List, [], ◌∷◌, ◌++◌, ◌==◌, ◌||◌, ◌&&◌, not, is_some, Option, Some, None, Result, Ok, Err, refl, sym, ap, ◌∙◌, subst, ◌⊎◌, inl, inr}
 use Rattle.std.specs.FinMap as map
 use Rattle.std.specs.Option.{option_map_or, unwrap_or}
 use Rattle.std.proofs.lemmas.Bool.{eqb-true}
@@ -28,8 +28,10 @@ use Rattle.coda_cell.specs.State.{ClientState, ReplicaState, CellState, Event}
 use Rattle.coda_cell.specs.Accepting.{Sight, Accepted, is_used_up, next_fid, unless_used, new_at, new_in, new_under, new_place, at_root, accept_creation, store_in, store_at, setattr_at, remove_in, remove_at, rmdir_of, rmdir_in, rmdir_at, held_bound, bound_in, bound_at, spot, place, is_dir_at, with_version, replaced_by, move_to, rename_to, rename_root, accept_rename, accept_remove, accept_rmdir, sight_of, accept}
 use Rattle.coda_cell.specs.Asking.{Said, answer_to, look_ups, behind_fetches, operate, operate_unless}
 use Rattle.coda_cell.specs.Refusing.{refusal}
-use Rattle.coda_cell.specs.Steps.{Named, first_missing, Doing, Unless, Naming, reply_to, ByBoth, DoesTask, Does}
-use Rattle.coda_cell.specs.Sending.{drain}
+use Rattle.coda_letters.specs.Sent.{Sent, client_of, server_of, sent_at}
+use Rattle.coda_cell.specs.Messages.{over, sends_of}
+use Rattle.coda_cell.specs.Steps.{Named, first_missing, on_holder, Doing, Unless, Naming, reply_to, ByBoth, BySend, Comes, link_down as no_way, Delivers, Loses, DoesTask, Does}
+use Rattle.coda_cell.specs.Sending.{freezing, drain}
 use Rattle.coda_cell.specs.Orders.{named_in, named_by, AreThere, RefusalsComeInOrder}
 use Rattle.coda_cell.specs.declared.refused.Refused.{Refused}
 use Rattle.coda_cell.specs.declared.refused.Refused.TheVariants as refused
@@ -79,6 +81,9 @@ module _ (s : CellState) (reply : Reply) (events : List Event) (front back : Lis
   line_missing (line.Task t) does e = task_missing t does e
   line_missing (line.ShowVolume server volume) does e = named _ _ does e
   line_missing (line.ShowLog client volume) does e = named _ _ does e
+  line_missing (line.Send client volume server window) does e = named _ _ does e
+  line_missing (line.Deliver message) does e = absurd (none_named front back n e)
+  line_missing (line.Lose message) does e = absurd (none_named front back n e)
   line_missing _ does e = absurd does
 
 -- ---- links
@@ -95,6 +100,24 @@ module _ (s : CellState) (client volume server : ℕ) (window : Option ℕ) (rep
         both.answered ∙ (λ i. reply_to (drain (own i) s.clock (unwrap_or window 600) client volume (both.client.volumes volume) both.replica).said),
         both.happened ∙ (λ i. (drain (own i) s.clock (unwrap_or window 600) client volume (both.client.volumes volume) both.replica).events),
       )
+
+  send_down : Does s (line.Send client volume server window) reply events → AreThere (on_holder s client volume server) → s.links client server ≡ Down → (reply ≡ refusal refused.LinkDown) × (events ≡ [])
+  send_down does all down =
+      let own : BySend s client volume server (unwrap_or window 600) reply events = subst (λ o. Unless o (BySend s client volume server (unwrap_or window 600)) reply events) (all_there (on_holder s client volume server) all) does in
+      let frozen = freezing s.clock (unwrap_or window 600) server (own.client.volumes volume) in (
+        own.answered ∙ (λ i. reply_to (sends_of s client volume server (over (down i) frozen)).said),
+        own.happened ∙ (λ i. (sends_of s client volume server (over (down i) frozen)).events),
+      )
+
+-- ---- letters
+
+module _ (s : CellState) (message : ℕ) (reply : Reply) (events : List Event) where
+  letter_missed : sent_at message s.waiting ≡ None → Does s (line.Deliver message) reply events ⊎ Does s (line.Lose message) reply events → (reply ≡ refusal (refused.NoMessage message)) × (events ≡ [])
+  letter_missed none (inl does) = subst (λ o. Delivers s message o reply events) none does
+  letter_missed none (inr does) = subst (λ o. Loses message o reply events) none does
+
+  letter_stopped : (sent : Sent) → sent_at message s.waiting ≡ Some sent → s.links (client_of sent) (server_of sent) ≡ Down → Does s (line.Deliver message) reply events → (reply ≡ refusal refused.LinkDown) × (events ≡ [])
+  letter_stopped sent some down does = subst (λ strength. Unless (no_way strength) (Comes s sent) reply events) down (subst (λ o. Delivers s message o reply events) some does)
 
 -- ---- a log that is full
 
@@ -322,5 +345,8 @@ pub refusals_come_in_order : RefusalsComeInOrder
 refusals_come_in_order = record {
   missing = λ s said reply events front back n does e all away. line_missing s reply events front back n all away said does e;
   unreached = λ s client volume server window reply events does all down. link_down s client volume server window reply events does all down;
+  unsent = λ s client volume server window reply events does all down. send_down s client volume server window reply events does all down;
+  missed = λ s message reply events none does. letter_missed s message reply events none does;
+  stopped = λ s message sent reply events some down does. letter_stopped s message reply events sent some down does;
   full = λ offers c time volume ask is. log_full offers c time volume ask is;
 }

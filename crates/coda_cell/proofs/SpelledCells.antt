@@ -47,7 +47,7 @@ in_chunk number (chunk ∷ chunks) rec i = elim (chunk.number == number) as (λ 
 ] i
 
 -- the span of a chunk is of operations that were accepted
-span_all : (deeds : List Deed) (number : ℕ) → AreLawful deeds → ((rec : Record) → In rec (full_of deeds) → IsSpelled rec) → AreAllSpelled (span_of deeds number)
+pub span_all : (deeds : List Deed) (number : ℕ) → AreLawful deeds → ((rec : Record) → In rec (full_of deeds) → IsSpelled rec) → AreAllSpelled (span_of deeds number)
 span_all deeds number law each = all_spelled (span_of deeds number) (λ rec i. let at = in_chunk number (chunks_of deeds) rec i in each rec (spans_in deeds law at.0 at.1 rec at.2))
 
 above_front : (n : ℕ) (front back : List Record) → AreAbove n (front ++ back) → AreAbove n front

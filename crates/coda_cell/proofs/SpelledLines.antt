@@ -1,5 +1,5 @@
 -- What each line leaves can be spelled, where its numbers are in their ranges.
-use Rattle.std.proofs.Common.{◌≡◌, ℕ, ◌<◌, ◌≤◌, ◌+◌, ◌==◌, ◌||◌, Bool, true, false, cond, List, [], ◌∷◌, ◌++◌, length, map, min, Option, Some, None, is_some, Result, Ok, Err, refl, sym, ap, ◌∙◌, subst, inl, inr, arith}
+use Rattle.std.proofs.Common.{◌≡◌, ℕ, ◌<◌, ◌≤◌, ◌+◌, ◌==◌, ◌||◌, Bool, true, false, cond, List, [], ◌∷◌, ◌++◌, length, map, take, min, Option, Some, None, is_some, option_map, Result, Ok, Err, refl, sym, ap, ◌∙◌, subst, inl, inr, arith}
 use Rattle.std.specs.Prelude.{nat_lt, nat_le, IfSome}
 use Rattle.std.specs.Option.{unwrap_or}
 use Rattle.std.specs.FinMap as finite
@@ -43,17 +43,20 @@ use Rattle.coda_plain.proofs.Soundness.{none_joins}
 use Rattle.coda_cell.specs.Ask.{Asked, Create, Mkdir, Symlink, Store, Setattr, Remove, Rmdir, Rename, too_long, too_big, object_of}
 use Rattle.coda_cell.specs.Held.{Held, Fetch, held_after_fetches}
 use Rattle.coda_cell.specs.Looking.{offered, fetch_of, looked, look_along, entries_of}
-use Rattle.coda_cell.specs.State.{ClientVolume, ClientState, ReplicaState, new_client, Event, VolumeMade, ClientMade, Ticked, LinkSet, Entered, at_client}
+use Rattle.coda_cell.specs.State.{ClientVolume, ClientState, ReplicaState, new_client, Event, VolumeMade, ClientMade, Ticked, LinkSet, Entered, Posted, Lost, CellState, at_client}
 use Rattle.coda_cell.specs.Accepting.{Accepted, sight_of, accept}
 use Rattle.coda_cell.specs.Asking.{Answer, answers, look_ups, behind_fetches, next_record, has_room, is_full, answer_to, operate_unless, operate, read, list}
 use Rattle.coda_cell.specs.Made.{MadeCell, client_of, state_of, grown, grown_all, moves_of}
-use Rattle.coda_cell.specs.Steps.{Doing, Unless, first_missing, on_volume, client_named, volume_named, server_named, holder_named, no_volume, no_client, offers_of, ByClient, ByBoth, bytes_of, Operates, DoesTask, alone, Does}
+use Rattle.coda_letters.specs.Sent.{Sent, ChunkSent, AnswerSent, Waiting, client_of as sender_of, server_of, sent_at, lost_by, number_of}
+use Rattle.coda_cell.specs.Messages.{over, posting, going_by, sends_of, sends, ruled_in, taken_in}
+use Rattle.coda_cell.specs.Steps.{Doing, Unless, first_missing, on_volume, on_holder, client_named, volume_named, server_named, holder_named, no_volume, no_client, offers_of, ByClient, ByBoth, BySend, ByRuling, ByTaking, bytes_of, Operates, DoesTask, Comes, link_down, Delivers, Loses, alone, Does}
 use Rattle.coda_cell.specs.Sending.{Freezing, frozen_now, frozen_unless, freezing_of, freezing, Ruling, decides, ruling_of, ruling, Taking, taken, taken_unless, taking, deeds_at, entries_at, answered_to, ruled_on, drained_of, drain}
-use Rattle.coda_cell.specs.Runs.{IsKept, MakesNumbered}
+use Rattle.coda_cell.specs.Runs.{IsKept, IsLeft, MakesNumbered}
 use Rattle.coda_spelling.specs.Spelled.{IsSpelled, AreSpelled}
 use Rattle.coda_cell.specs.Spelled.{CanBeSpelled, LinesKeepSpellings, MessagesCanBeSpelled}
 use Rattle.coda_cell.specs.declared.refused.Refused.{Refused}
 use Rattle.coda_cell.specs.declared.refused.Refused.TheVariants as refused
+use Rattle.coda_cell.proofs.Events.{all_there}
 use Rattle.coda_cell.proofs.Fetches.{keeps_look_ups}
 use Rattle.coda_cell.proofs.Histories.{number_stays}
 use Rattle.coda_cell.proofs.KeptCells.{client_there, lawful}
@@ -67,14 +70,16 @@ use Rattle.coda_spelling.proofs.SpelledNodes.{after_fetch}
 -- ---- events
 
 -- what can be spelled of an event
-abbrev IsEventSpelled : Event → Type 0
+abbrev pub IsEventSpelled : Event → Type 0
 IsEventSpelled (VolumeMade volume server) = HasSpelling table.volume volume × HasSpelling table.server server
 IsEventSpelled (ClientMade client blocks) = HasSpelling table.client client
 IsEventSpelled (Ticked seconds) = Unit {0}
 IsEventSpelled (LinkSet client server strength) = Unit {0}
 IsEventSpelled (Entered append) = IsAppendSpelled append
+IsEventSpelled (Posted sent) = Unit {0}
+IsEventSpelled (Lost message) = Unit {0}
 
-abbrev AreEventsSpelled : List Event → Type 0
+abbrev pub AreEventsSpelled : List Event → Type 0
 AreEventsSpelled [] = Unit {0}
 AreEventsSpelled (event ∷ events) = IsEventSpelled event × AreEventsSpelled events
 
@@ -89,6 +94,8 @@ moves_are (ClientMade client blocks ∷ events) are = moves_are events are.1
 moves_are (Ticked seconds ∷ events) are = moves_are events are.1
 moves_are (LinkSet client server strength ∷ events) are = moves_are events are.1
 moves_are (Entered append ∷ events) are = (are.0, moves_are events are.1)
+moves_are (Posted sent ∷ events) are = moves_are events are.1
+moves_are (Lost message ∷ events) are = moves_are events are.1
 
 -- the clock, the clients and the volumes
 record IsNamed (cell : MadeCell) : Type 0 where
@@ -123,6 +130,8 @@ named_after cell (Ticked seconds) are is = (let most = min-le_right (cell.clock 
 })
 named_after cell (LinkSet client server strength) are is = record { clock = are.clock; clients = are.clients; volumes = are.volumes }
 named_after cell (Entered append) are is = record { clock = are.clock; clients = are.clients; volumes = are.volumes }
+named_after cell (Posted sent) are is = record { clock = are.clock; clients = are.clients; volumes = are.volumes }
+named_after cell (Lost message) are is = record { clock = are.clock; clients = are.clients; volumes = are.volumes }
 
 named_all : (cell : MadeCell) (events : List Event) → IsNamed cell → AreEventsSpelled events → IsNamed (grown_all cell events)
 named_all cell [] named are = named
@@ -147,7 +156,7 @@ map_both number [] ys = refl
 map_both number (x ∷ xs) ys = ap (λ l. at_client number x ∷ l) (map_both number xs ys)
 
 -- a client's number as a byte
-byte : (n : ℕ) → HasSpelling table.client n → HasSpelling u8 n
+pub byte : (n : ℕ) → HasSpelling table.client n → HasSpelling u8 n
 byte n is = first_true _ _ is
 
 small : (n : ℕ) → HasSpelling table.client n → n < 4294967296
@@ -239,7 +248,7 @@ took_spelled client volume number answer v took e = by (settle_refusal v.frozen 
     by None e = (let same : taken number answer v ≡ took = cc in subst (λ (x : Taking). AreEventsSpelled (deeds_at client volume x.deeds)) same (taken_spelled answer))
 
 -- and what is frozen
-froze_spelled : (client volume now window server : ℕ) (v : ClientVolume) (f : Freezing) → freezing now window server v ≡ Ok f → AreEventsSpelled (deeds_at client volume f.deeds)
+pub froze_spelled : (client volume now window server : ℕ) (v : ClientVolume) (f : Freezing) → freezing now window server v ≡ Ok f → AreEventsSpelled (deeds_at client volume f.deeds)
 froze_spelled client volume now window server v f e = by v.frozen e
   where
     room : (b : Bool) → nat_le 4294967295 v.chunks ≡ b → (let r : Result Freezing Refused = cond b (Err refused.JournalFull) (Ok (frozen_now now window server v)) in r) ≡ Ok f → AreEventsSpelled (deeds_at client volume f.deeds)
@@ -288,6 +297,43 @@ module _ (cell : MadeCell) (can : CanBeSpelled cell) (number blocks : ℕ) (ther
   drain_spelled Strong = drained_spelled (freezing now window r.server v) refl
   drain_spelled Weak = drained_spelled (freezing now window r.server v) refl
   drain_spelled Down = tt
+
+-- ---- letters
+
+-- letters are of what can be said, so nothing of them is to be spelled
+put_out_spelled : (going : Waiting) (sent : Sent) → AreEventsSpelled (map (λ l. Lost l.0) going ++ Posted sent ∷ [])
+put_out_spelled [] sent = (tt, tt)
+put_out_spelled (l ∷ going) sent = (tt, put_out_spelled going sent)
+
+posting_spelled : (sent : Sent) (waiting : Waiting) → AreEventsSpelled (posting sent waiting)
+posting_spelled sent waiting = put_out_spelled (take (lost_by sent waiting) waiting) sent
+
+module _ (s : CellState) (client volume server : ℕ) where
+  going_spelled : (sent : Sent) (o : Option ℕ) → AreEventsSpelled (going_by o sent s).events
+  going_spelled sent (Some message) = tt
+  going_spelled sent None = posting_spelled sent s.waiting
+
+  sent_spelled_of : (now window : ℕ) (v : ClientVolume) (o : Result Freezing Refused) → freezing now window server v ≡ o → AreEventsSpelled (sends_of s client volume server o).events
+  sent_spelled_of now window v (Err why) e = tt
+  sent_spelled_of now window v (Ok f) e = (let sent = ChunkSent client server volume f.number f.span in
+      both_spelled (deeds_at client volume f.deeds) (going_by (number_of sent s.waiting) sent s).events (froze_spelled client volume now window server v f e) (going_spelled sent (number_of sent s.waiting)))
+
+  sends_spelled : (window : ℕ) (v : ClientVolume) → AreEventsSpelled (sends s client volume server window v).events
+  sends_spelled window v = by (s.links client server)
+    where
+      by : (strength : Strength) → AreEventsSpelled (sends_of s client volume server (over strength (freezing s.clock window server v))).events
+      by Strong = sent_spelled_of s.clock window v (freezing s.clock window server v) refl
+      by Weak = sent_spelled_of s.clock window v (freezing s.clock window server v) refl
+      by Down = tt
+
+  ruled_in_spelled : (number : ℕ) (span : List Record) (r : ReplicaState) → HasSpelling u8 client → (o : Result Ruling Refused) → ruling client number span r ≡ o → AreEventsSpelled (ruled_in s client server volume number o).events
+  ruled_in_spelled number span r byte (Err why) e = tt
+  ruled_in_spelled number span r byte (Ok ruled) e = (let sent = AnswerSent server client volume number ruled.answer in
+      both_spelled (entries_at server volume ruled.entries) (posting sent s.waiting) (decided_spelled server volume client number span r ruled byte e) (posting_spelled sent s.waiting))
+
+  taken_in_spelled : (number : ℕ) (answer : RecordAnswer) (v : ClientVolume) (o : Result Taking Refused) → taking number answer v ≡ o → AreEventsSpelled (taken_in client volume number answer o).events
+  taken_in_spelled number answer v (Err why) e = tt
+  taken_in_spelled number answer v (Ok took) e = took_spelled client volume number answer v took e
 
 -- ---- what is asked
 
@@ -375,6 +421,32 @@ module _ (cell : MadeCell) (kept : IsKept cell) (can : CanBeSpelled cell) where
   task_spelled (task.Refresh client volume server) reply events r does = absurd does
   task_spelled (task.Giveup client volume) reply events r does = absurd does
 
+  -- a client that is there
+  client_byte : (client volume server : ℕ) → first_missing (on_holder (state_of cell) client volume server) ≡ None → HasSpelling u8 client
+  client_byte client volume server all = by (cell.sizes client) refl (all_there (client_named (state_of cell) client) (volume_named (state_of cell) volume) (holder_named (state_of cell) server volume) all).0
+    where
+      by : (o : Option ℕ) → cell.sizes client ≡ o → is_some (option_map (client_of client (cell.acted.clients client).history) o) ≡ true → HasSpelling u8 client
+      by None is e = cc
+      by (Some blocks) is e = byte client (can.clients client blocks is)
+
+  named_own : (o : Option Refused) (own : Doing) (reply : Reply) (events : List Event) → (o ≡ None → own reply events → AreEventsSpelled events) → Unless o own reply events → AreEventsSpelled events
+  named_own (Some why) own reply events rest does = nothing events does.1
+  named_own None own reply events rest does = rest refl does
+
+  comes : (sent : Sent) (reply : Reply) (events : List Event) → Comes (state_of cell) sent reply events → AreEventsSpelled events
+  comes (ChunkSent client server volume number span) reply events does = named_own (first_missing (on_holder (state_of cell) client volume server)) (ByRuling (state_of cell) client server volume number span) reply events (λ all did.
+      subst AreEventsSpelled (sym did.happened) (ruled_in_spelled (state_of cell) client volume server number span did.replica (client_byte client volume server all) (ruling client number span did.replica) refl)) does
+  comes (AnswerSent server client volume number answer) reply events does = named_own (first_missing (on_holder (state_of cell) client volume server)) (ByTaking (state_of cell) client volume number answer) reply events (λ all did.
+      subst AreEventsSpelled (sym did.happened) (taken_in_spelled (state_of cell) client volume server number answer (did.client.volumes volume) (taking number answer (did.client.volumes volume)) refl)) does
+
+  delivers : (message : ℕ) (o : Option Sent) (reply : Reply) (events : List Event) → Delivers (state_of cell) message o reply events → AreEventsSpelled events
+  delivers message None reply events does = nothing events does.1
+  delivers message (Some sent) reply events does = unless_own (link_down (cell.links (sender_of sent) (server_of sent))) (Comes (state_of cell) sent) reply events (comes sent reply events) does
+
+  loses : (message : ℕ) (o : Option Sent) (reply : Reply) (events : List Event) → Loses message o reply events → AreEventsSpelled events
+  loses message None reply events does = nothing events does.1
+  loses message (Some sent) reply events does = subst AreEventsSpelled (sym does.1) (tt, tt)
+
   number_spelled : (volume : ℕ) → IsVolume volume → HasSpelling table.volume volume
   number_spelled volume range = let most = range.1 in within 1 4294967295 four volume range.0 range.1 (omega (arith, most))
 
@@ -395,6 +467,10 @@ module _ (cell : MadeCell) (kept : IsKept cell) (can : CanBeSpelled cell) where
   line_spelled (line.Task t) reply events r does = task_spelled t reply events r does
   line_spelled (line.ShowVolume server volume) reply events r does = unless_own (first_missing (holder_named (state_of cell) server volume ∷ [])) _ reply events (λ did. nothing events did.1) does
   line_spelled (line.ShowLog client volume) reply events r does = unless_own (first_missing (on_volume (state_of cell) client volume)) _ reply events (λ did. nothing events did.1) does
+  line_spelled (line.Send client volume server window) reply events r does = unless_own (first_missing (on_holder (state_of cell) client volume server)) (BySend (state_of cell) client volume server (unwrap_or window 600)) reply events
+      (λ did. subst AreEventsSpelled (sym did.happened) (sends_spelled (state_of cell) client volume server (unwrap_or window 600) (did.client.volumes volume))) does
+  line_spelled (line.Deliver message) reply events r does = delivers message (sent_at message cell.waiting) reply events does
+  line_spelled (line.Lose message) reply events r does = loses message (sent_at message cell.waiting) reply events does
   line_spelled _ reply events r does = absurd does
 
 -- a client that is made has a number
@@ -402,10 +478,9 @@ numbered : (said : Line) → InRange said → MakesNumbered said
 numbered (line.Client client blocks area) range = λ zero. (let low = range.0.0 in let no : ⊥ = omega (arith, low, zero) in absurd no)
 numbered _ range = tt
 
-pub lines_keep_spellings : LinesKeepSpellings
-lines_keep_spellings old said reply events kept can range does =
-    let are = line_spelled old kept can said reply events range does in
-    let left = lines_keep_cells old said reply events kept (numbered said range) does in
+-- what events leave that can be spelled
+pub spelled_after : (old : MadeCell) (events : List Event) → IsKept old → CanBeSpelled old → IsLeft old events → AreEventsSpelled events → CanBeSpelled (grown_all old events)
+spelled_after old events kept can left are =
     let named = named_all old events (record { clock = can.clock; clients = can.clients; volumes = can.volumes }) are in
     record {
       clock = named.clock;
@@ -414,7 +489,11 @@ lines_keep_spellings old said reply events kept can range does =
       did = moves_spelled (moves_of events) old.acted (grown_all old events).acted left.moved kept.sound can.did (moves_are events are);
     }
 
-number_spelled_of : (cell : MadeCell) (server volume client : ℕ) → IsKept cell → CanBeSpelled cell → HasSpelling table.count (last_of volume (cell.acted.replicas server volume).history client).number
+pub lines_keep_spellings : LinesKeepSpellings
+lines_keep_spellings old said reply events kept can range does =
+    spelled_after old events kept can (lines_keep_cells old said reply events kept (numbered said range) does) (line_spelled old kept can said reply events range does)
+
+pub number_spelled_of : (cell : MadeCell) (server volume client : ℕ) → IsKept cell → CanBeSpelled cell → HasSpelling table.count (last_of volume (cell.acted.replicas server volume).history client).number
 number_spelled_of cell server volume client kept can =
     let most = (kept.sound.agree none_joins).reached server volume client in
     let few = (is_within 0 4294967295 eight (course_of (done_on cell.acted client volume)).chunks (can.did.chunks client volume)).1 in

@@ -1,13 +1,17 @@
 -- What the cell of the code stands for.
 use Rattle.std.specs.Prelude.{◌≡◌, ℕ, ◌==◌, is_some, false, List, Option, Some, None, if◌then◌else◌}
-use Rattle.std.specs.Option.{option_map, option_map_or, unwrap_or}
+use Rattle.std.specs.Option.{option_map, option_map_or}
 use Rattle.std.specs.List.{list_any}
 use Rattle.std.specs.BTreeMap as tree
-use Rattle.std.specs.Ordering.{nat_cmp, ordering_then}
-use Rattle.std.specs.declared.cmp.Ordering.{Ordering}
+use Rattle.std.specs.Ordering.{nat_cmp}
 use Rattle.coda_tree.specs.Volume.{Tree}
 use Rattle.coda_cml.specs.State.{LogState}
-use Rattle.coda_script.specs.declared.line.Strength.TheVariants.{Down}
+use Rattle.coda_state.specs.declared.state.Link.{Link}
+use Rattle.coda_state.specs.declared.state.Link.TheVariants as link
+use Rattle.coda_net.specs.Pool.{Pool, link_of}
+use Rattle.coda_letters.specs.Sent.{Waiting, AreLetters}
+use Rattle.coda_script.specs.declared.line.Strength.{Strength}
+use Rattle.coda_script.specs.declared.line.Strength.TheVariants.{Strong, Weak, Down}
 use Rattle.coda_script.specs.declared.reply.Reply.{Reply}
 use Rattle.coda_cml.specs.Steady.{IsSteady}
 use Rattle.coda_cell.specs.Held.{AreBound}
@@ -16,19 +20,30 @@ use Rattle.coda_cell.specs.Steps.{Doing, Named}
 use Rattle.coda_cell.specs.Code.{replica_state, IsClientAt}
 use Rattle.coda_cell.specs.declared.cell.Cell.{Cell}
 use Rattle.coda_replica.specs.State.{ReplicaState as Replica}
-use Rattle.coda_cell.specs.declared.links.Ends.{Ends}
 
--- the order of links: by client, then by server
-abbrev pub ends_cmp : Ends → Ends → Ordering
-ends_cmp a b = ordering_then (nat_cmp a.client b.client) (nat_cmp a.server b.server)
+-- a link, as lines name its strength
+abbrev pub strength_of : Link → Strength
+strength_of link.Strong = Strong
+strength_of link.Weak = Weak
+strength_of link.Down = Down
 
--- The code is the cell in this state. A link that wasn't set is down.
+-- how well a client reaches a server in a network; a link that wasn't set is down
+abbrev pub linked_in : Pool → ℕ → ℕ → Strength
+linked_in net client server = strength_of (link_of net client server)
+
+-- a network has these links, what waits there says this, and so many letters were posted
+pub record IsNetwork (links : ℕ → ℕ → Strength) (waiting : Waiting) (posted : ℕ) (net : Pool) : Type 0 where
+  pub links_are : (client server : ℕ) → links client server ≡ linked_in net client server
+  pub letters : AreLetters waiting net
+  pub posted_are : posted ≡ net.posted
+
+-- the code is the cell in this state
 pub record IsCell (s : CellState) (code : Cell) : Type 0 where
   pub clock : s.clock ≡ code.clock
   pub servers : s.servers ≡ code.servers.items
   pub replicas : (volume : ℕ) → s.replicas volume ≡ option_map replica_state (tree.get nat_cmp code.replicas volume)
   pub clients : (number : ℕ) → IsClientAt (s.clients number) (tree.get nat_cmp code.clients number)
-  pub links : (client server : ℕ) → s.links client server ≡ unwrap_or (tree.get ends_cmp code.links (record { client = client; server = server })) Down
+  pub net : IsNetwork s.links s.waiting s.posted code.net
 
 -- ---- the actors that a line names, by the code
 

@@ -12,7 +12,7 @@ use Rattle.coda_fid.specs.declared.op.Record.{Record}
 use Rattle.coda_tree.specs.Bindings.{Name}
 use Rattle.coda_tree.specs.Volume.{Nodes, Tree}
 use Rattle.coda_cancel.specs.Cancel.{add}
-use Rattle.coda_cancel.specs.Weights.{fits}
+use Rattle.coda_cancel.specs.Weights.{total_weight, fits}
 use Rattle.coda_plain.specs.Deeds.{created_by, Operated}
 use Rattle.coda_cml.specs.State.{IsLogOf}
 use Rattle.coda_script.specs.declared.line.Strength.{Strength}
@@ -43,12 +43,13 @@ creations_in (Some code) = code.creations
 abbrev pub RefusedNext : ClientVolume → Record → Refused → Type 0
 RefusedNext v rec why = ((why ≡ refused.LogFull) × (has_room v rec ≡ false)) ⊎ ((why ≡ refused.JournalFull) × (has_room v rec ≡ true) × (is_full v ≡ true))
 
--- a log with its count of creations is that of what a client has of a volume
+-- a log with its count of creations is that of what a client has of a volume; its records weigh at most 16 MiB together
 pub record IsVolumeLog (v : ClientVolume) (code : VolumeLog) : Type 0 where
   pub runs : IsLogOf code.log v.front v.back
   pub log : code.log ≡ log_of v
   pub creations : code.creations ≡ v.creations
   pub few : v.operations ≤ 4294967295
+  pub light : total_weight code.log.chunk + total_weight code.log.records ≤ 16777216
 
 -- the same where a client did something on the volume; else there is none
 abbrev pub IsLogAt : ClientVolume → Option VolumeLog → Type 0

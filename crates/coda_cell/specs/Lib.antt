@@ -8,11 +8,13 @@ pub mod Refusing
 pub mod Accepting
 pub mod Asking
 pub mod Sending
+pub mod Messages
 pub mod Steps
 pub mod Code
 pub mod Cells
 pub mod Runs
 pub mod Spelled
+pub mod Letters
 pub mod Laws
 pub mod Alone
 pub mod Orders

@@ -1,26 +1,31 @@
 -- A cell by what was made in it and by the histories of its actors. All else is computed from these.
-use Rattle.std.specs.Prelude.{ℕ, List, [], ◌∷◌, ◌++◌, Option, Some, None}
+use Rattle.std.specs.Prelude.{ℕ, ◌+◌, List, [], ◌∷◌, ◌++◌, Option, Some, None}
 use Rattle.std.specs.Option.{option_map}
 use Rattle.coda_script.specs.declared.line.Strength.{Strength}
 use Rattle.coda_script.specs.declared.line.Strength.TheVariants.{Down}
+use Rattle.coda_certify.specs.declared.verdict.Verdict.TheVariants as verdict
+use Rattle.coda_record.specs.declared.answer.Answer.{Answer}
+use Rattle.coda_record.specs.declared.answer.Answer.TheVariants as answer
+use Rattle.coda_letters.specs.Sent.{Sent, ChunkSent, AnswerSent, Waiting, without}
 use Rattle.coda_plain.specs.Decisions.{ReplicaEntry}
-use Rattle.coda_plain.specs.Cell.{ClientEntry, PlainCell, empty_cell}
-use Rattle.coda_plain.specs.Moves.{Move, Does, after as after_move}
-use Rattle.coda_cell.specs.State.{put, later, linked, ClientState, new_client, client_after_all, ReplicaState, new_replica, replica_after_all, CellState, Event, VolumeMade, ClientMade, Ticked, LinkSet, Entered}
+use Rattle.coda_plain.specs.Cell.{ClientEntry, Letter, ChunkSent as PlainChunk, AnswerSent as PlainAnswer, Answer as PlainReply, Ruled, Behind, Old, PlainCell, empty_cell}
+use Rattle.coda_plain.specs.Moves.{Move, Does, Posts, Loses, after as after_move}
+use Rattle.coda_cell.specs.State.{put, later, linked, ClientState, new_client, client_after_all, ReplicaState, new_replica, replica_after_all, CellState, Event, VolumeMade, ClientMade, Ticked, LinkSet, Entered, Posted, Lost}
 
 -- the clock, the servers of the volumes in the order of making, the server of each volume and the blocks of each client once it was
--- made, the links, and the histories of clients and replicas
+-- made, the links, what waits in letters, and the histories of clients and replicas with how many letters were posted
 pub record MadeCell : Type 0 where
   pub clock : ℕ
   pub servers : List ℕ
   pub homes : ℕ → Option ℕ
   pub sizes : ℕ → Option ℕ
   pub links : ℕ → ℕ → Strength
+  pub waiting : Waiting
   pub acted : PlainCell
 
 -- a cell in which nothing was made
 abbrev pub nothing_made : MadeCell
-nothing_made = record { clock = 0; servers = []; homes = λ volume. None; sizes = λ client. None; links = λ client server. Down; acted = empty_cell }
+nothing_made = record { clock = 0; servers = []; homes = λ volume. None; sizes = λ client. None; links = λ client server. Down; waiting = []; acted = empty_cell }
 
 -- what the history of a client leaves
 abbrev pub client_of : ℕ → List ClientEntry → ℕ → ClientState
@@ -38,7 +43,20 @@ state_of cell = record {
   replicas = λ volume. option_map (replica_of (λ server. (cell.acted.replicas server volume).history) volume) (cell.homes volume);
   clients = λ client. option_map (client_of client (cell.acted.clients client).history) (cell.sizes client);
   links = cell.links;
+  waiting = cell.waiting;
+  posted = cell.acted.posted;
 }
+
+-- an answer by its verdict, and a letter by the chunk's number alone, as histories have them
+abbrev pub plain_answer : Answer → PlainReply
+plain_answer answer.Applied = Ruled verdict.Applied
+plain_answer (answer.Conflict number why) = Ruled (verdict.Conflict number why)
+plain_answer (answer.Behind last) = Behind last
+plain_answer (answer.Old last) = Old last
+
+abbrev pub plain_letter : Sent → Letter
+plain_letter (ChunkSent client server volume number span) = PlainChunk client server volume number
+plain_letter (AnswerSent server client volume number answer) = PlainAnswer server client volume number (plain_answer answer)
 
 -- a cell with what an event adds
 abbrev pub grown : MadeCell → Event → MadeCell
@@ -47,6 +65,8 @@ grown cell (ClientMade client blocks) = record cell { sizes = put cell.sizes cli
 grown cell (Ticked seconds) = record cell { clock = later cell.clock seconds }
 grown cell (LinkSet client server strength) = record cell { links = linked cell.links client server strength }
 grown cell (Entered append) = record cell { acted = after_move cell.acted (Does append) }
+grown cell (Posted sent) = record cell { waiting = cell.waiting ++ (cell.acted.posted + 1, sent) ∷ []; acted = after_move cell.acted (Posts (plain_letter sent)) }
+grown cell (Lost message) = record cell { waiting = without message cell.waiting; acted = after_move cell.acted (Loses message) }
 
 -- a cell with what events add in order
 abbrev pub grown_all : MadeCell → List Event → MadeCell
@@ -60,6 +80,8 @@ move_of (ClientMade client blocks) = []
 move_of (Ticked seconds) = []
 move_of (LinkSet client server strength) = []
 move_of (Entered append) = Does append ∷ []
+move_of (Posted sent) = Posts (plain_letter sent) ∷ []
+move_of (Lost message) = Loses message ∷ []
 
 abbrev pub moves_of : List Event → List Move
 moves_of [] = []

@@ -1,5 +1,5 @@
 -- In which order a line is refused.
-use Rattle.std.specs.Prelude.{◌≡◌, ℕ, true, false, List, [], ◌∷◌, ◌++◌, Option, Ok, Err}
+use Rattle.std.specs.Prelude.{◌≡◌, ◌⊎◌, ℕ, true, false, List, [], ◌∷◌, ◌++◌, Option, Some, None, Ok, Err}
 use Rattle.coda_fid.specs.declared.op.Op.{Op}
 use Rattle.coda_tree.specs.Volume.{Nodes}
 use Rattle.coda_script.specs.declared.line.Strength.TheVariants.{Down}
@@ -13,8 +13,9 @@ use Rattle.coda_cell.specs.State.{ClientState, CellState, Event}
 use Rattle.coda_cell.specs.Accepting.{sight_of, accept}
 use Rattle.coda_cell.specs.Asking.{look_ups, behind_fetches, operate}
 use Rattle.coda_cell.specs.Refusing.{refusal}
-use Rattle.coda_cell.specs.Steps.{Named, client_named, volume_named, server_named, holder_named, on_volume, Does}
-use Rattle.coda_cell.specs.declared.refused.Refused.TheVariants.{LogFull, LinkDown, NoSuchActor}
+use Rattle.coda_letters.specs.Sent.{Sent, client_of, server_of, sent_at}
+use Rattle.coda_cell.specs.Steps.{Named, client_named, volume_named, server_named, holder_named, on_volume, on_holder, Does}
+use Rattle.coda_cell.specs.declared.refused.Refused.TheVariants.{LogFull, LinkDown, NoSuchActor, NoMessage}
 
 -- the actors that a task names, from left to right
 abbrev pub named_in : CellState → Task → List Named
@@ -39,6 +40,7 @@ named_by s (line.Link client server strength) = client_named s client ∷ server
 named_by s (line.Task t) = named_in s t
 named_by s (line.ShowVolume server volume) = holder_named s server volume ∷ []
 named_by s (line.ShowLog client volume) = on_volume s client volume
+named_by s (line.Send client volume server window) = on_holder s client volume server
 named_by s _ = []
 
 -- all of them are there
@@ -55,6 +57,13 @@ pub record RefusalsComeInOrder : Type 0 where
   pub unreached : (s : CellState) (client volume server : ℕ) (window : Option ℕ) (reply : Reply) (events : List Event)
       → Does s (line.Task (task.Drain client volume server window)) reply events → AreThere (named_in s (task.Drain client volume server window)) → s.links client server ≡ Down
       → (reply ≡ refusal LinkDown) × (events ≡ [])
+  pub unsent : (s : CellState) (client volume server : ℕ) (window : Option ℕ) (reply : Reply) (events : List Event)
+      → Does s (line.Send client volume server window) reply events → AreThere (on_holder s client volume server) → s.links client server ≡ Down → (reply ≡ refusal LinkDown) × (events ≡ [])
+  -- of a letter first that there is none, and then, where it is to come, for the link between its ends
+  pub missed : (s : CellState) (message : ℕ) (reply : Reply) (events : List Event) → sent_at message s.waiting ≡ None
+      → Does s (line.Deliver message) reply events ⊎ Does s (line.Lose message) reply events → (reply ≡ refusal (NoMessage message)) × (events ≡ [])
+  pub stopped : (s : CellState) (message : ℕ) (sent : Sent) (reply : Reply) (events : List Event) → sent_at message s.waiting ≡ Some sent → s.links (client_of sent) (server_of sent) ≡ Down
+      → Does s (line.Deliver message) reply events → (reply ≡ refusal LinkDown) × (events ≡ [])
   -- an operation is refused for a log that is full only where acceptance has nothing against it
   pub full : (offers : Option Nodes) (c : ClientState) (time volume : ℕ) (ask : Asked) → (operate offers c time volume ask).said ≡ Err LogFull
       → (op : Op) × (accept (sight_of (behind_fetches c (look_ups offers c.held volume ask)) volume) volume ask ≡ Ok op)

@@ -1,5 +1,5 @@
 -- What holds of a cell between two lines, and what each line makes of it.
-use Rattle.std.specs.Prelude.{◌≡◌, ◌≢◌, ◌<◌, ℕ, ◌+◌, true, Some, None, Ok, List, []}
+use Rattle.std.specs.Prelude.{◌≡◌, ◌≢◌, ◌<◌, ◌≤◌, ℕ, ◌+◌, true, Some, None, Ok, List, [], ◌∷◌}
 use Rattle.coda_certify.specs.Verdicts.{verdict_of}
 use Rattle.coda_cml.specs.Segments.{segments_of}
 use Rattle.coda_cml.specs.Chunks.{freeze_refusal}
@@ -16,7 +16,9 @@ use Rattle.coda_cell.specs.Asking.{Said}
 use Rattle.coda_cell.specs.Sending.{frozen_now, drained}
 use Rattle.coda_cell.specs.State.{ClientVolume, ClientState, ReplicaState, Event, after_all}
 use Rattle.coda_cell.specs.Kept.{IsHolding}
-use Rattle.coda_cell.specs.Made.{MadeCell, nothing_made, client_of, state_of, grown_all, moves_of}
+use Rattle.coda_plain.specs.Deeds.{span_of}
+use Rattle.coda_letters.specs.Sent.{Sent, ChunkSent, AnswerSent, Waiting}
+use Rattle.coda_cell.specs.Made.{MadeCell, plain_letter, nothing_made, client_of, state_of, grown_all, moves_of}
 use Rattle.coda_cell.specs.Steps.{Does}
 use Rattle.coda_cell.specs.Cells.{AreOrderly}
 
@@ -33,13 +35,34 @@ pub record AreMade (cell : MadeCell) : Type 0 where
   pub volumes : (client volume : ℕ) → cell.homes volume ≡ None → done_on cell.acted client volume ≡ []
   pub replicas : (server volume : ℕ) → cell.homes volume ≢ Some server → (cell.acted.replicas server volume).history ≡ []
 
--- What holds of a cell between two lines: its histories are sound, all actors are up, those that weren't made did nothing, and what
--- each client holds is in order. A chunk may be frozen, and its server may have decided it already.
+-- the numbers of letters rise, above one and up to another
+abbrev pub AreNumbered : ℕ → ℕ → Waiting → Type 0
+AreNumbered before last [] = Unit {0}
+AreNumbered before last (l ∷ waiting) = (before < l.0) × (l.0 ≤ last) × AreNumbered l.0 last waiting
+
+-- what a letter says of a chunk are the operations that its client froze
+abbrev pub IsSaid : PlainCell → Sent → Type 0
+IsSaid cell (ChunkSent client server volume number span) = span ≡ span_of (done_on cell client volume) number
+IsSaid cell (AnswerSent server client volume number answer) = Unit {0}
+
+-- each letter that waits is that of its number in the pool
+abbrev pub ArePooled : PlainCell → Waiting → Type 0
+ArePooled cell [] = Unit {0}
+ArePooled cell (l ∷ waiting) = (cell.pool l.0 ≡ Some (plain_letter l.1)) × IsSaid cell l.1 × ArePooled cell waiting
+
+-- the letters that wait are letters that were posted, and say what is so
+pub record AreLettersOf (cell : MadeCell) : Type 0 where
+  pub numbered : AreNumbered 0 cell.acted.posted cell.waiting
+  pub pooled : ArePooled cell.acted cell.waiting
+
+-- What holds of a cell between two lines: its histories are sound, all actors are up, those that weren't made did nothing, what each
+-- client holds is in order, and so are the letters that wait. A chunk may be frozen, and its server may have decided it already.
 pub record IsKept (cell : MadeCell) : Type 0 where
   pub sound : IsSound cell.acted
   pub up : AreUp cell.acted
   pub made : AreMade cell
   pub holding : (client blocks : ℕ) → cell.sizes client ≡ Some blocks → IsHolding cell.acted (client_of client (cell.acted.clients client).history blocks)
+  pub letters : AreLettersOf cell
 
 -- a line makes no client with the number 0
 abbrev pub MakesNumbered : Line → Type 0

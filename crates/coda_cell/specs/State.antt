@@ -15,6 +15,7 @@ use Rattle.coda_plain.specs.Deeds.{Deed, Operated, Froze, Settled, Gaveup, creat
 use Rattle.coda_plain.specs.Decisions.{ReplicaEntry, Decided, Resolved, Last, with_last, no_lasts, decision}
 use Rattle.coda_plain.specs.Cell.{ClientEntry, Fetched, Did}
 use Rattle.coda_plain.specs.Moves.{Append, AtClient, AtReplica}
+use Rattle.coda_letters.specs.Sent.{Sent, Waiting, without}
 use Rattle.coda_cell.specs.Held.{Held, nothing_held, held_after}
 
 -- the same for each key, but this at one of them
@@ -120,13 +121,16 @@ replica_after_all r (entry ∷ entries) = replica_after_all (replica_after r ent
 -- ---- a cell
 
 -- what a cell is at a moment: its clock in seconds, the servers of the volumes in the order of making, the replica of each volume and
--- each client once it was made, and the links between clients and servers
+-- each client once it was made, the links between clients and servers, what waits in letters between them, in the order of their
+-- numbers, and how many letters were posted
 pub record CellState : Type 0 where
   pub clock : ℕ
   pub servers : List ℕ
   pub replicas : ℕ → Option ReplicaState
   pub clients : ℕ → Option ClientState
   pub links : ℕ → ℕ → Strength
+  pub waiting : Waiting
+  pub posted : ℕ
 
 -- what happens in a cell
 pub data Event : Type 0 where
@@ -140,6 +144,10 @@ pub data Event : Type 0 where
   LinkSet : (client server : ℕ) (strength : Strength) → Event
   -- the history of an actor has one more entry
   Entered : (append : Append) → Event
+  -- a letter is posted, which says this
+  Posted : (sent : Sent) → Event
+  -- the letter of this number is lost
+  Lost : (message : ℕ) → Event
 
 -- an entry of a client, as it happens
 abbrev pub at_client : ℕ → ClientEntry → Event
@@ -147,7 +155,7 @@ at_client client entry = Entered (AtClient client entry)
 
 -- a cell in which nothing was made; all links are down
 abbrev pub empty_state : CellState
-empty_state = record { clock = 0; servers = []; replicas = λ volume. None; clients = λ client. None; links = λ client server. Down }
+empty_state = record { clock = 0; servers = []; replicas = λ volume. None; clients = λ client. None; links = λ client server. Down; waiting = []; posted = 0 }
 
 -- a clock some seconds later; it stops at the last number of 64 bits
 abbrev pub later : ℕ → ℕ → ℕ
@@ -169,6 +177,8 @@ after s (Ticked seconds) = record s { clock = later s.clock seconds }
 after s (LinkSet client server strength) = record s { links = linked s.links client server strength }
 after s (Entered (AtClient client entry)) = record s { clients = put s.clients client (option_map (λ c. client_after c entry) (s.clients client)) }
 after s (Entered (AtReplica server volume entry)) = record s { replicas = put s.replicas volume (option_map (replica_after_at server entry) (s.replicas volume)) }
+after s (Posted sent) = record s { waiting = s.waiting ++ (s.posted + 1, sent) ∷ []; posted = s.posted + 1 }
+after s (Lost message) = record s { waiting = without message s.waiting }
 
 -- a cell after events in order
 abbrev pub after_all : CellState → List Event → CellState

@@ -12,14 +12,18 @@ use Rattle.coda_script.specs.declared.line.Task.TheVariants as task
 use Rattle.coda_script.specs.declared.line.Line.{Line}
 use Rattle.coda_script.specs.declared.line.Line.TheVariants as line
 use Rattle.coda_script.specs.declared.reply.Reply.{Reply}
-use Rattle.coda_script.specs.declared.reply.Reply.TheVariants.{Opened, Accepted, ShowVolume, ShowLog}
+use Rattle.coda_script.specs.declared.reply.Reply.TheVariants.{Opened, Accepted, Lost, ShowVolume, ShowLog}
 use Rattle.coda_cell.specs.Ask.{Asked, Create, Mkdir, Symlink, Store, Setattr, Remove, Rmdir, Rename}
-use Rattle.coda_cell.specs.State.{ClientState, ReplicaState, CellState, Event, VolumeMade, ClientMade, Ticked, LinkSet, at_client}
+use Rattle.coda_fid.specs.declared.op.Record.{Record}
+use Rattle.coda_record.specs.declared.answer.Answer.{Answer as RecordAnswer}
+use Rattle.coda_letters.specs.Sent.{Sent, ChunkSent, AnswerSent, client_of, server_of, sent_at}
+use Rattle.coda_cell.specs.State.{ClientVolume, ClientState, ReplicaState, CellState, Event, VolumeMade, ClientMade, Ticked, LinkSet, Lost as LetterLost, at_client}
 use Rattle.coda_cell.specs.Refusing.{refusal}
 use Rattle.coda_cell.specs.Sending.{drain}
+use Rattle.coda_cell.specs.Messages.{sends, chunk_comes, answer_comes}
 use Rattle.coda_cell.specs.Asking.{Said, Answer, operate, read, list}
 use Rattle.coda_cell.specs.declared.refused.Refused.{Refused}
-use Rattle.coda_cell.specs.declared.refused.Refused.TheVariants.{NoSuchActor, AlreadyThere, CellFull}
+use Rattle.coda_cell.specs.declared.refused.Refused.TheVariants.{NoSuchActor, AlreadyThere, CellFull, LinkDown, NoMessage}
 
 -- ---- which lines are built
 
@@ -50,6 +54,9 @@ is_built (line.Tick seconds) = true
 is_built (line.Task t) = is_built_task t
 is_built (line.ShowVolume server volume) = true
 is_built (line.ShowLog client volume) = true
+is_built (line.Send client volume server window) = true
+is_built (line.Deliver message) = true
+is_built (line.Lose message) = true
 is_built _ = false
 
 -- ---- actors that a line names
@@ -146,6 +153,27 @@ pub record ByBoth (s : CellState) (number volume window : ℕ) (reply : Reply) (
   pub answered : reply ≡ reply_to (drain (s.links number replica.server) s.clock window number volume (client.volumes volume) replica).said
   pub happened : events ≡ (drain (s.links number replica.server) s.clock window number volume (client.volumes volume) replica).events
 
+-- a client sends a chunk of a volume to a server
+pub record BySend (s : CellState) (number volume server window : ℕ) (reply : Reply) (events : List Event) : Type 0 where
+  pub client : ClientState
+  pub there : s.clients number ≡ Some client
+  pub answered : reply ≡ reply_to (sends s number volume server window (client.volumes volume)).said
+  pub happened : events ≡ (sends s number volume server window (client.volumes volume)).events
+
+-- a client's chunk comes to the replica of its volume
+pub record ByRuling (s : CellState) (number server volume chunk : ℕ) (span : List Record) (reply : Reply) (events : List Event) : Type 0 where
+  pub replica : ReplicaState
+  pub there : s.replicas volume ≡ Some replica
+  pub answered : reply ≡ reply_to (chunk_comes s number server volume chunk span replica).said
+  pub happened : events ≡ (chunk_comes s number server volume chunk span replica).events
+
+-- the answer to a chunk comes to its client
+pub record ByTaking (s : CellState) (number volume chunk : ℕ) (answer : RecordAnswer) (reply : Reply) (events : List Event) : Type 0 where
+  pub client : ClientState
+  pub there : s.clients number ≡ Some client
+  pub answered : reply ≡ reply_to (answer_comes number volume chunk answer (client.volumes volume)).said
+  pub happened : events ≡ (answer_comes number volume chunk answer (client.volumes volume)).events
+
 -- a reply, and one thing that happens
 abbrev pub Happens : Reply → Event → Doing
 Happens said event reply events = (reply ≡ said) × (events ≡ event ∷ [])
@@ -186,6 +214,31 @@ DoesTask s (task.Hardlink client volume from to) = Nowhere
 DoesTask s (task.Refresh client volume server) = Nowhere
 DoesTask s (task.Giveup client volume) = Nowhere
 
+-- a client, a volume and the server that holds it, which a line names in this order, or a letter
+abbrev pub on_holder : CellState → ℕ → ℕ → ℕ → List Named
+on_holder s client volume server = client_named s client ∷ volume_named s volume ∷ holder_named s server volume ∷ []
+
+-- a letter comes to whom it was sent
+abbrev pub Comes : CellState → Sent → Doing
+Comes s (ChunkSent client server volume number span) = Naming (on_holder s client volume server) (ByRuling s client server volume number span)
+Comes s (AnswerSent server client volume number answer) = Naming (on_holder s client volume server) (ByTaking s client volume number answer)
+
+-- why a link carries nothing
+abbrev pub link_down : Strength → Option Refused
+link_down Strong = None
+link_down Weak = None
+link_down Down = Some LinkDown
+
+-- A letter that waits is delivered where the link between its ends is up; it waits on, so it may be delivered again.
+abbrev pub Delivers : CellState → ℕ → Option Sent → Doing
+Delivers s message None = Unless (Some (NoMessage message)) Nowhere
+Delivers s message (Some sent) = Unless (link_down (s.links (client_of sent) (server_of sent))) (Comes s sent)
+
+-- a letter that waits is lost
+abbrev pub Loses : ℕ → Option Sent → Doing
+Loses message None = Unless (Some (NoMessage message)) Nowhere
+Loses message (Some sent) = Happens (Lost message) (LetterLost message)
+
 -- the server of a volume that is on one alone
 abbrev pub alone : List ℕ → ℕ
 alone [] = 0
@@ -200,4 +253,7 @@ Does s (line.Tick seconds) = Happens Accepted (Ticked seconds)
 Does s (line.Task t) = DoesTask s t
 Does s (line.ShowVolume server volume) = Naming (holder_named s server volume ∷ []) (Says (ShowVolume server volume))
 Does s (line.ShowLog client volume) = Naming (on_volume s client volume) (Says (ShowLog client volume))
+Does s (line.Send client volume server window) = Naming (on_holder s client volume server) (BySend s client volume server (unwrap_or window 600))
+Does s (line.Deliver message) = Delivers s message (sent_at message s.waiting)
+Does s (line.Lose message) = Loses message (sent_at message s.waiting)
 Does s _ = Nowhere

@@ -10,10 +10,11 @@ ghost use Rattle.coda_cell.specs.Steps.{reply_to};
 ghost use Rattle.coda_cell.specs.Code.{replica_state};
 
 use crate::fault::CellFault;
-use crate::links::{Ends, put_link};
+use crate::links::set_strength;
 use crate::refused::Refused;
 use crate::venus::Venus;
 use coda_cml::Log;
+use coda_net::{Net, NetFault};
 use coda_replica::Decider;
 use coda_script::{Numbers, Reply, Strength};
 use coda_tree::Volume;
@@ -36,8 +37,8 @@ pub struct Cell {
     pub replicas: BTreeMap<u32, Decider>,
     /// The clients, by their numbers.
     pub clients: BTreeMap<u8, Venus>,
-    /// The links that were set; the others are down.
-    pub links: BTreeMap<Ends, Strength>,
+    /// The letters that wait, and the links.
+    pub net: Net,
 }
 
 // The reply that an actor's disk had no entries.
@@ -96,7 +97,7 @@ impl Cell {
             servers: Vec::new(alloc),
             replicas: BTreeMap::new(alloc),
             clients: BTreeMap::new(alloc),
-            links: BTreeMap::new(alloc),
+            net: Net::new(alloc),
         }
     }
 
@@ -218,10 +219,10 @@ impl Cell {
         put_venus(&mut self.clients, client, venus)
     }
 
-    fn put_link(&mut self, client: u8, server: u8, strength: Strength) -> Result<(), AllocError>
+    fn put_link(&mut self, client: u8, server: u8, strength: Strength) -> Result<(), NetFault>
         ensures { (s : CellState) → IsCell s self.old → OnOk result (IsCell (after s (LinkSet client server strength)) self.new) }
     {
-        put_link(&mut self.links, Ends { client, server }, strength)
+        set_strength(&mut self.net, client, server, strength)
     }
 
     /// Makes a volume on a server.
@@ -258,8 +259,10 @@ impl Cell {
         if let Some(why) = self.missing_end(client, server) {
             return answered(self.alloc, Err(why));
         }
-        self.put_link(client, server, strength)?;
-        Ok(Reply::Accepted)
+        match self.put_link(client, server, strength) {
+            Ok(()) => Ok(Reply::Accepted),
+            Err(_) => Err(CellFault::Memory),
+        }
     }
 
     /// Lets time pass.

@@ -33,6 +33,7 @@ pub struct Until {
 }
 
 // Freezes what may go of a log for a server, where nothing is frozen, and answers the chunk's number.
+#[tactic(auto, using(crate::proofs::LightLogs::parted))]
 fn freeze_now(until: Until, log: &mut VolumeLog, server: u8) -> Result<u64, Refused>
     ensures { (v : ClientVolume) → IsVolumeLog v log.old → v.frozen ≡ None → IsSteady (pending v) → Freezes (freezing until.now until.window server v) v result log.new }
 {

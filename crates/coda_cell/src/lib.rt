@@ -12,6 +12,7 @@ mod laws;
 mod lines;
 mod links;
 mod looking;
+mod messages;
 mod parents;
 mod refused;
 mod request;

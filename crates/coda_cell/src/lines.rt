@@ -4,6 +4,7 @@ ghost use Rattle.coda_cell.specs.Steps.{is_built, is_built_task, is_plain, alone
 
 use crate::cell::Cell;
 use crate::fault::CellFault;
+use crate::tasks::AGING_WINDOW;
 use coda_script::{Line, Reply, Strength, Task};
 
 // Whether a link may have this strength so far.
@@ -41,6 +42,9 @@ pub fn is_built(line: &Line) -> bool
         Line::Task(task) => is_built_task(task),
         Line::ShowVolume { .. } => true,
         Line::ShowLog { .. } => true,
+        Line::Send { .. } => true,
+        Line::Deliver { .. } => true,
+        Line::Lose { .. } => true,
         _ => false,
     }
 }
@@ -56,14 +60,17 @@ fn alone(servers: &[u8]) -> u8
 }
 
 impl Cell {
-    ghost use Rattle.std.specs.Prelude.{◌≡◌, true, IfOk};
+    ghost use Rattle.std.specs.Prelude.{◌≡◌, ◌<◌, ◌^◌, true, IfOk};
     ghost use Rattle.coda_cell.specs.State.{CellState};
     ghost use Rattle.coda_cell.specs.Steps.{is_built, Does};
+    ghost use Rattle.coda_cell.specs.Letters.{IsShown};
     ghost use Rattle.coda_cell.specs.Cells.{IsCell, AreOrderly, Carried};
 
     /// Carries out a line that is built, and answers its reply.
     pub fn step(&mut self, line: &Line) -> Result<Reply, CellFault>
-        requires { is_built line.now ≡ true }
+        requires built { is_built line.now ≡ true }
+        requires shown { IsShown self.old }
+        requires few { self.old.net.posted < 2 ^ 63 }
         ensures { (s : CellState) → IsCell s self.old → AreOrderly s → IfOk result (λ reply. Carried (Does s line.now) s reply self.new) }
     {
         match line {
@@ -82,6 +89,17 @@ impl Cell {
             Line::Task(task) => self.carry_out(task),
             Line::ShowVolume { server, volume } => self.show_volume(*server, *volume),
             Line::ShowLog { client, volume } => self.show_log(*client, *volume),
+            Line::Send {
+                client,
+                volume,
+                server,
+                window,
+            } => {
+                let window = window.unwrap_or(AGING_WINDOW);
+                self.send(*client, *volume, *server, window)
+            }
+            Line::Deliver { message } => self.deliver(*message),
+            Line::Lose { message } => self.lose(*message),
             _ => unreachable!(),
         }
     }

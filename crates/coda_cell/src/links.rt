@@ -1,42 +1,44 @@
-// The links between clients and servers.
+// The links between clients and servers, as lines name them.
 ghost use Rattle.std.specs.Prelude.{◌≡◌, ℕ, OnOk};
-ghost use Rattle.std.specs.BTreeMap as tree;
-ghost use Rattle.std.specs.Option.{unwrap_or};
-ghost use Rattle.coda_script.specs.declared.line.Strength.TheVariants as Strength;
 ghost use Rattle.coda_cell.specs.State.{linked};
-ghost use Rattle.coda_cell.specs.Cells.{ends_cmp};
+ghost use Rattle.coda_cell.specs.Cells.{strength_of, linked_in};
 
+use coda_net::{Net, NetFault};
 use coda_script::Strength;
-use std::alloc::AllocError;
-use std::collections::BTreeMap;
+use coda_state::Link;
 
-/// The two ends of a link.
-#[derive(Clone, Copy, Debug, PartialEq, Eq, PartialOrd, Ord)]
-pub struct Ends {
-    /// The number of the client.
-    pub client: u8,
-    /// The number of the server.
-    pub server: u8,
+// A link of this strength.
+fn link_of(strength: Strength) -> Link
+    ensures { strength_of result ≡ strength }
+{
+    match strength {
+        Strength::Strong => Link::Strong,
+        Strength::Weak => Link::Weak,
+        Strength::Down => Link::Down,
+    }
 }
 
 /// How well a client reaches a server. A link that wasn't set is down.
-pub fn strength(links: &BTreeMap<Ends, Strength>, client: u8, server: u8) -> Strength
-    ensures { result ≡ unwrap_or (tree.get ends_cmp links.now (record { client = client; server = server })) Strength.Down }
+pub fn strength(net: &Net, client: u8, server: u8) -> Strength
+    ensures { result ≡ linked_in net.now client server }
 {
-    match links.get(&Ends { client, server }) {
-        Some(strength) => *strength,
-        None => Strength::Down,
+    match net.link(client, server) {
+        Link::Strong => Strength::Strong,
+        Link::Weak => Strength::Weak,
+        Link::Down => Strength::Down,
     }
 }
 
 /// Sets the strength of a link. Fails for want of memory alone.
-pub fn put_link(
-    links: &mut BTreeMap<Ends, Strength>,
-    ends: Ends,
+pub fn set_strength(
+    net: &mut Net,
+    client: u8,
+    server: u8,
     strength: Strength,
-) -> Result<(), AllocError>
-    ensures { OnOk result ((c s : ℕ) → unwrap_or (tree.get ends_cmp links.new (record { client = c; server = s })) Strength.Down ≡ linked (λ d t. unwrap_or (tree.get ends_cmp links.old (record { client = d; server = t })) Strength.Down) ends.client ends.server strength c s) }
+) -> Result<(), NetFault>
+    ensures links { OnOk result ((c s : ℕ) → linked_in net.new c s ≡ linked (linked_in net.old) client server strength c s) }
+    ensures letters { net.new.letters ≡ net.old.letters }
+    ensures posted { net.new.posted ≡ net.old.posted }
 {
-    links.insert(ends, strength)?;
-    Ok(())
+    net.set_link(client, server, link_of(strength))
 }

@@ -1,26 +1,26 @@
 // What clients do in a cell.
 ghost use Rattle.std.specs.Prelude.{◌≡◌, Some, IsSome, IfOk, replicate, true, option_map};
 ghost use Rattle.std.specs.BTreeMap as tree;
-ghost use Rattle.std.specs.Option.{option_and_then, unwrap_or};
+ghost use Rattle.std.specs.Option.{option_and_then};
 ghost use Rattle.std.specs.Ordering.{nat_cmp};
-ghost use Rattle.coda_script.specs.declared.line.Strength.TheVariants as Strength;
 ghost use Rattle.coda_cml.specs.Steady.{IsSteady};
 ghost use Rattle.coda_cell.specs.Held.{AreBound};
 ghost use Rattle.coda_cell.specs.State.{pending, ClientState};
 ghost use Rattle.coda_cell.specs.Steps.{reached};
 ghost use Rattle.coda_cell.specs.Sending.{drain};
 ghost use Rattle.coda_cell.specs.Code.{IsClientAt, replica_state, nodes_offered, requested, answer_of, GivesAt, SendsAt, SendsBetween};
-ghost use Rattle.coda_cell.specs.Cells.{ends_cmp};
+ghost use Rattle.coda_cell.specs.Cells.{linked_in};
 
 use crate::ask::Ask;
 use crate::cell::{Cell, answered};
 use crate::draining::{Until, send};
 use crate::fault::CellFault;
-use crate::links::{Ends, strength};
+use crate::links::strength;
 use crate::refused::Refused;
 use crate::request::Request;
 use crate::venus::Venus;
 use coda_fid::{Bytes, Path};
+use coda_net::Net;
 use coda_replica::Decider;
 use coda_script::{Content, Reply, Strength, Task};
 use coda_tree::Volume;
@@ -35,7 +35,7 @@ const FILE_MODE: u16 = 0o644;
 
 /// The seconds that an operation waits before it is sent, where the line names none (Mummert, Ebling and Satyanarayanan
 /// 1995).
-const AGING_WINDOW: u64 = 600;
+pub const AGING_WINDOW: u64 = 600;
 
 // The volume of a replica, where its server can be reached.
 fn offers(strength: Strength, replica: &Decider) -> Option<&Volume>
@@ -50,15 +50,15 @@ fn offers(strength: Strength, replica: &Decider) -> Option<&Volume>
 
 // What a client can fetch of a volume.
 fn offers_of<'a>(
-    links: &BTreeMap<Ends, Strength>,
+    net: &Net,
     replicas: &'a BTreeMap<u32, Decider>,
     client: u8,
     volume: u32,
 ) -> Option<&'a Volume>
-    ensures { nodes_offered result ≡ option_and_then (λ r. reached (unwrap_or (tree.get ends_cmp links.now (record { client = client; server = r.server })) Strength.Down) r) (option_map replica_state (tree.get nat_cmp replicas.now volume)) }
+    ensures { nodes_offered result ≡ option_and_then (λ r. reached (linked_in net.now client r.server) r) (option_map replica_state (tree.get nat_cmp replicas.now volume)) }
 {
     match replicas.get(&volume) {
-        Some(replica) => offers(strength(links, client, replica.server()), replica),
+        Some(replica) => offers(strength(net, client, replica.server()), replica),
         None => None,
     }
 }
@@ -96,7 +96,7 @@ fn send_at(
 
 // Has a client send what is pending of a volume to the volume's replica, where both are there.
 fn send_between(
-    links: &BTreeMap<Ends, Strength>,
+    net: &Net,
     until: Until,
     clients: &mut BTreeMap<u8, Venus>,
     replicas: &mut BTreeMap<u32, Decider>,
@@ -105,10 +105,10 @@ fn send_between(
 ) -> Result<Reply, Refused>
     requires client { IsSome (tree.get nat_cmp clients.old client) }
     requires replica { IsSome (tree.get nat_cmp replicas.old volume) }
-    ensures { (c : ClientState) → IsClientAt (Some c) (tree.get nat_cmp clients.old client) → IsSteady (pending (c.volumes volume)) → SendsBetween (λ server. unwrap_or (tree.get ends_cmp links.now (record { client = client; server = server })) Strength.Down) until.now until.window c volume client result clients.old clients.new replicas.old replicas.new }
+    ensures { (c : ClientState) → IsClientAt (Some c) (tree.get nat_cmp clients.old client) → IsSteady (pending (c.volumes volume)) → SendsBetween (λ server. linked_in net.now client server) until.now until.window c volume client result clients.old clients.new replicas.old replicas.new }
 {
     let replica = replicas.get_mut(&volume).unwrap();
-    let strength = strength(links, client, replica.server());
+    let strength = strength(net, client, replica.server());
     send_at(strength, until, clients, client, volume, replica)
 }
 
@@ -138,7 +138,7 @@ impl Cell {
         requires { first_missing (client_in self.old client ∷ volume_in self.old volume ∷ []) ≡ None }
         ensures { (s : CellState) → IsCell s self.old → AreOrderly s → IfOk result (λ reply. Carried (ByClient s client volume (λ offers c. answer_of (requested request.now) offers c volume)) s reply self.new) }
     {
-        let offers = offers_of(&self.links, &self.replicas, client, volume);
+        let offers = offers_of(&self.net, &self.replicas, client, volume);
         let said = answer_at(&mut self.clients, client, offers, volume, request);
         answered(self.alloc, said)
     }
@@ -204,7 +204,7 @@ impl Cell {
             window,
         };
         let said = send_between(
-            &self.links,
+            &self.net,
             until,
             &mut self.clients,
             &mut self.replicas,

@@ -1,18 +1,12 @@
 use Rattle.std.proofs.Common.{◌≡◌, Ok, Err, sym, ap, subst}
-use Rattle.std.specs.Result.{IsErrAnd}
 use Rattle.coda_script.specs.declared.reply.Answer.{Answer}
 use Rattle.coda_script.specs.declared.reply.Reply.TheVariants.{Drained}
 use Rattle.coda_cell.specs.Asking.{Said}
 use Rattle.coda_cell.specs.Code.{replica_state, Drains}
 use Rattle.coda_cell.specs.Sending.{drained}
-use Rattle.coda_cell.specs.declared.refused.Refused.{Refused}
+use Rattle.coda_cell.proofs.Carrying.{residual_is}
 use Rattle.coda_cell.proofs.Exchanges.{exchange_refused, exchange_done}
 use Rattle.coda_cell.proofs.draining.send_log.Goals as goal
-
--- what `?` hands on
-residual_is : (result : Said) (why : Refused) → IsErrAnd result (λ e. e ≡ why) → result ≡ Err why
-residual_is (Ok reply) why is = absurd is
-residual_is (Err e) why is = ap (λ w. Err w) is
 
 pub returns-in_err-take : goal.returns-in_err-take
 returns-in_err-take c = λ v is steady.
