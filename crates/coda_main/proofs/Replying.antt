@@ -12,13 +12,15 @@ use Rattle.coda_script.specs.declared.line.Task.TheVariants as task
 use Rattle.coda_script.specs.declared.line.Line.{Line}
 use Rattle.coda_script.specs.declared.line.Line.TheVariants as line
 use Rattle.coda_script.specs.declared.reply.Reply.{Reply}
-use Rattle.coda_script.specs.declared.reply.Reply.TheVariants.{Opened, Accepted, ShowVolume, ShowLog}
+use Rattle.coda_script.specs.declared.reply.Reply.TheVariants.{Opened, Accepted, Lost, ShowVolume, ShowLog}
 use Rattle.coda_cell.specs.declared.refused.Refused.{Refused}
-use Rattle.coda_cell.specs.declared.refused.Refused.TheVariants.{NoSuchActor}
+use Rattle.coda_cell.specs.declared.refused.Refused.TheVariants.{NoSuchActor, NoMessage}
 use Rattle.coda_cell.specs.Refusing.{refusal}
-use Rattle.coda_cell.specs.State.{ClientState, CellState, Event, VolumeMade, ClientMade, Ticked, LinkSet, at_client}
+use Rattle.coda_cell.specs.State.{ClientState, CellState, Event, VolumeMade, ClientMade, Ticked, LinkSet, Lost as LetterLost, at_client}
 use Rattle.coda_cell.specs.Asking.{Answer}
-use Rattle.coda_cell.specs.Steps.{Doing, Unless, Naming, Happens, ByClient, ByBoth, Does, DoesTask, first_missing, client_named, volume_named, server_named, holder_named, on_volume, no_volume, no_client, offers_of, reply_to, alone, is_built, is_built_task}
+use Rattle.coda_cell.specs.Steps.{Doing, Unless, Naming, Happens, ByClient, ByBoth, BySend, ByRuling, ByTaking, Comes, link_down, Delivers, Loses, Does, DoesTask, first_missing, client_named, volume_named, server_named, holder_named, on_volume, on_holder, no_volume, no_client, offers_of, reply_to, alone, is_built, is_built_task}
+use Rattle.coda_letters.specs.Sent.{Sent, ChunkSent, AnswerSent, client_of as sender_of, server_of, sent_at}
+use Rattle.coda_cell.specs.Messages.{sends, chunk_comes, answer_comes}
 use Rattle.coda_cell.specs.Sending.{drain}
 use Rattle.coda_cell.specs.Made.{MadeCell, state_of, grown_all}
 use Rattle.coda_main.specs.PlainRun.{LineGives}
@@ -54,6 +56,31 @@ by_both s client volume server window =
     let out = drain (s.links client r.0.server) s.clock window client volume (c.0.volumes volume) r.0 in
     (reply_to out.said, out.events, record { client = c.0; replica = r.0; client_there = c.1; replica_there = r.1; answered = refl; happened = refl }))
 
+by_send : (s : CellState) (client volume server window : ℕ) → Some_of (Naming (on_holder s client volume server) (BySend s client volume server window))
+by_send s client volume server window =
+    unless_some (first_missing (on_holder s client volume server)) (BySend s client volume server window) (λ none.
+    let c = there_of (s.clients client) (first_missing (volume_named s volume ∷ holder_named s server volume ∷ [])) client none in
+    let out = sends s client volume server window (c.0.volumes volume) in
+    (reply_to out.said, out.events, record { client = c.0; there = c.1; answered = refl; happened = refl }))
+
+comes_some : (s : CellState) (sent : Sent) → Some_of (Comes s sent)
+comes_some s (ChunkSent client server volume number span) =
+    unless_some (first_missing (on_holder s client volume server)) (ByRuling s client server volume number span) (λ none.
+    let behind = holder_named s server volume ∷ [] in
+    let c = there_of (s.clients client) (first_missing (volume_named s volume ∷ behind)) client none in
+    let r = there_of (s.replicas volume) (first_missing behind) volume c.2 in
+    let out = chunk_comes s client server volume number span r.0 in
+    (reply_to out.said, out.events, record { replica = r.0; there = r.1; answered = refl; happened = refl }))
+comes_some s (AnswerSent server client volume number answer) =
+    unless_some (first_missing (on_holder s client volume server)) (ByTaking s client volume number answer) (λ none.
+    let c = there_of (s.clients client) (first_missing (volume_named s volume ∷ holder_named s server volume ∷ [])) client none in
+    let out = answer_comes client volume number answer (c.0.volumes volume) in
+    (reply_to out.said, out.events, record { client = c.0; there = c.1; answered = refl; happened = refl }))
+
+delivers_some : (s : CellState) (message : ℕ) (o : Option Sent) → Some_of (Delivers s message o)
+delivers_some s message None = (refusal (NoMessage message), [], (refl, refl))
+delivers_some s message (Some sent) = unless_some (link_down (s.links (sender_of sent) (server_of sent))) (Comes s sent) (λ up. comes_some s sent)
+
 task_some : (s : CellState) (t : Task) → is_built_task t ≡ true → Some_of (DoesTask s t)
 task_some s (task.Create client volume path mode owner) b = by_client s client volume _
 task_some s (task.Mkdir client volume path mode owner) b = by_client s client volume _
@@ -73,6 +100,10 @@ task_some s (task.Giveup client volume) b = absurd (false≢true b)
 happens_some : (reply : Reply) (event : Event) → Some_of (Happens reply event)
 happens_some reply event = (reply, event ∷ [], (refl, refl))
 
+loses_some : (message : ℕ) (o : Option Sent) → Some_of (Loses message o)
+loses_some message None = (refusal (NoMessage message), [], (refl, refl))
+loses_some message (Some sent) = happens_some (Lost message) (LetterLost message)
+
 pub line_some : (s : CellState) (said : Line) → is_built said ≡ true → Some_of (Does s said)
 line_some s (line.Volume volume servers None) b = unless_some (no_volume s volume) _ (λ none. happens_some (Opened (0 ∷ [])) (VolumeMade volume (alone servers)))
 line_some s (line.Client client blocks None) b = unless_some (no_client s client) _ (λ none. happens_some (Opened (0 ∷ [])) (ClientMade client blocks))
@@ -81,6 +112,9 @@ line_some s (line.Tick seconds) b = happens_some Accepted (Ticked seconds)
 line_some s (line.Task t) b = task_some s t b
 line_some s (line.ShowVolume server volume) b = unless_some (first_missing (holder_named s server volume ∷ [])) _ (λ none. (ShowVolume server volume, [], (refl, refl)))
 line_some s (line.ShowLog client volume) b = unless_some (first_missing (on_volume s client volume)) _ (λ none. (ShowLog client volume, [], (refl, refl)))
+line_some s (line.Send client volume server window) b = by_send s client volume server (unwrap_or window 600)
+line_some s (line.Deliver message) b = delivers_some s message (sent_at message s.waiting)
+line_some s (line.Lose message) b = loses_some message (sent_at message s.waiting)
 line_some s _ b = absurd (false≢true b)
 
 -- a line that is taken may run

@@ -1,5 +1,5 @@
 -- What lines give, and what runs of lines leave.
-use Rattle.std.proofs.Common.{◌≡◌, ℕ, Bool, true, false, List, [], ◌∷◌, ◌++◌, Option, Some, None, Ok, refl, sym, ap, ◌∙◌, subst, inl, inr, arith}
+use Rattle.std.proofs.Common.{◌≡◌, ℕ, ◌+◌, ◌≤◌, ◌<◌, ◌^◌, Bool, true, false, List, [], ◌∷◌, ◌++◌, Option, Some, None, Ok, refl, sym, ap, ◌∙◌, subst, inl, inr, arith}
 use Rattle.coda_cancel.specs.Cancel.{fold}
 use Rattle.coda_engine.specs.declared.status.Kind.TheVariants.{Mode}
 use Rattle.coda_engine.specs.declared.status.Status.{Status}
@@ -23,14 +23,17 @@ use Rattle.coda_cell.specs.Made.{MadeCell, nothing_made, state_of, grown_all, mo
 use Rattle.coda_cell.specs.Steps.{is_built, Does}
 use Rattle.coda_cell.specs.Cells.{IsCell, AreOrderly, Carried}
 use Rattle.coda_cell.specs.Runs.{IsKept, MakesNumbered}
+use Rattle.coda_cell.specs.Letters.{IsShown}
 use Rattle.coda_cell.proofs.Histories.{volumes_are, shown, runs_are, thawed_are}
 use Rattle.coda_cell.proofs.KeptCells.{lawful, client_there, first_kept, orderly}
 use Rattle.coda_cell.proofs.KeptLines.{lines_keep_cells}
 use Rattle.coda_cell.proofs.Moving.{moved_both}
+use Rattle.coda_cell.proofs.PostedOnce.{posted_once}
+use Rattle.coda_cell.proofs.SpelledLines.{lines_keep_spellings}
 use Rattle.coda_main.specs.Texts.{text_of}
 use Rattle.coda_main.specs.PlainRun.{LineGives, LineRefused}
-use Rattle.coda_main.specs.Shows.{Shows, CellGives, Answered}
-use Rattle.coda_main.specs.Headline.{histories_of, IsOfPending, HasRun, ScriptsRun, ChunksAreDecidedOnce, CertifiedChunksAreApplied, ConflictsNameASentRecord, OperationsAreKept, LogsArePending}
+use Rattle.coda_main.specs.Shows.{Shows, MayRun, CellGives, Answered}
+use Rattle.coda_main.specs.Headline.{histories_of, IsOfPending, HasRun, ScriptsRun, ChunksAreDecidedOnce, CertifiedChunksAreApplied, ConflictsNameASentRecord, OperationsAreKept, SettlementsAreDecided, LogsArePending}
 use Rattle.coda_main.specs.declared.machine.CellMachine.{CellMachine}
 
 -- ---- one line
@@ -40,19 +43,31 @@ numbered : (said : Line) → InRange said → MakesNumbered said
 numbered (line.Client client blocks area) range = λ zero. (let low = range.0.0 in let no : ⊥ = omega (arith, low, zero) in absurd no)
 numbered _ range = tt
 
+pub read_in_range : (bytes : List ℕ) (said : Line) → line_of bytes ≡ Ok (Some said) → InRange said
+read_in_range bytes said spelled = is_in_range bytes (Ok (Some said)) (is_found bytes (Ok (Some said)) spelled)
+
 pub read_numbered : (bytes : List ℕ) (said : Line) → line_of bytes ≡ Ok (Some said) → MakesNumbered said
-read_numbered bytes said spelled = numbered said (is_in_range bytes (Ok (Some said)) (is_found bytes (Ok (Some said)) spelled))
+read_numbered bytes said spelled = numbered said (read_in_range bytes said spelled)
+
+-- a line that was carried out leaves a cell that the machine shows
+line_shows : (plain : MadeCell) (old new : CellMachine) (bytes : List ℕ) (said : Line) (reply : Reply) → Shows plain old → line_of bytes ≡ Ok (Some said) → (carried : Carried (Does (state_of plain) said) (state_of plain) reply new.cell) → Shows (grown_all plain carried.events) new
+line_shows plain old new bytes said reply shows spelled carried =
+    let left = lines_keep_cells plain said reply carried.events shows.kept (read_numbered bytes said spelled) carried.does in
+    record {
+      kept = left.kept;
+      can = lines_keep_spellings plain said reply carried.events shows.kept shows.can (read_in_range bytes said spelled) carried.does;
+      left = subst (λ s. IsCell s new.cell) (sym left.shown) carried.left;
+    }
 
 -- a line that was carried out, by each cell that the machine shows
 pub line_gives : (plain : MadeCell) (old new : CellMachine) (bytes text : List ℕ) (said : Line) (reply : Reply) → Shows plain old → line_of bytes ≡ Ok (Some said) → is_built said ≡ true → Carried (Does (state_of plain) said) (state_of plain) reply new.cell
     → ((s : CellState) → IsCell s new.cell → text ≡ text_of s reply) → (next : MadeCell) × LineGives plain bytes text [] next × Shows next new
 line_gives plain old new bytes text said reply shows spelled built carried printed =
-    let left = lines_keep_cells plain said reply carried.events shows.kept (read_numbered bytes said spelled) carried.does in
     let next = grown_all plain carried.events in
-    let cell : IsCell (state_of next) new.cell = subst (λ s. IsCell s new.cell) (sym left.shown) carried.left in (
+    let left = line_shows plain old new bytes said reply shows spelled carried in (
       next,
-      (refl, inr (record { said = said; reply = reply; spelled = spelled; built = built; step = record { events = carried.events; does = carried.does; grows = refl }; printed = printed (state_of next) cell })),
-      record { kept = left.kept; left = cell },
+      (refl, inr (record { said = said; reply = reply; spelled = spelled; built = built; step = record { events = carried.events; does = carried.does; grows = refl }; printed = printed (state_of next) left.left })),
+      left,
     )
 
 -- the same of each cell that the machine shows
@@ -61,6 +76,23 @@ pub answered_gives : (old new : CellMachine) (bytes text : List ℕ) (said : Lin
 answered_gives old new bytes text said spelled built answers = λ plain shows.
     let a = answers (state_of plain) shows.left (orderly plain shows.kept) in
     line_gives plain old new bytes text said a.reply shows spelled built a.carried a.printed
+
+-- and the machine may run another line
+pub answered_ready : (old new : CellMachine) (bytes text : List ℕ) (said : Line) → line_of bytes ≡ Ok (Some said) → is_built said ≡ true
+    → ((s : CellState) → IsCell s old.cell → AreOrderly s → Answered s said text new.cell) → (lines : ℕ) → MayRun old lines → MayRun new (lines + 1)
+answered_ready old new bytes text said spelled built answers lines may =
+    let plain = may.plain in
+    let a = answers (state_of plain) may.shows.left (orderly plain may.shows.kept) in
+    let few = may.few in
+    let one = posted_once plain (state_of plain) said a.reply a.carried.events a.carried.does in
+    record { plain = grown_all plain a.carried.events; shows = line_shows plain old new bytes said a.reply may.shows spelled a.carried; few = omega (arith, few, one) }
+
+-- what the cell of a machine that may run a line is
+pub ready_shown : (machine : CellMachine) (lines : ℕ) → MayRun machine lines → IsShown machine.cell
+ready_shown machine lines may = record { plain = may.plain; kept = may.shows.kept; can = may.shows.can; cell = may.shows.left }
+
+pub ready_few : (machine : CellMachine) (lines : ℕ) → lines ≤ 16777216 → MayRun machine lines → machine.cell.net.posted < 2 ^ 63
+ready_few machine lines most may = (let few = may.few in let same : may.plain.acted.posted ≡ machine.cell.net.posted = may.shows.left.net.posted_are in omega (arith, few, same, most))
 
 -- a line that does nothing
 pub silent_gives : (plain : MadeCell) (machine : CellMachine) (bytes : List ℕ) → Shows plain machine → line_of bytes ≡ Ok None → (next : MadeCell) × LineGives plain bytes [] [] next × Shows next machine
@@ -78,7 +110,7 @@ pub record HasMoved (old new : MadeCell) : Type 0 where
   pub moved : Moved old.acted moves new.acted
   pub kept : IsKept new
 
-gives_moved : (old new : MadeCell) (bytes text : List ℕ) (outside : List (List ℕ)) → IsKept old → LineGives old bytes text outside new → HasMoved old new
+pub gives_moved : (old new : MadeCell) (bytes text : List ℕ) (outside : List (List ℕ)) → IsKept old → LineGives old bytes text outside new → HasMoved old new
 gives_moved old new bytes text outside kept (o, inl silent) = subst (HasMoved old) (sym silent.2) (record { moves = []; moved = refl; kept = kept })
 gives_moved old new bytes text outside kept (o, inr x) =
     let left = lines_keep_cells old x.said x.reply x.step.events kept (read_numbered bytes x.said x.spelled) x.step.does in
@@ -129,6 +161,9 @@ conflicts_name_a_sent_record ls report outside cell run server volume d refused 
 
 pub operations_are_kept : OperationsAreKept
 operations_are_kept ls report outside cell run client volume = (promised ls report outside cell run).kept client volume
+
+pub settlements_are_decided : SettlementsAreDecided
+settlements_are_decided ls report outside cell run client volume s i = ((runs_moved nothing_made cell ls report outside first_kept run).kept.sound.agree none_joins).settled client volume s i
 
 pub logs_are_pending : LogsArePending
 logs_are_pending ls report outside cell run client volume c is = (scripts_run ls report outside cell run).logs client volume c is

@@ -6,7 +6,9 @@ use Rattle.coda_certify.specs.declared.verdict.Verdict.TheVariants.{Applied, Con
 use Rattle.coda_certify.specs.Replay.{replay}
 use Rattle.coda_cancel.specs.Cancel.{fold}
 use Rattle.coda_engine.specs.Run.{Runs}
-use Rattle.coda_plain.specs.Deeds.{pending_of}
+use Rattle.coda_plain.specs.Histories.{In}
+use Rattle.coda_plain.specs.Sound.{IsDecided}
+use Rattle.coda_plain.specs.Deeds.{Settlement, settlements_of, pending_of}
 use Rattle.coda_plain.specs.Logs.{front_of, back_of}
 use Rattle.coda_plain.specs.Decisions.{Decision, verdict_on, nodes_by}
 use Rattle.coda_plain.specs.Cell.{Histories, empty_cell}
@@ -62,6 +64,11 @@ ConflictsNameASentRecord =
 -- No operation that a client accepted is lost, and none is done twice: in order, each is in one chunk that was applied, or pending.
 abbrev pub OperationsAreKept : Type 0
 OperationsAreKept = Always (λ cell. (client volume : ℕ) → AreKept (histories_of cell) client volume)
+
+-- A client settles a chunk only by a verdict that a server of the volume decided on it, whatever letters were lost or came twice.
+abbrev pub SettlementsAreDecided : Type 0
+SettlementsAreDecided =
+    Always (λ cell. (client volume : ℕ) (s : Settlement) → In s (settlements_of (done_on cell.acted client volume)) → IsDecided (λ server w. (cell.acted.replicas server w).history) volume client s.number s.verdict)
 
 -- A client's log of a volume is what cancellation leaves of its pending operations: of those of the chunk that is on its way, and of the
 -- others.

@@ -5,3 +5,5 @@ pub mod Shows
 pub mod Headline
 pub mod Complete
 pub mod Cached
+pub mod Lettered
+pub mod Thawed

@@ -1,5 +1,5 @@
 -- The cell of the code as a machine: what it does is what any cell by its histories may do that it shows.
-use Rattle.std.specs.Prelude.{◌≡◌, ℕ, ⊤, ◌⊎◌, nat_lt, List, Err, if◌then◌else◌}
+use Rattle.std.specs.Prelude.{◌≡◌, ◌≤◌, ℕ, ⊤, ◌⊎◌, nat_lt, List, Err, if◌then◌else◌}
 use Rattle.coda_engine.specs.declared.status.Kind.{Kind}
 use Rattle.coda_engine.specs.declared.machine.LineStop.{LineStop}
 use Rattle.coda_engine.specs.declared.machine.LineStop.TheVariants.{Refused, Memory as OutOfMemory}
@@ -13,15 +13,23 @@ use Rattle.coda_cell.specs.Made.{MadeCell, state_of}
 use Rattle.coda_cell.specs.Steps.{Does}
 use Rattle.coda_cell.specs.Cells.{IsCell, Carried}
 use Rattle.coda_cell.specs.Runs.{IsKept}
+use Rattle.coda_cell.specs.Spelled.{CanBeSpelled}
 use Rattle.coda_cell.specs.declared.cell.Cell.{Cell}
 use Rattle.coda_main.specs.declared.machine.CellMachine.{CellMachine}
 use Rattle.coda_main.specs.PlainRun.{LineGives, LineRefused, IsUnbuilt}
 use Rattle.coda_main.specs.Texts.{text_of}
 
--- the histories are those of a cell between two lines, and the cell of the code is what they leave
+-- the histories are those of a cell between two lines, what that cell has can be spelled, and the cell of the code is what they leave
 pub record Shows (plain : MadeCell) (machine : CellMachine) : Type 0 where
   pub kept : IsKept plain
+  pub can : CanBeSpelled plain
   pub left : IsCell (state_of plain) machine.cell
+
+-- after so many lines the machine shows some cell by its histories, in which as many letters were posted at most
+pub record MayRun (machine : CellMachine) (lines : ℕ) : Type 0 where
+  pub plain : MadeCell
+  pub shows : Shows plain machine
+  pub few : plain.acted.posted ≤ lines
 
 -- From each cell by its histories that old shows, one that new shows may be reached by this line.
 abbrev pub CellGives : CellMachine → List ℕ → List ℕ → List (List ℕ) → CellMachine → Type 0

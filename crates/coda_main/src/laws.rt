@@ -3,8 +3,10 @@ ghost use Rattle.coda_engine.specs.Exact.{CleanScriptsRun, OneStatus};
 ghost use Rattle.coda_cell.specs.Made.{nothing_made};
 ghost use Rattle.coda_main.specs.Cached.{CachedIsHeld};
 ghost use Rattle.coda_main.specs.Complete.{ScriptsInGrammarAreClean};
-ghost use Rattle.coda_main.specs.Headline.{ScriptsRun, ChunksAreDecidedOnce, CertifiedChunksAreApplied, ConflictsNameASentRecord, OperationsAreKept, LogsArePending};
+ghost use Rattle.coda_main.specs.Headline.{ScriptsRun, ChunksAreDecidedOnce, CertifiedChunksAreApplied, ConflictsNameASentRecord, OperationsAreKept, SettlementsAreDecided, LogsArePending};
+ghost use Rattle.coda_main.specs.Lettered.{RepliesNameLetters, LettersHaveEnds};
 ghost use Rattle.coda_main.specs.PlainRun.{LineGives, LineRefused};
+ghost use Rattle.coda_main.specs.Thawed.{VerdictsThaw};
 
 /// A script that the cell can run from its first line to its last, within the limits, never ends as one with a bad line
 /// or as one that is too long.
@@ -53,6 +55,12 @@ pub fn operations_are_kept()
     ensures { OperationsAreKept }
 {}
 
+/// Whatever lines ran, and whatever letters were lost or came twice, a client settles a chunk only by a verdict that a server of the
+/// volume decided on it.
+pub fn settlements_are_decided()
+    ensures { SettlementsAreDecided }
+{}
+
 /// Whatever lines ran, a client's log of a volume is what cancellation leaves of the operations that no chunk applied.
 pub fn logs_are_pending()
     ensures { LogsArePending }
@@ -61,4 +69,20 @@ pub fn logs_are_pending()
 /// A reply to a read or a listing says `cached` exactly where the client held the object before the line.
 pub fn cached_is_held()
     ensures { CachedIsHeld }
+{}
+
+/// Whatever lines ran, what a reply tells of a letter is so: the chunk of a `send` waits under the number that is named, and so does the
+/// answer to a chunk that was delivered; what was delivered waited; and a letter that is lost waits no more.
+pub fn replies_name_letters()
+    ensures { RepliesNameLetters }
+{}
+
+/// Whatever lines ran, the client, the volume and the server of a letter that waits are there.
+pub fn letters_have_ends()
+    ensures { LettersHaveEnds }
+{}
+
+/// Whatever lines ran, a drain that is answered by a verdict leaves no chunk of the client's log of the volume frozen.
+pub fn verdicts_thaw()
+    ensures { VerdictsThaw }
 {}

@@ -1,10 +1,11 @@
 // The cell as a machine that runs the lines of a script.
-ghost use Rattle.std.specs.Prelude.{◌≡◌, true, IfOk, IfErr, IfSome, Ok};
+ghost use Rattle.std.specs.Prelude.{◌≡◌, ◌<◌, ◌^◌, true, IfOk, IfErr, IfSome, Ok};
 ghost use Rattle.coda_engine.specs.declared.machine.LineStop.TheVariants.{Memory as OutOfMemory};
 ghost use Rattle.coda_script.specs.Lines.{line_of};
 ghost use Rattle.coda_cell.specs.State.{CellState};
 ghost use Rattle.coda_cell.specs.Steps.{is_built};
 ghost use Rattle.coda_cell.specs.Cells.{IsCell, AreOrderly};
+ghost use Rattle.coda_cell.specs.Letters.{IsShown};
 ghost use Rattle.coda_main.specs.Shows.{StopsSo, Answered, stop_at};
 
 use crate::report::text_of;
@@ -74,7 +75,9 @@ fn built_line(alloc: Global, line: &[u8]) -> Result<Option<Line>, LineStop>
 
 // Carries out a line that is built, and writes its reply in the cell that it leaves.
 fn answer(alloc: Global, cell: &mut Cell, said: &Line) -> Result<Vec<u8>, LineStop>
-    requires { is_built said.now ≡ true }
+    requires built { is_built said.now ≡ true }
+    requires shown { IsShown cell.old }
+    requires few { cell.old.net.posted < 2 ^ 63 }
     ensures answered { IfOk result (λ text. (s : CellState) → IsCell s cell.old → AreOrderly s → Answered s said.now text.items cell.new) }
     ensures memory { IfErr result (λ stop. stop ≡ OutOfMemory) }
 {
@@ -89,11 +92,13 @@ fn answer(alloc: Global, cell: &mut Cell, said: &Line) -> Result<Vec<u8>, LineSt
 }
 
 impl Machine for CellMachine {
-    ghost use Rattle.coda_main.specs.Shows.{CellGives, CellRefuses};
+    ghost use Rattle.coda_main.specs.Shows.{MayRun, CellGives, CellRefuses};
 
     ghost gives = { CellGives };
 
     ghost refuses = { CellRefuses };
+
+    ghost ready = { MayRun };
 
     fn run(&mut self, alloc: Global, line: &[u8]) -> Result<Vec<u8>, LineStop> {
         match built_line(alloc, line) {
