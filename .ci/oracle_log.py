@@ -112,26 +112,17 @@ def hand_on(records, number):
 
 # ---- the log
 
-class Log:
-    """What a client did on a volume: its counts, the operations that aren't applied yet, and what is left of these."""
+class Run:
+    """Operations in turn, what is left of them, and what each of them dropped."""
 
-    def __init__(self):
-        self.operations, self.creations, self.chunks = 0, 0, 0
-        self.forget([])
+    def __init__(self, pending=()):
+        self.forget(pending)
 
     def forget(self, pending):
         """Only these operations are left to be sent."""
         self.pending, self.records, self.drops = [], [], []
         for record in pending:
             self.take(record, *add(self.records, record))
-
-    def append(self, record):
-        """Adds an operation; whether the log has room for it."""
-        records, dropped = add(self.records, record)
-        if len(records) > MOST_RECORDS or sum(weight(r[2]) for r in records) > MOST_WEIGHT:
-            return False
-        self.take(record, records, dropped)
-        return True
 
     def take(self, record, records, dropped):
         self.pending.append(record)
@@ -169,20 +160,61 @@ class Log:
             taken, sent = taken + 1, sent + len(left)
         return [record for of, _ in segments[:max(taken, filled + 1)] for record in of], None
 
-    def text(self):
-        lines = [f"log records {len(self.records)} chunk -"]
+    def lines(self, word):
+        """The segments, each under its first and last operation and this word."""
+        lines = []
         for of, left in self.segments():
-            lines.append(f"segment {of[0][0]} {of[-1][0]} open")
+            lines.append(f"segment {of[0][0]} {of[-1][0]} {word}")
             lines += [f"{number} {operation_text(operation)}" for number, _, operation in left]
-        return "\n".join(lines)
+        return lines
 
 
-def fold(run):
-    """What is left of operations."""
-    records = []
-    for record in run:
-        records, _ = add(records, record)
-    return records
+class Log:
+    """What a client did on a volume: its counts, the operations that aren't applied yet, those in front frozen as a chunk where one is, for
+    a server."""
+
+    def __init__(self):
+        self.operations, self.creations, self.chunks = 0, 0, 0
+        self.front, self.home, self.rest = None, None, Run()
+
+    def records(self):
+        return (self.front.records if self.front else []) + self.rest.records
+
+    def append(self, record):
+        """Adds an operation; whether the log has room for it."""
+        records, dropped = add(self.rest.records, record)
+        every = (self.front.records if self.front else []) + records
+        if len(every) > MOST_RECORDS or sum(weight(r[2]) for r in every) > MOST_WEIGHT:
+            return False
+        self.rest.take(record, records, dropped)
+        return True
+
+    def freeze(self, home, clock, window):
+        """Freezes for a server what may go, where nothing is frozen; answers why there is no chunk for it, or nothing."""
+        if self.front:
+            return None if self.home == home else ("frozen", self.chunks, self.home)
+        span, why = self.rest.chunk(clock, window)
+        if why:
+            return why
+        self.chunks += 1
+        self.front, self.home, self.rest = Run(span), home, Run(self.rest.pending[len(span):])
+        return None
+
+    def settle(self, number, applied):
+        """Takes a verdict on a chunk, or with nothing in its place another answer; answers why it isn't taken, or nothing."""
+        if not self.front:
+            return ("not-frozen", number)
+        if self.chunks != number:
+            return ("wrong-number", self.chunks, number)
+        if applied is not None:
+            rest = self.rest if applied else Run(self.front.pending + self.rest.pending)
+            self.front, self.home, self.rest = None, None, rest
+        return None
+
+    def text(self):
+        chunk = self.chunks if self.front else "-"
+        frozen = self.front.lines("frozen") if self.front else []
+        return "\n".join([f"log records {len(self.records())} chunk {chunk}"] + frozen + self.rest.lines("open"))
 
 
 # ---- how it is shown
@@ -207,3 +239,28 @@ def operation_text(operation):
     from_dir, old, to_dir, new, fid, over = fields
     text = f"rename {fid_text(from_dir)} {printed(old)} {fid_text(to_dir)} {printed(new)} {fid_text(fid)}"
     return text + (f" over {fid_text(over[0])} pre {sid_text(over[1])}" if over else "")
+
+
+# ---- how many bytes it has where it is sent
+
+def option_length(value, length):
+    return 1 + (length if value is not None else 0)
+
+
+def operation_length(operation):
+    """A tag, and the fields: a fid has 12 bytes and a version 9, a name its length in one byte before it and a content in four."""
+    kind, fields = operation[0], operation[1:]
+    if kind in CREATIONS:
+        return 1 + 12 + 1 + len(fields[1]) + 12 + (4 + len(fields[5]) if kind == "symlink" else 0) + 2 + 4
+    if kind == "store":
+        return 1 + 12 + 9 + 4 + len(fields[2])
+    if kind == "setattr":
+        return 1 + 12 + 9 + 1 + sum(size for value, size in zip(fields[2], (2, 4, 8)) if value is not None)
+    if kind in ("remove", "rmdir"):
+        return 1 + 12 + 1 + len(fields[1]) + 12 + 9
+    return 1 + 12 + 1 + len(fields[1]) + 12 + 1 + len(fields[3]) + 12 + option_length(fields[5] or None, 12 + 9)
+
+
+def chunk_length(records):
+    """Two bytes, the ends, the volume and the number, and then the records behind their count, each with its number and time."""
+    return 2 + 2 + 4 + 8 + 4 + sum(8 + 8 + operation_length(operation) for _, _, operation in records)
