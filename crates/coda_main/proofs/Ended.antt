@@ -143,7 +143,7 @@ module _ (cell : MadeCell) (kept : IsKept cell) where
       both_fine cell (deeds_at client volume f.deeds) (entries_at ruled.replica.server volume ruled.entries) (client_fine cell client (map (Did volume) f.deeds)) (replica_fine _ ruled.replica.server volume ruled.entries)
   answered_fine client volume f ruled (Ok took) =
       both_fine cell (deeds_at client volume f.deeds) (entries_at ruled.replica.server volume ruled.entries ++ deeds_at client volume took.deeds) (client_fine cell client (map (Did volume) f.deeds))
-        (both_fine _ (entries_at ruled.replica.server volume ruled.entries) (deeds_at client volume took.deeds) (replica_fine _ ruled.replica.server volume ruled.entries) (client_fine _ client (map (Did volume) took.deeds)))
+      (both_fine _ (entries_at ruled.replica.server volume ruled.entries) (deeds_at client volume took.deeds) (replica_fine _ ruled.replica.server volume ruled.entries) (client_fine _ client (map (Did volume) took.deeds)))
 
   ruled_fine : (client volume : ℕ) (f : Freezing) (r : ReplicaState) (o : Result Ruling Refused) → AreFine cell (ruled_on client volume f r o).events
   ruled_fine client volume f r (Err why) = client_fine cell client (map (Did volume) f.deeds)
@@ -168,7 +168,7 @@ module _ (cell : MadeCell) (kept : IsKept cell) where
       let sent = ChunkSent client server volume f.number f.span in
       let there : IsThere cell sent = ((blocks, made), home) in
       both_fine cell (deeds_at client volume f.deeds) (going_by (number_of sent cell.waiting) sent (state_of cell)).events (client_fine cell client (map (Did volume) f.deeds))
-        (going_fine (grown_all cell (deeds_at client volume f.deeds)) sent (number_of sent cell.waiting) (client_keeps cell client (map (Did volume) f.deeds) sent there))
+      (going_fine (grown_all cell (deeds_at client volume f.deeds)) sent (number_of sent cell.waiting) (client_keeps cell client (map (Did volume) f.deeds) sent there))
 
   rulings_fine : (client server volume number blocks : ℕ) (o : Result Ruling Refused) → cell.sizes client ≡ Some blocks → cell.homes volume ≡ Some server → AreFine cell (ruled_in (state_of cell) client server volume number o).events
   rulings_fine client server volume number blocks (Err why) made home = tt
@@ -176,7 +176,7 @@ module _ (cell : MadeCell) (kept : IsKept cell) where
       let sent = AnswerSent server client volume number ruled.answer in
       let there : IsThere cell sent = ((blocks, made), home) in
       both_fine cell (entries_at server volume ruled.entries) (posting sent cell.waiting) (replica_fine cell server volume ruled.entries)
-        (posting_fine (grown_all cell (entries_at server volume ruled.entries)) sent (take (lost_by sent cell.waiting) cell.waiting) (replica_keeps cell server volume ruled.entries sent there))
+      (posting_fine (grown_all cell (entries_at server volume ruled.entries)) sent (take (lost_by sent cell.waiting) cell.waiting) (replica_keeps cell server volume ruled.entries sent there))
 
   takings_fine : (client volume number : ℕ) (answer : Answer) (o : Result Taking Refused) → AreFine cell (taken_in client volume number answer o).events
   takings_fine client volume number answer (Err why) = tt
@@ -185,10 +185,10 @@ module _ (cell : MadeCell) (kept : IsKept cell) where
   comes_fine : (sent : Sent) (reply : Reply) (events : List Event) → IsThere cell sent → Comes (state_of cell) sent reply events → AreFine cell events
   comes_fine (ChunkSent client server volume number span) reply events there does =
       unless_fine (first_missing (on_holder (state_of cell) client volume server)) (ByRuling (state_of cell) client server volume number span) reply events
-        (λ all did. subst (AreFine cell) (sym did.happened) (rulings_fine client server volume number there.0.0 (ruling client number span did.replica) there.0.1 there.1)) does
+      (λ all did. subst (AreFine cell) (sym did.happened) (rulings_fine client server volume number there.0.0 (ruling client number span did.replica) there.0.1 there.1)) does
   comes_fine (AnswerSent server client volume number answer) reply events there does =
       unless_fine (first_missing (on_holder (state_of cell) client volume server)) (ByTaking (state_of cell) client volume number answer) reply events
-        (λ all did. subst (AreFine cell) (sym did.happened) (takings_fine client volume number answer (taking number answer (did.client.volumes volume)))) does
+      (λ all did. subst (AreFine cell) (sym did.happened) (takings_fine client volume number answer (taking number answer (did.client.volumes volume)))) does
 
   delivers_fine : (message : ℕ) (o : Option Sent) (reply : Reply) (events : List Event) → AllThere cell cell.waiting → sent_at message cell.waiting ≡ o → Delivers (state_of cell) message o reply events → AreFine cell events
   delivers_fine message None reply events all is does = none_fine events does.1
@@ -231,7 +231,7 @@ module _ (cell : MadeCell) (kept : IsKept cell) where
   task_fine (task.List client volume path) reply events does = asked_fine (first_missing (on_volume (state_of cell) client volume)) client volume _ reply events does
   task_fine (task.Drain client volume server window) reply events does =
       unless_fine (first_missing (on_holder (state_of cell) client volume server)) (ByBoth (state_of cell) client volume (unwrap_or window 600)) reply events
-        (λ all did. subst (AreFine cell) (sym did.happened) (drain_fine (cell.links client did.replica.server) cell.clock (unwrap_or window 600) client volume (did.client.volumes volume) did.replica)) does
+      (λ all did. subst (AreFine cell) (sym did.happened) (drain_fine (cell.links client did.replica.server) cell.clock (unwrap_or window 600) client volume (did.client.volumes volume) did.replica)) does
   task_fine (task.Hardlink client volume from to) reply events does = absurd does
   task_fine (task.Refresh client volume server) reply events does = absurd does
   task_fine (task.Giveup client volume) reply events does = absurd does
@@ -251,10 +251,10 @@ module _ (cell : MadeCell) (kept : IsKept cell) where
   line_fine (line.ShowLog client volume) reply events there does = unless_fine (first_missing (on_volume (state_of cell) client volume)) _ reply events (λ all did. none_fine events did.1) does
   line_fine (line.Send client volume server window) reply events there does =
       unless_fine (first_missing (on_holder (state_of cell) client volume server)) (BySend (state_of cell) client volume server (unwrap_or window 600)) reply events
-        (λ all did.
-        let made = client_there cell kept client did.client did.there in
-        subst (AreFine cell) (sym did.happened)
-          (sends_fine client volume server made.0 (over (cell.links client server) (freezing cell.clock (unwrap_or window 600) server (did.client.volumes volume))) made.1 (homed cell kept client volume server all))) does
+      (λ all did.
+      let made = client_there cell kept client did.client did.there in
+      subst (AreFine cell) (sym did.happened)
+      (sends_fine client volume server made.0 (over (cell.links client server) (freezing cell.clock (unwrap_or window 600) server (did.client.volumes volume))) made.1 (homed cell kept client volume server all))) does
   line_fine (line.Deliver message) reply events there does = delivers_fine message (sent_at message cell.waiting) reply events there refl does
   line_fine (line.Lose message) reply events there does = loses_fine message (sent_at message cell.waiting) reply events does
   line_fine _ reply events there does = absurd does
@@ -284,9 +284,9 @@ named cell sent there =
     let server = server_of sent in
     let replica = replica_of (λ other. (cell.acted.replicas other volume).history) volume in
     all_named (client_named s client) (volume_named s volume) (holder_named s server volume)
-      (ap (λ o. is_some (option_map (made_client client (cell.acted.clients client).history) o)) there.0.1)
-      (ap (λ o. is_some (option_map replica o)) there.1)
-      (ap (λ o. option_map_or (λ (r : ReplicaState). r.server == server) (option_map replica o) false) there.1 ∙ eq-eqb (replica server).server server (server_stays (new_replica server volume) (cell.acted.replicas server volume).history))
+    (ap (λ o. is_some (option_map (made_client client (cell.acted.clients client).history) o)) there.0.1)
+    (ap (λ o. is_some (option_map replica o)) there.1)
+    (ap (λ o. option_map_or (λ (r : ReplicaState). r.server == server) (option_map replica o) false) there.1 ∙ eq-eqb (replica server).server server (server_stays (new_replica server volume) (cell.acted.replicas server volume).history))
 
 pub letters_have_ends : LettersHaveEnds
 letters_have_ends ls report outside cell run number sent is = named cell sent (there_at cell number cell.waiting sent (runs_there nothing_made cell ls report outside first_kept tt run) is)

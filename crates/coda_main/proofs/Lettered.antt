@@ -161,7 +161,7 @@ module _ (s : CellState) (numbered : AreNumbered 0 s.posted s.waiting) where
   send_tells client volume server window None reply events did =
       let frozen = over (s.links client server) (freezing s.clock window server (did.client.volumes volume)) in
       subst (λ r. SendTells client volume server r (after_all s events).waiting) (sym did.answered)
-        (subst (λ es. SendTells client volume server (reply_to (sends_of s client volume server frozen).said) (after_all s es).waiting) (sym did.happened) (sends_tell client volume server frozen))
+      (subst (λ es. SendTells client volume server (reply_to (sends_of s client volume server frozen).said) (after_all s es).waiting) (sym did.happened) (sends_tell client volume server frozen))
 
   rulings_tell : (client server volume number message : ℕ) (span : List Record) (o : Result Ruling Refused) → sent_at message s.waiting ≡ Some (ChunkSent client server volume number span)
       → DeliveryTells message (reply_to (ruled_in s client server volume number o).said) s.waiting (after_all s (ruled_in s client server volume number o).events).waiting
@@ -197,14 +197,14 @@ module _ (s : CellState) (numbered : AreNumbered 0 s.posted s.waiting) where
   chunk_tells client server volume number message span None reply events came did =
       let ruled = ruling client number span did.replica in
       subst (λ r. DeliveryTells message r s.waiting (after_all s events).waiting) (sym did.answered)
-        (subst (λ es. DeliveryTells message (reply_to (ruled_in s client server volume number ruled).said) s.waiting (after_all s es).waiting) (sym did.happened) (rulings_tell client server volume number message span ruled came))
+      (subst (λ es. DeliveryTells message (reply_to (ruled_in s client server volume number ruled).said) s.waiting (after_all s es).waiting) (sym did.happened) (rulings_tell client server volume number message span ruled came))
 
   answer_tells : (client server volume number message : ℕ) (answer : Answer) (o : Option Refused) (reply : Reply) (events : List Event) → sent_at message s.waiting ≡ Some (AnswerSent server client volume number answer)
       → Unless o (ByTaking s client volume number answer) reply events → DeliveryTells message reply s.waiting (after_all s events).waiting
   answer_tells client server volume number message answer (Some why) reply events came does = refused_tells message why reply (after_all s events).waiting does.0
   answer_tells client server volume number message answer None reply events came did =
       subst (λ r. DeliveryTells message r s.waiting (after_all s events).waiting) (sym did.answered)
-        (takings_tell client server volume number message answer (after_all s events).waiting (taking number answer (did.client.volumes volume)) came)
+      (takings_tell client server volume number message answer (after_all s events).waiting (taking number answer (did.client.volumes volume)) came)
 
   comes_tell : (message : ℕ) (sent : Sent) (reply : Reply) (events : List Event) → sent_at message s.waiting ≡ Some sent → Comes s sent reply events → DeliveryTells message reply s.waiting (after_all s events).waiting
   comes_tell message (ChunkSent client server volume number span) reply events came does = chunk_tells client server volume number message span (first_missing (on_holder s client volume server)) reply events came does
@@ -222,7 +222,7 @@ module _ (s : CellState) (numbered : AreNumbered 0 s.posted s.waiting) where
   loss_tells message None reply events does = subst (λ r. LossTells message r (after_all s events).waiting) (sym does.0) tt
   loss_tells message (Some sent) reply events does =
       subst (λ r. LossTells message r (after_all s events).waiting) (sym does.0)
-        (subst (λ es. LossTells message (replies.Lost message) (after_all s es).waiting) (sym does.1) (refl, lost_at 0 s.posted s.waiting message numbered))
+      (subst (λ es. LossTells message (replies.Lost message) (after_all s es).waiting) (sym does.1) (refl, lost_at 0 s.posted s.waiting message numbered))
 
 -- the letters that wait behind a line, as the histories leave them
 behind : (cell : MadeCell) (said : Line) (reply : Reply) (events : List Event) → IsKept cell → MakesNumbered said → Does (state_of cell) said reply events → (after_all (state_of cell) events).waiting ≡ (grown_all cell events).waiting
@@ -231,13 +231,13 @@ behind cell said reply events kept made does = ap (λ (c : CellState). c.waiting
 tells : (cell : MadeCell) (said : Line) (reply : Reply) (events : List Event) → IsKept cell → Does (state_of cell) said reply events → TellsLetters said reply cell.waiting (grown_all cell events).waiting
 tells cell (line.Send client volume server window) reply events kept does =
     subst (SendTells client volume server reply) (behind cell (line.Send client volume server window) reply events kept tt does)
-      (send_tells (state_of cell) kept.letters.numbered client volume server (unwrap_or window 600) (first_missing (on_holder (state_of cell) client volume server)) reply events does)
+    (send_tells (state_of cell) kept.letters.numbered client volume server (unwrap_or window 600) (first_missing (on_holder (state_of cell) client volume server)) reply events does)
 tells cell (line.Deliver message) reply events kept does =
     subst (DeliveryTells message reply cell.waiting) (behind cell (line.Deliver message) reply events kept tt does)
-      (delivery_tells (state_of cell) kept.letters.numbered message (sent_at message cell.waiting) reply events refl does)
+    (delivery_tells (state_of cell) kept.letters.numbered message (sent_at message cell.waiting) reply events refl does)
 tells cell (line.Lose message) reply events kept does =
     subst (LossTells message reply) (behind cell (line.Lose message) reply events kept tt does)
-      (loss_tells (state_of cell) kept.letters.numbered message (sent_at message cell.waiting) reply events does)
+    (loss_tells (state_of cell) kept.letters.numbered message (sent_at message cell.waiting) reply events does)
 tells cell _ reply events kept does = tt
 
 pub replies_name_letters : RepliesNameLetters

@@ -14,5 +14,5 @@ use Rattle.coda_main.specs.Headline.{Always}
 abbrev pub VerdictsThaw : Type 0
 VerdictsThaw =
     Always (λ cell. (client volume server : ℕ) (window : Option ℕ) (number : ℕ) (verdict : Verdict) (events : List Event) (c : ClientState)
-      → Does (state_of cell) (line.Task (task.Drain client volume server window)) (Drained number (Decided verdict)) events
-      → (state_of (grown_all cell events)).clients client ≡ Some c → (log_of (c.volumes volume)).frozen ≡ None)
+    → Does (state_of cell) (line.Task (task.Drain client volume server window)) (Drained number (Decided verdict)) events
+    → (state_of (grown_all cell events)).clients client ≡ Some c → (log_of (c.volumes volume)).frozen ≡ None)
