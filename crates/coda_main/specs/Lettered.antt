@@ -1,18 +1,45 @@
--- That replies name the letters in which chunks and answers wait.
-use Rattle.std.specs.Prelude.{◌≡◌, ℕ, List, Some, None}
+-- What replies tell of letters, and what letters say.
+use Rattle.std.specs.Prelude.{◌≡◌, ◌≢◌, ◌≤◌, ℕ, List, Some, None}
 use Rattle.coda_fid.specs.declared.op.Record.{Record}
+use Rattle.coda_certify.specs.declared.verdict.Verdict.{Verdict}
+use Rattle.coda_certify.specs.declared.verdict.Verdict.TheVariants as verdicts
 use Rattle.coda_record.specs.declared.answer.Answer.{Answer}
-use Rattle.coda_letters.specs.Sent.{Sent, ChunkSent, AnswerSent, client_of, server_of, Waiting, letter_of, sent_at}
+use Rattle.coda_record.specs.declared.answer.Answer.TheVariants.{Applied, Conflict, Behind, Old}
+use Rattle.coda_letters.specs.Sent.{Sent, ChunkSent, AnswerSent, client_of, server_of, Waiting, letter_of, sent_at, with_sent}
+use Rattle.coda_plain.specs.Deeds.{chunks_of}
+use Rattle.coda_plain.specs.Histories.{In}
+use Rattle.coda_plain.specs.Moves.{done_on}
+use Rattle.coda_plain.specs.Sound.{IsDecided}
 use Rattle.coda_script.specs.declared.line.Line.{Line}
 use Rattle.coda_script.specs.declared.line.Line.TheVariants as line
+use Rattle.coda_script.specs.declared.reply.Answer.{Answer as ReplyAnswer}
+use Rattle.coda_script.specs.declared.reply.Answer.TheVariants as replied
+use Rattle.coda_script.specs.declared.reply.Undecided.{Undecided}
+use Rattle.coda_script.specs.declared.reply.Undecided.TheVariants as undecided
 use Rattle.coda_script.specs.declared.reply.Reply.{Reply}
 use Rattle.coda_script.specs.declared.reply.Reply.TheVariants.{Sent as ChunkWent, Delivered, Settled, StillFrozen, Lost}
 use Rattle.coda_cell.specs.State.{Event}
-use Rattle.coda_cell.specs.Made.{state_of, grown_all}
-use Rattle.coda_cell.specs.Messages.{reply_taken}
-use Rattle.coda_cell.specs.Sending.{reply_answer}
+use Rattle.coda_cell.specs.Made.{MadeCell, state_of, grown_all}
 use Rattle.coda_cell.specs.Steps.{first_missing, on_holder, Does}
 use Rattle.coda_main.specs.Headline.{Always}
+
+-- ---- what a reply tells
+
+-- the answer that is a verdict
+abbrev pub answer_with : Verdict → Answer
+answer_with verdicts.Applied = Applied
+answer_with (verdicts.Conflict refused why) = Conflict refused why
+
+-- the answer to a chunk, as its delivery is replied to
+abbrev pub answer_told : ReplyAnswer → Answer
+answer_told (replied.Decided verdict) = answer_with verdict
+answer_told (replied.Behind last) = Behind last
+answer_told (replied.Old last) = Old last
+
+-- the answer that leaves a chunk frozen, as its delivery is replied to
+abbrev pub undecided_told : Undecided → Answer
+undecided_told (undecided.Behind last) = Behind last
+undecided_told (undecided.Old last) = Old last
 
 -- under a number a letter waits that is letter for letter the one of this: its ends and its bytes are the same
 pub record WaitsUnder (waiting : Waiting) (number : ℕ) (sent : Sent) : Type 0 where
@@ -20,54 +47,79 @@ pub record WaitsUnder (waiting : Waiting) (number : ℕ) (sent : Sent) : Type 0 
   pub at : sent_at number waiting ≡ Some waits
   pub same : letter_of waits ≡ letter_of sent
 
--- a chunk of the client waits under the number that its reply names
-abbrev pub SendTells : ℕ → ℕ → ℕ → Reply → Waiting → Type 0
-SendTells client volume server (ChunkWent message number) new = (span : List Record) × WaitsUnder new message (ChunkSent client server volume number span)
-SendTells client volume server _ new = Unit {0}
+-- A chunk of the client waits under the number that is named. Where a letter waited that is letter for letter this one, no letter is added
+-- or lost, and none such has a smaller number.
+pub record WentAs (client volume server number message : ℕ) (old new : Waiting) : Type 0 where
+  pub span : List Record
+  pub goes : WaitsUnder new message (ChunkSent client server volume number span)
+  pub once : (before : ℕ) → WaitsUnder old before (ChunkSent client server volume number span) → (new ≡ old) × (message ≤ before)
 
--- a chunk that came, from whom and for which volume, and what was answered to it
-pub record CameWith (old new : Waiting) (message number answered : ℕ) (Told : Answer → Type 0) : Type 0 where
+abbrev pub SendTells : ℕ → ℕ → ℕ → Reply → Waiting → Waiting → Type 0
+SendTells client volume server (ChunkWent message number) old new = WentAs client volume server number message old new
+SendTells client volume server _ old new = new ≡ old
+
+-- A chunk came, from whom and for which volume; the answer that is told goes back to its client in a new letter, under the number that is
+-- named. The letter that came is not taken away by that.
+pub record CameFor (old new : Waiting) (message number answered : ℕ) (answer : Answer) : Type 0 where
   pub client : ℕ
   pub server : ℕ
   pub volume : ℕ
   pub span : List Record
-  pub answer : Answer
-  pub told : Told answer
   pub came : sent_at message old ≡ Some (ChunkSent client server volume number span)
   pub goes : WaitsUnder new answered (AnswerSent server client volume number answer)
+  pub stays : new ≡ with_sent answered (AnswerSent server client volume number answer) old
 
--- an answer that came, and to which chunk
-pub record Brought (old : Waiting) (message number : ℕ) (reply : Reply) : Type 0 where
+-- the answer that is told came, and all that waited waits on
+pub record Brought (old new : Waiting) (message number : ℕ) (answer : Answer) : Type 0 where
   pub client : ℕ
   pub server : ℕ
   pub volume : ℕ
-  pub answer : Answer
-  pub told : reply ≡ reply_taken number answer
   pub came : sent_at message old ≡ Some (AnswerSent server client volume number answer)
+  pub stays : new ≡ old
 
 -- The letter that was delivered said the chunk or the answer of which the reply tells; the answer to a chunk waits under the number that
 -- the reply names.
 abbrev pub DeliveryTells : ℕ → Reply → Waiting → Waiting → Type 0
-DeliveryTells message (Delivered number answer answered) old new = CameWith old new message number answered (λ told. answer ≡ reply_answer told)
-DeliveryTells message (Settled number verdict) old new = Brought old message number (Settled number verdict)
-DeliveryTells message (StillFrozen number why) old new = Brought old message number (StillFrozen number why)
-DeliveryTells message _ old new = Unit {0}
+DeliveryTells message (Delivered number answer answered) old new = CameFor old new message number answered (answer_told answer)
+DeliveryTells message (Settled number verdict) old new = Brought old new message number (answer_with verdict)
+DeliveryTells message (StillFrozen number why) old new = Brought old new message number (undecided_told why)
+DeliveryTells message _ old new = new ≡ old
 
--- the letter that is lost is the one of the line, and waits no more
-abbrev pub LossTells : ℕ → Reply → Waiting → Type 0
-LossTells message (Lost number) new = (number ≡ message) × (sent_at message new ≡ None)
-LossTells message _ new = Unit {0}
+-- the letter of this number waited and waits no more, and all others are as they were
+pub record WasLost (message : ℕ) (old new : Waiting) : Type 0 where
+  pub sent : Sent
+  pub waited : sent_at message old ≡ Some sent
+  pub gone : sent_at message new ≡ None
+  pub others : (other : ℕ) → other ≢ message → sent_at other new ≡ sent_at other old
 
--- what the reply to a line tells of letters, by those that waited before it and those behind it
+abbrev pub LossTells : ℕ → Reply → Waiting → Waiting → Type 0
+LossTells message (Lost number) old new = (number ≡ message) × WasLost message old new
+LossTells message _ old new = new ≡ old
+
+-- what the reply to a line tells of letters, by those that waited before it and those behind it; no line but these three touches them
 abbrev pub TellsLetters : Line → Reply → Waiting → Waiting → Type 0
-TellsLetters (line.Send client volume server window) reply old new = SendTells client volume server reply new
+TellsLetters (line.Send client volume server window) reply old new = SendTells client volume server reply old new
 TellsLetters (line.Deliver message) reply old new = DeliveryTells message reply old new
-TellsLetters (line.Lose message) reply old new = LossTells message reply new
-TellsLetters _ reply old new = Unit {0}
+TellsLetters (line.Lose message) reply old new = LossTells message reply old new
+TellsLetters _ reply old new = new ≡ old
 
 -- Whatever lines ran, a reply that names a letter names one in which what it tells of waits.
 abbrev pub RepliesNameLetters : Type 0
 RepliesNameLetters = Always (λ cell. (said : Line) (reply : Reply) (events : List Event) → Does (state_of cell) said reply events → TellsLetters said reply cell.waiting (grown_all cell events).waiting)
+
+-- ---- what a letter says
+
+-- A chunk on its way is one that its client froze for this server, of the operations that it froze; and a verdict on its way back is that
+-- of a decision.
+abbrev pub IsSo : MadeCell → Sent → Type 0
+IsSo cell (ChunkSent client server volume number span) = In (record { number = number; home = server; span = span }) (chunks_of (done_on cell.acted client volume))
+IsSo cell (AnswerSent server client volume number answer) = (verdict : Verdict) → answer ≡ answer_with verdict → IsDecided (λ s w. (cell.acted.replicas s w).history) volume client number verdict
+
+-- Whatever lines ran, what a letter says that waits is so, however long it waited and whatever else was lost or came twice.
+abbrev pub LettersSayWhatIsSo : Type 0
+LettersSayWhatIsSo = Always (λ cell. (message : ℕ) (sent : Sent) → sent_at message cell.waiting ≡ Some sent → IsSo cell sent)
+
+-- ---- the ends of a letter
 
 -- the volume of which a letter is
 abbrev pub volume_of : Sent → ℕ

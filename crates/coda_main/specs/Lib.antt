@@ -7,3 +7,6 @@ pub mod Complete
 pub mod Cached
 pub mod Lettered
 pub mod Thawed
+pub mod Performed
+pub mod Shown
+pub mod Causes

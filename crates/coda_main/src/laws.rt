@@ -2,10 +2,13 @@
 ghost use Rattle.coda_engine.specs.Exact.{CleanScriptsRun, OneStatus};
 ghost use Rattle.coda_cell.specs.Made.{nothing_made};
 ghost use Rattle.coda_main.specs.Cached.{CachedIsHeld};
+ghost use Rattle.coda_main.specs.Causes.{RefusalsHaveCauses};
 ghost use Rattle.coda_main.specs.Complete.{ScriptsInGrammarAreClean};
 ghost use Rattle.coda_main.specs.Headline.{ScriptsRun, ChunksAreDecidedOnce, CertifiedChunksAreApplied, ConflictsNameASentRecord, OperationsAreKept, SettlementsAreDecided, LogsArePending};
-ghost use Rattle.coda_main.specs.Lettered.{RepliesNameLetters, LettersHaveEnds};
+ghost use Rattle.coda_main.specs.Lettered.{RepliesNameLetters, LettersSayWhatIsSo, LettersHaveEnds};
+ghost use Rattle.coda_main.specs.Performed.{OperationsArePerformed};
 ghost use Rattle.coda_main.specs.PlainRun.{LineGives, LineRefused};
+ghost use Rattle.coda_main.specs.Shown.{WhatIsShownIsThere};
 ghost use Rattle.coda_main.specs.Thawed.{VerdictsThaw};
 
 /// A script that the cell can run from its first line to its last, within the limits, never ends as one with a bad line
@@ -71,10 +74,17 @@ pub fn cached_is_held()
     ensures { CachedIsHeld }
 {}
 
-/// Whatever lines ran, what a reply tells of a letter is so: the chunk of a `send` waits under the number that is named, and so does the
-/// answer to a chunk that was delivered; what was delivered waited; and a letter that is lost waits no more.
+/// Whatever lines ran, what a reply tells of a letter is so: the chunk of a `send` waits under the number that is named, and no letter is
+/// added where one waited that says the same; the answer to a chunk that was delivered waits likewise, and what was delivered waits on; and
+/// a letter that is lost waits no more. No other line touches letters, nor does one that is refused.
 pub fn replies_name_letters()
     ensures { RepliesNameLetters }
+{}
+
+/// Whatever lines ran, a letter with a chunk says what its client froze for this server under the chunk's number, and a letter with a verdict
+/// says that of a decision of a server of the volume.
+pub fn letters_say_what_is_so()
+    ensures { LettersSayWhatIsSo }
 {}
 
 /// Whatever lines ran, the client, the volume and the server of a letter that waits are there.
@@ -85,4 +95,26 @@ pub fn letters_have_ends()
 /// Whatever lines ran, a drain that is answered by a verdict leaves no chunk of the client's log of the volume frozen.
 pub fn verdicts_thaw()
     ensures { VerdictsThaw }
+{}
+
+/// Whatever lines ran, an operation that is answered as done did what its line asked, over what its client held and fetched for it: the new
+/// object stands under the path's last name with the kind, mode and owner that were asked for, the file has the content, the object has the
+/// attributes, is gone with its name, or is bound under the new name alone. All other objects, and all their names, are as they were, but an
+/// object that a rename replaces, which is gone. The operation is the last of those that no server applied, with the number that is answered.
+/// No other line is answered so.
+pub fn operations_are_performed()
+    ensures { OperationsArePerformed }
+{}
+
+/// Whatever lines ran, what a reply shows of a file, a link or a directory is in the object that the line's path leads to, over what the
+/// client held and what it fetched, which is as the volume's server has it.
+pub fn what_is_shown_is_there()
+    ensures { WhatIsShownIsThere }
+{}
+
+/// Whatever lines ran, an operation, a read or a listing is done, or it is refused for a cause that holds, over what the client held and
+/// fetched: names that lead nowhere, since a directory doesn't bind one, an object isn't a directory or isn't held; what stands at the path
+/// isn't what the operation needs; the name is taken; the log or the journal is full; or an actor that it names isn't there.
+pub fn refusals_have_causes()
+    ensures { RefusalsHaveCauses }
 {}
