@@ -13,10 +13,10 @@ use coda_engine::{Status, run};
 use coda_io::{Sink, Source};
 use std::alloc::Global;
 
-/// Runs the script that the source has, from an empty cell, and writes its report to the sink. What was written is the report of a
-/// run of the plain cell over the lines that were read; and whatever these lines are, that run keeps what is promised of runs: each
-/// chunk is decided at most once, each decision is just, no operation is lost or done twice, and each log is what cancellation
-/// leaves of what is pending (Kistler and Satyanarayanan 1992).
+/// Runs the script that the source has, from an empty cell, and writes its report to the sink. What was written is
+/// the report of a run of the plain cell over the lines that were read; and whatever these lines are, that run
+/// keeps what is promised of runs: each chunk is decided at most once, each decision is just, no operation is lost
+/// or done twice, and each log is what cancellation leaves of what is pending (Kistler and Satyanarayanan 1992).
 pub fn run_script<S: Source, K: Sink>(alloc: Global, source: &mut S, sink: &mut K) -> Status
     ensures report { (cell : MadeCell) × (outside : List (List ℕ))
         × Reports LineGives LineRefused nothing_made cell (S.left source.old) (S.left source.new) (K.held sink.old) (K.held sink.new) outside result × HasRun cell }
@@ -29,8 +29,8 @@ pub fn run_script<S: Source, K: Sink>(alloc: Global, source: &mut S, sink: &mut 
     run(alloc, &mut machine, source, sink)
 }
 
-/// Does what the words of a command line ask for. The one word `run` runs the script that the source has; all other words
-/// are `Usage`, and then nothing is read or written.
+/// Does what the words of a command line ask for. The one word `run` runs the script that the source has; all other
+/// words are `Usage`, and then nothing is read or written.
 pub fn coda<S: Source, K: Sink>(
     alloc: Global,
     words: &[String],
