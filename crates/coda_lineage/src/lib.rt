@@ -1,0 +1,2 @@
+//! Histories of the replicas of a volume: what decisions and resolutions make of them, and that they stay of one history.
+#![tactic(auto)]
