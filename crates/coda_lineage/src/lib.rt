@@ -1,2 +1,6 @@
 //! Histories of the replicas of a volume: what decisions and resolutions make of them, and that they stay of one history.
 #![tactic(auto)]
+
+mod law;
+
+pub use law::replicas_stay_of_one_history;

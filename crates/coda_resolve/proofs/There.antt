@@ -43,7 +43,7 @@ found_some {X} t (y ∷ ys) x e = go (t y) e (found_some t ys x)
     go true e more = inl (same e)
     go false e more = inr (more e)
 
-picked_some : (pick : Option Held → Option Held) → ((copy : Option Held) (held : Held) → pick copy ≡ Some held → copy ≡ Some held) → (copies : Copies) (held : Held) → first_of_copies pick copies ≡ Some held → SomeOf (λ copy. copy ≡ Some held) copies
+pub picked_some : (pick : Option Held → Option Held) → ((copy : Option Held) (held : Held) → pick copy ≡ Some held → copy ≡ Some held) → (copies : Copies) (held : Held) → first_of_copies pick copies ≡ Some held → SomeOf (λ copy. copy ≡ Some held) copies
 picked_some pick own [] held e = absurd (some_none held (sym e))
 picked_some pick own (copy ∷ copies) held e = go (pick copy) refl e (picked_some pick own copies held)
   where

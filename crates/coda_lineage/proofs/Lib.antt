@@ -1,0 +1,7 @@
+mod Booleans
+mod Places
+mod Merging
+mod Standing
+mod OneHistory
+mod Unions
+mod Resolving
