@@ -94,8 +94,11 @@ module _ (root : Fid) (servers : List ℕ) (group : Group) (past : Past) (memory
   all_copies P d [] h = tt
   all_copies P d (s ∷ list) h = (h s (inl refl), all_copies P d list (λ t i. h t (inr i)))
 
+  pub all_kinds : (d : Fid) → AllByRecursion (HasKind (past.kind d)) (copies d)
+  all_kinds d = all_copies (HasKind (past.kind d)) d some (λ s i. (of s i).kinds d)
+
   pub kinds : (d : Fid) → AreOneKind (copies d)
-  kinds d = (past.kind d, all_copies (HasKind (past.kind d)) d some (λ s i. (of s i).kinds d))
+  kinds d = (past.kind d, all_kinds d)
 
   all_trees : (list : List ℕ) → AreAmong list servers → AllByRecursion (IsTreeView root) (map group.holds list)
   all_trees [] h = tt

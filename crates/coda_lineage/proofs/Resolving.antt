@@ -50,7 +50,7 @@ remember_same {view = view} {memory = memory} st = λ i. record { had = λ f. ha
   where
     absorbed : (a b : Bool) → (b ≡ true → a ≡ true) → (a || b) ≡ a
     absorbed true b h = refl
-    absorbed false true h = h refl
+    absorbed false true h = sym (h refl)
     absorbed false false h = refl
 
     had : (f : Fid) → (memory.had f || has_in view f) ≡ memory.had f
@@ -168,7 +168,7 @@ module _ (root : Fid) (servers : List ℕ) (group : Group) (past : Past) (memory
     pub dir_bound : (f : Fid) (n : Name) → (finmap.get (merged_bindings (copies d)) n ≡ Some f) ↔ IsPlace (knows d) f (past.done d) n
     dir_bound f n =
         let logs = history.logs_done root servers group past memory standing some among d in
-        let range = λ (v : ResEntry) (j : IsIn v (past.done d)). (standing.known.low d v j, standing.known.high d v j) in (
+        let range : (v : ResEntry) → IsIn v (past.done d) → (1 ≤ v.origin) × (v.origin ≤ 8) = λ v j. (standing.known.low d v j, standing.known.high d v j) in (
           merged_place (copies d) (copies_at views) free (past.done d) logs (standing.known.one d) range f (knows d) (placed_copy f) some_has has_known n,
           merged_from (copies d) (copies_at views) free (past.done d) logs (standing.known.one d) range f (knows d) (placed_copy f) some_has has_known n,
         )
@@ -226,7 +226,7 @@ module _ (root : Fid) (servers : List ℕ) (group : Group) (past : Past) (memory
 
     -- its kind is that of the copies
     same_at : (f : Fid) (held : Held) → fate_at views f ≡ Same held → ((past.kind f ≡ true) × IsMergedDir (copies f) (copies_at views) held) ⊎ ((past.kind f ≡ false) × IsNewestLeaf (copies f) held)
-    same_at f held e = same_cases (past.kind f) (copies f) (copies_at views) held (history.kinds root servers group past memory standing some among f).1 e
+    same_at f held e = same_cases (past.kind f) (copies f) (copies_at views) held (history.all_kinds root servers group past memory standing some among f) e
 
     low_kind : (f : Fid) (low : Held) → IsIn (Some low) (copies f) → is_dir low.node.kind ≡ past.kind f
     low_kind f low j = let t = server_of f (Some low) j in subst (HasKind (past.kind f)) t.1.1 ((of t.0 t.1.0).kinds f)
@@ -551,7 +551,7 @@ module _ (root : Fid) (servers : List ℕ) (group : Group) (past : Past) (memory
     kinds f = by (finmap.get after f) refl
       where
         all : AllByRecursion (HasKind (past.kind f)) (copies f)
-        all = (history.kinds root servers group past memory standing some among f).1
+        all = (history.all_kinds root servers group past memory standing some among f)
 
         taken : IsTakenUp views root f → HasKind (past.kind f) (finmap.get after f)
         taken up = subst (HasKind (past.kind f)) (sym (installed.taken f up)) (settled_kind (past.kind f) (copies f) (copies_at views) (finmap.get view f) all (own.kinds f))
