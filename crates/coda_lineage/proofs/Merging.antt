@@ -1,5 +1,5 @@
 -- A merged directory binds what the updates of all copies say, where each copy binds what its own say.
-use Rattle.std.proofs.Common.{◌≡◌, ◌≤◌, ℕ, Bool, true, false, cond, not, List, [], ◌∷◌, ◌++◌, Option, Some, None, is_some, refl, sym, ap, ◌∙◌, subst, ◌&&◌, ◌||◌, ◌⊎◌, inl, inr, ⊎_elim, ◌↔◌}
+use Rattle.std.proofs.Common.{◌≡◌, ◌≤◌, ℕ, Bool, true, false, cond, not, List, [], ◌∷◌, ◌++◌, Option, Some, None, is_some, refl, sym, ap, ◌∙◌, subst, ◌&&◌, ◌||◌, ◌⊎◌, inl, inr, ⊎_elim, ◌↔◌, arith}
 use Rattle.std.specs.Prelude.{nat_le}
 use Rattle.std.specs.FinMap as finmap
 use Rattle.std.specs.FinSet as set
@@ -8,19 +8,20 @@ use Rattle.std.specs.Ordering.{eq_by_cmp}
 use Rattle.std.specs.Option.{option_map}
 use Rattle.std.specs.Cmp.{eq_by_cmp_equiv}
 use Rattle.std.proofs.lemmas.Cmp.{nat_list_cmp_total}
-use Rattle.std.proofs.lemmas.Bool.{true≢false}
+use Rattle.std.proofs.lemmas.Bool.{true≢false, leb-false}
 use Rattle.coda_fid.specs.Fid.{fid_cmp, same_fid}
 use Rattle.coda_fid.specs.Name.{name_cmp}
 use Rattle.coda_fid.specs.declared.fid.Fid.{Fid}
 use Rattle.coda_fid.proofs.Fids.{same_fid_is, same_fid_refl}
 use Rattle.coda_tree.specs.Bindings.{Name, Bindings}
+use Rattle.coda_vv.specs.Vector.{count}
 use Rattle.coda_reslog.specs.declared.entry.ResEntry.{ResEntry}
 use Rattle.coda_reslog.specs.declared.entry.ResKind.{ResKind}
 use Rattle.coda_reslog.specs.declared.entry.ResKind.TheVariants.{Add, Drop, Rename, Cross, Attr}
 use Rattle.coda_reslog.specs.declared.change.Held.{Held}
 use Rattle.coda_resolve.specs.declared.why.Why.{Why}
 use Rattle.coda_resolve.specs.declared.why.Why.TheVariants.{Wrapped, NameName}
-use Rattle.coda_resolve.specs.Copies.{Copies, bindings_of, log_of, first_some}
+use Rattle.coda_resolve.specs.Copies.{Copies, vector_of, bindings_of, log_of, first_some}
 use Rattle.coda_resolve.specs.Missing.{has_update, missing, wrapped, leads, leader}
 use Rattle.coda_resolve.specs.Merged.{is_name_of, is_on, same_binding, shared, agreed, binding, names_in, names_of, names, flat, merged_bindings}
 use Rattle.coda_resolve.specs.Causes.{cause, kept, cross_rename, name_name, conflicts_of, least, fids_lost, all_lost, times, is_double}
@@ -110,17 +111,23 @@ bound_among copies copy n f s e =
 merged_at : (copies : Copies) (copy : Option Held) (n : Name) (f : Fid) → IsIn copy copies → finmap.get (bindings_of copy) n ≡ Some f → flat (binding copies n) ≡ Some f → finmap.get (merged_bindings copies) n ≡ Some f
 merged_at copies copy n f s e is = get_made (binding copies) (names copies) n ∙ ap (λ b. cond b (flat (binding copies n)) None) (bound_among copies copy n f s e) ∙ is
 
+-- an update that a copy lacks has a number from 1 on
+lacked : (u : ResEntry) (copy : Option Held) → has_update u copy ≡ false → 1 ≤ u.seq
+lacked u copy e = let l = leb-false u.seq (count (vector_of copy) u.origin) e in omega arith
+
 -- ---- copies of one directory without a cause, and all updates that there ever were of it
 
 module _ (copies : Copies) (look : Fid → Copies) (free : cause copies look ≡ None) (us : List ResEntry)
     (logs : (u : ResEntry) → IsIn u (flat_map log_of copies) → IsIn u us)
-    (one : (u v : ResEntry) → IsIn u us → IsIn v us → u.origin ≡ v.origin → u.seq ≡ v.seq → u ≡ v)
+    (one : (u v : ResEntry) → IsIn u us → IsIn v us → 1 ≤ u.seq → u.origin ≡ v.origin → u.seq ≡ v.seq → u ≡ v)
     (range : (u : ResEntry) → IsIn u us → (1 ≤ u.origin) × (u.origin ≤ 8)) where
   -- an update that one copy has and another lacks is missing
   pub missing_one : (u : ResEntry) (a b : Option Held) → IsIn u us → IsIn a copies → IsIn b copies → has_update u a ≡ true → has_update u b ≡ false → IsIn u (missing copies)
   missing_one u a b s ina inb has lacks =
       let m = stands_missing copies look a b u.origin u.seq free ina inb (range u s).0 (range u s).1 has lacks in
-      subst (λ v. IsIn v (missing copies)) (one m.0 u (logs m.0 m.1.1.0) s m.1.1.1.0 m.1.1.1.1) m.1.0
+      let same = m.1.1.1.1 in
+      let first = lacked u b lacks in
+      subst (λ v. IsIn v (missing copies)) (one m.0 u (logs m.0 m.1.1.0) s (omega arith) m.1.1.1.0 m.1.1.1.1) m.1.0
 
   -- a copy that leads has each update of the kind that some copy has
   led : (kind : ResEntry → Bool) (u : ResEntry) (l a : Option Held) → leads kind copies l ≡ true → IsIn l copies → IsIn u us → kind u ≡ true → IsIn a copies → has_update u a ≡ true → has_update u l ≡ true

@@ -28,7 +28,7 @@ use Rattle.coda_resolve.proofs.There.{Binds, fate_bound}
 use Rattle.coda_resolve.proofs.Once.{value_in}
 use Rattle.coda_resolve.proofs.Apart.{binds_nothing, not_parted, no_cause_of, merged_of}
 use Rattle.coda_lineage.specs.Lineage.{Group, held_at, AreAmong}
-use Rattle.coda_lineage.proofs.Booleans.{bool_cases, or_right, or_cases, not_true, and_first, and_second, and_both, any_none, flat_in}
+use Rattle.coda_lineage.proofs.Booleans.{bool_cases, or_right, or_cases, not_true, the_some, and_first, and_second, and_both, any_none, flat_in}
 use Rattle.coda_lineage.proofs.Places.{loses, is_lost, IsPlace}
 use Rattle.coda_lineage.proofs.Merging.{missing_one}
 use Rattle.coda_lineage.proofs.Standing.{Past, Memory, knew, is_own_cross, strays, HasLost, IsKnown, Stands, AreStanding}
@@ -163,7 +163,7 @@ module _ (root : Fid) (servers : List ℕ) (group : Group) (past : Past) (memory
             to_eight = standing.known.high d u m.1.0;
             one = sym (knew_is s d u is ks) ∙ (of s is).own d u m.1.0 origin;
             other = sym (knew_is t d u it kt) ∙ not_true (knew (memory t) d u) (λ k. apart (sym origin ∙ (of t it).alone d u m.1.0 cross k));
-            crosses = λ v j o q. subst (λ w. is_cross_kind w.kind ≡ true) (standing.known.one d u v m.1.0 (logs_done d v j) (sym o) (sym q)) cross;
+            crosses = λ v j o q. subst (λ w. is_cross_kind w.kind ≡ true) (standing.known.one d u v m.1.0 (logs_done d v j) (standing.known.cross_first d u m.1.0 cross) (sym o) (sym q)) cross;
           })
 
   -- so in a directory without a cause none strays
@@ -199,16 +199,13 @@ module _ (root : Fid) (servers : List ℕ) (group : Group) (past : Past) (memory
       ]
     where
       away : (t : ℕ) → IsIn t some → child_in (group.holds t) p n ≡ Some d → cause (copies p) (copies_at views) ≡ None → finmap.get (merged_bindings (copies p)) n ≡ Some d → t ≢ s → NotLost t p → NotLost s p → ⊥
-      away t j bound free merge apart kt ks = ⊎_elim at_home strayed ((of t j).placed p n d bound)
+      away t j bound free merge apart kt ks = ⊎_elim at_home (λ (e : (strays past t (memory t) p ≡ true) × ((h : Fid) → past.home d ≡ Some h → strays past t (memory t) h ≡ true)). true≢false (sym e.0 ∙ here)) ((of t j).placed p n d bound)
         where
           here : strays past t (memory t) p ≡ false
           here = unparted (copies_at views) t s p free j i apart kt ks
 
           there : strays past s (memory s) p ≡ false
           there = unparted (copies_at views) s t p free i j (λ e. apart (sym e)) ks kt
-
-          strayed : (strays past t (memory t) p ≡ true) × (strays past t (memory t) (past.home d) ≡ true) → ⊥
-          strayed e = true≢false (sym e.0 ∙ here)
 
           out : is_lost (knew (memory s) p) d (past.done p) ≡ true → ⊥
           out l =
@@ -223,14 +220,11 @@ module _ (root : Fid) (servers : List ℕ) (group : Group) (past : Past) (memory
               dir_kind : (h : Held) → finmap.get (group.holds t) p ≡ Some h → past.kind p ≡ true
               dir_kind h at = binder_kind (group.holds t) p n d h (past.kind p) at bound ((of t j).kinds p)
 
-          at_home : p ≡ past.home d → ⊥
+          at_home : past.home d ≡ Some p → ⊥
           at_home e = ⊎_elim
-              (λ (x : strays past s (memory s) (past.home d) ≡ true). true≢false (sym (ap (strays past s (memory s)) e ∙ x) ∙ there))
-              (λ (x : (is_lost (knew (memory s) (past.home d)) d (past.done (past.home d)) ≡ true) ⊎ HasLost (group.holds s) (memory s) (past.home d)). ⊎_elim
-              (λ (y : is_lost (knew (memory s) (past.home d)) d (past.done (past.home d)) ≡ true). out (subst (λ q. is_lost (knew (memory s) q) d (past.done q) ≡ true) (sym e) y))
-              (λ (y : HasLost (group.holds s) (memory s) (past.home d)). ks (subst (HasLost (group.holds s) (memory s)) (sym e) y))
-              x)
-              ((of s i).lost d lost)
+              (λ (x : strays past s (memory s) p ≡ true). true≢false (sym x ∙ there))
+              (λ (x : (is_lost (knew (memory s) p) d (past.done p) ≡ true) ⊎ HasLost (group.holds s) (memory s) p). ⊎_elim out ks x)
+              ((of s i).lost d lost p e)
 
   placed : ArePlaced views root
   placed a b d e f n k ina inb is_d is_e ne up =
@@ -254,16 +248,16 @@ module _ (root : Fid) (servers : List ℕ) (group : Group) (past : Past) (memory
           kt : NotLost t d
           kt = taken_kept d up t it
 
-          strayed : (strays past s (memory s) d ≡ true) × (strays past s (memory s) (past.home f) ≡ true) → ArePartedCopies (copies d) (finmap.get (group.holds s) d) (finmap.get (group.holds t) d)
+          strayed : (strays past s (memory s) d ≡ true) × ((h : Fid) → past.home f ≡ Some h → strays past s (memory s) h ≡ true) → ArePartedCopies (copies d) (finmap.get (group.holds s) d) (finmap.get (group.holds t) d)
           strayed x = ⊎_elim (λ m. inl (inl m)) (λ c. inr (inl c)) (stray_parted s t d is it apart ks kt x.0)
 
           other : strays past t (memory t) d ≡ true → ArePartedCopies (copies d) (finmap.get (group.holds s) d) (finmap.get (group.holds t) d)
           other x = ⊎_elim (λ m. inl (inr m)) (λ c. inr (inr c)) (stray_parted t s d it is (λ q. apart (sym q)) kt ks x)
 
-          at_home : d ≡ past.home f → ArePartedCopies (copies d) (finmap.get (group.holds s) d) (finmap.get (group.holds t) d)
+          at_home : past.home f ≡ Some d → ArePartedCopies (copies d) (finmap.get (group.holds s) d) (finmap.get (group.holds t) d)
           at_home h = ⊎_elim
-              (λ (x : e ≡ past.home f). absurd (ne (h ∙ sym x)))
-              (λ (x : (strays past t (memory t) e ≡ true) × (strays past t (memory t) (past.home f) ≡ true)). other (ap (strays past t (memory t)) h ∙ x.1))
+              (λ (x : past.home f ≡ Some e). absurd (ne (the_some d e (sym h ∙ x))))
+              (λ (x : (strays past t (memory t) e ≡ true) × ((g : Fid) → past.home f ≡ Some g → strays past t (memory t) g ≡ true)). other (x.1 d h))
               ((of t it).placed e k f et)
 
   pub of_one_history : some ≢ [] → AreOfOneHistory views root

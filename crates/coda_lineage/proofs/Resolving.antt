@@ -38,7 +38,7 @@ use Rattle.coda_lineage.specs.Lineage.{Group, held_at, AreAmong, IsResolved}
 use Rattle.coda_lineage.proofs.Booleans.{bool_cases, or_left, or_right, or_first, or_second, or_cases, or_from, not_true, the_some, any_none, none_any, and_first, and_second, and_both}
 use Rattle.coda_lineage.proofs.Places.{loses, newest, is_lost, IsPlace, newest_found, newest_some, place_alike, lost_less, no_place}
 use Rattle.coda_lineage.proofs.Merging.{merged_place, merged_from}
-use Rattle.coda_lineage.proofs.Standing.{Past, Memory, last_by, remember, knew, is_own_cross, strays, HasLost, IsKnown, Stands, AreStanding}
+use Rattle.coda_lineage.proofs.Standing.{Past, Memory, last_by, remember, knew, is_own_cross, strays, HasLost, IsPlaced, IsLostFrom, IsKnown, Stands, AreStanding}
 use Rattle.coda_lineage.proofs.OneHistory as history
 use Rattle.coda_lineage.proofs.OneHistory.{none_known, binder_kind}
 use Rattle.coda_lineage.proofs.Unions.{Has, IsEight, includes_at, union_some, union_has, union_eight, log_from, IsMergedDir, IsNewestLeaf, same_cases}
@@ -146,7 +146,7 @@ module _ (root : Fid) (servers : List ℕ) (group : Group) (past : Past) (memory
     placed_at : (s : ℕ) → IsIn s some → (o : Option Held) → finmap.get (group.holds s) d ≡ o → (f : Fid) (n : Name) → (finmap.get (bindings_of o) n ≡ Some f) ↔ IsPlace (λ u. has_update u o) f (past.done d) n
     placed_at s i None e f n = (
       λ h. absurd (some_none f (sym h ∙ finmap.get-empty name_cmp n)),
-      λ p. absurd (no_place (λ u. has_update u None) f (past.done d) n (λ u j. none_known u.seq u.origin (standing.known.first d u j)) p.1),
+      λ p. absurd (no_place (λ u. has_update u None) f (past.done d) n (λ u j. none_known u.seq u.origin ((of s i).first d u j (not_true ((memory s).had d) (λ h. kept d up s i (h, e))))) p.1),
     )
     placed_at s i (Some held) e f n =
         let b = (of s i).bound d held e dir (steady d up free s i) f n in
@@ -159,7 +159,11 @@ module _ (root : Fid) (servers : List ℕ) (group : Group) (past : Past) (memory
     placed_copy f copy j n = let s = server_of d copy j in placed_at s.0 s.1.0 copy s.1.1 f n
 
     some_has : (u : ResEntry) → IsIn u (past.done d) → knows d u ≡ true → (copy : Option Held) × (IsIn copy (copies d) × (has_update u copy ≡ true))
-    some_has u j h = union_some u.seq u.origin (copies d) (eights d up) (standing.known.first d u j) h
+    some_has u j h = by u.seq refl
+      where
+        by : (q : ℕ) → u.seq ≡ q → (copy : Option Held) × (IsIn copy (copies d) × (has_update u copy ≡ true))
+        by zero e = (finmap.get (group.holds one) d, (copy_in one d one_in, le-leb u.seq (count (vector_of (finmap.get (group.holds one) d)) u.origin) (omega arith)))
+        by (suc q) e = union_some u.seq u.origin (copies d) (eights d up) (omega arith) h
 
     has_known : (u : ResEntry) (copy : Option Held) → IsIn copy (copies d) → has_update u copy ≡ true → knows d u ≡ true
     has_known u copy j h = union_has u.seq u.origin (copies d) copy (eights d up) j h
@@ -269,9 +273,13 @@ module _ (root : Fid) (servers : List ℕ) (group : Group) (past : Past) (memory
             (stand_in_vector low low.node.kind)
 
     -- and it has those that it had
-    rise : (f : Fid) (seq o : ℕ) → 1 ≤ seq → Has seq o (before.last f) → Has seq o (now.last f)
-    rise f seq o first h = by (after_at f)
+    rise : (f : Fid) (seq o : ℕ) → Has seq o (before.last f) → Has seq o (now.last f)
+    rise f zero o h = le-leb 0 (count (now.last f) o) (omega arith)
+    rise f (suc number) o h = by (after_at f)
       where
+        seq : ℕ
+        seq = suc number
+
         by : AfterAt views root view after f → Has seq o (now.last f)
         by (as_it_was e) = subst (Has seq o) (sym (last_kept f e)) h
         by (gone e) = subst (Has seq o) (sym (last_gone f e)) h
@@ -291,10 +299,10 @@ module _ (root : Fid) (servers : List ℕ) (group : Group) (past : Past) (memory
                 let l = leb-true seq (count (vector_of (finmap.get view f)) o) mine in
                 le-leb seq (count held.vector.0 o) (omega arith)
         by (marked_own held up is e) = subst (Has seq o) (sym (last_own f held is e)) h
-        by (marked_new low up none j e) = absurd (true≢false (sym (subst (Has seq o) (last_is f up s i ∙ ap vector_of none) h) ∙ none_known seq o first))
+        by (marked_new low up none j e) = absurd (true≢false (sym (subst (Has seq o) (last_is f up s i ∙ ap vector_of none) h) ∙ none_known seq o (omega arith)))
 
     more : (p : Fid) (u : ResEntry) → IsIn u (past.done p) → knew before p u ≡ true → knew now p u ≡ true
-    more p u j h = rise p u.seq u.origin (standing.known.first p u j) h
+    more p u j h = rise p u.seq u.origin h
 
     -- where it didn't stray it may, and where it did it does
     stray_was : (p : Fid) → strays past s now p ≡ false → strays past s before p ≡ false
@@ -383,7 +391,7 @@ module _ (root : Fid) (servers : List ℕ) (group : Group) (past : Past) (memory
             (λ (m : (past.kind p ≡ true) × IsMergedDir (copies p) (copies_at views) held). ⊎_elim
             (λ (k : knew before p u ≡ true). own.alone p u j cross k)
             (λ (k : knew before p u ≡ false).
-            let c = union_some u.seq u.origin (copies p) (eights p up) (standing.known.first p u j) (subst (Has u.seq u.origin) (last_at p held e ∙ m.1.vector) h) in
+            let c = union_some u.seq u.origin (copies p) (eights p up) (standing.known.cross_first p u j cross) (subst (Has u.seq u.origin) (last_at p held e ∙ m.1.vector) h) in
             let t = server_of p c.0 c.1.0 in
             let has : knew (memory t.0) p u ≡ true = knew_is p u up t.0 t.1.0 ∙ ap (has_update u) t.1.1 ∙ c.1.1 in
             let missed = history.missing_here root servers group past memory standing some among (copies_at views) p u t.0 s m.1.free j t.1.0 i (kept p up t.0 t.1.0) (kept p up s i) has k in
@@ -393,32 +401,28 @@ module _ (root : Fid) (servers : List ℕ) (group : Group) (past : Past) (memory
             (same_at p held is)
         by (marked_own held up is e) = same (last_own p held is e)
         by (marked_new low up none k e) = ⊎_elim
-            (λ (m : (is_dir low.node.kind ≡ true) × ((stand_in_by low low.node.kind).vector.0 ≡ no_updates)). absurd (true≢false (sym (subst (Has u.seq u.origin) (last_at p _ e ∙ m.1) h) ∙ none_known u.seq u.origin (standing.known.first p u j))))
+            (λ (m : (is_dir low.node.kind ≡ true) × ((stand_in_by low low.node.kind).vector.0 ≡ no_updates)). absurd (true≢false (sym (subst (Has u.seq u.origin) (last_at p _ e ∙ m.1) h) ∙ none_known u.seq u.origin (standing.known.cross_first p u j cross))))
             (λ (m : (is_dir low.node.kind ≡ false) × ((stand_in_by low low.node.kind).vector.0 ≡ low.vector.0)). absurd (true≢false (sym dir ∙ sym (low_kind p low k) ∙ m.0)))
             (stand_in_vector low low.node.kind)
 
-    placed : (e : Fid) (n : Name) (f : Fid) → child_in after e n ≡ Some f → (e ≡ past.home f) ⊎ ((strays past s now e ≡ true) × (strays past s now (past.home f) ≡ true))
+    placed : (e : Fid) (n : Name) (f : Fid) → child_in after e n ≡ Some f → IsPlaced past s now e f
     placed e n f h = ⊎_elim from_merged from_own (child_cases views root view after is_history in_views installed e n f h)
       where
-        from_own : KeepsOwn views root view e × (child_in view e n ≡ Some f) → (e ≡ past.home f) ⊎ ((strays past s now e ≡ true) × (strays past s now (past.home f) ≡ true))
-        from_own m = ⊎_elim (λ (x : e ≡ past.home f). inl x) (λ (x : (strays past s before e ≡ true) × (strays past s before (past.home f) ≡ true)). inr (stray_on e x.0, stray_on (past.home f) x.1)) (own.placed e n f m.1)
+        from_own : KeepsOwn views root view e × (child_in view e n ≡ Some f) → IsPlaced past s now e f
+        from_own m = ⊎_elim (λ (x : past.home f ≡ Some e). inl x) (λ (x : (strays past s before e ≡ true) × ((g : Fid) → past.home f ≡ Some g → strays past s before g ≡ true)). inr (stray_on e x.0, λ g is. stray_on g (x.1 g is))) (own.placed e n f m.1)
 
-        from_merged : ((to : Held) × (IsTakenUp views root e × ((fate_at views e ≡ Same to) × (finmap.get (bindings to.node.kind) n ≡ Some f)))) → (e ≡ past.home f) ⊎ ((strays past s now e ≡ true) × (strays past s now (past.home f) ≡ true))
+        from_merged : ((to : Held) × (IsTakenUp views root e × ((fate_at views e ≡ Same to) × (finmap.get (bindings to.node.kind) n ≡ Some f)))) → IsPlaced past s now e f
         from_merged m =
             let t = history.some_copy root servers group past memory standing some among (Binds n f) e (fate_bound (copies e) (copies_at views) m.0 n f m.1.1.0 m.1.1.1) in
-            ⊎_elim (λ (x : e ≡ past.home f). inl x)
-            (λ (x : (strays past t.0 (memory t.0) e ≡ true) × (strays past t.0 (memory t.0) (past.home f) ≡ true)). absurd (true≢false (sym x.0 ∙ steady e m.1.0 (free m.0 m.1.1.0 m.1.1.1) t.0 t.1.0)))
+            ⊎_elim (λ (x : past.home f ≡ Some e). inl x)
+            (λ (x : (strays past t.0 (memory t.0) e ≡ true) × ((g : Fid) → past.home f ≡ Some g → strays past t.0 (memory t.0) g ≡ true)). absurd (true≢false (sym x.0 ∙ steady e m.1.0 (free m.0 m.1.1.0 m.1.1.1) t.0 t.1.0)))
             ((of t.0 t.1.0).placed e n f t.1.1)
           where
             free : (to : Held) → fate_at views e ≡ Same to → finmap.get (bindings to.node.kind) n ≡ Some f → cause (copies e) (copies_at views) ≡ None
             free to is b = no_cause_of (copies e) (copies_at views) to n f (history.kinds root servers group past memory standing some among e) is b
 
-    -- why an object that was held is held no more
-    abbrev IsLostFor : Fid → Type 0
-    IsLostFor f = (strays past s now (past.home f) ≡ true) ⊎ ((is_lost (knew now (past.home f)) f (past.done (past.home f)) ≡ true) ⊎ HasLost after now (past.home f))
-
-    lost : (f : Fid) → HasLost after now f → (strays past s now (past.home f) ≡ true) ⊎ ((is_lost (knew now (past.home f)) f (past.done (past.home f)) ≡ true) ⊎ HasLost after now (past.home f))
-    lost f h = by (finmap.get view f) refl
+    lost : (f : Fid) → HasLost after now f → (home : Fid) → past.home f ≡ Some home → IsLostFrom past s after now home f
+    lost f h home made_in = by (finmap.get view f) refl
       where
         had_on : (g : Fid) → before.had g ≡ true → now.had g ≡ true
         had_on g e = or_first (before.had g) (has_in after g) e
@@ -445,19 +449,19 @@ module _ (root : Fid) (servers : List ℕ) (group : Group) (past : Past) (memory
         not_taken up = true≢false (sym (taken_has views root view after is_history in_views installed f up) ∙ ap is_some gone_now)
 
         -- its directory stands, and no more binds it
-        unbound : (p : Fid) (n : Name) → child_in view p n ≡ Some f → p ≡ past.home f → strays past s before p ≡ false → (held : Held) → finmap.get view p ≡ Some held → finmap.get view f ≢ None → IsTakenUp views root p ⊎ KeepsOwn views root view p → IsLostFor f
-        unbound p n bound home calm held at here (inr keeps) = absurd (here (sym (installed.kept p n f keeps bound) ∙ gone_now))
-        unbound p n bound home calm held at here (inl up) = by_fate (fate_at views p) refl
+        unbound : (p : Fid) (n : Name) → child_in view p n ≡ Some f → p ≡ home → strays past s before p ≡ false → (held : Held) → finmap.get view p ≡ Some held → finmap.get view f ≢ None → IsTakenUp views root p ⊎ KeepsOwn views root view p → IsLostFrom past s after now home f
+        unbound p n bound at_home calm held at here (inr keeps) = absurd (here (sym (installed.kept p n f keeps bound) ∙ gone_now))
+        unbound p n bound at_home calm held at here (inl up) = by_fate (fate_at views p) refl
           where
-            by_fate : (result : Fate) → fate_at views p ≡ result → IsLostFor f
+            by_fate : (result : Fate) → fate_at views p ≡ result → IsLostFrom past s after now home f
             by_fate (Same to) is = ⊎_elim merges (λ (m : (past.kind p ≡ false) × IsNewestLeaf (copies p) to). absurd (true≢false (sym dir ∙ m.0))) (same_at p to is)
               where
                 dir : past.kind p ≡ true
                 dir = binder_kind view p n f held (past.kind p) at bound (own.kinds p)
 
-                merges : (past.kind p ≡ true) × IsMergedDir (copies p) (copies_at views) to → IsLostFor f
+                merges : (past.kind p ≡ true) × IsMergedDir (copies p) (copies_at views) to → IsLostFrom past s after now home f
                 merges m = ⊎_elim
-                    (λ (l : is_lost (knew now p) f (past.done p) ≡ true). inr (inl (subst (λ q. is_lost (knew now q) f (past.done q) ≡ true) home l)))
+                    (λ (l : is_lost (knew now p) f (past.done p) ≡ true). inr (inl (subst (λ q. is_lost (knew now q) f (past.done q) ≡ true) at_home l)))
                     (λ (l : is_lost (knew now p) f (past.done p) ≡ false). absurd (not_taken (rebound l)))
                     (bool_cases (is_lost (knew now p) f (past.done p)))
                   where
@@ -474,32 +478,32 @@ module _ (root : Fid) (servers : List ℕ) (group : Group) (past : Past) (memory
             by_fate (Marked why) is = absurd (here (sym (installed.kept p n f (marked_there p why up is) bound) ∙ gone_now))
             by_fate Gone is = absurd (taken_up_is_there views root is_history.trees p up (gone_absent (copies p) (copies_at views) (first_some (copies p)) is))
 
-        bound_at : (p : Fid) (n : Name) → child_in view p n ≡ Some f → finmap.get view f ≢ None → p ≡ past.home f → (b : Bool) → strays past s before p ≡ b → IsLostFor f
-        bound_at p n bound here home true e = inl (stray_on (past.home f) (ap (strays past s before) (sym home) ∙ e))
-        bound_at p n bound here home false e = by_copy (finmap.get view p) refl (finmap.get after p) refl
+        bound_at : (p : Fid) (n : Name) → child_in view p n ≡ Some f → finmap.get view f ≢ None → p ≡ home → (b : Bool) → strays past s before p ≡ b → IsLostFrom past s after now home f
+        bound_at p n bound here at_home true e = inl (stray_on home (ap (strays past s before) (sym at_home) ∙ e))
+        bound_at p n bound here at_home false e = by_copy (finmap.get view p) refl (finmap.get after p) refl
           where
-            by_copy : (o : Option Held) → finmap.get view p ≡ o → (a : Option Held) → finmap.get after p ≡ a → IsLostFor f
+            by_copy : (o : Option Held) → finmap.get view p ≡ o → (a : Option Held) → finmap.get after p ≡ a → IsLostFrom past s after now home f
             by_copy None x a y = absurd (some_none f (sym bound ∙ ap (λ c. finmap.get (bindings_of c) n) x ∙ finmap.get-empty name_cmp n))
-            by_copy (Some held) x None y = inr (inr (subst (HasLost after now) home (had_on p (own.had p (ap is_some x)), y)))
-            by_copy (Some held) x (Some new) y = unbound p n bound home e held x here (installed.only p (ap is_some y))
+            by_copy (Some held) x None y = inr (inr (subst (HasLost after now) at_home (had_on p (own.had p (ap is_some x)), y)))
+            by_copy (Some held) x (Some new) y = unbound p n bound at_home e held x here (installed.only p (ap is_some y))
 
-        from_tree : (g : Fid) → g ≡ f → finmap.get view f ≢ None → IsBelow (child_in view) root g → IsLostFor f
+        from_tree : (g : Fid) → g ≡ f → finmap.get view f ≢ None → IsBelow (child_in view) root g → IsLostFrom past s after now home f
         from_tree g e here (itself q is) = absurd (not_taken (at_root f (sym e ∙ is)))
         from_tree g e here (under p n q bound up) =
             let b : child_in view p n ≡ Some f = bound ∙ ap Some e in
-            ⊎_elim (λ (x : p ≡ past.home f). bound_at p n b here x (strays past s before p) refl)
-            (λ (x : (strays past s before p ≡ true) × (strays past s before (past.home f) ≡ true)). inl (stray_on (past.home f) x.1))
+            ⊎_elim (λ (x : past.home f ≡ Some p). bound_at p n b here (the_some p home (sym x ∙ made_in)) (strays past s before p) refl)
+            (λ (x : (strays past s before p ≡ true) × ((g : Fid) → past.home f ≡ Some g → strays past s before g ≡ true)). inl (stray_on home (x.1 home made_in)))
             (own.placed p n f b)
 
-        by : (o : Option Held) → finmap.get view f ≡ o → IsLostFor f
+        by : (o : Option Held) → finmap.get view f ≡ o → IsLostFrom past s after now home f
         by None e =
             let had : before.had f ≡ true = ⊎_elim (λ (x : before.had f ≡ true). x) (λ (x : has_in after f ≡ true). absurd (true≢false (sym x ∙ ap is_some gone_now))) (or_cases (before.had f) (has_in after f) h.0) in
-            ⊎_elim (λ (x : strays past s before (past.home f) ≡ true). inl (stray_on (past.home f) x))
-            (λ (x : (is_lost (knew before (past.home f)) f (past.done (past.home f)) ≡ true) ⊎ HasLost view before (past.home f)). ⊎_elim
-            (λ (y : is_lost (knew before (past.home f)) f (past.done (past.home f)) ≡ true). inr (inl (known_on f (past.home f) y)))
-            (λ (y : HasLost view before (past.home f)). inr (inr (lost_on (past.home f) y)))
+            ⊎_elim (λ (x : strays past s before home ≡ true). inl (stray_on home x))
+            (λ (x : (is_lost (knew before home) f (past.done home) ≡ true) ⊎ HasLost view before home). ⊎_elim
+            (λ (y : is_lost (knew before home) f (past.done home) ≡ true). inr (inl (known_on f home y)))
+            (λ (y : HasLost view before home). inr (inr (lost_on home y)))
             x)
-            (own.lost f (had, e))
+            (own.lost f (had, e) home made_in)
         by (Some held) e = from_tree f refl (λ none. some_none held (sym e ∙ none)) (own.tree.reached f (ap is_some e))
 
     bound : (p : Fid) (held : Held) → finmap.get after p ≡ Some held → past.kind p ≡ true → strays past s now p ≡ false → (f : Fid) (n : Name) → (child_in after p n ≡ Some f) ↔ IsPlace (knew now p) f (past.done p) n
@@ -593,6 +597,7 @@ module _ (root : Fid) (servers : List ℕ) (group : Group) (past : Past) (memory
       stays = stays;
       mark_had = mark_had;
       logs = logs;
+      first = λ p u j h. own.first p u j (or_left (before.had p) (has_in after p) h);
       own = λ p u j e. more p u j (own.own p u j e);
       alone = alone;
       placed = placed;
@@ -606,7 +611,7 @@ module _ (root : Fid) (servers : List ℕ) (group : Group) (past : Past) (memory
   record Follows (s : ℕ) (after : Objects) : Type 0 where
     pub stands : Stands root past group.made s after (remember (memory s) after)
     pub upper : (f : Fid) (seq o : ℕ) → 1 ≤ seq → Has seq o ((remember (memory s) after).last f) → (t : ℕ) × (IsIn t servers × Has seq o ((memory t).last f))
-    pub rise : (f : Fid) (seq o : ℕ) → 1 ≤ seq → Has seq o ((memory s).last f) → Has seq o ((remember (memory s) after).last f)
+    pub rise : (f : Fid) (seq o : ℕ) → Has seq o ((memory s).last f) → Has seq o ((remember (memory s) after).last f)
 
   follows_same : (s : ℕ) → IsIn s servers → Follows s (group.holds s)
   follows_same s i =
@@ -614,7 +619,7 @@ module _ (root : Fid) (servers : List ℕ) (group : Group) (past : Past) (memory
       record {
         stands = subst (Stands root past group.made s (group.holds s)) (sym same) (standing.each s i);
         upper = λ f seq o first h. (s, (i, subst (λ (m : Memory). Has seq o (m.last f)) same h));
-        rise = λ f seq o first h. subst (λ (m : Memory). Has seq o (m.last f)) (sym same) h;
+        rise = λ f seq o h. subst (λ (m : Memory). Has seq o (m.last f)) (sym same) h;
       }
 
   follows_installed : (s : ℕ) → IsIn s some → (after : Objects) → IsInstalled views root (group.holds s) after → Follows s after
@@ -643,6 +648,6 @@ module _ (root : Fid) (servers : List ℕ) (group : Group) (past : Past) (memory
               let r = (follows s i).upper p (suc c) t (omega arith) (le-leb (suc c) (count ((remember (memory s) (next.holds s)).last p) t) (omega arith)) in
               let l = leb-true (suc c) (count ((memory r.0).last p) t) r.1.1 in
               let m = standing.most r.0 t r.1.0 j p in
-              let up = (follows t j).rise p (suc c) t (omega arith) (le-leb (suc c) (count ((memory t).last p) t) (omega arith)) in
+              let up = (follows t j).rise p (suc c) t (le-leb (suc c) (count ((memory t).last p) t) (omega arith)) in
               let h = leb-true (suc c) (count ((remember (memory t) (next.holds t)).last p) t) up in
               omega arith

@@ -22,7 +22,7 @@ use Rattle.coda_lineage.proofs.Places.{loses, is_lost, IsPlace}
 
 -- of a volume: the directory in which each object was made, whether it is a directory, and all updates of it, the newest first
 pub record Past : Type 0 where
-  pub home : Fid → Fid
+  pub home : Fid → Option Fid
   pub kind : Fid → Bool
   pub done : Fid → List ResEntry
 
@@ -60,15 +60,23 @@ strays past server memory p = memory.was p || list_any (is_own_cross server) (pa
 abbrev pub HasLost : Objects → Memory → Fid → Type 0
 HasLost view memory f = (memory.had f ≡ true) × (finmap.get view f ≡ None)
 
+-- an object is bound where it was made, or the replica strays where it is bound, and where it was made
+abbrev pub IsPlaced : Past → ℕ → Memory → Fid → Fid → Type 0
+IsPlaced past server memory e f = (past.home f ≡ Some e) ⊎ ((strays past server memory e ≡ true) × ((h : Fid) → past.home f ≡ Some h → strays past server memory h ≡ true))
+
+-- in the directory in which an object was made the replica strays, or an update took the object out, or it lost the directory too
+abbrev pub IsLostFrom : Past → ℕ → Objects → Memory → Fid → Fid → Type 0
+IsLostFrom past server view memory h f = (strays past server memory h ≡ true) ⊎ ((is_lost (knew memory h) f (past.done h) ≡ true) ⊎ HasLost view memory h)
+
 -- ---- what holds
 
 -- of all updates that there were
 pub record IsKnown (servers : List ℕ) (past : Past) (made : Fid → Bool) : Type 0 where
   pub low : (p : Fid) (u : ResEntry) → IsIn u (past.done p) → 1 ≤ u.origin
   pub high : (p : Fid) (u : ResEntry) → IsIn u (past.done p) → u.origin ≤ 8
-  pub first : (p : Fid) (u : ResEntry) → IsIn u (past.done p) → 1 ≤ u.seq
+  pub cross_first : (p : Fid) (u : ResEntry) → IsIn u (past.done p) → is_cross_kind u.kind ≡ true → 1 ≤ u.seq
   pub at : (p : Fid) (u : ResEntry) → IsIn u (past.done p) → IsIn u.origin servers
-  pub one : (p : Fid) (u v : ResEntry) → IsIn u (past.done p) → IsIn v (past.done p) → u.origin ≡ v.origin → u.seq ≡ v.seq → u ≡ v
+  pub one : (p : Fid) (u v : ResEntry) → IsIn u (past.done p) → IsIn v (past.done p) → 1 ≤ u.seq → u.origin ≡ v.origin → u.seq ≡ v.seq → u ≡ v
   pub made_fid : (p : Fid) (u : ResEntry) (f : Fid) → IsIn u (past.done p) → same_fid f u.fid ≡ true → made f ≡ true
   pub made_lost : (p : Fid) (u : ResEntry) (f : Fid) → IsIn u (past.done p) → loses f u ≡ true → made f ≡ true
   pub cross_dir : (p : Fid) (u : ResEntry) → IsIn u (past.done p) → is_cross_kind u.kind ≡ true → past.kind p ≡ true
@@ -86,14 +94,16 @@ pub record Stands (root : Fid) (past : Past) (made : Fid → Bool) (server : ℕ
   pub stays : (f : Fid) (held : Held) → finmap.get view f ≡ Some held → memory.was f ≡ true → held.node.marked ≡ true
   pub mark_had : (f : Fid) → memory.was f ≡ true → memory.had f ≡ true
   pub logs : (p : Fid) (u : ResEntry) → IsIn u (log_of (finmap.get view p)) → IsIn u (past.done p)
+  -- what it never held has no update from before all updates
+  pub first : (p : Fid) (u : ResEntry) → IsIn u (past.done p) → memory.had p ≡ false → 1 ≤ u.seq
   -- it has its server's updates
   pub own : (p : Fid) (u : ResEntry) → IsIn u (past.done p) → u.origin ≡ server → knew memory p u ≡ true
   -- and of moves between directories those alone
   pub alone : (p : Fid) (u : ResEntry) → IsIn u (past.done p) → is_cross_kind u.kind ≡ true → knew memory p u ≡ true → u.origin ≡ server
-  -- an object is bound where it was made, or the replica strays there and where it is bound
-  pub placed : (e : Fid) (n : Name) (f : Fid) → child_in view e n ≡ Some f → (e ≡ past.home f) ⊎ ((strays past server memory e ≡ true) × (strays past server memory (past.home f) ≡ true))
+  -- an object is bound where it was made, or the replica strays where it is bound, and where it was made
+  pub placed : (e : Fid) (n : Name) (f : Fid) → child_in view e n ≡ Some f → IsPlaced past server memory e f
   -- an object that it lost was taken out by an update where it was made, or the replica strays there, or lost that directory too
-  pub lost : (f : Fid) → HasLost view memory f → (strays past server memory (past.home f) ≡ true) ⊎ ((is_lost (knew memory (past.home f)) f (past.done (past.home f)) ≡ true) ⊎ HasLost view memory (past.home f))
+  pub lost : (f : Fid) → HasLost view memory f → (h : Fid) → past.home f ≡ Some h → IsLostFrom past server view memory h f
   -- a directory in which it doesn't stray binds what the updates that it has say
   pub bound : (p : Fid) (held : Held) → finmap.get view p ≡ Some held → past.kind p ≡ true → strays past server memory p ≡ false → (f : Fid) (n : Name) → (child_in view p n ≡ Some f) ↔ IsPlace (knew memory p) f (past.done p) n
 
