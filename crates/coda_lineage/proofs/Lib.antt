@@ -5,3 +5,5 @@ mod Standing
 mod OneHistory
 mod Unions
 mod Resolving
+mod Edits
+mod Renames
