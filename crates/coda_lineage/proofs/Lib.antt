@@ -7,3 +7,7 @@ mod Unions
 mod Resolving
 mod Edits
 mod Renames
+mod Operations
+mod Deciding
+mod Decided
+mod Reaching

@@ -77,6 +77,7 @@ pub record IsKnown (servers : List ℕ) (past : Past) (made : Fid → Bool) : Ty
   pub cross_first : (p : Fid) (u : ResEntry) → IsIn u (past.done p) → is_cross_kind u.kind ≡ true → 1 ≤ u.seq
   pub at : (p : Fid) (u : ResEntry) → IsIn u (past.done p) → IsIn u.origin servers
   pub one : (p : Fid) (u v : ResEntry) → IsIn u (past.done p) → IsIn v (past.done p) → 1 ≤ u.seq → u.origin ≡ v.origin → u.seq ≡ v.seq → u ≡ v
+  pub made_at : (p : Fid) (u : ResEntry) → IsIn u (past.done p) → made p ≡ true
   pub made_fid : (p : Fid) (u : ResEntry) (f : Fid) → IsIn u (past.done p) → same_fid f u.fid ≡ true → made f ≡ true
   pub made_lost : (p : Fid) (u : ResEntry) (f : Fid) → IsIn u (past.done p) → loses f u ≡ true → made f ≡ true
   pub cross_dir : (p : Fid) (u : ResEntry) → IsIn u (past.done p) → is_cross_kind u.kind ≡ true → past.kind p ≡ true
