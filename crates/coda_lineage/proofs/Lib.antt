@@ -10,4 +10,5 @@ mod Renames
 mod Operations
 mod Deciding
 mod Decided
+mod Repairing
 mod Reaching

@@ -17,7 +17,7 @@ use Rattle.coda_resolve.specs.Settled.{HasKind}
 use Rattle.coda_resolve.specs.Resolution.{Objects, IsTreeView, has_in, child_in}
 use Rattle.coda_resolve.specs.Placement.{IsIn, AreOfOneHistory}
 use Rattle.coda_resolve.proofs.Lists.{some_none}
-use Rattle.coda_lineage.specs.Lineage.{Group, held_at, new_root, IsNew, IsDecided, IsResolved, AreAmong, AreServers, IsReached, new_volume, decided, resolved}
+use Rattle.coda_lineage.specs.Lineage.{Group, held_at, new_root, IsNew, IsDecided, IsResolved, AreAmong, AreServers, IsReached, new_volume, decided, resolved, repaired}
 use Rattle.coda_lineage.proofs.Booleans.{the_some}
 use Rattle.coda_lineage.proofs.Edits.{fid_same, fid_other}
 use Rattle.coda_lineage.proofs.Standing.{Past, Memory, AreStanding, Stands, IsKnown, remember}
@@ -25,6 +25,7 @@ use Rattle.coda_lineage.proofs.OneHistory.{of_one_history}
 use Rattle.coda_lineage.proofs.Resolving.{all_follow}
 use Rattle.coda_lineage.proofs.Deciding.{later}
 use Rattle.coda_lineage.proofs.Decided.{all_stand}
+use Rattle.coda_lineage.proofs.Repairing.{all_repaired, later as repaired_past, later_memory as repaired_memory}
 
 -- ---- a new volume
 
@@ -143,6 +144,14 @@ sound root servers are g (resolved before after some way among step) =
       past = s.past;
       memory = λ t. remember (s.memory t) (g.holds t);
       standing = all_follow root servers before s.past s.memory s.standing some among step.one step.other step.apart step.one_in step.other_in g step.each step.made;
+    }
+
+sound root servers are g (repaired before after source names way at step) =
+    let s = sound root servers are before way in
+    record {
+      past = repaired_past root servers before s.past s.memory s.standing are source at names g step;
+      memory = repaired_memory root servers before s.past s.memory s.standing are source at names g step;
+      standing = all_repaired root servers before s.past s.memory s.standing are source at names g step;
     }
 
 -- so they are of one history

@@ -1,16 +1,20 @@
 -- The replicas of a volume over its life, and that any of them are always of one history.
-use Rattle.std.specs.Prelude.{◌≡◌, ◌≢◌, ℕ, ◌≤◌, Bool, false, ◌||◌, List, [], map, Some, ◌⊎◌}
+use Rattle.std.specs.Prelude.{◌≡◌, ◌≢◌, ℕ, ◌≤◌, Bool, true, false, ◌||◌, List, [], map, Some, ◌⊎◌, ◌↔◌}
 use Rattle.std.specs.FinMap as finmap
 use Rattle.coda_fid.specs.Fid.{same_fid}
 use Rattle.coda_fid.specs.declared.fid.Fid.{Fid}
 use Rattle.coda_fid.specs.declared.op.Record.{Record}
+use Rattle.coda_tree.specs.Bindings.{Name}
+use Rattle.coda_tree.specs.Tree.{IsBelow}
 use Rattle.coda_tree.specs.Volume.{fresh_root, is_at_fid}
 use Rattle.coda_vv.specs.Vector.{no_updates}
 use Rattle.coda_reslog.specs.declared.change.Held.{Held}
-use Rattle.coda_resolve.specs.Resolution.{Objects, Replicas}
+use Rattle.coda_resolve.specs.Copies.{is_marked}
+use Rattle.coda_resolve.specs.Resolution.{Objects, Replicas, copies_at, child_in, IsTreeView}
 use Rattle.coda_resolve.specs.Placement.{IsIn, AreOfOneHistory}
 use Rattle.coda_resolve.specs.Trees.{IsInstalled}
 use Rattle.coda_lineage.specs.Deeds.{makes, IsDecision}
+use Rattle.coda_lineage.specs.Repairs.{LeadsAlike, IsRepairedAt}
 
 -- the replicas of a volume: what that of each server holds, and the objects that were ever made
 pub record Group : Type 0 where
@@ -49,6 +53,18 @@ pub record IsResolved (root : Fid) (some : List ℕ) (before after : Group) : Ty
   pub each : (s : ℕ) → (after.holds s ≡ before.holds s) ⊎ (IsIn s some × IsInstalled (held_at before some) root (before.holds s) (after.holds s))
   pub made : after.made ≡ before.made
 
+-- the object at a path, which the source has marked, is repaired at all replicas: there the same names lead to it, each replica is
+-- left with what the source has at and below it, and each is a tree
+pub record IsRepaired (root : Fid) (servers : List ℕ) (source : ℕ) (names : List Name) (before after : Group) : Type 0 where
+  pub top : Fid
+  pub leads : (s : ℕ) → IsIn s servers → LeadsAlike (before.holds source) (before.holds s) root names top
+  pub marked : is_marked (finmap.get (before.holds source) top) ≡ true
+  pub subtree : Fid → Bool
+  pub below : (f : Fid) → (subtree f ≡ true) ↔ IsBelow (child_in (before.holds source)) top f
+  pub each : (s : ℕ) → IsIn s servers → IsRepairedAt subtree top source (copies_at (held_at before servers)) (before.holds source) (before.holds s) (after.holds s)
+  pub trees : (s : ℕ) → IsIn s servers → IsTreeView root (after.holds s)
+  pub made : after.made ≡ before.made
+
 -- all of them are servers of the volume
 abbrev pub AreAmong : List ℕ → List ℕ → Type 0
 AreAmong some servers = (s : ℕ) → IsIn s some → IsIn s servers
@@ -57,14 +73,15 @@ AreAmong some servers = (s : ℕ) → IsIn s some → IsIn s servers
 abbrev pub AreServers : List ℕ → Type 0
 AreServers servers = (s : ℕ) → IsIn s servers → (1 ≤ s) × (s ≤ 8)
 
--- the replicas of a volume at some time: it is new, or a record was decided at one of them, or some of them were resolved
+-- the replicas of a volume at some time: it is new, or a record was decided at one of them, or some of them were resolved, or all repaired
 pub data IsReached (root : Fid) (servers : List ℕ) : Group → Type 0 where
   new_volume : (group : Group) → IsNew root group → IsReached root servers group
   decided : (before after : Group) (server client : ℕ) (rec : Record) → IsReached root servers before → IsIn server servers → IsDecided server client rec before after → IsReached root servers after
   resolved : (before after : Group) (some : List ℕ) → IsReached root servers before → AreAmong some servers → IsResolved root some before after → IsReached root servers after
+  repaired : (before after : Group) (source : ℕ) (names : List Name) → IsReached root servers before → IsIn source servers → IsRepaired root servers source names before after → IsReached root servers after
 
 -- ---- the law
 
--- whatever was decided and resolved since a volume was new, any of its replicas are of one history
+-- whatever was decided, resolved and repaired since a volume was new, any of its replicas are of one history
 abbrev pub ReplicasStayOfOneHistory : Type 0
 ReplicasStayOfOneHistory = (root : Fid) (servers : List ℕ) (group : Group) (some : List ℕ) → AreServers servers → IsReached root servers group → AreAmong some servers → some ≢ [] → AreOfOneHistory (held_at group some) root
