@@ -10,5 +10,8 @@ mod Renames
 mod Operations
 mod Deciding
 mod Decided
+mod Sparing
+mod Bases
+mod RepairedTrees
 mod Repairing
 mod Reaching

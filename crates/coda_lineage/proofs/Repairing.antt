@@ -1,204 +1,35 @@
 -- A repair at all replicas keeps what holds of them.
-use Rattle.std.proofs.Common.{◌≡◌, ◌≢◌, ◌≤◌, ℕ, ◌-◌, ◌+◌, zero, suc, Bool, true, false, cond, not, List, [], ◌∷◌, ◌++◌, Option, Some, None, option_map, is_some, map, refl, sym, ap, ◌∙◌, subst, ◌&&◌, ◌||◌, ◌⊎◌, inl, inr, ⊎_elim, ◌↔◌, arith, length}
+use Rattle.std.proofs.Common.{◌≡◌, ◌≢◌, ◌≤◌, ℕ, ◌-◌, ◌+◌, Bool, true, false, cond, List, [], Option, Some, None, option_map, is_some, refl, sym, ap, ◌∙◌, subst, ◌||◌, ◌⊎◌, inl, inr, ⊎_elim, ◌↔◌, arith, length}
 use Rattle.std.specs.Prelude.{nat_le}
 use Rattle.std.specs.FinMap as finmap
-use Rattle.std.specs.List.{list_any, flat_map, AllByRecursion}
-use Rattle.std.specs.Ordering.{eq_by_cmp}
-use Rattle.std.specs.Cmp.{Equal-is}
-use Rattle.std.proofs.Math.Dec.{eqb}
-use Rattle.std.proofs.lemmas.Bool.{true≢false, leb-true, le-leb}
+use Rattle.std.specs.List.{list_any, AllByRecursion}
+use Rattle.std.proofs.lemmas.Bool.{true≢false, le-leb}
 use Rattle.std.proofs.lemmas.List.{length-set}
-use Rattle.std.proofs.lemmas.Map.Lookups.{exact_bytes}
-use Rattle.coda_fid.specs.Fid.{same_fid}
-use Rattle.coda_fid.specs.Name.{name_cmp}
 use Rattle.coda_fid.specs.declared.fid.Fid.{Fid}
-use Rattle.coda_fid.specs.declared.fid.Sid.{Sid}
-use Rattle.coda_fid.proofs.Fids.{same_fid_is, same_fid_refl}
-use Rattle.coda_tree.specs.declared.node.Node.{Node}
-use Rattle.coda_tree.specs.declared.node.NodeKind.{NodeKind}
-use Rattle.coda_tree.specs.declared.node.NodeKind.TheVariants.{File, Link, Dir}
-use Rattle.coda_tree.specs.Bindings.{Name, Bindings}
-use Rattle.coda_tree.specs.Tree.{Child, IsTree, IsBelow, itself, under}
-use Rattle.coda_tree.specs.Volume.{bindings}
-use Rattle.coda_tree.proofs.Trees.{below_below}
-use Rattle.coda_vv.specs.Vector.{Counts, count, no_updates, bumped}
+use Rattle.coda_fid.proofs.Fids.{same_fid_is}
+use Rattle.coda_tree.specs.Bindings.{Name}
+use Rattle.coda_tree.specs.Tree.{IsBelow, itself, under}
+use Rattle.coda_vv.specs.Vector.{count, no_updates, bumped}
 use Rattle.coda_reslog.specs.declared.entry.ResEntry.{ResEntry}
-use Rattle.coda_reslog.specs.declared.entry.ResKind.TheVariants.{Add}
 use Rattle.coda_reslog.specs.declared.change.Held.{Held}
-use Rattle.coda_resolve.specs.Copies.{Copies, vector_of, bindings_of, is_marked, items_of, log_of}
+use Rattle.coda_resolve.specs.Copies.{Copies, bindings_of, is_marked, items_of, log_of}
 use Rattle.coda_resolve.specs.Merged.{updates_of}
 use Rattle.coda_resolve.specs.Causes.{is_cross_kind}
-use Rattle.coda_resolve.specs.Settled.{HasKind, is_dir}
+use Rattle.coda_resolve.specs.Settled.{HasKind}
 use Rattle.coda_resolve.specs.Resolution.{Objects, copies_at, has_in, child_in}
 use Rattle.coda_resolve.specs.Placement.{IsIn}
 use Rattle.coda_resolve.proofs.Lists.{some_none}
-use Rattle.coda_resolve.proofs.Logged.{in_any, any_in, in_flat}
-use Rattle.coda_lineage.specs.Repairs.{LeadsAlike, repaired, is_taken, others_of, binds_one, spared_by, spared, IsRepairedAt}
+use Rattle.coda_lineage.specs.Repairs.{is_taken, spared_by}
 use Rattle.coda_lineage.specs.Lineage.{Group, held_at, AreServers, IsRepaired}
-use Rattle.coda_lineage.proofs.Booleans.{bool_cases, or_left, or_right, or_first, or_second, or_cases, or_from, not_true, the_some, any_none, none_any, flat_in}
-use Rattle.coda_lineage.proofs.Places.{binds_at, binds_fid, loses, newest, is_lost, IsPlace, newest_found, newest_some}
+use Rattle.coda_lineage.proofs.Booleans.{or_left, or_right, or_first, or_second, or_cases, or_from, the_some}
+use Rattle.coda_lineage.proofs.Places.{loses, is_lost, IsPlace}
 use Rattle.coda_lineage.proofs.Standing.{Past, Memory, last_by, knew, is_own_cross, strays, HasLost, IsPlaced, IsLostFrom, IsKnown, Stands, AreStanding}
 use Rattle.coda_lineage.proofs.OneHistory as history
 use Rattle.coda_lineage.proofs.Unions.{IsEight, union_eight}
-use Rattle.coda_lineage.proofs.Edits.{fid_same, fid_other}
-
--- ---- paths
-
-leads_end : (a b : Objects) (d : Fid) (names : List Name) (f : Fid) → LeadsAlike a b d names f → (f ≡ d) ⊎ ((e : Fid) × ((n : Name) × ((child_in a e n ≡ Some f) × (child_in b e n ≡ Some f))))
-leads_end a b d [] f way = inl way
-leads_end a b d (n ∷ names) f way = go (leads_end a b way.1.0 names f way.1.1.1.1)
-  where
-    go : (f ≡ way.1.0) ⊎ ((e : Fid) × ((k : Name) × ((child_in a e k ≡ Some f) × (child_in b e k ≡ Some f)))) → (f ≡ d) ⊎ ((e : Fid) × ((k : Name) × ((child_in a e k ≡ Some f) × (child_in b e k ≡ Some f))))
-    go (inl e) = inr (d, (n, (way.1.1.0 ∙ ap Some (sym e), way.1.1.1.0 ∙ ap Some (sym e))))
-    go (inr x) = inr x
-
--- in a tree nothing is bound below itself
-no_cycle : {root : Fid} {has : Fid → Bool} {c : Child} → IsTree root has c → (g : Fid) (x : Fid) → IsBelow c root x → IsBelow c g x → (e : Fid) (n : Name) → IsBelow c x e → c e n ≡ Some g → ⊥
-no_cycle {c = c} t g x (itself y is) (itself z same) e n down bound = t.unbound e n (bound ∙ ap Some (sym same ∙ is))
-no_cycle {c = c} t g x (itself y is) (under d k z b up) e n down bound = t.unbound d k (b ∙ ap Some is)
-no_cycle {c = c} t g x (under p k y b up) (itself z same) e n down bound =
-    let one = t.once p k e n g (b ∙ ap Some same) bound in
-    no_cycle t g p up (subst (λ q. IsBelow c g q) (sym one.0) (subst (λ q. IsBelow c q e) same down)) p k (itself p refl) (b ∙ ap Some same)
-no_cycle {c = c} t g x (under p k y b up) (under d j z b2 up2) e n down bound =
-    let one = t.once d j p k x b2 b in
-    no_cycle t g p up (subst (IsBelow c g) one.0 up2) e n (below_below e (under p k x b (itself p refl)) down) bound
-
--- ---- what is spared
-
-module _ (subtree : Fid → Bool) (top : Fid) where
-  spared_vector : (held : Held) (k : NodeKind) → (spared_by subtree top held k).vector.0 ≡ held.vector.0
-  spared_vector held (File content) = refl
-  spared_vector held (Link target) = refl
-  spared_vector held (Dir entries) = go (binds_one subtree top entries)
-    where
-      go : (b : Bool) → (cond b (record held { node = record held.node { kind = Dir (others_of subtree top entries); marked = true } }) held).vector.0 ≡ held.vector.0
-      go true = refl
-      go false = refl
-
-  spared_log : (held : Held) (k : NodeKind) → log_of (Some (spared_by subtree top held k)) ≡ log_of (Some held)
-  spared_log held (File content) = refl
-  spared_log held (Link target) = refl
-  spared_log held (Dir entries) = go (binds_one subtree top entries)
-    where
-      go : (b : Bool) → log_of (Some (cond b (record held { node = record held.node { kind = Dir (others_of subtree top entries); marked = true } }) held)) ≡ log_of (Some held)
-      go true = refl
-      go false = refl
-
-  spared_kind : (held : Held) (k : NodeKind) → held.node.kind ≡ k → is_dir (spared_by subtree top held k).node.kind ≡ is_dir held.node.kind
-  spared_kind held (File content) e = refl
-  spared_kind held (Link target) e = refl
-  spared_kind held (Dir entries) e = go (binds_one subtree top entries)
-    where
-      go : (b : Bool) → is_dir (cond b (record held { node = record held.node { kind = Dir (others_of subtree top entries); marked = true } }) held).node.kind ≡ is_dir held.node.kind
-      go true = sym (ap is_dir e)
-      go false = refl
-
-  spared_marked : (held : Held) (k : NodeKind) → held.node.marked ≡ true → (spared_by subtree top held k).node.marked ≡ true
-  spared_marked held (File content) e = e
-  spared_marked held (Link target) e = e
-  spared_marked held (Dir entries) e = go (binds_one subtree top entries)
-    where
-      go : (b : Bool) → (cond b (record held { node = record held.node { kind = Dir (others_of subtree top entries); marked = true } }) held).node.marked ≡ true
-      go true = refl
-      go false = e
-
-  -- where it isn't marked it is as it was
-  spared_same : (held : Held) (k : NodeKind) → (spared_by subtree top held k).node.marked ≡ false → spared_by subtree top held k ≡ held
-  spared_same held (File content) e = refl
-  spared_same held (Link target) e = refl
-  spared_same held (Dir entries) e = go (binds_one subtree top entries) e
-    where
-      go : (b : Bool) → (cond b (record held { node = record held.node { kind = Dir (others_of subtree top entries); marked = true } }) held).node.marked ≡ false → cond b (record held { node = record held.node { kind = Dir (others_of subtree top entries); marked = true } }) held ≡ held
-      go true e = absurd (true≢false e)
-      go false e = refl
-
-  keyed : (es : Bindings) (n : Name) (f : Fid) → finmap.get es n ≡ Some f → IsIn n (finmap.keys es)
-  keyed es n f e =
-      let k = any_in (eq_by_cmp name_cmp n) (finmap.keys es) (sym (finmap.contains_key-keys es n) ∙ ap is_some e) in
-      subst (λ x. IsIn x (finmap.keys es)) (sym (exact_bytes n k.0 ((Equal-is (name_cmp n k.0)).0 k.1.1))) k.1.0
-
-  -- it binds nothing that is taken
-  spared_binds : (held : Held) (k : NodeKind) (n : Name) (f : Fid) → held.node.kind ≡ k → finmap.get (bindings (spared_by subtree top held k).node.kind) n ≡ Some f → (finmap.get (bindings held.node.kind) n ≡ Some f) × (is_taken subtree top (Some f) ≡ false)
-  spared_binds held (File content) n f e h = absurd (some_none f (sym h ∙ ap (λ x. finmap.get (bindings x) n) e ∙ finmap.get-empty name_cmp n))
-  spared_binds held (Link target) n f e h = absurd (some_none f (sym h ∙ ap (λ x. finmap.get (bindings x) n) e ∙ finmap.get-empty name_cmp n))
-  spared_binds held (Dir entries) n f e h = go (binds_one subtree top entries) refl h
-    where
-      go : (b : Bool) → binds_one subtree top entries ≡ b → finmap.get (bindings (cond b (record held { node = record held.node { kind = Dir (others_of subtree top entries); marked = true } }) held).node.kind) n ≡ Some f → (finmap.get (bindings held.node.kind) n ≡ Some f) × (is_taken subtree top (Some f) ≡ false)
-      go true b h = kept (is_taken subtree top (finmap.get entries n)) refl (sym (finmap.get-retain_keys entries (λ m. not (is_taken subtree top (finmap.get entries m))) n (λ m t. ap (λ x. not (is_taken subtree top (finmap.get entries x))) (sym (exact_bytes n m t)))) ∙ h)
-        where
-          kept : (t : Bool) → is_taken subtree top (finmap.get entries n) ≡ t → cond (not (is_taken subtree top (finmap.get entries n))) (finmap.get entries n) None ≡ Some f → (finmap.get (bindings held.node.kind) n ≡ Some f) × (is_taken subtree top (Some f) ≡ false)
-          kept true is g = absurd (some_none f (sym g ∙ ap (λ t. cond (not t) (finmap.get entries n) None) is))
-          kept false is g =
-              let at : finmap.get entries n ≡ Some f = sym (ap (λ t. cond (not t) (finmap.get entries n) None) is) ∙ g in
-              (ap (λ x. finmap.get (bindings x) n) e ∙ at, ap (is_taken subtree top) (sym at) ∙ is)
-      go false b h =
-          let at : finmap.get entries n ≡ Some f = ap (λ x. finmap.get (bindings x) n) (sym e) ∙ h in
-          (h, ap (is_taken subtree top) (sym at) ∙ any_none (λ m. is_taken subtree top (finmap.get entries m)) (finmap.keys entries) n b (keyed entries n f at))
-
--- ---- updates from before all updates
-
--- a binding as if an update had made it that all have
-abbrev pub base_entry : ℕ → Name → Fid → ResEntry
-base_entry source n f = record { origin = source; seq = 0; sid = record { client = 0; number = 0 }; kind = Add; name = Some n; other = None; fid = f; lost = None }
-
-abbrev pub base_at : ℕ → Name → Option Fid → List ResEntry
-base_at source n None = []
-base_at source n (Some f) = base_entry source n f ∷ []
-
-abbrev pub base_of : ℕ → Bindings → List ResEntry
-base_of source es = flat_map (λ n. base_at source n (finmap.get es n)) (finmap.keys es)
-
--- it is that of a binding
-record IsBase (source : ℕ) (es : Bindings) (u : ResEntry) : Type 0 where
-  pub name : Name
-  pub fid : Fid
-  pub bound : finmap.get es name ≡ Some fid
-  pub is : base_entry source name fid ≡ u
-
-base_in : (source : ℕ) (es : Bindings) (u : ResEntry) → IsIn u (base_of source es) → IsBase source es u
-base_in source es u i =
-    let k = flat_in (λ n. base_at source n (finmap.get es n)) (finmap.keys es) u i in
-    by k.0 (finmap.get es k.0) refl k.1.1
-  where
-    by : (n : Name) (o : Option Fid) → finmap.get es n ≡ o → IsIn u (base_at source n o) → IsBase source es u
-    by n None e j = absurd j
-    by n (Some f) e (inl s) = record { name = n; fid = f; bound = e; is = s }
-    by n (Some f) e (inr j) = absurd j
-
-base_has : (source : ℕ) (es : Bindings) (n : Name) (f : Fid) → finmap.get es n ≡ Some f → IsIn (base_entry source n f) (base_of source es)
-base_has source es n f e =
-    in_flat (λ k. base_at source k (finmap.get es k)) (finmap.keys es) n (base_entry source n f) (keyed (λ g. false) f es n f e) (subst (λ o. IsIn (base_entry source n f) (base_at source n o)) (sym e) (inl refl))
-
--- so these say what is bound
-base_place : (source : ℕ) (es : Bindings) (known : ResEntry → Bool) (f : Fid) (n : Name) → ((u : ResEntry) → IsIn u (base_of source es) → known u ≡ true) → ((k : Name) → finmap.get es k ≡ Some f → finmap.get es n ≡ Some f → k ≡ n) → (finmap.get es n ≡ Some f) ↔ IsPlace known f (base_of source es) n
-base_place source es known f n all once = (to, λ q. from n q.1)
-  where
-    from : (k : Name) → newest known f (base_of source es) ≡ Some k → finmap.get es k ≡ Some f
-    from k e =
-        let u = newest_found known f (base_of source es) k e in
-        let b = base_in source es u.u u.among in
-        let binds : binds_at f (base_entry source b.name b.fid) ≡ Some k = ap (binds_at f) b.is ∙ u.binds in
-        let same : f ≡ b.fid = same_fid_is f b.fid (binds_fid f (base_entry source b.name b.fid) k binds) in
-        let name : b.name ≡ k = the_some b.name k (ap (λ x. cond x (Some b.name) None) (sym (fid_same f b.fid same)) ∙ binds) in
-        ap (finmap.get es) (sym name) ∙ b.bound ∙ ap Some (sym same)
-
-    to : finmap.get es n ≡ Some f → IsPlace known f (base_of source es) n
-    to e =
-        let i = base_has source es n f e in
-        let k = newest_some known f (base_of source es) (base_entry source n f) n i (all (base_entry source n f) i) (ap (λ x. cond x (Some n) None) (same_fid_refl f)) in
-        (none_any (λ u. known u && loses f u) (base_of source es) (λ u j. let b = base_in source es u j in ap (λ v. known v && loses f v) (sym b.is) ∙ and_false (known (base_entry source b.name b.fid))), k.1 ∙ ap Some (once k.0 (from k.0 k.1) e))
-      where
-        and_false : (b : Bool) → (b && false) ≡ false
-        and_false true = refl
-        and_false false = refl
-
--- ---- the repair
-
-pub data RepairedAt (subtree : Fid → Bool) (top : Fid) (source : ℕ) (copies : Fid → Copies) (right view after : Objects) (f : Fid) : Type 0 where
-  put : (held : Held) → subtree f ≡ true → finmap.get right f ≡ Some held → finmap.get after f ≡ Some (repaired source (copies f) held) → RepairedAt subtree top source copies right view after f
-  went : (g : Fid) → subtree f ≡ false → subtree g ≡ true → IsBelow (child_in view) g f → finmap.get after f ≡ None → RepairedAt subtree top source copies right view after f
-  absent : subtree f ≡ false → finmap.get view f ≡ None → finmap.get after f ≡ None → RepairedAt subtree top source copies right view after f
-  kept : (held : Held) → subtree f ≡ false → finmap.get view f ≡ Some held → finmap.get after f ≡ Some (spared_by subtree top held held.node.kind) → RepairedAt subtree top source copies right view after f
+use Rattle.coda_lineage.proofs.Sparing.{leads_end, spared_vector, spared_log, spared_kind, spared_marked, spared_same}
+use Rattle.coda_lineage.proofs.Bases.{IsBase, base_of, base_in, base_place}
+use Rattle.coda_lineage.proofs.RepairedTrees as trees
+use Rattle.coda_lineage.proofs.RepairedTrees.{RepairedAt, put, went, absent, kept}
 
 module _ (root : Fid) (servers : List ℕ) (group : Group) (past : Past) (memory : ℕ → Memory) (standing : AreStanding root servers group past memory) (are : AreServers servers)
     (source : ℕ) (source_in : IsIn source servers) (names : List Name) (next : Group) (step : IsRepaired root servers source names group next) where
@@ -207,6 +38,9 @@ module _ (root : Fid) (servers : List ℕ) (group : Group) (past : Past) (memory
 
   abbrev copies : Fid → Copies
   copies f = copies_at (held_at group servers) f
+
+  abbrev right_after : Objects
+  right_after = next.holds source
 
   abbrev subtree : Fid → Bool
   subtree = step.subtree
@@ -255,30 +89,15 @@ module _ (root : Fid) (servers : List ℕ) (group : Group) (past : Past) (memory
     was = λ f. cond (subtree f) false ((memory t).was f || is_marked (finmap.get (next.holds t) f));
   }
 
-  -- the source holds the subtree
+  -- the subtree
   right_has : (f : Fid) → subtree f ≡ true → has_in right f ≡ true
-  right_has f e = by ((step.below f).0 e)
-    where
-      by : IsBelow (child_in right) top f → has_in right f ≡ true
-      by (itself g is) = ap (has_in right) is ∙ ⊎_elim
-          (λ (t : top ≡ root). ap (has_in right) t ∙ theirs.tree.rooted)
-          (λ (x : (e : Fid) × ((n : Name) × ((child_in right e n ≡ Some top) × (child_in right e n ≡ Some top)))). theirs.tree.there x.0 x.1.0 top x.1.1.0)
-          source_parent
-      by (under d n g bound up) = theirs.tree.there d n f bound
+  right_has f e = trees.right_has root right right right_after subtree top source copies names theirs.tree theirs.tree (step.leads source source_in) step.below (step.each source source_in) f e
 
-  right_at : (f : Fid) → subtree f ≡ true → (held : Held) × (finmap.get right f ≡ Some held)
-  right_at f e = by (finmap.get right f) refl (right_has f e)
-    where
-      by : (o : Option Held) → finmap.get right f ≡ o → is_some o ≡ true → (held : Held) × (finmap.get right f ≡ Some held)
-      by None is h = absurd (true≢false (sym h))
-      by (Some held) is h = (held, is)
-
-  -- what it binds in the subtree is of it
   inside : (e : Fid) (n : Name) (f : Fid) → subtree e ≡ true → child_in right e n ≡ Some f → subtree f ≡ true
-  inside e n f s bound = (step.below f).1 (under e n f bound ((step.below e).0 s))
+  inside e n f s bound = trees.inside root right right right_after subtree top source copies names theirs.tree theirs.tree (step.leads source source_in) step.below (step.each source source_in) e n f s bound
 
   top_not_inside : (e : Fid) (n : Name) → subtree e ≡ true → child_in right e n ≡ Some top → ⊥
-  top_not_inside e n s bound = no_cycle theirs.tree top e (theirs.tree.reached e (right_has e s)) ((step.below e).0 s) e n (itself e refl) bound
+  top_not_inside e n s bound = trees.top_not_inside root right right right_after subtree top source copies names theirs.tree theirs.tree (step.leads source source_in) step.below (step.each source source_in) e n s bound
 
   home_inside : (e : Fid) (n : Name) (f : Fid) → subtree e ≡ true → child_in right e n ≡ Some f → later.home f ≡ Some e
   unfolding home_by
@@ -375,19 +194,7 @@ module _ (root : Fid) (servers : List ℕ) (group : Group) (past : Past) (memory
     own = standing.each t i
 
     at : (f : Fid) → RepairedAt subtree top source copies right view after f
-    at f = by (subtree f) refl
-      where
-        by_view : subtree f ≡ false → (o : Option Held) → finmap.get view f ≡ o → finmap.get after f ≡ spared subtree top o → RepairedAt subtree top source copies right view after f
-        by_view s None e is = absent s e is
-        by_view s (Some held) e is = kept held s e is
-
-        by_below : subtree f ≡ false → (b : Bool) → (step.each t i).below f ≡ b → RepairedAt subtree top source copies right view after f
-        by_below s true b = let g = ((step.each t i).is_below f).0 b in went g.0 s g.1.0 g.1.1 ((step.each t i).goes f s b)
-        by_below s false b = by_view s (finmap.get view f) refl ((step.each t i).stays f b)
-
-        by : (b : Bool) → subtree f ≡ b → RepairedAt subtree top source copies right view after f
-        by true s = let held = right_at f s in put held.0 s held.1 ((step.each t i).put f held.0 s held.1)
-        by false s = by_below s ((step.each t i).below f) refl
+    at f = trees.at root right view after subtree top source copies names theirs.tree own.tree (step.leads t i) step.below (step.each t i) f
 
     last_at : (f : Fid) (held : Held) → finmap.get after f ≡ Some held → now.last f ≡ held.vector.0
     last_at f held e = ap (last_by (before.last f)) e
@@ -544,24 +351,10 @@ module _ (root : Fid) (servers : List ℕ) (group : Group) (past : Past) (memory
 
     -- what a directory binds then
     child_out : (e : Fid) (n : Name) (f : Fid) → subtree e ≡ false → child_in after e n ≡ Some f → (child_in view e n ≡ Some f) × (is_taken subtree top (Some f) ≡ false)
-    child_out e n f s h = by (at e)
-      where
-        by : RepairedAt subtree top source copies right view after e → (child_in view e n ≡ Some f) × (is_taken subtree top (Some f) ≡ false)
-        by (put held x o is) = absurd (true≢false (sym x ∙ s))
-        by (went g x y b is) = absurd (some_none f (sym h ∙ ap (λ c. finmap.get (bindings_of c) n) is ∙ finmap.get-empty name_cmp n))
-        by (absent x o is) = absurd (some_none f (sym h ∙ ap (λ c. finmap.get (bindings_of c) n) is ∙ finmap.get-empty name_cmp n))
-        by (kept held x o is) =
-            let b = spared_binds subtree top held held.node.kind n f refl (ap (λ c. finmap.get (bindings_of c) n) (sym is) ∙ h) in
-            (ap (λ c. finmap.get (bindings_of c) n) o ∙ b.0, b.1)
+    child_out e n f s h = trees.child_out root right view after subtree top source copies names theirs.tree own.tree (step.leads t i) step.below (step.each t i) e n f s h
 
     child_inside : (e : Fid) (n : Name) → subtree e ≡ true → child_in after e n ≡ child_in right e n
-    child_inside e n s = by (at e)
-      where
-        by : RepairedAt subtree top source copies right view after e → child_in after e n ≡ child_in right e n
-        by (put held x o is) = ap (λ c. finmap.get (bindings_of c) n) is ∙ ap (λ c. finmap.get (bindings_of c) n) (sym o)
-        by (went g x y b is) = absurd (true≢false (sym s ∙ x))
-        by (absent x o is) = absurd (true≢false (sym s ∙ x))
-        by (kept held x o is) = absurd (true≢false (sym s ∙ x))
+    child_inside e n s = trees.child_inside root right view after subtree top source copies names theirs.tree own.tree (step.leads t i) step.below (step.each t i) e n s
 
     placed : (e : Fid) (n : Name) (f : Fid) → child_in after e n ≡ Some f → IsPlaced later t now e f
     placed e n f h = by (subtree e) refl
@@ -586,12 +379,7 @@ module _ (root : Fid) (servers : List ℕ) (group : Group) (past : Past) (memory
         cases s false o = out s o (child_out e n f s h).0
         cases s true o =
             let c = child_out e n f s h in
-            at_top s (same_fid_is f top (top_of (subtree f) (same_fid f top) o c.1)) c.0
-          where
-            top_of : (a b : Bool) → a ≡ true → (a && not b) ≡ false → b ≡ true
-            top_of true true x y = refl
-            top_of true false x y = absurd (true≢false y)
-            top_of false b x y = absurd (true≢false (sym x))
+            at_top s (trees.is_top root right view after subtree top source copies names theirs.tree own.tree (step.leads t i) step.below (step.each t i) f c.1 o) c.0
 
         by : (b : Bool) → subtree e ≡ b → IsPlaced later t now e f
         by true s = inl (home_inside e n f s (sym (child_inside e n s) ∙ h))
@@ -689,7 +477,7 @@ module _ (root : Fid) (servers : List ℕ) (group : Group) (past : Past) (memory
 
     repaired_stands : Stands root later group.made t after now
     repaired_stands = record {
-      tree = step.trees t i;
+      tree = trees.repaired_tree root right view after subtree top source copies names theirs.tree own.tree (step.leads t i) step.below (step.each t i);
       kinds = kinds;
       had = λ f e. or_second (before.had f) (has_in after f) e;
       made_had = made_had;

@@ -10,7 +10,7 @@ use Rattle.coda_tree.specs.Volume.{fresh_root, is_at_fid}
 use Rattle.coda_vv.specs.Vector.{no_updates}
 use Rattle.coda_reslog.specs.declared.change.Held.{Held}
 use Rattle.coda_resolve.specs.Copies.{is_marked}
-use Rattle.coda_resolve.specs.Resolution.{Objects, Replicas, copies_at, child_in, IsTreeView}
+use Rattle.coda_resolve.specs.Resolution.{Objects, Replicas, copies_at, child_in}
 use Rattle.coda_resolve.specs.Placement.{IsIn, AreOfOneHistory}
 use Rattle.coda_resolve.specs.Trees.{IsInstalled}
 use Rattle.coda_lineage.specs.Deeds.{makes, IsDecision}
@@ -53,8 +53,8 @@ pub record IsResolved (root : Fid) (some : List ℕ) (before after : Group) : Ty
   pub each : (s : ℕ) → (after.holds s ≡ before.holds s) ⊎ (IsIn s some × IsInstalled (held_at before some) root (before.holds s) (after.holds s))
   pub made : after.made ≡ before.made
 
--- the object at a path, which the source has marked, is repaired at all replicas: there the same names lead to it, each replica is
--- left with what the source has at and below it, and each is a tree
+-- the object at a path, which the source has marked, is repaired at all replicas: the same names lead to it at each, and each is left
+-- with what the source has at and below it
 pub record IsRepaired (root : Fid) (servers : List ℕ) (source : ℕ) (names : List Name) (before after : Group) : Type 0 where
   pub top : Fid
   pub leads : (s : ℕ) → IsIn s servers → LeadsAlike (before.holds source) (before.holds s) root names top
@@ -62,7 +62,6 @@ pub record IsRepaired (root : Fid) (servers : List ℕ) (source : ℕ) (names : 
   pub subtree : Fid → Bool
   pub below : (f : Fid) → (subtree f ≡ true) ↔ IsBelow (child_in (before.holds source)) top f
   pub each : (s : ℕ) → IsIn s servers → IsRepairedAt subtree top source (copies_at (held_at before servers)) (before.holds source) (before.holds s) (after.holds s)
-  pub trees : (s : ℕ) → IsIn s servers → IsTreeView root (after.holds s)
   pub made : after.made ≡ before.made
 
 -- all of them are servers of the volume
