@@ -1,8 +1,8 @@
 -- Tests and lists.
-use Rattle.std.proofs.Common.{◌≡◌, Bool, true, false, not, List, [], ◌∷◌, ◌++◌, Option, Some, None, refl, sym, ap, ◌∙◌, subst, ◌&&◌, ◌||◌, ◌⊎◌, inl, inr}
-use Rattle.std.specs.List.{list_any, find, flat_map}
+use Rattle.std.proofs.Common.{◌≡◌, Bool, true, false, List, [], ◌∷◌, ◌++◌, Option, Some, None, refl, sym, ap, ◌∙◌, ◌&&◌, ◌||◌, ◌⊎◌, inl, inr}
+use Rattle.std.specs.List.{list_any, flat_map}
 use Rattle.std.proofs.lemmas.Bool.{true≢false}
-use Rattle.coda_resolve.specs.Placement.{SomeOf, IsIn}
+use Rattle.coda_resolve.specs.Placement.{IsIn}
 use Rattle.coda_resolve.proofs.Logged.{in_any, any_in}
 
 pub bool_cases : (b : Bool) → (b ≡ true) ⊎ (b ≡ false)

@@ -1,40 +1,35 @@
--- The replica that decided stands as before, and so all do.
-use Rattle.std.proofs.Common.{◌≡◌, ◌≢◌, ◌≤◌, ℕ, ◌-◌, ◌+◌, zero, suc, Bool, true, false, cond, List, [], ◌∷◌, ◌++◌, Option, Some, None, option_map, is_some, refl, sym, ap, ◌∙◌, subst, ◌&&◌, ◌||◌, ◌⊎◌, inl, inr, ⊎_elim, ◌↔◌, arith, length}
+-- The replica that decided stands as before.
+use Rattle.std.proofs.Common.{◌≡◌, ◌≢◌, ◌≤◌, ℕ, ◌-◌, ◌+◌, Bool, true, false, cond, List, ◌∷◌, ◌++◌, Option, Some, None, is_some, refl, sym, ap, ◌∙◌, subst, ◌&&◌, ◌||◌, ◌⊎◌, inl, inr, ⊎_elim, ◌↔◌, arith, length}
 use Rattle.std.specs.Prelude.{nat_le}
 use Rattle.std.specs.FinMap as finmap
 use Rattle.std.specs.List.{list_any}
 use Rattle.std.proofs.Math.Dec.{eqb}
-use Rattle.std.proofs.lemmas.Bool.{true≢false, leb-true, le-leb, cases_eq, eqb-true, eq-eqb}
+use Rattle.std.proofs.lemmas.Bool.{true≢false, leb-true, le-leb, cases_eq, eq-eqb}
 use Rattle.std.proofs.lemmas.List.{length-set}
-use Rattle.coda_fid.specs.Fid.{same_fid}
 use Rattle.coda_fid.specs.declared.fid.Fid.{Fid}
 use Rattle.coda_fid.specs.declared.fid.Sid.{Sid}
 use Rattle.coda_fid.specs.declared.op.Record.{Record}
-use Rattle.coda_fid.proofs.Fids.{same_fid_is}
 use Rattle.coda_tree.specs.declared.node.Node.{Node}
 use Rattle.coda_tree.specs.Bindings.{Name}
-use Rattle.coda_tree.specs.Volume.{Nodes, child, has, is_at_fid}
-use Rattle.coda_vv.specs.Vector.{Counts, count, no_updates, bumped}
+use Rattle.coda_tree.specs.Volume.{Nodes, child, has}
+use Rattle.coda_vv.specs.Vector.{count, no_updates, bumped}
 use Rattle.coda_reslog.specs.declared.entry.ResEntry.{ResEntry}
 use Rattle.coda_reslog.specs.declared.change.Held.{Held}
 use Rattle.coda_certify.specs.Replay.{sid_of, applied}
 use Rattle.coda_resolve.specs.Copies.{is_marked, log_of}
 use Rattle.coda_resolve.specs.Causes.{is_cross_kind}
 use Rattle.coda_resolve.specs.Settled.{HasKind, is_dir}
-use Rattle.coda_resolve.specs.Resolution.{Objects, IsTreeView, has_in, child_in}
-use Rattle.coda_resolve.specs.Changes.{node_of}
+use Rattle.coda_resolve.specs.Resolution.{Objects, has_in, child_in}
 use Rattle.coda_resolve.specs.Placement.{IsIn}
-use Rattle.coda_resolve.proofs.Lists.{some_none, le_itself}
+use Rattle.coda_resolve.proofs.Lists.{some_none}
 use Rattle.coda_resolve.proofs.Logged.{in_any, any_in}
 use Rattle.coda_lineage.specs.Deeds.{Deed, deed_at, makes, next_update, first_by, later_by}
 use Rattle.coda_lineage.specs.Lineage.{Group, AreServers, IsDecided}
-use Rattle.coda_lineage.proofs.Booleans.{bool_cases, or_left, or_right, or_first, or_second, or_cases, or_from, not_true, the_some, none_any, and_first, and_second, and_both}
+use Rattle.coda_lineage.proofs.Booleans.{or_left, or_right, or_first, or_second, or_cases, or_from, not_true, the_some, none_any, and_first, and_second, and_both}
 use Rattle.coda_lineage.proofs.Places.{binds_at, loses, newest, newest_by, is_lost, IsPlace, place_alike, no_place}
-use Rattle.coda_lineage.proofs.Standing.{Past, Memory, last_by, remember, knew, is_own_cross, strays, HasLost, IsPlaced, IsLostFrom, IsKnown, Stands, AreStanding}
+use Rattle.coda_lineage.proofs.Standing.{Past, Memory, last_by, remember, knew, is_own_cross, strays, HasLost, IsPlaced, IsLostFrom, Stands, AreStanding}
 use Rattle.coda_lineage.proofs.OneHistory.{none_known}
-use Rattle.coda_lineage.proofs.Resolving.{remember_same}
-use Rattle.coda_lineage.proofs.Unions.{Has}
-use Rattle.coda_lineage.proofs.Edits.{takes_out, HasCross, Rebinds, IsRebound, IsAlike, IsEdit}
+use Rattle.coda_lineage.proofs.Edits.{takes_out, HasCross, Rebinds, IsRebound, IsEdit}
 use Rattle.coda_lineage.proofs.Operations.{makes_in}
 use Rattle.coda_lineage.proofs.Deciding as deciding
 use Rattle.coda_lineage.proofs.Deciding.{count_same, count_other, count_more, first_node, later_node, first_vector, first_log, pushed_in, DecidedAt, absent, came, went, stayed, entries_by, IsNext, kind_by}
@@ -171,10 +166,10 @@ module _ (root : Fid) (servers : List ℕ) (group : Group) (past : Past) (memory
           let now_is : finmap.get after p ≡ Some (later_by x sid node old (Some n.deed)) = is ∙ ap (λ o. Some (later_by x sid node old o)) n.done in
           (last_at p _ now_is ∙ ap (λ v. bumped v x) (sym (own.here p old e)), (later_by x sid node old (Some n.deed), now_is))
 
-  count_now : (p : Fid) (o : ℕ) → 1 ≤ o → o ≢ x → count (now.last p) o ≡ count (before.last p) o
+  pub count_now : (p : Fid) (o : ℕ) → 1 ≤ o → o ≢ x → count (now.last p) o ≡ count (before.last p) o
   count_now p o first apart = ⊎_elim (λ (e : now.last p ≡ before.last p). ap (λ v. count v o) e) (λ (e : now.last p ≡ bumped (before.last p) x). ap (λ v. count v o) e ∙ count_other (before.last p) x o low first apart) (last_is p)
 
-  count_rise : (p : Fid) (o : ℕ) → count (before.last p) o ≤ count (now.last p) o
+  pub count_rise : (p : Fid) (o : ℕ) → count (before.last p) o ≤ count (now.last p) o
   count_rise p o = ⊎_elim
       (λ (e : now.last p ≡ before.last p). let k = ap (λ v. count v o) e in omega arith)
       (λ (e : now.last p ≡ bumped (before.last p) x). let k = ap (λ v. count v o) e in let r = count_more (before.last p) x o low high (own.eight p) in omega arith)
@@ -499,7 +494,7 @@ module _ (root : Fid) (servers : List ℕ) (group : Group) (past : Past) (memory
       by (came node e made plain is) = by_new node e made is
       by (stayed old node e alike is) = by_deed old e (deed p) refl (edit.rebinds p)
 
-  decider_stands : Stands root later next.made x after now
+  pub decider_stands : Stands root later next.made x after now
   decider_stands = record {
     tree = deciding.tree root servers group past memory standing are x client rec x_in next decided;
     kinds = kinds;
@@ -519,102 +514,3 @@ module _ (root : Fid) (servers : List ℕ) (group : Group) (past : Past) (memory
     lost = lost;
     bound = bound;
   }
-
-  -- ---- and all do
-
-  known : IsKnown servers later next.made
-  known = record {
-    low = λ p u i. elim (in_done p u i) [ inl n ↦ (let o = next_origin p u n in let l = low in omega arith) | inr o ↦ standing.known.low p u o ];
-    high = λ p u i. elim (in_done p u i) [ inl n ↦ (let o = next_origin p u n in let l = high in omega arith) | inr o ↦ standing.known.high p u o ];
-    cross_first = λ p u i c. elim (in_done p u i) [ inl n ↦ deciding.first_new root servers group past memory standing are x client rec x_in next decided p u n | inr o ↦ standing.known.cross_first p u o c ];
-    at = λ p u i. elim (in_done p u i) [ inl n ↦ subst (λ s. IsIn s servers) (sym (next_origin p u n)) x_in | inr o ↦ standing.known.at p u o ];
-    one = one;
-    made_at = λ p u i. elim (in_done p u i) [ inl n ↦ made_on p (view_made p (ap is_some n.of)) | inr o ↦ made_on p (standing.known.made_at p u o) ];
-    made_fid = λ p u f i e. elim (in_done p u i) [
-      | inl n ↦ ap next.made (same_fid_is f u.fid e ∙ ap (λ (v : ResEntry). v.fid) (sym n.is)) ∙ fid_made p n.deed n.done n.old n.of
-      | inr o ↦ made_on f (standing.known.made_fid p u f o e)
-    ];
-    made_lost = λ p u f i e. elim (in_done p u i) [
-      | inl n ↦ made_on f (view_made f (sym (has_is f) ∙ edit.deed_lost p n.deed f n.done (ap (loses f) n.is ∙ e)))
-      | inr o ↦ made_on f (standing.known.made_lost p u f o e)
-    ];
-    cross_dir = λ p u i c. elim (in_done p u i) [
-      | inl n ↦ kind_old p (view_made p (ap is_some n.of)) ∙ crossed_dir p n.deed n.done n.old n.of (ap (λ (v : ResEntry). is_cross_kind v.kind) n.is ∙ c)
-      | inr o ↦ kind_old p (standing.known.made_at p u o) ∙ standing.known.cross_dir p u o c
-    ];
-  }
-    where
-      fid_made : (p : Fid) (done : Deed) → deed p ≡ Some done → (old : Held) → finmap.get view p ≡ Some old → next.made done.fid ≡ true
-      fid_made p done d old e = ⊎_elim (λ (h : has m done.fid ≡ true). made_on done.fid (view_made done.fid (sym (has_is done.fid) ∙ h))) (made_new done.fid) (edit.deed_fid p done d (has_is p ∙ ap is_some e))
-
-      crossed_dir : (p : Fid) (done : Deed) → deed p ≡ Some done → (old : Held) → finmap.get view p ≡ Some old → is_cross_kind done.kind ≡ true → past.kind p ≡ true
-      crossed_dir p done d old e c =
-          sym (subst (HasKind (past.kind p)) e (own.kinds p)) ∙ edit.cross_dir p (subst HasCross (sym d) c) old.node (decided.decides.those p ∙ ap node_of e)
-
-      one : (p : Fid) (u v : ResEntry) → IsIn u (later.done p) → IsIn v (later.done p) → 1 ≤ u.seq → u.origin ≡ v.origin → u.seq ≡ v.seq → u ≡ v
-      one p u v i j q o s = elim (in_done p u i) [
-        | inl n ↦ elim (in_done p v j) [
-          | inl k ↦ both n k
-          | inr old ↦ absurd (clash v u old n (sym o) (sym s))
-        ]
-        | inr old ↦ elim (in_done p v j) [
-          | inl k ↦ absurd (clash u v old k o s)
-          | inr other ↦ standing.known.one p u v old other q o s
-        ]
-      ]
-        where
-          both : IsNext x sid (deed p) (finmap.get view p) u → IsNext x sid (deed p) (finmap.get view p) v → u ≡ v
-          both n k =
-              let d = the_some n.deed k.deed (sym n.done ∙ k.done) in
-              let e = the_some n.old k.old (sym n.of ∙ k.of) in
-              sym n.is ∙ (λ i. next_update x sid (e i) (d i)) ∙ k.is
-
-          clash : (a b : ResEntry) → IsIn a (past.done p) → IsNext x sid (deed p) (finmap.get view p) b → a.origin ≡ b.origin → a.seq ≡ b.seq → ⊥
-          clash a b i n o s =
-              let origin : a.origin ≡ x = o ∙ next_origin p b n in
-              let l = leb-true a.seq (count (before.last p) a.origin) (own.own p a i origin) in
-              let c : count (before.last p) a.origin ≡ count (before.last p) x = ap (count (before.last p)) origin in
-              let q = next_seq p b n in
-              absurd (omega arith)
-
-  pub all_stand : AreStanding root servers next later (λ s. remember (memory s) (next.holds s))
-  all_stand = record {
-    top = kind_old root standing.root_made ∙ standing.top;
-    root_made = made_on root standing.root_made;
-    known = known;
-    each = λ s i. elim (cases_eq s x) [
-      | inl same ↦ subst (λ t. Stands root later next.made t (next.holds t) (remember (memory t) (next.holds t))) (sym same) decider_stands
-      | inr apart ↦
-          subst (λ v. Stands root later next.made s v (remember (memory s) v)) (sym (decided.others s apart))
-          (subst (Stands root later next.made s (group.holds s)) (sym (remember_same (standing.each s i))) (deciding.others_stand root servers group past memory standing are x client rec x_in next decided s i apart))
-    ];
-    most = most;
-  }
-    where
-      memory_same : (s : ℕ) → IsIn s servers → s ≢ x → remember (memory s) (next.holds s) ≡ memory s
-      memory_same s i apart = ap (remember (memory s)) (decided.others s apart) ∙ remember_same (standing.each s i)
-
-      most : (s t : ℕ) → IsIn s servers → IsIn t servers → (p : Fid) → count ((remember (memory s) (next.holds s)).last p) t ≤ count ((remember (memory t) (next.holds t)).last p) t
-      most s t i j p = elim (cases_eq s x) [
-        | inl sx ↦ elim (cases_eq t x) [
-          | inl tx ↦ (let same : count ((remember (memory s) (next.holds s)).last p) t ≡ count ((remember (memory t) (next.holds t)).last p) t = ap (λ r. count ((remember (memory r) (next.holds r)).last p) t) (sx ∙ sym tx) in omega arith)
-          | inr ta ↦ (
-              let a : count ((remember (memory s) (next.holds s)).last p) t ≡ count (before.last p) t = ap (λ r. count ((remember (memory r) (next.holds r)).last p) t) sx ∙ count_now p t (are t j).0 ta in
-              let b : count ((remember (memory t) (next.holds t)).last p) t ≡ count ((memory t).last p) t = ap (λ (r : Memory). count (r.last p) t) (memory_same t j ta) in
-              let k = standing.most x t x_in j p in
-              omega arith)
-        ]
-        | inr sa ↦ (
-            let a : count ((remember (memory s) (next.holds s)).last p) t ≡ count ((memory s).last p) t = ap (λ (r : Memory). count (r.last p) t) (memory_same s i sa) in
-            let k = standing.most s t i j p in
-            elim (cases_eq t x) [
-              | inl tx ↦ (
-                  let b : count ((remember (memory t) (next.holds t)).last p) t ≡ count (now.last p) t = ap (λ r. count ((remember (memory r) (next.holds r)).last p) t) tx in
-                  let c : count ((memory t).last p) t ≡ count (before.last p) t = ap (λ r. count ((memory r).last p) t) tx in
-                  let r = count_rise p t in
-                  omega arith)
-              | inr ta ↦ (
-                  let b : count ((remember (memory t) (next.holds t)).last p) t ≡ count ((memory t).last p) t = ap (λ (r : Memory). count (r.last p) t) (memory_same t j ta) in
-                  omega arith)
-            ])
-      ]

@@ -1,12 +1,10 @@
 -- A decision at one replica keeps what holds of all.
-use Rattle.std.proofs.Common.{◌≡◌, ◌≢◌, ◌≤◌, ℕ, ◌-◌, ◌+◌, zero, suc, Bool, true, false, cond, not, List, [], ◌∷◌, ◌++◌, Option, Some, None, option_map, is_some, refl, sym, ap, ◌∙◌, subst, ◌&&◌, ◌||◌, ◌⊎◌, inl, inr, ⊎_elim, ◌↔◌, arith, length, slice_index_or}
-use Rattle.std.specs.Prelude.{nat_le}
+use Rattle.std.proofs.Common.{◌≡◌, ◌≢◌, ◌≤◌, ℕ, ◌-◌, ◌+◌, Bool, true, false, cond, List, [], ◌∷◌, ◌++◌, Option, Some, None, option_map, is_some, refl, sym, ap, ◌∙◌, subst, ◌&&◌, ◌||◌, ◌⊎◌, inl, inr, ⊎_elim, ◌↔◌, arith, length, slice_index_or}
 use Rattle.std.specs.FinMap as finmap
 use Rattle.std.specs.List.{list_any}
 use Rattle.std.proofs.Math.Dec.{eqb}
-use Rattle.std.proofs.lemmas.Bool.{true≢false, leb-true, le-leb, cases_eq, eqb-true, eq-eqb}
-use Rattle.std.proofs.lemmas.List.{get_or-set_same, get_or-set_other, length-set}
-use Rattle.coda_fid.specs.Fid.{same_fid}
+use Rattle.std.proofs.lemmas.Bool.{true≢false, leb-true, cases_eq, eqb-true}
+use Rattle.std.proofs.lemmas.List.{get_or-set_same, get_or-set_other}
 use Rattle.coda_fid.specs.Name.{name_cmp}
 use Rattle.coda_fid.specs.declared.fid.Fid.{Fid}
 use Rattle.coda_fid.specs.declared.fid.Sid.{Sid}
@@ -21,26 +19,22 @@ use Rattle.coda_tree.proofs.Trees.{tree_same}
 use Rattle.coda_vv.specs.Vector.{Counts, count, no_updates, bumped}
 use Rattle.coda_reslog.specs.declared.entry.ResEntry.{ResEntry}
 use Rattle.coda_reslog.specs.declared.change.Held.{Held}
-use Rattle.coda_reslog.specs.Rings.{last_entries}
 use Rattle.coda_certify.specs.Replay.{sid_of, applied}
-use Rattle.coda_resolve.specs.Copies.{bindings_of, is_marked, items_of, log_of}
+use Rattle.coda_resolve.specs.Copies.{bindings_of, items_of, log_of}
 use Rattle.coda_resolve.specs.Causes.{is_cross_kind}
 use Rattle.coda_resolve.specs.Settled.{HasKind, is_dir}
 use Rattle.coda_resolve.specs.Resolution.{Objects, IsTreeView, has_in, child_in}
 use Rattle.coda_resolve.specs.Changes.{node_of}
 use Rattle.coda_resolve.specs.Placement.{IsIn}
-use Rattle.coda_resolve.proofs.Lists.{some_none}
-use Rattle.coda_resolve.proofs.Logged.{some_append_right, in_any}
+use Rattle.coda_resolve.proofs.Logged.{some_append_right}
 use Rattle.coda_resolve.proofs.MergedNames.{any_append}
-use Rattle.coda_lineage.specs.Deeds.{Deed, deed_at, makes, next_update, pushed, first_by, later_by, held_by_node, version_by, logged}
+use Rattle.coda_lineage.specs.Deeds.{Deed, deed_at, makes, next_update, pushed, first_by, later_by, version_by}
 use Rattle.coda_lineage.specs.Lineage.{Group, AreServers, IsDecided}
-use Rattle.coda_lineage.proofs.Booleans.{bool_cases, or_left, or_right, or_first, or_second, or_cases, or_from, not_true, the_some, any_none, none_any, and_first, and_second, and_both, in_append}
-use Rattle.coda_lineage.proofs.Places.{binds_at, loses, newest, newest_by, is_lost, IsPlace, place_alike, no_place}
-use Rattle.coda_lineage.proofs.Standing.{Past, Memory, last_by, remember, knew, is_own_cross, strays, HasLost, IsPlaced, IsLostFrom, IsKnown, Stands, AreStanding}
-use Rattle.coda_lineage.proofs.OneHistory.{none_known}
-use Rattle.coda_lineage.proofs.Resolving.{remember_same}
+use Rattle.coda_lineage.proofs.Booleans.{or_first, or_second, not_true, the_some, none_any, and_second, in_append}
+use Rattle.coda_lineage.proofs.Places.{binds_at, loses, newest, newest_by, is_lost, IsPlace}
+use Rattle.coda_lineage.proofs.Standing.{Past, Memory, remember, knew, is_own_cross, strays, HasLost, IsPlaced, IsLostFrom, Stands, AreStanding}
 use Rattle.coda_lineage.proofs.Unions.{in_drop}
-use Rattle.coda_lineage.proofs.Edits.{takes_out, HasCross, Rebinds, IsRebound, IsAlike, IsEdit}
+use Rattle.coda_lineage.proofs.Edits.{IsAlike, IsEdit}
 use Rattle.coda_lineage.proofs.Operations.{makes_in, applied_volume, applied_edit}
 
 -- ---- counts

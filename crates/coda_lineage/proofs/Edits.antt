@@ -1,38 +1,31 @@
 -- What an operation does to what directories bind, and how that shows in its deeds.
-use Rattle.std.proofs.Common.{◌≡◌, ◌≢◌, ℕ, Bool, true, false, cond, List, [], ◌∷◌, Option, Some, None, option_map, is_some, refl, sym, ap, ◌∙◌, subst, ◌&&◌, ◌||◌, ◌⊎◌, inl, inr, ⊎_elim, ◌↔◌}
+use Rattle.std.proofs.Common.{◌≡◌, ◌≢◌, ℕ, Bool, true, false, cond, List, Option, Some, None, option_map, is_some, refl, sym, ap, ◌∙◌, subst, ◌||◌, ◌⊎◌, inl, inr, ◌↔◌}
 use Rattle.std.specs.FinMap as map
 use Rattle.std.specs.List.{list_any}
 use Rattle.std.proofs.lemmas.Bool.{true≢false}
-use Rattle.std.proofs.lemmas.Option.{none-some, same_Some}
 use Rattle.coda_fid.specs.Fid.{same_fid}
-use Rattle.coda_fid.specs.Name.{name_cmp}
 use Rattle.coda_fid.specs.declared.fid.Fid.{Fid}
 use Rattle.coda_fid.specs.declared.fid.Sid.{Sid}
-use Rattle.coda_fid.specs.declared.op.Over.{Over}
 use Rattle.coda_fid.proofs.Fids.{fids_total, exact_fids, same_fid_is, same_fid_refl}
 use Rattle.coda_tree.specs.declared.node.Node.{Node}
 use Rattle.coda_tree.specs.declared.node.NodeKind.{NodeKind}
 use Rattle.coda_tree.specs.declared.node.NodeKind.TheVariants.{File, Link, Dir}
 use Rattle.coda_tree.specs.Bindings.{Name}
-use Rattle.coda_tree.specs.Tree.{Child, IsTree, IsBelow}
-use Rattle.coda_tree.specs.Volume.{Nodes, bindings, child, child_of, has, IsDir, IsDirNode, IsDirAt, IsVolume, Patch, written, with_content, changed, bind_in, unbind_in, bound, unbound, additions, removals, moves, replacements, edited_all, added, detached, moved, replaced, is_below, MayMove, MayReplace}
-use Rattle.coda_tree.proofs.Order.{fid_cases, name_cases, get_here, get_else, gone_here, gone_else}
-use Rattle.coda_tree.proofs.Below.{is_below_complete}
-use Rattle.coda_tree.proofs.Changes.{at_changed, off_changed, has_changed, dir_node, binder_is_dir, bound_there, bound_else, unbound_here, unbound_else, dir_changed, added_is, addition, get_added_new, get_added_dir, get_added_else, removal, binder_differs, dir_left, get_detached_old, get_detached_else}
-use Rattle.coda_tree.proofs.Moved.{detached_is, moved_is, moved_apart, replaced_detached}
-use Rattle.coda_tree.proofs.Trees.{IsAddition, IsRemoval, IsMove, not_new, added_edge, more, left_edge, kept_edge, moved_edge, old_edge, below_leaf, tree_removed}
+use Rattle.coda_tree.specs.Tree.{Child}
+use Rattle.coda_tree.specs.Volume.{Nodes, bindings, child, child_of, has, IsDir, IsDirNode, IsDirAt, IsVolume, Patch, written, with_content, changed, bind_in, unbind_in, bound, unbound, additions, removals, edited_all}
+use Rattle.coda_tree.proofs.Order.{fid_cases, gone_here, gone_else}
+use Rattle.coda_tree.proofs.Changes.{at_changed, off_changed, has_changed, dir_node, added_is, addition, get_added_new, get_added_dir, get_added_else, removal, binder_differs}
+use Rattle.coda_tree.proofs.Moved.{detached_is}
+use Rattle.coda_tree.proofs.Trees.{IsAddition, IsRemoval, not_new, added_edge, more, left_edge, kept_edge}
 use Rattle.coda_reslog.specs.declared.entry.ResEntry.{ResEntry}
-use Rattle.coda_reslog.specs.declared.entry.ResKind.{ResKind}
-use Rattle.coda_reslog.specs.declared.entry.ResKind.TheVariants.{Add, Drop, Cross, Attr}
-use Rattle.coda_reslog.specs.declared.entry.Lost.{Lost}
 use Rattle.coda_certify.specs.Replay.{MayCreate, MayRemove}
 use Rattle.coda_resolve.specs.Causes.{is_cross_kind, fids_lost}
 use Rattle.coda_resolve.specs.Settled.{is_dir}
 use Rattle.coda_resolve.specs.Resolution.{Objects}
 use Rattle.coda_resolve.proofs.Lists.{some_none}
-use Rattle.coda_lineage.specs.Deeds.{Deed, only_at, adds, lost_from, drops, writes, lost_over, renames, crosses, rename_at, logged}
-use Rattle.coda_lineage.proofs.Booleans.{the_some, or_left, or_from, not_true, bool_cases}
-use Rattle.coda_lineage.proofs.Places.{new_name, binds_at, loses, binds_fid}
+use Rattle.coda_lineage.specs.Deeds.{Deed, only_at, adds, drops, writes, logged}
+use Rattle.coda_lineage.proofs.Booleans.{the_some, or_left, or_from, not_true}
+use Rattle.coda_lineage.proofs.Places.{binds_at, loses, binds_fid}
 
 pub fid_same : (a b : Fid) → a ≡ b → same_fid a b ≡ true
 fid_same a b e = subst (λ x. same_fid a x ≡ true) e (same_fid_refl a)
@@ -68,7 +61,7 @@ IsAlike node other = (other.marked ≡ node.marked) × (is_dir other.kind ≡ is
 -- what an edit does, by its deeds: it makes an object at most
 pub record IsEdit (m left : Nodes) (deed : Fid → Option Deed) (new home : Option Fid) : Type 0 where
   pub gains : (e : Fid) (n : Name) (f : Fid) → child left e n ≡ Some f →
-    ((k : Name) × (child m e k ≡ Some f)) ⊎ (((new ≡ Some f) × (home ≡ Some e)) ⊎ ((d : Fid) × ((k : Name) × ((child m d k ≡ Some f) × (HasCross (deed d) × HasCross (deed e))))))
+      ((k : Name) × (child m e k ≡ Some f)) ⊎ (((new ≡ Some f) × (home ≡ Some e)) ⊎ ((d : Fid) × ((k : Name) × ((child m d k ≡ Some f) × (HasCross (deed d) × HasCross (deed e))))))
   pub binds_there : (e : Fid) (n : Name) (f : Fid) → child left e n ≡ Some f → has m e ≡ true
   pub losses : (f : Fid) → has m f ≡ true → has left f ≡ false → (d : Fid) × ((n : Name) × ((child m d n ≡ Some f) × ((done : Deed) × ((deed d ≡ Some done) × (takes_out f done ≡ true)))))
   pub rebinds : (p : Fid) → Rebinds (child m p) (child left p) new (deed p)

@@ -4,12 +4,14 @@ mod Merging
 mod Standing
 mod OneHistory
 mod Unions
+mod Remembering
 mod Resolving
 mod Edits
 mod Renames
 mod Operations
 mod Deciding
 mod Decided
+mod AllDecided
 mod Sparing
 mod Bases
 mod RepairedTrees

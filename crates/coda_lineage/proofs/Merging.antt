@@ -1,18 +1,18 @@
 -- A merged directory binds what the updates of all copies say, where each copy binds what its own say.
-use Rattle.std.proofs.Common.{◌≡◌, ◌≤◌, ℕ, Bool, true, false, cond, not, List, [], ◌∷◌, ◌++◌, Option, Some, None, is_some, refl, sym, ap, ◌∙◌, subst, ◌&&◌, ◌||◌, ◌⊎◌, inl, inr, ⊎_elim, ◌↔◌, arith}
+use Rattle.std.proofs.Common.{◌≡◌, ◌≤◌, ℕ, Bool, true, false, cond, not, List, [], ◌∷◌, ◌++◌, Option, Some, None, is_some, refl, sym, ap, ◌∙◌, subst, ◌&&◌, inl, inr, ⊎_elim, ◌↔◌, arith}
 use Rattle.std.specs.Prelude.{nat_le}
 use Rattle.std.specs.FinMap as finmap
 use Rattle.std.specs.FinSet as set
-use Rattle.std.specs.List.{list_any, list_all, find, filter, flat_map}
+use Rattle.std.specs.List.{list_any, list_all, find, flat_map}
 use Rattle.std.specs.Ordering.{eq_by_cmp}
 use Rattle.std.specs.Option.{option_map}
 use Rattle.std.specs.Cmp.{eq_by_cmp_equiv}
 use Rattle.std.proofs.lemmas.Cmp.{nat_list_cmp_total}
 use Rattle.std.proofs.lemmas.Bool.{true≢false, leb-false}
-use Rattle.coda_fid.specs.Fid.{fid_cmp, same_fid}
+use Rattle.coda_fid.specs.Fid.{same_fid}
 use Rattle.coda_fid.specs.Name.{name_cmp}
 use Rattle.coda_fid.specs.declared.fid.Fid.{Fid}
-use Rattle.coda_fid.proofs.Fids.{same_fid_is, same_fid_refl}
+use Rattle.coda_fid.proofs.Fids.{same_fid_is}
 use Rattle.coda_tree.specs.Bindings.{Name, Bindings}
 use Rattle.coda_vv.specs.Vector.{count}
 use Rattle.coda_reslog.specs.declared.entry.ResEntry.{ResEntry}
@@ -21,10 +21,10 @@ use Rattle.coda_reslog.specs.declared.entry.ResKind.TheVariants.{Add, Drop, Rena
 use Rattle.coda_reslog.specs.declared.change.Held.{Held}
 use Rattle.coda_resolve.specs.declared.why.Why.{Why}
 use Rattle.coda_resolve.specs.declared.why.Why.TheVariants.{Wrapped, NameName}
-use Rattle.coda_resolve.specs.Copies.{Copies, vector_of, bindings_of, log_of, first_some}
+use Rattle.coda_resolve.specs.Copies.{Copies, vector_of, bindings_of, log_of}
 use Rattle.coda_resolve.specs.Missing.{has_update, missing, wrapped, leads, leader}
 use Rattle.coda_resolve.specs.Merged.{is_name_of, is_on, same_binding, shared, agreed, binding, names_in, names_of, names, flat, merged_bindings}
-use Rattle.coda_resolve.specs.Causes.{cause, kept, cross_rename, name_name, conflicts_of, least, fids_lost, all_lost, times, is_double}
+use Rattle.coda_resolve.specs.Causes.{cause, kept, cross_rename, name_name, conflicts_of, fids_lost, all_lost, times, is_double}
 use Rattle.coda_resolve.specs.Placement.{SomeOf, IsIn}
 use Rattle.coda_resolve.proofs.Lists.{some_none, least_none}
 use Rattle.coda_resolve.proofs.Logged.{filter_passes, find_passes, in_any, any_in, in_filter, in_flat, some_append_left, some_append_right, stands_missing}
@@ -33,8 +33,8 @@ use Rattle.coda_resolve.proofs.MergedNames.{same_name, name_true, among, get_mad
 use Rattle.coda_resolve.proofs.There.{found_some, Binds, merged_bound}
 use Rattle.coda_resolve.proofs.Once.{bound_once, value_in}
 use Rattle.coda_resolve.proofs.Leaders.{all_at, leaders_have_all}
-use Rattle.coda_lineage.proofs.Booleans.{bool_cases, or_left, or_right, or_first, or_second, or_cases, not_true, the_some, any_none, flat_in, none_any, and_first, and_second, and_both}
-use Rattle.coda_lineage.proofs.Places.{new_name, binds_at, loses, newest, is_lost, IsPlace, IsNewest, newest_found, newest_some, lost_less}
+use Rattle.coda_lineage.proofs.Booleans.{bool_cases, or_right, or_first, or_second, or_cases, not_true, the_some, any_none, and_first, and_second, and_both}
+use Rattle.coda_lineage.proofs.Places.{new_name, binds_at, loses, is_lost, IsPlace, IsNewest, newest_found, newest_some, lost_less}
 
 -- ---- names
 

@@ -1,25 +1,23 @@
 -- Replicas that stand so are of one history.
-use Rattle.std.proofs.Common.{◌≡◌, ◌≢◌, ◌≤◌, ℕ, ◌-◌, zero, suc, Bool, true, false, List, [], ◌∷◌, Option, Some, None, is_some, map, refl, sym, ap, ◌∙◌, subst, ◌&&◌, ◌||◌, ◌⊎◌, inl, inr, ⊎_elim, arith, length, slice_index_or}
+use Rattle.std.proofs.Common.{◌≡◌, ◌≢◌, ◌≤◌, ℕ, ◌-◌, zero, suc, Bool, true, false, List, [], ◌∷◌, Option, Some, None, is_some, map, refl, sym, ap, ◌∙◌, subst, ◌&&◌, ◌⊎◌, inl, inr, ⊎_elim, arith, slice_index_or}
 use Rattle.std.specs.Prelude.{nat_le}
 use Rattle.std.specs.FinMap as finmap
-use Rattle.std.specs.List.{list_any, AllByRecursion, flat_map, filter}
+use Rattle.std.specs.List.{list_any, AllByRecursion, flat_map}
 use Rattle.std.proofs.Math.Dec.{eqb}
 use Rattle.std.proofs.lemmas.Bool.{true≢false, eqb-true, leb-true, cases_eq}
 use Rattle.coda_fid.specs.Fid.{same_fid}
 use Rattle.coda_fid.specs.Name.{name_cmp}
 use Rattle.coda_fid.specs.declared.fid.Fid.{Fid}
 use Rattle.coda_tree.specs.Bindings.{Name}
-use Rattle.coda_tree.specs.Volume.{bindings}
-use Rattle.coda_vv.specs.Vector.{Counts, count, no_updates}
+use Rattle.coda_vv.specs.Vector.{count, no_updates}
 use Rattle.coda_reslog.specs.declared.entry.ResEntry.{ResEntry}
 use Rattle.coda_reslog.specs.declared.change.Held.{Held}
 use Rattle.coda_resolve.specs.Copies.{Copies, vector_of, bindings_of, is_marked, log_of}
 use Rattle.coda_resolve.specs.Missing.{has_update, missing}
 use Rattle.coda_resolve.specs.Merged.{merged_bindings}
 use Rattle.coda_resolve.specs.Causes.{is_cross_kind, cause, fids_lost, all_lost, is_double}
-use Rattle.coda_resolve.specs.declared.fate.Fate.TheVariants.{Same}
 use Rattle.coda_resolve.specs.Settled.{HasKind, AreOneKind}
-use Rattle.coda_resolve.specs.Resolution.{Objects, Replicas, copies_at, fate_at, IsTakenUp, at_root, below, IsTreeView, AreTrees, has_in, child_in}
+use Rattle.coda_resolve.specs.Resolution.{Objects, Replicas, copies_at, IsTakenUp, at_root, below, IsTreeView, AreTrees, has_in, child_in}
 use Rattle.coda_resolve.specs.Placement.{SomeOf, IsIn, IsCrossApart, ArePartedCopies, ArePlaced, AreOfOneHistory}
 use Rattle.coda_resolve.proofs.Lists.{some_none}
 use Rattle.coda_resolve.proofs.Logged.{filter_passes, in_any, any_in, in_flat, in_map}
@@ -28,10 +26,10 @@ use Rattle.coda_resolve.proofs.There.{Binds, fate_bound}
 use Rattle.coda_resolve.proofs.Once.{value_in}
 use Rattle.coda_resolve.proofs.Apart.{binds_nothing, not_parted, no_cause_of, merged_of}
 use Rattle.coda_lineage.specs.Lineage.{Group, held_at, AreAmong}
-use Rattle.coda_lineage.proofs.Booleans.{bool_cases, or_right, or_cases, not_true, the_some, and_first, and_second, and_both, any_none, flat_in}
-use Rattle.coda_lineage.proofs.Places.{loses, is_lost, IsPlace}
+use Rattle.coda_lineage.proofs.Booleans.{or_right, or_cases, not_true, the_some, and_first, and_second, and_both, any_none, flat_in}
+use Rattle.coda_lineage.proofs.Places.{loses, is_lost}
 use Rattle.coda_lineage.proofs.Merging.{missing_one}
-use Rattle.coda_lineage.proofs.Standing.{Past, Memory, knew, is_own_cross, strays, HasLost, IsKnown, Stands, AreStanding}
+use Rattle.coda_lineage.proofs.Standing.{Past, Memory, knew, is_own_cross, strays, HasLost, Stands, AreStanding}
 
 -- ---- no updates
 

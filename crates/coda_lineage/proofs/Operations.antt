@@ -1,5 +1,5 @@
 -- What a certified operation leaves: a volume, by its deeds.
-use Rattle.std.proofs.Common.{◌≡◌, ◌≢◌, ℕ, Bool, true, false, cond, Option, Some, None, is_some, refl, sym, ap, ◌∙◌, subst}
+use Rattle.std.proofs.Common.{◌≡◌, ◌≢◌, ℕ, false, cond, Option, Some, None, is_some, refl, sym, ap, ◌∙◌, subst}
 use Rattle.std.specs.FinMap as map
 use Rattle.std.proofs.lemmas.Bool.{true≢false}
 use Rattle.std.proofs.lemmas.Option.{same_Some}
@@ -8,7 +8,6 @@ use Rattle.coda_fid.specs.Name.{name_cmp}
 use Rattle.coda_fid.specs.declared.fid.Fid.{Fid}
 use Rattle.coda_fid.specs.declared.fid.Sid.{Sid}
 use Rattle.coda_fid.specs.declared.op.Op.{Op}
-use Rattle.coda_fid.specs.declared.op.Over.{Over}
 use Rattle.coda_fid.specs.declared.op.Record.{Record}
 use Rattle.coda_fid.specs.declared.op.Op.TheVariants.{Create, Mkdir, Symlink, Store, Setattr, Remove, Rmdir, Rename}
 use Rattle.coda_tree.specs.declared.node.Node.{Node}
@@ -28,7 +27,7 @@ use Rattle.coda_certify.proofs.Passed.{may_edit, may_move, may_replace}
 use Rattle.coda_resolve.specs.Resolution.{Objects}
 use Rattle.coda_lineage.specs.Deeds.{deed_at, makes}
 use Rattle.coda_lineage.proofs.Edits.{fid_same, fid_other, IsEdit, created, removed, wrote_edit}
-use Rattle.coda_lineage.proofs.Renames.{IsShift, shift_free, shift_over, renamed}
+use Rattle.coda_lineage.proofs.Renames.{shift_free, shift_over, renamed}
 
 -- the directory in which an operation makes an object
 abbrev pub makes_in : Op → Option Fid

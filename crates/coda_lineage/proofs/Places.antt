@@ -1,5 +1,5 @@
 -- Where a directory binds an object by the updates that are in it.
-use Rattle.std.proofs.Common.{◌≡◌, Bool, true, false, cond, List, [], ◌∷◌, Option, Some, None, refl, sym, ap, ◌∙◌, subst, ◌&&◌, ◌||◌, ◌⊎◌, inl, inr}
+use Rattle.std.proofs.Common.{◌≡◌, Bool, true, false, cond, List, [], ◌∷◌, Option, Some, None, refl, sym, ap, ◌∙◌, ◌&&◌, ◌||◌, inl, inr}
 use Rattle.std.specs.List.{list_any}
 use Rattle.std.proofs.lemmas.Bool.{true≢false}
 use Rattle.coda_fid.specs.Fid.{same_fid}
@@ -9,9 +9,8 @@ use Rattle.coda_reslog.specs.declared.entry.ResEntry.{ResEntry}
 use Rattle.coda_reslog.specs.declared.entry.ResKind.{ResKind}
 use Rattle.coda_reslog.specs.declared.entry.ResKind.TheVariants.{Add, Drop, Rename, Cross, Attr}
 use Rattle.coda_resolve.specs.Causes.{fids_lost}
-use Rattle.coda_resolve.specs.Placement.{SomeOf, IsIn}
+use Rattle.coda_resolve.specs.Placement.{IsIn}
 use Rattle.coda_resolve.proofs.Lists.{some_none}
-use Rattle.coda_resolve.proofs.Logged.{in_any, any_in}
 use Rattle.coda_lineage.proofs.Booleans.{and_first, and_second, and_both, any_none, none_any}
 
 -- the name at which an update of this kind bound its object inside the directory

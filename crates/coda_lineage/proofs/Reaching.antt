@@ -1,11 +1,11 @@
 -- Whatever happens to the replicas of a volume, they stand.
-use Rattle.std.proofs.Common.{◌≡◌, ◌≢◌, ◌≤◌, ℕ, zero, Bool, true, false, cond, List, [], ◌∷◌, Option, Some, None, is_some, refl, sym, ap, ◌∙◌, subst, inl, inr, ◌⊎◌, ◌↔◌, arith}
+use Rattle.std.proofs.Common.{◌≡◌, ◌≢◌, ℕ, Bool, true, false, List, [], Some, None, is_some, refl, sym, ap, ◌∙◌, subst, inl, inr, arith}
 use Rattle.std.specs.FinMap as finmap
 use Rattle.std.proofs.lemmas.Bool.{true≢false}
 use Rattle.coda_fid.specs.Fid.{same_fid}
 use Rattle.coda_fid.specs.Name.{name_cmp}
 use Rattle.coda_fid.specs.declared.fid.Fid.{Fid}
-use Rattle.coda_fid.proofs.Fids.{fids_total, exact_fids, same_fid_is, same_fid_refl}
+use Rattle.coda_fid.proofs.Fids.{fids_total, exact_fids, same_fid_refl}
 use Rattle.coda_tree.specs.Bindings.{Name}
 use Rattle.coda_tree.specs.Tree.{itself}
 use Rattle.coda_tree.proofs.Order.{fid_cases, get_here, get_else}
@@ -17,14 +17,14 @@ use Rattle.coda_resolve.specs.Settled.{HasKind}
 use Rattle.coda_resolve.specs.Resolution.{Objects, IsTreeView, has_in, child_in}
 use Rattle.coda_resolve.specs.Placement.{IsIn, AreOfOneHistory}
 use Rattle.coda_resolve.proofs.Lists.{some_none}
-use Rattle.coda_lineage.specs.Lineage.{Group, held_at, new_root, IsNew, IsDecided, IsResolved, AreAmong, AreServers, IsReached, new_volume, decided, resolved, repaired}
+use Rattle.coda_lineage.specs.Lineage.{Group, held_at, new_root, IsNew, AreAmong, AreServers, IsReached, new_volume, decided, resolved, repaired}
 use Rattle.coda_lineage.proofs.Booleans.{the_some}
-use Rattle.coda_lineage.proofs.Edits.{fid_same, fid_other}
-use Rattle.coda_lineage.proofs.Standing.{Past, Memory, AreStanding, Stands, IsKnown, remember}
+use Rattle.coda_lineage.proofs.Edits.{fid_same}
+use Rattle.coda_lineage.proofs.Standing.{Past, Memory, AreStanding, Stands, remember}
 use Rattle.coda_lineage.proofs.OneHistory.{of_one_history}
 use Rattle.coda_lineage.proofs.Resolving.{all_follow}
 use Rattle.coda_lineage.proofs.Deciding.{later}
-use Rattle.coda_lineage.proofs.Decided.{all_stand}
+use Rattle.coda_lineage.proofs.AllDecided.{all_stand}
 use Rattle.coda_lineage.proofs.Repairing.{all_repaired, later as repaired_past, later_memory as repaired_memory}
 
 -- ---- a new volume
@@ -145,7 +145,6 @@ sound root servers are g (resolved before after some way among step) =
       memory = λ t. remember (s.memory t) (g.holds t);
       standing = all_follow root servers before s.past s.memory s.standing some among step.one step.other step.apart step.one_in step.other_in g step.each step.made;
     }
-
 sound root servers are g (repaired before after source names way at step) =
     let s = sound root servers are before way in
     record {

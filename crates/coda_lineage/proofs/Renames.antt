@@ -1,9 +1,9 @@
 -- What a rename does to what directories bind, and how that shows in its deeds.
-use Rattle.std.proofs.Common.{◌≡◌, ◌≢◌, ℕ, Bool, true, false, cond, List, [], ◌∷◌, Option, Some, None, option_map, is_some, refl, sym, ap, ◌∙◌, subst, ◌||◌, ◌⊎◌, inl, inr, ⊎_elim, ◌↔◌}
+use Rattle.std.proofs.Common.{◌≡◌, ◌≢◌, ℕ, Bool, true, false, cond, Option, Some, None, option_map, is_some, refl, sym, ap, ◌∙◌, subst, ◌||◌, ◌⊎◌, inl, inr, ⊎_elim, ◌↔◌}
 use Rattle.std.specs.FinMap as map
 use Rattle.std.specs.List.{list_any}
 use Rattle.std.proofs.lemmas.Bool.{true≢false}
-use Rattle.std.proofs.lemmas.Option.{none-some, same_Some}
+use Rattle.std.proofs.lemmas.Option.{none-some}
 use Rattle.coda_fid.specs.Fid.{same_fid}
 use Rattle.coda_fid.specs.declared.fid.Fid.{Fid}
 use Rattle.coda_fid.specs.declared.fid.Sid.{Sid}
@@ -11,22 +11,20 @@ use Rattle.coda_fid.specs.declared.op.Over.{Over}
 use Rattle.coda_fid.proofs.Fids.{same_fid_is}
 use Rattle.coda_tree.specs.declared.node.Node.{Node}
 use Rattle.coda_tree.specs.Bindings.{Name}
-use Rattle.coda_tree.specs.Tree.{Child, IsBelow}
-use Rattle.coda_tree.specs.Volume.{Nodes, child, has, IsDir, IsDirAt, IsVolume, bind_in, unbind_in, bound, unbound, removals, moves, replacements, edited_all, detached, moved, replaced, is_below, MayMove, MayReplace}
+use Rattle.coda_tree.specs.Tree.{IsBelow}
+use Rattle.coda_tree.specs.Volume.{Nodes, child, has, IsDir, IsDirAt, IsVolume, bind_in, unbind_in, bound, unbound, removals, moves, replacements, edited_all, detached, moved, replaced}
 use Rattle.coda_tree.proofs.Order.{fid_cases}
-use Rattle.coda_tree.proofs.Below.{is_below_complete}
 use Rattle.coda_tree.proofs.Changes.{has_changed, dir_node, binder_is_dir, bound_there, bound_else, unbound_here, unbound_else, dir_changed, binder_differs, dir_left, volume_detached}
 use Rattle.coda_tree.proofs.Moved.{detached_is, moved_is, moved_apart, replaced_detached}
 use Rattle.coda_tree.proofs.Trees.{IsRemoval, IsMove, left_edge, kept_edge, moved_edge, old_edge, below_leaf}
 use Rattle.coda_reslog.specs.declared.entry.Lost.{Lost}
 use Rattle.coda_certify.specs.Replay.{MayRemove}
-use Rattle.coda_resolve.specs.Causes.{is_cross_kind, fids_lost}
-use Rattle.coda_resolve.specs.Settled.{is_dir}
+use Rattle.coda_resolve.specs.Causes.{fids_lost}
 use Rattle.coda_resolve.specs.Resolution.{Objects}
 use Rattle.coda_resolve.proofs.Lists.{some_none}
-use Rattle.coda_lineage.specs.Deeds.{Deed, only_at, lost_from, lost_over, renames, crosses, rename_at, logged}
-use Rattle.coda_lineage.proofs.Booleans.{the_some, or_left, or_from, or_cases, not_true}
-use Rattle.coda_lineage.proofs.Places.{binds_at, loses, binds_fid}
+use Rattle.coda_lineage.specs.Deeds.{Deed, only_at, lost_over, renames, crosses, rename_at, logged}
+use Rattle.coda_lineage.proofs.Booleans.{the_some, or_cases, not_true}
+use Rattle.coda_lineage.proofs.Places.{binds_fid}
 use Rattle.coda_lineage.proofs.Edits.{fid_same, fid_other, takes_out, HasCross, Rebinds, IsRebound, IsEdit, KeepsAll, keeps_then, bind_alike, unbind_alike, deed_only, deed_here, no_cross_only, rebinds_only, dir_at, keeps_less, removed_facts}
 
 -- the nodes that are left bind an object at another place, in place of the one that goes, if one does

@@ -1,30 +1,28 @@
 -- A resolution of some replicas keeps what holds of all.
-use Rattle.std.proofs.Common.{◌≡◌, ◌≢◌, ◌≤◌, ℕ, ◌-◌, zero, suc, Bool, true, false, List, [], ◌∷◌, Option, Some, None, is_some, map, refl, sym, ap, ◌∙◌, subst, ◌&&◌, ◌||◌, ◌⊎◌, inl, inr, ⊎_elim, ◌↔◌, arith, length}
+use Rattle.std.proofs.Common.{◌≡◌, ◌≢◌, ◌≤◌, ℕ, ◌-◌, zero, suc, Bool, true, false, List, Option, Some, None, is_some, refl, sym, ap, ◌∙◌, subst, ◌&&◌, ◌||◌, ◌⊎◌, inl, inr, ⊎_elim, ◌↔◌, arith, length}
 use Rattle.std.specs.Prelude.{nat_le}
 use Rattle.std.specs.FinMap as finmap
-use Rattle.std.specs.List.{list_any, AllByRecursion, flat_map}
+use Rattle.std.specs.List.{list_any, AllByRecursion}
 use Rattle.std.proofs.lemmas.Bool.{true≢false, leb-true, le-leb, cases_eq}
 use Rattle.coda_fid.specs.Name.{name_cmp}
 use Rattle.coda_fid.specs.declared.fid.Fid.{Fid}
-use Rattle.coda_tree.specs.declared.node.NodeKind.{NodeKind}
-use Rattle.coda_tree.specs.declared.node.NodeKind.TheVariants.{File, Link, Dir}
 use Rattle.coda_tree.specs.Bindings.{Name}
 use Rattle.coda_tree.specs.Tree.{IsBelow, itself, under}
 use Rattle.coda_tree.specs.Volume.{bindings}
-use Rattle.coda_vv.specs.Vector.{Counts, count, no_updates, includes}
+use Rattle.coda_vv.specs.Vector.{count, no_updates}
 use Rattle.coda_reslog.specs.declared.entry.ResEntry.{ResEntry}
 use Rattle.coda_reslog.specs.declared.change.Held.{Held}
 use Rattle.coda_resolve.specs.declared.why.Why.{Why}
 use Rattle.coda_resolve.specs.Copies.{Copies, vector_of, bindings_of, is_marked, log_of, first_some}
 use Rattle.coda_resolve.specs.Missing.{has_update, missing}
-use Rattle.coda_resolve.specs.Merged.{merged_bindings, updates_of, log_of_copies}
+use Rattle.coda_resolve.specs.Merged.{merged_bindings, updates_of}
 use Rattle.coda_resolve.specs.Causes.{is_cross_kind, cause}
 use Rattle.coda_resolve.specs.declared.fate.Fate.{Fate}
 use Rattle.coda_resolve.specs.declared.fate.Fate.TheVariants.{Same, Marked, Gone}
-use Rattle.coda_resolve.specs.Settling.{fate, settled_copy, marked, stand_in_by}
+use Rattle.coda_resolve.specs.Settling.{settled_copy, marked, stand_in_by}
 use Rattle.coda_resolve.specs.Settled.{HasKind, is_dir}
-use Rattle.coda_resolve.specs.Resolution.{Objects, Replicas, copies_at, fate_at, IsTakenUp, at_root, below, IsTreeView, has_in, child_in}
-use Rattle.coda_resolve.specs.Placement.{SomeOf, IsIn, AreOfOneHistory}
+use Rattle.coda_resolve.specs.Resolution.{Objects, Replicas, copies_at, fate_at, IsTakenUp, at_root, below, has_in, child_in}
+use Rattle.coda_resolve.specs.Placement.{IsIn, AreOfOneHistory}
 use Rattle.coda_resolve.specs.Trees.{KeepsOwn, marked_there, further, IsInstalled}
 use Rattle.coda_resolve.proofs.Lists.{some_none}
 use Rattle.coda_resolve.proofs.Logged.{in_any, any_in}
@@ -34,67 +32,15 @@ use Rattle.coda_resolve.proofs.Apart.{no_cause_of}
 use Rattle.coda_resolve.proofs.Whole.{gone_absent}
 use Rattle.coda_resolve.proofs.Trees.{taken_has, tree_after, child_cases}
 use Rattle.coda_resolve.proofs.After.{settled_kind}
-use Rattle.coda_lineage.specs.Lineage.{Group, held_at, AreAmong, IsResolved}
-use Rattle.coda_lineage.proofs.Booleans.{bool_cases, or_left, or_right, or_first, or_second, or_cases, or_from, not_true, the_some, any_none, none_any, and_first, and_second, and_both}
-use Rattle.coda_lineage.proofs.Places.{loses, newest, is_lost, IsPlace, newest_found, newest_some, place_alike, lost_less, no_place}
+use Rattle.coda_lineage.specs.Lineage.{Group, held_at, AreAmong}
+use Rattle.coda_lineage.proofs.Booleans.{bool_cases, or_left, or_right, or_first, or_second, or_cases, or_from, not_true, the_some, any_none, and_first, and_second, and_both}
+use Rattle.coda_lineage.proofs.Places.{loses, is_lost, IsPlace, newest_found, newest_some, place_alike, no_place}
 use Rattle.coda_lineage.proofs.Merging.{merged_place, merged_from}
 use Rattle.coda_lineage.proofs.Standing.{Past, Memory, last_by, remember, knew, is_own_cross, strays, HasLost, IsPlaced, IsLostFrom, IsKnown, Stands, AreStanding}
 use Rattle.coda_lineage.proofs.OneHistory as history
 use Rattle.coda_lineage.proofs.OneHistory.{none_known, binder_kind}
 use Rattle.coda_lineage.proofs.Unions.{Has, IsEight, includes_at, union_some, union_has, union_eight, log_from, IsMergedDir, IsNewestLeaf, same_cases}
-
--- ---- what a replica remembers that holds what it held
-
-pub remember_same : {root : Fid} {past : Past} {made : Fid → Bool} {s : ℕ} {view : Objects} {memory : Memory} → Stands root past made s view memory → remember memory view ≡ memory
-remember_same {view = view} {memory = memory} st = λ i. record { had = λ f. had f i; last = λ f. last f i; was = λ f. was f i }
-  where
-    absorbed : (a b : Bool) → (b ≡ true → a ≡ true) → (a || b) ≡ a
-    absorbed true b h = refl
-    absorbed false true h = sym (h refl)
-    absorbed false false h = refl
-
-    had : (f : Fid) → (memory.had f || has_in view f) ≡ memory.had f
-    had f = absorbed (memory.had f) (has_in view f) (st.had f)
-
-    was : (f : Fid) → (memory.was f || is_marked (finmap.get view f)) ≡ memory.was f
-    was f = absorbed (memory.was f) (is_marked (finmap.get view f)) (st.marked f)
-
-    last : (f : Fid) → last_by (memory.last f) (finmap.get view f) ≡ memory.last f
-    last f = by (finmap.get view f) refl
-      where
-        by : (o : Option Held) → finmap.get view f ≡ o → last_by (memory.last f) o ≡ memory.last f
-        by None e = refl
-        by (Some held) e = sym (st.here f held e)
-
-first_in : (copies : Copies) (held : Held) → first_some copies ≡ Some held → IsIn (Some held) copies
-first_in [] held e = absurd (some_none held (sym e))
-first_in (None ∷ copies) held e = inr (first_in copies held e)
-first_in (Some other ∷ copies) held e = inl e
-
-stand_in_marked : (low : Held) (k : NodeKind) → (stand_in_by low k).node.marked ≡ true
-stand_in_marked low (File content) = refl
-stand_in_marked low (Link target) = refl
-stand_in_marked low (Dir entries) = refl
-
-stand_in_logs : (low : Held) (k : NodeKind) (u : ResEntry) → IsIn u (log_of (Some (stand_in_by low k))) → IsIn u (log_of (Some low))
-stand_in_logs low (File content) u i = i
-stand_in_logs low (Link target) u i = i
-stand_in_logs low (Dir entries) u i = absurd i
-
--- a directory stands in without an update, and a file or link with those of the copy
-stand_in_vector : (low : Held) (k : NodeKind) → ((is_dir k ≡ true) × ((stand_in_by low k).vector.0 ≡ no_updates)) ⊎ ((is_dir k ≡ false) × ((stand_in_by low k).vector.0 ≡ low.vector.0))
-stand_in_vector low (File content) = inr (refl, refl)
-stand_in_vector low (Link target) = inr (refl, refl)
-stand_in_vector low (Dir entries) = inl (refl, refl)
-
--- ---- what is held of an object after a resolution
-
-pub data AfterAt (views : Replicas) (root : Fid) (view after : Objects) (f : Fid) : Type 0 where
-  as_it_was : finmap.get after f ≡ finmap.get view f → AfterAt views root view after f
-  gone : finmap.get after f ≡ None → AfterAt views root view after f
-  merged_to : (held : Held) → IsTakenUp views root f → fate_at views f ≡ Same held → finmap.get after f ≡ Some held → AfterAt views root view after f
-  marked_own : (own : Held) → IsTakenUp views root f → finmap.get view f ≡ Some own → finmap.get after f ≡ Some (marked own) → AfterAt views root view after f
-  marked_new : (low : Held) → IsTakenUp views root f → finmap.get view f ≡ None → IsIn (Some low) (copies_at views f) → finmap.get after f ≡ Some (stand_in_by low low.node.kind) → AfterAt views root view after f
+use Rattle.coda_lineage.proofs.Remembering.{remember_same, first_in, stand_in_marked, stand_in_logs, stand_in_vector, AfterAt, as_it_was, gone, merged_to, marked_own, marked_new}
 
 module _ (root : Fid) (servers : List ℕ) (group : Group) (past : Past) (memory : ℕ → Memory) (standing : AreStanding root servers group past memory) (some : List ℕ) (among : AreAmong some servers)
     (one other : ℕ) (apart : one ≢ other) (one_in : IsIn one some) (other_in : IsIn other some) where

@@ -1,5 +1,5 @@
 -- Paths to an object that is repaired, and what a repair spares.
-use Rattle.std.proofs.Common.{◌≡◌, ◌≢◌, ◌-◌, Bool, true, false, cond, not, List, [], ◌∷◌, Some, None, is_some, refl, sym, ap, ◌∙◌, subst, ◌⊎◌, inl, inr}
+use Rattle.std.proofs.Common.{◌≡◌, Bool, true, false, cond, not, List, [], ◌∷◌, Some, None, is_some, refl, sym, ap, ◌∙◌, subst, ◌⊎◌, inl, inr}
 use Rattle.std.specs.FinMap as finmap
 use Rattle.std.specs.Ordering.{eq_by_cmp}
 use Rattle.std.specs.Cmp.{Equal-is}
@@ -20,7 +20,7 @@ use Rattle.coda_resolve.specs.Resolution.{Objects, child_in}
 use Rattle.coda_resolve.specs.Placement.{IsIn}
 use Rattle.coda_resolve.proofs.Lists.{some_none}
 use Rattle.coda_resolve.proofs.Logged.{any_in}
-use Rattle.coda_lineage.specs.Repairs.{LeadsAlike, is_taken, others_of, binds_one, spared_by, spared}
+use Rattle.coda_lineage.specs.Repairs.{LeadsAlike, is_taken, others_of, binds_one, spared_by}
 use Rattle.coda_lineage.proofs.Booleans.{any_none}
 
 -- ---- paths

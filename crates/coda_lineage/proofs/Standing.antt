@@ -1,5 +1,5 @@
 -- What always holds of the replicas of a volume, and of what is remembered of their past.
-use Rattle.std.proofs.Common.{◌≡◌, ◌≢◌, ◌≤◌, ℕ, Bool, true, false, List, Option, Some, None, ◌&&◌, ◌||◌, ◌⊎◌, ◌↔◌, length, refl, ap, ◌∙◌}
+use Rattle.std.proofs.Common.{◌≡◌, ◌≤◌, ℕ, Bool, true, false, List, Option, Some, None, ◌&&◌, ◌||◌, ◌⊎◌, ◌↔◌, length}
 use Rattle.std.specs.Prelude.{nat_le}
 use Rattle.std.specs.FinMap as finmap
 use Rattle.std.specs.List.{list_any}

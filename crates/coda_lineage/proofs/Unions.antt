@@ -1,5 +1,5 @@
 -- The updates of all copies, and what a resolution makes the same everywhere.
-use Rattle.std.proofs.Common.{◌≡◌, ◌≤◌, ◌<◌, ℕ, ◌-◌, ◌+◌, zero, suc, Bool, true, false, cond, not, List, [], ◌∷◌, ◌++◌, Option, Some, None, map, drop, length, slice_index_or, refl, sym, ap, ◌∙◌, subst, ◌⊎◌, inl, inr, ⊎_elim, arith}
+use Rattle.std.proofs.Common.{◌≡◌, ◌≤◌, ◌<◌, ℕ, ◌-◌, zero, suc, Bool, true, false, cond, not, List, [], ◌∷◌, ◌++◌, Option, Some, None, map, drop, length, slice_index_or, refl, sym, ap, ◌∙◌, subst, ◌⊎◌, inl, inr, ⊎_elim, arith}
 use Rattle.std.specs.Prelude.{max, nat_le}
 use Rattle.std.specs.List.{list_any, list_all, fold, filter, flat_map, AllByRecursion}
 use Rattle.std.proofs.lemmas.Bool.{true≢false, leb-true, le-leb, and_parts, cases_order}
@@ -7,7 +7,7 @@ use Rattle.coda_fid.specs.declared.fid.Fid.{Fid}
 use Rattle.coda_tree.specs.declared.node.NodeKind.{NodeKind}
 use Rattle.coda_tree.specs.declared.node.NodeKind.TheVariants.{File, Link, Dir}
 use Rattle.coda_tree.specs.Volume.{bindings}
-use Rattle.coda_vv.specs.Vector.{Counts, count, no_updates, includes, joined}
+use Rattle.coda_vv.specs.Vector.{Counts, count, includes, joined}
 use Rattle.coda_reslog.specs.declared.entry.ResEntry.{ResEntry}
 use Rattle.coda_reslog.specs.declared.change.Held.{Held}
 use Rattle.coda_resolve.specs.Copies.{Copies, vector_of, log_of, is_marked, first_some}
@@ -16,11 +16,10 @@ use Rattle.coda_resolve.specs.Causes.{cause}
 use Rattle.coda_resolve.specs.declared.fate.Fate.TheVariants.{Same}
 use Rattle.coda_resolve.specs.Settling.{dominating, leaf_fate, fate_by, fate_from, fate}
 use Rattle.coda_resolve.specs.Settled.{HasKind, is_dir}
-use Rattle.coda_resolve.specs.Placement.{SomeOf, IsIn}
+use Rattle.coda_resolve.specs.Placement.{IsIn}
 use Rattle.coda_resolve.proofs.Lists.{some_none}
 use Rattle.coda_resolve.proofs.Logged.{some_append_left, some_append_right}
 use Rattle.coda_resolve.proofs.Twice.{is_same, own_dominating, lowest_kind, leaf_same, dir_same}
-use Rattle.coda_resolve.proofs.There.{picked_some}
 use Rattle.coda_resolve.proofs.Leaders.{all_at}
 use Rattle.coda_lineage.proofs.Booleans.{in_append}
 use Rattle.coda_lineage.proofs.OneHistory.{none_known}
