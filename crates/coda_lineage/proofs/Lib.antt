@@ -17,3 +17,5 @@ mod Bases
 mod RepairedTrees
 mod Repairing
 mod Reaching
+mod Possible
+mod Merges

@@ -139,3 +139,8 @@ pub record IsDecision (server client : ℕ) (rec : Record) (before after : Objec
   pub those : (f : Fid) → finmap.get nodes f ≡ node_of (finmap.get before f)
   pub certified : certify nodes rec.op ≡ None
   pub left : (f : Fid) → finmap.get after f ≡ version_by server (sid_of client rec) (finmap.get (applied nodes client rec) f) (finmap.get before f) (deed_at before rec.op f)
+
+-- each replica has its nodes, and a record that certification finds nothing against there can be decided
+pub record CertifiedRecordsAreDecided : Type 0 where
+  pub nodes : (objects : Objects) → (nodes : Nodes) × ((f : Fid) → finmap.get nodes f ≡ node_of (finmap.get objects f))
+  pub decides : (server client : ℕ) (rec : Record) (before : Objects) (nodes : Nodes) → ((f : Fid) → finmap.get nodes f ≡ node_of (finmap.get before f)) → certify nodes rec.op ≡ None → (after : Objects) × IsDecision server client rec before after

@@ -1,6 +1,7 @@
 -- The replicas of a volume over its life, and that any of them are always of one history.
 use Rattle.std.specs.Prelude.{◌≡◌, ◌≢◌, ℕ, ◌≤◌, Bool, true, false, ◌||◌, List, [], map, Some, ◌⊎◌, ◌↔◌}
 use Rattle.std.specs.FinMap as finmap
+use Rattle.std.specs.List.{AllZip}
 use Rattle.coda_fid.specs.Fid.{same_fid}
 use Rattle.coda_fid.specs.declared.fid.Fid.{Fid}
 use Rattle.coda_fid.specs.declared.op.Record.{Record}
@@ -9,10 +10,12 @@ use Rattle.coda_tree.specs.Tree.{IsBelow}
 use Rattle.coda_tree.specs.Volume.{fresh_root, is_at_fid}
 use Rattle.coda_vv.specs.Vector.{no_updates}
 use Rattle.coda_reslog.specs.declared.change.Held.{Held}
+use Rattle.coda_reslog.specs.declared.change.Change.{Change}
 use Rattle.coda_resolve.specs.Copies.{is_marked}
 use Rattle.coda_resolve.specs.Resolution.{Objects, Replicas, copies_at, child_in}
 use Rattle.coda_resolve.specs.Placement.{IsIn, AreOfOneHistory}
 use Rattle.coda_resolve.specs.Trees.{IsInstalled}
+use Rattle.coda_resolve.specs.Changes.{changed, AreChanges}
 use Rattle.coda_lineage.specs.Deeds.{makes, IsDecision}
 use Rattle.coda_lineage.specs.Repairs.{LeadsAlike, IsRepairedAt}
 
@@ -84,3 +87,13 @@ pub data IsReached (root : Fid) (servers : List ℕ) : Group → Type 0 where
 -- whatever was decided, resolved and repaired since a volume was new, any of its replicas are of one history
 abbrev pub ReplicasStayOfOneHistory : Type 0
 ReplicasStayOfOneHistory = (root : Fid) (servers : List ℕ) (group : Group) (some : List ℕ) → AreServers servers → IsReached root servers group → AreAmong some servers → some ≢ [] → AreOfOneHistory (held_at group some) root
+
+-- ---- what `merge` answers is what is installed
+
+-- a replica holds what it did, or what its change makes of it
+abbrev pub IsChangedOrNot : Group → Group → ℕ → Change → Type 0
+IsChangedOrNot before after s change = (after.holds s ≡ before.holds s) ⊎ (after.holds s ≡ changed (before.holds s) change)
+
+-- where changes that a merge answers for the replicas at some servers are installed at any of them, these are resolved
+abbrev pub MergesAreResolutions : Type 0
+MergesAreResolutions = (root : Fid) (before after : Group) (some : List ℕ) (changes : List Change) (one other : ℕ) → one ≢ other → IsIn one some → IsIn other some → AreChanges (held_at before some) root changes → AllZip (IsChangedOrNot before after) some changes → ((s : ℕ) → (IsIn s some → ⊥) → after.holds s ≡ before.holds s) → after.made ≡ before.made → IsResolved root some before after

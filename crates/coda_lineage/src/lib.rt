@@ -3,4 +3,6 @@
 
 mod law;
 
-pub use law::replicas_stay_of_one_history;
+pub use law::{
+    certified_records_are_decided, merges_are_resolutions, replicas_stay_of_one_history,
+};
