@@ -88,7 +88,7 @@ stand_in_kind b low (File content) at is = is
 stand_in_kind b low (Link target) at is = is
 stand_in_kind b low (Dir entries) at is = sym (ap is_dir at) ∙ is
 
-settled_kind : (b : Bool) (copies : Copies) (look : Fid → Copies) (copy : Option Held) → AllByRecursion (HasKind b) copies → HasKind b copy → HasKind b (settled_copy (fate copies look) (first_some copies) copy)
+pub settled_kind : (b : Bool) (copies : Copies) (look : Fid → Copies) (copy : Option Held) → AllByRecursion (HasKind b) copies → HasKind b copy → HasKind b (settled_copy (fate copies look) (first_some copies) copy)
 settled_kind b copies look copy kinds own = by (fate copies look) refl (first_some copies) refl copy own
   where
     by : (result : Fate) → fate copies look ≡ result → (lowest : Option Held) → first_some copies ≡ lowest → (c : Option Held) → HasKind b c → HasKind b (settled_copy result lowest c)
@@ -133,7 +133,7 @@ are_trees (view ∷ views) root (change ∷ changes) history a = trees_after (vi
 
 -- ---- placed
 
-each_copy : (P : Option Held → Type 0) (views : Replicas) (f : Fid) (v : Objects) → AllByRecursion P (copies_at views f) → IsIn v views → P (finmap.get v f)
+pub each_copy : (P : Option Held → Type 0) (views : Replicas) (f : Fid) (v : Objects) → AllByRecursion P (copies_at views f) → IsIn v views → P (finmap.get v f)
 each_copy P [] f v a s = absurd s
 each_copy P (view ∷ views) f v a (inl is) = subst (λ x. P (finmap.get x f)) is a.0
 each_copy P (view ∷ views) f v a (inr s) = each_copy P views f v a.1 s

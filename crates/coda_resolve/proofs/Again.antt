@@ -27,15 +27,15 @@ use Rattle.coda_resolve.proofs.MergedNames.{merged_alike}
 
 -- ---- causes
 
-no_cause : (b : Bool) (why : Why) → where_so b why ≡ None → b ≡ false
+pub no_cause : (b : Bool) (why : Why) → where_so b why ≡ None → b ≡ false
 no_cause true why e = absurd (some_none why e)
 no_cause false why e = refl
 
-nothing_mapped : {A : Type 0} (h : A → Why) (o : Option A) → option_map h o ≡ None → o ≡ None
+pub nothing_mapped : {A : Type 0} (h : A → Why) (o : Option A) → option_map h o ≡ None → o ≡ None
 nothing_mapped h None e = refl
 nothing_mapped h (Some a) e = absurd (some_none (h a) e)
 
-first_none : {X : Type 0} (o : Option X) (os : List (Option X)) → first_some (o ∷ os) ≡ None → (o ≡ None) × (first_some os ≡ None)
+pub first_none : {X : Type 0} (o : Option X) (os : List (Option X)) → first_some (o ∷ os) ≡ None → (o ≡ None) × (first_some os ≡ None)
 first_none None os e = (refl, e)
 first_none (Some x) os e = absurd (some_none x e)
 

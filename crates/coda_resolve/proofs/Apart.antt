@@ -30,7 +30,7 @@ use Rattle.coda_resolve.proofs.Logged.{in_any, in_map, stands_missing}
 
 -- ---- parted copies have a cause
 
-not_marked : (copies : Copies) (look : Fid → Copies) (a : Option Held) → cause copies look ≡ None → IsIn a copies → is_marked a ≡ true → ⊥
+pub not_marked : (copies : Copies) (look : Fid → Copies) (a : Option Held) → cause copies look ≡ None → IsIn a copies → is_marked a ≡ true → ⊥
 not_marked copies look a free ina e = true≢false (sym (in_any is_marked copies a ina e) ∙ unmarked copies look free)
 
 not_apart : (copies : Copies) (look : Fid → Copies) (a b : Option Held) → cause copies look ≡ None → IsIn a copies → IsIn b copies → IsCrossApart copies a b → ⊥
@@ -46,7 +46,7 @@ not_parted copies look a b free ina inb (inr (inr x)) = not_apart copies look b 
 
 -- ---- what binds something is a merged directory
 
-binds_nothing : (k : NodeKind) (n : Name) (f : Fid) → is_dir k ≡ false → finmap.get (bindings k) n ≡ Some f → ⊥
+pub binds_nothing : (k : NodeKind) (n : Name) (f : Fid) → is_dir k ≡ false → finmap.get (bindings k) n ≡ Some f → ⊥
 binds_nothing (File content) n f e is = some_none f (sym is ∙ finmap.get-empty name_cmp n)
 binds_nothing (Link target) n f e is = some_none f (sym is ∙ finmap.get-empty name_cmp n)
 binds_nothing (Dir entries) n f e is = true≢false e

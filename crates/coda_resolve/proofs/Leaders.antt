@@ -12,16 +12,16 @@ use Rattle.coda_resolve.proofs.Lists.{both_ways}
 use Rattle.coda_resolve.proofs.Logged.{any_in}
 
 module _ {X : Type 0} (t : X → Bool) where
-  all_at : (xs : List X) (x : X) → list_all t xs ≡ true → IsIn x xs → t x ≡ true
+  pub all_at : (xs : List X) (x : X) → list_all t xs ≡ true → IsIn x xs → t x ≡ true
   all_at [] x e s = absurd s
   all_at (y ∷ ys) x e (inl is) = ap t (sym is) ∙ (and_parts (t y) (list_all t ys) e).0
   all_at (y ∷ ys) x e (inr s) = all_at ys x (and_parts (t y) (list_all t ys) e).1 s
 
-  all_from : (xs : List X) → ((x : X) → IsIn x xs → t x ≡ true) → list_all t xs ≡ true
+  pub all_from : (xs : List X) → ((x : X) → IsIn x xs → t x ≡ true) → list_all t xs ≡ true
   all_from [] h = refl
   all_from (y ∷ ys) h = and_from (t y) (list_all t ys) (h y (inl refl)) (all_from ys (λ x s. h x (inr s)))
 
-  filtered : (xs : List X) (x : X) → IsIn x (filter t xs) → t x ≡ true
+  pub filtered : (xs : List X) (x : X) → IsIn x (filter t xs) → t x ≡ true
   filtered [] x s = absurd s
   filtered (y ∷ ys) x s = go (t y) refl s (filtered ys x)
     where

@@ -1,20 +1,20 @@
-mod Lists
-mod Alike
-mod MergedNames
-mod Again
-mod Twice
-mod Whole
-mod There
-mod Logged
-mod Once
-mod Apart
-mod Trees
+pub mod Lists
+pub mod Alike
+pub mod MergedNames
+pub mod Again
+pub mod Twice
+pub mod Whole
+pub mod There
+pub mod Logged
+pub mod Once
+pub mod Apart
+pub mod Trees
 mod Walked
 mod Complete
 mod Single
-mod Leaders
-mod Past
-mod Settled
+pub mod Leaders
+pub mod Past
+pub mod Settled
 mod Collected
 mod Stamped
 mod Gaps
@@ -32,6 +32,6 @@ mod Parts
 mod Sameness
 mod Renewing
 mod Reaching
-mod After
+pub mod After
 mod Lasting
 mod Merging

@@ -35,7 +35,7 @@ replica_of [] view s = absurd s
 replica_of (r ∷ rs) view (inl is) = (r, (inl refl, is))
 replica_of (r ∷ rs) view (inr s) = let m = replica_of rs view s in (m.0, (inr m.1.0, m.1.1))
 
-binder : (P : Option Held → Type 0) (f : Fid) (rs : List Recalled) → SomeOf P (copies_at (views_of rs) f) → (r : Recalled) × (IsIn r rs × P (finmap.get r.view f))
+pub binder : (P : Option Held → Type 0) (f : Fid) (rs : List Recalled) → SomeOf P (copies_at (views_of rs) f) → (r : Recalled) × (IsIn r rs × P (finmap.get r.view f))
 binder P f [] s = absurd s
 binder P f (r ∷ rs) (inl p) = (r, (inl refl, p))
 binder P f (r ∷ rs) (inr s) = let m = binder P f rs s in (m.0, (inr m.1.0, m.1.1))

@@ -23,12 +23,12 @@ use Rattle.coda_resolve.proofs.Settled.{equal_or_marked}
 use Rattle.coda_resolve.proofs.Twice.{is_same, own_dominating, leaf_same, dir_same}
 use Rattle.coda_resolve.proofs.Whole.{gone_absent}
 
-some_map : {X : Type 0} (P Q : X → Type 0) → ((x : X) → P x → Q x) → (xs : List X) → SomeOf P xs → SomeOf Q xs
+pub some_map : {X : Type 0} (P Q : X → Type 0) → ((x : X) → P x → Q x) → (xs : List X) → SomeOf P xs → SomeOf Q xs
 some_map P Q h [] s = absurd s
 some_map P Q h (x ∷ xs) (inl p) = inl (h x p)
 some_map P Q h (x ∷ xs) (inr s) = inr (some_map P Q h xs s)
 
-found_some : {X : Type 0} (t : X → Bool) (xs : List X) (x : X) → find t xs ≡ Some x → SomeOf (λ y. y ≡ x) xs
+pub found_some : {X : Type 0} (t : X → Bool) (xs : List X) (x : X) → find t xs ≡ Some x → SomeOf (λ y. y ≡ x) xs
 found_some t [] x e = absurd (some_none x (sym e))
 found_some {X} t (y ∷ ys) x e = go (t y) e (found_some t ys x)
   where
@@ -43,7 +43,7 @@ found_some {X} t (y ∷ ys) x e = go (t y) e (found_some t ys x)
     go true e more = inl (same e)
     go false e more = inr (more e)
 
-picked_some : (pick : Option Held → Option Held) → ((copy : Option Held) (held : Held) → pick copy ≡ Some held → copy ≡ Some held) → (copies : Copies) (held : Held) → first_of_copies pick copies ≡ Some held → SomeOf (λ copy. copy ≡ Some held) copies
+pub picked_some : (pick : Option Held → Option Held) → ((copy : Option Held) (held : Held) → pick copy ≡ Some held → copy ≡ Some held) → (copies : Copies) (held : Held) → first_of_copies pick copies ≡ Some held → SomeOf (λ copy. copy ≡ Some held) copies
 picked_some pick own [] held e = absurd (some_none held (sym e))
 picked_some pick own (copy ∷ copies) held e = go (pick copy) refl e (picked_some pick own copies held)
   where
@@ -69,7 +69,7 @@ agreed_bound : (n : Name) (f : Fid) (copies : Copies) (first : Option (Option He
 agreed_bound n f copies None at e = shared_bound n f copies e
 agreed_bound n f copies (Some copy) at e = some_map (λ c. c ≡ copy) (Binds n f) (λ c is. ap (λ x. finmap.get (bindings_of x) n) is ∙ e) copies (found_some (leads (is_on n) copies) copies copy at)
 
-merged_bound : (copies : Copies) (n : Name) (f : Fid) → finmap.get (merged_bindings copies) n ≡ Some f → SomeOf (Binds n f) copies
+pub merged_bound : (copies : Copies) (n : Name) (f : Fid) → finmap.get (merged_bindings copies) n ≡ Some f → SomeOf (Binds n f) copies
 merged_bound copies n f e = go (among n (names copies)) (sym (get_made (binding copies) (names copies) n) ∙ e)
   where
     go : (b : Bool) → cond b (flat (binding copies n)) None ≡ Some f → SomeOf (Binds n f) copies
@@ -95,7 +95,7 @@ fate_bound copies look held n f e is = by_lowest (first_some copies) e
 
 -- ---- and is there
 
-none_first : (copy : Option Held) (copies : Copies) → first_some (copy ∷ copies) ≡ None → (copy ≡ None) × (first_some copies ≡ None)
+pub none_first : (copy : Option Held) (copies : Copies) → first_some (copy ∷ copies) ≡ None → (copy ≡ None) × (first_some copies ≡ None)
 none_first None copies e = (refl, e)
 none_first (Some held) copies e = absurd (some_none held e)
 

@@ -34,18 +34,18 @@ pub tree_of : (root : Fid) (view : Objects) (views : Replicas) → AreTrees root
 tree_of root view [] trees s = absurd s
 tree_of root view (v ∷ views) trees s = tree_in root view (v ∷ views) trees s
 
-held_where : (copy : Option Held) (n : Name) (f : Fid) → finmap.get (bindings_of copy) n ≡ Some f → (held : Held) × (copy ≡ Some held)
+pub held_where : (copy : Option Held) (n : Name) (f : Fid) → finmap.get (bindings_of copy) n ≡ Some f → (held : Held) × (copy ≡ Some held)
 held_where None n f e = absurd (some_none f (sym e ∙ finmap.get-empty name_cmp n))
 held_where (Some held) n f e = (held, refl)
 
 -- what stands in binds nothing
-stand_in_binds : (low : Held) (k : NodeKind) (n : Name) (f : Fid) → low.node.kind ≡ k → finmap.get (bindings_of (Some (stand_in_by low k))) n ≡ Some f → ⊥
+pub stand_in_binds : (low : Held) (k : NodeKind) (n : Name) (f : Fid) → low.node.kind ≡ k → finmap.get (bindings_of (Some (stand_in_by low k))) n ≡ Some f → ⊥
 stand_in_binds low (File content) n f is e = some_none f (sym e ∙ ap (λ x. finmap.get (bindings x) n) is ∙ finmap.get-empty name_cmp n)
 stand_in_binds low (Link target) n f is e = some_none f (sym e ∙ ap (λ x. finmap.get (bindings x) n) is ∙ finmap.get-empty name_cmp n)
 stand_in_binds low (Dir entries) n f is e = some_none f (sym e ∙ finmap.get-empty name_cmp n)
 
 -- where an object is settled, some copy stands
-settles : (result : Fate) (lowest copy : Option Held) → (result ≡ Gone → ⊥) → (lowest ≡ None → ⊥) → is_some (settled_copy result lowest copy) ≡ true
+pub settles : (result : Fate) (lowest copy : Option Held) → (result ≡ Gone → ⊥) → (lowest ≡ None → ⊥) → is_some (settled_copy result lowest copy) ≡ true
 settles (Same held) lowest copy there low = refl
 settles (Marked why) None None there low = absurd (low refl)
 settles (Marked why) (Some held) None there low = refl
@@ -53,7 +53,7 @@ settles (Marked why) lowest (Some own) there low = refl
 settles Gone lowest copy there low = absurd (there refl)
 
 -- what a settled copy binds: what all hold, or what the replica itself held
-settled_binds : (result : Fate) (lowest copy : Option Held) (n : Name) (f : Fid) → (result ≡ Gone → ⊥) → finmap.get (bindings_of (settled_copy result lowest copy)) n ≡ Some f → ((one : Held) × ((result ≡ Same one) × (finmap.get (bindings one.node.kind) n ≡ Some f))) ⊎ ((why : Why) × ((result ≡ Marked why) × (finmap.get (bindings_of copy) n ≡ Some f)))
+pub settled_binds : (result : Fate) (lowest copy : Option Held) (n : Name) (f : Fid) → (result ≡ Gone → ⊥) → finmap.get (bindings_of (settled_copy result lowest copy)) n ≡ Some f → ((one : Held) × ((result ≡ Same one) × (finmap.get (bindings one.node.kind) n ≡ Some f))) ⊎ ((why : Why) × ((result ≡ Marked why) × (finmap.get (bindings_of copy) n ≡ Some f)))
 settled_binds (Same one) lowest copy n f there e = inl (one, (refl, e))
 settled_binds (Marked why) None None n f there e = absurd (some_none f (sym e ∙ finmap.get-empty name_cmp n))
 settled_binds (Marked why) (Some low) None n f there e = absurd (stand_in_binds low low.node.kind n f refl e)
@@ -78,17 +78,17 @@ module _ (views : Replicas) (root : Fid) (view after : Objects) (history : AreOf
   own : IsTreeView root view
   own = tree_of root view views history.trees inview
 
-  low : (f : Fid) → IsTakenUp views root f → first_some (copies_at views f) ≡ None → ⊥
+  pub low : (f : Fid) → IsTakenUp views root f → first_some (copies_at views f) ≡ None → ⊥
   low f up = taken_up_is_there views root history.trees f up
 
-  there : (f : Fid) → IsTakenUp views root f → fate_at views f ≡ Gone → ⊥
+  pub there : (f : Fid) → IsTakenUp views root f → fate_at views f ≡ Gone → ⊥
   there f up e = low f up (gone_absent (copies_at views f) (copies_at views) (first_some (copies_at views f)) e)
 
-  taken_has : (f : Fid) → IsTakenUp views root f → has_in after f ≡ true
+  pub taken_has : (f : Fid) → IsTakenUp views root f → has_in after f ≡ true
   taken_has f up = ap is_some (installed.taken f up) ∙ settles (fate_at views f) (first_some (copies_at views f)) (finmap.get view f) (there f up) (low f up)
 
   -- what a directory binds after it
-  child_cases : (d : Fid) (n : Name) (f : Fid) → child_in after d n ≡ Some f → ((one : Held) × (IsTakenUp views root d × ((fate_at views d ≡ Same one) × (finmap.get (bindings one.node.kind) n ≡ Some f)))) ⊎ (KeepsOwn views root view d × (child_in view d n ≡ Some f))
+  pub child_cases : (d : Fid) (n : Name) (f : Fid) → child_in after d n ≡ Some f → ((one : Held) × (IsTakenUp views root d × ((fate_at views d ≡ Same one) × (finmap.get (bindings one.node.kind) n ≡ Some f)))) ⊎ (KeepsOwn views root view d × (child_in view d n ≡ Some f))
   child_cases d n f e = ⊎_elim from_taken from_kept (installed.only d (let h = held_where (finmap.get after d) n f e in ap is_some h.1))
     where
       from_taken : IsTakenUp views root d → ((one : Held) × (IsTakenUp views root d × ((fate_at views d ≡ Same one) × (finmap.get (bindings one.node.kind) n ≡ Some f)))) ⊎ (KeepsOwn views root view d × (child_in view d n ≡ Some f))
