@@ -165,10 +165,10 @@ module _ (root : Fid) (right view after : Objects) (subtree : Fid → Bool) (top
 
   -- the way to the subtree stands: its directories are outside
   leads_below : (d : Fid) (n : Name) (rest : List Name) → LeadsAlike right view d (n ∷ rest) top → (e : Fid) × ((k : Name) × (IsBelow (child_in right) d e × (child_in right e k ≡ Some top)))
-  leads_below d n [] w = (d, (n, (itself d refl, w.1.1.0 ∙ ap Some (sym w.1.1.1.1))))
+  leads_below d n [] w = (d, (n, (itself d refl, w.1.0 ∙ ap Some (sym w.1.1.1))))
   leads_below d n (m ∷ rest) w =
-      let x = leads_below w.1.0 m rest w.1.1.1.1 in
-      (x.0, (x.1.0, (below_below x.0 (under d n w.1.0 w.1.1.0 (itself d refl)) x.1.1.0, x.1.1.1)))
+      let x = leads_below w.0 m rest w.1.1.1 in
+      (x.0, (x.1.0, (below_below x.0 (under d n w.0 w.1.0 (itself d refl)) x.1.1.0, x.1.1.1)))
 
   on_way : (d : Fid) (n : Name) (rest : List Name) → LeadsAlike right view d (n ∷ rest) top → subtree d ≡ false
   on_way d n rest w = by (subtree d) refl
@@ -182,16 +182,16 @@ module _ (root : Fid) (right view after : Objects) (subtree : Fid → Bool) (top
   reaches : (d : Fid) (rest : List Name) → LeadsAlike right view d rest top → has_in after d ≡ true → IsBelow (child_in after) root d → IsBelow (child_in after) root top
   reaches d [] w there up = subst (IsBelow (child_in after) root) (sym w) up
   reaches d (n ∷ rest) w there up =
-      let bound = child_kept d n w.1.0 (on_way d n rest w) there w.1.1.1.0 (free rest w.1.1.1.1) in
-      reaches w.1.0 rest w.1.1.1.1 (outside_bound d n w.1.0 (on_way d n rest w) bound) (under d n w.1.0 bound up)
+      let bound = child_kept d n w.0 (on_way d n rest w) there w.1.1.0 (free rest w.1.1.1) in
+      reaches w.0 rest w.1.1.1 (outside_bound d n w.0 (on_way d n rest w) bound) (under d n w.0 bound up)
     where
-      free : (more : List Name) → LeadsAlike right view w.1.0 more top → is_taken subtree top (Some w.1.0) ≡ false
-      free [] same = ap (λ b. subtree w.1.0 && not b) (subst (λ x. same_fid w.1.0 x ≡ true) (sym same) (same_fid_refl w.1.0)) ∙ and_false (subtree w.1.0)
+      free : (more : List Name) → LeadsAlike right view w.0 more top → is_taken subtree top (Some w.0) ≡ false
+      free [] same = ap (λ b. subtree w.0 && not b) (subst (λ x. same_fid w.0 x ≡ true) (sym same) (same_fid_refl w.0)) ∙ and_false (subtree w.0)
         where
           and_false : (b : Bool) → (b && false) ≡ false
           and_false true = refl
           and_false false = refl
-      free (m ∷ more) x = ap (λ b. b && not (same_fid w.1.0 top)) (on_way w.1.0 m more x)
+      free (m ∷ more) x = ap (λ b. b && not (same_fid w.0 top)) (on_way w.0 m more x)
 
   root_there : has_in after root ≡ true
   root_there = by (subtree root) refl

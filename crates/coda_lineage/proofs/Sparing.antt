@@ -27,10 +27,10 @@ use Rattle.coda_lineage.proofs.Booleans.{any_none}
 
 pub leads_end : (a b : Objects) (d : Fid) (names : List Name) (f : Fid) → LeadsAlike a b d names f → (f ≡ d) ⊎ ((e : Fid) × ((n : Name) × ((child_in a e n ≡ Some f) × (child_in b e n ≡ Some f))))
 leads_end a b d [] f way = inl way
-leads_end a b d (n ∷ names) f way = go (leads_end a b way.1.0 names f way.1.1.1.1)
+leads_end a b d (n ∷ names) f way = go (leads_end a b way.0 names f way.1.1.1)
   where
-    go : (f ≡ way.1.0) ⊎ ((e : Fid) × ((k : Name) × ((child_in a e k ≡ Some f) × (child_in b e k ≡ Some f)))) → (f ≡ d) ⊎ ((e : Fid) × ((k : Name) × ((child_in a e k ≡ Some f) × (child_in b e k ≡ Some f))))
-    go (inl e) = inr (d, (n, (way.1.1.0 ∙ ap Some (sym e), way.1.1.1.0 ∙ ap Some (sym e))))
+    go : (f ≡ way.0) ⊎ ((e : Fid) × ((k : Name) × ((child_in a e k ≡ Some f) × (child_in b e k ≡ Some f)))) → (f ≡ d) ⊎ ((e : Fid) × ((k : Name) × ((child_in a e k ≡ Some f) × (child_in b e k ≡ Some f))))
+    go (inl e) = inr (d, (n, (way.1.0 ∙ ap Some (sym e), way.1.1.0 ∙ ap Some (sym e))))
     go (inr x) = inr x
 
 -- in a tree nothing is bound below itself

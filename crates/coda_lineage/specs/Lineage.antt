@@ -11,7 +11,6 @@ use Rattle.coda_tree.specs.Volume.{fresh_root, is_at_fid}
 use Rattle.coda_vv.specs.Vector.{no_updates}
 use Rattle.coda_reslog.specs.declared.change.Held.{Held}
 use Rattle.coda_reslog.specs.declared.change.Change.{Change}
-use Rattle.coda_resolve.specs.Copies.{is_marked}
 use Rattle.coda_resolve.specs.Resolution.{Objects, Replicas, copies_at, child_in}
 use Rattle.coda_resolve.specs.Placement.{IsIn, AreOfOneHistory}
 use Rattle.coda_resolve.specs.Trees.{IsInstalled}
@@ -56,12 +55,11 @@ pub record IsResolved (root : Fid) (some : List ℕ) (before after : Group) : Ty
   pub each : (s : ℕ) → (after.holds s ≡ before.holds s) ⊎ (IsIn s some × IsInstalled (held_at before some) root (before.holds s) (after.holds s))
   pub made : after.made ≡ before.made
 
--- the object at a path, which the source has marked, is repaired at all replicas: the same names lead to it at each, and each is left
--- with what the source has at and below it
+-- the object at a path is repaired at all replicas: the same names lead to it at each, and each is left with what the source has at and
+-- below it (that it is marked, and what is above it isn't, is asked before and not needed)
 pub record IsRepaired (root : Fid) (servers : List ℕ) (source : ℕ) (names : List Name) (before after : Group) : Type 0 where
   pub top : Fid
   pub leads : (s : ℕ) → IsIn s servers → LeadsAlike (before.holds source) (before.holds s) root names top
-  pub marked : is_marked (finmap.get (before.holds source) top) ≡ true
   pub subtree : Fid → Bool
   pub below : (f : Fid) → (subtree f ≡ true) ↔ IsBelow (child_in (before.holds source)) top f
   pub each : (s : ℕ) → IsIn s servers → IsRepairedAt subtree top source (copies_at (held_at before servers)) (before.holds source) (before.holds s) (after.holds s)

@@ -10,14 +10,14 @@ use Rattle.coda_tree.specs.Bindings.{Name, Bindings}
 use Rattle.coda_tree.specs.Tree.{IsBelow}
 use Rattle.coda_vv.specs.Vector.{bumped}
 use Rattle.coda_reslog.specs.declared.change.Held.{Held}
-use Rattle.coda_resolve.specs.Copies.{Copies, is_marked}
+use Rattle.coda_resolve.specs.Copies.{Copies}
 use Rattle.coda_resolve.specs.Merged.{updates_of}
 use Rattle.coda_resolve.specs.Resolution.{Objects, child_in}
 
--- the names lead from one object to another at both replicas, through the same directories, of which neither has one marked
+-- the names lead from one object to another at both replicas, through the same directories
 abbrev pub LeadsAlike : Objects → Objects → Fid → List Name → Fid → Type 0
 LeadsAlike a b d [] f = f ≡ d
-LeadsAlike a b d (n ∷ names) f = ((is_marked (finmap.get a d) ≡ false) × (is_marked (finmap.get b d) ≡ false)) × ((g : Fid) × ((child_in a d n ≡ Some g) × ((child_in b d n ≡ Some g) × LeadsAlike a b g names f)))
+LeadsAlike a b d (n ∷ names) f = (g : Fid) × ((child_in a d n ≡ Some g) × ((child_in b d n ≡ Some g) × LeadsAlike a b g names f))
 
 -- an object as the source has it, not marked, with all updates and one more of the source, and an empty log
 abbrev pub repaired : ℕ → Copies → Held → Held
