@@ -6,4 +6,6 @@ pub mod Accepting
 pub mod History
 pub mod Code
 pub mod Standing
+pub mod Appending
 pub mod Keeping
+pub mod Laws
