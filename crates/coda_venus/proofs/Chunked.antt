@@ -1,14 +1,15 @@
 -- What a client's volume comes to, from what the calls of its log leave.
-use Rattle.std.proofs.Common.{◌≡◌, ℕ, ◌+◌, List, Option, Some, sym, ap, ◌∙◌}
-use Rattle.coda_fid.specs.declared.op.Record.{Record}
+use Rattle.std.proofs.Common.{◌≡◌, ◌≢◌, ◌↔◌, ℕ, ◌+◌, Option, Some, None, refl, sym, ap, ◌∙◌}
+use Rattle.std.specs.Prelude.{Result, Err}
+use Rattle.std.proofs.lemmas.Option.{none-some}
 use Rattle.coda_cml.specs.Chunks.{chunk_length, freeze_refusal}
 use Rattle.coda_cml.specs.Partition.{ArePartedBy}
 use Rattle.coda_cml.specs.State.{LogState}
 use Rattle.coda_cml.specs.Steps.{frozen_at, frozen_to}
-use Rattle.coda_cml.specs.declared.frozen.Frozen.{Frozen}
+use Rattle.coda_cml.specs.declared.fault.FreezeFault.{FreezeFault}
+use Rattle.coda_cml.specs.declared.fault.FreezeFault.TheVariants.{Frozen, Nothing, Young, Memory}
 use Rattle.coda_cml.proofs.segments.FrozenFronts.{may_go}
 use Rattle.coda_plain.specs.Deeds.{Froze}
-use Rattle.std.specs.Prelude.{None}
 use Rattle.coda_venus.specs.State.{ClientVolume, ended_by, volume_after}
 use Rattle.coda_venus.specs.History.{last_to_go}
 use Rattle.coda_venus.specs.Code.{IsVolumeLog}
@@ -29,3 +30,10 @@ frozen_volume v code home now window new is free parted froze =
       log = froze ∙ ap (λ n. frozen_at log n (record { number = log.chunks + 1; home = home })) (sym ended) ∙ ap after is.log;
       creations = is.creations;
     }
+
+-- where nothing stands against a freeze, it fails for want of memory alone
+pub only_memory : {T : Type 0} (o : Option FreezeFault) (why : FreezeFault) → o ≡ None → ((w : FreezeFault) → w ≢ Memory → (let err : FreezeFault → Result T FreezeFault = λ z. Err z in err why ≡ err w) ↔ (o ≡ Some w)) → why ≡ Memory
+only_memory o (Frozen number home) none causes = absurd (none-some (Frozen number home) (sym none ∙ (causes (Frozen number home) (λ h. cc)).0 refl))
+only_memory o Nothing none causes = absurd (none-some Nothing (sym none ∙ (causes Nothing (λ h. cc)).0 refl))
+only_memory o (Young age window) none causes = absurd (none-some (Young age window) (sym none ∙ (causes (Young age window) (λ h. cc)).0 refl))
+only_memory o Memory none causes = refl

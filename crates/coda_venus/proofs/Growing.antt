@@ -1,5 +1,5 @@
 -- Histories with one payload more.
-use Rattle.std.proofs.Common.{◌≡◌, ℕ, ◌+◌, ◌<◌, ◌≤◌, Bool, true, false, List, [], ◌∷◌, ◌++◌, Option, Some, None, Result, Ok, Err, refl, sym, ap, ◌∙◌, subst, arith}
+use Rattle.std.proofs.Common.{◌≡◌, ℕ, ◌+◌, ◌<◌, ◌≤◌, Bool, true, false, List, [], ◌∷◌, ◌++◌, Option, Some, None, Result, Ok, Err, refl, sym, ap, ◌∙◌, subst, inl, inr, arith}
 use Rattle.std.specs.Prelude.{nat_le, if◌then◌else◌, ◌==◌}
 use Rattle.std.proofs.lemmas.List.{map-append}
 use Rattle.std.proofs.lemmas.Bool.{cases_eq, ne_eqb, leb-false}
@@ -52,23 +52,29 @@ settled_spelled volume number verdict v a low high =
 -- ---- freezes
 
 -- what the next chunk is
-pub record IsNextChunk (log : LogState) (now window number last : ℕ) : Type 0 where
+pub record IsNextChunk (log : LogState) (now window n l : ℕ) : Type 0 where
   pub goes : freeze_refusal log.frozen now window log.segments ≡ None
-  pub number : number ≡ log.chunks + 1
-  pub few : number ≤ 4294967295
-  pub ends : last ≡ last_to_go now window log.segments
+  pub number : n ≡ log.chunks + 1
+  pub few : n ≤ 4294967295
+  pub ends : l ≡ last_to_go now window log.segments
+
+ok_is : (x y : ℕ × ℕ) → (let ok : ℕ × ℕ → Result (ℕ × ℕ) Refused = λ p. Ok p in ok x ≡ ok y) → x ≡ y
+ok_is x y e = cc
+
+chunk_by_count : (b : Bool) (chunks last n l : ℕ) → (let ok : ℕ × ℕ → Result (ℕ × ℕ) Refused = λ p. Ok p in (if b then Err JournalFull else ok (chunks + 1, last)) ≡ ok (n, l)) → (b ≡ false) × (n ≡ chunks + 1) × (l ≡ last)
+chunk_by_count true chunks last n l e = absurd (cc)
+chunk_by_count false chunks last n l e =
+    let same = ok_is (chunks + 1, last) (n, l) e in
+    (refl, ap (λ (p : ℕ × ℕ). p.0) (sym same), ap (λ (p : ℕ × ℕ). p.1) (sym same))
 
 chunk_is : (o : Option FreezeFault) (log : LogState) (now window n l : ℕ) → (let ok : ℕ × ℕ → Result (ℕ × ℕ) Refused = λ p. Ok p in chunk_by o log now window ≡ ok (n, l))
     → (o ≡ None) × (n ≡ log.chunks + 1) × (n ≤ 4294967295) × (l ≡ last_to_go now window log.segments)
 chunk_is (Some why) log now window n l e = absurd (cc)
-chunk_is None log now window n l e = by (nat_le 4294967295 log.chunks) refl e
-  where
-    of : Bool → Result (ℕ × ℕ) Refused
-    of b = if b then Err JournalFull else Ok (log.chunks + 1, last_to_go now window log.segments)
-
-    by : (b : Bool) → nat_le 4294967295 log.chunks ≡ b → (let ok : ℕ × ℕ → Result (ℕ × ℕ) Refused = λ p. Ok p in of b ≡ ok (n, l)) → (None ≡ None) × (n ≡ log.chunks + 1) × (n ≤ 4294967295) × (l ≡ last_to_go now window log.segments)
-    by true is h = absurd (cc)
-    by false is h = (let low = leb-false 4294967295 log.chunks is in let same : n ≡ log.chunks + 1 = cc in (refl, same, omega (arith, same, low), cc))
+chunk_is None log now window n l e =
+    let h = chunk_by_count (nat_le 4294967295 log.chunks) log.chunks (last_to_go now window log.segments) n l e in
+    let low = leb-false 4294967295 log.chunks h.0 in
+    let same = h.1 in
+    (refl, h.1, omega (arith, same, low), h.2)
 
 pub next_is : (log : LogState) (now window n l : ℕ) → (let ok : ℕ × ℕ → Result (ℕ × ℕ) Refused = λ p. Ok p in next_chunk log now window ≡ ok (n, l)) → IsNextChunk log now window n l
 next_is log now window n l e = let h = chunk_is (freeze_refusal log.frozen now window log.segments) log now window n l e in record { goes = h.0; number = h.1; few = h.2; ends = h.3 }
@@ -84,8 +90,7 @@ may_freeze header history volume home now window number last law v h is =
     let high = end_upto log.last length log.segments (ends_behind log.last log.chunk_segments log.segments kept.parts.ended) in
     let few = kept.few in
     let ends = is.ends in
-    let next = is.number in
-    (
+    let next = is.number in (
       (record { now = now; window = window; goes = is.goes; next = is.number; few = is.few; ends = is.ends }, tt),
       freeze_spelled volume number home last v h (omega (arith, next)) is.few (omega (arith, low, ends)) (omega (arith, high, few, ends)),
     )

@@ -60,9 +60,9 @@ module _ {D : Type 0} (told : D → Told) (header : Header) (old : Venus D) (his
     stays new journal = subst (λ (j : Journal D). LeavesOnly (told old.journal.disk) (told j.disk) (IsBeforeOrAfter header (payloads_of history) (payload_of payload))) (sym journal) idle
 
     pub no_room : {A : Type 0} (r : Result A Refused) → r ≡ Err JournalFull → IsFull old.journal payload → KeepingOne {D = D} {A = A} told header old history payload old r
-    pub no_memory : {A : Type 0} (new : Venus D) (r : Result A Refused) → r ≡ Err Memory → new.journal ≡ old.journal → new.down ≡ false → IsClient (state_of header history) new.client → KeepingOne {D = D} {A = A} told header old history payload new r
-
     no_room {A = A} r is full = subst (KeepingOne {D = D} {A = A} told header old history payload old) (sym is) (record { any_moment = idle; answers = (full, still old refl up.up up.state) })
+
+    pub no_memory : {A : Type 0} (new : Venus D) (r : Result A Refused) → r ≡ Err Memory → new.journal ≡ old.journal → new.down ≡ false → IsClient (state_of header history) new.client → KeepingOne {D = D} {A = A} told header old history payload new r
     no_memory {A = A} new r is journal running client = subst (KeepingOne {D = D} {A = A} told header old history payload new) (sym is) (record { any_moment = stays new journal; answers = still new journal running client })
 
 -- the same of a call that answers something else

@@ -11,3 +11,4 @@ pub mod Growing
 pub mod Keepings
 pub mod Standings
 pub mod Folds
+pub mod OneLog

@@ -74,13 +74,19 @@ fn client(alloc: Global, frozen: bool) -> Result<Venus<MemDisk>, Fail>
 #[test]
 fn chunks_go_once(rt: HostRuntime) -> Result<(), Fail> {
     let mut venus = client(rt.alloc(), false)?;
-    assert_eq!(rt; venus.settle(7, 1, &Verdict::Applied), Err(Refused::NotFrozen(1)));
+    assert_eq!(rt;
+        venus.settle(7, 1, &Verdict::Applied),
+        Err(Refused::NotFrozen(1))
+    );
     assert_eq!(rt; venus.freeze(7, 2, 6, 2), Err(Refused::Young(1, 2)));
     assert_eq!(rt; venus.freeze(8, 2, 6, 2), Err(Refused::Nothing));
     assert_eq!(rt; venus.freeze(7, 2, 7, 2)?, 1);
     assert_eq!(rt; venus.chunk(7).len(), 1);
     assert_eq!(rt; venus.freeze(7, 2, 7, 2), Err(Refused::Frozen(1, 2)));
-    assert_eq!(rt; venus.settle(7, 2, &Verdict::Applied), Err(Refused::WrongNumber(1, 2)));
+    assert_eq!(rt;
+        venus.settle(7, 2, &Verdict::Applied),
+        Err(Refused::WrongNumber(1, 2))
+    );
     venus.settle(7, 1, &Verdict::Applied)?;
     assert_eq!(rt; venus.chunk(7).len(), 0);
     assert_eq!(rt; venus.freeze(7, 2, 9, 0), Err(Refused::Nothing));

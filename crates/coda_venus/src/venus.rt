@@ -162,13 +162,7 @@ impl<D: Disk> Venus<D> {
     /// `Down` exactly where the client is down. Else the first of these that applies, which change nothing: the log's refusals
     /// `Frozen`, `Nothing`, `Young`; `JournalFull` where 2^32 - 1 chunks were frozen, or where the journal has no room for the
     /// freeze; and `Memory`. Or `DiskFault`, after which the client is down.
-    pub fn freeze(
-        &mut self,
-        volume: u32,
-        home: u8,
-        now: u64,
-        window: u64,
-    ) -> Result<u64, Refused>
+    pub fn freeze(&mut self, volume: u32, home: u8, now: u64, window: u64) -> Result<u64, Refused>
         requires volume { HasSpelling a_volume volume }
         requires home { HasSpelling a_server home }
         ensures keeps { (header : AskedHeader) (history : List Payload) → IsUp D.told header self.old history
