@@ -72,6 +72,7 @@ fn client(alloc: Global, frozen: bool) -> Result<Venus<MemDisk>, Fail>
 
 // The operation goes in a chunk, which is lent and settled; else each call is refused for its cause.
 #[test]
+#[tactic(auto, unfolding(coda_record::specs::Table::verdict))]
 fn chunks_go_once(rt: HostRuntime) -> Result<(), Fail> {
     let mut venus = client(rt.alloc(), false)?;
     assert_eq!(rt;
@@ -95,6 +96,7 @@ fn chunks_go_once(rt: HostRuntime) -> Result<(), Fail> {
 
 // What the journal says of it: a freeze of chunk 1 for server 2 up to operation 1, and that it was applied.
 #[test]
+#[tactic(auto, unfolding(coda_record::specs::Table::verdict))]
 fn chunks_are_kept(rt: HostRuntime) -> Result<(), Fail> {
     let alloc = rt.alloc();
     let mut venus = client(alloc, true)?;
@@ -114,6 +116,7 @@ fn chunks_are_kept(rt: HostRuntime) -> Result<(), Fail> {
 type Fate = (bool, bool, bool, usize);
 
 // The fate of a freeze, or of the settlement of what was frozen before, where so many calls of the disk pass.
+#[tactic(auto, unfolding(coda_record::specs::Table::verdict))]
 fn fate(alloc: Global, settles: bool, passes: u64, choice: u64) -> Result<Fate, Fail> {
     let mut venus = client(alloc, settles)?;
     venus.arm(passes);
@@ -122,8 +125,8 @@ fn fate(alloc: Global, settles: bool, passes: u64, choice: u64) -> Result<Fate, 
     } else {
         venus.freeze(7, 2, 7, 2).is_ok()
     };
-    let frozen = venus.freeze(7, 2, 7, 2) == Err(Refused::Down);
-    let settled = venus.settle(7, 1, &Verdict::Applied) == Err(Refused::Down);
+    let frozen = venus.freeze(8, 2, 7, 2) == Err(Refused::Down);
+    let settled = venus.settle(8, 1, &Verdict::Applied) == Err(Refused::Down);
     let down = venus.is_down();
     let (_, payloads) = mounted(alloc, venus.down().image(choice)?)?;
     Ok((done, down, frozen && settled, payloads.len()))
