@@ -1,11 +1,13 @@
 -- What a client's volume comes to, from what the calls of its log leave.
-use Rattle.std.proofs.Common.{◌≡◌, ◌≢◌, ◌↔◌, ℕ, ◌+◌, Option, Some, None, refl, sym, ap, ◌∙◌}
-use Rattle.std.specs.Prelude.{Result, Err}
+use Rattle.std.proofs.Common.{◌≡◌, ◌≢◌, ◌↔◌, ℕ, ◌+◌, List, [], Option, Some, None, refl, sym, ap, ◌∙◌}
+use Rattle.std.specs.Prelude.{Result, Ok, Err}
 use Rattle.std.proofs.lemmas.Option.{none-some}
 use Rattle.coda_cml.specs.Chunks.{chunk_length, freeze_refusal}
 use Rattle.coda_cml.specs.Partition.{ArePartedBy}
 use Rattle.coda_cml.specs.State.{LogState}
 use Rattle.coda_cml.specs.Steps.{frozen_at, frozen_to}
+use Rattle.coda_fid.specs.declared.op.Record.{Record}
+use Rattle.coda_cml.specs.declared.frozen.Frozen.{Frozen as Chunk}
 use Rattle.coda_cml.specs.declared.fault.FreezeFault.{FreezeFault}
 use Rattle.coda_cml.specs.declared.fault.FreezeFault.TheVariants.{Frozen, Nothing, Young, Memory}
 use Rattle.coda_cml.proofs.segments.FrozenFronts.{may_go}
@@ -37,3 +39,16 @@ only_memory o (Frozen number home) none causes = absurd (none-some (Frozen numbe
 only_memory o Nothing none causes = absurd (none-some Nothing (sym none ∙ (causes Nothing (λ h. cc)).0 refl))
 only_memory o (Young age window) none causes = absurd (none-some (Young age window) (sym none ∙ (causes (Young age window) (λ h. cc)).0 refl))
 only_memory o Memory none causes = refl
+
+-- what is given up isn't frozen, and has a record
+pub given : {T : Type 0} (frozen : Option Chunk) (recs : List Record) (x : T)
+    → ((number home : ℕ) → (let ok : T → Result T FreezeFault = λ z. Ok z in ok x ≡ Err (Frozen number home)) ↔ (frozen ≡ Some (record { number = number; home = home })))
+    → ((let ok : T → Result T FreezeFault = λ z. Ok z in ok x ≡ Err Nothing) ↔ ((frozen ≡ None) × (recs ≡ []))) → (frozen ≡ None) × (recs ≢ [])
+given {T = T} None recs x there nothing = (refl, λ e. absurd (not_both (nothing.1 (refl, e))))
+  where
+    not_both : (let ok : T → Result T FreezeFault = λ z. Ok z in ok x ≡ Err Nothing) → ⊥
+    not_both e = cc
+given {T = T} (Some chunk) recs x there nothing = absurd (not_both ((there chunk.number chunk.home).1 refl))
+  where
+    not_both : (let ok : T → Result T FreezeFault = λ z. Ok z in ok x ≡ Err (Frozen chunk.number chunk.home)) → ⊥
+    not_both e = cc

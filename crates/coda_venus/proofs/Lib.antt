@@ -12,3 +12,4 @@ pub mod Keepings
 pub mod Standings
 pub mod Folds
 pub mod OneLog
+pub mod Times

@@ -2,6 +2,7 @@ pub mod Ask
 pub mod Held
 pub mod Looking
 pub mod State
+pub mod Times
 pub mod Accepting
 pub mod History
 pub mod Code

@@ -1,8 +1,10 @@
-// How far the next chunk of a log goes. The log chooses it so when it freezes; here it is told before.
+// How far the next chunk of a log goes. The log chooses it so when it freezes; here it is told before, and found again.
 ghost use Rattle.std.specs.Prelude.{◌≡◌, ◌≤◌, length, take};
 ghost use Rattle.coda_cml.specs.Chunks.{age, is_old, old_front, first_filled, chunk_length};
 ghost use Rattle.coda_cml.specs.Segments.{end_of};
 ghost use Rattle.coda_venus.specs.History.{last_to_go};
+ghost use Rattle.coda_venus.specs.State.{ended_by};
+ghost use Rattle.coda_venus.specs.Times.{newest_in, time_of};
 
 use coda_cml::Segment;
 
@@ -72,4 +74,44 @@ pub fn last_to_go(segments: &[Segment], now: u64, window: u64) -> u64
     let old = old_front(segments, now, window, MOST_TOGETHER);
     let length = old.max(first_filled(segments));
     end_of(&segments[..length])
+}
+
+// How many segments in front end by a number.
+fn ended_by(segments: &[Segment], number: u64) -> usize
+    ensures count { result ≡ ended_by number segments.now }
+    ensures within { result ≤ length segments.now }
+{
+    let mut taken = 0;
+    for segment in segments {
+        if segment.last > number {
+            return taken;
+        }
+        taken += 1;
+    }
+    taken
+}
+
+// The time of the newest operation of the segments with records; 0 where there is none.
+fn newest_in(segments: &[Segment]) -> u64
+    ensures { result ≡ newest_in segments.now }
+{
+    let mut newest = 0;
+    for segment in segments {
+        if segment.count != 0 {
+            newest = segment.newest.max(newest);
+        }
+    }
+    newest
+}
+
+/// A time and a window by which what ends by an operation goes, and nothing behind it that is newer.
+pub fn time_of(segments: &[Segment], last: u64) -> (u64, u64)
+    ensures { result ≡ time_of last segments.now }
+{
+    let newest = newest_in(&segments[..ended_by(segments, last)]);
+    if newest < newest_in(segments) {
+        (newest + 1, 1)
+    } else {
+        (0, 0)
+    }
 }

@@ -152,3 +152,27 @@ fn calls_are_whole(rt: HostRuntime) -> Result<(), Fail> {
     }
     Ok(())
 }
+
+// What a recovery takes up, of a log with operation 1: of freezes only that of chunk 1 up to it, then the verdict on that, and
+// else that the log was given up.
+#[test]
+fn entries_are_taken_up(rt: HostRuntime) -> Result<(), Fail> {
+    let alloc = rt.alloc();
+    let mut client = client(alloc, false)?.client;
+    for (number, last) in [(2, 1), (1, 0), (1, 2)] {
+        assert_eq!(rt; client.enter_freeze(7, number, 2, last), Err(Unfit::Misfit));
+    }
+    assert_eq!(rt;
+        client.enter_settled(7, 1, &Verdict::Applied),
+        Err(Unfit::Misfit)
+    );
+    client.enter_freeze(7, 1, 2, 1)?;
+    assert_eq!(rt; client.enter_freeze(7, 2, 2, 1), Err(Unfit::Misfit));
+    assert_eq!(rt; client.enter_giveup(7), Err(Unfit::Misfit));
+    client.enter_settled(7, 1, &Verdict::Applied)?;
+    assert_eq!(rt; client.enter_giveup(7), Err(Unfit::Misfit));
+    client.logs.insert(7, log(alloc)?)?;
+    client.enter_giveup(7)?;
+    assert_eq!(rt; client.enter_giveup(7), Err(Unfit::Misfit));
+    Ok(())
+}

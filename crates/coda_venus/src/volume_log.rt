@@ -1,6 +1,6 @@
 // What a client has of a volume.
 use crate::ask::created_by;
-use crate::fronts::{MOST_TOGETHER, last_to_go};
+use crate::fronts::{MOST_TOGETHER, last_to_go, time_of};
 use crate::refused::{Refused, refused_as};
 use coda_certify::Verdict;
 use coda_cml::{Log, SettleFault};
@@ -23,16 +23,16 @@ const MOST_OPERATIONS: u64 = 4_294_967_295;
 const MOST_CHUNKS: u64 = 4_294_967_295;
 
 impl VolumeLog {
-    ghost use Rattle.std.specs.Prelude.{◌≡◌, ◌≢◌, ◌↔◌, ◌⊎◌, ◌<◌, ◌+◌, ◌++◌, false, OnOk, OnErr, IfErr, IfSome, Err, Some, option_map};
+    ghost use Rattle.std.specs.Prelude.{◌≡◌, ◌≢◌, ◌↔◌, ◌⊎◌, ◌<◌, ◌+◌, ◌++◌, false, OnOk, OnErr, IfOk, IfErr, IfSome, IsOk, Ok, Err, Some, None, [], option_map};
     ghost use Rattle.coda_cancel.specs.Cancel.{add};
     ghost use Rattle.coda_cancel.specs.Weights.{fits};
     ghost use Rattle.coda_venus.specs.State.{ClientVolume, new_volume, volume_after};
     ghost use Rattle.coda_venus.specs.Code.{IsVolumeLog, MayPush};
     ghost use Rattle.coda_venus.specs.Code.{has_room, is_full};
-    ghost use Rattle.coda_plain.specs.Deeds.{Operated, Froze, Settled as SettledDeed};
+    ghost use Rattle.coda_plain.specs.Deeds.{Operated, Froze, Settled as SettledDeed, Gaveup};
     ghost use Rattle.coda_cml.specs.Partition.{ArePartedBy};
     ghost use Rattle.coda_cml.specs.Steps.{settle_refusal};
-    ghost use Rattle.coda_venus.specs.History.{last_to_go};
+    ghost use Rattle.coda_venus.specs.History.{last_to_go, MayFreeze};
     ghost use Rattle.coda_venus.specs.Keeping.{unsettled_as, next_chunk, IsOwn};
 
     /// The log of a volume on which nothing was done.
@@ -116,6 +116,21 @@ impl VolumeLog {
         }
     }
 
+    /// A time and a window by which the next chunk is this one, where there are any.
+    pub fn time_of(&self, number: u64, last: u64) -> Option<(u64, u64)>
+        ensures found { IfSome result (λ t. next_chunk self.now.log t.0 t.1 ≡ Ok (number, last)) }
+        ensures none { result ≡ None → ¬ MayFreeze self.now.log number last }
+    {
+        let (_, segments) = self.log.segments();
+        let (now, window) = time_of(segments, last);
+        let found = self.next_chunk(now, window);
+        if found == Ok((number, last)) {
+            Some((now, window))
+        } else {
+            None
+        }
+    }
+
     /// Why the verdict on the chunk of a number isn't taken: `NotFrozen` or `WrongNumber`.
     pub fn unsettled(&self, number: u64) -> Option<Refused>
         ensures cause { result ≡ option_map unsettled_as (settle_refusal self.now.log.frozen number) }
@@ -146,6 +161,24 @@ impl VolumeLog {
         match self.log.settle(number, verdict) {
             Ok(()) => Ok(()),
             Err(why) => Err(why),
+        }
+    }
+
+    /// Hands out the records, where none is frozen, and empties the log. Takes no memory.
+    ///
+    /// # Errors
+    ///
+    /// The log's refusals: `Frozen`, `Nothing`. An error leaves all as it was.
+    pub fn giveup(&mut self) -> Result<Vec<Record>, Refused>
+        ensures may { OnOk result ((self.old.log.frozen ≡ None) × (self.old.log.records ≢ [])) }
+        ensures must { self.old.log.frozen ≡ None → self.old.log.records ≢ [] → IsOk result }
+        ensures given_up { (v : ClientVolume) → IsVolumeLog v self.old → OnOk result (IsVolumeLog (volume_after v Gaveup) self.new) }
+        ensures records { IfOk result (λ recs. recs.items ≡ self.old.log.records) }
+        ensures err { OnErr result (self.new ≡ self.old) }
+    {
+        match self.log.giveup() {
+            Ok(recs) => Ok(recs),
+            Err(why) => Err(refused_as(why)),
         }
     }
 }
