@@ -1,5 +1,5 @@
 // Chunks of a client's logs.
-ghost use Rattle.std.specs.Prelude.{◌≡◌, ◌⊎◌, ◌+◌, OnOk, OnErr, IfErr, IfSome, option_map, Some};
+ghost use Rattle.std.specs.Prelude.{◌≡◌, ◌⊎◌, ◌+◌, OnOk, OnErr, IfErr, IfSome, IsOk, option_map, Some, None};
 ghost use Rattle.std.specs.Prelude.{Err};
 ghost use Rattle.coda_cml.specs.Steps.{settle_refusal};
 ghost use Rattle.coda_record.specs.declared.entry.ClientEntry.TheVariants.{Freeze as FreezeEntry, Settled as SettledEntry};
@@ -36,6 +36,7 @@ impl Client {
     /// As `next_chunk`, and `Memory`; then all is as it was.
     pub fn freeze(&mut self, volume: u32, home: u8, now: u64, window: u64) -> Result<(), Refused>
         ensures frozen { (c : ClientState) → IsClient c self.old → OnOk result (IsClient (client_after c (FreezeEntry volume ((c.volumes volume).log.chunks + 1) home (last_to_go now window (c.volumes volume).log.segments))) self.new) }
+        ensures only { (c : ClientState) → IsClient c self.old → OnOk result (IsOk (next_chunk (c.volumes volume).log now window)) }
         ensures refused { (c : ClientState) → IsClient c self.old → IfErr result (λ why. (why ≡ Refused.Memory) ⊎ (next_chunk (c.volumes volume).log now window ≡ Err why)) }
         ensures err { (c : ClientState) → IsClient c self.old → OnErr result (IsClient c self.new) }
         ensures own { IfErr result IsOwn }
@@ -67,6 +68,7 @@ impl Client {
     /// `NotFrozen` exactly where none is frozen, `WrongNumber` exactly where another one is, and `Memory`; then all is as it was.
     pub fn settle(&mut self, volume: u32, number: u64, verdict: &Verdict) -> Result<(), Refused>
         ensures settled { (c : ClientState) → IsClient c self.old → OnOk result (IsClient (client_after c (SettledEntry volume number verdict.now)) self.new) }
+        ensures only { (c : ClientState) → IsClient c self.old → OnOk result (settle_refusal (c.volumes volume).log.frozen number ≡ None) }
         ensures refused { (c : ClientState) → IsClient c self.old → IfErr result (λ why. (why ≡ Refused.Memory) ⊎ (option_map unsettled_as (settle_refusal (c.volumes volume).log.frozen number) ≡ Some why)) }
         ensures err { (c : ClientState) → IsClient c self.old → OnErr result (IsClient c self.new) }
         ensures own { IfErr result IsOwn }

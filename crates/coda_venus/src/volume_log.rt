@@ -105,6 +105,7 @@ impl VolumeLog {
     /// As `next_chunk`, and `Memory`. An error leaves all as it was.
     pub fn freeze(&mut self, home: u8, now: u64, window: u64) -> Result<(), Refused>
         ensures frozen { (v : ClientVolume) → IsVolumeLog v self.old → OnOk result (IsVolumeLog (volume_after v (Froze (v.log.chunks + 1) home (last_to_go now window v.log.segments))) self.new) }
+        ensures only { OnOk result (IsOk (next_chunk self.old.log now window)) }
         ensures refused { IfErr result (λ why. (why ≡ Refused.Memory) ⊎ (next_chunk self.old.log now window ≡ Err why)) }
         ensures own { IfErr result IsOwn }
         ensures err { OnErr result (self.new ≡ self.old) }
@@ -155,6 +156,7 @@ impl VolumeLog {
     /// The log's refusals: `NotFrozen`, `WrongNumber`. An error leaves all as it was.
     pub fn settle(&mut self, number: u64, verdict: &Verdict) -> Result<(), SettleFault>
         ensures causes { (why : SettleFault) → why ≢ SettleFault.Memory → ((result ≡ Err why) ↔ (settle_refusal self.old.log.frozen number ≡ Some why)) }
+        ensures only { OnOk result (settle_refusal self.old.log.frozen number ≡ None) }
         ensures settled { (v : ClientVolume) → IsVolumeLog v self.old → OnOk result (IsVolumeLog (volume_after v (SettledDeed number verdict.now)) self.new) }
         ensures err { OnErr result (self.new ≡ self.old) }
     {
