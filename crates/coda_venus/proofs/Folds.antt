@@ -1,8 +1,7 @@
 -- While what is pending is a steady run, a log is what cancellation leaves of it.
-use Rattle.std.proofs.Common.{◌≡◌, ℕ, ◌+◌, List, [], ◌∷◌, ◌++◌, Option, Some, None, refl, sym, ap, ◌∙◌, subst}
+use Rattle.std.proofs.Common.{◌≡◌, ℕ, List, [], ◌++◌, Option, Some, None, refl, sym, ap, ◌∙◌, subst}
 use Rattle.coda_fid.specs.declared.op.Record.{Record}
 use Rattle.coda_cancel.specs.Cancel.{fold}
-use Rattle.coda_cancel.specs.Numbers.{IsRising}
 use Rattle.coda_certify.specs.declared.verdict.Verdict.TheVariants.{Applied, Conflict}
 use Rattle.coda_cml.specs.Chunks.{chunk_length, freeze_refusal}
 use Rattle.coda_cml.specs.Fronts.{chunk_end}

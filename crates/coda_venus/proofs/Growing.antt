@@ -1,6 +1,6 @@
 -- Histories with one payload more.
-use Rattle.std.proofs.Common.{◌≡◌, ℕ, ◌+◌, ◌<◌, ◌≤◌, Bool, true, false, List, [], ◌∷◌, ◌++◌, Option, Some, None, Result, Ok, Err, refl, sym, ap, ◌∙◌, subst, inl, inr, arith}
-use Rattle.std.specs.Prelude.{nat_le, if◌then◌else◌, ◌==◌}
+use Rattle.std.proofs.Common.{◌≡◌, ℕ, ◌+◌, ◌≤◌, Bool, true, false, List, [], ◌∷◌, ◌++◌, Option, Some, None, Result, Ok, Err, refl, sym, ap, ◌∙◌, subst, inl, inr, arith}
+use Rattle.std.specs.Prelude.{nat_le, if◌then◌else◌}
 use Rattle.std.proofs.lemmas.List.{map-append}
 use Rattle.std.proofs.lemmas.Bool.{cases_eq, ne_eqb, leb-false}
 use Rattle.coda_certify.specs.declared.verdict.Verdict.{Verdict}
@@ -21,13 +21,12 @@ use Rattle.coda_record.specs.Spelling.{HasSpelling}
 use Rattle.coda_record.specs.Table as table
 use Rattle.coda_record.specs.declared.entry.ClientEntry.TheVariants.{Freeze, Settled}
 use Rattle.coda_spelling.proofs.SpelledParts.{both_true, within}
-use Rattle.coda_venus.specs.State.{ClientState}
-use Rattle.coda_venus.specs.History.{Payload, payload_of, payloads_of, state_of, last_to_go, MayFreeze, IsFrozen, MayFollow, IsHistory}
+use Rattle.coda_venus.specs.History.{Payload, payload_of, payloads_of, state_of, last_to_go, IsFrozen, MayFollow, IsHistory}
 use Rattle.coda_venus.specs.Keeping.{chunk_by, next_chunk}
 use Rattle.coda_venus.specs.declared.refused.Refused.{Refused}
 use Rattle.coda_venus.specs.declared.refused.Refused.TheVariants.{JournalFull}
 use Rattle.coda_venus.proofs.Ends.{end_upto, end_above}
-use Rattle.coda_venus.proofs.KeptLogs.{IsLogKept, IsNumbered, logs_kept}
+use Rattle.coda_venus.proofs.KeptLogs.{IsNumbered, logs_kept}
 use Rattle.coda_venus.proofs.Ends.{begin_behind}
 
 pub payloads_push : (history : List Payload) (payload : Payload) → payloads_of (history ++ payload ∷ []) ≡ payloads_of history ++ payload_of payload ∷ []

@@ -1,6 +1,6 @@
 -- What a call leaves that is to keep one payload.
-use Rattle.std.proofs.Common.{◌≡◌, ℕ, ◌<◌, true, false, List, [], ◌∷◌, ◌++◌, refl, sym, subst, inl}
-use Rattle.std.specs.Prelude.{Option, Some, None, Result, Ok, Err, IfErr}
+use Rattle.std.proofs.Common.{◌≡◌, ℕ, false, List, [], ◌∷◌, ◌++◌, refl, sym, subst, inl}
+use Rattle.std.specs.Prelude.{Option, Result, Ok, Err, IfErr}
 use Rattle.coda_disk.specs.Told.{Told, LeavesOnly}
 use Rattle.coda_journal.specs.Image.{Reads}
 use Rattle.coda_journal.specs.Journal.{IsJournal, IsBeforeOrAfter}
@@ -10,7 +10,7 @@ use Rattle.coda_journal.proofs.Moments.{started}
 use Rattle.coda_venus.specs.State.{ClientState, client_after_all}
 use Rattle.coda_venus.specs.History.{Payload, payload_of, payloads_of, state_of, MayFollow}
 use Rattle.coda_venus.specs.Code.{IsClient}
-use Rattle.coda_venus.specs.Standing.{IsUp, StandsFor}
+use Rattle.coda_venus.specs.Standing.{IsUp}
 use Rattle.coda_venus.specs.Appending.{Writing}
 use Rattle.coda_venus.specs.Keeping.{IsFull, IsStill, refusal_in, KeepsOne, KeepingOne}
 use Rattle.coda_venus.specs.declared.refused.Refused.{Refused}

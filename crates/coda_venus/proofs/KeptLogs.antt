@@ -1,5 +1,5 @@
 -- What a lawful history leaves of a client's logs.
-use Rattle.std.proofs.Common.{◌≡◌, ℕ, ◌+◌, ◌<◌, ◌≤◌, ◌==◌, if◌then◌else◌, true, false, List, [], ◌∷◌, ◌++◌, take, drop, length, Option, Some, None, refl, sym, ap, ◌∙◌, subst, inl, inr, arith}
+use Rattle.std.proofs.Common.{◌≡◌, ℕ, ◌+◌, ◌<◌, ◌≤◌, if◌then◌else◌, List, [], ◌∷◌, ◌++◌, take, drop, length, Option, Some, None, refl, sym, ap, ◌∙◌, subst, inl, inr, arith}
 use Rattle.std.proofs.lemmas.Bool.{eq-eqb, ne_eqb, cases_eq}
 use Rattle.std.proofs.lemmas.List.{take-append-drop}
 use Rattle.std.proofs.lemmas.Option.{none-some}
@@ -11,12 +11,12 @@ use Rattle.coda_cancel.proofs.Rising.{rising_add, rising_behind}
 use Rattle.coda_cancel.proofs.Turns.{rising_added}
 use Rattle.coda_certify.specs.declared.verdict.Verdict.{Verdict}
 use Rattle.coda_certify.specs.declared.verdict.Verdict.TheVariants.{Applied, Conflict}
-use Rattle.coda_cml.specs.Chunks.{chunk_length, freeze_refusal}
-use Rattle.coda_cml.specs.Partition.{BeginAbove, AreInTurn, ArePartsOf}
+use Rattle.coda_cml.specs.Chunks.{chunk_length}
+use Rattle.coda_cml.specs.Partition.{BeginAbove, ArePartsOf}
 use Rattle.coda_cml.specs.Regrouping.{is_inside}
-use Rattle.coda_cml.specs.Segments.{single, end_of}
+use Rattle.coda_cml.specs.Segments.{single}
 use Rattle.coda_cml.specs.State.{LogState, empty_log}
-use Rattle.coda_cml.specs.Steps.{appended_to, frozen_at, applied_to, thawed, settled, given_up, records_in}
+use Rattle.coda_cml.specs.Steps.{appended_to, frozen_at, settled, given_up, records_in}
 use Rattle.coda_cml.specs.declared.frozen.Frozen.{Frozen}
 use Rattle.coda_cml.specs.declared.segment.Segment.{Segment}
 use Rattle.coda_cml.proofs.runs.FrontFolds.{up_added}
@@ -25,12 +25,11 @@ use Rattle.coda_cml.proofs.segments.LogSteps.{below_later, upto_front, upto_back
 use Rattle.coda_cml.proofs.segments.PartedRecords.{begin_regrouped, turn_behind}
 use Rattle.coda_cml.proofs.segments.PartsKept.{parts_are, append_keeps, cut_keeps, thaw_keeps, apply_keeps, none_keeps}
 use Rattle.coda_journal.specs.declared.header.Header.{Header}
-use Rattle.coda_plain.specs.Histories.{left_by}
 use Rattle.coda_plain.proofs.Lists.{left_push, along}
 use Rattle.coda_record.specs.declared.entry.ClientEntry.{ClientEntry}
 use Rattle.coda_record.specs.declared.entry.ClientEntry.TheVariants.{Op, Freeze, Settled, Giveup, Fetched, Dropped}
-use Rattle.coda_venus.specs.State.{ClientVolume, ClientState, put, new_client, ended_by, volume_after, client_after, client_after_all}
-use Rattle.coda_venus.specs.History.{Payload, state_of, IsFrozen, MayOperate, MayFreeze, MayEnter, MayEnterAll, MayFollow, IsHistory}
+use Rattle.coda_venus.specs.State.{ClientVolume, ClientState, put, new_client, ended_by, client_after, client_after_all}
+use Rattle.coda_venus.specs.History.{Payload, state_of, MayFreeze, MayEnter, MayEnterAll, MayFollow, IsHistory}
 use Rattle.coda_venus.proofs.Ends.{begin_both, begin_front, begin_behind, ended_front, chunk_within}
 
 -- a chunk has a number from 1 on

@@ -1,5 +1,5 @@
 -- Disks on which clients with one header alone wrote.
-use Rattle.std.proofs.Common.{◌≡◌, ℕ, List, [], ◌∷◌, ◌++◌, inl, inr, sym, subst}
+use Rattle.std.proofs.Common.{ℕ, List, [], ◌∷◌, ◌++◌, inl, inr, sym, subst}
 use Rattle.std.specs.Prelude.{Some}
 use Rattle.coda_disk.specs.Told.{Told}
 use Rattle.coda_disk.specs.Bays.{Crashed}

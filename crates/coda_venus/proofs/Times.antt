@@ -1,14 +1,13 @@
 -- A freeze that may follow is found again.
-use Rattle.std.proofs.Common.{◌≡◌, ℕ, zero, suc, ◌+◌, ◌-◌, ◌<◌, ◌≤◌, ◌≢◌, ◌==◌, ◌||◌, Bool, true, false, not, List, [], ◌∷◌, take, length, Option, Some, None, refl, sym, ap, ◌∙◌, subst, inl, inr, arith}
-use Rattle.std.specs.Prelude.{nat_le, nat_lt, max, if◌then◌else◌, Result, Ok, Err}
+use Rattle.std.proofs.Common.{◌≡◌, ℕ, zero, suc, ◌+◌, ◌-◌, ◌≤◌, ◌≢◌, ◌==◌, ◌||◌, Bool, true, false, not, List, [], ◌∷◌, take, length, Option, Some, None, refl, sym, ap, ◌∙◌, subst, inl, inr, arith}
+use Rattle.std.specs.Prelude.{nat_le, nat_lt, if◌then◌else◌, Result, Ok, Err}
 use Rattle.std.specs.List.{find}
 use Rattle.std.proofs.Math.Dec.{leb-zero}
-use Rattle.std.proofs.lemmas.Bool.{le-leb, leb-true, lt-leb, ltb-true, ltb-false, cases_Bool, false≢true, eqb-true}
+use Rattle.std.proofs.lemmas.Bool.{le-leb, leb-true, lt-leb, ltb-false}
 use Rattle.std.proofs.lemmas.Option.{none-some}
-use Rattle.coda_fid.specs.declared.op.Record.{Record}
 use Rattle.coda_cml.specs.Chunks.{is_filled, age, is_old, first_filled, chunk_length, too_young, freeze_refusal}
-use Rattle.coda_cml.specs.Longest.{AreOld, total, MayGo, IsChunk}
-use Rattle.coda_cml.specs.Partition.{AreInTurn, ArePartedBy}
+use Rattle.coda_cml.specs.Longest.{AreOld, IsChunk}
+use Rattle.coda_cml.specs.Partition.{ArePartedBy}
 use Rattle.coda_cml.specs.Segments.{end_of}
 use Rattle.coda_cml.specs.State.{LogState}
 use Rattle.coda_cml.specs.declared.frozen.Frozen.{Frozen}

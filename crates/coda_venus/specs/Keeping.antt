@@ -29,7 +29,7 @@ use Rattle.coda_venus.specs.State.{ClientState}
 use Rattle.coda_venus.specs.History.{Payload, payload_of, payloads_of, last_to_go}
 use Rattle.coda_venus.specs.Standing.{IsUp, StandsFor}
 use Rattle.coda_venus.specs.declared.refused.Refused.{Refused}
-use Rattle.coda_venus.specs.declared.refused.Refused.TheVariants.{Down, NotFound, NotDir, IsDir, Need, JournalFull, DiskFault, Frozen, Nothing, Young, NotFrozen, WrongNumber, Memory}
+use Rattle.coda_venus.specs.declared.refused.Refused.TheVariants.{Down, NotDir, IsDir, Need, JournalFull, DiskFault, Frozen, Nothing, Young, NotFrozen, WrongNumber, Memory}
 use Rattle.coda_venus.specs.declared.seen.Seen.{Seen}
 use Rattle.coda_venus.specs.declared.venus.Venus.{Venus}
 

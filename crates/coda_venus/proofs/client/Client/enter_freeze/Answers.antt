@@ -1,4 +1,4 @@
-use Rattle.std.proofs.Common.{sym, subst, ◌≡◌, ◌+◌}
+use Rattle.std.proofs.Common.{sym, subst, ◌+◌}
 use Rattle.coda_record.specs.declared.entry.ClientEntry.TheVariants.{Freeze}
 use Rattle.coda_venus.specs.State.{client_after}
 use Rattle.coda_venus.specs.Code.{IsClient}

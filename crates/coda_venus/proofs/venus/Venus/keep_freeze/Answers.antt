@@ -1,8 +1,8 @@
-use Rattle.std.proofs.Common.{rules, refl, arith, ap, sym, subst, ◌∙◌, ◌≡◌, ◌+◌, ◌<◌, [], ◌∷◌, length, inl, inr}
+use Rattle.std.proofs.Common.{rules, refl, arith, ap, sym, subst, ◌∙◌, ◌≡◌, ◌+◌, [], ◌∷◌, length, inl, inr}
 use Rattle.std.specs.Prelude.{Err}
 use Rattle.coda_record.specs.declared.entry.ClientEntry.TheVariants.{Freeze}
-use Rattle.coda_venus.specs.State.{ClientState, client_after}
-use Rattle.coda_venus.specs.History.{Payload, payload_of, payloads_of, state_of, last_to_go}
+use Rattle.coda_venus.specs.State.{client_after}
+use Rattle.coda_venus.specs.History.{Payload, payload_of, payloads_of, state_of}
 use Rattle.coda_venus.specs.Code.{IsClient}
 use Rattle.coda_venus.specs.Keeping.{IsFull}
 use Rattle.coda_venus.specs.declared.client.Client.{Client}

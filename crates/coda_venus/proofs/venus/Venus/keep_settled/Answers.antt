@@ -1,4 +1,4 @@
-use Rattle.std.proofs.Common.{rules, refl, arith, ap, sym, subst, ◌∙◌, ◌≡◌, ◌+◌, ◌<◌, [], ◌∷◌, length, inl, inr}
+use Rattle.std.proofs.Common.{rules, refl, arith, ap, sym, subst, ◌∙◌, ◌≡◌, [], ◌∷◌, length, inl, inr}
 use Rattle.std.specs.Prelude.{Err, option_map}
 use Rattle.std.proofs.lemmas.Option.{none-some}
 use Rattle.coda_record.specs.declared.entry.ClientEntry.TheVariants.{Settled}

@@ -1,5 +1,5 @@
 use Rattle.std.proofs.Common.{inl, ap, sym, ◌∙◌}
-use Rattle.coda_cml.specs.Chunks.{chunk_length, freeze_refusal}
+use Rattle.coda_cml.specs.Chunks.{freeze_refusal}
 use Rattle.coda_venus.specs.Keeping.{refused_as}
 use Rattle.coda_venus.proofs.Chunked.{frozen_volume, only_memory}
 use Rattle.coda_venus.proofs.Growing.{next_is}
