@@ -1,16 +1,14 @@
 -- Nothing passes below a directory where nothing passes at all.
-use Rattle.std.proofs.Common.{◌≡◌, ℕ, zero, suc, ◌==◌, ◌||◌, ◌&&◌, not, Bool, true, false, List, [], ◌∷◌, Option, Some, None, refl, sym, ap, ◌∙◌, inl, inr}
+use Rattle.std.proofs.Common.{◌≡◌, ◌==◌, ◌||◌, ◌&&◌, not, Bool, true, false, List, [], ◌∷◌, Option, Some, refl, ap, ◌∙◌}
 use Rattle.std.specs.List.{list_any}
 use Rattle.std.specs.FinMap as map
 use Rattle.std.specs.FinMap.{FinMap}
 use Rattle.coda_fid.specs.Name.{name_cmp}
 use Rattle.coda_fid.specs.Fid.{same_fid}
 use Rattle.coda_fid.specs.declared.fid.Fid.{Fid}
-use Rattle.coda_fid.specs.declared.fid.Sid.{Sid}
 use Rattle.coda_fid.specs.declared.op.Op.TheVariants.{Rmdir as RmdirOp}
 use Rattle.coda_tree.specs.declared.node.Node.{Node}
-use Rattle.coda_tree.specs.declared.node.NodeKind.{NodeKind}
-use Rattle.coda_tree.specs.declared.node.NodeKind.TheVariants.{File, Link, Dir}
+use Rattle.coda_tree.specs.declared.node.NodeKind.TheVariants.{Dir}
 use Rattle.coda_tree.specs.Bindings.{Name}
 use Rattle.std.specs.Prelude.{Ok}
 use Rattle.coda_venus.specs.Held.{Held, some_below}

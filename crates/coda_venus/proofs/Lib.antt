@@ -1,5 +1,15 @@
 pub mod Endings
 pub mod ParentMap
 pub mod HeldBelow
+pub mod Ends
+pub mod KeptLogs
 pub mod Chunked
 pub mod Unsettled
+pub mod Keeps
+pub mod Appends
+pub mod Growing
+pub mod Keepings
+pub mod Standings
+pub mod Folds
+pub mod OneLog
+pub mod Times

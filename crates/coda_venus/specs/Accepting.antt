@@ -18,7 +18,7 @@ use Rattle.coda_cml.specs.Steady.{any_record}
 use Rattle.coda_venus.specs.Ask.{Asked, Create, Mkdir, Symlink, Store, Setattr, Remove, Rmdir, Rename, Ending, ending}
 use Rattle.coda_venus.specs.Held.{Held, is_below, some_below}
 use Rattle.coda_venus.specs.Looking.{then_find, held, step_from, resolve}
-use Rattle.coda_venus.specs.State.{ClientVolume, log_of, ClientState}
+use Rattle.coda_venus.specs.State.{ClientVolume, ClientState}
 use Rattle.coda_venus.specs.declared.refused.Refused.{Refused}
 use Rattle.coda_venus.specs.declared.refused.Refused.TheVariants.{NotDir, Exists, IsDir, NotEmpty, Loop, NotFile, Need, JournalFull}
 
@@ -32,7 +32,7 @@ pub record Sight : Type 0 where
 
 -- whether a record of a log mentions the object
 abbrev pub is_mentioned : ClientVolume → Fid → Bool
-is_mentioned v fid = any_record (mentioning fid) (log_of v).chunk || any_record (mentioning fid) (log_of v).records
+is_mentioned v fid = any_record (mentioning fid) v.log.chunk || any_record (mentioning fid) v.log.records
 
 abbrev pub sight_of : ClientState → ℕ → Sight
 sight_of c volume = record { number = c.number; held = c.held; creations = (c.volumes volume).creations; is_dirty = is_mentioned (c.volumes volume) }

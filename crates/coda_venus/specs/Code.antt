@@ -1,25 +1,24 @@
 -- What the parts of the code stand for.
-use Rattle.std.specs.Prelude.{◌≡◌, ◌<◌, ◌≤◌, ◌+◌, ℕ, Bool, true, false, nat_le, [], ◌∷◌, ◌++◌, Option, Some, None, ◌⊎◌}
+use Rattle.std.specs.Prelude.{◌≡◌, ◌<◌, ◌+◌, ℕ, Bool, true, false, nat_le, ◌++◌, Option, Some, None, ◌⊎◌}
 use Rattle.std.specs.BTreeMap as tree
 use Rattle.std.specs.Ordering.{nat_cmp}
 use Rattle.coda_fid.specs.declared.op.Record.{Record}
-use Rattle.coda_cancel.specs.Cancel.{add, fold}
+use Rattle.coda_cancel.specs.Cancel.{add}
 use Rattle.coda_cancel.specs.Weights.{fits}
 use Rattle.coda_plain.specs.Deeds.{created_by}
-use Rattle.coda_cml.specs.State.{IsLogOf}
 use Rattle.coda_venus.specs.Held.{Held}
-use Rattle.coda_venus.specs.State.{ClientVolume, new_volume, log_of, ClientState}
+use Rattle.coda_venus.specs.State.{ClientVolume, new_volume, ClientState}
 use Rattle.coda_venus.specs.Accepting.{Sight}
 use Rattle.coda_venus.specs.declared.client.Client.{Client}
 use Rattle.coda_venus.specs.declared.volume_log.VolumeLog.{VolumeLog}
 
 -- whether the log would keep within its limits with one operation more: 4,096 records, and 16 MiB
 abbrev pub has_room : ClientVolume → Record → Bool
-has_room v rec = fits 4096 16777216 (fold v.front ++ fold (v.back ++ rec ∷ []))
+has_room v rec = fits 4096 16777216 (v.log.chunk ++ add v.log.records rec)
 
 -- a client accepts at most 2^32 - 1 operations on a volume
 abbrev pub is_full : ClientVolume → Bool
-is_full v = nat_le 4294967295 v.operations
+is_full v = nat_le 4294967295 v.log.last
 
 -- how many objects a client created in a volume, where it did something there
 abbrev pub creations_in : Option VolumeLog → ℕ
@@ -28,10 +27,8 @@ creations_in (Some code) = code.creations
 
 -- a log with its count of creations is that of what a client has of a volume
 pub record IsVolumeLog (v : ClientVolume) (code : VolumeLog) : Type 0 where
-  pub runs : IsLogOf code.log v.front v.back
-  pub log : code.log ≡ log_of v
+  pub log : code.log ≡ v.log
   pub creations : code.creations ≡ v.creations
-  pub few : v.operations ≤ 4294967295
 
 -- the same where a client did something on the volume; else there is none
 abbrev pub IsLogAt : ClientVolume → Option VolumeLog → Type 0

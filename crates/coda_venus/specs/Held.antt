@@ -1,5 +1,5 @@
 -- What a client holds: nodes, and the directory that is the parent of each.
-use Rattle.std.specs.Prelude.{ℕ, suc, zero, Bool, false, ◌&&◌, ◌||◌, not, List, [], ◌∷◌, Option, Some, None, ◌≡◌}
+use Rattle.std.specs.Prelude.{ℕ, suc, zero, Bool, false, ◌&&◌, ◌||◌, not, List, Option, Some, None, ◌≡◌}
 use Rattle.std.specs.Option.{option_map_or}
 use Rattle.std.specs.List.{list_any}
 use Rattle.std.specs.FinMap as map

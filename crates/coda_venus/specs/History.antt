@@ -1,16 +1,17 @@
 -- What a client keeps in its journal: payloads, each of one entry or several, and which may follow.
-use Rattle.std.specs.Prelude.{◌≡◌, ◌≢◌, ◌⊎◌, ◌≤◌, ℕ, ◌+◌, Bool, true, false, ◌||◌, List, [], ◌∷◌, ◌++◌, Option, Some, None, IsSome, Ok, map}
+use Rattle.std.specs.Prelude.{◌≡◌, ◌≢◌, ◌⊎◌, ◌≤◌, ℕ, ◌+◌, true, List, [], ◌∷◌, ◌++◌, Option, Some, None, IsSome, Ok, map, take}
 use Rattle.std.specs.FinMap as finite
 use Rattle.coda_fid.specs.Fid.{root_of}
 use Rattle.coda_fid.specs.declared.fid.Fid.{Fid}
 use Rattle.coda_fid.specs.declared.op.Record.{Record}
 use Rattle.coda_tree.specs.Volume.{IsDirAt, child}
 use Rattle.coda_tree.specs.Bindings.{Name}
-use Rattle.coda_cancel.specs.Cancel.{add, fold}
+use Rattle.coda_cancel.specs.Cancel.{add}
 use Rattle.coda_cancel.specs.Weights.{fits}
-use Rattle.coda_cml.specs.Chunks.{freeze_refusal}
-use Rattle.coda_cml.specs.Segments.{segments_of}
-use Rattle.coda_cml.specs.Fronts.{chunk_end}
+use Rattle.coda_cml.specs.Chunks.{chunk_length, freeze_refusal}
+use Rattle.coda_cml.specs.Segments.{end_of}
+use Rattle.coda_cml.specs.State.{LogState}
+use Rattle.coda_cml.specs.declared.segment.Segment.{Segment}
 use Rattle.coda_cml.specs.declared.frozen.Frozen.{Frozen}
 use Rattle.coda_journal.specs.declared.header.Header.{Header}
 use Rattle.coda_plain.specs.Histories.{left_by, DoFollow}
@@ -21,7 +22,7 @@ use Rattle.coda_record.specs.declared.entry.ClientEntry.{ClientEntry}
 use Rattle.coda_record.specs.declared.entry.ClientEntry.TheVariants.{Op, Freeze, Settled, Giveup, Fetched, Dropped}
 use Rattle.coda_venus.specs.Ask.{Asked, too_big}
 use Rattle.coda_venus.specs.Held.{Held}
-use Rattle.coda_venus.specs.State.{ClientVolume, ClientState, new_client, log_of, client_after, client_after_all}
+use Rattle.coda_venus.specs.State.{ClientState, new_client, client_after, client_after_all}
 use Rattle.coda_venus.specs.Accepting.{is_mentioned, sight_of, accept}
 
 -- what a client writes at once: its entries in order
@@ -56,18 +57,22 @@ pub record MayOperate (c : ClientState) (volume : ℕ) (rec : Record) : Type 0 w
   pub ask : Asked
   pub small : too_big ask ≡ None
   pub accepted : accept (sight_of c volume) volume ask ≡ Ok rec.op
-  pub next : rec.number ≡ (c.volumes volume).operations + 1
+  pub next : rec.number ≡ (c.volumes volume).log.last + 1
   pub few : rec.number ≤ 4294967295
-  pub room : fits 4096 16777216 ((log_of (c.volumes volume)).chunk ++ add (log_of (c.volumes volume)).records rec) ≡ true
+  pub room : fits 4096 16777216 ((c.volumes volume).log.chunk ++ add (c.volumes volume).log.records rec) ≡ true
+
+-- the last operation that goes at a time by a window: 64 records at most, unless one segment alone has more
+abbrev pub last_to_go : ℕ → ℕ → List Segment → ℕ
+last_to_go now window segments = end_of (take (chunk_length now window 64 segments) segments)
 
 -- A freeze is that of the longest front that may go at some time, by some window, where none is frozen; it has the next number.
-pub record MayFreeze (v : ClientVolume) (number last : ℕ) : Type 0 where
+pub record MayFreeze (log : LogState) (number last : ℕ) : Type 0 where
   pub now : ℕ
   pub window : ℕ
-  pub goes : freeze_refusal v.frozen now window (segments_of v.back) ≡ None
-  pub next : number ≡ v.chunks + 1
+  pub goes : freeze_refusal log.frozen now window log.segments ≡ None
+  pub next : number ≡ log.chunks + 1
   pub few : number ≤ 4294967295
-  pub ends : last ≡ chunk_end now window 64 v.back
+  pub ends : last ≡ last_to_go now window log.segments
 
 -- the chunk of this number is frozen
 abbrev pub IsFrozen : Option Frozen → ℕ → Type 0
@@ -79,9 +84,9 @@ IsFrozen (Some chunk) number = chunk.number ≡ number
 -- and the dropping of one that is cached, isn't dirty and isn't the parent of another one.
 abbrev pub MayEnter : ClientState → ClientEntry → Type 0
 MayEnter c (Op volume rec) = MayOperate c volume rec
-MayEnter c (Freeze volume number home last) = MayFreeze (c.volumes volume) number last
-MayEnter c (Settled volume number verdict) = IsFrozen (c.volumes volume).frozen number
-MayEnter c (Giveup volume) = ((c.volumes volume).frozen ≡ None) × (fold (c.volumes volume).back ≢ [])
+MayEnter c (Freeze volume number home last) = MayFreeze (c.volumes volume).log number last
+MayEnter c (Settled volume number verdict) = IsFrozen (c.volumes volume).log.frozen number
+MayEnter c (Giveup volume) = ((c.volumes volume).log.frozen ≡ None) × ((c.volumes volume).log.records ≢ [])
 MayEnter c (Fetched fid parent node) = (¬ (IsSome (finite.get c.held.nodes fid) × IsDirty c fid)) × IsParent c.held fid parent
 MayEnter c (Dropped fid) = IsSome (finite.get c.held.nodes fid) × (¬ IsDirty c fid) × ((f : Fid) → finite.get c.held.parents f ≢ Some fid)
 

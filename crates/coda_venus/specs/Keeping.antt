@@ -1,5 +1,5 @@
 -- What the calls of a client answer, and what they keep.
-use Rattle.std.specs.Prelude.{◌≡◌, ◌⊎◌, option_map, ◌<◌, ◌+◌, ℕ, true, false, List, [], ◌∷◌, ◌++◌, length, Option, Some, None, Result, Ok, Err}
+use Rattle.std.specs.Prelude.{◌≡◌, option_map, ◌<◌, ◌+◌, ℕ, nat_le, if◌then◌else◌, Bool, true, List, [], ◌∷◌, ◌++◌, length, Option, Some, None, Result, Ok, Err}
 use Rattle.std.specs.Int.{w32}
 use Rattle.std.specs.FinMap as map
 use Rattle.coda_fid.specs.Fid.{root_of}
@@ -9,6 +9,9 @@ use Rattle.coda_tree.specs.declared.node.NodeKind.{NodeKind}
 use Rattle.coda_tree.specs.declared.node.NodeKind.TheVariants.{File, Link, Dir}
 use Rattle.coda_tree.specs.Bindings.{Name}
 use Rattle.coda_tree.specs.Volume.{Nodes}
+use Rattle.coda_certify.specs.declared.verdict.Verdict.{Verdict}
+use Rattle.coda_cml.specs.Chunks.{freeze_refusal}
+use Rattle.coda_cml.specs.State.{LogState}
 use Rattle.coda_cml.specs.declared.fault.FreezeFault.{FreezeFault}
 use Rattle.coda_cml.specs.declared.fault.FreezeFault.TheVariants as freezing
 use Rattle.coda_cml.specs.declared.fault.SettleFault.{SettleFault}
@@ -18,13 +21,15 @@ use Rattle.coda_journal.specs.Entries.{framed}
 use Rattle.coda_journal.specs.Journal.{IsBeforeOrAfter}
 use Rattle.coda_journal.specs.declared.header.Header.{Header}
 use Rattle.coda_journal.specs.declared.journal.Journal.{Journal}
+use Rattle.coda_record.specs.declared.entry.ClientEntry.{ClientEntry}
+use Rattle.coda_record.specs.declared.entry.ClientEntry.TheVariants.{Freeze, Settled}
 use Rattle.coda_cml.specs.Steps.{settle_refusal}
 use Rattle.coda_venus.specs.Looking.{then_find, resolve}
-use Rattle.coda_venus.specs.State.{ClientVolume}
-use Rattle.coda_venus.specs.History.{Payload, payload_of, payloads_of}
+use Rattle.coda_venus.specs.State.{ClientState}
+use Rattle.coda_venus.specs.History.{Payload, payload_of, payloads_of, last_to_go}
 use Rattle.coda_venus.specs.Standing.{IsUp, StandsFor}
 use Rattle.coda_venus.specs.declared.refused.Refused.{Refused}
-use Rattle.coda_venus.specs.declared.refused.Refused.TheVariants.{Down, NotFound, NotDir, IsDir, Need, JournalFull, DiskFault, Frozen, Nothing, Young, NotFrozen, WrongNumber, Memory}
+use Rattle.coda_venus.specs.declared.refused.Refused.TheVariants.{Down, NotDir, IsDir, Need, JournalFull, DiskFault, Frozen, Nothing, Young, NotFrozen, WrongNumber, Memory}
 use Rattle.coda_venus.specs.declared.seen.Seen.{Seen}
 use Rattle.coda_venus.specs.declared.venus.Venus.{Venus}
 
@@ -41,9 +46,36 @@ unsettled_as (settling.NotFrozen number) = NotFrozen number
 unsettled_as (settling.WrongNumber frozen number) = WrongNumber frozen number
 unsettled_as settling.Memory = Memory
 
--- why the verdict on a chunk isn't taken: want of memory, or that the chunk isn't the frozen one
-abbrev pub IsUnsettled : ClientVolume → ℕ → Refused → Type 0
-IsUnsettled v number why = (why ≡ Memory) ⊎ (option_map unsettled_as (settle_refusal v.frozen number) ≡ Some why)
+-- The next chunk of a log at a time by a window: its number, and the last operation in it; or why nothing is frozen. A client freezes at
+-- most 2^32 - 1 chunks of a volume.
+abbrev pub chunk_by : Option FreezeFault → LogState → ℕ → ℕ → Result (ℕ × ℕ) Refused
+chunk_by (Some why) log now window = Err (refused_as why)
+chunk_by None log now window = if nat_le 4294967295 log.chunks then Err JournalFull else Ok (log.chunks + 1, last_to_go now window log.segments)
+
+abbrev pub next_chunk : LogState → ℕ → ℕ → Result (ℕ × ℕ) Refused
+next_chunk log now window = chunk_by (freeze_refusal log.frozen now window log.segments) log now window
+
+-- ---- what a call is to keep
+
+-- the payload that a call is to keep, or why it keeps none
+abbrev pub Due : Type 0
+Due = Result Payload Refused
+
+-- a freeze of the next chunk
+abbrev pub freeze_of : ℕ → ℕ → Result (ℕ × ℕ) Refused → Due
+freeze_of volume home (Ok next) = Ok (Freeze volume next.0 home next.1 ∷ [])
+freeze_of volume home (Err why) = Err why
+
+abbrev pub freeze_due : ClientState → ℕ → ℕ → ℕ → ℕ → Due
+freeze_due c volume home now window = freeze_of volume home (next_chunk (c.volumes volume).log now window)
+
+-- the verdict on a chunk, unless it isn't the one that is frozen
+abbrev pub settled_unless : Option Refused → ClientEntry → Due
+settled_unless (Some why) settled = Err why
+settled_unless None settled = Ok (settled ∷ [])
+
+abbrev pub settle_due : ClientState → ℕ → ℕ → Verdict → Due
+settle_due c volume number verdict = settled_unless (option_map unsettled_as (settle_refusal (c.volumes volume).log.frozen number)) (Settled volume number verdict)
 
 -- ---- what a client shows
 
@@ -71,23 +103,46 @@ seen_at shown m volume path =
 
 -- ---- what a call keeps
 
--- its journal and its client are as they were, and it isn't down where it wasn't
-abbrev pub IsAsBefore : {D : Type 0} → Venus D → Venus D → Type 0
-IsAsBefore old new = (new.journal ≡ old.journal) × (new.client ≡ old.client) × (new.down ≡ old.down)
+-- its journal is as it was, and it is up with the same history
+abbrev pub IsStill : {D : Type 0} → (D → Told) → Header → Venus D → List Payload → Venus D → Type 0
+IsStill told header old history new = (new.journal ≡ old.journal) × IsUp told header new history
 
 -- the journal has no room for the payload
 abbrev pub IsFull : {D : Type 0} → Journal D → Payload → Type 0
 IsFull journal payload = journal.area < journal.used + length (framed w32 (payload_of payload))
 
--- What a call leaves that keeps one payload: the history with it; or, refused, all as it was; or, after a fault of the disk, a client that is
--- down, whose disk stands for the history with or without it.
-abbrev pub KeepsOne : {D A : Type 0} → (D → Told) → Header → Venus D → List Payload → Payload → Venus D → Result A Refused → Type 0
-KeepsOne told header old history payload new (Ok x) = (¬ IsFull old.journal payload) × IsUp told header new (history ++ payload ∷ [])
-KeepsOne told header old history payload new (Err DiskFault) = (¬ IsFull old.journal payload) × (new.down ≡ true) × StandsFor (told new.journal.disk) header history (Some payload)
-KeepsOne told header old history payload new (Err why) = IsUp told header new history
+-- the refusal, if it is one
+abbrev pub refusal_in : {A : Type 0} → Result A Refused → Option Refused
+refusal_in (Ok x) = None
+refusal_in (Err why) = Some why
+
+-- What a call leaves that is to keep one payload: the history with it; or all as it was, for want of room or of memory; or, after a fault of
+-- the disk, a client that is down, whose disk stands for the history with or without it. It is refused for nothing else.
+abbrev pub KeepsOne : {D : Type 0} → (D → Told) → Header → Venus D → List Payload → Payload → Venus D → Option Refused → Type 0
+KeepsOne told header old history payload new None = (¬ IsFull old.journal payload) × IsUp told header new (history ++ payload ∷ [])
+KeepsOne told header old history payload new (Some JournalFull) = IsFull old.journal payload × IsStill told header old history new
+KeepsOne told header old history payload new (Some Memory) = IsStill told header old history new
+KeepsOne told header old history payload new (Some DiskFault) = (¬ IsFull old.journal payload) × (new.down ≡ true) × StandsFor (told new.journal.disk) header history (Some payload)
+KeepsOne told header old history payload new (Some why) = ⊥
 
 -- A call that is to keep one payload: each image that a crash may have left at any moment since reads as the history, or as the history with
 -- it.
 pub record KeepingOne {D A : Type 0} (told : D → Told) (header : Header) (old : Venus D) (history : List Payload) (payload : Payload) (new : Venus D) (result : Result A Refused) : Type 0 where
   pub any_moment : LeavesOnly (told old.journal.disk) (told new.journal.disk) (IsBeforeOrAfter header (payloads_of history) (payload_of payload))
-  pub answers : KeepsOne told header old history payload new result
+  pub answers : KeepsOne told header old history payload new (refusal_in result)
+
+-- what is due is kept; or the call is refused for this, and nothing changed
+abbrev pub DoesKeep : {D A : Type 0} → (D → Told) → Header → Venus D → List Payload → Due → Venus D → Result A Refused → Type 0
+DoesKeep told header old history (Ok payload) new result = KeepingOne told header old history payload new result
+DoesKeep told header old history (Err why) new result = (result ≡ Err why) × (new ≡ old)
+
+-- a fault of the disk, and nothing else, takes a client down
+abbrev pub Falls : {A : Type 0} → Bool → Bool → Result A Refused → Type 0
+Falls old new (Err DiskFault) = new ≡ true
+Falls old new result = new ≡ old
+
+-- a refusal in which no disk has a part
+abbrev pub IsOwn : Refused → Type 0
+IsOwn Down = ⊥
+IsOwn DiskFault = ⊥
+IsOwn why = Unit {0}

@@ -2,8 +2,11 @@ pub mod Ask
 pub mod Held
 pub mod Looking
 pub mod State
+pub mod Times
 pub mod Accepting
 pub mod History
 pub mod Code
 pub mod Standing
+pub mod Appending
 pub mod Keeping
+pub mod Laws

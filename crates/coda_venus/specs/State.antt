@@ -1,11 +1,8 @@
 -- What a client is at a moment, and what an entry of its history makes of it.
-use Rattle.std.specs.Prelude.{ℕ, ◌+◌, ◌==◌, if◌then◌else◌, List, [], ◌∷◌, ◌++◌, Option, Some, None}
-use Rattle.coda_fid.specs.declared.op.Record.{Record}
-use Rattle.coda_cancel.specs.Cancel.{fold}
-use Rattle.coda_cml.specs.Segments.{segments_of, records_upto, records_above}
-use Rattle.coda_cml.specs.State.{LogState}
-use Rattle.coda_cml.specs.Steps.{pending_after}
-use Rattle.coda_cml.specs.declared.frozen.Frozen.{Frozen}
+use Rattle.std.specs.Prelude.{ℕ, ◌+◌, ◌==◌, nat_le, if◌then◌else◌, List, [], ◌∷◌}
+use Rattle.coda_cml.specs.State.{LogState, empty_log}
+use Rattle.coda_cml.specs.Steps.{appended_to, frozen_at, settled, given_up}
+use Rattle.coda_cml.specs.declared.segment.Segment.{Segment}
 use Rattle.coda_plain.specs.Deeds.{Deed, Operated, Froze, Settled, Gaveup, created_by}
 use Rattle.coda_record.specs.declared.entry.ClientEntry.{ClientEntry}
 use Rattle.coda_record.specs.declared.entry.ClientEntry.TheVariants as entry
@@ -17,46 +14,27 @@ put f k x q = if q == k then x else f q
 
 -- ---- a client
 
--- What a client has of a volume: the operations of its log, uncancelled, of which those in front are frozen as a chunk where one is; and
--- how many operations it accepted, objects it created and chunks it froze there.
+-- What a client has of a volume: the log of the operations that no server has applied yet, as far as later ones leave them, and how many
+-- objects it created there.
 pub record ClientVolume : Type 0 where
-  pub frozen : Option Frozen
-  pub front : List Record
-  pub back : List Record
-  pub operations : ℕ
+  pub log : LogState
   pub creations : ℕ
-  pub chunks : ℕ
 
 -- a volume on which a client did nothing
 abbrev pub new_volume : ClientVolume
-new_volume = record { frozen = None; front = []; back = []; operations = 0; creations = 0; chunks = 0 }
+new_volume = record { log = empty_log; creations = 0 }
 
--- the operations that no server has applied yet
-abbrev pub pending : ClientVolume → List Record
-pending v = v.front ++ v.back
+-- how many segments in front end by this number
+abbrev pub ended_by : ℕ → List Segment → ℕ
+ended_by number [] = 0
+ended_by number (segment ∷ rest) = if nat_le segment.last number then 1 + ended_by number rest else 0
 
--- what cancellation leaves of them: the client's log
-abbrev pub log_of : ClientVolume → LogState
-log_of v = record {
-  frozen = v.frozen;
-  chunk = fold v.front;
-  chunk_segments = segments_of v.front;
-  records = fold v.back;
-  segments = segments_of v.back;
-  last = v.operations;
-  chunks = v.chunks;
-}
-
+-- a freeze takes the segments in front that end by the chunk's last operation
 abbrev pub volume_after : ClientVolume → Deed → ClientVolume
-volume_after v (Operated rec) = record v { back = v.back ++ rec ∷ []; operations = rec.number; creations = v.creations + created_by rec.op }
-volume_after v (Froze number home last) = record v {
-  frozen = Some (record { number = number; home = home });
-  front = records_upto last v.back;
-  back = records_above last v.back;
-  chunks = number;
-}
-volume_after v (Settled number verdict) = record v { frozen = None; front = []; back = pending_after verdict v.front v.back }
-volume_after v Gaveup = record v { frozen = None; front = []; back = [] }
+volume_after v (Operated rec) = record v { log = appended_to v.log rec; creations = v.creations + created_by rec.op }
+volume_after v (Froze number home last) = record v { log = frozen_at v.log (ended_by last v.log.segments) (record { number = number; home = home }) }
+volume_after v (Settled number verdict) = record v { log = settled verdict v.log }
+volume_after v Gaveup = record v { log = given_up v.log }
 
 -- what a client has: the blocks of its cache, what it holds, and what it has of each volume
 pub record ClientState : Type 0 where

@@ -4,17 +4,25 @@
 mod accepting;
 mod ask;
 mod client;
+mod entries;
+mod fronts;
+mod law;
 mod looking;
 mod parents;
+mod recovery;
 mod refused;
 mod seen;
 mod settling;
+#[cfg(test)]
+mod tests;
 mod venus;
 mod volume_log;
 
 pub use ask::Ask;
 pub use client::Client;
+pub use law::{clients_stay_ours, logs_are_folds};
 pub use parents::ParentTable;
+pub use recovery::Unfit;
 pub use refused::Refused;
 pub use seen::Seen;
 pub use venus::Venus;

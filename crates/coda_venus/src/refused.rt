@@ -1,6 +1,6 @@
 ghost use Rattle.std.specs.Prelude.{◌≡◌};
 ghost use Rattle.coda_venus.specs.declared.refused.Refused.TheVariants.{Memory};
-ghost use Rattle.coda_venus.specs.Keeping.{refused_as, unsettled_as};
+ghost use Rattle.coda_venus.specs.Keeping.{refused_as, unsettled_as, IsOwn};
 
 use coda_cml::{FreezeFault, SettleFault};
 use coda_fid::Fid;
@@ -79,7 +79,8 @@ impl From<AllocError> for Refused {
 
 // Why a log freezes nothing, as a call is refused for it.
 pub(crate) fn refused_as(why: FreezeFault) -> Refused
-    ensures { result ≡ refused_as why }
+    ensures is { result ≡ refused_as why }
+    ensures own { IsOwn result }
 {
     match why {
         FreezeFault::Frozen(number, home) => Refused::Frozen(number, home),
@@ -91,7 +92,8 @@ pub(crate) fn refused_as(why: FreezeFault) -> Refused
 
 // Why a log settles nothing, as a call is refused for it.
 pub(crate) fn unsettled_as(why: SettleFault) -> Refused
-    ensures { result ≡ unsettled_as why }
+    ensures is { result ≡ unsettled_as why }
+    ensures own { IsOwn result }
 {
     match why {
         SettleFault::NotFrozen(number) => Refused::NotFrozen(number),

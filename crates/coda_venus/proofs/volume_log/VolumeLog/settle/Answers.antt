@@ -1,6 +1,5 @@
-use Rattle.coda_venus.proofs.Chunked.{settled_volume}
+use Rattle.coda_venus.proofs.Unsettled.{only_frozen}
 use Rattle.coda_venus.proofs.volume_log.VolumeLog.settle.Goals as goal
 
-pub returns-in-Ok-clause-settled : goal.returns-in-Ok-clause-settled
-returns-in-Ok-clause-settled c = λ v is steady.
-    settled_volume v c.args.self.now c.args.number c.args.verdict.now c.settle.new.self is c.in-Ok.ensures.log (c.in-Ok.ensures.run v.front v.back is.runs steady)
+pub returns-in-Ok-clause-only : goal.returns-in-Ok-clause-only
+returns-in-Ok-clause-only c = only_frozen c.args.self.now.log.frozen c.args.number c.in-Ok.field-0 c.in-Ok.ensures.causes
