@@ -13,3 +13,8 @@ pub mod KeptMore
 pub mod Rightly
 pub mod Removed
 pub mod Walked
+pub mod Alike
+pub mod Standing
+pub mod Summed
+pub mod Mutated
+pub mod Chosen
