@@ -15,6 +15,7 @@ pub mod Removed
 pub mod Walked
 pub mod Alike
 pub mod Standing
+pub mod Pinned
 pub mod Summed
 pub mod Mutated
 pub mod Chosen

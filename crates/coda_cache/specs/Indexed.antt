@@ -1,5 +1,5 @@
 -- What is kept beside the contents of a cache, so that no call has to look at all of them.
-use Rattle.std.specs.Prelude.{◌≡◌, ℕ, ◌+◌, Bool, true, false, cond, List, [], ◌∷◌}
+use Rattle.std.specs.Prelude.{◌≡◌, ◌==◌, ℕ, ◌+◌, Bool, true, false, cond, List, [], ◌∷◌, Option, Some, None}
 use Rattle.std.specs.Prelude as prelude
 use Rattle.std.specs.Option.{IfSome}
 use Rattle.std.specs.BTreeSet as btree
@@ -10,7 +10,10 @@ use Rattle.coda_walk.specs.Queue.{IsQueueOf, with_item, Rises}
 use Rattle.coda_cache.specs.declared.queued.Queued.{Queued}
 use Rattle.coda_cache.specs.declared.marks.Marks.{Marks}
 use Rattle.coda_cache.specs.declared.cache.Cache.TheInside.{Inside}
-use Rattle.coda_cache.specs.State.{CacheState, parent_of, priority_of, blocks_at, is_dirty}
+use Rattle.coda_tree.specs.Slots.{altered}
+use Rattle.coda_cache.specs.declared.hold.Hold.{Hold}
+use Rattle.coda_cache.specs.Steps.{each, dirty_where}
+use Rattle.coda_cache.specs.State.{CacheState, Holds, parent_of, priority_of, blocks_at, is_dirty}
 
 -- ---- the queue
 
@@ -40,6 +43,30 @@ renewed_items item (f ∷ fids) items = renewed_items item fids (with_item (item
 -- those that are marked are those that pass, where marks are kept
 abbrev pub AreMarked : Marks → (Fid → Bool) → Type 0
 AreMarked m passes = IfSome m.fids (λ fids. (f : Fid) → btree.contains fid_cmp fids f ≡ passes f)
+
+-- ---- which nodes are dirty
+
+-- whether a fid is of a volume, where one is given
+abbrev pub is_of : Option ℕ → Fid → Bool
+is_of None f = true
+is_of (Some volume) f = f.volume == volume
+
+-- a hold, dirty where its fid is among the fids; one that isn't of the volume stays as it is
+abbrev pub dirty_of : Option ℕ → List Fid → Fid → Hold → Hold
+dirty_of volume fids f hold = cond (is_of volume f) (dirty_where fids f hold) hold
+
+-- the cache in which exactly these nodes are dirty, where they are cached and of the volume
+abbrev pub pinned_of : CacheState → Option ℕ → List Fid → CacheState
+pinned_of c volume fids = record c { holds = each (dirty_of volume fids) c.holds }
+
+-- a hold of a dirty node, or of a clean one
+abbrev pub set_dirty : Bool → Hold → Hold
+set_dirty dirty hold = record hold { dirty = dirty }
+
+-- the holds in which those of these nodes that are of the volume are dirty, or clean
+abbrev pub set_all : Option ℕ → Bool → Holds → List Fid → Holds
+set_all volume dirty holds [] = holds
+set_all volume dirty holds (f ∷ fids) = set_all volume dirty (cond (is_of volume f) (altered holds f (set_dirty dirty)) holds) fids
 
 -- ---- blocks
 

@@ -12,7 +12,8 @@ ghost use Rattle.coda_cache.specs.declared.fault.CacheFault as CacheFault;
 ghost use Rattle.coda_cache.specs.declared.fault.CacheFault.TheVariants.{CacheFull};
 ghost use Rattle.coda_cache.specs.Steps.{new_node, taken_out, used, invalidated, invalidated_from, pinned_to, pinned_in, put_in, without, dropped, removed, walked, mutated};
 ghost use Rattle.coda_cache.specs.Walking.{AreCounted};
-ghost use Rattle.coda_cache.specs.Indexed.{AreIndexed};
+ghost use Rattle.coda_walk.specs.Going.{is_listed};
+ghost use Rattle.coda_cache.specs.Indexed.{pinned_of};
 
 use crate::contents::Contents;
 use crate::marks::Marks;
@@ -179,20 +180,43 @@ impl Cache {
         self.contents.invalidate_from(volume, server);
     }
 
+    // Makes exactly these nodes dirty, where they are cached and of a volume, or of any where none is given, by a list that
+    // has all that are dirty.
+    fn pin_of(&mut self, volume: Option<u32>, dirty: &[Fid], fids: &[Fid])
+        requires { (f : Fid) → is_dirty self.old f ≡ true → is_listed dirty.now f ≡ true }
+        ensures { self.new ≡ pinned_of self.old volume fids.now }
+    {
+        self.contents.pin_of(volume, dirty, fids);
+        self.dirty.renew(&self.contents, dirty);
+        self.dirty.renew(&self.contents, fids);
+    }
+
+    // The same by a look at all cached nodes.
+    fn pin_all(&mut self, volume: Option<u32>, fids: &[Fid])
+        ensures { self.new ≡ pinned_of self.old volume fids.now }
+    {
+        self.contents.pin_all(volume, fids);
+        self.dirty = Marks::of(&self.contents);
+    }
+
     /// Makes exactly the cached nodes among these dirty.
     pub fn pin(&mut self, fids: &[Fid])
         ensures { self.new ≡ pinned_to self.old fids.now }
     {
-        self.contents.pin(fids);
-        self.dirty = Marks::of(&self.contents);
+        match self.dirty.list(self.contents.alloc()) {
+            Some(dirty) => self.pin_of(None, &dirty, fids),
+            None => self.pin_all(None, fids),
+        }
     }
 
     /// Makes exactly these nodes of a volume dirty, where they are cached.
     pub fn pin_in(&mut self, volume: u32, fids: &[Fid])
         ensures { self.new ≡ pinned_in self.old volume fids.now }
     {
-        self.contents.pin_in(volume, fids);
-        self.dirty = Marks::of(&self.contents);
+        match self.dirty.list(self.contents.alloc()) {
+            Some(dirty) => self.pin_of(Some(volume), &dirty, fids),
+            None => self.pin_all(Some(volume), fids),
+        }
     }
 
     /// Takes out a node alone, with its hold and its place in the order of use.

@@ -9,7 +9,8 @@ ghost use Rattle.coda_cache.specs.Rows.{row_of, rows_of};
 ghost use Rattle.coda_cache.specs.Ways.{way_up, way_on, is_below, at_or_below};
 ghost use Rattle.coda_cache.specs.State.{empty_cache, is_cached, parent_of, source_of, is_dirty, priority_of, blocks_at};
 ghost use Rattle.coda_cache.specs.Steps.{used, invalidated, invalidated_from, pinned_to, pinned_in, put_in, without, kept_parent, dropped};
-ghost use Rattle.coda_cache.specs.Indexed.{standing_of};
+ghost use Rattle.coda_walk.specs.Going.{is_listed};
+ghost use Rattle.coda_cache.specs.Indexed.{standing_of, pinned_of};
 
 use crate::holds::HoldTable;
 use crate::nodes::NodeMap;
@@ -188,6 +189,25 @@ impl Contents {
         ensures { self.new ≡ pinned_in self.old volume fids.now }
     {
         self.holds.pin_in(volume, fids);
+    }
+
+    // Makes exactly these nodes dirty, where they are cached and of a volume, or of any where none is given. All that are dirty
+    // are among the given ones. Takes no memory.
+    pub(crate) fn pin_of(&mut self, volume: Option<u32>, dirty: &[Fid], fids: &[Fid])
+        requires { (f : Fid) → is_dirty self.old f ≡ true → is_listed dirty.now f ≡ true }
+        ensures { self.new ≡ pinned_of self.old volume fids.now }
+    {
+        self.holds.pin_of(volume, dirty, fids);
+    }
+
+    // The same, where it isn't known which are dirty. Takes no memory.
+    pub(crate) fn pin_all(&mut self, volume: Option<u32>, fids: &[Fid])
+        ensures { self.new ≡ pinned_of self.old volume fids.now }
+    {
+        match volume {
+            Some(volume) => self.pin_in(volume, fids),
+            None => self.pin(fids),
+        }
     }
 
     // Takes out a node alone, with its hold and its place in the order of use. Takes no memory.

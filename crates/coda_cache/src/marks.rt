@@ -1,4 +1,4 @@
-ghost use Rattle.std.specs.Prelude.{◌≡◌, ◌&&◌, ◌||◌, not, Bool, false, cond, IfSome};
+ghost use Rattle.std.specs.Prelude.{◌≡◌, ◌&&◌, ◌||◌, not, Bool, false, cond, IfOk, IfSome};
 ghost use Rattle.std.specs.BTreeSet as btree;
 ghost use Rattle.coda_fid.specs.declared.fid.Fid.{Fid};
 ghost use Rattle.coda_fid.specs.Fid.{fid_cmp, same_fid};
@@ -8,7 +8,7 @@ ghost use Rattle.coda_cache.specs.Indexed.{AreMarked};
 
 use crate::contents::Contents;
 use coda_fid::Fid;
-use std::alloc::Global;
+use std::alloc::{AllocError, Global};
 use std::collections::BTreeSet;
 
 // The fids of some cached nodes, as the dirty ones. Where a change wanted memory that was not there, they are given up.
@@ -31,6 +31,17 @@ fn with(fids: BTreeSet<Fid>, fid: Fid, there: bool) -> Option<BTreeSet<Fid>>
         let _ = fids.remove(&fid);
         Some(fids)
     }
+}
+
+// The fids of a set, in their order.
+fn listed(alloc: Global, fids: &BTreeSet<Fid>) -> Result<Vec<Fid>, AllocError>
+    ensures { IfOk result (λ v. v.items ≡ fids.now.keys) }
+{
+    let mut list = Vec::new(alloc);
+    for fid in fids.iter() {
+        list.push(*fid)?;
+    }
+    Ok(list)
 }
 
 impl Marks {
@@ -66,6 +77,19 @@ impl Marks {
     {
         if self.fids.is_none() {
             *self = Marks::of(contents);
+        }
+    }
+
+    // Those that are marked, where that is known and there is memory.
+    pub(crate) fn list(&self, alloc: Global) -> Option<Vec<Fid>>
+        ensures { (passes : Fid → Bool) → AreMarked self.now passes → IfSome result (λ v. (f : Fid) → is_listed v.items f ≡ passes f) }
+    {
+        match &self.fids {
+            Some(fids) => match listed(alloc, fids) {
+                Ok(list) => Some(list),
+                Err(_) => None,
+            },
+            None => None,
         }
     }
 
