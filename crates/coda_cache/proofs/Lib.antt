@@ -17,5 +17,6 @@ pub mod Alike
 pub mod Standing
 pub mod Pinned
 pub mod Summed
+pub mod Alone
 pub mod Mutated
 pub mod Chosen

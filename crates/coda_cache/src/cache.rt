@@ -1,4 +1,4 @@
-ghost use Rattle.std.specs.Prelude.{◌≡◌, ◌⊎◌, ◌<◌, ◌^◌, Option, Ok, Err, true, Some, None, IfOk, IfErr, OnOk, OnErr, MatchResult, option_copied, is_some, List, []};
+ghost use Rattle.std.specs.Prelude.{◌≡◌, ◌⊎◌, ◌<◌, ◌^◌, Option, Ok, Err, true, Some, None, IfOk, IfErr, OnOk, OnErr, MatchResult, option_copied, is_some, List, [], ◌∷◌};
 ghost use Rattle.std.specs.Bool.{OnTrue};
 ghost use Rattle.std.specs.FinMap as map;
 ghost use Rattle.coda_fid.specs.declared.fid.Fid.{Fid};
@@ -10,7 +10,7 @@ ghost use Rattle.coda_cache.specs.State.{empty_cache, is_cached, parent_of, sour
 ghost use Rattle.coda_cache.specs.Room.{evicted_for};
 ghost use Rattle.coda_cache.specs.declared.fault.CacheFault as CacheFault;
 ghost use Rattle.coda_cache.specs.declared.fault.CacheFault.TheVariants.{CacheFull};
-ghost use Rattle.coda_cache.specs.Steps.{new_node, taken_out, used, invalidated, invalidated_from, pinned_to, pinned_in, put_in, without, dropped, removed, walked, mutated};
+ghost use Rattle.coda_cache.specs.Steps.{new_node, taken_out, taken_below, used, invalidated, invalidated_from, pinned_to, pinned_in, put_in, without, dropped, removed, walked, mutated};
 ghost use Rattle.coda_cache.specs.Walking.{AreCounted};
 ghost use Rattle.coda_walk.specs.Going.{is_listed};
 ghost use Rattle.coda_cache.specs.Indexed.{pinned_of};
@@ -139,11 +139,39 @@ impl Cache {
         self.contents.rows()
     }
 
+    // Whether it is known that a node is cached and has no other for its child.
+    fn is_alone(&self, fid: Fid) -> bool
+        ensures { OnTrue result (at_or_below self.now fid ≡ fid ∷ []) }
+    {
+        self.contents.agree();
+        if self.contents.contains(fid) {
+            self.queued.is_bare(fid)
+        } else {
+            false
+        }
+    }
+
     /// The cached nodes that are a node, or cached below it. Fails for want of memory alone.
     pub fn at_or_below(&self, fid: Fid) -> Result<Vec<Fid>, AllocError>
         ensures { IfOk result (λ v. v.items ≡ at_or_below self.now fid) }
     {
-        self.contents.at_or_below(fid)
+        if self.is_alone(fid) {
+            let mut alone = Vec::new(self.contents.alloc());
+            alone.push(fid)?;
+            Ok(alone)
+        } else {
+            self.contents.at_or_below(fid)
+        }
+    }
+
+    // What goes from the cache where a node is taken out.
+    fn taken_below(&self, taken: Option<Fid>) -> Result<Vec<Fid>, AllocError>
+        ensures { IfOk result (λ v. v.items ≡ taken_below self.now taken) }
+    {
+        match taken {
+            Some(fid) => self.at_or_below(fid),
+            None => Ok(Vec::new(self.contents.alloc())),
+        }
     }
 
     /// Notes that a node was used, where it is cached.
@@ -241,7 +269,7 @@ impl Cache {
     pub fn remove(&mut self, fid: Fid)
         ensures { self.new ≡ removed self.old fid }
     {
-        match self.contents.at_or_below(fid) {
+        match self.at_or_below(fid) {
             Ok(gone) => self.drop_all(&gone),
             Err(_) => {
                 self.contents.remove(fid);
@@ -323,7 +351,7 @@ impl Cache {
         ensures ok { OnOk result (self.new ≡ mutated self.old client rec.now) }
         ensures err { OnErr result (self.new ≡ self.old) }
     {
-        let gone = self.contents.taken_below(taken_out(&rec.op))?;
+        let gone = self.taken_below(taken_out(&rec.op))?;
         self.contents.change(client, rec, &gone)?;
         let mentioned = mentioned(&rec.op);
         self.queued.take_all(&gone);

@@ -177,16 +177,6 @@ pub(crate) fn take_out_all(
 }
 
 impl Contents {
-    // What goes from the cache where a node is taken out.
-    pub(crate) fn taken_below(&self, taken: Option<Fid>) -> Result<Vec<Fid>, AllocError>
-        ensures { IfOk result (λ v. v.items ≡ taken_below self.now taken) }
-    {
-        match taken {
-            Some(fid) => self.at_or_below(fid),
-            None => Ok(Vec::new(self.alloc)),
-        }
-    }
-
     // Does an operation that makes a node.
     pub(crate) fn create(
         &mut self,
