@@ -13,3 +13,10 @@ pub mod KeptMore
 pub mod Rightly
 pub mod Removed
 pub mod Walked
+pub mod Alike
+pub mod Standing
+pub mod Pinned
+pub mod Summed
+pub mod Alone
+pub mod Mutated
+pub mod Chosen

@@ -131,7 +131,7 @@ except_same : (recency a b : List Fid) → ((q : Fid) → is_listed a q ≡ is_l
 except_same recency a b same = except_is recency a ∙ filter_alike _ _ recency (λ g. ap not (same g)) ∙ sym (except_is recency b)
 
 -- a fid is among the keys where it has a hold
-keys_listed : (fids : List Fid) (q : Fid) → list_any (eq_by_cmp fid_cmp q) fids ≡ is_listed fids q
+pub keys_listed : (fids : List Fid) (q : Fid) → list_any (eq_by_cmp fid_cmp q) fids ≡ is_listed fids q
 keys_listed [] q = refl
 keys_listed (g ∷ fids) q = (λ i. tied q g i || keys_listed fids q i)
   where

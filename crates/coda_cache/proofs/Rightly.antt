@@ -310,15 +310,15 @@ module _ (c : CacheState) (k : IsCache c) where
 
 -- ---- the items of a cache into which a node is put
 
-map_twice : {A B C : Type 0} (g : B → C) (h : A → B) (xs : List A) → prelude.map g (prelude.map h xs) ≡ prelude.map (λ x. g (h x)) xs
+pub map_twice : {A B C : Type 0} (g : B → C) (h : A → B) (xs : List A) → prelude.map g (prelude.map h xs) ≡ prelude.map (λ x. g (h x)) xs
 map_twice g h [] = refl
 map_twice g h (x ∷ xs) = ap (λ l. g (h x) ∷ l) (map_twice g h xs)
 
-map_last : {A B : Type 0} (g : A → B) (xs : List A) (x : A) → prelude.map g (xs ++ x ∷ []) ≡ prelude.map g xs ++ g x ∷ []
+pub map_last : {A B : Type 0} (g : A → B) (xs : List A) (x : A) → prelude.map g (xs ++ x ∷ []) ≡ prelude.map g xs ++ g x ∷ []
 map_last g [] x = refl
 map_last g (y ∷ xs) x = ap (λ l. g y ∷ l) (map_last g xs x)
 
-blocks_last : (test : Item → Bool) (items : List Item) (i : Item) → blocks_of (filter test (items ++ i ∷ [])) ≡ blocks_of (filter test items) + cond (test i) i.blocks 0
+pub blocks_last : (test : Item → Bool) (items : List Item) (i : Item) → blocks_of (filter test (items ++ i ∷ [])) ≡ blocks_of (filter test items) + cond (test i) i.blocks 0
 blocks_last test [] i = elim (test i) as (λ b. blocks_of (cond b (i ∷ []) []) ≡ 0 + cond b i.blocks 0) [ true ↦ omega arith | false ↦ refl ]
 blocks_last test (j ∷ items) i =
     let rest = blocks_last test items i in
@@ -334,7 +334,7 @@ all_differ (g ∷ fids) f h = (elim (same_fid g f) as (λ b. same_fid g f ≡ b 
   | false ↦ λ e rest. (not_same f g (λ same. both_ways _ e (ap (same_fid g) same ∙ same_fid_refl g)), all_differ fids f rest)
 ]) refl h
 
-alike : (one other : Fid → Item) (fids : List Fid) (f : Fid) → ((g : Fid) → g ≢ f → one g ≡ other g) → is_listed fids f ≡ false → prelude.map one fids ≡ prelude.map other fids
+pub alike : (one other : Fid → Item) (fids : List Fid) (f : Fid) → ((g : Fid) → g ≢ f → one g ≡ other g) → is_listed fids f ≡ false → prelude.map one fids ≡ prelude.map other fids
 alike one other [] f same h = refl
 alike one other (g ∷ fids) f same h = (elim (same_fid g f) as (λ b. same_fid g f ≡ b → (b || is_listed fids f) ≡ false → prelude.map one (g ∷ fids) ≡ prelude.map other (g ∷ fids)) [
   | true ↦ λ e rest. absurd (both_ways _ rest refl)

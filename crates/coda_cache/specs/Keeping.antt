@@ -5,7 +5,7 @@ use Rattle.coda_fid.specs.declared.fid.Fid.{Fid}
 use Rattle.coda_tree.specs.Volume.{Nodes, has}
 use Rattle.coda_walk.specs.Going.{is_listed}
 use Rattle.coda_cache.specs.State.{CacheState, Holds, AreSmall}
-use Rattle.coda_cache.specs.declared.cache.Cache.TheInside.{Inside}
+use Rattle.coda_cache.specs.declared.contents.Contents.TheInside.{Inside}
 
 pub record Agree (nodes : Nodes) (holds : Holds) (recency : List Fid) : Type 0 where
   pub held : (f : Fid) → map.contains_key holds f ≡ has nodes f

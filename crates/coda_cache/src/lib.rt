@@ -3,13 +3,18 @@
 
 mod applying;
 mod cache;
+mod choosing;
+mod contents;
+mod evicting;
 mod fault;
 mod hold;
 mod holds;
 mod law;
+mod marks;
 mod nodes;
 mod operating;
 mod priorities;
+mod queued;
 mod recency;
 mod room;
 mod row;

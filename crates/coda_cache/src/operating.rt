@@ -8,14 +8,15 @@ ghost use Rattle.coda_cache.specs.Uses.{latest};
 ghost use Rattle.coda_cache.specs.Steps.{new_node, taken_out, moved_node, taken_below, taken_from, except_all, moved_in, all_dirty, mutated, removed};
 
 use crate::applying::apply;
+use crate::contents::Contents;
 use crate::holds::HoldTable;
 use crate::nodes::NodeMap;
-use crate::{Cache, Hold, Recency};
+use crate::{Hold, Recency};
 use coda_fid::{Fid, Op, Record};
 use std::alloc::AllocError;
 
 // The directory and the fid of the node that an operation makes.
-fn new_node(op: &Op) -> Option<(Fid, Fid)>
+pub(crate) fn new_node(op: &Op) -> Option<(Fid, Fid)>
     ensures { result ≡ new_node op.now }
 {
     match op {
@@ -31,7 +32,7 @@ fn new_node(op: &Op) -> Option<(Fid, Fid)>
 }
 
 // The node that an operation takes out.
-fn taken_out(op: &Op) -> Option<Fid>
+pub(crate) fn taken_out(op: &Op) -> Option<Fid>
     ensures { result ≡ taken_out op.now }
 {
     match op {
@@ -62,6 +63,31 @@ fn moved_node(op: &Op) -> Option<(Fid, Fid)>
         Op::Remove { .. } => None,
         Op::Rmdir { .. } => None,
         Op::Rename { fid, to_dir, .. } => Some((*fid, *to_dir)),
+    }
+}
+
+// The nodes that an operation mentions, some of them maybe twice.
+pub(crate) fn mentioned(op: &Op) -> [Fid; 4]
+    ensures { (f : Fid) → is_listed result f ≡ is_listed (fids_of op.now) f }
+{
+    match op {
+        Op::Create { dir, fid, .. } => [*dir, *fid, *dir, *fid],
+        Op::Mkdir { dir, fid, .. } => [*dir, *fid, *dir, *fid],
+        Op::Symlink { dir, fid, .. } => [*dir, *fid, *dir, *fid],
+        Op::Store { fid, .. } => [*fid, *fid, *fid, *fid],
+        Op::Setattr { fid, .. } => [*fid, *fid, *fid, *fid],
+        Op::Remove { dir, fid, .. } => [*dir, *fid, *dir, *fid],
+        Op::Rmdir { dir, fid, .. } => [*dir, *fid, *dir, *fid],
+        Op::Rename {
+            from_dir,
+            to_dir,
+            fid,
+            over,
+            ..
+        } => match over {
+            Some(over) => [*from_dir, *to_dir, *fid, over.fid],
+            None => [*from_dir, *to_dir, *fid, *fid],
+        },
     }
 }
 
@@ -150,19 +176,15 @@ pub(crate) fn take_out_all(
     }
 }
 
-impl Cache {
-    // What goes from the cache where a node is taken out.
-    fn taken_below(&self, taken: Option<Fid>) -> Result<Vec<Fid>, AllocError>
-        ensures { IfOk result (λ v. v.items ≡ taken_below self.now taken) }
-    {
-        match taken {
-            Some(fid) => self.at_or_below(fid),
-            None => Ok(Vec::new(self.alloc)),
-        }
-    }
-
+impl Contents {
     // Does an operation that makes a node.
-    fn create(&mut self, dir: Fid, fid: Fid, client: u8, rec: &Record) -> Result<(), AllocError>
+    pub(crate) fn create(
+        &mut self,
+        dir: Fid,
+        fid: Fid,
+        client: u8,
+        rec: &Record,
+    ) -> Result<(), AllocError>
         requires makes { new_node rec.now.op ≡ Some (dir, fid) }
         requires may { MayApply self.old.nodes rec.now.op }
         requires small { AreSmall (mutated self.old client rec.now).nodes }
@@ -188,42 +210,29 @@ impl Cache {
         }
     }
 
-    // Does an operation that makes no node.
-    fn change(&mut self, client: u8, rec: &Record) -> Result<(), AllocError>
+    // Does an operation that makes no node, where these go with what it takes out.
+    pub(crate) fn change(
+        &mut self,
+        client: u8,
+        rec: &Record,
+        gone: &[Fid],
+    ) -> Result<(), AllocError>
         requires makes { new_node rec.now.op ≡ None }
+        requires gone { gone.now ≡ taken_below self.old (taken_out rec.now.op) }
         requires may { MayApply self.old.nodes rec.now.op }
         requires small { AreSmall (mutated self.old client rec.now).nodes }
         ensures ok { OnOk result (self.new ≡ mutated self.old client rec.now) }
         ensures err { OnErr result (self.new ≡ self.old) }
     {
-        let gone = self.taken_below(taken_out(&rec.op))?;
         apply(self.alloc, &mut self.nodes, client, rec)?;
-        take_out_all(&mut self.nodes, &mut self.holds, &mut self.recency, &gone);
+        take_out_all(&mut self.nodes, &mut self.holds, &mut self.recency, gone);
         move_under(&mut self.holds, moved_node(&rec.op));
         mark(&mut self.holds, &rec.op);
         Ok(())
     }
 
-    /// Does a client's operation: the nodes change as it says, what it takes out goes with all that is cached below it, a
-    /// new node is held by its directory and used last, a moved one has its new parent, and what is mentioned is dirty.
-    ///
-    /// # Errors
-    ///
-    /// Fails for want of memory alone, and then changes nothing.
-    pub fn mutate(&mut self, client: u8, rec: &Record) -> Result<(), AllocError>
-        requires may { MayApply self.old.nodes rec.now.op }
-        requires small { AreSmall (mutated self.old client rec.now).nodes }
-        ensures ok { OnOk result (self.new ≡ mutated self.old client rec.now) }
-        ensures err { OnErr result (self.new ≡ self.old) }
-    {
-        match new_node(&rec.op) {
-            Some((dir, fid)) => self.create(dir, fid, client, rec),
-            None => self.change(client, rec),
-        }
-    }
-
-    /// Takes out a node and what is cached below it. Takes no memory.
-    pub fn remove(&mut self, fid: Fid)
+    // Takes out a node and what is cached below it. Takes no memory.
+    pub(crate) fn remove(&mut self, fid: Fid)
         ensures { self.new ≡ removed self.old fid }
     {
         self.holds.remove(&mut self.nodes, &mut self.recency, fid);

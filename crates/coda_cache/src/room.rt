@@ -1,4 +1,5 @@
-ghost use Rattle.std.specs.Prelude.{◌≡◌, ◌+◌, IfOk, cond, not, nat_lt};
+ghost use Rattle.std.specs.Prelude.{◌≡◌, ◌+◌, ◌≤◌, IfOk, cond, not, nat_lt};
+ghost use Rattle.std.specs.Bool.{OnTrue};
 ghost use Rattle.coda_walk.specs.Going.{is_listed};
 ghost use Rattle.coda_cache.specs.Room.{pinned_blocks, is_needed, blocks_where};
 
@@ -7,7 +8,7 @@ use coda_walk::Item;
 use std::alloc::AllocError;
 
 // A sum, which fails where it doesn't fit in 64 bits.
-fn plus(blocks: u64, more: u64) -> Result<u64, AllocError>
+pub(crate) fn plus(blocks: u64, more: u64) -> Result<u64, AllocError>
     ensures { IfOk result (λ sum. sum ≡ blocks + more) }
 {
     match blocks.checked_add(more) {
@@ -75,6 +76,16 @@ pub(crate) fn fits(size: u32, pinned: u64, needed: u64) -> bool
 {
     match pinned.checked_add(needed) {
         Some(sum) => sum <= size as u64,
+        None => false,
+    }
+}
+
+// Whether so many blocks more fit beside those that are taken.
+pub(crate) fn has_room(size: u32, taken: u64, more: u32) -> bool
+    ensures { OnTrue result (taken + more ≤ size) }
+{
+    match taken.checked_add(more as u64) {
+        Some(all) => all <= size as u64,
         None => false,
     }
 }

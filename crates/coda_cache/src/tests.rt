@@ -43,10 +43,12 @@ fn cached(alloc: Global) -> Result<Cache, AllocError> {
     Ok(cache)
 }
 
-// The least recently used goes, but what is kept and what is above it stay.
+// Nobody goes where there is room. The least recently used goes, but what is kept and what is above it stay.
 #[test]
 fn who_goes_is_told(rt: HostRuntime) -> Result<(), Fail> {
     let mut cache = cached(rt.alloc())?;
+    let gone = cache.evict_for(fid(3), Some(fid(0)), 1, &[])?;
+    assert!(rt; gone.is_empty());
     let gone = cache.evict_for(fid(3), Some(fid(0)), 2, &[])?;
     assert_eq!(rt; gone.as_slice(), [fid(1)].as_slice());
     cache.touch(fid(1));
@@ -64,6 +66,9 @@ fn pinned_nodes_stay(rt: HostRuntime) -> Result<(), Fail> {
     cache.pin(&[fid(1)]);
     let gone = cache.evict_for(fid(3), Some(fid(0)), 2, &[])?;
     assert_eq!(rt; gone.as_slice(), [fid(2)].as_slice());
+    cache.pin_in(7, &[fid(2)]);
+    let gone = cache.evict_for(fid(3), Some(fid(0)), 2, &[])?;
+    assert_eq!(rt; gone.as_slice(), [fid(1)].as_slice());
     assert!(rt; cache.invalidate(fid(2)));
     cache.invalidate_from(7, 1);
     assert_eq!(rt; cache.source(fid(1)), None);

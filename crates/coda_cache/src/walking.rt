@@ -3,7 +3,7 @@ ghost use Rattle.coda_cache.specs.State.{is_cached};
 ghost use Rattle.coda_cache.specs.Steps.{put_in, put_all, walked};
 ghost use Rattle.coda_cache.specs.Walking.{blank, begun, begun_all, undone, AreCached, AreCounted};
 
-use crate::Cache;
+use crate::contents::Contents;
 use crate::priorities::PriorityTable;
 use coda_fid::{Bytes, Fid, Sid};
 use coda_tree::{Node, NodeKind};
@@ -27,7 +27,7 @@ fn blank(alloc: Global) -> Result<Node, AllocError>
     })
 }
 
-impl Cache {
+impl Contents {
     // Caches a blank node that isn't cached, and notes it before. Fails for want of memory alone.
     fn begin_blank(
         &mut self,
@@ -100,13 +100,13 @@ impl Cache {
         }
     }
 
-    /// Puts the nodes of a walk, each under its parent and from its server, and sets all priorities to those that the walk
-    /// gave, where 0 is none.
-    ///
-    /// # Errors
-    ///
-    /// Fails for want of memory alone, and then changes nothing.
-    pub fn put_walk(
+    // Puts the nodes of a walk, each under its parent and from its server, and sets all priorities to those that the walk
+    // gave, where 0 is none.
+    //
+    // # Errors
+    //
+    // Fails for want of memory alone, and then changes nothing.
+    pub(crate) fn put_walk(
         &mut self,
         nodes: Vec<(Fid, Option<Fid>, Node, u8)>,
         of: &[(Fid, u16)],

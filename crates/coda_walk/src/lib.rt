@@ -21,4 +21,4 @@ pub use leaving::Gone;
 pub use planned::Plan;
 pub use planning::plan;
 pub use queue::Queue;
-pub use room::who_goes;
+pub use room::{queue_of, who_goes};

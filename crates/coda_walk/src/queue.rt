@@ -6,7 +6,7 @@ ghost use Rattle.coda_walk.specs.declared.item.Item.{Item};
 ghost use Rattle.coda_walk.specs.Going.{blocks_of, without};
 ghost use Rattle.coda_walk.specs.Laws.{Among};
 ghost use Rattle.coda_walk.specs.Planning.{item_at};
-ghost use Rattle.coda_walk.specs.Queue.{place_in, count_in, is_in, used_at, one_under, set_at, same_rank, with_last, with_item, AreFree, AreFreeBut, AreKeyed, FitsBetween, IsQueueOf};
+ghost use Rattle.coda_walk.specs.Queue.{place_in, count_in, is_in, used_at, under_count, one_under, set_at, same_rank, with_last, with_item, AreFree, AreFreeBut, AreKeyed, FitsBetween, IsQueueOf};
 
 use crate::Item;
 use crate::rank::{Rank, Standing, may_leave, rank_of};
@@ -183,6 +183,13 @@ impl Queue {
         ensures { (items : List Item) → IsQueueOf self.now items → result ≡ blocks_of items }
     {
         self.total
+    }
+
+    /// How many items stand under an object.
+    pub fn under(&self, fid: Fid) -> u64
+        ensures { (items : List Item) → IsQueueOf self.now items → result ≡ under_count fid items }
+    {
+        count(&self.children, fid)
     }
 
     /// The item of an object.

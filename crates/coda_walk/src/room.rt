@@ -174,8 +174,8 @@ fn put_new(queue: &mut Queue, item: &Item) -> Result<bool, AllocError>
     Ok(true)
 }
 
-// The queue of items, where no object has two of them.
-fn queue_of(alloc: Global, items: &[Item]) -> Result<Option<Queue>, AllocError>
+/// The queue of items, where no object has two of them. Fails for want of memory alone, and for want of times.
+pub fn queue_of(alloc: Global, items: &[Item]) -> Result<Option<Queue>, AllocError>
     ensures { IfOk result (λ o. IfSome o (λ queue. IsQueueOf queue items.now)) }
 {
     let mut queue = Queue::new(alloc);

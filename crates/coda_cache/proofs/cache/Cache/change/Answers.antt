@@ -1,37 +1,15 @@
-use Rattle.std.proofs.Common.{◌≡◌, sym, ap, ◌∙◌}
-use Rattle.coda_fid.specs.Op.{fids_of}
-use Rattle.coda_cache.specs.State.{CacheState, Holds}
-use Rattle.coda_cache.specs.Steps.{taken_out, taken_below, taken_from, except_all, moved_in, all_dirty, mutated}
-use Rattle.coda_cache.proofs.Agreeing.{agree_same}
-use Rattle.coda_cache.proofs.Operated.{agree_changed, mutated_changed}
-use Rattle.coda_cache.proofs.Small.{small_same}
+use Rattle.std.proofs.Common.{not, ◌&&◌, sym, ap, ◌∙◌, subst}
+use Rattle.coda_walk.specs.Going.{is_listed}
+use Rattle.coda_walk.specs.Laws.{left}
+use Rattle.coda_cache.specs.Indexed.{IsQueued, AreMarked}
+use Rattle.coda_cache.specs.State.{CacheState}
+use Rattle.coda_cache.specs.Steps.{taken_below}
+use Rattle.coda_cache.proofs.Mutated.{indexed_changed}
 use Rattle.coda_cache.proofs.cache.Cache.change.Goals as goal
 
 pub invariant_of-self-2 : goal.invariant_of-self-2
 invariant_of-self-2 c =
-    let s : CacheState = record { size = c.self.inside.size; nodes = c.self.inside.nodes; holds = c.self.inside.holds; recency = c.self.inside.recency; priorities = c.self.inside.priorities } in
-    let gone : c.deref.result.now ≡ taken_below s (taken_out c.args.rec.now.op) =
-    c.deref.ensures.value ∙ c.in_ok-gone.ensures ∙ ap (λ (x : CacheState). taken_below x c.taken_out.result) (sym c.self.view_is) ∙ ap (taken_below s) c.taken_out.ensures in
-    let holds = c.mark.ensures
-    ∙ ap (λ (m : Holds). all_dirty m (fids_of c.args.rec.now.op))
-    (c.move_under.ensures ∙ (λ i. moved_in (c.moved_node.ensures i) ((c.take_out_all.ensures.holds ∙ ap (taken_from s.holds) gone) i))) in
-    let nodes = c.take_out_all.ensures.nodes ∙ (λ i. taken_from (c.in_ok-apply.ensures.ok i) (gone i)) in
-    let left = sym (ap (λ (x : CacheState). mutated x c.args.client c.args.rec.now) c.self.view_is) ∙ mutated_changed s c.args.client c.args.rec.now c.requires.makes in
-    record {
-      agree = agree_same _ c.take_out_all.new.nodes _ c.mark.new.holds _ c.take_out_all.new.recency nodes holds (c.take_out_all.ensures.recency ∙ ap (except_all s.recency) gone)
-          (agree_changed s c.args.client c.args.rec.now c.self.invariant.agree c.requires.makes);
-      small = small_same _ _ (nodes ∙ sym (ap (λ (x : CacheState). x.nodes) left)) c.requires.small;
-    }
-
-pub returns-clause-ok : goal.returns-clause-ok
-returns-clause-ok c =
-    let s : CacheState = record { size = c.self.inside.size; nodes = c.self.inside.nodes; holds = c.self.inside.holds; recency = c.self.inside.recency; priorities = c.self.inside.priorities } in
-    let gone : c.deref.result.now ≡ taken_below s (taken_out c.args.rec.now.op) =
-    c.deref.ensures.value ∙ c.in_ok-gone.ensures ∙ ap (λ (x : CacheState). taken_below x c.taken_out.result) (sym c.self.view_is) ∙ ap (taken_below s) c.taken_out.ensures in
-    let holds = c.mark.ensures
-    ∙ ap (λ (m : Holds). all_dirty m (fids_of c.args.rec.now.op))
-    (c.move_under.ensures ∙ (λ i. moved_in (c.moved_node.ensures i) ((c.take_out_all.ensures.holds ∙ ap (taken_from s.holds) gone) i))) in
-    let nodes = c.take_out_all.ensures.nodes ∙ (λ i. taken_from (c.in_ok-apply.ensures.ok i) (gone i)) in
-    let recency = c.take_out_all.ensures.recency ∙ ap (except_all s.recency) gone in
-    (λ i. record { size = c.self.inside.size; nodes = nodes i; holds = holds i; recency = recency i; priorities = c.self.inside.priorities })
-    ∙ sym (mutated_changed s c.args.client c.args.rec.now c.requires.makes) ∙ ap (λ (x : CacheState). mutated x c.args.client c.args.rec.now) c.self.view_is
+    indexed_changed c.self.inside.queued c.renew.new.self c.self.inside.dirty c.renew-2.new.self c.self.inside.contents c.change.new.self c.self.invariant c.args.client c.args.rec.now c.in_ok-change.ensures.ok
+    c.in_ok-gone.gone.items c.mentioned-mentioned.result c.requires.makes (c.in_ok-gone.ensures ∙ ap (λ (s : CacheState). taken_below s c.taken_out.result) (sym c.self.view_is) ∙ ap (taken_below c.self.inside.contents) c.taken_out.ensures) c.mentioned-mentioned.ensures
+    (λ items h. c.renew.ensures _ (subst (λ l. IsQueued c.take_all.new.self (left l items)) c.deref-2.ensures.value (c.take_all.ensures items h)))
+    (λ passes h. c.renew-2.ensures _ (subst (λ l. AreMarked c.take_all-2.new.self (λ f. not (is_listed l f) && passes f)) c.deref-3.ensures.value (c.take_all-2.ensures passes h)))

@@ -1,0 +1,91 @@
+-- What is kept beside the contents of a cache, so that no call has to look at all of them.
+use Rattle.std.specs.Prelude.{◌≡◌, ◌==◌, ℕ, ◌+◌, Bool, true, false, cond, List, [], ◌∷◌, Option, Some, None}
+use Rattle.std.specs.Prelude as prelude
+use Rattle.std.specs.Option.{IfSome}
+use Rattle.std.specs.BTreeSet as btree
+use Rattle.coda_fid.specs.declared.fid.Fid.{Fid}
+use Rattle.coda_fid.specs.Fid.{fid_cmp}
+use Rattle.coda_walk.specs.declared.item.Item.{Item}
+use Rattle.coda_walk.specs.Queue.{IsQueueOf, with_item, Rises}
+use Rattle.coda_cache.specs.declared.queued.Queued.{Queued}
+use Rattle.coda_cache.specs.declared.marks.Marks.{Marks}
+use Rattle.coda_cache.specs.declared.cache.Cache.TheInside.{Inside}
+use Rattle.coda_tree.specs.Slots.{altered}
+use Rattle.coda_cache.specs.declared.hold.Hold.{Hold}
+use Rattle.coda_cache.specs.Steps.{each, dirty_where}
+use Rattle.coda_cache.specs.State.{CacheState, Holds, parent_of, priority_of, blocks_at, is_dirty}
+
+-- ---- the queue
+
+-- a cached node as it stands in the queue, which doesn't know who is pinned
+abbrev pub standing_of : CacheState → Fid → Item
+standing_of c f = record { fid = f; parent = parent_of c f; priority = priority_of c f; blocks = blocks_at c f; cached = true; served = false; pinned = false }
+
+-- the cached nodes so, in the order of their use
+abbrev pub standings : CacheState → List Item
+standings c = prelude.map (standing_of c) c.recency
+
+-- the queue has these items, where it is kept
+abbrev pub IsQueued : Queued → List Item → Type 0
+IsQueued q items = IfSome q.queue (λ queue. IsQueueOf queue items)
+
+-- the items stand in the order of some times of use
+abbrev pub AreInOrder : List Item → Type 0
+AreInOrder items = (used : Fid → ℕ) × Rises used items
+
+-- the items, with those of some objects anew
+abbrev pub renewed_items : (Fid → Item) → List Fid → List Item → List Item
+renewed_items item [] items = items
+renewed_items item (f ∷ fids) items = renewed_items item fids (with_item (item f) items)
+
+-- ---- marks
+
+-- those that are marked are those that pass, where marks are kept
+abbrev pub AreMarked : Marks → (Fid → Bool) → Type 0
+AreMarked m passes = IfSome m.fids (λ fids. (f : Fid) → btree.contains fid_cmp fids f ≡ passes f)
+
+-- ---- which nodes are dirty
+
+-- whether a fid is of a volume, where one is given
+abbrev pub is_of : Option ℕ → Fid → Bool
+is_of None f = true
+is_of (Some volume) f = f.volume == volume
+
+-- a hold, dirty where its fid is among the fids; one that isn't of the volume stays as it is
+abbrev pub dirty_of : Option ℕ → List Fid → Fid → Hold → Hold
+dirty_of volume fids f hold = cond (is_of volume f) (dirty_where fids f hold) hold
+
+-- the cache in which exactly these nodes are dirty, where they are cached and of the volume
+abbrev pub pinned_of : CacheState → Option ℕ → List Fid → CacheState
+pinned_of c volume fids = record c { holds = each (dirty_of volume fids) c.holds }
+
+-- a hold of a dirty node, or of a clean one
+abbrev pub set_dirty : Bool → Hold → Hold
+set_dirty dirty hold = record hold { dirty = dirty }
+
+-- the holds in which those of these nodes that are of the volume are dirty, or clean
+abbrev pub set_all : Option ℕ → Bool → Holds → List Fid → Holds
+set_all volume dirty holds [] = holds
+set_all volume dirty holds (f ∷ fids) = set_all volume dirty (cond (is_of volume f) (altered holds f (set_dirty dirty)) holds) fids
+
+-- ---- blocks
+
+-- the blocks of a node, unless it passes
+abbrev pub blocks_unless : CacheState → (Fid → Bool) → Fid → ℕ
+blocks_unless c test f = cond (test f) 0 (blocks_at c f)
+
+-- the blocks of nodes that don't pass
+abbrev pub blocks_beside : CacheState → (Fid → Bool) → List Fid → ℕ
+blocks_beside c test [] = 0
+blocks_beside c test (f ∷ fids) = blocks_unless c test f + blocks_beside c test fids
+
+-- ---- the cache
+
+-- the queue has the cached nodes, and the dirty ones are marked
+pub record AreIndexed (queued : Queued) (dirty : Marks) (c : CacheState) : Type 0 where
+  pub queue : IsQueued queued (standings c)
+  pub marks : AreMarked dirty (is_dirty c)
+
+-- so it is with the parts of a cache
+abbrev pub IsIndexed : Inside → Type 0
+IsIndexed a = AreIndexed a.queued a.dirty a.contents
