@@ -1,19 +1,22 @@
 ghost use Rattle.coda_lineage.specs.Deeds.{CertifiedRecordsAreDecided};
 ghost use Rattle.coda_lineage.specs.Lineage.{ReplicasStayOfOneHistory, MergesAreResolutions};
 
-/// A law of replicated volumes: whatever records were decided at its replicas and whichever of them were resolved since a
-/// volume was new, any of its replicas are of one history (Kumar and Satyanarayanan 1993). So what a resolution leaves at
-/// each is a tree, and what it takes up is equal or marked everywhere.
+/// A law of replicated volumes: whatever records were decided at its replicas since a volume was new, whichever of
+/// them were resolved, and whatever was repaired at all, any of its replicas are of one history (Kumar and
+/// Satyanarayanan 1993). So what a resolution leaves at each is a tree, and what it takes up is equal or marked
+/// everywhere.
 pub fn replicas_stay_of_one_history()
     ensures { ReplicasStayOfOneHistory }
 {}
 
-/// A law of decisions: each replica has its nodes, and whatever record certification finds nothing against there can be decided.
+/// A law of decisions: each replica has its nodes, and whatever record certification finds nothing against there can
+/// be decided.
 pub fn certified_records_are_decided()
     ensures { CertifiedRecordsAreDecided }
 {}
 
-/// A law of resolutions: where changes that `merge` answers are installed, at all of the replicas or at some, that is a resolution.
+/// A law of resolutions: where changes that `merge` answers are installed, at all of the replicas or at some, that is
+/// a resolution.
 pub fn merges_are_resolutions()
     ensures { MergesAreResolutions }
 {}

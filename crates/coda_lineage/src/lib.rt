@@ -1,4 +1,5 @@
-//! Histories of the replicas of a volume: what decisions and resolutions make of them, and that they stay of one history.
+//! Histories of the replicas of a volume: what decisions, resolutions and repairs make of them, and that they stay of
+//! one history.
 #![tactic(auto)]
 
 mod law;
