@@ -1,5 +1,5 @@
 -- That an operation which is answered as done was performed.
-use Rattle.std.proofs.Common.{◌≡◌, ℕ, ◌+◌, Bool, true, false, cond, List, [], ◌∷◌, ◌++◌, append_assoc, map as map_list, Option, Some, None, Result, Ok, Err, refl, sym, ap, subst, ◌∙◌}
+use Rattle.std.proofs.Common.{◌≡◌, ℕ, ◌+◌, Bool, true, false, cond, List, [], ◌∷◌, ◌++◌, append_assoc, map as map_list, Option, Some, None, Result, Ok, Err, refl, sym, ap, subst, ◌∙◌, inl, inr}
 use Rattle.std.specs.FinMap as map
 use Rattle.std.specs.Option.{unwrap_or}
 use Rattle.coda_fid.specs.Fid.{root_of}
@@ -16,6 +16,7 @@ use Rattle.coda_tree.specs.Bindings.{Name}
 use Rattle.coda_tree.specs.Volume.{Nodes, child, IsDir, bound, additions, edited_all}
 use Rattle.coda_tree.proofs.Order.{get_here}
 use Rattle.coda_certify.specs.Replay.{empty_file, empty_dir, new_link, effects, sid_of, applied}
+use Rattle.coda_cml.specs.Steady.{unbinds}
 use Rattle.coda_plain.specs.Cell.{ClientEntry, Did}
 use Rattle.coda_plain.specs.Deeds.{Operated, created_by}
 use Rattle.coda_script.specs.declared.line.Content.{Content}
@@ -41,16 +42,16 @@ use Rattle.coda_cell.specs.Runs.{IsKept}
 use Rattle.coda_cell.specs.Sending.{Freezing, freezing, Ruling, ruling, Taking, taking, answered_to, ruled_on, drained_of, drain}
 use Rattle.coda_cell.specs.Steps.{Doing, Unless, first_missing, on_volume, on_holder, offers_of, reply_to, ByClient, ByBoth, bytes_of, DoesTask}
 use Rattle.coda_cell.proofs.Accepted.{MayMove, Relies, found_then, accepted_relies}
-use Rattle.coda_cell.proofs.AfterOperations.{newly_bound, IsBoundBy}
+use Rattle.coda_cell.proofs.AfterOperations.{newly_bound, still_bound, bound_before, IsBoundBy}
 use Rattle.coda_cell.proofs.Events.{after_client}
 use Rattle.coda_cell.proofs.Families.{put_here}
 use Rattle.coda_cell.proofs.Fetches.{client_after_both, client_after_fetches, keeps_look_ups}
 use Rattle.coda_cell.proofs.Offered.{fetched_is_offered}
 use Rattle.coda_cell.proofs.KeptCells.{first_kept}
 use Rattle.coda_cell.proofs.KeptLines.{lines_keep_cells}
-use Rattle.coda_main.specs.Performed.{IsNew, IsStored, IsSet, IsGone, IsMoved, OthersStay, content_of, DoesAsked, IsPerformed, WasPerformed, OperationsArePerformed}
+use Rattle.coda_main.specs.Performed.{HasNoOther, IsNew, IsStored, IsSet, IsGone, IsMoved, OthersStay, content_of, DoesAsked, IsPerformed, WasPerformed, OperationsArePerformed}
 use Rattle.coda_main.proofs.Performed.{leads, creation_made, made_new, store_at_stored, stored_so, setattr_changed, changed_so, IsNoDir, accept_removed, accept_rmdir_removed, removed_so, accept_renamed, apart_names, rename_leaves, replaced_so}
-use Rattle.coda_main.proofs.Served.{Keeps, keeps_look, has_fetched}
+use Rattle.coda_main.proofs.Served.{Keeps, keeps_look, has_fetched, put_off}
 use Rattle.coda_main.proofs.Unchanged.{others_stay}
 use Rattle.coda_main.proofs.Running.{runs_moved}
 
@@ -72,6 +73,10 @@ module _ (s : Sight) (volume own : ℕ) (rec : Record) where
   abbrev n : Nodes
   n = applied s.held.nodes own rec
 
+  -- an object that the operation binds nowhere has no other name
+  no_other : (fid : Fid) → ((dir : Fid) (name : Name) → IsBoundBy rec.op dir name fid → ⊥) → HasNoOther m n fid
+  no_other fid never = λ dir name is. elim (bound_before m own rec dir name fid is) [ inl was ↦ was | inr by ↦ absurd (never dir name by) ]
+
   created : (path : List Name) (mode owner : ℕ) → accept s volume (Create path mode owner) ≡ Ok rec.op → IsNew m n volume path (File []) mode owner (object_of rec.op)
   unfolding accept
   created path mode owner h =
@@ -79,7 +84,11 @@ module _ (s : Sight) (volume own : ℕ) (rec : Record) where
       let node = empty_file mode owner rec.time (sid_of own rec) in
       subst (IsNew m n volume path (File []) mode owner) (sym (ap object_of x.is))
       (made_new s volume own path (λ dir name fid. CreateOp dir name fid mode owner) rec node x (accepted_relies s volume (Create path mode owner) rec.op h)
-      (subst (λ op. IsBoundBy op x.end.dir x.end.last x.fid) (sym x.is) (refl, refl, refl)) (put_there m own rec (CreateOp x.end.dir x.end.last x.fid mode owner) x.end.dir x.end.last x.fid node x.is refl))
+      (subst (λ op. IsBoundBy op x.end.dir x.end.last x.fid) (sym x.is) (refl, refl, refl))
+      (λ dir name by. (
+      let at : IsBoundBy (CreateOp x.end.dir x.end.last x.fid mode owner) dir name x.fid = subst (λ op. IsBoundBy op dir name x.fid) x.is by in
+      (at.0, at.1)))
+      (put_there m own rec (CreateOp x.end.dir x.end.last x.fid mode owner) x.end.dir x.end.last x.fid node x.is refl))
 
   made_dir : (path : List Name) (mode owner : ℕ) → accept s volume (Mkdir path mode owner) ≡ Ok rec.op → IsNew m n volume path (Dir map.empty) mode owner (object_of rec.op)
   unfolding accept
@@ -88,7 +97,11 @@ module _ (s : Sight) (volume own : ℕ) (rec : Record) where
       let node = empty_dir mode owner rec.time (sid_of own rec) in
       subst (IsNew m n volume path (Dir map.empty) mode owner) (sym (ap object_of x.is))
       (made_new s volume own path (λ dir name fid. MkdirOp dir name fid mode owner) rec node x (accepted_relies s volume (Mkdir path mode owner) rec.op h)
-      (subst (λ op. IsBoundBy op x.end.dir x.end.last x.fid) (sym x.is) (refl, refl, refl)) (put_there m own rec (MkdirOp x.end.dir x.end.last x.fid mode owner) x.end.dir x.end.last x.fid node x.is refl))
+      (subst (λ op. IsBoundBy op x.end.dir x.end.last x.fid) (sym x.is) (refl, refl, refl))
+      (λ dir name by. (
+      let at : IsBoundBy (MkdirOp x.end.dir x.end.last x.fid mode owner) dir name x.fid = subst (λ op. IsBoundBy op dir name x.fid) x.is by in
+      (at.0, at.1)))
+      (put_there m own rec (MkdirOp x.end.dir x.end.last x.fid mode owner) x.end.dir x.end.last x.fid node x.is refl))
 
   linked : (path : List Name) (target : List ℕ) → accept s volume (Symlink path target) ≡ Ok rec.op → IsNew m n volume path (Link target) 511 0 (object_of rec.op)
   unfolding accept
@@ -97,7 +110,11 @@ module _ (s : Sight) (volume own : ℕ) (rec : Record) where
       let node = new_link target 511 0 rec.time (sid_of own rec) in
       subst (IsNew m n volume path (Link target) 511 0) (sym (ap object_of x.is))
       (made_new s volume own path (λ dir name fid. SymlinkOp dir name fid target 511 0) rec node x (accepted_relies s volume (Symlink path target) rec.op h)
-      (subst (λ op. IsBoundBy op x.end.dir x.end.last x.fid) (sym x.is) (refl, refl, refl)) (put_there m own rec (SymlinkOp x.end.dir x.end.last x.fid target 511 0) x.end.dir x.end.last x.fid node x.is refl))
+      (subst (λ op. IsBoundBy op x.end.dir x.end.last x.fid) (sym x.is) (refl, refl, refl))
+      (λ dir name by. (
+      let at : IsBoundBy (SymlinkOp x.end.dir x.end.last x.fid target 511 0) dir name x.fid = subst (λ op. IsBoundBy op dir name x.fid) x.is by in
+      (at.0, at.1)))
+      (put_there m own rec (SymlinkOp x.end.dir x.end.last x.fid target 511 0) x.end.dir x.end.last x.fid node x.is refl))
 
   stored : (path : List Name) (content : List ℕ) → accept s volume (Store path content) ≡ Ok rec.op → IsStored m n volume path content (object_of rec.op)
   unfolding accept
@@ -105,7 +122,9 @@ module _ (s : Sight) (volume own : ℕ) (rec : Record) where
       let a = found_then (resolve m (root_of volume) path) (λ fid. store_at (map.get m fid) fid content) rec.op h in
       let x = store_at_stored m volume path content a.0 (map.get m a.0) rec.op (leads m (root_of volume) path a.0 a.1) refl a.2 in
       subst (IsStored m n volume path content) (sym (ap object_of x.is))
-      (subst (λ q. IsStored m q volume path content x.fid) (sym (applied_is m own rec (StoreOp x.fid x.node.sid content) x.is)) (stored_so m volume rec.time (sid_of own rec) path content rec.op x))
+      (stored_so m volume rec.time (sid_of own rec) path content rec.op x n (applied_is m own rec (StoreOp x.fid x.node.sid content) x.is)
+      (no_other x.fid (λ dir name by. subst (λ op. IsBoundBy op dir name x.fid) x.is by))
+      (λ dir name was. still_bound s volume own rec dir name x.fid (accepted_relies s volume (Store path content) rec.op h) was (ap (unbinds x.fid) x.is)))
 
   attributes_set : (path : List Name) (attrs : Attrs) → accept s volume (Setattr path attrs) ≡ Ok rec.op → IsSet m n volume path attrs (object_of rec.op)
   unfolding accept
@@ -113,7 +132,9 @@ module _ (s : Sight) (volume own : ℕ) (rec : Record) where
       let a = found_then (resolve m (root_of volume) path) (λ fid. setattr_at (map.get m fid) fid attrs) rec.op h in
       let x = setattr_changed m volume path attrs a.0 (map.get m a.0) rec.op (leads m (root_of volume) path a.0 a.1) refl a.2 in
       subst (IsSet m n volume path attrs) (sym (ap object_of x.is))
-      (subst (λ q. IsSet m q volume path attrs x.fid) (sym (applied_is m own rec (SetattrOp x.fid x.node.sid attrs) x.is)) (changed_so m volume rec.time (sid_of own rec) path attrs rec.op x))
+      (changed_so m volume rec.time (sid_of own rec) path attrs rec.op x n (applied_is m own rec (SetattrOp x.fid x.node.sid attrs) x.is)
+      (no_other x.fid (λ dir name by. subst (λ op. IsBoundBy op dir name x.fid) x.is by))
+      (λ dir name was. still_bound s volume own rec dir name x.fid (accepted_relies s volume (Setattr path attrs) rec.op h) was (ap (unbinds x.fid) x.is)))
 
   removed : (path : List Name) → accept s volume (Remove path) ≡ Ok rec.op → IsGone m n volume path IsNoDir (object_of rec.op)
   unfolding accept
@@ -121,7 +142,8 @@ module _ (s : Sight) (volume own : ℕ) (rec : Record) where
       let x = accept_removed s volume path (ending path) rec.op refl h in
       let relies : Relies s volume (RemoveOp x.end.dir x.end.last x.fid x.node.sid) = subst (Relies s volume) x.is (accepted_relies s volume (Remove path) rec.op h) in
       subst (IsGone m n volume path IsNoDir) (sym (ap object_of x.is))
-      (subst (λ q. IsGone m q volume path IsNoDir x.fid) (sym (applied_is m own rec (RemoveOp x.end.dir x.end.last x.fid x.node.sid) x.is)) (removed_so m volume path IsNoDir RemoveOp rec.op x relies.0))
+      (removed_so m volume path IsNoDir RemoveOp rec.op x relies.0 n (applied_is m own rec (RemoveOp x.end.dir x.end.last x.fid x.node.sid) x.is)
+      (no_other x.fid (λ dir name by. subst (λ op. IsBoundBy op dir name x.fid) x.is by)))
 
   removed_dir : (path : List Name) → accept s volume (Rmdir path) ≡ Ok rec.op → IsGone m n volume path IsDir (object_of rec.op)
   unfolding accept
@@ -129,7 +151,8 @@ module _ (s : Sight) (volume own : ℕ) (rec : Record) where
       let x = accept_rmdir_removed s volume path (ending path) rec.op refl h in
       let relies : Relies s volume (RmdirOp x.end.dir x.end.last x.fid x.node.sid) = subst (Relies s volume) x.is (accepted_relies s volume (Rmdir path) rec.op h) in
       subst (IsGone m n volume path IsDir) (sym (ap object_of x.is))
-      (subst (λ q. IsGone m q volume path IsDir x.fid) (sym (applied_is m own rec (RmdirOp x.end.dir x.end.last x.fid x.node.sid) x.is)) (removed_so m volume path IsDir RmdirOp rec.op x relies.0))
+      (removed_so m volume path IsDir RmdirOp rec.op x relies.0 n (applied_is m own rec (RmdirOp x.end.dir x.end.last x.fid x.node.sid) x.is)
+      (no_other x.fid (λ dir name by. subst (λ op. IsBoundBy op dir name x.fid) x.is by)))
 
   renamed : (from to : List Name) → accept s volume (Rename from to) ≡ Ok rec.op → IsMoved m n volume from to (object_of rec.op)
   unfolding accept
@@ -145,6 +168,12 @@ module _ (s : Sight) (volume own : ℕ) (rec : Record) where
         new = x.new;
         was = may.bound;
         left = ap (λ q. child q x.old.dir x.old.last) leaves ∙ rename_leaves m x.old.dir x.old.last x.new.dir x.new.last x.fid x.over apart;
+        only = λ dir name is. elim (bound_before m own rec dir name x.fid is) [
+          | inl was ↦ inl was
+          | inr by ↦ (
+              let at : IsBoundBy (RenameOp x.old.dir x.old.last x.new.dir x.new.last x.fid x.over) dir name x.fid = subst (λ op. IsBoundBy op dir name x.fid) x.is by in
+              inr (at.0, at.1))
+        ];
         moved = newly_bound s volume own rec x.new.dir x.new.last x.fid relies (subst (λ op. IsBoundBy op x.new.dir x.new.last x.fid) (sym x.is) (refl, refl, refl));
         replaced = λ other is. (
             let gone = replaced_so m x.old.dir x.old.last x.new.dir x.new.last x.fid x.over may other is in
@@ -231,6 +260,7 @@ module _ (cell : MadeCell) (kept : IsKept cell) (number : ℕ) (object : Fid) wh
         others = subst (OthersStay sight.held.nodes (applied sight.held.nodes c.number rec)) (sym x.object_is) (others_stay sight volume c.number rec (accepted_relies sight volume ask x.op x.accepted));
         rec = rec;
         kept = ap pending (put_here c.volumes volume (record v { back = v.back ++ rec ∷ []; operations = rec.number; creations = v.creations + created_by rec.op })) ∙ sym (append_assoc v.front v.back (rec ∷ []));
+        elsewhere = λ other ne. put_off c.volumes volume other (record v { back = v.back ++ rec ∷ []; operations = rec.number; creations = v.creations + created_by rec.op }) ne;
         number_is = sym x.number_is;
         time_is = refl;
         next = x.number_is;
@@ -246,6 +276,7 @@ module _ (cell : MadeCell) (kept : IsKept cell) (number : ℕ) (object : Fid) wh
     new = new;
     was = there;
     is = ap (λ (q : CellState). q.clients client) (left ∙ ap (after_all s) happened ∙ after_client s client c entries there) ∙ put_here s.clients client (Some (client_after_all c entries)) ∙ ap Some entered;
+    others = λ other ne. ap (λ (q : CellState). q.clients other) (left ∙ ap (after_all s) happened ∙ after_client s client c entries there) ∙ put_off s.clients client other (Some (client_after_all c entries)) ne;
     performed = performed;
   }
 

@@ -1,5 +1,5 @@
 -- What an accepted operation does with what a client holds.
-use Rattle.std.proofs.Common.{◌≡◌, ◌≢◌, ℕ, ◌&&◌, ◌==◌, not, Bool, true, false, List, [], ◌∷◌, ◌++◌, Option, Some, None, is_some, option_map, Ok, refl, sym, ap, subst, ◌∙◌}
+use Rattle.std.proofs.Common.{◌≡◌, ◌≢◌, ℕ, ◌&&◌, ◌==◌, not, Bool, true, false, List, [], ◌∷◌, ◌++◌, Option, Some, None, is_some, option_map, Ok, refl, sym, ap, subst, ◌∙◌, inl, inr}
 use Rattle.std.specs.FinMap as map
 use Rattle.std.specs.Option.{unwrap_or}
 use Rattle.std.proofs.lemmas.Option.{none-some}
@@ -26,8 +26,8 @@ use Rattle.coda_cell.specs.Held.{is_below, some_below}
 use Rattle.coda_cell.specs.Looking.{then_find, held, step_from, resolve}
 use Rattle.coda_cell.specs.Accepting.{Sight, new_under, new_place, accept_creation, store_in, store_at, setattr_at, remove_in, remove_at, rmdir_of, rmdir_in, rmdir_at, spot, bound_at, place, replaced_by, move_to, rename_to, rename_root, accept_rename, accept_remove, accept_rmdir}
 use Rattle.coda_cell.proofs.Accepted.{MayMove, Relies, ok_is, found_then, not_at_root, new_under_is, new_fid_is, held_is, step_is, IsSpot, spot_is, root_stays, unless_below}
-use Rattle.coda_cell.proofs.AfterOperations.{newly_bound, IsBoundBy}
-use Rattle.coda_main.specs.Performed.{Leads, End, IsNew, IsStored, IsSet, IsGone}
+use Rattle.coda_cell.proofs.AfterOperations.{newly_bound, bound_before, IsBoundBy}
+use Rattle.coda_main.specs.Performed.{Leads, End, HasNoOther, IsNew, IsStored, IsSet, IsGone}
 
 -- ---- paths
 
@@ -83,12 +83,14 @@ creation_made s volume path (Some e) make op is h =
 
 -- what it leaves
 pub made_new : (s : Sight) (volume client : ℕ) (path : List Name) (make : Fid → Name → Fid → Op) (rec : Record) (node : Node) (made : Made s volume path make rec.op) → Relies s volume rec.op → IsBoundBy rec.op made.end.dir made.end.last made.fid
+    → ((dir : Fid) (name : Name) → IsBoundBy rec.op dir name made.fid → (dir ≡ made.end.dir) × (name ≡ made.end.last))
     → map.get (applied s.held.nodes client rec) made.fid ≡ Some node → IsNew s.held.nodes (applied s.held.nodes client rec) volume path node.kind node.mode node.owner made.fid
-made_new s volume client path make rec node made relies anew stands = record {
+made_new s volume client path make rec node made relies anew alone stands = record {
   end = made.end;
   free = made.free;
   fresh = made.fresh;
   bound = newly_bound s volume client rec made.end.dir made.end.last made.fid relies anew;
+  only = λ dir name is. elim (bound_before s.held.nodes client rec dir name made.fid is) [ inl was ↦ inl was | inr by ↦ inr (alone dir name by) ];
   node = node;
   stands = stands;
   kind_is = refl;
@@ -138,9 +140,10 @@ set_or_is : {A : Type 0} (o : Option A) (x : A) → set_or o x ≡ unwrap_or o x
 set_or_is None x = refl
 set_or_is (Some y) x = refl
 
-pub stored_so : (m : Nodes) (volume time : ℕ) (sid : Sid) (path : List Name) (content : List ℕ) (op : Op) (x : Stored m volume path content op) → IsStored m (edited_all m (effects time sid (StoreOp x.fid x.node.sid content))) volume path content x.fid
-stored_so m volume time sid path content op x = record {
-  at = record { leads = x.leads; was = x.node; stood = x.there; node = written (content_patch content time) sid x.node; stands = write_leaves m x.fid (content_patch content time) sid x.node x.there };
+pub stored_so : (m : Nodes) (volume time : ℕ) (sid : Sid) (path : List Name) (content : List ℕ) (op : Op) (x : Stored m volume path content op) (n : Nodes) → n ≡ edited_all m (effects time sid (StoreOp x.fid x.node.sid content))
+    → HasNoOther m n x.fid → HasNoOther n m x.fid → IsStored m n volume path content x.fid
+stored_so m volume time sid path content op x n is only still = record {
+  at = record { leads = x.leads; was = x.node; stood = x.there; node = written (content_patch content time) sid x.node; stands = ap (λ q. map.get q x.fid) is ∙ write_leaves m x.fid (content_patch content time) sid x.node x.there; only = only; still = still };
   old = x.old;
   file = x.file;
   content_is = ap (with_content (Some content)) x.file;
@@ -148,9 +151,10 @@ stored_so m volume time sid path content op x = record {
   owner_is = refl;
 }
 
-pub changed_so : (m : Nodes) (volume time : ℕ) (sid : Sid) (path : List Name) (attrs : Attrs) (op : Op) (x : Changed m volume path attrs op) → IsSet m (edited_all m (effects time sid (SetattrOp x.fid x.node.sid attrs))) volume path attrs x.fid
-changed_so m volume time sid path attrs op x = record {
-  at = record { leads = x.leads; was = x.node; stood = x.there; node = written (attrs_patch attrs) sid x.node; stands = write_leaves m x.fid (attrs_patch attrs) sid x.node x.there };
+pub changed_so : (m : Nodes) (volume time : ℕ) (sid : Sid) (path : List Name) (attrs : Attrs) (op : Op) (x : Changed m volume path attrs op) (n : Nodes) → n ≡ edited_all m (effects time sid (SetattrOp x.fid x.node.sid attrs))
+    → HasNoOther m n x.fid → HasNoOther n m x.fid → IsSet m n volume path attrs x.fid
+changed_so m volume time sid path attrs op x n is only still = record {
+  at = record { leads = x.leads; was = x.node; stood = x.there; node = written (attrs_patch attrs) sid x.node; stands = ap (λ q. map.get q x.fid) is ∙ write_leaves m x.fid (attrs_patch attrs) sid x.node x.there; only = only; still = still };
   kind_is = refl;
   mode_is = set_or_is attrs.mode x.node.mode;
   owner_is = set_or_is attrs.owner x.node.owner;
@@ -224,8 +228,8 @@ pub binds_apart : (m : Nodes) (d gone kid : Fid) (n : Name) → child m d n ≡ 
 binds_apart m d gone kid n was leaf same = none-some kid (sym (leaf n) ∙ ap (λ e. child m e n) (sym same) ∙ was)
 
 pub removed_so : (m : Nodes) (volume : ℕ) (path : List Name) (MayGo : NodeKind → Type 0) (make : Fid → Name → Fid → Sid → Op) (op : Op) (x : Removed m volume path MayGo make op) → MayRemove m x.end.dir x.end.last x.fid
-    → IsGone m (edited_all m (removals x.end.dir x.end.last x.fid)) volume path MayGo x.fid
-removed_so m volume path MayGo make op x may =
+    → (n : Nodes) → n ≡ edited_all m (removals x.end.dir x.end.last x.fid) → HasNoOther m n x.fid → IsGone m n volume path MayGo x.fid
+removed_so m volume path MayGo make op x may n is only =
     let apart = binds_apart m x.end.dir x.fid x.fid x.end.last x.bound may.leaf in
     let less = unbound m x.end.dir x.end.last in
     record {
@@ -235,8 +239,9 @@ removed_so m volume path MayGo make op x may =
       stood = x.there;
       may = x.may;
       binds_nothing = may.leaf;
-      unbound = ap (λ o. child_of o x.end.last) (gone_else fids_total exact_fids less x.fid x.end.dir apart) ∙ unbound_here m x.end.dir x.end.last;
-      taken = gone_here fids_total less x.fid;
+      unbound = ap (λ q. child q x.end.dir x.end.last) is ∙ ap (λ o. child_of o x.end.last) (gone_else fids_total exact_fids less x.fid x.end.dir apart) ∙ unbound_here m x.end.dir x.end.last;
+      only = only;
+      taken = ap (λ q. map.get q x.fid) is ∙ gone_here fids_total less x.fid;
     }
 
 -- ---- renames

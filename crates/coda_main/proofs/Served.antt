@@ -1,7 +1,8 @@
 -- What a client fetches is what the volume's server holds.
-use Rattle.std.proofs.Common.{◌≡◌, ℕ, List, [], ◌∷◌, Option, Some, None, refl, sym, ap, ◌∙◌, inl, inr, ◌⊎◌}
+use Rattle.std.proofs.Common.{◌≡◌, ℕ, List, [], ◌∷◌, Option, Some, None, refl, sym, ap, ◌∙◌, inl, inr, ◌⊎◌, ◌≢◌, cond}
 use Rattle.std.specs.FinMap as map
 use Rattle.std.specs.Option.{option_and_then}
+use Rattle.std.proofs.lemmas.Bool.{ne_eqb}
 use Rattle.std.proofs.lemmas.Option.{none-some}
 use Rattle.coda_fid.specs.declared.fid.Fid.{Fid}
 use Rattle.coda_fid.proofs.Fids.{fids_total, exact_fids}
@@ -13,9 +14,13 @@ use Rattle.coda_script.specs.declared.line.Strength.{Strength}
 use Rattle.coda_script.specs.declared.line.Strength.TheVariants.{Strong, Weak, Down}
 use Rattle.coda_cell.specs.Held.{Held, held_after_fetch, held_after_fetches, Fetch}
 use Rattle.coda_cell.specs.Looking.{offered, fetch_of, looked}
-use Rattle.coda_cell.specs.State.{ReplicaState, CellState}
+use Rattle.coda_cell.specs.State.{put, ReplicaState, CellState}
 use Rattle.coda_cell.specs.Steps.{reached, offers_of}
 use Rattle.coda_main.specs.Performed.{HasFetched}
+
+-- what a family has at another number
+pub put_off : {A : Type 0} (f : ℕ → A) (k q : ℕ) (x : A) → q ≢ k → put f k x q ≡ f q
+put_off f k q x ne = ap (λ b. cond b x (f q)) (ne_eqb q k ne)
 
 -- ---- what was held stays
 

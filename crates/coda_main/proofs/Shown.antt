@@ -40,7 +40,7 @@ use Rattle.coda_cell.proofs.KeptLines.{lines_keep_cells}
 use Rattle.coda_main.specs.Shown.{Looks, shown_by, WasShown, WhatIsShownIsThere}
 use Rattle.coda_main.proofs.Performed.{leads}
 use Rattle.coda_main.proofs.Running.{runs_moved}
-use Rattle.coda_main.proofs.Served.{Keeps, keeps_look, has_fetched}
+use Rattle.coda_main.proofs.Served.{Keeps, keeps_look, has_fetched, put_off}
 
 abbrev IsShownBy : NodeKind → Said → Type 0
 IsShownBy kind said = shown_by (reply_to said) ≡ Some kind
@@ -105,6 +105,8 @@ module _ (cell : MadeCell) (reply : Reply) (kind : NodeKind) (is : shown_by repl
         new = record c { held = held };
         was = did.there;
         is = ap (λ (q : CellState). q.clients client) (left ∙ ap (after_all s) did.happened ∙ after_client s client c entries did.there) ∙ put_here s.clients client (Some (client_after_all c entries)) ∙ ap Some (client_after_fetches c fetches);
+        others = λ other ne. ap (λ (q : CellState). q.clients other) (left ∙ ap (after_all s) did.happened ∙ after_client s client c entries did.there) ∙ put_off s.clients client other (Some (client_after_all c entries)) ne;
+        logs = refl;
         fetched = has_fetched s client volume c.held fetches (keeps_along (Keeps c.held.nodes) offers (keeps_look c.held.nodes offers) c.held (root_of volume) path (λ fid node h. h)) (fetched_along_is_offered offers c.held (root_of volume) path);
         object = there.object;
         leads = leads held.nodes (root_of volume) path there.object there.found;

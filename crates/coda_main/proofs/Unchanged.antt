@@ -1,5 +1,5 @@
 -- What an accepted operation leaves as it was.
-use Rattle.std.proofs.Common.{◌≡◌, ◌≢◌, ℕ, ◌||◌, true, false, Option, Some, None, is_some, option_map, refl, sym, ap, subst, ◌∙◌, inl, inr}
+use Rattle.std.proofs.Common.{◌≡◌, ◌≢◌, ℕ, ◌||◌, true, false, Option, Some, None, is_some, option_map, refl, sym, ap, subst, ◌∙◌, inl, inr, ◌⊎◌}
 use Rattle.std.specs.FinMap as map
 use Rattle.std.proofs.lemmas.Bool.{false≢true}
 use Rattle.std.proofs.lemmas.Option.{none-some}
@@ -15,15 +15,15 @@ use Rattle.coda_tree.specs.declared.node.Node.{Node}
 use Rattle.coda_tree.specs.Bindings.{Name}
 use Rattle.coda_tree.specs.Volume.{Nodes, has, IsDir, IsDirNode, IsDirAt, changed, bind_in, unbind_in, bound, unbound, Patch, written, additions, removals, moves, content_patch, attrs_patch, edited_all}
 use Rattle.coda_tree.proofs.Order.{fid_cases, get_else, gone_here, gone_else}
-use Rattle.coda_tree.proofs.Changes.{at_changed, off_changed, dir_node, dir_changed}
+use Rattle.coda_tree.proofs.Changes.{at_changed, off_changed, has_changed, dir_node, dir_changed}
 use Rattle.coda_certify.specs.Replay.{empty_file, empty_dir, new_link, rename_effects, effects, sid_of, applied}
 use Rattle.coda_cancel.proofs.Keys.{fid_other}
 use Rattle.coda_cml.specs.Steady.{unbinds}
 use Rattle.coda_cell.specs.Ask.{object_of}
 use Rattle.coda_cell.specs.Accepting.{Sight}
 use Rattle.coda_cell.proofs.Accepted.{MayMove, Relies}
-use Rattle.coda_cell.proofs.AfterOperations.{still_bound, bound_before, IsBoundBy}
-use Rattle.coda_main.specs.Performed.{IsAsItWas, OthersStay}
+use Rattle.coda_cell.proofs.AfterOperations.{still_bound, newly_bound, bound_before, IsBoundBy}
+use Rattle.coda_main.specs.Performed.{IsAsItWas, IsReplaced, OthersStay}
 use Rattle.coda_main.proofs.Performed.{binds_apart, over_gone}
 
 -- ---- nodes
@@ -147,11 +147,43 @@ binds_its_own (Remove d n fid pre) dir name other at = absurd at
 binds_its_own (Rmdir d n fid pre) dir name other at = absurd at
 binds_its_own (Rename from_dir from to_dir to fid over) dir name other at = at.2
 
+-- ---- what is there
+
+-- two directories change, and all that is there stays
+there_moved : (m : Nodes) (from_dir : Fid) (from : Name) (to_dir : Fid) (to : Name) (fid f : Fid) → has (edited_all m (moves from_dir from to_dir to fid)) f ≡ has m f
+there_moved m from_dir from to_dir to fid f = has_changed (unbound m from_dir from) to_dir (λ n. bind_in n to fid) f ∙ has_changed m from_dir (λ n. unbind_in n from) f
+
+there_added : (m : Nodes) (dir : Fid) (name : Name) (fid : Fid) (new : Node) (f : Fid) → f ≢ fid → has (edited_all m (additions dir name fid new)) f ≡ has m f
+there_added m dir name fid new f other = ap is_some (get_else fids_total exact_fids (bound m dir name fid) fid new f other) ∙ has_changed m dir (λ n. bind_in n name fid) f
+
+there_removed : (m : Nodes) (dir : Fid) (name : Name) (fid f : Fid) → f ≢ fid → has (edited_all m (removals dir name fid)) f ≡ has m f
+there_removed m dir name fid f other = ap is_some (gone_else fids_total exact_fids (unbound m dir name) fid f other) ∙ has_changed m dir (λ n. unbind_in n name) f
+
+-- what is there stays, but an object whose name the operation gives to its own
+stays_by : (s : Sight) (volume client number time : ℕ) (op : Op) (other : Fid) → Relies s volume op → other ≢ object_of op → has s.held.nodes other ≡ true
+    → (let n = applied s.held.nodes client (record { number = number; time = time; op = op }) in (has n other ≡ true) ⊎ IsReplaced s.held.nodes n (object_of op) other)
+unfolding applied
+stays_by s volume client number time (Create dir name fid mode owner) other r ne there = inl (there_added s.held.nodes dir name fid (empty_file mode owner time (record { client = client; number = number })) other ne ∙ there)
+stays_by s volume client number time (Mkdir dir name fid mode owner) other r ne there = inl (there_added s.held.nodes dir name fid (empty_dir mode owner time (record { client = client; number = number })) other ne ∙ there)
+stays_by s volume client number time (Symlink dir name fid target mode owner) other r ne there = inl (there_added s.held.nodes dir name fid (new_link target mode owner time (record { client = client; number = number })) other ne ∙ there)
+stays_by s volume client number time (Store fid pre content) other r ne there = inl (has_changed s.held.nodes fid (written (content_patch content time) (record { client = client; number = number })) other ∙ there)
+stays_by s volume client number time (Setattr fid pre attrs) other r ne there = inl (has_changed s.held.nodes fid (written (attrs_patch attrs) (record { client = client; number = number })) other ∙ there)
+stays_by s volume client number time (Remove dir name fid pre) other r ne there = inl (there_removed s.held.nodes dir name fid other ne ∙ there)
+stays_by s volume client number time (Rmdir dir name fid pre) other r ne there = inl (there_removed s.held.nodes dir name fid other ne ∙ there)
+stays_by s volume client number time (Rename from_dir from to_dir to fid None) other r ne there = inl (there_moved s.held.nodes from_dir from to_dir to fid other ∙ there)
+stays_by s volume client number time (Rename from_dir from to_dir to fid (Some over)) other r ne there = elim (fid_cases other over.fid) [
+  | inl same ↦ (
+      let rec : Record = record { number = number; time = time; op = Rename from_dir from to_dir to fid (Some over) } in
+      inr (to_dir, to, r.places.bound ∙ ap Some (sym same), newly_bound s volume client rec to_dir to fid r (refl, refl, refl)))
+  | inr apart ↦ inl (there_moved (map.remove s.held.nodes over.fid) from_dir from to_dir to fid other ∙ ap is_some (gone_else fids_total exact_fids s.held.nodes over.fid other apart) ∙ there)
+]
+
 -- ---- all of it
 
 pub others_stay : (s : Sight) (volume client : ℕ) (rec : Record) → Relies s volume rec.op → OthersStay s.held.nodes (applied s.held.nodes client rec) (object_of rec.op)
 unfolding applied
 others_stay s volume client rec relies = record {
+  stay = λ other ne there. stays_by s volume client rec.number rec.time rec.op other relies ne there;
   bound = λ dir other name ne left was. still_bound s volume client rec dir name other relies was (stays_bound s volume rec.time (sid_of client rec) rec.op other relies ne left);
   were_bound = λ dir other name ne is. elim (bound_before s.held.nodes client rec dir name other is) [
     | inl was ↦ was

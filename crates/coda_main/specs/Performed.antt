@@ -40,25 +40,36 @@ pub record End (m : Nodes) (volume : ℕ) (path : List Name) : Type 0 where
 
 -- ---- what is done, by what was held before and after
 
+-- the object has no name that it hadn't
+abbrev pub HasNoOther : Nodes → Nodes → Fid → Type 0
+HasNoOther m n object = (dir : Fid) (name : Name) → child n dir name ≡ Some object → child m dir name ≡ Some object
+
+-- the object has no name that it hadn't, but this
+abbrev pub HasNoOtherThan : Nodes → Nodes → Fid → Fid → Name → Type 0
+HasNoOtherThan m n object in_dir new = (dir : Fid) (name : Name) → child n dir name ≡ Some object → (child m dir name ≡ Some object) ⊎ ((dir ≡ in_dir) × (name ≡ new))
+
 -- a new object of this kind, mode and owner stands under the path's last name, where nothing was bound
 pub record IsNew (m n : Nodes) (volume : ℕ) (path : List Name) (kind : NodeKind) (mode owner : ℕ) (object : Fid) : Type 0 where
   pub end : End m volume path
   pub free : child m end.dir end.last ≡ None
   pub fresh : map.get m object ≡ None
   pub bound : child n end.dir end.last ≡ Some object
+  pub only : HasNoOtherThan m n object end.dir end.last
   pub node : Node
   pub stands : map.get n object ≡ Some node
   pub kind_is : node.kind ≡ kind
   pub mode_is : node.mode ≡ mode
   pub owner_is : node.owner ≡ owner
 
--- the path leads to the object, before and after
+-- the path leads to the object, whose names stay
 pub record IsAt (m n : Nodes) (volume : ℕ) (path : List Name) (object : Fid) : Type 0 where
   pub leads : Leads m (root_of volume) path object
   pub was : Node
   pub stood : map.get m object ≡ Some was
   pub node : Node
   pub stands : map.get n object ≡ Some node
+  pub only : HasNoOther m n object
+  pub still : HasNoOther n m object
 
 -- the file that the path leads to has this content
 pub record IsStored (m n : Nodes) (volume : ℕ) (path : List Name) (content : List ℕ) (object : Fid) : Type 0 where
@@ -86,6 +97,7 @@ pub record IsGone (m n : Nodes) (volume : ℕ) (path : List Name) (MayGo : NodeK
   pub may : MayGo was.kind
   pub binds_nothing : (name : Name) → child m object name ≡ None
   pub unbound : child n end.dir end.last ≡ None
+  pub only : HasNoOther m n object
   pub taken : map.get n object ≡ None
 
 -- what was bound under the old path's last name is bound under the new one's alone; what stood there is gone, and was no directory
@@ -95,6 +107,7 @@ pub record IsMoved (m n : Nodes) (volume : ℕ) (from to : List Name) (object : 
   pub was : child m old.dir old.last ≡ Some object
   pub left : child n old.dir old.last ≡ None
   pub moved : child n new.dir new.last ≡ Some object
+  pub only : HasNoOtherThan m n object new.dir new.last
   pub replaced : (other : Fid) → child m new.dir new.last ≡ Some other → ((name : Name) → child m other name ≡ None) × (map.get n other ≡ None)
 
 -- ---- what stays
@@ -108,8 +121,13 @@ pub record IsAsItWas (was node : Node) : Type 0 where
   pub sid : node.sid ≡ was.sid
   pub marked : node.marked ≡ was.marked
 
--- Other objects are as they were, and bound as they were, unless they are gone.
+-- the object has a name that the other one had
+abbrev pub IsReplaced : Nodes → Nodes → Fid → Fid → Type 0
+IsReplaced m n object other = (dir : Fid) × (name : Name) × (child m dir name ≡ Some other) × (child n dir name ≡ Some object)
+
+-- Other objects are there as they were, and bound as they were, but one whose name the object has now, which may be gone.
 pub record OthersStay (m n : Nodes) (object : Fid) : Type 0 where
+  pub stay : (other : Fid) → other ≢ object → has m other ≡ true → (has n other ≡ true) ⊎ IsReplaced m n object other
   pub bound : (dir other : Fid) (name : Name) → other ≢ object → (has m other ≡ true → has n other ≡ true) → child m dir name ≡ Some other → child n dir name ≡ Some other
   pub were_bound : (dir other : Fid) (name : Name) → other ≢ object → child n dir name ≡ Some other → child m dir name ≡ Some other
   pub were : (other : Fid) (node : Node) → other ≢ object → map.get n other ≡ Some node → (was : Node) × (map.get m other ≡ Some was) × IsAsItWas was node
@@ -144,7 +162,7 @@ pub record HasFetched (replicas : ℕ → Option ReplicaState) (volume : ℕ) (o
   pub served : (fid : Fid) (node : Node) → map.get new fid ≡ Some node → (map.get old fid ≡ Some node) ⊎ IsServed replicas volume fid node
 
 -- What a client has of a volume once it performed an operation at a time, by what it had before and fetched on the way. The operation is
--- the last of those that no server applied, and a replay of it leaves what the client holds.
+-- the last of those that no server applied, and a replay of it leaves what the client holds. What it has of other volumes stays.
 pub record IsPerformed (replicas : ℕ → Option ReplicaState) (t : Task) (old new : ClientState) (client volume time number : ℕ) (object : Fid) : Type 0 where
   pub before : Nodes
   pub fetched : HasFetched replicas volume old.held.nodes before
@@ -152,12 +170,13 @@ pub record IsPerformed (replicas : ℕ → Option ReplicaState) (t : Task) (old 
   pub others : OthersStay before new.held.nodes object
   pub rec : Record
   pub kept : pending (new.volumes volume) ≡ pending (old.volumes volume) ++ rec ∷ []
+  pub elsewhere : (other : ℕ) → other ≢ volume → new.volumes other ≡ old.volumes other
   pub number_is : rec.number ≡ number
   pub time_is : rec.time ≡ time
   pub next : number ≡ (old.volumes volume).operations + 1
   pub replays : new.held.nodes ≡ applied before old.number rec
 
--- the client and the volume are those of a line that is answered as done
+-- the client and the volume are those of a line that is answered as done; other clients are as they were
 pub record WasPerformed (t : Task) (clients behind : ℕ → Option ClientState) (replicas : ℕ → Option ReplicaState) (time number : ℕ) (object : Fid) : Type 0 where
   pub client : ℕ
   pub volume : ℕ
@@ -165,6 +184,7 @@ pub record WasPerformed (t : Task) (clients behind : ℕ → Option ClientState)
   pub new : ClientState
   pub was : clients client ≡ Some old
   pub is : behind client ≡ Some new
+  pub others : (other : ℕ) → other ≢ client → behind other ≡ clients other
   pub performed : IsPerformed replicas t old new client volume time number object
 
 -- Whatever lines ran, an operation that is answered as done did what its line asked, left all else as it was, and is kept.

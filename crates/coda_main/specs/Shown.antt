@@ -1,5 +1,5 @@
 -- That what a line reads or lists is what stands at its path.
-use Rattle.std.specs.Prelude.{◌≡◌, ℕ, List, Option, Some, None}
+use Rattle.std.specs.Prelude.{◌≡◌, ◌≢◌, ℕ, List, Option, Some, None}
 use Rattle.std.specs.FinMap as map
 use Rattle.coda_fid.specs.Fid.{root_of}
 use Rattle.coda_fid.specs.declared.fid.Fid.{Fid}
@@ -32,7 +32,7 @@ shown_by (Read fetched (LinkTo target)) = Some (Link target)
 shown_by (Listed fetched entries) = Some (Dir entries)
 shown_by _ = None
 
--- the client's path leads, over what the client holds and fetched, to an object that is as it is shown
+-- the client's path leads, over what the client holds and fetched, to an object that is as it is shown; its logs and other clients stay
 pub record WasShown (t : Task) (clients behind : ℕ → Option ClientState) (replicas : ℕ → Option ReplicaState) (kind : NodeKind) : Type 0 where
   pub client : ℕ
   pub volume : ℕ
@@ -42,6 +42,8 @@ pub record WasShown (t : Task) (clients behind : ℕ → Option ClientState) (re
   pub new : ClientState
   pub was : clients client ≡ Some old
   pub is : behind client ≡ Some new
+  pub others : (other : ℕ) → other ≢ client → behind other ≡ clients other
+  pub logs : new.volumes ≡ old.volumes
   pub fetched : HasFetched replicas volume old.held.nodes new.held.nodes
   pub object : Fid
   pub leads : Leads new.held.nodes (root_of volume) path object
