@@ -18,8 +18,6 @@ mod queued;
 mod recency;
 mod room;
 mod row;
-#[cfg(test)]
-mod tests;
 mod walking;
 
 pub use cache::Cache;

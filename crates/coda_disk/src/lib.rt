@@ -10,8 +10,6 @@ mod memory;
 mod outside;
 mod places;
 mod plan;
-#[cfg(test)]
-mod tests;
 
 pub use bay::{Bay, BayFault};
 pub use calls::{Call, Past};

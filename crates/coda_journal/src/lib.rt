@@ -11,8 +11,6 @@ mod laws;
 mod mounting;
 mod pieces;
 mod synced;
-#[cfg(test)]
-mod tests;
 
 pub use frame::Frame;
 pub use header::{Header, Kind};

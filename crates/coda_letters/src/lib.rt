@@ -12,6 +12,3 @@ pub use fault::LetterFault;
 pub use law::{bytes_tell_messages, chunks_are_light};
 pub use losing::lose;
 pub use sending::{post_answer, send_chunk};
-
-#[cfg(test)]
-mod tests;

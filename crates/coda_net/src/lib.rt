@@ -13,6 +13,3 @@ pub use law::{
 };
 pub use letter::Letter;
 pub use net::Net;
-
-#[cfg(test)]
-mod tests;

@@ -23,6 +23,3 @@ pub use fault::{Fault, RecordFault};
 pub use last::Last;
 pub use law::{each_part_is_exact, entries_are_exact, operations_are_exact, verdicts_are_exact};
 pub use records::Records;
-
-#[cfg(test)]
-mod tests;

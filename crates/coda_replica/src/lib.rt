@@ -14,8 +14,3 @@ pub use decider::Decider;
 pub use fault::ReplicaFault;
 pub use law::{answers_tell_the_last, chunks_are_decided_once, repeats_are_answered_alike};
 pub use replica::Replica;
-
-#[cfg(test)]
-mod disk_tests;
-#[cfg(test)]
-mod tests;

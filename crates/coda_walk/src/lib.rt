@@ -12,8 +12,6 @@ mod queue;
 mod rank;
 mod room;
 mod taking;
-#[cfg(test)]
-mod tests;
 
 pub use item::Item;
 pub use law::{plans_are_in_equilibrium, they_go_in_turn, who_goes_is_right};

@@ -13,6 +13,3 @@ pub use law::messages_are_exact;
 pub use message::Message;
 pub use reading::read;
 pub use writing::{write, write_chunk};
-
-#[cfg(test)]
-mod tests;

@@ -1,5 +1,5 @@
-use crate::{Frame, Header, Journal, JournalFault, Kind, MountFault};
 use coda_disk::{Bay, Disk, FileBay, MemDisk};
+use coda_journal::{Frame, Header, Journal, JournalFault, Kind, MountFault};
 use std::alloc::{AllocError, Global};
 use std::fs;
 use std::test::Fail;

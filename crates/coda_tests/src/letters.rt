@@ -1,4 +1,4 @@
-use super::*;
+use coda_letters::{LetterFault, deliver, lose, post_answer, send_chunk};
 use coda_net::Net;
 use coda_record::Answer;
 use coda_state::Link;

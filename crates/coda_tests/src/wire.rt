@@ -1,5 +1,6 @@
-use super::*;
 use coda_certify::Reason;
+use coda_record::Answer;
+use coda_wire::{Message, WireFault, read, write};
 use std::alloc::Global;
 use std::test::Fail;
 

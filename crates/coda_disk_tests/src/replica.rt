@@ -3,12 +3,12 @@ ghost use Rattle.coda_record.specs.Form.{four};
 ghost use Rattle.coda_record.specs.Spelling.{HasSpelling};
 ghost use Rattle.coda_record.specs.Table.{records as some_records};
 
-use super::*;
 use coda_certify::Reason;
 use coda_disk::MemDisk;
 use coda_fid::{Fid, Name, Op, Record};
 use coda_journal::{Frame, Header, Journal, Kind, MountFault};
 use coda_record::Answer;
+use coda_replica::{Replica, ReplicaFault};
 use std::alloc::Global;
 use std::test::Fail;
 

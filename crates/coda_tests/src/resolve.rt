@@ -2,11 +2,11 @@ ghost use Rattle.std.specs.Prelude.{◌≡◌, true, IfOk};
 ghost use Rattle.std.specs.FinMap.{is_sorted};
 ghost use Rattle.coda_fid.specs.Fid.{fid_cmp};
 
-use crate::{Fate, Lasts, View, Why, are_in_order, fate_at, merge, new_marks, walk};
 use coda_certify::Verdict;
 use coda_fid::{Bytes, Fid, Name, Sid};
 use coda_record::Last;
 use coda_reslog::{Held, HeldObjects, Lost, ResEntry, ResKind, Ring};
+use coda_resolve::{Fate, Lasts, View, Why, are_in_order, fate_at, merge, new_marks, walk};
 use coda_tree::{Entries, Node, NodeKind};
 use coda_vv::Vv;
 use std::alloc::{AllocError, Global};

@@ -1,7 +1,7 @@
 ghost use Rattle.std.specs.Prelude.{◌≡◌, ◌<◌, ◌^◌, IfOk};
 ghost use Rattle.coda_tree.specs.Blocks.{blocks_of};
 
-use crate::{Cache, CacheFault};
+use coda_cache::{Cache, CacheFault};
 use coda_fid::{Bytes, Fid, Sid};
 use coda_tree::{Node, NodeKind};
 use std::alloc::{AllocError, Global};

@@ -1,4 +1,4 @@
-use super::*;
+use coda_record::{RecordFault, read_client, read_replica, write_client, write_replica};
 use std::alloc::Global;
 use std::test::Fail;
 

@@ -1,5 +1,5 @@
-use crate::{Item, Queue, plan, who_goes};
 use coda_fid::Fid;
+use coda_walk::{Item, Queue, plan, who_goes};
 use std::alloc::{AllocError, Global};
 use std::collections::BTreeSet;
 use std::test::Fail;

@@ -1,7 +1,7 @@
 ghost use Rattle.std.specs.Prelude.{◌≡◌, ◌≤◌, ◌<◌, ◌^◌, ◌+◌, IfOk, length};
 
-use super::*;
 use coda_fid::Bytes;
+use coda_net::{Letter, Net, NetFault};
 use coda_state::Link;
 use std::alloc::{AllocError, Global};
 use std::test::Fail;

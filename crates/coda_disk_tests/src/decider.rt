@@ -1,7 +1,7 @@
-use super::*;
 use coda_certify::Reason;
 use coda_fid::{Fid, Name, Op, Record, Sid};
 use coda_record::Answer;
+use coda_replica::Decider;
 use std::alloc::Global;
 use std::test::Fail;
 

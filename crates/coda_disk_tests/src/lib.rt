@@ -1,0 +1,11 @@
+//! Tests of what stands on a disk: disks, journals, and replicas over journals.
+#![tactic(auto)]
+
+#[cfg(test)]
+mod decider;
+#[cfg(test)]
+mod disk;
+#[cfg(test)]
+mod journal;
+#[cfg(test)]
+mod replica;
