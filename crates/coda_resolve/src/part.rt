@@ -18,7 +18,7 @@ ghost use Rattle.coda_resolve.specs.Views.{objects_in, objects_of, replicas_of, 
 use crate::below::below;
 use crate::fate::Fate;
 use crate::renewal::{Renewal, renewal_of};
-use crate::view::{View, held_in};
+use crate::view::{View, held_near};
 use crate::walking::Taken;
 use coda_fid::Fid;
 use coda_reslog::{Change, Fids, Held, HeldObjects};
@@ -82,8 +82,9 @@ fn renewed(
 {
     let mut held = BTreeMap::new(alloc);
     let mut touched = Vec::new(alloc);
+    let mut near = 0;
     for object in objects {
-        let own = held_in(view.held.objects(), object.fid);
+        let own = held_near(view.held.objects(), object.fid, &mut near);
         let renewal = renewal_of(alloc, views, object.fid, &object.fate, own)?;
         add_renewal(&mut held, &mut touched, object.fid, renewal)?;
     }

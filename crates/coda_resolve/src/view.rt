@@ -43,6 +43,39 @@ fn search(items: &[(Fid, Held)], fid: Fid) -> Result<usize, usize>
     Err(low)
 }
 
+// Where the object is, or where it would go. It is looked for first at a place where it may well be.
+fn search_near(items: &[(Fid, Held)], fid: Fid, near: usize) -> Result<usize, usize>
+    requires { is_sorted fid_cmp items.now ≡ true }
+    ensures found { IfOk result (λ i. IsIndexOf items.now fid i) }
+    ensures absent { IfErr result (λ i. IsGapFor items.now fid i) }
+{
+    if near < items.len() {
+        if let Ordering::Equal = items[near].0.cmp(&fid) {
+            return Ok(near);
+        }
+    }
+    search(items, fid)
+}
+
+// What is held of the object, which may well be at a place; that place is then the one behind it. So objects that are asked for
+// in the order of their fids are found without a search.
+pub(crate) fn held_near<'a>(
+    items: &'a [(Fid, Held)],
+    fid: Fid,
+    near: &mut usize,
+) -> Option<&'a Held>
+    requires { is_sorted fid_cmp items.now ≡ true }
+    ensures { option_copied result ≡ finmap.get (objects_in items.now) fid }
+{
+    match search_near(items, fid, *near) {
+        Ok(at) => {
+            *near = at + 1;
+            Some(&items[at].1)
+        }
+        Err(_) => None,
+    }
+}
+
 // What is held of the object.
 pub(crate) fn held_in(items: &[(Fid, Held)], fid: Fid) -> Option<&Held>
     requires { is_sorted fid_cmp items.now ≡ true }
