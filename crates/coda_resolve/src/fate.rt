@@ -16,7 +16,7 @@ ghost use Rattle.coda_resolve.specs.Lent.{lent};
 use crate::causes::dir_fate;
 use crate::copies::{lowest, some_marked, vector_of};
 use crate::updated::includes;
-use crate::view::{View, copies_at};
+use crate::view::{View, copies_near};
 use crate::why::Why;
 use coda_fid::Fid;
 use coda_reslog::{Held, Ring};
@@ -135,6 +135,23 @@ fn fate_from(
     }
 }
 
+// What becomes of the object at all replicas. It is looked for first at a place for each view, where one is given.
+pub(crate) fn fate_near(
+    alloc: Global,
+    views: &[View],
+    fid: Fid,
+    near: &mut [usize],
+) -> Result<Fate, AllocError>
+    requires { AreInOrder views.now }
+    ensures { IfOk result (λ fate. fate ≡ fate_at (replicas_of views.now) fid) }
+{
+    let copies = copies_near(alloc, views, fid, near)?;
+    match lowest(&copies) {
+        Some(held) => fate_from(alloc, views, &copies, held),
+        None => Ok(Fate::Gone),
+    }
+}
+
 /// What becomes of the object at all replicas, from what each of them holds, the lowest server first.
 ///
 /// A directory is merged from the resolution logs where no cause of the table marks it (Kumar and Satyanarayanan 1993);
@@ -148,9 +165,5 @@ pub fn fate_at(alloc: Global, views: &[View], fid: Fid) -> Result<Fate, AllocErr
     requires { AreInOrder views.now }
     ensures { IfOk result (λ fate. fate ≡ fate_at (replicas_of views.now) fid) }
 {
-    let copies = copies_at(alloc, views, fid)?;
-    match lowest(&copies) {
-        Some(held) => fate_from(alloc, views, &copies, held),
-        None => Ok(Fate::Gone),
-    }
+    fate_near(alloc, views, fid, &mut [])
 }

@@ -111,11 +111,23 @@ pub fn are_in_order(views: &[View]) -> bool
     }
 }
 
+// What is held of the object, which is looked for first at a place where it may well be, if one is given.
+fn held_from<'a>(items: &'a [(Fid, Held)], fid: Fid, near: Option<&mut usize>) -> Option<&'a Held>
+    requires { is_sorted fid_cmp items.now ≡ true }
+    ensures { option_copied result ≡ finmap.get (objects_in items.now) fid }
+{
+    match near {
+        Some(near) => held_near(items, fid, near),
+        None => held_in(items, fid),
+    }
+}
+
 // The copies so far, with those of the views.
 fn with_views<'a>(
     mut copies: Vec<Option<&'a Held>>,
     views: &'a [View],
     fid: Fid,
+    near: &mut [usize],
 ) -> Result<Vec<Option<&'a Held>>, AllocError>
     requires { AreInOrder views.now }
     ensures { IfOk result (λ all. map option_copied all.items ≡ map option_copied copies.entry.items ++ copies_at (replicas_of views.now) fid) }
@@ -123,10 +135,25 @@ fn with_views<'a>(
     match views {
         [] => Ok(copies),
         [first, rest @ ..] => {
-            copies.push(held_in(first.held.objects(), fid))?;
-            with_views(copies, rest, fid)
+            let place = near.get_mut(copies.len());
+            copies.push(held_from(first.held.objects(), fid, place))?;
+            with_views(copies, rest, fid, near)
         }
     }
+}
+
+// What each replica holds of the object, which is looked for first at a place for each view, where one is given. Each place is
+// then the one behind the object.
+pub(crate) fn copies_near<'a>(
+    alloc: Global,
+    views: &'a [View],
+    fid: Fid,
+    near: &mut [usize],
+) -> Result<Vec<Option<&'a Held>>, AllocError>
+    requires { AreInOrder views.now }
+    ensures { IfOk result (λ copies. map option_copied copies.items ≡ copies_at (replicas_of views.now) fid) }
+{
+    with_views(Vec::new(alloc), views, fid, near)
 }
 
 // What each replica holds of the object.
@@ -138,5 +165,5 @@ pub(crate) fn copies_at<'a>(
     requires { AreInOrder views.now }
     ensures { IfOk result (λ copies. map option_copied copies.items ≡ copies_at (replicas_of views.now) fid) }
 {
-    with_views(Vec::new(alloc), views, fid)
+    copies_near(alloc, views, fid, &mut [])
 }

@@ -6,7 +6,7 @@ ghost use Rattle.coda_resolve.specs.Views.{replicas_of, AreInOrder};
 ghost use Rattle.coda_resolve.specs.Taken.{fids_of, AreFates};
 
 use crate::doubles::values;
-use crate::fate::{Fate, fate_at};
+use crate::fate::{Fate, fate_near};
 use crate::view::View;
 use coda_fid::Fid;
 use coda_tree::NodeKind;
@@ -50,6 +50,11 @@ fn push_next(alloc: Global, stack: Vec<Fid>, fate: &Fate) -> Result<Vec<Fid>, Al
     }
 }
 
+// For each view the place of its first object.
+fn places(alloc: Global, views: &[View]) -> Result<Vec<usize>, AllocError> {
+    vec![in alloc; 0usize; views.len()]
+}
+
 /// What a resolution takes up, in path order, with what becomes of each object.
 ///
 /// That it is all of that, each object once, holds of replicas of one history; of others the walk may want memory without
@@ -63,13 +68,14 @@ pub fn walk(alloc: Global, views: &[View], root: Fid) -> Result<Vec<Taken>, Allo
     ensures fids { IfOk result (λ taken. AreOfOneHistory (replicas_of views.now) root → fids_of taken.items ≡ taken_up (replicas_of views.now) root) }
     ensures fates { IfOk result (λ taken. AreFates (replicas_of views.now) taken.items) }
 {
+    let mut near = places(alloc, views)?;
     let mut taken = Vec::new(alloc);
     let mut stack = vec![in alloc; root]?;
     for _ in 0..u64::MAX {
         let Some(fid) = stack.pop() else {
             return Ok(taken);
         };
-        let fate = fate_at(alloc, views, fid)?;
+        let fate = fate_near(alloc, views, fid, &mut near)?;
         stack = push_next(alloc, stack, &fate)?;
         taken.push(Taken { fid, fate })?;
     }
