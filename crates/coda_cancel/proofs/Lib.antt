@@ -12,6 +12,7 @@ pub mod Parts
 pub mod Places
 pub mod Debts
 pub mod Passing
+pub mod Staying
 pub mod Rising
 pub mod Additions
 pub mod Sizes

@@ -1,5 +1,5 @@
 // An index of records by the objects that they mention.
-ghost use Rattle.std.specs.Prelude.{ℕ, Option, Some, None, ◌≡◌, ◌≤◌, false, [], ◌∷◌, take as first, IfSome, IfNone, OnOk, OnErr};
+ghost use Rattle.std.specs.Prelude.{ℕ, Option, Some, None, ◌⊎◌, ◌≡◌, ◌≤◌, false, [], ◌∷◌, take as first, IfSome, IfNone, OnOk, OnErr};
 ghost use Rattle.coda_fid.specs.declared.fid.Fid.{Fid};
 ghost use Rattle.coda_fid.specs.Op.{mentions, over_fids};
 ghost use Rattle.coda_cancel.specs.Mentions.{has, tells, names, with_number, IsSame, IsSameElse, Gains, Loses, IsNext, NoneNext, Index, AreAhead, IsFirst, NoneBetween};
@@ -151,6 +151,23 @@ pub(crate) fn next_mention(
         return None;
     }
     first_between(index, fid, from, last)
+}
+
+/// The number of the next record that mentions the object, as [`next_mention`]; none at the last one, of this number.
+pub(crate) fn next_until(
+    index: &BTreeSet<Mention>,
+    fid: Fid,
+    after: Option<u64>,
+    last: Option<u64>,
+    end: Option<u64>,
+) -> Option<u64>
+    ensures some { IfSome result (IsNext index.now fid after last) }
+    ensures none { IfNone result ((after ≡ end) ⊎ NoneNext index.now fid after last) }
+{
+    if after == end {
+        return None;
+    }
+    next_mention(index, fid, after, last)
 }
 
 // The first number from one up to another under which the index has the object.

@@ -11,8 +11,7 @@ pub returns-then-mention-last-clause-some : goal.returns-then-mention-last-claus
 returns-then-mention-last-clause-some c index after ahead =
     let m = c.in_ok-mention.mention.now in
     let same = same_fid_is m.fid c.args.fid (sym c.eq.ensures ∙ c.if-eq.true) in
-    let here = subst (AreAhead index c.args.fid after) c.in_ok-mention.ensures.steps ahead in
-    (
+    let here = subst (AreAhead index c.args.fid after) c.in_ok-mention.ensures.steps ahead in (
       subst (λ l. IsNext index c.args.fid after l m.number) (sym c.in_ok-last.was) (next_found index c.args.fid after m _ here c.in_ok-last.last same c.if-mention-last.true),
       rest_ahead index c.args.fid after m _ here c.in_ok-last.last same,
     )
