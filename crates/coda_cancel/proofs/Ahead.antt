@@ -17,7 +17,7 @@ use Rattle.coda_fid.specs.Fid.{fid_cmp}
 use Rattle.coda_fid.specs.declared.fid.Fid.{Fid}
 use Rattle.coda_cancel.specs.declared.mentions.Mention.{Mention}
 use Rattle.coda_cancel.specs.Mentions.{mention, mention_cmp, has, is_upto, Index, among, number_after, AreAhead, IsNext, NoneNext}
-use Rattle.coda_cancel.proofs.Between.{at_one, own_le, le_own, same_object}
+use Rattle.coda_cancel.proofs.Between.{own_le, le_own, same_object}
 use Rattle.coda_cancel.proofs.Mentioned.{mentions_total, exact_mentions}
 
 -- ---- an order of mentions

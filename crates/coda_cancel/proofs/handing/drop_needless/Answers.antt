@@ -9,7 +9,7 @@ use Rattle.coda_cancel.specs.Passing.{owed_to}
 use Rattle.coda_cancel.specs.Shelved.{is_numbered}
 use Rattle.coda_cancel.proofs.Passing.{owed_to-none}
 use Rattle.coda_cancel.proofs.Staying.{front_stays, none_go, kept_stay, debt_stay, left_quiet}
-use Rattle.coda_cancel.proofs.Walks.{upto, beyond, both_parts, none_passed, all_left, upto_passed, fewer_left}
+use Rattle.coda_cancel.proofs.Walks.{upto, beyond, both_parts, upto_passed, fewer_left}
 use Rattle.coda_cancel.proofs.Indexed.{kept_upto, next_of, none_of, split_here, numbered_at, lose_step, lose_beyond, beyond_twice, kept_replaces, list_step}
 use Rattle.coda_cancel.proofs.Quiet.{kept_step, debt_step, kept_end, debt_end}
 use Rattle.coda_cancel.proofs.handing.drop_needless.Goals as goal
