@@ -21,17 +21,17 @@ le_cmp : (m n : ℕ) → m ≤ n → is_gt (nat_cmp m n) ≡ false
 le_cmp m n h = grind (arith, nat_tests)
 
 -- an object's numbers compare as they do
-at_one : (f : Fid) (m n : ℕ) → mention_cmp (mention f m) (mention f n) ≡ nat_cmp m n
+pub at_one : (f : Fid) (m n : ℕ) → mention_cmp (mention f m) (mention f n) ≡ nat_cmp m n
 at_one f m n = ap (λ r. ordering_then r (nat_cmp m n)) (tied_itself fids_total f)
 
-own_le : (f : Fid) (m n : ℕ) → m ≤ n → IsLeBy mention_cmp (mention f m) (mention f n)
+pub own_le : (f : Fid) (m n : ℕ) → m ≤ n → IsLeBy mention_cmp (mention f m) (mention f n)
 own_le f m n h = ap is_gt (at_one f m n) ∙ le_cmp m n h
 
-le_own : (f : Fid) (m n : ℕ) → IsLeBy mention_cmp (mention f m) (mention f n) → m ≤ n
+pub le_own : (f : Fid) (m n : ℕ) → IsLeBy mention_cmp (mention f m) (mention f n) → m ≤ n
 le_own f m n h = le_from_not_gt m n (sym (ap is_gt (at_one f m n)) ∙ h)
 
 -- what stands between two mentions of an object is one of it
-same_object : (f : Fid) (from last : ℕ) (q : Mention) → IsLeBy mention_cmp (mention f from) q → IsLeBy mention_cmp q (mention f last) → f ≡ q.fid
+pub same_object : (f : Fid) (from last : ℕ) (q : Mention) → IsLeBy mention_cmp (mention f from) q → IsLeBy mention_cmp q (mention f last) → f ≡ q.fid
 same_object f from last q low high =
     elim (fid_cmp f q.fid) as (λ r. fid_cmp f q.fid ≡ r → is_gt (ordering_then r (nat_cmp from q.number)) ≡ false → f ≡ q.fid) [
       | Less ↦ λ e _. absurd (true≢false (sym (ap (λ r. is_gt (ordering_then r (nat_cmp q.number last))) (fids_total.antisymm q.fid f ∙ ap ordering_reverse e)) ∙ high))

@@ -12,11 +12,11 @@ use Rattle.coda_cancel.specs.Handing.{Debt, owe, paid, hand, sid_or}
 use Rattle.coda_cancel.specs.Dropping.{mentioning}
 use Rattle.coda_cancel.specs.Cancel.{kept, without}
 use Rattle.coda_cancel.specs.Numbers.{AreBelow, IsRising}
-use Rattle.coda_cancel.specs.Mentions.{has, tells, is_mentioned, is_upto, last_number, Covers, CoversUpTo, IsSameBeyond, Loses, IsNext, NoneNext}
+use Rattle.coda_cancel.specs.Mentions.{has, tells, is_mentioned, is_upto, last_number, Covers, CoversUpTo, IsSameBeyond, Loses, IsNext, NoneNext, NoneBeyond}
 use Rattle.coda_cancel.specs.Shelved.{is_numbered}
 use Rattle.coda_cancel.proofs.Debts.{mentioning-with_pre}
 use Rattle.coda_cancel.proofs.Rising.{rising_before, rising_behind}
-use Rattle.coda_cancel.proofs.Walks.{upto, beyond, both_parts, AllUpTo, upto_passed, IsQuiet, Step, step, end_quiet, passed_silent, above_silent, mentioned-append}
+use Rattle.coda_cancel.proofs.Walks.{upto, beyond, both_parts, AllUpTo, upto_passed, IsQuiet, Step, step, last_reaches, end_quiet, passed_silent, above_silent, mentioned-append}
 
 abbrev Index : Type 0
 Index = BTreeSet Mention
@@ -182,6 +182,13 @@ module _ (rs : List Record) (index : Index) (f : Fid) (a last : Option ℕ) (ris
 
   pub read_none : NoneNext index f a last → IsQuiet f (beyond a rs)
   read_none none = none_of rs (upto a rs) rs index f a rising (upto_passed a rs) (sym (both_parts a rs)) covers last same none
+
+  pub none_beyond : NoneNext index f a last → NoneBeyond rs f a
+  none_beyond none n after = go (is_upto (last_number rs) n) refl
+    where
+      go : (b : Bool) → is_upto (last_number rs) n ≡ b → is_mentioned rs f n ≡ false
+      go true e = sym (covers f n e) ∙ none n after (subst (λ l. is_upto l n ≡ true) (sym same) e)
+      go false e = passed_silent (last_number rs) rs f n (last_reaches rs rising) e
 
 pub read_split : (f : Fid) (a : Option ℕ) (n : ℕ) (rs : List Record) (s : Step f a n rs) → rs ≡ (upto a rs ++ s.between) ++ s.found ∷ beyond (Some n) rs
 read_split f a n rs s = sym (both_parts a rs) ∙ ap (λ l. upto a rs ++ l) s.rest ∙ sym (append_assoc (upto a rs) s.between (s.found ∷ beyond (Some n) rs))

@@ -1,6 +1,7 @@
 pub mod Keys
 pub mod Mentioned
 pub mod Between
+pub mod Ahead
 pub mod Walks
 pub mod Quiet
 pub mod Indexed
@@ -11,6 +12,7 @@ pub mod Parts
 pub mod Places
 pub mod Debts
 pub mod Passing
+pub mod Staying
 pub mod Rising
 pub mod Additions
 pub mod Sizes

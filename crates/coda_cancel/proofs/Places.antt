@@ -347,6 +347,21 @@ searched_above ss n mid front slot back rise e is within got at high = go (cases
     go (inr (inl l)) = l
     go (inr (inr l)) = let below = rising_at ss mid (length front) got rise l (front_within ss front back slot e) in absurd (omega (arith, below, own, here, high))
 
+-- the place of the number itself is its place
+pub searched_here : (ss : List Slot) (n mid : ℕ) (front : List Slot) (slot : Slot) (back : List Slot) → DoSlotsRise ss → ss ≡ front ++ slot ∷ back → number_of slot ≡ n → mid < length ss → (got : Slot) → got ≡ get_or ss mid got → number_of got ≡ n → mid ≡ length front
+searched_here ss n mid front slot back rise e is within got at same = go (cases_order (length front) mid)
+  where
+    own : number_of (get_or ss (length front) got) ≡ n
+    own = ap number_of (number_here ss front back slot e got) ∙ is
+
+    here : number_of got ≡ number_of (get_or ss mid got)
+    here = ap number_of at
+
+    go : (length front ≡ mid) ⊎ ((length front < mid) ⊎ (mid < length front)) → mid ≡ length front
+    go (inl m) = sym m
+    go (inr (inl l)) = let below = rising_at ss (length front) mid got rise l within in absurd (omega (arith, below, own, here, same))
+    go (inr (inr l)) = let below = rising_at ss mid (length front) got rise l (front_within ss front back slot e) in absurd (omega (arith, below, own, here, same))
+
 -- ---- the last place taken off
 
 pub last_kept_at : (ss : List Slot) (s : Slot) → last_slot ss ≡ Some s → is_last_kept ss ≡ is_kept s

@@ -1,7 +1,9 @@
 -- Which records mention an object: an index by objects and numbers.
-use Rattle.std.specs.Prelude.{◌≡◌, ℕ, ◌==◌, Bool, true, false, not, ◌&&◌, ◌||◌, nat_le, nat_lt, ◌≤◌, ◌<◌, Option, Some, None, List, [], ◌∷◌}
-use Rattle.std.specs.List.{list_any}
-use Rattle.std.specs.Ordering.{nat_cmp, ordering_then}
+use Rattle.std.specs.Prelude.{◌≡◌, ℕ, ◌+◌, ◌==◌, Bool, true, false, not, ◌&&◌, ◌||◌, nat_le, nat_lt, ◌≤◌, ◌<◌, Option, Some, None, List, [], ◌∷◌}
+use Rattle.std.specs.List.{list_any, AllByRecursion}
+use Rattle.std.specs.List.Sorted.{IsStrictlySortedBy}
+use Rattle.std.specs.Ordering.{nat_cmp, ordering_then, is_eq}
+use Rattle.std.specs.BTreeMap.Range.{IsLeBy}
 use Rattle.std.specs.declared.cmp.Ordering.{Ordering}
 use Rattle.std.specs.BTreeSet.{BTreeSet, contains}
 use Rattle.coda_fid.specs.declared.fid.Fid.{Fid}
@@ -99,6 +101,29 @@ IsFirst index fid from last number = (from ≤ number) × (number ≤ last) × (
 -- there is none
 abbrev pub NoneBetween : BTreeSet Mention → Fid → ℕ → ℕ → Type 0
 NoneBetween index fid from last = (number : ℕ) → from ≤ number → number ≤ last → has index fid number ≡ false
+
+-- no record above this number mentions the object
+abbrev pub NoneBeyond : List Record → Fid → Option ℕ → Type 0
+NoneBeyond recs fid end = (number : ℕ) → is_upto end number ≡ false → is_mentioned recs fid number ≡ false
+
+-- an index of mentions
+abbrev pub Index : Type 0
+Index = BTreeSet Mention
+
+-- whether the mention is among these
+abbrev pub among : List Mention → Fid → ℕ → Bool
+among mentions fid number = list_any (λ m. is_eq (mention_cmp (mention fid number) m)) mentions
+
+-- the least number above one, or the least of all
+abbrev pub number_after : Option ℕ → ℕ
+number_after None = 0
+number_after (Some number) = number + 1
+
+-- these are what the index has in order from the object's numbers above one on
+abbrev pub AreAhead : Index → Fid → Option ℕ → List Mention → Type 0
+AreAhead index fid after mentions =
+    IsStrictlySortedBy mention_cmp mentions × AllByRecursion (λ m. IsLeBy mention_cmp (mention fid (number_after after)) m) mentions
+    × ((number : ℕ) → is_upto after number ≡ false → among mentions fid number ≡ has index fid number)
 
 -- none of the numbers of these records is there
 abbrev pub AreFresh : (Fid → ℕ → Bool) → List Record → Type 0

@@ -1,16 +1,18 @@
 // Adding an operation to records, by cancellation.
-ghost use Rattle.std.specs.Prelude.{◌≡◌, ◌≤◌, ◌<◌, ◌+◌, ◌^◌, ◌++◌, ◌∷◌, [], Some};
+ghost use Rattle.std.specs.Prelude.{◌≡◌, ◌≤◌, ◌<◌, ◌+◌, ◌^◌, ◌++◌, ◌∷◌, [], Some, IfSome};
 ghost use Rattle.std.specs.Vec.{vec_len, vec_capacity};
 ghost use Rattle.coda_fid.specs.Op.{carried};
 ghost use Rattle.coda_cancel.specs.Cancel.{object, cancels, without, appended, add, added};
 ghost use Rattle.coda_cancel.specs.Joins.{joins_of};
-ghost use Rattle.coda_cancel.specs.Mentions.{CoversUpTo, IsSameBeyond, IsIndexOf};
-ghost use Rattle.coda_cancel.specs.Numbers.{AreBelow, IsRising};
+ghost use Rattle.coda_cancel.specs.Mentions.{NoneBeyond, CoversUpTo, IsSameBeyond, IsIndexOf};
+ghost use Rattle.coda_cancel.specs.Numbers.{AreBelow, IsRising, numbers, least};
+ghost use Rattle.coda_cancel.specs.Dropping.{drops};
+ghost use Rattle.coda_cancel.specs.Passing.{goes};
 ghost use Rattle.coda_cancel.specs.Weights.{total_weight};
 
 use crate::handing::{drop_needless, pay};
 use crate::join::Join;
-use crate::leaving::leaving_with;
+use crate::leaving::{Leaving, leaving_with};
 use crate::mentions::{Mention, forget};
 use crate::shelf::Shelf;
 use crate::undoing::take_out;
@@ -18,17 +20,25 @@ use coda_fid::{Fid, Record};
 use std::collections::BTreeSet;
 
 // Drops what the operation makes needless, and puts it at the end.
-fn append(shelf: &mut Shelf, index: &mut BTreeSet<Mention>, mut rec: Record, fid: Fid)
+fn append(
+    shelf: &mut Shelf,
+    index: &mut BTreeSet<Mention>,
+    mut rec: Record,
+    fid: Fid,
+    gone: Leaving,
+)
     requires room { 0 < shelf.old.room }
     requires later { AreBelow rec.number shelf.old.records }
     requires indexed { CoversUpTo (Some rec.number) index.old (shelf.old.records ++ rec ∷ []) }
     requires own { object (carried rec.op) ≡ fid }
+    requires least { gone.least ≡ least (numbers (drops rec.op) shelf.old.records) }
+    requires end { NoneBeyond shelf.old.records fid gone.end }
     ensures records { shelf.new.records ≡ appended shelf.old.records rec }
     ensures indexed { CoversUpTo (Some rec.number) index.new shelf.new.records }
     ensures beyond { IsSameBeyond (Some rec.number) index.old index.new }
     ensures room { shelf.old.room ≤ shelf.new.room + 1 }
 {
-    let owed = drop_needless(shelf, index, &rec.op, fid);
+    let owed = drop_needless(shelf, index, &rec.op, fid, gone);
     pay(&mut rec, fid, owed);
     shelf.push(rec);
 }
@@ -46,13 +56,20 @@ fn undo(shelf: &mut Shelf, index: &mut BTreeSet<Mention>, rec: &Record, fid: Fid
     forget(index, rec);
 }
 
-/// Adds an operation that the index knows already, for which there is room; it was asked whether the operation
-/// undoes a creation. Wants no memory.
-pub fn add_reserved(shelf: &mut Shelf, index: &mut BTreeSet<Mention>, rec: Record, cancelled: bool)
+/// Adds an operation that the index knows already, for which there is room; it was asked what goes with
+/// it. Wants no memory.
+pub(crate) fn add_reserved(
+    shelf: &mut Shelf,
+    index: &mut BTreeSet<Mention>,
+    rec: Record,
+    gone: Leaving,
+)
     requires room { 0 < shelf.old.room }
     requires later { AreBelow rec.number shelf.old.records }
     requires indexed { CoversUpTo (Some rec.number) index.old (shelf.old.records ++ rec ∷ []) }
-    requires cancelled { cancelled ≡ cancels rec.op shelf.old.records }
+    requires cancelled { gone.cancelled ≡ cancels rec.op shelf.old.records }
+    requires least { gone.least ≡ least (numbers (goes gone.cancelled rec.op) shelf.old.records) }
+    requires end { IfSome (carried rec.op) (λ over. NoneBeyond shelf.old.records over.fid gone.end) }
     ensures records { shelf.new.records ≡ add shelf.old.records rec }
     ensures indexed { CoversUpTo (Some rec.number) index.new shelf.new.records }
     ensures beyond { IsSameBeyond (Some rec.number) index.old index.new }
@@ -62,10 +79,10 @@ pub fn add_reserved(shelf: &mut Shelf, index: &mut BTreeSet<Mention>, rec: Recor
         shelf.push(rec);
         return;
     };
-    if cancelled {
+    if gone.cancelled {
         undo(shelf, index, &rec, over.fid);
     } else {
-        append(shelf, index, rec, over.fid);
+        append(shelf, index, rec, over.fid, gone);
     }
 }
 
@@ -94,7 +111,7 @@ pub fn add_each(
         let number = rec.number;
         let gone = leaving_with(shelf, index, &rec.op);
         weight = weight - gone.weight + gone.added(&rec);
-        add_reserved(shelf, index, rec, gone.cancelled);
+        add_reserved(shelf, index, rec, gone);
         if let Some(least) = gone.least {
             joins.push_reserved(Join { least, number });
         }

@@ -1,16 +1,17 @@
 // Handing kept versions on.
-ghost use Rattle.std.specs.Prelude.{◌≡◌, ◌≤◌, ◌&&◌, true, ◌++◌, ◌∷◌, []};
+ghost use Rattle.std.specs.Prelude.{◌≡◌, ◌≤◌, ◌<◌, IfSome, ◌&&◌, true, ◌++◌, ◌∷◌, []};
 ghost use Rattle.coda_fid.specs.Op.{carried};
 ghost use Rattle.coda_cancel.specs.Handing.{nothing, with_over, with_pre, hand};
 ghost use Rattle.coda_cancel.specs.Dropping.{drops};
 ghost use Rattle.coda_cancel.specs.Cancel.{object, kept, debt};
-ghost use Rattle.coda_cancel.specs.Mentions.{has, tells, Loses, Covers, CoversUpTo, IsSameBeyond, last_number};
-ghost use Rattle.coda_cancel.specs.Numbers.{IsRising};
+ghost use Rattle.coda_cancel.specs.Mentions.{has, tells, Loses, Covers, CoversUpTo, IsSameBeyond, NoneBeyond, last_number};
+ghost use Rattle.coda_cancel.specs.Numbers.{numbers, least, IsRising};
 ghost use Rattle.coda_cancel.specs.Passing.{owed_to};
 ghost use Rattle.coda_cancel.specs.Shelved.{is_numbered, AtNumber};
 
 use crate::dropping::drops;
-use crate::mentions::{Mention, next_mention};
+use crate::leaving::Leaving;
+use crate::mentions::{Mention, next_until};
 use crate::shelf::Shelf;
 use crate::undoing::take_one;
 use coda_fid::{Fid, Op, Over, Record, Sid};
@@ -81,16 +82,27 @@ fn pass(
     None
 }
 
-/// Drops what an operation makes needless and hands on what that has, and answers what the operation is owed.
+// A number before this one, if there is one.
+fn number_before(number: u64) -> Option<u64>
+    ensures { IfSome result (λ before. before < number) }
+{
+    number.checked_sub(1)
+}
+
+/// Drops what an operation makes needless and hands on what that has, and answers what the operation is owed. The least
+/// number that goes is known, and the last that mentions the operation's object.
 ///
-/// Looks at the records that mention the operation's object.
+/// Looks at the records from the one to the other that mention it.
 pub fn drop_needless(
     shelf: &mut Shelf,
     index: &mut BTreeSet<Mention>,
     op: &Op,
     fid: Fid,
+    gone: Leaving,
 ) -> Option<Sid>
     requires own { object (carried op.now) ≡ fid }
+    requires least { gone.least ≡ least (numbers (drops op.now) shelf.old.records) }
+    requires end { NoneBeyond shelf.old.records fid gone.end }
     requires indexed { Covers index.old shelf.old.records }
     ensures records { shelf.new.records ≡ kept (drops op.now) nothing shelf.old.records }
     ensures owed { owed_to fid result ≡ debt (drops op.now) nothing shelf.old.records }
@@ -100,9 +112,12 @@ pub fn drop_needless(
     ensures room { shelf.old.room ≤ shelf.new.room }
 {
     let last = shelf.last();
+    let Some(least) = gone.least else {
+        return None;
+    };
     let mut owed = None;
-    let mut after = None;
-    while let Some(number) = next_mention(index, fid, after, last) {
+    let mut after = number_before(least);
+    while let Some(number) = next_until(index, fid, after, last, gone.end) {
         owed = pass(shelf, index, number, op, fid, owed);
         after = Some(number);
     }

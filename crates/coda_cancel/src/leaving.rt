@@ -3,13 +3,13 @@ ghost use Rattle.std.specs.Prelude.{◌≡◌, ◌+◌, ◌<◌, ◌≤◌, ◌^
 ghost use Rattle.coda_fid.specs.Op.{carried};
 ghost use Rattle.coda_fid.specs.declared.op.Record.{Record};
 ghost use Rattle.coda_cancel.specs.Cancel.{object, cancels};
-ghost use Rattle.coda_cancel.specs.Mentions.{Covers};
+ghost use Rattle.coda_cancel.specs.Mentions.{Covers, NoneBeyond};
 ghost use Rattle.coda_cancel.specs.Numbers.{dropped, least, numbers};
 ghost use Rattle.coda_cancel.specs.Passing.{goes, new_last, undropped};
 ghost use Rattle.coda_cancel.specs.Weights.{total_weight};
 
 use crate::dropping::drops;
-use crate::mentions::{Mention, next_mention};
+use crate::mentions::{Mention, mentions_of, take_next};
 use crate::shelf::Shelf;
 use crate::undoing::cancels;
 use coda_fid::{Fid, Op, Record};
@@ -22,6 +22,8 @@ pub(crate) struct Leaving {
     pub(crate) cancelled: bool,
     /// The least number of one that goes.
     pub(crate) least: Option<u64>,
+    /// The number of the last record that mentions the operation's object.
+    pub(crate) end: Option<u64>,
     /// How many go.
     pub(crate) count: usize,
     /// What they weigh together.
@@ -74,6 +76,7 @@ pub(crate) fn leaving_with(shelf: &Shelf, index: &BTreeSet<Mention>, op: &Op) ->
     requires light { total_weight shelf.now.records < 2 ^ 64 }
     ensures cancelled { result.cancelled ≡ cancels op.now shelf.now.records }
     ensures least { result.least ≡ least (numbers (goes result.cancelled op.now) shelf.now.records) }
+    ensures end { IfSome (carried op.now) (λ over. NoneBeyond shelf.now.records over.fid result.end) }
     ensures count { result.count + length (undropped (goes result.cancelled op.now) shelf.now.records) ≡ length shelf.now.records }
     ensures weight { result.weight + total_weight (undropped (goes result.cancelled op.now) shelf.now.records) ≡ total_weight shelf.now.records }
 {
@@ -82,6 +85,7 @@ pub(crate) fn leaving_with(shelf: &Shelf, index: &BTreeSet<Mention>, op: &Op) ->
         None => Leaving {
             cancelled: false,
             least: None,
+            end: None,
             count: 0,
             weight: 0,
         },
@@ -95,6 +99,7 @@ fn leaving_of(shelf: &Shelf, index: &BTreeSet<Mention>, op: &Op, fid: Fid) -> Le
     requires light { total_weight shelf.now.records < 2 ^ 64 }
     ensures cancelled { result.cancelled ≡ cancels op.now shelf.now.records }
     ensures least { result.least ≡ least (numbers (goes result.cancelled op.now) shelf.now.records) }
+    ensures end { NoneBeyond shelf.now.records fid result.end }
     ensures count { result.count + length (undropped (goes result.cancelled op.now) shelf.now.records) ≡ length shelf.now.records }
     ensures weight { result.weight + total_weight (undropped (goes result.cancelled op.now) shelf.now.records) ≡ total_weight shelf.now.records }
 {
@@ -104,7 +109,8 @@ fn leaving_of(shelf: &Shelf, index: &BTreeSet<Mention>, op: &Op, fid: Fid) -> Le
     let mut count = 0;
     let mut weight = 0;
     let mut after = None;
-    while let Some(number) = next_mention(index, fid, after, last) {
+    let mut mentions = mentions_of(index, fid);
+    while let Some(number) = take_next(&mut mentions, fid, last) {
         let record = shelf.at(number);
         if goes(op, cancelled, fid, &record.op) {
             least = least.or(Some(number));
@@ -116,6 +122,7 @@ fn leaving_of(shelf: &Shelf, index: &BTreeSet<Mention>, op: &Op, fid: Fid) -> Le
     Leaving {
         cancelled,
         least,
+        end: after,
         count,
         weight,
     }

@@ -1,12 +1,13 @@
 // An index of records by the objects that they mention.
-ghost use Rattle.std.specs.Prelude.{◌≡◌, ◌≤◌, false, [], ◌∷◌, take as first, IfSome, IfNone, OnOk, OnErr};
+ghost use Rattle.std.specs.Prelude.{ℕ, Option, Some, None, ◌⊎◌, ◌≡◌, ◌≤◌, false, [], ◌∷◌, take as first, IfSome, IfNone, OnOk, OnErr};
 ghost use Rattle.coda_fid.specs.declared.fid.Fid.{Fid};
 ghost use Rattle.coda_fid.specs.Op.{mentions, over_fids};
-ghost use Rattle.coda_cancel.specs.Mentions.{has, tells, names, with_number, IsSame, IsSameElse, Gains, Loses, IsNext, NoneNext, IsFirst, NoneBetween};
+ghost use Rattle.coda_cancel.specs.Mentions.{has, tells, names, with_number, IsSame, IsSameElse, Gains, Loses, IsNext, NoneNext, Index, AreAhead, IsFirst, NoneBetween};
 
 use coda_fid::{Fid, Op, Over, Record};
 use std::alloc::AllocError;
 use std::collections::BTreeSet;
+use std::collections::btree_set::Range;
 
 // An object that a record of the number mentions.
 #[derive(Clone, Copy, Debug, PartialEq, Eq, PartialOrd, Ord)]
@@ -106,6 +107,31 @@ pub(crate) fn forget(index: &mut BTreeSet<Mention>, rec: &Record)
     take_all(index, &mentioned[..count], rec.number);
 }
 
+/// What the index has from the object's first number on.
+pub(crate) fn mentions_of(index: &BTreeSet<Mention>, fid: Fid) -> Range<'_, Mention>
+    ensures { AreAhead index.now fid None result }
+{
+    index.range(Mention { fid, number: 0 }..)
+}
+
+/// Takes the next of the mentions, and answers its number if it is of the object, up to a number.
+pub(crate) fn take_next(
+    mentions: &mut Range<'_, Mention>,
+    fid: Fid,
+    last: Option<u64>,
+) -> Option<u64>
+    ensures some { (index : Index) (after : Option ℕ) → AreAhead index fid after mentions.old → IfSome result (λ number. IsNext index fid after last number × AreAhead index fid (Some number) mentions.new) }
+    ensures none { (index : Index) (after : Option ℕ) → AreAhead index fid after mentions.old → IfNone result (NoneNext index fid after last) }
+{
+    let last = last?;
+    let mention = mentions.next()?;
+    if mention.fid == fid && mention.number <= last {
+        Some(mention.number)
+    } else {
+        None
+    }
+}
+
 /// The number of the first record that mentions the object, of those above a number and up to another.
 pub(crate) fn next_mention(
     index: &BTreeSet<Mention>,
@@ -125,6 +151,23 @@ pub(crate) fn next_mention(
         return None;
     }
     first_between(index, fid, from, last)
+}
+
+/// The number of the next record that mentions the object, as [`next_mention`]; none at the last one, of this number.
+pub(crate) fn next_until(
+    index: &BTreeSet<Mention>,
+    fid: Fid,
+    after: Option<u64>,
+    last: Option<u64>,
+    end: Option<u64>,
+) -> Option<u64>
+    ensures some { IfSome result (IsNext index.now fid after last) }
+    ensures none { IfNone result ((after ≡ end) ⊎ NoneNext index.now fid after last) }
+{
+    if after == end {
+        return None;
+    }
+    next_mention(index, fid, after, last)
 }
 
 // The first number from one up to another under which the index has the object.

@@ -100,8 +100,8 @@ impl Slot {
 
 // ---- places
 
-// Where the place of the number is.
-fn position(slots: &[Slot], number: u64) -> usize
+// Where the place of the number is, by halves.
+fn search(slots: &[Slot], number: u64) -> usize
     requires rising { DoSlotsRise slots.now }
     requires some { 0 < length slots.now }
     ensures place { (front : List Slot) (slot : Slot) (back : List Slot) → slots.now ≡ front ++ slot ∷ back → number_of slot ≡ number → result ≡ length front }
@@ -118,6 +118,54 @@ fn position(slots: &[Slot], number: u64) -> usize
         }
     }
     low
+}
+
+// Where the place of the number is if none is missing between it and the first.
+fn place_behind_first(slots: &[Slot], number: u64) -> usize
+    requires { 0 < length slots.now }
+    ensures { result < length slots.now }
+{
+    let last = slots.len() - 1;
+    let behind = number.saturating_sub(slots[0].number());
+    if behind < last as u64 {
+        behind as usize
+    } else {
+        last
+    }
+}
+
+// Where the place of the number is if none is missing between it and the last.
+fn place_before_last(slots: &[Slot], number: u64) -> usize
+    requires { 0 < length slots.now }
+    ensures { result < length slots.now }
+{
+    let last = slots.len() - 1;
+    let before = slots[last].number().saturating_sub(number);
+    if before < last as u64 {
+        last - before as usize
+    } else {
+        0
+    }
+}
+
+// Where the place of the number is.
+//
+// Most numbers stand where counting from the first or from the last leads.
+fn position(slots: &[Slot], number: u64) -> usize
+    requires rising { DoSlotsRise slots.now }
+    requires some { 0 < length slots.now }
+    ensures place { (front : List Slot) (slot : Slot) (back : List Slot) → slots.now ≡ front ++ slot ∷ back → number_of slot ≡ number → result ≡ length front }
+    ensures within { result < length slots.now }
+{
+    let behind = place_behind_first(slots, number);
+    if slots[behind].number() == number {
+        return behind;
+    }
+    let before = place_before_last(slots, number);
+    if slots[before].number() == number {
+        return before;
+    }
+    search(slots, number)
 }
 
 // Whether the last place has no record.

@@ -139,7 +139,7 @@ impl Tail {
         if self.shelf.reserve(1).is_err() || note(&mut self.index, &rec).is_err() {
             return Err(AddFault::Memory(rec));
         }
-        add_reserved(&mut self.shelf, &mut self.index, rec, gone.cancelled);
+        add_reserved(&mut self.shelf, &mut self.index, rec, gone);
         self.weight = weight;
         Ok(gone.least)
     }

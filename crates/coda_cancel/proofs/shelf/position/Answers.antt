@@ -1,27 +1,9 @@
-use Rattle.std.proofs.Common.{◌+◌, ◌-◌, ◌/◌, ◌<◌, length, arith}
-use Rattle.coda_cancel.proofs.Places.{searched_below, searched_above}
+use Rattle.std.proofs.Common.{sym, ◌∙◌}
+use Rattle.coda_cancel.proofs.Places.{searched_here}
 use Rattle.coda_cancel.proofs.shelf.position.Goals as goal
 
-pub loop-low-preserved-then-number : goal.loop-low-preserved-then-number
-loop-low-preserved-then-number c =
-    let mid = c.loop-low.low + (c.loop-low.high - c.loop-low.low) / 2 in
-    let within : mid < length c.args.slots.now = omega (arith, c.loop-low.invariant.in_range, c.loop-low.invariant.ordered, c.loop-low-test.true) in
-    let low = c.if-number.true in
-    let own = c.number.ensures in
-    record {
-      ordered = omega (arith, c.loop-low-test.true);
-      in_range = c.loop-low.invariant.in_range;
-      here = λ front slot back e is. (searched_below c.args.slots.now c.args.number mid front slot back c.requires.rising e is within c.index-slots-middle.result c.index-slots-middle.is (omega (arith, low, own)), (c.loop-low.invariant.here front slot back e is).1);
-    }
+pub returns-then-number-clause-place : goal.returns-then-number-clause-place
+returns-then-number-clause-place c front slot back e is = searched_here c.args.slots.now c.args.number c.place_behind_first-behind.result front slot back c.requires.rising e is c.place_behind_first-behind.ensures c.index-slots-behind.result c.index-slots-behind.is (sym c.number.ensures ∙ c.if-number.true)
 
-pub loop-low-preserved : goal.loop-low-preserved
-loop-low-preserved c =
-    let mid = c.loop-low.low + (c.loop-low.high - c.loop-low.low) / 2 in
-    let within : mid < length c.args.slots.now = omega (arith, c.loop-low.invariant.in_range, c.loop-low.invariant.ordered, c.loop-low-test.true) in
-    let high = c.if-number.false in
-    let own = c.number.ensures in
-    record {
-      ordered = omega (arith, c.loop-low-test.true);
-      in_range = omega (arith, within);
-      here = λ front slot back e is. ((c.loop-low.invariant.here front slot back e is).0, searched_above c.args.slots.now c.args.number mid front slot back c.requires.rising e is within c.index-slots-middle.result c.index-slots-middle.is (omega (arith, high, own)));
-    }
+pub returns-then-number-2-clause-place : goal.returns-then-number-2-clause-place
+returns-then-number-2-clause-place c front slot back e is = searched_here c.args.slots.now c.args.number c.place_before_last-before.result front slot back c.requires.rising e is c.place_before_last-before.ensures c.index-slots-before.result c.index-slots-before.is (sym c.number-2.ensures ∙ c.if-number-2.true)

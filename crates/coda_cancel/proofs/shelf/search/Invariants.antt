@@ -1,7 +1,7 @@
 use Rattle.std.proofs.Common.{◌≡◌, ◌-◌, ◌<◌, ◌≤◌, ◌∷◌, ◌++◌, List, length}
 use Rattle.coda_cancel.specs.declared.shelf.Slot.{Slot}
 use Rattle.coda_cancel.specs.Slots.{number_of}
-use Rattle.coda_cancel.proofs.shelf.position.Given as goal
+use Rattle.coda_cancel.proofs.shelf.search.Given as goal
 
 abbrev pub invariant-loop-low : goal.invariant-loop-low
 invariant-loop-low l = record {
