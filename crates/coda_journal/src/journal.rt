@@ -61,6 +61,7 @@ impl<D: Disk> Journal<D> {
         ensures full { (self.old.area < self.old.used + vec_len frame.now.bytes)
             ↔ (result ≡ Err (JournalFault.JournalFull self.old.used (vec_len frame.now.bytes - 1) self.old.area)) }
         ensures only_full { (u n a : ℕ) → result ≡ Err (JournalFault.JournalFull u n a) → self.new ≡ self.old }
+        ensures no_room { (u n a : ℕ) → result ≡ Err (JournalFault.JournalFull u n a) → self.old.area < self.old.used + vec_len frame.now.bytes }
         ensures appends { (header : AskedHeader) (payloads : List (List ℕ)) (payload : List ℕ) → frame.now.bytes.items ≡ framed w32 payload
             → Appends D.told header self.old payloads payload self.new result }
         ensures later { D.faults self.old.disk ≤ D.faults self.new.disk }

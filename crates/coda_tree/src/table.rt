@@ -175,8 +175,9 @@ impl NodeTable {
         self.nodes.copied()
     }
 
-    // Binds a free name in a directory. Fails for want of memory alone, and then changes nothing.
-    fn bind(&mut self, dir: Fid, name: Name, fid: Fid) -> Result<(), AllocError>
+    /// Binds a fid at a free name of a directory, beside the names that it has. Fails for want of memory alone, and then
+    /// changes nothing. `unbind` undoes it.
+    pub fn bind(&mut self, dir: Fid, name: Name, fid: Fid) -> Result<(), AllocError>
         requires dir_there { IsDirAt self.old dir }
         requires name_free { child self.old dir name ≡ None }
         ensures ok { OnOk result (self.new ≡ bound self.old dir name fid) }
@@ -187,8 +188,8 @@ impl NodeTable {
         Ok(())
     }
 
-    // Unbinds a name in a directory.
-    fn unbind(&mut self, dir: Fid, name: &Name)
+    /// Unbinds a name in a directory, and leaves what it was bound to where it is. Takes no memory.
+    pub fn unbind(&mut self, dir: Fid, name: &Name)
         requires { IsDirAt self.old dir }
         ensures { self.new ≡ unbound self.old dir name.now }
     {
@@ -211,8 +212,8 @@ impl NodeTable {
         self.binders.move_to(was, fid, to);
     }
 
-    // Takes out the node at a fid.
-    fn take_out(&mut self, fid: Fid)
+    /// Takes out the node at a fid, where there is one, and leaves the names that are bound to it. Takes no memory.
+    pub fn take_out(&mut self, fid: Fid)
         ensures { self.new ≡ map.remove self.old fid }
     {
         let was = self.nodes.take_out(fid);
