@@ -3,6 +3,7 @@ ghost use Rattle.std.specs.Prelude.{◌≡◌, ◌∷◌, [], ◌++◌, IfOk, On
 ghost use Rattle.std.specs.Fmt.{decimal};
 ghost use Rattle.std.specs.List.{flat_map};
 ghost use Rattle.std.specs.FinMap as map;
+ghost use Rattle.coda_fid.specs.Fid.{fid_text};
 ghost use Rattle.coda_script.specs.Refusals.{number_of_refusal, refusal_name};
 ghost use Rattle.coda_report.specs.Printing.{line};
 ghost use Rattle.coda_report.specs.Texts.{arg_text, entry_line, given_up_text, listing_text, numbers_text, readable_text, refused_text, reply_text, source_text, state_text, IsWhole};
@@ -11,7 +12,7 @@ use crate::outcomes::{
     put_delivered, put_drained, put_frozen, put_hoarded, put_resolved, put_settled, put_walked,
     state_word,
 };
-use crate::printing::put_content;
+use crate::printing::{put_content, put_fid, put_number};
 use crate::records::put_records;
 use coda_fid::{Bytes, Fid, Name, Record};
 use coda_script::{Arg, Args, ClientState, Numbers, Readable, Refusal, Reply};
@@ -19,6 +20,9 @@ use coda_text::{put_byte, put_printed};
 use coda_tree::Entries;
 use std::alloc::{AllocError, Global};
 use std::fmt::Write;
+
+/// The bytes for which a reply has room from the start; most are shorter.
+const USUAL_LENGTH: usize = 48;
 
 fn put_entry(out: &mut String, name: &Name, fid: Fid) -> Result<(), AllocError>
     ensures { OnOk result (string_bytes out.new ≡ string_bytes out.old ++ entry_line (name.now, fid)) }
@@ -157,6 +161,17 @@ fn put_refused(out: &mut String, refusal: Refusal, args: &Args) -> Result<(), Al
     put_byte(out, b'\n')
 }
 
+// Puts the number of an operation and the object that it names.
+fn put_done(out: &mut String, number: u64, fid: Fid) -> Result<(), AllocError>
+    ensures { OnOk result (string_bytes out.new ≡ string_bytes out.old ++ line (codes "done " ++ decimal number ++ 32 ∷ fid_text fid)) }
+{
+    out.push_str("done ")?;
+    put_number(out, number)?;
+    put_byte(out, b' ')?;
+    put_fid(out, fid)?;
+    put_byte(out, b'\n')
+}
+
 // Puts a reply.
 fn put_reply(out: &mut String, alloc: Global, reply: &Reply) -> Result<(), AllocError>
     requires { IsWhole reply.now }
@@ -165,7 +180,7 @@ fn put_reply(out: &mut String, alloc: Global, reply: &Reply) -> Result<(), Alloc
     match reply {
         Reply::Opened(entries) => put_numbered(out, "opened", entries),
         Reply::Accepted => out.push_str("ok\n"),
-        Reply::Done { number, fid } => writeln!(out, "done {number} {fid}"),
+        Reply::Done { number, fid } => put_done(out, *number, *fid),
         Reply::Read { fetched, what } => put_read(out, *fetched, what),
         Reply::Listed { fetched, entries } => put_listing(out, *fetched, entries),
         Reply::Hoarded(entries) => put_hoarded(out, alloc, entries.entries()),
@@ -207,7 +222,7 @@ pub fn reply_text(alloc: Global, reply: &Reply) -> Result<Bytes, AllocError>
     requires { IsWhole reply.now }
     ensures { IfOk result (λ text. text ≡ reply_text reply.now) }
 {
-    let mut text = String::new(alloc);
+    let mut text = String::with_capacity(alloc, USUAL_LENGTH)?;
     put_reply(&mut text, alloc, reply)?;
     Ok(Bytes::from_vec(text.into_bytes()))
 }

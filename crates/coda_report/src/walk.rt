@@ -5,12 +5,11 @@ ghost use Rattle.coda_report.specs.Volumes.{kind_text, content_text, mark_text, 
 ghost use Rattle.coda_report.specs.Walking.{shown_path, object_head, own_line, turns_below, turns_of, Nest};
 
 use crate::paths::{push_name, shown_path};
-use crate::printing::{put_content, put_mode};
+use crate::printing::{put_content, put_fid, put_mode, put_next_number, put_sid};
 use coda_fid::Fid;
 use coda_text::{put_byte, put_printed};
 use coda_tree::{Entries, Node, NodeKind, Volume};
 use std::alloc::{AllocError, Global};
-use std::fmt::Write;
 
 /// A directory whose entries are being shown.
 #[derive(Clone, Copy)]
@@ -38,8 +37,10 @@ fn put_attributes(out: &mut String, node: &Node) -> Result<(), AllocError>
     ensures { OnOk result (string_bytes out.new ≡ string_bytes out.old ++ attributes_text node.now) }
 {
     put_mode(out, node.mode)?;
-    let (owner, mtime, sid) = (node.owner, node.mtime, node.sid);
-    write!(out, " {owner} {mtime} {sid}")
+    put_next_number(out, u64::from(node.owner))?;
+    put_next_number(out, node.mtime)?;
+    put_byte(out, b' ')?;
+    put_sid(out, node.sid)
 }
 
 fn put_kind_content(out: &mut String, kind: &NodeKind) -> Result<(), AllocError>
@@ -47,8 +48,8 @@ fn put_kind_content(out: &mut String, kind: &NodeKind) -> Result<(), AllocError>
 {
     match kind {
         NodeKind::File(content) => {
-            let length = content.len();
-            write!(out, " {length} ")?;
+            put_next_number(out, content.len() as u64)?;
+            put_byte(out, b' ')?;
             put_content(out, content.bytes())
         }
         NodeKind::Link(target) => {
@@ -79,8 +80,11 @@ fn put_object_head(
     ensures { OnOk result (string_bytes out.new ≡ string_bytes out.old ++ object_head path.now fid kind.now) }
 {
     put_printed(out, shown_path(path))?;
-    let kind = kind_word(kind);
-    write!(out, " {kind} {fid} ")
+    put_byte(out, b' ')?;
+    out.push_str(kind_word(kind))?;
+    put_byte(out, b' ')?;
+    put_fid(out, fid)?;
+    put_byte(out, b' ')
 }
 
 fn put_object_line(out: &mut String, path: &[u8], fid: Fid, node: &Node) -> Result<(), AllocError>

@@ -11,7 +11,7 @@ use std::marker::Model;
 
 /// What a directory binds: names, each with the fid that it stands for, in byte order of names.
 ///
-/// Contracts see it as a finite map from names to fids. The names stand in pages of some hundred: a name is found by
+/// Contracts see it as a finite map from names to fids. The names stand in short pages: a name is found by
 /// two binary searches, and to bind or unbind one moves only what stands behind it in its page.
 #[derive(Debug, Drop)]
 pub struct Entries {

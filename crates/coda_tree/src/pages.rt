@@ -10,7 +10,21 @@ use std::alloc::{AllocError, Global};
 use std::cmp::Ordering;
 
 // The number of names from which on a page is split where another comes into it.
-const FULL: usize = 256;
+const FULL: usize = 32;
+
+// Where to look next between two places: at the end first, since names often come in order, and then in the middle.
+fn probe(low: usize, high: usize, end: usize) -> usize
+    requires { low < high }
+    ensures from { low ≤ result }
+    ensures inner { low + 1 < high → low < result }
+    ensures below { result < high }
+{
+    if high == end {
+        high - 1
+    } else {
+        low + (high - low) / 2
+    }
+}
 
 // Where the name is, or where it would go.
 pub(crate) fn search(items: &[(Name, Fid)], name: &Name) -> Result<usize, usize>
@@ -21,7 +35,7 @@ pub(crate) fn search(items: &[(Name, Fid)], name: &Name) -> Result<usize, usize>
     let mut low = 0;
     let mut high = items.len();
     while low < high {
-        let mid = low + (high - low) / 2;
+        let mid = probe(low, high, items.len());
         match items[mid].0.compare(name) {
             Ordering::Less => low = mid + 1,
             Ordering::Equal => return Ok(mid),
@@ -49,7 +63,7 @@ pub(crate) fn page_for(pages: &[Vec<(Name, Fid)>], name: &Name) -> usize
     let mut low = 0;
     let mut high = pages.len();
     while low + 1 < high {
-        let mid = low + (high - low) / 2;
+        let mid = probe(low, high, pages.len());
         if compare_first(&pages[mid], name).is_gt() {
             high = mid;
         } else {
