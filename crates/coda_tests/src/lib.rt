@@ -2,8 +2,6 @@
 #![tactic(auto)]
 
 #[cfg(test)]
-mod cache;
-#[cfg(test)]
 mod callback;
 #[cfg(test)]
 mod hdb;
@@ -17,7 +15,5 @@ mod record;
 mod reslog;
 #[cfg(test)]
 mod resolve;
-#[cfg(test)]
-mod walk;
 #[cfg(test)]
 mod wire;
