@@ -20,3 +20,5 @@ pub mod Summed
 pub mod Alone
 pub mod Mutated
 pub mod Chosen
+pub mod Sourced
+pub mod Covered

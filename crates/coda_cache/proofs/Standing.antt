@@ -201,7 +201,7 @@ each_items c change same = same_items c (record c { holds = each change c.holds 
 pub each_dirty : (c : CacheState) (change : Fid → Hold → Hold) → ((f : Fid) (hold : Hold) → (change f hold).dirty ≡ hold.dirty) → (g : Fid) → is_dirty (record c { holds = each change c.holds }) g ≡ is_dirty c g
 each_dirty c change same g = ap held_dirty (get_each change c.holds g) ∙ dirty_changed (change g) (same g) (map.get c.holds g)
 
-altered_at_all : (holds : Holds) (f : Fid) (change : Hold → Hold) (g : Fid) → (map.get (altered holds f change) g ≡ map.get holds g) ⊎ (map.get (altered holds f change) g ≡ option_map change (map.get holds g))
+pub altered_at_all : (holds : Holds) (f : Fid) (change : Hold → Hold) (g : Fid) → (map.get (altered holds f change) g ≡ map.get holds g) ⊎ (map.get (altered holds f change) g ≡ option_map change (map.get holds g))
 altered_at_all holds f change g = elim (fid_cases g f) [
   | inl at ↦ inr (ap (map.get (altered holds f change)) at ∙ at_altered holds f change ∙ ap (λ x. option_map change (map.get holds x)) (sym at))
   | inr apart ↦ inl (off_altered holds f change g apart)

@@ -1,19 +1,24 @@
 -- What is kept beside the contents of a cache, so that no call has to look at all of them.
 use Rattle.std.specs.Prelude.{◌≡◌, ◌==◌, ℕ, ◌+◌, Bool, true, false, cond, List, [], ◌∷◌, Option, Some, None}
 use Rattle.std.specs.Prelude as prelude
-use Rattle.std.specs.Option.{IfSome}
+use Rattle.std.specs.Option.{IfSome, option_map_or}
 use Rattle.std.specs.BTreeSet as btree
+use Rattle.std.specs.BTreeSet.{BTreeSet}
+use Rattle.std.specs.BTreeMap as tree
+use Rattle.std.specs.BTreeMap.{BTreeMap}
+use Rattle.std.specs.Ordering.{nat_cmp, eq_by_cmp}
 use Rattle.coda_fid.specs.declared.fid.Fid.{Fid}
 use Rattle.coda_fid.specs.Fid.{fid_cmp}
 use Rattle.coda_walk.specs.declared.item.Item.{Item}
 use Rattle.coda_walk.specs.Queue.{IsQueueOf, with_item, Rises}
 use Rattle.coda_cache.specs.declared.queued.Queued.{Queued}
 use Rattle.coda_cache.specs.declared.marks.Marks.{Marks}
+use Rattle.coda_cache.specs.declared.sources.Sources.{Sources}
 use Rattle.coda_cache.specs.declared.cache.Cache.TheInside.{Inside}
 use Rattle.coda_tree.specs.Slots.{altered}
 use Rattle.coda_cache.specs.declared.hold.Hold.{Hold}
-use Rattle.coda_cache.specs.Steps.{each, dirty_where}
-use Rattle.coda_cache.specs.State.{CacheState, Holds, parent_of, priority_of, blocks_at, is_dirty}
+use Rattle.coda_cache.specs.Steps.{each, dirty_where, valid_but_from}
+use Rattle.coda_cache.specs.State.{CacheState, Holds, parent_of, priority_of, blocks_at, is_dirty, source_of}
 
 -- ---- the queue
 
@@ -43,6 +48,29 @@ renewed_items item (f ∷ fids) items = renewed_items item fids (with_item (item
 -- those that are marked are those that pass, where marks are kept
 abbrev pub AreMarked : Marks → (Fid → Bool) → Type 0
 AreMarked m passes = IfSome m.fids (λ fids. (f : Fid) → btree.contains fid_cmp fids f ≡ passes f)
+
+-- ---- where valid copies are from
+
+-- whether two servers are one
+abbrev pub same_server : ℕ → ℕ → Bool
+same_server a b = eq_by_cmp nat_cmp a b
+
+-- whether a copy is valid, and from a server
+abbrev pub is_from : ℕ → Option ℕ → Bool
+is_from server source = option_map_or (λ s. same_server server s) source false
+
+-- whether a fid is kept for a server
+abbrev pub is_kept_for : BTreeMap ℕ (BTreeSet Fid) → ℕ → Fid → Bool
+is_kept_for servers server f = option_map_or (λ fids. btree.contains fid_cmp fids f) (tree.get nat_cmp servers server) false
+
+-- the fid of each valid copy is kept for the server that it is from, where they are kept
+abbrev pub AreCovered : Sources → (Fid → Option ℕ) → Type 0
+AreCovered s source = IfSome s.servers (λ servers. (f : Fid) (server : ℕ) → source f ≡ Some server → is_kept_for servers server f ≡ true)
+
+-- the holds in which no copy of these nodes is valid that is of a volume and from a server
+abbrev pub left_by : ℕ → ℕ → Holds → List Fid → Holds
+left_by volume server holds [] = holds
+left_by volume server holds (f ∷ fids) = left_by volume server (altered holds f (valid_but_from volume server f)) fids
 
 -- ---- which nodes are dirty
 
@@ -86,6 +114,11 @@ pub record AreIndexed (queued : Queued) (dirty : Marks) (c : CacheState) : Type 
   pub queue : IsQueued queued (standings c)
   pub marks : AreMarked dirty (is_dirty c)
 
+-- and the valid copies are kept by their servers
+pub record AreFound (queued : Queued) (dirty : Marks) (sources : Sources) (c : CacheState) : Type 0 where
+  pub indexed : AreIndexed queued dirty c
+  pub covered : AreCovered sources (source_of c)
+
 -- so it is with the parts of a cache
 abbrev pub IsIndexed : Inside → Type 0
-IsIndexed a = AreIndexed a.queued a.dirty a.contents
+IsIndexed a = AreFound a.queued a.dirty a.sources a.contents

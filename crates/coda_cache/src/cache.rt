@@ -1,4 +1,4 @@
-ghost use Rattle.std.specs.Prelude.{◌≡◌, ◌⊎◌, ◌<◌, ◌^◌, Option, Ok, Err, true, Some, None, IfOk, IfErr, OnOk, OnErr, MatchResult, option_copied, is_some, List, [], ◌∷◌};
+ghost use Rattle.std.specs.Prelude.{◌≡◌, ◌==◌, ◌⊎◌, ◌<◌, ◌^◌, Option, Ok, Err, true, Some, None, IfOk, IfErr, OnOk, OnErr, MatchResult, option_copied, is_some, List, [], ◌∷◌};
 ghost use Rattle.std.specs.Bool.{OnTrue};
 ghost use Rattle.std.specs.FinMap as map;
 ghost use Rattle.coda_fid.specs.declared.fid.Fid.{Fid};
@@ -19,6 +19,7 @@ use crate::contents::Contents;
 use crate::marks::Marks;
 use crate::operating::{mentioned, new_node, taken_out};
 use crate::queued::Queued;
+use crate::sources::Sources;
 use crate::{CacheFault, CacheRow, room};
 use coda_fid::{Fid, Record};
 use coda_tree::Node;
@@ -36,6 +37,7 @@ pub struct Cache {
     pub(crate) contents: Contents,
     pub(crate) queued: Queued,
     pub(crate) dirty: Marks,
+    pub(crate) sources: Sources,
 }
 
 impl Model for Cache {
@@ -66,6 +68,7 @@ impl Cache {
             contents,
             queued: Queued::new(alloc),
             dirty: Marks::new(alloc),
+            sources: Sources::new(alloc),
         })
     }
 
@@ -198,14 +201,35 @@ impl Cache {
         ensures was { result ≡ is_some (source_of self.old fid) }
         ensures left { self.new ≡ invalidated self.old fid }
     {
+        self.sources.set(self.contents.source(fid), None, fid);
         self.contents.invalidate(fid)
     }
 
-    /// Makes no copy of a volume's node valid that is from a server. Takes no memory.
-    pub fn invalidate_from(&mut self, volume: u32, server: u8)
+    // Makes no copy of a volume's node valid that is from a server, by a list of its nodes that has all that are so.
+    fn invalidate_among(&mut self, volume: u32, server: u8, fids: &[Fid])
+        requires covers { (f : Fid) → (f.volume == volume) ≡ true → source_of self.old f ≡ Some server → is_listed fids.now f ≡ true }
+        requires volume { (f : Fid) → is_listed fids.now f ≡ true → (f.volume == volume) ≡ true }
+        ensures { self.new ≡ invalidated_from self.old volume server }
+    {
+        self.contents.invalidate_among(volume, server, fids);
+        self.sources.leave(server, fids);
+    }
+
+    // The same by a look at all cached nodes.
+    fn invalidate_all(&mut self, volume: u32, server: u8)
         ensures { self.new ≡ invalidated_from self.old volume server }
     {
         self.contents.invalidate_from(volume, server);
+    }
+
+    /// Makes no copy of a volume's node valid that is from a server.
+    pub fn invalidate_from(&mut self, volume: u32, server: u8)
+        ensures { self.new ≡ invalidated_from self.old volume server }
+    {
+        match self.sources.list(volume, server) {
+            Some(fids) => self.invalidate_among(volume, server, &fids),
+            None => self.invalidate_all(volume, server),
+        }
     }
 
     // Makes exactly these nodes dirty, where they are cached and of a volume, or of any where none is given, by a list that
@@ -251,6 +275,7 @@ impl Cache {
     pub fn take_out(&mut self, fid: Fid)
         ensures { self.new ≡ without self.old fid }
     {
+        self.sources.set(self.contents.source(fid), None, fid);
         self.contents.take_out(fid);
         self.queued.take_out(fid);
         self.dirty.set(fid, false);
@@ -260,6 +285,7 @@ impl Cache {
     pub fn drop_all(&mut self, fids: &[Fid])
         ensures { self.new ≡ dropped self.old fids.now }
     {
+        self.sources.take_all(&self.contents, fids);
         self.contents.drop_all(fids);
         self.queued.take_all(fids);
         self.dirty.take_all(fids);
@@ -275,6 +301,7 @@ impl Cache {
                 self.contents.remove(fid);
                 self.queued = Queued::none();
                 self.dirty = Marks::none();
+                self.sources.give_up();
             }
         }
     }
@@ -285,6 +312,7 @@ impl Cache {
     {
         self.queued.restore(&self.contents);
         self.dirty.restore(&self.contents);
+        self.sources.restore(&self.contents);
     }
 
     /// Puts a node at a fid that is not dirty: under the parent that it has where it is cached, and else under this one.
@@ -301,9 +329,11 @@ impl Cache {
         ensures err { OnErr result (self.new ≡ self.old) }
     {
         self.restore();
+        let was = self.contents.source(fid);
         self.contents.put(fid, parent, node, from)?;
         self.queued.put(self.contents.standing(fid));
         self.dirty.set(fid, false);
+        self.sources.set(was, from, fid);
         Ok(())
     }
 
@@ -325,6 +355,7 @@ impl Cache {
         self.contents.put_walk(nodes, of)?;
         self.queued = Queued::of(&self.contents);
         self.dirty = Marks::of(&self.contents);
+        self.sources = Sources::of(&self.contents);
         Ok(())
     }
 
@@ -352,13 +383,21 @@ impl Cache {
         ensures err { OnErr result (self.new ≡ self.old) }
     {
         let gone = self.taken_below(taken_out(&rec.op))?;
-        self.contents.change(client, rec, &gone)?;
-        let mentioned = mentioned(&rec.op);
-        self.queued.take_all(&gone);
-        self.queued.renew(&self.contents, &mentioned);
-        self.dirty.take_all(&gone);
-        self.dirty.renew(&self.contents, &mentioned);
-        Ok(())
+        self.sources.take_all(&self.contents, &gone);
+        match self.contents.change(client, rec, &gone) {
+            Ok(()) => {
+                let mentioned = mentioned(&rec.op);
+                self.queued.take_all(&gone);
+                self.queued.renew(&self.contents, &mentioned);
+                self.dirty.take_all(&gone);
+                self.dirty.renew(&self.contents, &mentioned);
+                Ok(())
+            }
+            Err(e) => {
+                self.sources.give_up();
+                Err(e)
+            }
+        }
     }
 
     /// Does a client's operation: the nodes change as it says, what it takes out goes with all that is cached below it, a

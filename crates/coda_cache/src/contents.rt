@@ -1,4 +1,4 @@
-ghost use Rattle.std.specs.Prelude.{◌≡◌, Option, ◌<◌, ◌^◌, true, false, Some, None, IfOk, OnOk, OnErr, option_copied, is_some, List};
+ghost use Rattle.std.specs.Prelude.{◌≡◌, ◌==◌, Option, ◌<◌, ◌^◌, true, false, Some, None, IfOk, OnOk, OnErr, option_copied, is_some, List};
 ghost use Rattle.std.specs.Prelude as prelude;
 ghost use Rattle.std.specs.FinMap as map;
 ghost use Rattle.std.specs.List.{filter};
@@ -175,6 +175,14 @@ impl Contents {
         ensures { self.new ≡ invalidated_from self.old volume server }
     {
         self.holds.invalidate_from(volume, server);
+    }
+
+    // The same, where the fids of all copies that are so are among the given ones.
+    pub(crate) fn invalidate_among(&mut self, volume: u32, server: u8, fids: &[Fid])
+        requires { (f : Fid) → (f.volume == volume) ≡ true → source_of self.old f ≡ Some server → is_listed fids.now f ≡ true }
+        ensures { self.new ≡ invalidated_from self.old volume server }
+    {
+        self.holds.invalidate_among(volume, server, fids);
     }
 
     // Makes exactly the cached nodes among these dirty. Takes no memory.

@@ -18,6 +18,7 @@ mod queued;
 mod recency;
 mod room;
 mod row;
+mod sources;
 mod walking;
 
 pub use cache::Cache;

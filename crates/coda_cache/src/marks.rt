@@ -18,7 +18,7 @@ pub(crate) struct Marks {
 }
 
 // The fids with one of them, where it is to be there, or without it.
-fn with(fids: BTreeSet<Fid>, fid: Fid, there: bool) -> Option<BTreeSet<Fid>>
+pub(crate) fn with(fids: BTreeSet<Fid>, fid: Fid, there: bool) -> Option<BTreeSet<Fid>>
     ensures { IfSome result (λ s. (f : Fid) → btree.contains fid_cmp s f ≡ cond (same_fid fid f) there (btree.contains fid_cmp fids f)) }
 {
     let mut fids = fids;

@@ -12,8 +12,8 @@ pub returns-in-Some : goal.returns-in-Some
 returns-in-Some c parent keep =
     (elim c.has_room.result as (λ b. OnTrue b (c.in-Some.total + c.saturating_sub.result ≤ c.size.result) → OnTrue b (evicted_for c.args.self.now c.args.fid parent c.args.blocks keep ≡ Ok [])) [
       | true ↦ λ room.
-          let in_order = c.in-Some.ensures.rises (standings c.self.inside.contents) c.self.invariant.queue in
-          let total = c.in-Some.ensures.sum (standings c.self.inside.contents) c.self.invariant.queue in
+          let in_order = c.in-Some.ensures.rises (standings c.self.inside.contents) c.self.invariant.indexed.queue in
+          let total = c.in-Some.ensures.sum (standings c.self.inside.contents) c.self.invariant.indexed.queue in
           let fresh = fresh_items in_order.0 (standing_of c.self.inside.contents) (λ g. refl) c.self.inside.contents.recency in_order.1 in
           let size = c.size.ensures in
           let more = c.saturating_sub.ensures in

@@ -15,4 +15,4 @@ returns-then-contains c =
           sym (ap (λ (s : CacheState). at_or_below s c.args.fid) c.self.view_is)
           ∙ alone c.self.inside.contents c.agree.ensures (fresh_items order.0 (standing_of c.self.inside.contents) (λ g. refl) c.self.inside.contents.recency order.1) c.args.fid (sym c.contains.ensures ∙ c.if-contains.true) bare
       | false ↦ λ h _. h
-    ]) (c.is_bare.ensures.bare (standings c.self.inside.contents) c.self.invariant.queue) (c.is_bare.ensures.rises (standings c.self.inside.contents) c.self.invariant.queue)
+    ]) (c.is_bare.ensures.bare (standings c.self.inside.contents) c.self.invariant.indexed.queue) (c.is_bare.ensures.rises (standings c.self.inside.contents) c.self.invariant.indexed.queue)

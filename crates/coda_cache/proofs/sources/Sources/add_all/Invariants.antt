@@ -1,0 +1,9 @@
+use Rattle.std.proofs.Common.{ℕ, Option, cond, take}
+use Rattle.coda_fid.specs.declared.fid.Fid.{Fid}
+use Rattle.coda_walk.specs.Going.{is_listed}
+use Rattle.coda_cache.specs.State.{source_of}
+use Rattle.coda_cache.specs.Indexed.{AreCovered}
+use Rattle.coda_cache.proofs.sources.Sources.add_all.Given as goal
+
+abbrev pub invariant-loop-fid : goal.invariant-loop-fid
+invariant-loop-fid l = (source : Fid → Option ℕ) → AreCovered l.fn.self source → AreCovered l.self (λ f. cond (is_listed (take l.fid-index l.fids) f) (source_of l.contents f) (source f))
