@@ -3,12 +3,19 @@
 
 mod accepting;
 mod ask;
+mod begun;
+mod below;
+mod calls;
 mod client;
+mod done;
 mod entries;
+mod following;
 mod fronts;
 mod law;
 mod looking;
+mod operating;
 mod parents;
+mod reaching;
 mod recovery;
 mod refused;
 mod seen;
@@ -20,6 +27,7 @@ mod volume_log;
 
 pub use ask::Ask;
 pub use client::Client;
+pub use done::Done;
 pub use law::{clients_stay_ours, logs_are_folds};
 pub use parents::ParentTable;
 pub use recovery::Unfit;
