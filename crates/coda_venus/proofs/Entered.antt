@@ -1,10 +1,16 @@
 -- A client of which what it holds changed, and a log.
-use Rattle.std.proofs.Common.{◌≡◌, ℕ, Option, Some, refl, sym, ap, ◌∙◌, subst}
+use Rattle.std.proofs.Common.{◌≡◌, ◌<◌, ℕ, Option, Some, refl, sym, ap, ◌∙◌, subst}
 use Rattle.std.specs.Prelude.{Result, Ok, Err, OnOk, OnErr}
 use Rattle.std.specs.BTreeMap as tree
 use Rattle.std.specs.Ordering.{nat_cmp}
 use Rattle.coda_fid.specs.declared.op.Record.{Record}
+use Rattle.coda_certify.specs.Replay.{applied}
 use Rattle.coda_plain.specs.Deeds.{Operated}
+use Rattle.coda_record.specs.Form.{one}
+use Rattle.coda_spelling.specs.Spelled.{IsSpelled, AreSpelled}
+use Rattle.coda_spelling.proofs.SpelledParts.{below}
+use Rattle.coda_spelling.proofs.SpelledNodes.{after_operation}
+use Rattle.coda_tree.specs.Volume.{Nodes}
 use Rattle.coda_record.specs.declared.entry.ClientEntry.TheVariants.{Op as OpEntry}
 use Rattle.coda_venus.specs.Held.{Held, held_after_operation}
 use Rattle.coda_venus.specs.State.{ClientState, after_deed, client_after}
@@ -51,3 +57,8 @@ module _ (c : ClientState) (volume : ℕ) (rec : Record) (made began pushed last
   returned at back =
       let now : c.held ≡ held_of last = is.held ∙ sym has.undoes ∙ ap (λ (h : Held). undone h begun) (sym held) ∙ sym back in
       with_held between pushed last c.held at after now
+
+-- what a client holds can still be spelled
+pub spelled_after : {A E : Type 0} (r : Result A E) (old new : Nodes) (client : ℕ) (rec : Record) → OnOk r (new ≡ applied old client rec) → OnErr r (new ≡ old) → AreSpelled old → client < 256 → IsSpelled rec → AreSpelled new
+spelled_after (Ok x) old new client rec ok err spelled few is = subst AreSpelled (sym ok) (after_operation old client rec spelled (below one client few) is)
+spelled_after (Err e) old new client rec ok err spelled few is = subst AreSpelled (sym err) spelled
