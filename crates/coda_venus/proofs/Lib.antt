@@ -16,7 +16,4 @@ pub mod Beginnings
 pub mod DirtyBelow
 pub mod OwnRefusals
 pub mod Performed
-pub mod Followed
-pub mod Reading
-pub mod Recoveries
 pub mod Entered

@@ -4,13 +4,10 @@ pub mod Looking
 pub mod State
 pub mod Times
 pub mod Accepting
-pub mod Reaching
 pub mod History
 pub mod Code
 pub mod Operating
 pub mod Standing
 pub mod Appending
 pub mod Keeping
-pub mod Recovering
-pub mod Entering
 pub mod Laws

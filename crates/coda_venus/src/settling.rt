@@ -40,6 +40,7 @@ impl Client {
         ensures refused { (c : ClientState) → IsClient c self.old → IfErr result (λ why. (why ≡ Refused.Memory) ⊎ (next_chunk (c.volumes volume).log now window ≡ Err why)) }
         ensures err { (c : ClientState) → IsClient c self.old → OnErr result (IsClient c self.new) }
         ensures nodes { self.new.nodes ≡ self.old.nodes }
+        ensures number { self.new.number ≡ self.old.number }
         ensures own { IfErr result IsOwn }
     {
         match self.logs.get_mut(&volume) {
@@ -73,6 +74,7 @@ impl Client {
         ensures refused { (c : ClientState) → IsClient c self.old → IfErr result (λ why. (why ≡ Refused.Memory) ⊎ (option_map unsettled_as (settle_refusal (c.volumes volume).log.frozen number) ≡ Some why)) }
         ensures err { (c : ClientState) → IsClient c self.old → OnErr result (IsClient c self.new) }
         ensures nodes { self.new.nodes ≡ self.old.nodes }
+        ensures number { self.new.number ≡ self.old.number }
         ensures own { IfErr result IsOwn }
     {
         match self.logs.get_mut(&volume) {
