@@ -1,5 +1,5 @@
 -- A client of which what it holds changed, and a log.
-use Rattle.std.proofs.Common.{◌≡◌, ◌<◌, ℕ, Option, Some, refl, sym, ap, ◌∙◌, subst}
+use Rattle.std.proofs.Common.{◌≡◌, ◌<◌, ℕ, Option, Some, None, refl, sym, ap, ◌∙◌, subst}
 use Rattle.std.specs.Prelude.{Result, Ok, Err, OnOk, OnErr}
 use Rattle.std.specs.BTreeMap as tree
 use Rattle.std.specs.Ordering.{nat_cmp}
@@ -10,7 +10,10 @@ use Rattle.coda_record.specs.Form.{one}
 use Rattle.coda_spelling.specs.Spelled.{IsSpelled, AreSpelled}
 use Rattle.coda_spelling.proofs.SpelledParts.{below}
 use Rattle.coda_spelling.proofs.SpelledNodes.{after_operation}
-use Rattle.coda_tree.specs.Volume.{Nodes}
+use Rattle.std.specs.FinMap as map
+use Rattle.coda_fid.specs.Fid.{fid_cmp}
+use Rattle.coda_tree.specs.declared.node.Node.{Node}
+use Rattle.coda_tree.specs.Volume.{Nodes, child_of}
 use Rattle.coda_record.specs.declared.entry.ClientEntry.TheVariants.{Op as OpEntry}
 use Rattle.coda_venus.specs.Held.{Held, held_after_operation}
 use Rattle.coda_venus.specs.State.{ClientState, after_deed, client_after}
@@ -62,3 +65,10 @@ module _ (c : ClientState) (volume : ℕ) (rec : Record) (made began pushed last
 pub spelled_after : {A E : Type 0} (r : Result A E) (old new : Nodes) (client : ℕ) (rec : Record) → OnOk r (new ≡ applied old client rec) → OnErr r (new ≡ old) → AreSpelled old → client < 256 → IsSpelled rec → AreSpelled new
 spelled_after (Ok x) old new client rec ok err spelled few is = subst AreSpelled (sym ok) (after_operation old client rec spelled (below one client few) is)
 spelled_after (Err e) old new client rec ok err spelled few is = subst AreSpelled (sym err) spelled
+
+-- where nothing is held, nothing has to be spelled
+pub nothing_spelled : AreSpelled map.empty
+nothing_spelled = record {
+  versions = λ fid node h. (let no : None ≡ Some node = sym (map.get-empty fid_cmp fid) ∙ h in cc);
+  bound = λ dir fid name h. (let no : None ≡ Some fid = sym (ap (λ (o : Option Node). child_of o name) (map.get-empty fid_cmp dir)) ∙ h in cc);
+}

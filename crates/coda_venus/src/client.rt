@@ -25,7 +25,7 @@ pub struct Client {
 
 impl Client {
     ghost use Rattle.std.specs.Prelude.{◌≡◌};
-    ghost use Rattle.std.specs.FinMap as map;
+    ghost use Rattle.coda_spelling.specs.Spelled.{AreSpelled};
     ghost use Rattle.coda_venus.specs.State.{ClientState, new_client};
     ghost use Rattle.coda_venus.specs.Code.{sight, IsClient};
 
@@ -33,7 +33,7 @@ impl Client {
     pub fn new(alloc: Global, number: u8, blocks: u32) -> Client
         ensures new { IsClient (new_client number blocks) result }
         ensures number { result.number ≡ number }
-        ensures nothing { result.nodes ≡ map.empty }
+        ensures spelled { AreSpelled result.nodes }
     {
         Client {
             alloc,
