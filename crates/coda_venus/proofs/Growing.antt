@@ -19,12 +19,20 @@ use Rattle.coda_record.specs.Entries.{client_entry, client_payload}
 use Rattle.coda_record.specs.Form.{four, eight}
 use Rattle.coda_record.specs.Spelling.{HasSpelling}
 use Rattle.coda_record.specs.Table as table
-use Rattle.coda_record.specs.declared.entry.ClientEntry.TheVariants.{Freeze, Settled}
-use Rattle.coda_spelling.proofs.SpelledParts.{both_true, within}
-use Rattle.coda_venus.specs.History.{Payload, payload_of, payloads_of, state_of, last_to_go, IsFrozen, MayFollow, IsHistory}
-use Rattle.coda_venus.specs.Keeping.{chunk_by, next_chunk}
+use Rattle.coda_record.specs.declared.entry.ClientEntry.TheVariants.{Op, Freeze, Settled}
+use Rattle.coda_fid.specs.declared.op.Record.{Record}
+use Rattle.coda_spelling.specs.Spelled.{IsSpelled}
+use Rattle.coda_spelling.proofs.SpelledParts.{both_true, within, is_within, below}
+use Rattle.std.proofs.lemmas.Bool.Decides.{nat_tests}
+use Rattle.coda_venus.specs.Ask.{Asked, too_big}
+use Rattle.coda_venus.specs.Accepting.{sight_of, accept}
+use Rattle.coda_venus.specs.Code.{has_room, is_full}
+use Rattle.coda_venus.specs.State.{ClientState}
+use Rattle.coda_venus.proofs.Accepted.{found_then}
+use Rattle.coda_venus.specs.History.{Payload, payload_of, payloads_of, state_of, last_to_go, IsFrozen, MayOperate, MayFollow, IsHistory}
+use Rattle.coda_venus.specs.Keeping.{record_of, unless_full, operation_unless, operation, chunk_by, next_chunk}
 use Rattle.coda_venus.specs.declared.refused.Refused.{Refused}
-use Rattle.coda_venus.specs.declared.refused.Refused.TheVariants.{JournalFull}
+use Rattle.coda_venus.specs.declared.refused.Refused.TheVariants.{JournalFull, LogFull}
 use Rattle.coda_venus.proofs.Ends.{end_upto, end_above}
 use Rattle.coda_venus.proofs.KeptLogs.{IsNumbered, logs_kept}
 use Rattle.coda_venus.proofs.Ends.{begin_behind}
@@ -47,6 +55,41 @@ settled_spelled : (volume number : ℕ) (verdict : Verdict) → HasSpelling tabl
 unfolding client_payload client_entry
 settled_spelled volume number verdict v a low high =
     both_true _ _ refl (both_true _ _ (both_true _ _ refl (both_true _ _ v (both_true _ _ (within 1 4294967295 eight number low high (omega (arith, high))) (both_true _ _ a refl)))) refl)
+
+operation_spelled : (volume : ℕ) (rec : Record) → HasSpelling table.volume volume → IsSpelled rec → HasSpelling (client_payload four) (Op volume rec ∷ [])
+unfolding client_payload client_entry table.record_above
+operation_spelled volume rec v is =
+    let n = is_within 1 4294967295 eight rec.number is.number in
+    let low = n.0 in
+    let high = n.1 in
+    both_true _ _ refl (both_true _ _ (both_true _ _ refl (both_true _ _ v (both_true _ _ (both_true _ _ (both_true _ _ (below eight rec.number (omega (arith, high))) (follows rec.number low high)) (both_true _ _ is.time (both_true _ _ is.op refl))) refl))) refl)
+  where
+    follows : (n : ℕ) → 1 ≤ n → n ≤ 4294967295 → table.may_follow 0 n ≡ true
+    follows n low high = grind (arith, nat_tests)
+
+-- ---- operations
+
+full_is : (room full : Bool) (rec found : Record) → (let ok : Record → Result Record Refused = λ z. Ok z in (if room then (if full then Err JournalFull else ok rec) else Err LogFull) ≡ ok found) → (room ≡ true) × (full ≡ false) × (rec ≡ found)
+full_is true true rec found h = absurd (cc)
+full_is true false rec found h = (refl, refl, cc)
+full_is false full rec found h = absurd (cc)
+
+-- what an ask becomes may follow
+pub operates : (c : ClientState) (time volume : ℕ) (ask : Asked) (rec : Record) → operation c time volume ask ≡ Ok rec → MayOperate c volume rec
+operates c time volume ask rec h = by (too_big ask) refl h
+  where
+    by : (o : Option ℕ) → too_big ask ≡ o → operation_unless o c time volume ask ≡ Ok rec → MayOperate c volume rec
+    by (Some size) small h = absurd (cc)
+    by None small h =
+        let v = c.volumes volume in
+        let a = found_then (accept (sight_of c volume) volume ask) (λ op. unless_full v (record_of v time op)) rec h in
+        let next = record_of v time a.0 in
+        let is = full_is (has_room v next) (is_full v) next rec a.2 in
+        let low = leb-false 4294967295 v.log.last is.1 in
+        subst (MayOperate c volume) is.2 (record { ask = ask; small = small; accepted = a.1; next = refl; few = omega (arith, low); room = is.0 })
+
+pub may_operate : (header : Header) (history : List Payload) (volume : ℕ) (rec : Record) → HasSpelling table.volume volume → IsSpelled rec → MayOperate (state_of header history) volume rec → MayFollow header history (Op volume rec ∷ [])
+may_operate header history volume rec v is may = ((may, tt), operation_spelled volume rec v is)
 
 -- ---- freezes
 

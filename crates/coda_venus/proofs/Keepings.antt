@@ -1,5 +1,5 @@
 -- What a call leaves that is to keep one payload.
-use Rattle.std.proofs.Common.{◌≡◌, ℕ, false, List, [], ◌∷◌, ◌++◌, refl, sym, subst, inl}
+use Rattle.std.proofs.Common.{◌≡◌, ℕ, false, List, [], ◌∷◌, ◌++◌, refl, sym, ap, ◌∙◌, subst, inl, inr}
 use Rattle.std.specs.Prelude.{Option, Result, Ok, Err, IfErr}
 use Rattle.coda_disk.specs.Told.{Told, LeavesOnly}
 use Rattle.coda_journal.specs.Image.{Reads}
@@ -12,7 +12,10 @@ use Rattle.coda_venus.specs.History.{Payload, payload_of, payloads_of, state_of,
 use Rattle.coda_venus.specs.Code.{IsClient}
 use Rattle.coda_venus.specs.Standing.{IsUp}
 use Rattle.coda_venus.specs.Appending.{Writing}
-use Rattle.coda_venus.specs.Keeping.{IsFull, IsStill, refusal_in, KeepsOne, KeepingOne}
+use Rattle.coda_fid.specs.declared.op.Record.{Record}
+use Rattle.coda_record.specs.declared.entry.ClientEntry.TheVariants.{Op as OpEntry}
+use Rattle.coda_venus.specs.Looking.{then_find, OrMemory}
+use Rattle.coda_venus.specs.Keeping.{IsFull, IsStill, refusal_in, KeepsOne, KeepingOne, DoesKeepIn}
 use Rattle.coda_venus.specs.declared.refused.Refused.{Refused}
 use Rattle.coda_venus.specs.declared.refused.Refused.TheVariants.{JournalFull, DiskFault, Memory}
 use Rattle.coda_venus.specs.declared.venus.Venus.{Venus}
@@ -73,3 +76,17 @@ passes told header old history payload new r s same k = record { any_moment = k.
 -- nothing is due and is not
 pub not_both : {A : Type 0} (x : A) (why : Refused) → (let ok : A → Result A Refused = λ z. Ok z in ok x ≡ Err why) → ⊥
 not_both x why e = cc
+
+-- ---- an operation that isn't due
+
+err_is : {A : Type 0} (x y : Refused) → (let err : Refused → Result A Refused = λ z. Err z in err x ≡ err y) → x ≡ y
+err_is x y e = cc
+
+-- it is refused, or memory is wanted
+pub not_due : {D A : Type 0} (told : D → Told) (header : Header) (old : Venus D) (history : List Payload) → IsUp told header old history
+    → ((c : List ℕ) → (told old.journal.disk).honest → (told old.journal.disk).left_since (told old.journal.disk).moment c → (told old.journal.disk).may_leave c)
+    → (volume : ℕ) (why : Refused) (r : Result Record Refused) (s : Result A Refused) → s ≡ Err why → OrMemory (let q : Result Record Refused = Err why in q) r → DoesKeepIn told header old history (then_find r (λ rec. Ok (OpEntry volume rec ∷ []))) old s
+not_due told header old history up only_now volume why (Err other) s is (inl memory) = (inl (is ∙ ap Err (err_is {A = Record} why Memory memory)), refl)
+not_due told header old history up only_now volume why (Err other) s is (inr same) = (inr (is ∙ ap Err (err_is {A = Record} why other same)), refl)
+not_due told header old history up only_now volume why (Ok rec) s is (inl memory) = no_memory told header old history (OpEntry volume rec ∷ []) up only_now old s (is ∙ ap Err (err_is {A = Record} why Memory memory)) refl up.up up.state
+not_due told header old history up only_now volume why (Ok rec) s is (inr same) = absurd (not_both {A = Record} rec why (sym same))

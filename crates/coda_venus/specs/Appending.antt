@@ -8,20 +8,7 @@ use Rattle.coda_journal.specs.declared.journal.Journal.{Journal}
 use Rattle.coda_venus.specs.declared.refused.Refused.{Refused}
 use Rattle.coda_venus.specs.declared.venus.Venus.{Venus}
 
--- What adding a payload answers where there is room: it is there, or a call of the disk failed.
-abbrev pub AppendAnswers : {D T E : Type 0} → (D → Told) → Header → List (List ℕ) → List ℕ → Journal D → Result T E → Type 0
-AppendAnswers told header payloads payload new (Ok x) = IsJournal told header new (payloads ++ payload ∷ [])
-AppendAnswers told header payloads payload new (Err e) = Stands (told new.disk) header payloads (Some payload)
-
-pub record Appending {D T E : Type 0} (told : D → Told) (header : Header) (old : Journal D) (payloads : List (List ℕ)) (payload : List ℕ) (new : Journal D) (result : Result T E) : Type 0 where
-  pub any_moment : LeavesOnly (told old.disk) (told new.disk) (IsBeforeOrAfter header payloads payload)
-  pub answers : AppendAnswers told header payloads payload new result
-
--- a payload is added to a journal at rest with these payloads
-abbrev pub Appends : {D T E : Type 0} → (D → Told) → Header → Journal D → List (List ℕ) → List ℕ → Journal D → Result T E → Type 0
-Appends told header old payloads payload new result = IsJournal told header old payloads → Appending told header old payloads payload new result
-
--- The same of a client: the payload is there; or a call of the disk failed, and it is down.
+-- What adding a payload answers where there is room: it is there; or a call of the disk failed, and the client is down.
 abbrev pub WriteAnswers : {D T : Type 0} → (D → Told) → Header → List (List ℕ) → List ℕ → Venus D → Result T Refused → Type 0
 WriteAnswers told header payloads payload new (Ok x) = (new.down ≡ false) × IsJournal told header new.journal (payloads ++ payload ∷ [])
 WriteAnswers told header payloads payload new (Err e) = (new.down ≡ true) × Stands (told new.journal.disk) header payloads (Some payload)

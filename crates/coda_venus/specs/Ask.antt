@@ -5,6 +5,11 @@ use Rattle.coda_fid.specs.declared.fid.Fid.{Fid}
 use Rattle.coda_fid.specs.declared.op.Attrs.{Attrs}
 use Rattle.coda_fid.specs.declared.op.Op.{Op}
 use Rattle.coda_fid.specs.declared.op.Op.TheVariants as op
+use Rattle.coda_fid.specs.Name.{AreNames}
+use Rattle.coda_record.specs.Form.{four}
+use Rattle.coda_record.specs.Parts.{u16, u32}
+use Rattle.coda_record.specs.Spelling.{HasSpelling}
+use Rattle.coda_record.specs.Table as table
 use Rattle.coda_tree.specs.Bindings.{Name}
 use Rattle.coda_venus.specs.declared.ask.Ask.{Ask}
 use Rattle.coda_venus.specs.declared.ask.Ask.TheVariants as ask
@@ -74,3 +79,14 @@ object_of (op.Setattr fid pre attrs) = fid
 object_of (op.Remove dir name fid pre) = fid
 object_of (op.Rmdir dir name fid pre) = fid
 object_of (op.Rename from_dir from to_dir to fid over) = fid
+
+-- What is asked is in its ranges: names, modes, owners, targets and attributes. The length of a content is for the client to test.
+abbrev pub IsAskSpelled : Asked → Type 0
+IsAskSpelled (Create path mode owner) = AreNames path × HasSpelling u16 mode × HasSpelling u32 owner
+IsAskSpelled (Mkdir path mode owner) = AreNames path × HasSpelling u16 mode × HasSpelling u32 owner
+IsAskSpelled (Symlink path target) = AreNames path × HasSpelling (table.target four) target
+IsAskSpelled (Store path content) = Unit {0}
+IsAskSpelled (Setattr path attrs) = HasSpelling table.attrs attrs
+IsAskSpelled (Remove path) = AreNames path
+IsAskSpelled (Rmdir path) = AreNames path
+IsAskSpelled (Rename from to) = AreNames from × AreNames to

@@ -1,14 +1,16 @@
 -- What the parts of the code stand for.
-use Rattle.std.specs.Prelude.{◌≡◌, ◌<◌, ◌+◌, ℕ, Bool, true, false, nat_le, ◌++◌, Option, Some, None, ◌⊎◌}
+use Rattle.std.specs.Prelude.{◌≡◌, ◌<◌, ◌+◌, ℕ, Bool, true, nat_le, ◌++◌, Option, Some, None, ◌⊎◌}
 use Rattle.std.specs.BTreeMap as tree
 use Rattle.std.specs.Ordering.{nat_cmp}
+use Rattle.coda_fid.specs.declared.op.Op.{Op}
 use Rattle.coda_fid.specs.declared.op.Record.{Record}
 use Rattle.coda_cancel.specs.Cancel.{add}
 use Rattle.coda_cancel.specs.Weights.{fits}
+use Rattle.coda_cml.specs.State.{LogState}
 use Rattle.coda_plain.specs.Deeds.{created_by}
 use Rattle.coda_venus.specs.Held.{Held}
 use Rattle.coda_venus.specs.State.{ClientVolume, new_volume, ClientState}
-use Rattle.coda_venus.specs.Accepting.{Sight}
+use Rattle.coda_venus.specs.Accepting.{Sight, is_mentioned}
 use Rattle.coda_venus.specs.declared.client.Client.{Client}
 use Rattle.coda_venus.specs.declared.volume_log.VolumeLog.{VolumeLog}
 
@@ -46,15 +48,34 @@ pub record MayPush (code : VolumeLog) (rec : Record) : Type 0 where
 abbrev pub held_of : Client → Held
 held_of code = record { nodes = code.nodes; parents = code.parents }
 
--- what a client sees of a volume, but for what its log mentions: where each object that is held is bound by its parent, nothing is held
--- below a directory that binds nothing
+-- what a client has of a volume, by its log where it did something there
+abbrev pub volume_in : Option VolumeLog → ClientVolume
+volume_in None = new_volume
+volume_in (Some code) = record { log = code.log; creations = code.creations }
+
+-- what a client sees of a volume
 abbrev pub sight : Client → ℕ → Sight
 sight code volume = record {
   number = code.number;
   held = held_of code;
   creations = creations_in (tree.get nat_cmp code.logs volume);
-  is_dirty = λ fid. false;
+  is_dirty = is_mentioned (volume_in (tree.get nat_cmp code.logs volume));
 }
+
+-- the record of an operation is the next of a log, which has room for it
+pub record IsNextOf (log : LogState) (time : ℕ) (op : Op) (rec : Record) : Type 0 where
+  pub what : rec.op ≡ op
+  pub when : rec.time ≡ time
+  pub next : rec.number ≡ log.last + 1
+  pub few : log.last < 4294967295
+  pub room : fits 4096 16777216 (log.chunk ++ add log.records rec) ≡ true
+
+-- an operation may be performed on a volume: it is the next, there is room for it, and for what it creates
+pub record MayPerform (v : ClientVolume) (rec : Record) : Type 0 where
+  pub next : rec.number ≡ v.log.last + 1
+  pub few : v.log.last < 4294967295
+  pub room : fits 4096 16777216 (v.log.chunk ++ add v.log.records rec) ≡ true
+  pub creations : (v.creations < 4294967295) ⊎ (created_by rec.op ≡ 0)
 
 -- the code is the client
 pub record IsClient (c : ClientState) (code : Client) : Type 0 where

@@ -1,10 +1,11 @@
 -- What a client holds: nodes, and the directory that is the parent of each.
-use Rattle.std.specs.Prelude.{ℕ, suc, zero, Bool, false, ◌&&◌, ◌||◌, not, List, Option, Some, None, ◌≡◌}
+use Rattle.std.specs.Prelude.{ℕ, suc, zero, Bool, false, ◌&&◌, ◌||◌, not, List, Option, Some, None, is_some, ◌≡◌}
 use Rattle.std.specs.Option.{option_map_or}
 use Rattle.std.specs.List.{list_any}
 use Rattle.std.specs.FinMap as map
 use Rattle.std.specs.FinMap.{FinMap}
 use Rattle.coda_fid.specs.Fid.{same_fid, fid_cmp}
+use Rattle.coda_fid.specs.Op.{fids_of}
 use Rattle.coda_fid.specs.declared.fid.Fid.{Fid}
 use Rattle.coda_fid.specs.declared.op.Over.{Over}
 use Rattle.coda_fid.specs.declared.op.Op.{Op}
@@ -44,6 +45,14 @@ is_below parents f g = below_within parents (map.len parents) f g
 -- whether some object that passes a test is held below f, and is another
 unfoldable pub some_below : Held → (Fid → Bool) → Fid → Bool
 some_below held test f = list_any (λ g. not (same_fid g f) && (test g && is_below held.parents g f)) (map.keys held.nodes)
+
+-- whether an object is held below another, and is not that one
+abbrev pub is_held_below : Held → Fid → Fid → Bool
+is_held_below held f g = not (same_fid g f) && (is_some (map.get held.nodes g) && is_below held.parents g f)
+
+-- whether an operation mentions an object that is held below f
+abbrev pub reaches_below : Held → Fid → Op → Bool
+reaches_below held f op = list_any (is_held_below held f) (fids_of op)
 
 -- each object with a parent is bound there
 abbrev pub AreBound : Held → Type 0

@@ -1,9 +1,11 @@
 -- What the calls of a client answer, and what they keep.
-use Rattle.std.specs.Prelude.{◌≡◌, option_map, ◌<◌, ◌+◌, ℕ, nat_le, if◌then◌else◌, Bool, true, List, [], ◌∷◌, ◌++◌, length, Option, Some, None, Result, Ok, Err}
+use Rattle.std.specs.Prelude.{◌≡◌, ◌⊎◌, option_map, ◌<◌, ◌+◌, ℕ, nat_le, if◌then◌else◌, Bool, true, List, [], ◌∷◌, ◌++◌, length, Option, Some, None, Result, Ok, Err}
 use Rattle.std.specs.Int.{w32}
 use Rattle.std.specs.FinMap as map
 use Rattle.coda_fid.specs.Fid.{root_of}
 use Rattle.coda_fid.specs.declared.fid.Fid.{Fid}
+use Rattle.coda_fid.specs.declared.op.Op.{Op}
+use Rattle.coda_fid.specs.declared.op.Record.{Record}
 use Rattle.coda_tree.specs.declared.node.Node.{Node}
 use Rattle.coda_tree.specs.declared.node.NodeKind.{NodeKind}
 use Rattle.coda_tree.specs.declared.node.NodeKind.TheVariants.{File, Link, Dir}
@@ -22,14 +24,18 @@ use Rattle.coda_journal.specs.Journal.{IsBeforeOrAfter}
 use Rattle.coda_journal.specs.declared.header.Header.{Header}
 use Rattle.coda_journal.specs.declared.journal.Journal.{Journal}
 use Rattle.coda_record.specs.declared.entry.ClientEntry.{ClientEntry}
-use Rattle.coda_record.specs.declared.entry.ClientEntry.TheVariants.{Freeze, Settled}
+use Rattle.coda_record.specs.declared.entry.ClientEntry.TheVariants.{Op as OpEntry, Freeze, Settled}
 use Rattle.coda_cml.specs.Steps.{settle_refusal}
 use Rattle.coda_venus.specs.Looking.{then_find, resolve}
-use Rattle.coda_venus.specs.State.{ClientState}
+use Rattle.coda_venus.specs.Ask.{Asked, too_big, object_of}
+use Rattle.coda_venus.specs.Accepting.{sight_of, accept}
+use Rattle.coda_venus.specs.Code.{has_room, is_full}
+use Rattle.coda_venus.specs.State.{ClientVolume, ClientState}
 use Rattle.coda_venus.specs.History.{Payload, payload_of, payloads_of, last_to_go}
 use Rattle.coda_venus.specs.Standing.{IsUp, StandsFor}
+use Rattle.coda_venus.specs.declared.done.Done.{Done}
 use Rattle.coda_venus.specs.declared.refused.Refused.{Refused}
-use Rattle.coda_venus.specs.declared.refused.Refused.TheVariants.{Down, NotDir, IsDir, Need, JournalFull, DiskFault, Frozen, Nothing, Young, NotFrozen, WrongNumber, Memory}
+use Rattle.coda_venus.specs.declared.refused.Refused.TheVariants.{Down, TooBig, LogFull, NotDir, IsDir, Need, JournalFull, DiskFault, Frozen, Nothing, Young, NotFrozen, WrongNumber, Memory}
 use Rattle.coda_venus.specs.declared.seen.Seen.{Seen}
 use Rattle.coda_venus.specs.declared.venus.Venus.{Venus}
 
@@ -76,6 +82,31 @@ settled_unless None settled = Ok (settled ∷ [])
 
 abbrev pub settle_due : ClientState → ℕ → ℕ → Verdict → Due
 settle_due c volume number verdict = settled_unless (option_map unsettled_as (settle_refusal (c.volumes volume).log.frozen number)) (Settled volume number verdict)
+
+-- the record that an operation becomes at a time, the next on the volume
+abbrev pub record_of : ClientVolume → ℕ → Op → Record
+record_of v time op = record { number = v.log.last + 1; time = time; op = op }
+
+-- the record, unless the log has no room for it, or as many operations were performed as there may be
+abbrev pub unless_full : ClientVolume → Record → Result Record Refused
+unless_full v rec = if has_room v rec then (if is_full v then Err JournalFull else Ok rec) else Err LogFull
+
+-- What an ask becomes at a time, or the first reason why it becomes nothing: its content is too long; acceptance; the log is full; as many
+-- operations were performed as there may be.
+abbrev pub operation_unless : Option ℕ → ClientState → ℕ → ℕ → Asked → Result Record Refused
+operation_unless (Some size) c time volume ask = Err (TooBig size)
+operation_unless None c time volume ask = then_find (accept (sight_of c volume) volume ask) (λ op. unless_full (c.volumes volume) (record_of (c.volumes volume) time op))
+
+abbrev pub operation : ClientState → ℕ → ℕ → Asked → Result Record Refused
+operation c time volume ask = operation_unless (too_big ask) c time volume ask
+
+-- the operation that an ask becomes
+abbrev pub operate_due : ClientState → ℕ → ℕ → Asked → Due
+operate_due c time volume ask = then_find (operation c time volume ask) (λ rec. Ok (OpEntry volume rec ∷ []))
+
+-- what is answered of an operation
+abbrev pub done_of : Record → Done
+done_of rec = record { number = rec.number; fid = object_of rec.op }
 
 -- ---- what a client shows
 
@@ -135,6 +166,11 @@ pub record KeepingOne {D A : Type 0} (told : D → Told) (header : Header) (old 
 abbrev pub DoesKeep : {D A : Type 0} → (D → Told) → Header → Venus D → List Payload → Due → Venus D → Result A Refused → Type 0
 DoesKeep told header old history (Ok payload) new result = KeepingOne told header old history payload new result
 DoesKeep told header old history (Err why) new result = (result ≡ Err why) × (new ≡ old)
+
+-- the same of a call that wants memory before it knows what is due
+abbrev pub DoesKeepIn : {D A : Type 0} → (D → Told) → Header → Venus D → List Payload → Due → Venus D → Result A Refused → Type 0
+DoesKeepIn told header old history (Ok payload) new result = KeepingOne told header old history payload new result
+DoesKeepIn told header old history (Err why) new result = ((result ≡ Err Memory) ⊎ (result ≡ Err why)) × (new ≡ old)
 
 -- a fault of the disk, and nothing else, takes a client down
 abbrev pub Falls : {A : Type 0} → Bool → Bool → Result A Refused → Type 0

@@ -6,6 +6,7 @@ pub mod Times
 pub mod Accepting
 pub mod History
 pub mod Code
+pub mod Operating
 pub mod Standing
 pub mod Appending
 pub mod Keeping

@@ -11,7 +11,7 @@ use coda_tree::NodeKind;
 const MOST_CREATIONS: u32 = 4_294_967_295;
 
 /// The mode of a new link: anybody may follow it.
-const LINK_MODE: u16 = 0o777;
+pub(crate) const LINK_MODE: u16 = 0o777;
 
 impl Client {
     ghost use Rattle.std.specs.Prelude.{◌≡◌, Some, None, Ok};
@@ -55,7 +55,7 @@ impl Client {
     }
 
     // The fid of a new object under a name of a directory.
-    fn new_under(&self, volume: u32, dir: Fid, name: &Name) -> Result<Fid, Refused>
+    pub(crate) fn new_under(&self, volume: u32, dir: Fid, name: &Name) -> Result<Fid, Refused>
         ensures { result ≡ new_under (sight self.now volume) volume (map.get self.now.nodes dir) dir name.now }
     {
         match self.nodes.get(dir) {
@@ -176,8 +176,8 @@ impl Client {
         }
     }
 
-    // A removal of a directory that was found. Where it binds nothing, nothing is held below it, since what is held is bound by
-    // its parent: so no more is looked at.
+    // A removal of a directory that was found. Though it binds nothing, objects may be held below it: it may have been fetched again
+    // since they were.
     fn rmdir_at(&self, volume: u32, dir: Fid, name: &Name, fid: Fid) -> Result<Op, Refused>
         ensures { OrMemory result (rmdir_at (sight self.now volume) (map.get self.now.nodes fid) dir name.now fid) }
     {
@@ -185,7 +185,7 @@ impl Client {
         match self.nodes.get(fid) {
             Some(node) => match &node.kind {
                 NodeKind::Dir(entries) => {
-                    if entries.is_empty() {
+                    if entries.is_empty() && !self.is_dirty_below(volume, fid) {
                         Ok(Op::Rmdir {
                             dir,
                             name,
@@ -238,7 +238,7 @@ impl Client {
     }
 
     // What a directory may bind at a name, where that is held.
-    fn bound_at(&self, dir: Fid, name: &Name) -> Result<Option<Fid>, Refused>
+    pub(crate) fn bound_at(&self, dir: Fid, name: &Name) -> Result<Option<Fid>, Refused>
         ensures { result ≡ bound_at self.now.nodes (map.get self.now.nodes dir) dir name.now }
     {
         match self.nodes.get(dir) {
@@ -294,7 +294,7 @@ impl Client {
     }
 
     // What a rename of an object replaces.
-    fn replaced_by(&self, fid: Fid, bound: Option<Fid>) -> Result<Option<Over>, Refused>
+    pub(crate) fn replaced_by(&self, fid: Fid, bound: Option<Fid>) -> Result<Option<Over>, Refused>
         ensures { result ≡ replaced_by self.now.nodes fid bound }
     {
         match bound {

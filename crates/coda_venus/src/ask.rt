@@ -74,7 +74,7 @@ pub fn front(names: &[Name]) -> &[Name]
 }
 
 // The length of content that no file may have.
-fn too_long(content: &Bytes) -> Option<u64>
+pub(crate) fn too_long(content: &Bytes) -> Option<u64>
     ensures { result ≡ too_long content.now }
 {
     if content.len() > MOST_CONTENT {

@@ -25,12 +25,15 @@ pub struct Client {
 
 impl Client {
     ghost use Rattle.std.specs.Prelude.{◌≡◌};
+    ghost use Rattle.coda_spelling.specs.Spelled.{AreSpelled};
     ghost use Rattle.coda_venus.specs.State.{ClientState, new_client};
     ghost use Rattle.coda_venus.specs.Code.{sight, IsClient};
 
     /// A client with so many blocks of cache, which holds nothing.
     pub fn new(alloc: Global, number: u8, blocks: u32) -> Client
-        ensures { IsClient (new_client number blocks) result }
+        ensures new { IsClient (new_client number blocks) result }
+        ensures number { result.number ≡ number }
+        ensures spelled { AreSpelled result.nodes }
     {
         Client {
             alloc,

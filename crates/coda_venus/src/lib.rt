@@ -3,11 +3,16 @@
 
 mod accepting;
 mod ask;
+mod begun;
+mod below;
+mod calls;
 mod client;
+mod done;
 mod entries;
 mod fronts;
 mod law;
 mod looking;
+mod operating;
 mod parents;
 mod recovery;
 mod refused;
@@ -20,6 +25,7 @@ mod volume_log;
 
 pub use ask::Ask;
 pub use client::Client;
+pub use done::Done;
 pub use law::{clients_stay_ours, logs_are_folds};
 pub use parents::ParentTable;
 pub use recovery::Unfit;

@@ -1,5 +1,9 @@
 // The parents of what a client holds.
-ghost use Rattle.std.specs.Prelude.{◌≡◌, OnOk};
+ghost use Rattle.std.specs.Prelude.{◌≡◌, OnOk, OnErr, IsSome, Some, cond};
+ghost use Rattle.std.specs.HashMap as hash;
+ghost use Rattle.coda_fid.specs.Fid.{same_fid};
+ghost use Rattle.coda_fid.specs.declared.fid.Fid.{Fid};
+ghost use Rattle.coda_venus.specs.Operating.{restored};
 ghost use Rattle.std.specs.FinMap as map;
 
 use coda_fid::Fid;
@@ -25,6 +29,16 @@ impl Model for ParentTable {
     ghost coded = { map.code coded_fid coded_fid };
 
     ghost view = { λ p. parents_in p.parents.entries };
+}
+
+// Puts another parent in the place of the one that an object has.
+fn set(parents: &mut HashMap<Fid, Fid>, fid: Fid, parent: Fid)
+    requires { IsSome (hash.get same_fid parents.old fid) }
+    ensures { (q : Fid) → hash.get same_fid parents.new q ≡ cond (same_fid fid q) (Some parent) (hash.get same_fid parents.old q) }
+{
+    if let Some(there) = parents.get_mut(&fid) {
+        *there = parent;
+    }
 }
 
 impl ParentTable {
@@ -53,9 +67,10 @@ impl ParentTable {
         self.parents.get(&fid).copied()
     }
 
-    /// Gives an object a parent, in the place of the one that it has. Fails for want of memory alone.
+    /// Gives an object a parent, in the place of the one that it has. Fails for want of memory alone, and then changes nothing.
     pub fn put(&mut self, fid: Fid, parent: Fid) -> Result<(), AllocError>
-        ensures { OnOk result (self.new ≡ map.insert self.old fid parent) }
+        ensures ok { OnOk result (self.new ≡ map.insert self.old fid parent) }
+        ensures err { OnErr result (self.new ≡ self.old) }
     {
         self.parents.insert(fid, parent)?;
         Ok(())
@@ -66,6 +81,17 @@ impl ParentTable {
         ensures { self.new ≡ map.remove self.old fid }
     {
         let _ = self.parents.remove(&fid);
+    }
+
+    /// Gives an object that has a parent the one that it had before, or none. Takes no memory.
+    pub fn restore(&mut self, fid: Fid, was: Option<Fid>)
+        requires { IsSome (map.get self.old fid) }
+        ensures { self.new ≡ restored self.old fid was }
+    {
+        match was {
+            None => self.remove(fid),
+            Some(parent) => set(&mut self.parents, fid, parent),
+        }
     }
 
     // Whether an object is met on the way up from another, within so many steps.

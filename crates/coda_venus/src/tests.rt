@@ -1,4 +1,5 @@
-ghost use Rattle.std.specs.Prelude.{◌≡◌, false, IfOk};
+ghost use Rattle.std.specs.Prelude.{◌≡◌, ◌<◌, false, IfOk};
+ghost use Rattle.coda_spelling.specs.Spelled.{AreSpelled};
 
 use super::*;
 use coda_certify::Verdict;
@@ -17,15 +18,20 @@ const HEADER: Header = Header {
     cache: 64,
 };
 
-// A new client on the disk that is left by this image, and the payloads there.
-fn mounted(alloc: Global, image: Vec<u8>) -> Result<(Venus<MemDisk>, Vec<Bytes>), Fail>
+// A client on the disk that is left by this image, and the payloads there.
+fn on_disk(
+    alloc: Global,
+    image: Vec<u8>,
+    client: Client,
+) -> Result<(Venus<MemDisk>, Vec<Bytes>), Fail>
+    requires number { client.number < 256 }
+    requires spelled { AreSpelled client.nodes }
     ensures { IfOk result (λ r. r.0.down ≡ false) }
 {
     let disk = MemDisk::new(alloc, image, Vec::new(alloc))?;
     let Ok((journal, payloads)) = Journal::mount(alloc, disk, &HEADER) else {
         return Err(Fail::new("it isn't mounted"));
     };
-    let client = Client::new(alloc, 1, 64);
     Ok((
         Venus {
             journal,
@@ -34,6 +40,13 @@ fn mounted(alloc: Global, image: Vec<u8>) -> Result<(Venus<MemDisk>, Vec<Bytes>)
         },
         payloads,
     ))
+}
+
+// A new client on the disk that is left by this image, and the payloads there.
+fn mounted(alloc: Global, image: Vec<u8>) -> Result<(Venus<MemDisk>, Vec<Bytes>), Fail>
+    ensures { IfOk result (λ r. r.0.down ≡ false) }
+{
+    on_disk(alloc, image, Client::new(alloc, 1, 64))
 }
 
 // A log with one operation, a store of second 5.

@@ -4,7 +4,7 @@ use crate::fronts::{MOST_TOGETHER, last_to_go, time_of};
 use crate::refused::{Refused, refused_as};
 use coda_certify::Verdict;
 use coda_cml::{Log, SettleFault};
-use coda_fid::Record;
+use coda_fid::{Op, Record};
 use std::alloc::{AllocError, Global};
 
 /// What a client has of a volume that it worked on: its log, and how many objects it created there.
@@ -23,17 +23,17 @@ const MOST_OPERATIONS: u64 = 4_294_967_295;
 const MOST_CHUNKS: u64 = 4_294_967_295;
 
 impl VolumeLog {
-    ghost use Rattle.std.specs.Prelude.{◌≡◌, ◌≢◌, ◌↔◌, ◌⊎◌, ◌<◌, ◌+◌, ◌++◌, false, OnOk, OnErr, IfOk, IfErr, IfSome, IsOk, Ok, Err, Some, None, [], option_map};
+    ghost use Rattle.std.specs.Prelude.{◌≡◌, ◌≢◌, ◌↔◌, ◌⊎◌, ◌<◌, ◌≤◌, ◌+◌, ◌++◌, false, OnOk, OnErr, IfOk, IfErr, IfSome, IsOk, Ok, Err, Some, None, [], option_map};
     ghost use Rattle.coda_cancel.specs.Cancel.{add};
     ghost use Rattle.coda_cancel.specs.Weights.{fits};
     ghost use Rattle.coda_venus.specs.State.{ClientVolume, new_volume, volume_after};
-    ghost use Rattle.coda_venus.specs.Code.{IsVolumeLog, MayPush};
+    ghost use Rattle.coda_venus.specs.Code.{IsVolumeLog, MayPush, volume_in, IsNextOf};
     ghost use Rattle.coda_venus.specs.Code.{has_room, is_full};
     ghost use Rattle.coda_plain.specs.Deeds.{Operated, Froze, Settled as SettledDeed, Gaveup};
     ghost use Rattle.coda_cml.specs.Partition.{ArePartedBy};
     ghost use Rattle.coda_cml.specs.Steps.{settle_refusal};
     ghost use Rattle.coda_venus.specs.History.{last_to_go, MayFreeze};
-    ghost use Rattle.coda_venus.specs.Keeping.{unsettled_as, next_chunk, IsOwn};
+    ghost use Rattle.coda_venus.specs.Keeping.{unsettled_as, next_chunk, record_of, unless_full, IsOwn};
 
     /// The log of a volume on which nothing was done.
     pub fn new(alloc: Global) -> VolumeLog
@@ -59,6 +59,30 @@ impl VolumeLog {
         ensures few { result ≡ false → self.now.log.last < 4294967295 }
     {
         self.log.last() >= MOST_OPERATIONS
+    }
+
+    /// The record that an operation becomes at a time, the next on the volume.
+    ///
+    /// # Errors
+    ///
+    /// `LogFull` where the log has no room for it; then `JournalFull` where 2^32 - 1 operations were performed.
+    pub fn next_record(&self, time: u64, op: Op) -> Result<Record, Refused>
+        ensures next { self.now.log.last ≤ 4294967295 → result ≡ unless_full (volume_in (Some self.now)) (record_of (volume_in (Some self.now)) time op) }
+        ensures may { IfOk result (λ rec. IsNextOf self.now.log time op rec) }
+        ensures own { IfErr result IsOwn }
+    {
+        let rec = Record {
+            number: self.log.last().saturating_add(1),
+            time,
+            op,
+        };
+        if !self.has_room(&rec) {
+            return Err(Refused::LogFull);
+        }
+        if self.is_full() {
+            return Err(Refused::JournalFull);
+        }
+        Ok(rec)
     }
 
     /// Puts the next operation behind the log, for which it has room, and counts what that creates. Fails for want of memory alone.

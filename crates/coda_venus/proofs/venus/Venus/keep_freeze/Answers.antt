@@ -1,6 +1,7 @@
-use Rattle.std.proofs.Common.{rules, refl, arith, ap, sym, subst, ◌∙◌, ◌≡◌, ◌+◌, [], ◌∷◌, length, inl, inr}
+use Rattle.std.proofs.Common.{◌<◌, rules, refl, arith, ap, sym, subst, ◌∙◌, ◌≡◌, ◌+◌, [], ◌∷◌, length, inl, inr}
 use Rattle.std.specs.Prelude.{Err}
 use Rattle.coda_record.specs.declared.entry.ClientEntry.TheVariants.{Freeze}
+use Rattle.coda_spelling.specs.Spelled.{AreSpelled}
 use Rattle.coda_venus.specs.State.{client_after}
 use Rattle.coda_venus.specs.History.{Payload, payload_of, payloads_of, state_of}
 use Rattle.coda_venus.specs.Code.{IsClient}
@@ -39,3 +40,9 @@ returns-clause-keeps g c = λ header history up next.
     (subst (λ n. IsClient (client_after state (Freeze c.args.volume (log.chunks + 1) c.args.home n)) c.freeze.new.self) (sym is.ends) (c.in_ok-freeze.ensures.frozen state up.state)) in
     written told header old history payload up may c.write.new.self c.write.result room (subst (λ (k : Client). IsClient (client_after state (Freeze c.args.volume c.args.next.0 c.args.home c.args.next.1)) k) (sym c.write.ensures.same) after)
     c.write.ensures.fault (c.write.ensures.writes header (payloads_of history) (payload_of payload) c.in_ok-frame.ensures up.journal)
+
+pub invariant_of-self : goal.invariant_of-self
+invariant_of-self g c = record {
+  numbered = subst (λ n. n < 256) (sym c.freeze.ensures.number) c.args.self.now.numbered;
+  spelled = subst AreSpelled (sym c.freeze.ensures.nodes) c.args.self.now.spelled;
+}

@@ -1,7 +1,8 @@
-use Rattle.std.proofs.Common.{rules, refl, arith, ap, sym, subst, ◌∙◌, ◌≡◌, [], ◌∷◌, length, inl, inr}
+use Rattle.std.proofs.Common.{◌<◌, rules, refl, arith, ap, sym, subst, ◌∙◌, ◌≡◌, [], ◌∷◌, length, inl, inr}
 use Rattle.std.specs.Prelude.{Err, option_map}
 use Rattle.std.proofs.lemmas.Option.{none-some}
 use Rattle.coda_record.specs.declared.entry.ClientEntry.TheVariants.{Settled}
+use Rattle.coda_spelling.specs.Spelled.{AreSpelled}
 use Rattle.coda_venus.specs.State.{client_after}
 use Rattle.coda_venus.specs.History.{Payload, payload_of, payloads_of, state_of}
 use Rattle.coda_venus.specs.Code.{IsClient}
@@ -36,3 +37,9 @@ returns-clause-keeps g c = λ header history up free.
     written told header old history payload up may c.write.new.self c.write.result room
     (subst (λ (k : Client). IsClient (client_after state (Settled c.args.volume c.args.number c.args.verdict.now)) k) (sym c.write.ensures.same) (c.in_ok-settle.ensures.settled state up.state))
     c.write.ensures.fault (c.write.ensures.writes header (payloads_of history) (payload_of payload) c.in_ok-frame.ensures up.journal)
+
+pub invariant_of-self : goal.invariant_of-self
+invariant_of-self g c = record {
+  numbered = subst (λ n. n < 256) (sym c.settle.ensures.number) c.args.self.now.numbered;
+  spelled = subst AreSpelled (sym c.settle.ensures.nodes) c.args.self.now.spelled;
+}

@@ -1,0 +1,96 @@
+// Which objects below another a client has operations on that no server applied yet.
+ghost use Rattle.std.specs.Prelude.{◌≡◌, ◌||◌};
+ghost use Rattle.std.specs.BTreeMap as tree;
+ghost use Rattle.std.specs.Ordering.{nat_cmp};
+ghost use Rattle.std.specs.List.{list_any};
+ghost use Rattle.coda_fid.specs.Op.{over_fids};
+ghost use Rattle.coda_cml.specs.Steady.{any_record};
+ghost use Rattle.coda_venus.specs.Accepting.{is_mentioned};
+ghost use Rattle.coda_venus.specs.Held.{is_held_below, reaches_below, some_below};
+
+use crate::client::Client;
+use coda_cancel::LentRecords;
+use coda_fid::{Fid, Op, Over};
+
+impl Client {
+    ghost use Rattle.coda_venus.specs.Code.{held_of, volume_in};
+
+    // Whether an object is held below another, and is not that one.
+    fn is_held_below(&self, fid: Fid, above: Fid) -> bool
+        ensures { result ≡ is_held_below (held_of self.now) above fid }
+    {
+        fid != above && self.nodes.get(fid).is_some() && self.parents.is_below(fid, above)
+    }
+
+    // Whether an operation mentions an object that is held below another.
+    fn reaches_below(&self, above: Fid, op: &Op) -> bool
+        ensures { result ≡ reaches_below (held_of self.now) above op.now }
+    {
+        match op {
+            Op::Create { dir, fid, .. } => self.either_below(*dir, *fid, above),
+            Op::Mkdir { dir, fid, .. } => self.either_below(*dir, *fid, above),
+            Op::Symlink { dir, fid, .. } => self.either_below(*dir, *fid, above),
+            Op::Store { fid, .. } => self.is_held_below(*fid, above),
+            Op::Setattr { fid, .. } => self.is_held_below(*fid, above),
+            Op::Remove { dir, fid, .. } => self.either_below(*dir, *fid, above),
+            Op::Rmdir { dir, fid, .. } => self.either_below(*dir, *fid, above),
+            Op::Rename {
+                from_dir,
+                to_dir,
+                fid,
+                over,
+                ..
+            } => {
+                self.is_held_below(*from_dir, above)
+                    || (self.is_held_below(*to_dir, above)
+                        || (self.is_held_below(*fid, above) || self.over_below(over, above)))
+            }
+        }
+    }
+
+    // Whether what is replaced is held below another object, where there is one.
+    fn over_below(&self, over: &Option<Over>, above: Fid) -> bool
+        ensures { result ≡ list_any (is_held_below (held_of self.now) above) (over_fids over.now) }
+    {
+        match over {
+            Some(over) => self.is_held_below(over.fid, above),
+            None => false,
+        }
+    }
+
+    // Whether one of two objects is held below another.
+    fn either_below(&self, one: Fid, other: Fid, above: Fid) -> bool
+        ensures { result ≡ (is_held_below (held_of self.now) above one || is_held_below (held_of self.now) above other) }
+    {
+        self.is_held_below(one, above) || self.is_held_below(other, above)
+    }
+
+    // Whether one of some records mentions an object that is held below another.
+    fn any_reaches(&self, above: Fid, mut records: LentRecords<'_>) -> bool
+        ensures { result ≡ any_record (reaches_below (held_of self.now) above) records.entry }
+    {
+        for _ in 0..records.len() {
+            let Some(rec) = records.take_first() else {
+                return false;
+            };
+            if self.reaches_below(above, &rec.op) {
+                return true;
+            }
+        }
+        false
+    }
+
+    /// Whether an object is held below another that a record of a volume's log mentions. It costs the records of the log, and the depth for
+    /// each.
+    pub fn is_dirty_below(&self, volume: u32, above: Fid) -> bool
+        ensures { result ≡ some_below (held_of self.now) (is_mentioned (volume_in (tree.get nat_cmp self.now.logs volume))) above }
+    {
+        match self.logs.get(&volume) {
+            Some(log) => {
+                let (chunk, records) = log.log.records();
+                self.any_reaches(above, LentRecords::of(chunk)) || self.any_reaches(above, records)
+            }
+            None => false,
+        }
+    }
+}
