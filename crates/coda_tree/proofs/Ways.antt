@@ -1,5 +1,5 @@
 -- Where a path leads, and where it stops.
-use Rattle.std.proofs.Common.{◌≡◌, ℕ, ◌+◌, List, [], ◌∷◌, ◌++◌, length, Option, Some, None, Result, Ok, Err, refl, sym, ap, ◌∙◌, arith}
+use Rattle.std.proofs.Common.{◌≡◌, ℕ, ◌+◌, List, [], ◌∷◌, Option, Some, None, Result, Ok, Err, refl, sym, ap, ◌∙◌, arith}
 use Rattle.std.specs.FinMap as map
 use Rattle.coda_fid.specs.Name.{name_cmp}
 use Rattle.coda_fid.specs.declared.fid.Fid.{Fid}
@@ -9,7 +9,7 @@ use Rattle.coda_tree.specs.declared.node.NodeKind.TheVariants.{File, Link, Dir}
 use Rattle.coda_tree.specs.declared.volume.PathFault.{PathFault}
 use Rattle.coda_tree.specs.declared.volume.PathFault.TheVariants.{NotFound, NotDir}
 use Rattle.coda_tree.specs.Bindings.{Name}
-use Rattle.coda_tree.specs.Volume.{Nodes, bindings, child_of, child, IsDir, IsDirNode, IsDirAt}
+use Rattle.coda_tree.specs.Volume.{Nodes, bindings, child_of, child, IsDir, IsDirNode}
 use Rattle.coda_tree.specs.Lookup.{found_at, step_in, step_from, then_from, lookup_of, Leads, Reaches, Stops}
 
 -- ---- one name

@@ -4,6 +4,7 @@ ghost use Rattle.std.specs.FinMap.Entries.{is_sorted, find, put};
 ghost use Rattle.coda_fid.specs.Name.{name_cmp};
 ghost use Rattle.coda_tree.specs.Pages.{all_pairs, AreFilled, pairs_at, ChangesPage};
 
+use crate::guide::Guide;
 use crate::pages::{self, page_for, search};
 use coda_fid::{Fid, Name};
 use std::alloc::{AllocError, Global};
@@ -16,6 +17,7 @@ use std::marker::Model;
 #[derive(Debug, Drop)]
 pub struct Entries {
     pages: Vec<Vec<(Name, Fid)>>,
+    guide: Guide,
     count: usize,
 }
 
@@ -59,6 +61,7 @@ impl Entries {
     {
         Entries {
             pages: Vec::new(alloc),
+            guide: Guide::new(),
             count: 0,
         }
     }
@@ -94,7 +97,7 @@ impl Entries {
     pub fn find(&self, name: &Name) -> Option<Fid>
         ensures { result ≡ map.get self.now name.now }
     {
-        pages::find(&self.pages, name)
+        pages::find(&self.pages, &self.guide, name)
     }
 
     // The pages, one after the other.
@@ -121,7 +124,7 @@ impl Entries {
         let Some(count) = self.count.checked_add(1) else {
             return Err(AllocError);
         };
-        pages::put(&mut self.pages, name, fid)?;
+        pages::put(&mut self.pages, &mut self.guide, name, fid)?;
         self.count = count;
         Ok(())
     }
@@ -131,14 +134,14 @@ impl Entries {
         requires { IsSome (map.get self.old name.now) }
         ensures { self.new ≡ map.insert self.old name.now fid }
     {
-        pages::rebind(&mut self.pages, name, fid);
+        pages::rebind(&mut self.pages, &self.guide, name, fid);
     }
 
     /// Unbinds a name, where it is bound.
     pub fn remove(&mut self, name: &Name)
         ensures { self.new ≡ map.remove self.old name.now }
     {
-        if pages::remove(&mut self.pages, name) {
+        if pages::remove(&mut self.pages, &mut self.guide, name) {
             self.count -= 1;
         }
     }
@@ -163,7 +166,7 @@ impl Entries {
         ensures { self.new ≡ map.insert self.old name fid }
     {
         let count = room.more_than(self.count);
-        take_back(&mut self.pages, name, fid, room);
+        take_back(&mut self.pages, &self.guide, name, fid, room);
         self.count = count;
     }
 
@@ -171,9 +174,12 @@ impl Entries {
     pub fn copy(&self) -> Result<Entries, AllocError>
         ensures { IfOk result (λ e. e ≡ self.now) }
     {
-        let pages = pages::copy(*self.pages.allocator(), &self.pages)?;
+        let alloc = *self.pages.allocator();
+        let pages = pages::copy(alloc, &self.pages)?;
+        let guide = Guide::of(alloc, &pages);
         Ok(Entries {
             pages,
+            guide,
             count: self.count,
         })
     }
@@ -259,7 +265,7 @@ fn first_page(name: Name, fid: Fid, room: Room) -> Vec<Vec<(Name, Fid)>>
 }
 
 // Binds a free name. Takes no memory but the room.
-fn take_back(pages: &mut Vec<Vec<(Name, Fid)>>, name: Name, fid: Fid, room: Room)
+fn take_back(pages: &mut Vec<Vec<(Name, Fid)>>, guide: &Guide, name: Name, fid: Fid, room: Room)
     requires sorted { IsTrue (is_sorted name_cmp (all_pairs pages.old.items)) }
     requires filled { AreFilled pages.old.items }
     requires free { find name_cmp name (all_pairs pages.old.items) ≡ None }
@@ -271,6 +277,6 @@ fn take_back(pages: &mut Vec<Vec<(Name, Fid)>>, name: Name, fid: Fid, room: Room
         *pages = first_page(name, fid, room);
         return;
     }
-    let at = page_for(pages, &name);
+    let at = page_for(pages, guide, &name);
     take_back_at(pages, at, name, fid, room);
 }

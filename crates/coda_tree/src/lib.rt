@@ -5,6 +5,7 @@ mod binders;
 mod body;
 mod draft;
 mod entries;
+mod guide;
 mod node;
 mod nodes;
 mod pages;

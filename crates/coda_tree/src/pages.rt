@@ -1,10 +1,12 @@
 // A directory's pairs in pages, one after the other: a name more or less moves only what stands behind it in its page.
-ghost use Rattle.std.specs.Prelude.{◌≡◌, ◌<◌, ◌≤◌, ◌+◌, true, length, vec_len, vec_capacity, slice_index_or, insert, IfOk, OnOk, OnErr, IfErr, IsSome, is_some, IsTrue, ◌∷◌, [], slice_get, option_copied};
+ghost use Rattle.std.specs.Prelude.{◌≡◌, ◌≢◌, ◌<◌, ◌≤◌, ◌+◌, true, length, vec_len, vec_capacity, slice_index_or, insert, IfOk, OnOk, OnErr, IfErr, IsSome, is_some, IsTrue, ◌∷◌, [], slice_get, option_copied};
+ghost use Rattle.std.specs.declared.cmp.Ordering.TheVariants.{Greater};
 ghost use Rattle.std.specs.FinMap.Entries.{is_sorted, find, put};
 ghost use Rattle.coda_fid.specs.Name.{name_cmp};
 ghost use Rattle.coda_tree.specs.Bindings.{IsIndexOf, IsGapFor};
 ghost use Rattle.coda_tree.specs.Pages.{all_pairs, any_binds, AreFilled, pairs_at, with_pairs, first_cmp, IsPageFor, without, ChangesPage};
 
+use crate::guide::Guide;
 use coda_fid::{Fid, Name};
 use std::alloc::{AllocError, Global};
 use std::cmp::Ordering;
@@ -55,13 +57,17 @@ fn compare_first(page: &[(Name, Fid)], name: &Name) -> Ordering
     }
 }
 
-// The page that has a name if any has it.
-pub(crate) fn page_for(pages: &[Vec<(Name, Fid)>], name: &Name) -> usize
-    requires { 0 < length pages.now }
+// The page that has a name if any has it, of those from one to before another: that begins at or before the name, and the
+// other one after it.
+fn page_between(pages: &[Vec<(Name, Fid)>], name: &Name, from: usize, to: usize) -> usize
+    requires ordered { from < to }
+    requires in_range { to ≤ length pages.now }
+    requires from { 0 < from → first_cmp (pairs_at pages.now from) name.now ≢ Greater }
+    requires to { to < length pages.now → first_cmp (pairs_at pages.now to) name.now ≡ Greater }
     ensures { IsPageFor pages.now name.now result }
 {
-    let mut low = 0;
-    let mut high = pages.len();
+    let mut low = from;
+    let mut high = to;
     while low + 1 < high {
         let mid = probe(low, high, pages.len());
         if compare_first(&pages[mid], name).is_gt() {
@@ -71,6 +77,38 @@ pub(crate) fn page_for(pages: &[Vec<(Name, Fid)>], name: &Name) -> usize
         }
     }
     low
+}
+
+// Whether a page, if it isn't the first, begins at or before a name.
+fn begins_by(pages: &[Vec<(Name, Fid)>], name: &Name, at: usize) -> bool
+    requires { at < length pages.now }
+    ensures { result ≡ true → 0 < at → first_cmp (pairs_at pages.now at) name.now ≢ Greater }
+{
+    at == 0 || !compare_first(&pages[at], name).is_gt()
+}
+
+// Whether a page, if there is one, begins after a name.
+fn begins_after(pages: &[Vec<(Name, Fid)>], name: &Name, at: usize) -> bool
+    ensures { result ≡ true → at < length pages.now → first_cmp (pairs_at pages.now at) name.now ≡ Greater }
+{
+    at >= pages.len() || compare_first(&pages[at], name).is_gt()
+}
+
+// The page that has a name if any has it. The guide says where to look first.
+pub(crate) fn page_for(pages: &[Vec<(Name, Fid)>], guide: &Guide, name: &Name) -> usize
+    requires { 0 < length pages.now }
+    ensures { IsPageFor pages.now name.now result }
+{
+    if let Some((from, to)) = guide.between(pages.len(), name) {
+        let is_good = from < to
+            && to <= pages.len()
+            && begins_by(pages, name, from)
+            && begins_after(pages, name, to);
+        if is_good {
+            return page_between(pages, name, from, to);
+        }
+    }
+    page_between(pages, name, 0, pages.len())
 }
 
 // What the name is bound to in sorted pairs.
@@ -152,7 +190,7 @@ pub(crate) fn rebind_at(pages: &mut Vec<Vec<(Name, Fid)>>, at: usize, name: &Nam
 }
 
 // Unbinds a name in a page, where it is bound, and answers whether it was. A page that has no name left goes.
-fn remove_at(pages: &mut Vec<Vec<(Name, Fid)>>, at: usize, name: &Name) -> bool
+fn remove_at(pages: &mut Vec<Vec<(Name, Fid)>>, guide: &mut Guide, at: usize, name: &Name) -> bool
     requires there { at < length pages.old.items }
     requires sorted { IsTrue (is_sorted name_cmp (pairs_at pages.old.items at)) }
     ensures pairs { all_pairs pages.new.items ≡ with_pairs pages.old.items at (without name.now (pairs_at pages.old.items at)) }
@@ -162,13 +200,16 @@ fn remove_at(pages: &mut Vec<Vec<(Name, Fid)>>, at: usize, name: &Name) -> bool
     let was = remove_in(&mut pages[at], name);
     if pages[at].is_empty() {
         let _ = pages.remove(at);
+        guide.shrink(at);
+    } else {
+        guide.note(pages, at);
     }
     was
 }
 
 // Splits a page in two where it is full: a page in the middle into halves, the last one near its end, since names that
 // come in order come there. Fails for want of memory alone; the pairs are the same in any case.
-fn split(pages: &mut Vec<Vec<(Name, Fid)>>, at: usize) -> Result<(), AllocError>
+fn split(pages: &mut Vec<Vec<(Name, Fid)>>, guide: &mut Guide, at: usize) -> Result<(), AllocError>
     requires { at < length pages.old.items }
     ensures pairs { all_pairs pages.new.items ≡ all_pairs pages.old.items }
     ensures filled { AreFilled pages.old.items → AreFilled pages.new.items }
@@ -185,6 +226,7 @@ fn split(pages: &mut Vec<Vec<(Name, Fid)>>, at: usize) -> Result<(), AllocError>
     };
     let tail = pages[at].split_off(keep)?;
     insert_page(pages, at + 1, tail);
+    guide.grow(*pages.allocator(), pages, at + 1);
     Ok(())
 }
 
@@ -215,6 +257,7 @@ fn put_first(pages: &mut Vec<Vec<(Name, Fid)>>, name: Name, fid: Fid) -> Result<
 // Binds a name where its page is full, once that is split. Fails for want of memory alone, and then changes nothing.
 fn put_split(
     pages: &mut Vec<Vec<(Name, Fid)>>,
+    guide: &mut Guide,
     full: usize,
     name: Name,
     fid: Fid,
@@ -226,13 +269,18 @@ fn put_split(
     ensures err { OnErr result (all_pairs pages.new.items ≡ all_pairs pages.old.items) }
     ensures filled { AreFilled pages.new.items }
 {
-    split(pages, full)?;
-    let at = page_for(pages, &name);
+    split(pages, guide, full)?;
+    let at = page_for(pages, guide, &name);
     put_at(pages, at, name, fid)
 }
 
 // Binds a name. Fails for want of memory alone, and then changes nothing.
-pub(crate) fn put(pages: &mut Vec<Vec<(Name, Fid)>>, name: Name, fid: Fid) -> Result<(), AllocError>
+pub(crate) fn put(
+    pages: &mut Vec<Vec<(Name, Fid)>>,
+    guide: &mut Guide,
+    name: Name,
+    fid: Fid,
+) -> Result<(), AllocError>
     requires sorted { IsTrue (is_sorted name_cmp (all_pairs pages.old.items)) }
     requires filled { AreFilled pages.old.items }
     ensures ok { OnOk result (all_pairs pages.new.items ≡ put name_cmp name fid (all_pairs pages.old.items)) }
@@ -242,16 +290,16 @@ pub(crate) fn put(pages: &mut Vec<Vec<(Name, Fid)>>, name: Name, fid: Fid) -> Re
     if pages.is_empty() {
         return put_first(pages, name, fid);
     }
-    let at = page_for(pages, &name);
+    let at = page_for(pages, guide, &name);
     if pages[at].len() < FULL {
         put_at(pages, at, name, fid)
     } else {
-        put_split(pages, at, name, fid)
+        put_split(pages, guide, at, name, fid)
     }
 }
 
 // Binds a bound name to another fid.
-pub(crate) fn rebind(pages: &mut Vec<Vec<(Name, Fid)>>, name: &Name, fid: Fid)
+pub(crate) fn rebind(pages: &mut Vec<Vec<(Name, Fid)>>, guide: &Guide, name: &Name, fid: Fid)
     requires sorted { IsTrue (is_sorted name_cmp (all_pairs pages.old.items)) }
     requires filled { AreFilled pages.old.items }
     requires bound { IsSome (find name_cmp name.now (all_pairs pages.old.items)) }
@@ -261,12 +309,12 @@ pub(crate) fn rebind(pages: &mut Vec<Vec<(Name, Fid)>>, name: &Name, fid: Fid)
     if pages.is_empty() {
         return;
     }
-    let at = page_for(pages, name);
+    let at = page_for(pages, guide, name);
     rebind_at(pages, at, name, fid);
 }
 
 // Unbinds a name, where it is bound, and answers whether it was.
-pub(crate) fn remove(pages: &mut Vec<Vec<(Name, Fid)>>, name: &Name) -> bool
+pub(crate) fn remove(pages: &mut Vec<Vec<(Name, Fid)>>, guide: &mut Guide, name: &Name) -> bool
     requires sorted { IsTrue (is_sorted name_cmp (all_pairs pages.old.items)) }
     requires filled { AreFilled pages.old.items }
     ensures pairs { all_pairs pages.new.items ≡ without name.now (all_pairs pages.old.items) }
@@ -276,12 +324,12 @@ pub(crate) fn remove(pages: &mut Vec<Vec<(Name, Fid)>>, name: &Name) -> bool
     if pages.is_empty() {
         return false;
     }
-    let at = page_for(pages, name);
-    remove_at(pages, at, name)
+    let at = page_for(pages, guide, name);
+    remove_at(pages, guide, at, name)
 }
 
 // What a name is bound to.
-pub(crate) fn find(pages: &[Vec<(Name, Fid)>], name: &Name) -> Option<Fid>
+pub(crate) fn find(pages: &[Vec<(Name, Fid)>], guide: &Guide, name: &Name) -> Option<Fid>
     requires sorted { IsTrue (is_sorted name_cmp (all_pairs pages.now)) }
     requires filled { AreFilled pages.now }
     ensures { result ≡ find name_cmp name.now (all_pairs pages.now) }
@@ -289,7 +337,7 @@ pub(crate) fn find(pages: &[Vec<(Name, Fid)>], name: &Name) -> Option<Fid>
     if pages.is_empty() {
         return None;
     }
-    let at = page_for(pages, name);
+    let at = page_for(pages, guide, name);
     find_in(&pages[at], name)
 }
 

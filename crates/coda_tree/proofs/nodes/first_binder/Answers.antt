@@ -1,4 +1,4 @@
-use Rattle.std.proofs.Common.{Some, sym, ap, ◌∙◌, subst}
+use Rattle.std.proofs.Common.{Some, sym, ◌∙◌, subst}
 use Rattle.coda_tree.proofs.FirstParent.{IsPassed, IsBinder, passed_over, passed_binder, binder_still, rest_distinct, passed_all}
 use Rattle.coda_tree.proofs.nodes.first_binder.Goals as goal
 

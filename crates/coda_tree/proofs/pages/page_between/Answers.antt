@@ -3,7 +3,7 @@ use Rattle.coda_tree.specs.Bindings.{Pairs}
 use Rattle.coda_tree.specs.Pages.{pairs_at, first_cmp}
 use Rattle.coda_tree.proofs.Booleans.{gt_greater, not_greater}
 use Rattle.coda_tree.proofs.Paged.{pairs_here}
-use Rattle.coda_tree.proofs.pages.page_for.Goals as goal
+use Rattle.coda_tree.proofs.pages.page_between.Goals as goal
 
 pub loop-low-preserved-then-is_gt : goal.loop-low-preserved-then-is_gt
 loop-low-preserved-then-is_gt c =

@@ -1,7 +1,7 @@
 use Rattle.std.proofs.Common.{◌≡◌, ◌≢◌, ◌<◌, ◌≤◌, ◌-◌, length}
 use Rattle.std.specs.declared.cmp.Ordering.TheVariants.{Greater}
 use Rattle.coda_tree.specs.Pages.{pairs_at, first_cmp}
-use Rattle.coda_tree.proofs.pages.page_for.Given as goal
+use Rattle.coda_tree.proofs.pages.page_between.Given as goal
 
 abbrev pub invariant-loop-low : goal.invariant-loop-low
 invariant-loop-low l = record {
