@@ -3,7 +3,7 @@ ghost use Rattle.coda_fid.specs.declared.op.Record.{Record};
 ghost use Rattle.coda_cancel.specs.Cancel.{add, added};
 ghost use Rattle.coda_cancel.specs.Numbers.{AreBelow, IsRising, dropped, least};
 ghost use Rattle.coda_cancel.specs.Joins.{joins_of};
-ghost use Rattle.coda_cancel.specs.Mentions.{has, is_mentioned, AreFresh, Gains, IsSame, Loses};
+ghost use Rattle.coda_cancel.specs.Mentions.{has, is_mentioned, AreFresh, Gains, IsIndexOf, IsSame, Loses};
 ghost use Rattle.coda_cancel.specs.Weights.{fits, total_weight};
 
 use crate::Join;
@@ -109,7 +109,7 @@ impl Tail {
         ensures err { OnErr result (self.new ≡ self.old) }
     {
         let front = self.shelf.take_front(count)?;
-        forget_all(&mut self.index, &front);
+        forget_front(self.alloc, &mut self.index, &front, &self.shelf);
         self.weight -= weigh_light(&front);
         Ok(front)
     }
@@ -242,6 +242,19 @@ fn note_all(index: &mut BTreeSet<Mention>, records: &[Record]) -> Result<(), All
         note(index, record)?;
     }
     Ok(())
+}
+
+// Takes out what the records at the front mention, where these are left. Where none is left, nothing is mentioned.
+fn forget_front(alloc: Global, index: &mut BTreeSet<Mention>, front: &[Record], rest: &Shelf)
+    requires rising { IsRising (front.now ++ rest.now.records) }
+    requires indexed { IsIndexOf index.old (front.now ++ rest.now.records) }
+    ensures { IsIndexOf index.new rest.now.records }
+{
+    if rest.len() == 0 {
+        *index = BTreeSet::new(alloc);
+    } else {
+        forget_all(index, front);
+    }
 }
 
 // Takes out what records mention.

@@ -1,12 +1,25 @@
-use Rattle.std.proofs.Common.{◌≡◌, ◌+◌, take, drop, sym, ap, ◌∙◌, subst, arith}
+use Rattle.std.proofs.Common.{◌≡◌, ◌+◌, ◌++◌, take, drop, sym, ap, ◌∙◌, subst, arith}
 use Rattle.std.proofs.lemmas.List.{take-append-drop}
 use Rattle.coda_cancel.specs.Numbers.{IsRising}
-use Rattle.coda_cancel.specs.Mentions.{has, is_mentioned, IsIndexOf, Loses}
+use Rattle.coda_cancel.specs.Mentions.{IsIndexOf}
 use Rattle.coda_cancel.specs.Weights.{total_weight}
 use Rattle.coda_cancel.proofs.Rising.{rising_drop}
 use Rattle.coda_cancel.proofs.Sizes.{total-append}
-use Rattle.coda_cancel.proofs.Parts.{rest_indexed}
 use Rattle.coda_cancel.proofs.tail.Tail.take_front.Goals as goal
+
+pub forget_front-requires-clause-rising : goal.forget_front-requires-clause-rising
+forget_front-requires-clause-rising c =
+    let rs = c.self.inside.shelf.records in
+    let k = c.args.count in
+    let front : c.deref.result.now ≡ take k rs = c.deref.ensures.value ∙ c.in_ok-front.ensures.front in
+    subst IsRising (sym (take-append-drop k rs) ∙ (λ i. sym front i ++ sym c.in_ok-front.ensures.rest i)) c.self.invariant.rising
+
+pub forget_front-requires-clause-indexed : goal.forget_front-requires-clause-indexed
+forget_front-requires-clause-indexed c =
+    let rs = c.self.inside.shelf.records in
+    let k = c.args.count in
+    let front : c.deref.result.now ≡ take k rs = c.deref.ensures.value ∙ c.in_ok-front.ensures.front in
+    subst (IsIndexOf c.self.inside.index) (sym (take-append-drop k rs) ∙ (λ i. sym front i ++ sym c.in_ok-front.ensures.rest i)) c.self.invariant.indexed
 
 pub weigh_light-requires : goal.weigh_light-requires
 weigh_light-requires c =
@@ -35,11 +48,8 @@ invariant_of-self-2 c =
     let both : total_weight rs ≡ total_weight (take k rs) + total_weight (drop k rs) = ap total_weight (sym (take-append-drop k rs)) ∙ total-append (take k rs) (drop k rs) in
     let rest = c.in_ok-front.ensures.rest in
     let left = ap total_weight rest in
-    let parts = sym (take-append-drop k rs) in
     record {
       rising = subst IsRising (sym rest) (rising_drop k rs c.self.invariant.rising);
-      indexed = subst (IsIndexOf c.forget_all.new.index) (sym rest)
-          (rest_indexed c.self.inside.index c.forget_all.new.index (take k rs) (drop k rs) (subst IsRising parts c.self.invariant.rising) (subst (IsIndexOf c.self.inside.index) parts c.self.invariant.indexed)
-          (subst (λ l. Loses (has c.self.inside.index) (has c.forget_all.new.index) (is_mentioned l)) (c.deref.ensures.value ∙ c.in_ok-front.ensures.front) c.forget_all.ensures));
+      indexed = c.forget_front.ensures;
       weighed = omega (arith, same, both, left, c.self.invariant.weighed, c.weigh_light.ensures);
     }
