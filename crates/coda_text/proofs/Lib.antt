@@ -1,4 +1,5 @@
 pub mod Scan
+pub mod BareWords
 pub mod Digits
 pub mod Decoding
 pub mod OneWord

@@ -111,7 +111,7 @@ fn put_given(out: &mut Vec<u8>, given: Option<u8>) -> Result<(), AllocError>
 fn decode(alloc: Global, word: &[u8]) -> Result<Vec<u8>, AllocError>
     ensures { IfOk result (λ v. v.items ≡ decoded Escape.Plain word.now) }
 {
-    let mut out = Vec::new(alloc);
+    let mut out = Vec::with_capacity(alloc, word.len())?;
     let mut state = Escape::Plain;
     for byte in word {
         put_given(&mut out, gives(state, *byte))?;

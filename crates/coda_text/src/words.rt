@@ -2,6 +2,7 @@
 ghost use Rattle.std.specs.Prelude.{◌≡◌, ◌<◌, ◌≤◌, length, slice_range};
 ghost use Rattle.std.specs.Bool.{OnFalse};
 ghost use Rattle.coda_text.specs.Words.{is_separator, is_bare, is_plain, is_hex, opens, goes_on, may_end};
+ghost use Rattle.coda_text.specs.declared.words.Part.TheVariants.{Bare};
 ghost use Rattle.coda_text.specs.Steps.{is_end, Finds, Finishes, AtWord, split_from};
 
 /// Where in a word a byte stands.
@@ -156,6 +157,22 @@ fn finish(line: &[u8], start: usize, first: Part) -> Next
     }
 }
 
+// The rest of a bare word that began there, from its second byte on: most words are such.
+fn finish_bare(line: &[u8], start: usize) -> Next
+    requires { start < length line.now }
+    ensures { Finishes line.now start Bare result }
+{
+    let mut at = start + 1;
+    while at < line.len() && is_bare(line[at]) {
+        at += 1;
+    }
+    if is_end(line, at, Part::Bare) {
+        Next::Found { start, end: at }
+    } else {
+        Next::Bad { start, end: at }
+    }
+}
+
 /// What stands next on the line from there on.
 pub fn next_word(line: &[u8], from: usize) -> Next
     requires { from ≤ length line.now }
@@ -167,6 +184,7 @@ pub fn next_word(line: &[u8], from: usize) -> Next
     }
     match opens(line[start]) {
         None => Next::Bad { start, end: start },
+        Some(Part::Bare) => finish_bare(line, start),
         Some(part) => finish(line, start, part),
     }
 }
