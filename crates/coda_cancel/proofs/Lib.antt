@@ -17,3 +17,4 @@ pub mod Rising
 pub mod Additions
 pub mod Sizes
 pub mod Turns
+pub mod Vacated

@@ -225,6 +225,24 @@ fn empty(slots: Vec<Slot>, records: &mut Vec<Record>)
     }
 }
 
+// Takes the records out of the first places, so many, and puts them behind others. The places stay, as gaps, so that the
+// other records need not be moved.
+fn vacate(slots: &mut Vec<Slot>, places: usize, records: &mut Vec<Record>)
+    requires within { places ≤ vec_len slots.old }
+    requires room { vec_len records.old + length (kept_in (take places slots.old.items)) ≤ vec_capacity records.old }
+    ensures records { records.new.items ≡ records.old.items ++ kept_in (take places slots.old.items) }
+    ensures rest { kept_in slots.new.items ≡ kept_in (drop places slots.old.items) }
+    ensures rising { DoSlotsRise slots.old.items → DoSlotsRise slots.new.items }
+    ensures len { vec_len slots.new ≡ vec_len slots.old }
+    ensures capacity { vec_capacity slots.new ≡ vec_capacity slots.old }
+{
+    for at in 0..places {
+        if let Some(record) = slots[at].take() {
+            records.push_reserved(record);
+        }
+    }
+}
+
 // How many places hold the first records, so many.
 fn places_of(slots: &[Slot], count: usize) -> usize
     requires { count ≤ length (kept_in slots.now) }
@@ -373,9 +391,9 @@ impl Shelf {
     {
         let mut front = Vec::with_capacity(*self.spare.allocator(), count)?;
         let places = places_of(&self.slots, count);
-        let rest = self.slots.split_off(places)?;
-        empty(mem::replace(&mut self.slots, rest), &mut front);
+        vacate(&mut self.slots, places, &mut front);
         self.count -= count;
+        trim(&mut self.slots);
         Ok(front)
     }
 

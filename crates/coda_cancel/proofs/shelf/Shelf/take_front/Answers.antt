@@ -1,22 +1,18 @@
 use Rattle.std.proofs.Common.{◌≡◌, ◌-◌, drop, length, sym, ap, ◌∙◌, subst, arith}
 use Rattle.std.proofs.lemmas.List.{length-drop}
-use Rattle.coda_cancel.specs.Slots.{kept_in, DoSlotsRise, is_last_kept}
-use Rattle.coda_cancel.proofs.Places.{rising_dropped, last_dropped}
+use Rattle.coda_cancel.specs.Slots.{kept_in}
 use Rattle.coda_cancel.proofs.shelf.Shelf.take_front.Goals as goal
 
-pub invariant_of-self-2 : goal.invariant_of-self-2
-invariant_of-self-2 c =
+pub invariant_of-self : goal.invariant_of-self
+invariant_of-self c =
     let ss = c.self.inside.slots.items in
     let n = c.places_of-places.result in
-    let left : c.replace.new.dest.items ≡ drop n ss = ap (λ v. v.items) c.replace.ensures.after ∙ c.in_ok-rest.ensures.tail in
-    let fewer : length (kept_in (drop n ss)) ≡ length (kept_in ss) - c.args.count =
-    ap length (subst (λ l. kept_in (drop n l) ≡ drop c.args.count (kept_in l)) c.deref.ensures.value c.places_of-places.ensures.rest) ∙ length-drop c.args.count (kept_in ss) in
-    let short : length (drop n ss) ≡ length ss - n = length-drop n ss in
-    let all = ap length left in
+    let left : kept_in c.trim.new.slots.items ≡ drop c.args.count (kept_in ss) =
+    c.trim.ensures.records ∙ c.vacate.ensures.rest ∙ subst (λ l. kept_in (drop n l) ≡ drop c.args.count (kept_in l)) c.deref.ensures.value c.places_of-places.ensures.rest in
     record {
-      rising = subst DoSlotsRise (sym left) (rising_dropped n ss c.self.invariant.rising);
-      last = ap is_last_kept left ∙ last_dropped n ss c.self.invariant.last;
-      counted = ap (λ k. k - c.args.count) c.self.invariant.counted ∙ sym fewer ∙ ap (λ l. length (kept_in l)) (sym left);
+      rising = c.trim.ensures.rising (c.vacate.ensures.rising c.self.invariant.rising);
+      last = c.trim.ensures.last;
+      counted = ap (λ k. k - c.args.count) c.self.invariant.counted ∙ sym (ap length left ∙ length-drop c.args.count (kept_in ss));
       empty = c.self.invariant.empty;
-      room = omega (arith, short, all, c.self.invariant.room);
+      room = omega (arith, c.trim.ensures.len, c.vacate.ensures.len, c.self.invariant.room);
     }
