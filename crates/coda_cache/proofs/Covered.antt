@@ -154,7 +154,7 @@ module _ (s : Sources) (c n : CacheState) where
       ]
 
   -- no node is made
-  pub covered_changed : (client : ℕ) (rec : Record) (gone : List Fid) → n ≡ mutated c client rec → new_node rec.op ≡ None → gone ≡ taken_below c (taken_out rec.op) →
+  pub covered_changed : (client : ℕ) (rec : Record) (gone : List Fid) → n ≡ mutated c client rec → new_node rec.op ≡ None → ((f : Fid) → is_listed gone f ≡ is_listed (taken_below c (taken_out rec.op)) f) →
       AreCovered s (λ g. cond (is_listed gone g) None (source_of c g)) → AreCovered s (source_of n)
   covered_changed client rec gone is makes goes h = covered_same s _ (source_of n) new h
     where
@@ -164,4 +164,4 @@ module _ (s : Sources) (c n : CacheState) where
           ∙ moved_source (moved_node rec.op) (taken_from c.holds (taken_below c (taken_out rec.op))) g
           ∙ ap source_held (taken_at c.holds (taken_below c (taken_out rec.op)) g)
           ∙ taken_source (is_listed (taken_below c (taken_out rec.op)) g) (map.get c.holds g)
-          ∙ ap (λ l. cond (is_listed l g) None (source_of c g)) (sym goes)
+          ∙ ap (λ b. cond b None (source_of c g)) (sym (goes g))

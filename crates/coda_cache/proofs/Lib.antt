@@ -17,8 +17,10 @@ pub mod Alike
 pub mod Standing
 pub mod Pinned
 pub mod Summed
-pub mod Alone
 pub mod Mutated
 pub mod Chosen
 pub mod Sourced
 pub mod Covered
+pub mod Down
+pub mod Under
+pub mod ByUse

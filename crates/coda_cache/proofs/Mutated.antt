@@ -32,6 +32,7 @@ use Rattle.coda_cache.specs.Indexed.{standing_of, standings, IsQueued, renewed_i
 use Rattle.coda_cache.proofs.Agreeing.{except_here}
 use Rattle.coda_cache.proofs.Alike.{without_map}
 use Rattle.coda_cache.proofs.Operated.{mutated_made, mutated_changed}
+use Rattle.coda_cache.proofs.Removed.{except_same}
 use Rattle.coda_cache.proofs.Rightly.{alike, map_last}
 use Rattle.coda_cache.proofs.Standing.{marked_same, renewed_is, left_items, stands, held_dirty, dirty_or, stays_of}
 use Rattle.coda_cache.proofs.Taken.{taken_at}
@@ -81,11 +82,11 @@ off_applied : (m : Nodes) (client : ℕ) (rec : Record) (g : Fid) → is_listed 
 unfolding applied
 off_applied m client rec g free = off_at m rec.time client rec.number rec.op g free
 
-off_dirty : (holds : Holds) (fids : List Fid) (g : Fid) → is_listed fids g ≡ false → map.get (all_dirty holds fids) g ≡ map.get holds g
+pub off_dirty : (holds : Holds) (fids : List Fid) (g : Fid) → is_listed fids g ≡ false → map.get (all_dirty holds fids) g ≡ map.get holds g
 off_dirty holds [] g free = refl
 off_dirty holds (f ∷ fids) g free = let one = off_first f fids g free in off_dirty (altered holds f made_dirty) fids g one.1 ∙ off_altered holds f made_dirty g one.0
 
-off_moved : (holds : Holds) (op : Op) (g : Fid) → is_listed (fids_of op) g ≡ false → map.get (moved_in (moved_node op) holds) g ≡ map.get holds g
+pub off_moved : (holds : Holds) (op : Op) (g : Fid) → is_listed (fids_of op) g ≡ false → map.get (moved_in (moved_node op) holds) g ≡ map.get holds g
 off_moved holds (Create dir name fid mode owner) g free = refl
 off_moved holds (Mkdir dir name fid mode owner) g free = refl
 off_moved holds (Symlink dir name fid target mode owner) g free = refl
@@ -160,7 +161,7 @@ module _ (q now : Queued) (m marked : Marks) (c n : CacheState) (was : AreIndexe
       items = ap (with_item (standing_of n dir)) last ∙ renewed_is one_item (standing_of n) one_is (λ g. refl) (dir ∷ []) (latest c.recency fid) then_same ∙ ap (prelude.map (standing_of n)) (sym (ap (λ (x : CacheState). x.recency) is_s))
 
   -- no node is made
-  pub indexed_changed : (gone mentioned : List Fid) → new_node rec.op ≡ None → gone ≡ taken_below c (taken_out rec.op) → ((f : Fid) → is_listed mentioned f ≡ is_listed (fids_of rec.op) f) →
+  pub indexed_changed : (gone mentioned : List Fid) → new_node rec.op ≡ None → ((f : Fid) → is_listed gone f ≡ is_listed (taken_below c (taken_out rec.op)) f) → ((f : Fid) → is_listed mentioned f ≡ is_listed (fids_of rec.op) f) →
       ((items : List Item) → IsQueued q items → IsQueued now (renewed_items (standing_of n) mentioned (left gone items))) →
       ((passes : Fid → Bool) → AreMarked m passes → AreMarked marked (λ f. cond (is_listed mentioned f) (is_dirty n f) (not (is_listed gone f) && passes f))) → AreIndexed now marked n
   indexed_changed gone mentioned makes goes all renew set = record {
@@ -184,13 +185,13 @@ module _ (q now : Queued) (m marked : Marks) (c n : CacheState) (was : AreIndexe
       holds g free =
           let off = sym (all g) ∙ free in
           ap (λ (x : CacheState). map.get x.holds g) is_s ∙ off_dirty (moved_in (moved_node rec.op) (taken_from c.holds (taken_below c (taken_out rec.op)))) (fids_of rec.op) g off
-          ∙ off_moved (taken_from c.holds (taken_below c (taken_out rec.op))) rec.op g off ∙ taken_at c.holds (taken_below c (taken_out rec.op)) g ∙ ap (λ l. cond (is_listed l g) None (map.get c.holds g)) (sym goes)
+          ∙ off_moved (taken_from c.holds (taken_below c (taken_out rec.op))) rec.op g off ∙ taken_at c.holds (taken_below c (taken_out rec.op)) g ∙ ap (λ b. cond b None (map.get c.holds g)) (sym (goes g))
 
       nodes : (g : Fid) → is_listed mentioned g ≡ false → map.get n.nodes g ≡ cond (is_listed gone g) None (map.get c.nodes g)
       nodes g free =
           let off = sym (all g) ∙ free in
           ap (λ (x : CacheState). map.get x.nodes g) is_s ∙ taken_at (applied c.nodes client rec) (taken_below c (taken_out rec.op)) g
-          ∙ (λ k. cond (is_listed (sym goes k) g) None (off_applied c.nodes client rec g off k))
+          ∙ (λ k. cond (sym (goes g) k) None (off_applied c.nodes client rec g off k))
 
       then_same : (g : Fid) → is_listed (except_all c.recency gone) g ≡ true → is_listed mentioned g ≡ false → standing_of c g ≡ standing_of n g
       then_same g there free =
@@ -200,4 +201,4 @@ module _ (q now : Queued) (m marked : Marks) (c n : CacheState) (was : AreIndexe
       items : renewed_items (standing_of n) mentioned (left gone (standings c)) ≡ standings n
       items = ap (renewed_items (standing_of n) mentioned) (left_items (standing_of c) (λ g. refl) gone c.recency)
           ∙ renewed_is (standing_of c) (standing_of n) (λ g. refl) (λ g. refl) mentioned (except_all c.recency gone) then_same
-          ∙ ap (prelude.map (standing_of n)) (ap (except_all c.recency) goes ∙ sym (ap (λ (x : CacheState). x.recency) is_s))
+          ∙ ap (prelude.map (standing_of n)) (except_same c.recency gone (taken_below c (taken_out rec.op)) goes ∙ sym (ap (λ (x : CacheState). x.recency) is_s))

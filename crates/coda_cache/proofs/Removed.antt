@@ -26,7 +26,7 @@ use Rattle.coda_cache.specs.Held.{holds_of, way_in, below_in, way_of, below_of}
 use Rattle.coda_cache.specs.State.{CacheState, parent_of, parent_held}
 use Rattle.coda_cache.specs.Ways.{way_within, way_up, at_or_below}
 use Rattle.coda_cache.specs.Keeping.{Agree}
-use Rattle.coda_cache.specs.Steps.{taken_from, except_all, removed}
+use Rattle.coda_cache.specs.Steps.{taken_from, except_all, dropped, removed}
 use Rattle.coda_cache.proofs.Keys.{len_keyed, keys_keyed}
 use Rattle.coda_cache.proofs.Ordered.{kept_at, get_keyed}
 use Rattle.coda_cache.proofs.Taken.{taken_at}
@@ -104,7 +104,7 @@ way_is c (suc n) f = elim (parent_of c f) as (λ o. (f ∷ option_map_or (λ p. 
 
 -- ---- lists of the same fids
 
-taken_same : {X : Type 0} (m : FinMap fid_cmp X) (a b : List Fid) → ((q : Fid) → is_listed a q ≡ is_listed b q) → taken_from m a ≡ taken_from m b
+pub taken_same : {X : Type 0} (m : FinMap fid_cmp X) (a b : List Fid) → ((q : Fid) → is_listed a q ≡ is_listed b q) → taken_from m a ≡ taken_from m b
 taken_same m a b same = map.same_map fids_total exact_fids _ _ (λ q. taken_at m a q ∙ ap (λ x. cond x None (map.get m q)) (same q) ∙ sym (taken_at m b q))
 
 pub filter_all : (fids : List Fid) → filter (λ (_ : Fid). true) fids ≡ fids
@@ -127,7 +127,7 @@ except_is recency (f ∷ fids) = except_is (except recency f) fids
     neither true b = refl
     neither false b = refl
 
-except_same : (recency a b : List Fid) → ((q : Fid) → is_listed a q ≡ is_listed b q) → except_all recency a ≡ except_all recency b
+pub except_same : (recency a b : List Fid) → ((q : Fid) → is_listed a q ≡ is_listed b q) → except_all recency a ≡ except_all recency b
 except_same recency a b same = except_is recency a ∙ filter_alike _ _ recency (λ g. ap not (same g)) ∙ sym (except_is recency b)
 
 -- a fid is among the keys where it has a hold
@@ -165,3 +165,7 @@ holds_removed c f a = map.same_map fids_total exact_fids _ _ (λ q.
     left true n h same = refl
     left false n None same = none_either (is_some n)
     left false n (Some hold) same = ap (λ b. cond b (Some hold) None) (sym same)
+
+-- the cache without these nodes, however they are listed
+pub dropped_same : (c : CacheState) (a b : List Fid) → ((q : Fid) → is_listed a q ≡ is_listed b q) → dropped c a ≡ dropped c b
+dropped_same c a b same = λ i. record c { nodes = taken_same c.nodes a b same i; holds = taken_same c.holds a b same i; recency = except_same c.recency a b same i }

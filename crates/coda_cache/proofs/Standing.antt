@@ -41,7 +41,7 @@ marked_same m p q same h = (elim m.fids as (λ o. IfSome o (λ s. (f : Fid) → 
   | Some s ↦ λ h f. h f ∙ same f
 ]) h
 
-listed_next : (fids : List Fid) (i : ℕ) (d : Fid) → i < length fids → (f : Fid) → is_listed (take (suc i) fids) f ≡ (is_listed (take i fids) f || same_fid (slice_index_or fids i d) f)
+pub listed_next : (fids : List Fid) (i : ℕ) (d : Fid) → i < length fids → (f : Fid) → is_listed (take (suc i) fids) f ≡ (is_listed (take i fids) f || same_fid (slice_index_or fids i d) f)
 listed_next [] i d h f = absurd (omega (arith, h))
 listed_next (g ∷ fids) zero d h f = elim (same_fid g f) as (λ b. (b || false) ≡ (false || b)) [ true ↦ refl | false ↦ refl ]
 listed_next (g ∷ fids) (suc i) d h f = let rest = listed_next fids i d (omega (arith, h)) f in elim (same_fid g f) as (λ b. (b || is_listed (take (suc i) fids) f) ≡ ((b || is_listed (take i fids) f) || same_fid (slice_index_or fids i d) f)) [ true ↦ refl | false ↦ rest ]

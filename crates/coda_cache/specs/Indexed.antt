@@ -1,19 +1,23 @@
 -- What is kept beside the contents of a cache, so that no call has to look at all of them.
-use Rattle.std.specs.Prelude.{◌≡◌, ◌==◌, ℕ, ◌+◌, Bool, true, false, cond, List, [], ◌∷◌, Option, Some, None}
+use Rattle.std.specs.Prelude.{◌≡◌, ◌==◌, ℕ, zero, suc, ◌+◌, Bool, true, false, cond, List, [], ◌∷◌, Option, Some, None}
 use Rattle.std.specs.Prelude as prelude
 use Rattle.std.specs.Option.{IfSome, option_map_or}
 use Rattle.std.specs.BTreeSet as btree
 use Rattle.std.specs.BTreeSet.{BTreeSet}
 use Rattle.std.specs.BTreeMap as tree
 use Rattle.std.specs.BTreeMap.{BTreeMap}
-use Rattle.std.specs.Ordering.{nat_cmp, eq_by_cmp}
+use Rattle.std.specs.Ordering.{nat_cmp, eq_by_cmp, ordering_then}
+use Rattle.std.specs.declared.cmp.Ordering.{Ordering}
 use Rattle.coda_fid.specs.declared.fid.Fid.{Fid}
-use Rattle.coda_fid.specs.Fid.{fid_cmp}
+use Rattle.coda_fid.specs.Fid.{fid_cmp, same_fid}
 use Rattle.coda_walk.specs.declared.item.Item.{Item}
+use Rattle.coda_walk.specs.Going.{is_listed}
 use Rattle.coda_walk.specs.Queue.{IsQueueOf, with_item, Rises}
 use Rattle.coda_cache.specs.declared.queued.Queued.{Queued}
 use Rattle.coda_cache.specs.declared.marks.Marks.{Marks}
 use Rattle.coda_cache.specs.declared.sources.Sources.{Sources}
+use Rattle.coda_cache.specs.declared.children.Children.{Children}
+use Rattle.coda_cache.specs.declared.by_use.Use.{Use}
 use Rattle.coda_cache.specs.declared.cache.Cache.TheInside.{Inside}
 use Rattle.coda_tree.specs.Slots.{altered}
 use Rattle.coda_cache.specs.declared.hold.Hold.{Hold}
@@ -43,6 +47,16 @@ abbrev pub renewed_items : (Fid → Item) → List Fid → List Item → List It
 renewed_items item [] items = items
 renewed_items item (f ∷ fids) items = renewed_items item fids (with_item (item f) items)
 
+-- ---- times of use
+
+-- by the time of use, and then by fid
+abbrev pub use_cmp : Use → Use → Ordering
+use_cmp a b = ordering_then (nat_cmp a.used b.used) (fid_cmp a.fid b.fid)
+
+-- an object with its time
+abbrev pub use_of : (Fid → ℕ) → Fid → Use
+use_of time f = record { used = time f; fid = f }
+
 -- ---- marks
 
 -- those that are marked are those that pass, where marks are kept
@@ -71,6 +85,29 @@ AreCovered s source = IfSome s.servers (λ servers. (f : Fid) (server : ℕ) →
 abbrev pub left_by : ℕ → ℕ → Holds → List Fid → Holds
 left_by volume server holds [] = holds
 left_by volume server holds (f ∷ fids) = left_by volume server (altered holds f (valid_but_from volume server f)) fids
+
+-- ---- which nodes are cached under a directory
+
+-- whether a parent, where there is one, is this directory
+abbrev pub is_parent : Fid → Option Fid → Bool
+is_parent dir parent = option_map_or (λ p. same_fid dir p) parent false
+
+-- whether a fid is kept under a directory
+abbrev pub is_kept_under : BTreeMap Fid (BTreeSet Fid) → Fid → Fid → Bool
+is_kept_under parents dir f = option_map_or (λ fids. btree.contains fid_cmp fids f) (tree.get fid_cmp parents dir) false
+
+-- each fid that has a parent is kept under it, where they are kept
+abbrev pub AreUnder : Children → (Fid → Option Fid) → Type 0
+AreUnder s parent = IfSome s.parents (λ parents. (f p : Fid) → parent f ≡ Some p → is_kept_under parents p f ≡ true)
+
+-- whether a node is cached under one of these
+abbrev pub is_under_any : CacheState → List Fid → Fid → Bool
+is_under_any c dirs f = option_map_or (λ p. is_listed dirs p) (parent_of c f) false
+
+-- whether a fid is so many steps down from a node
+abbrev pub is_down : CacheState → ℕ → Fid → Fid → Bool
+is_down c zero of f = same_fid f of
+is_down c (suc steps) of f = option_map_or (λ p. is_down c steps of p) (parent_of c f) false
 
 -- ---- which nodes are dirty
 
@@ -114,11 +151,12 @@ pub record AreIndexed (queued : Queued) (dirty : Marks) (c : CacheState) : Type 
   pub queue : IsQueued queued (standings c)
   pub marks : AreMarked dirty (is_dirty c)
 
--- and the valid copies are kept by their servers
-pub record AreFound (queued : Queued) (dirty : Marks) (sources : Sources) (c : CacheState) : Type 0 where
+-- and the valid copies are kept by their servers, and the nodes by their parents
+pub record AreFound (queued : Queued) (dirty : Marks) (sources : Sources) (children : Children) (c : CacheState) : Type 0 where
   pub indexed : AreIndexed queued dirty c
   pub covered : AreCovered sources (source_of c)
+  pub under : AreUnder children (parent_of c)
 
 -- so it is with the parts of a cache
 abbrev pub IsIndexed : Inside → Type 0
-IsIndexed a = AreFound a.queued a.dirty a.sources a.contents
+IsIndexed a = AreFound a.queued a.dirty a.sources a.children a.contents

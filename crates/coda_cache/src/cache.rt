@@ -15,12 +15,13 @@ ghost use Rattle.coda_cache.specs.Walking.{AreCounted};
 ghost use Rattle.coda_walk.specs.Going.{is_listed};
 ghost use Rattle.coda_cache.specs.Indexed.{pinned_of};
 
+use crate::children::Children;
 use crate::contents::Contents;
 use crate::marks::Marks;
 use crate::operating::{mentioned, new_node, taken_out};
 use crate::queued::Queued;
 use crate::sources::Sources;
-use crate::{CacheFault, CacheRow, room};
+use crate::{CacheFault, CacheRow, by_use, descending, room};
 use coda_fid::{Fid, Record};
 use coda_tree::Node;
 use std::alloc::{AllocError, Global};
@@ -38,6 +39,7 @@ pub struct Cache {
     pub(crate) queued: Queued,
     pub(crate) dirty: Marks,
     pub(crate) sources: Sources,
+    pub(crate) children: Children,
 }
 
 impl Model for Cache {
@@ -69,6 +71,7 @@ impl Cache {
             queued: Queued::new(alloc),
             dirty: Marks::new(alloc),
             sources: Sources::new(alloc),
+            children: Children::new(alloc),
         })
     }
 
@@ -142,37 +145,36 @@ impl Cache {
         self.contents.rows()
     }
 
-    // Whether it is known that a node is cached and has no other for its child.
-    fn is_alone(&self, fid: Fid) -> bool
-        ensures { OnTrue result (at_or_below self.now fid ≡ fid ∷ []) }
+    // The cached nodes that are a node, or cached below it, in no order. Fails for want of memory alone.
+    fn below(&self, fid: Fid) -> Result<Vec<Fid>, AllocError>
+        ensures { IfOk result (λ v. (f : Fid) → is_listed v.items f ≡ is_listed (at_or_below self.now fid) f) }
     {
         self.contents.agree();
-        if self.contents.contains(fid) {
-            self.queued.is_bare(fid)
-        } else {
-            false
+        match &self.children.parents {
+            Some(parents) => descending::below(&self.contents, parents, fid),
+            None => self.contents.at_or_below(fid),
         }
     }
 
-    /// The cached nodes that are a node, or cached below it. Fails for want of memory alone.
+    /// The cached nodes that are a node, or cached below it, in the order of their use. Fails for want of memory alone.
     pub fn at_or_below(&self, fid: Fid) -> Result<Vec<Fid>, AllocError>
         ensures { IfOk result (λ v. v.items ≡ at_or_below self.now fid) }
     {
-        if self.is_alone(fid) {
-            let mut alone = Vec::new(self.contents.alloc());
-            alone.push(fid)?;
-            Ok(alone)
-        } else {
-            self.contents.at_or_below(fid)
+        match &self.queued.queue {
+            Some(queue) => {
+                let below = self.below(fid)?;
+                by_use::in_order(&self.contents, queue, &below)
+            }
+            None => self.contents.at_or_below(fid),
         }
     }
 
-    // What goes from the cache where a node is taken out.
+    // What goes from the cache where a node is taken out, in no order.
     fn taken_below(&self, taken: Option<Fid>) -> Result<Vec<Fid>, AllocError>
-        ensures { IfOk result (λ v. v.items ≡ taken_below self.now taken) }
+        ensures { IfOk result (λ v. (f : Fid) → is_listed v.items f ≡ is_listed (taken_below self.now taken) f) }
     {
         match taken {
-            Some(fid) => self.at_or_below(fid),
+            Some(fid) => self.below(fid),
             None => Ok(Vec::new(self.contents.alloc())),
         }
     }
@@ -276,6 +278,7 @@ impl Cache {
         ensures { self.new ≡ without self.old fid }
     {
         self.sources.set(self.contents.source(fid), None, fid);
+        self.children.set(self.contents.parent(fid), None, fid);
         self.contents.take_out(fid);
         self.queued.take_out(fid);
         self.dirty.set(fid, false);
@@ -286,6 +289,7 @@ impl Cache {
         ensures { self.new ≡ dropped self.old fids.now }
     {
         self.sources.take_all(&self.contents, fids);
+        self.children.take_all(&self.contents, fids);
         self.contents.drop_all(fids);
         self.queued.take_all(fids);
         self.dirty.take_all(fids);
@@ -295,13 +299,14 @@ impl Cache {
     pub fn remove(&mut self, fid: Fid)
         ensures { self.new ≡ removed self.old fid }
     {
-        match self.at_or_below(fid) {
+        match self.below(fid) {
             Ok(gone) => self.drop_all(&gone),
             Err(_) => {
                 self.contents.remove(fid);
                 self.queued = Queued::none();
                 self.dirty = Marks::none();
                 self.sources.give_up();
+                self.children.give_up();
             }
         }
     }
@@ -313,6 +318,7 @@ impl Cache {
         self.queued.restore(&self.contents);
         self.dirty.restore(&self.contents);
         self.sources.restore(&self.contents);
+        self.children.restore(&self.contents);
     }
 
     /// Puts a node at a fid that is not dirty: under the parent that it has where it is cached, and else under this one.
@@ -334,6 +340,7 @@ impl Cache {
         self.queued.put(self.contents.standing(fid));
         self.dirty.set(fid, false);
         self.sources.set(was, from, fid);
+        self.children.set(None, self.contents.parent(fid), fid);
         Ok(())
     }
 
@@ -356,6 +363,7 @@ impl Cache {
         self.queued = Queued::of(&self.contents);
         self.dirty = Marks::of(&self.contents);
         self.sources = Sources::of(&self.contents);
+        self.children = Children::of(&self.contents);
         Ok(())
     }
 
@@ -371,6 +379,7 @@ impl Cache {
         self.queued.put(self.contents.standing(fid));
         self.queued.change(self.contents.standing(dir));
         self.dirty.renew(&self.contents, &[dir, fid]);
+        self.children.set(None, Some(dir), fid);
         Ok(())
     }
 
@@ -383,18 +392,22 @@ impl Cache {
         ensures err { OnErr result (self.new ≡ self.old) }
     {
         let gone = self.taken_below(taken_out(&rec.op))?;
+        let mentioned = mentioned(&rec.op);
         self.sources.take_all(&self.contents, &gone);
+        self.children.take_all(&self.contents, &gone);
+        self.children.take_all(&self.contents, &mentioned);
         match self.contents.change(client, rec, &gone) {
             Ok(()) => {
-                let mentioned = mentioned(&rec.op);
                 self.queued.take_all(&gone);
                 self.queued.renew(&self.contents, &mentioned);
                 self.dirty.take_all(&gone);
                 self.dirty.renew(&self.contents, &mentioned);
+                self.children.add_all(&self.contents, &mentioned);
                 Ok(())
             }
             Err(e) => {
                 self.sources.give_up();
+                self.children.give_up();
                 Err(e)
             }
         }

@@ -95,6 +95,13 @@ impl Contents {
         self.size
     }
 
+    // How many nodes are cached.
+    pub(crate) fn len(&self) -> usize
+        ensures { result ≡ map.len self.now.holds }
+    {
+        self.holds.len()
+    }
+
     // What memory is taken from.
     pub(crate) fn alloc(&self) -> Global {
         self.alloc

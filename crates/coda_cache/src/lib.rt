@@ -2,9 +2,12 @@
 #![tactic(auto)]
 
 mod applying;
+mod by_use;
 mod cache;
+mod children;
 mod choosing;
 mod contents;
+mod descending;
 mod evicting;
 mod fault;
 mod hold;

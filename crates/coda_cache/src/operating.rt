@@ -218,7 +218,7 @@ impl Contents {
         gone: &[Fid],
     ) -> Result<(), AllocError>
         requires makes { new_node rec.now.op ≡ None }
-        requires gone { gone.now ≡ taken_below self.old (taken_out rec.now.op) }
+        requires gone { (f : Fid) → is_listed gone.now f ≡ is_listed (taken_below self.old (taken_out rec.now.op)) f }
         requires may { MayApply self.old.nodes rec.now.op }
         requires small { AreSmall (mutated self.old client rec.now).nodes }
         ensures ok { OnOk result (self.new ≡ mutated self.old client rec.now) }

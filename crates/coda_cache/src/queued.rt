@@ -1,9 +1,8 @@
 ghost use Rattle.std.specs.Prelude.{◌≡◌, [], List, IfSome};
-ghost use Rattle.std.specs.Bool.{OnTrue};
 ghost use Rattle.coda_walk.specs.declared.item.Item.{Item};
 ghost use Rattle.coda_walk.specs.Going.{blocks_of, without};
 ghost use Rattle.coda_walk.specs.Laws.{left};
-ghost use Rattle.coda_walk.specs.Queue.{IsQueueOf, under_count, with_last, with_item};
+ghost use Rattle.coda_walk.specs.Queue.{IsQueueOf, with_last, with_item};
 ghost use Rattle.coda_cache.specs.Indexed.{IsQueued, AreInOrder, standing_of, standings, renewed_items};
 
 use crate::contents::Contents;
@@ -95,17 +94,6 @@ impl Queued {
         match &self.queue {
             Some(queue) => Some(queue.blocks()),
             None => None,
-        }
-    }
-
-    // Whether it is known that no item stands under an object.
-    pub(crate) fn is_bare(&self, fid: Fid) -> bool
-        ensures bare { (items : List Item) → IsQueued self.now items → OnTrue result (under_count fid items ≡ 0) }
-        ensures rises { (items : List Item) → IsQueued self.now items → OnTrue result (AreInOrder items) }
-    {
-        match &self.queue {
-            Some(queue) => queue.under(fid) == 0,
-            None => false,
         }
     }
 

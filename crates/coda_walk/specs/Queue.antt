@@ -103,6 +103,10 @@ pub record AreQueued (places : Fid → Option Standing) (children : Fid → ℕ)
   pub counted : (p : Fid) → children p ≡ under_count p items
   pub total : blocks ≡ blocks_of items
 
+-- when an object was used, by a queue: 0 where it has no item
+abbrev pub time_of : Queue → Fid → ℕ
+time_of q f = used_at (place_in q.places) f
+
 -- a queue has the items, in the order of their use, and the ranks of those that may go
 pub record IsQueueOf (q : Queue) (items : List Item) : Type 0 where
   pub queued : AreQueued (place_in q.places) (count_in q.children) q.clock q.total items

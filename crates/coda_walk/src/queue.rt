@@ -6,7 +6,7 @@ ghost use Rattle.coda_walk.specs.declared.item.Item.{Item};
 ghost use Rattle.coda_walk.specs.Going.{blocks_of, without};
 ghost use Rattle.coda_walk.specs.Laws.{Among};
 ghost use Rattle.coda_walk.specs.Planning.{item_at};
-ghost use Rattle.coda_walk.specs.Queue.{place_in, count_in, is_in, used_at, under_count, one_under, set_at, same_rank, with_last, with_item, AreFree, AreFreeBut, AreKeyed, FitsBetween, IsQueueOf};
+ghost use Rattle.coda_walk.specs.Queue.{place_in, count_in, is_in, used_at, under_count, one_under, set_at, same_rank, with_last, with_item, AreFree, AreFreeBut, AreKeyed, FitsBetween, IsQueueOf, time_of};
 
 use crate::Item;
 use crate::rank::{Rank, Standing, may_leave, rank_of};
@@ -199,6 +199,16 @@ impl Queue {
         match self.places.get(&fid) {
             Some(standing) => Some(standing.item),
             None => None,
+        }
+    }
+
+    /// When an object was used, 0 where it has no item: later than those that stand before it.
+    pub fn used(&self, fid: Fid) -> u64
+        ensures { result ≡ time_of self.now fid }
+    {
+        match self.places.get(&fid) {
+            Some(standing) => standing.used,
+            None => 0,
         }
     }
 

@@ -1,0 +1,155 @@
+-- That each cached node is kept under its parent after each step of a cache.
+use Rattle.std.proofs.Common.{◌≡◌, ℕ, Bool, true, false, cond, ◌&&◌, List, [], ◌∷◌, Option, Some, None, option_map, refl, sym, ap, ◌∙◌, inl, inr}
+use Rattle.std.specs.Prelude.{if◌then◌else◌}
+use Rattle.std.specs.Option.{IfSome}
+use Rattle.std.specs.BTreeMap.{BTreeMap}
+use Rattle.std.specs.BTreeSet.{BTreeSet}
+use Rattle.std.specs.FinMap as map
+use Rattle.coda_fid.specs.declared.fid.Fid.{Fid}
+use Rattle.coda_fid.specs.declared.op.Record.{Record}
+use Rattle.coda_fid.specs.Op.{fids_of}
+use Rattle.coda_fid.specs.Fid.{same_fid}
+use Rattle.coda_fid.proofs.Fids.{fids_total, exact_fids, same_fid_is, same_fid_refl}
+use Rattle.coda_tree.specs.declared.node.Node.{Node}
+use Rattle.coda_tree.specs.Slots.{altered}
+use Rattle.coda_tree.proofs.Order.{fid_cases, get_here, get_else, gone_here, gone_else}
+use Rattle.coda_tree.proofs.Keyed.{not_same}
+use Rattle.coda_walk.specs.Going.{is_listed}
+use Rattle.coda_cache.specs.declared.hold.Hold.{Hold}
+use Rattle.coda_cache.specs.declared.children.Children.{Children}
+use Rattle.coda_cache.specs.Uses.{latest}
+use Rattle.coda_cache.specs.State.{CacheState, Holds, parent_of, parent_held, is_cached}
+use Rattle.coda_cache.specs.Steps.{used, put_in, dropped, taken_from, invalidated, not_valid, invalidated_from, valid_but_from, new_node, taken_out, moved_node, taken_below, moved_in, all_dirty, made_dirty, mutated, new_hold}
+use Rattle.coda_cache.specs.Steps as steps
+use Rattle.coda_cache.specs.Indexed.{AreUnder, is_kept_under, is_of, dirty_of, pinned_of}
+use Rattle.coda_cache.proofs.Mutated.{off_dirty, off_moved}
+use Rattle.coda_cache.proofs.Operated.{mutated_made, mutated_changed}
+use Rattle.coda_cache.proofs.Standing.{altered_at_all}
+use Rattle.coda_cache.proofs.Taken.{taken_at}
+use Rattle.coda_cache.proofs.Written.{get_each}
+
+-- ---- what is kept
+
+pub under_same : (s : Children) (p q : Fid → Option Fid) → ((f : Fid) → q f ≡ p f) → AreUnder s p → AreUnder s q
+under_same s p q same h = (elim s.parents as (λ o. IfSome o (λ parents. (f d : Fid) → p f ≡ Some d → is_kept_under parents d f ≡ true) → IfSome o (λ parents. (f d : Fid) → q f ≡ Some d → is_kept_under parents d f ≡ true)) [
+  | None ↦ λ h. h
+  | Some parents ↦ λ h f d e. h f d (sym (same f) ∙ e)
+]) h
+
+-- what is kept where one fid is put in or taken out
+pub kept_with : (parents rest : BTreeMap Fid (BTreeSet Fid)) (dir fid : Fid) (there : Bool) (had has : Fid → Bool) → ((f : Fid) → had f ≡ is_kept_under parents dir f) → ((p f : Fid) → same_fid dir p ≡ false → is_kept_under rest p f ≡ is_kept_under parents p f) →
+    ((f : Fid) → has f ≡ cond (same_fid fid f) there (had f)) → (p f : Fid) → cond (same_fid dir p) (has f) (is_kept_under rest p f) ≡ cond (same_fid dir p && same_fid fid f) there (is_kept_under parents p f)
+kept_with parents rest dir fid there had has was others now p f = (elim (same_fid dir p) as (λ b. same_fid dir p ≡ b → cond b (has f) (is_kept_under rest p f) ≡ cond (b && same_fid fid f) there (is_kept_under parents p f)) [
+  | true ↦ λ e. now f ∙ ap (cond (same_fid fid f) there) (was f ∙ ap (λ x. is_kept_under parents x f) (same_fid_is dir p e))
+  | false ↦ λ e. others p f e
+]) refl
+
+-- ---- under what nodes are cached after each change of holds
+
+parent_changed : (change : Hold → Hold) → ((hold : Hold) → (change hold).parent ≡ hold.parent) → (o : Option Hold) → parent_held (option_map change o) ≡ parent_held o
+parent_changed change same None = refl
+parent_changed change same (Some hold) = same hold
+
+altered_parent : (holds : Holds) (f : Fid) (change : Hold → Hold) → ((hold : Hold) → (change hold).parent ≡ hold.parent) → (g : Fid) → parent_held (map.get (altered holds f change) g) ≡ parent_held (map.get holds g)
+altered_parent holds f change same g = elim (altered_at_all holds f change g) [
+  | inl e ↦ ap parent_held e
+  | inr e ↦ ap parent_held e ∙ parent_changed change same (map.get holds g)
+]
+
+dirty_parent : (holds : Holds) (fids : List Fid) (g : Fid) → parent_held (map.get (all_dirty holds fids) g) ≡ parent_held (map.get holds g)
+dirty_parent holds [] g = refl
+dirty_parent holds (f ∷ fids) g = dirty_parent (altered holds f made_dirty) fids g ∙ altered_parent holds f made_dirty (λ _. refl) g
+
+used_parent : (c : CacheState) (f g : Fid) → parent_of (used c f) g ≡ parent_of c g
+used_parent c f g = elim (is_cached c f) as (λ b. parent_of (if b then record c { recency = latest c.recency f } else c) g ≡ parent_of c g) [ true ↦ refl | false ↦ refl ]
+
+pinned_parent : (c : CacheState) (volume : Option ℕ) (fids : List Fid) (g : Fid) → parent_of (pinned_of c volume fids) g ≡ parent_of c g
+pinned_parent c volume fids g = ap parent_held (get_each (dirty_of volume fids) c.holds g)
+    ∙ parent_changed (dirty_of volume fids g) (λ hold. elim (is_of volume g) as (λ b. (cond b (record hold { dirty = is_listed fids g }) hold).parent ≡ hold.parent) [ true ↦ refl | false ↦ refl ]) (map.get c.holds g)
+
+from_parent : (c : CacheState) (volume server : ℕ) (g : Fid) → parent_of (invalidated_from c volume server) g ≡ parent_of c g
+from_parent c volume server g = ap parent_held (get_each (valid_but_from volume server) c.holds g)
+    ∙ parent_changed (valid_but_from volume server g) (λ hold. stays hold _) (map.get c.holds g)
+  where
+    stays : (hold : Hold) (b : Bool) → (if b then not_valid hold else hold).parent ≡ hold.parent
+    stays hold true = refl
+    stays hold false = refl
+
+out_parent : (c : CacheState) (f g : Fid) → parent_of (steps.without c f) g ≡ cond (same_fid f g) None (parent_of c g)
+out_parent c f g = elim (fid_cases g f) [
+  | inl at ↦ ap parent_held (ap (map.get (map.remove c.holds f)) at ∙ gone_here fids_total c.holds f)
+      ∙ sym (ap (λ b. cond b None (parent_of c g)) (ap (same_fid f) at ∙ same_fid_refl f))
+  | inr apart ↦ ap parent_held (gone_else fids_total exact_fids c.holds f g apart) ∙ sym (ap (λ b. cond b None (parent_of c g)) (not_same f g (λ at. apart (sym at))))
+]
+
+put_parent : (c : CacheState) (f : Fid) (parent : Option Fid) (node : Node) (from : Option ℕ) (g : Fid) →
+    parent_of (put_in c f parent node from) g ≡ cond (same_fid f g) (parent_of (put_in c f parent node from) f) (parent_of c g)
+put_parent c f parent node from g = elim (fid_cases g f) [
+  | inl at ↦ ap (parent_of (put_in c f parent node from)) at ∙ sym (ap (λ b. cond b (parent_of (put_in c f parent node from) f) (parent_of c g)) (ap (same_fid f) at ∙ same_fid_refl f))
+  | inr apart ↦ ap parent_held (get_else fids_total exact_fids c.holds f _ g apart) ∙ sym (ap (λ b. cond b (parent_of (put_in c f parent node from) f) (parent_of c g)) (not_same f g (λ at. apart (sym at))))
+]
+
+taken_parent : (b : Bool) (o : Option Hold) → parent_held (cond b None o) ≡ cond b None (parent_held o)
+taken_parent true o = refl
+taken_parent false o = refl
+
+dropped_parent : (c : CacheState) (fids : List Fid) (g : Fid) → parent_of (dropped c fids) g ≡ cond (is_listed fids g) None (parent_of c g)
+dropped_parent c fids g = ap parent_held (taken_at c.holds fids g) ∙ taken_parent (is_listed fids g) (map.get c.holds g)
+
+-- ---- what is kept after each step
+
+module _ (s : Children) (c n : CacheState) where
+  under_by : (m : CacheState) (p : Fid → Option Fid) → n ≡ m → ((g : Fid) → parent_of m g ≡ p g) → AreUnder s p → AreUnder s (parent_of n)
+  under_by m p is same h = under_same s p (parent_of n) (λ g. ap (λ (x : CacheState). parent_of x g) is ∙ same g) h
+
+  pub under_used : (f : Fid) → n ≡ used c f → AreUnder s (parent_of c) → AreUnder s (parent_of n)
+  under_used f is h = under_by (used c f) (parent_of c) is (used_parent c f) h
+
+  pub under_pinned : (volume : Option ℕ) (fids : List Fid) → n ≡ pinned_of c volume fids → AreUnder s (parent_of c) → AreUnder s (parent_of n)
+  under_pinned volume fids is h = under_by (pinned_of c volume fids) (parent_of c) is (pinned_parent c volume fids) h
+
+  pub under_invalidated : (f : Fid) → n ≡ invalidated c f → AreUnder s (parent_of c) → AreUnder s (parent_of n)
+  under_invalidated f is h = under_by (invalidated c f) (parent_of c) is (altered_parent c.holds f not_valid (λ _. refl)) h
+
+  pub under_left : (volume server : ℕ) → n ≡ invalidated_from c volume server → AreUnder s (parent_of c) → AreUnder s (parent_of n)
+  under_left volume server is h = under_by (invalidated_from c volume server) (parent_of c) is (from_parent c volume server) h
+
+  pub under_out : (f : Fid) → n ≡ steps.without c f → AreUnder s (λ g. cond (same_fid f g) None (parent_of c g)) → AreUnder s (parent_of n)
+  under_out f is h = under_by (steps.without c f) _ is (out_parent c f) h
+
+  pub under_dropped : (fids : List Fid) → n ≡ dropped c fids → AreUnder s (λ g. cond (is_listed fids g) None (parent_of c g)) → AreUnder s (parent_of n)
+  under_dropped fids is h = under_by (dropped c fids) _ is (dropped_parent c fids) h
+
+  pub under_put : (f : Fid) (parent : Option Fid) (node : Node) (from : Option ℕ) → n ≡ put_in c f parent node from → (now : Option Fid) → now ≡ parent_of n f →
+      AreUnder s (λ g. cond (same_fid f g) now (parent_of c g)) → AreUnder s (parent_of n)
+  under_put f parent node from is now at h = under_by (put_in c f parent node from) _ is (λ g. put_parent c f parent node from g ∙ ap (λ o. cond (same_fid f g) o (parent_of c g)) (sym (at ∙ ap (λ (x : CacheState). parent_of x f) is))) h
+
+  -- a node is made
+  pub under_made : (client : ℕ) (rec : Record) (dir fid : Fid) → n ≡ mutated c client rec → new_node rec.op ≡ Some (dir, fid) → AreUnder s (λ g. cond (same_fid fid g) (Some dir) (parent_of c g)) → AreUnder s (parent_of n)
+  under_made client rec dir fid is makes h = under_same s _ (parent_of n) new h
+    where
+      new : (g : Fid) → parent_of n g ≡ cond (same_fid fid g) (Some dir) (parent_of c g)
+      new g = ap (λ (x : CacheState). parent_of x g) (is ∙ mutated_made c client rec dir fid makes) ∙ dirty_parent (map.insert c.holds fid (new_hold dir)) (fids_of rec.op) g
+          ∙ (elim (fid_cases g fid) [
+            | inl at ↦ ap parent_held (ap (map.get (map.insert c.holds fid (new_hold dir))) at ∙ get_here fids_total c.holds fid (new_hold dir))
+                ∙ sym (ap (λ b. cond b (Some dir) (parent_of c g)) (ap (same_fid fid) at ∙ same_fid_refl fid))
+            | inr apart ↦ ap parent_held (get_else fids_total exact_fids c.holds fid (new_hold dir) g apart) ∙ sym (ap (λ b. cond b (Some dir) (parent_of c g)) (not_same fid g (λ at. apart (sym at))))
+          ])
+
+  -- no node is made
+  pub under_changed : (client : ℕ) (rec : Record) (gone mentioned : List Fid) → n ≡ mutated c client rec → new_node rec.op ≡ None →
+      ((f : Fid) → is_listed gone f ≡ is_listed (taken_below c (taken_out rec.op)) f) → ((f : Fid) → is_listed mentioned f ≡ is_listed (fids_of rec.op) f) →
+      AreUnder s (λ g. cond (is_listed mentioned g) (parent_of n g) (cond (is_listed mentioned g) None (cond (is_listed gone g) None (parent_of c g)))) → AreUnder s (parent_of n)
+  under_changed client rec gone mentioned is makes goes all h = under_same s _ (parent_of n) (λ g. new g (is_listed mentioned g) refl) h
+    where
+      others : (g : Fid) → is_listed mentioned g ≡ false → parent_of n g ≡ cond (is_listed gone g) None (parent_of c g)
+      others g free =
+          let off = sym (all g) ∙ free in
+          ap (λ (x : CacheState). parent_of x g) (is ∙ mutated_changed c client rec makes)
+          ∙ ap parent_held (off_dirty (moved_in (moved_node rec.op) (taken_from c.holds (taken_below c (taken_out rec.op)))) (fids_of rec.op) g off
+          ∙ off_moved (taken_from c.holds (taken_below c (taken_out rec.op))) rec.op g off ∙ taken_at c.holds (taken_below c (taken_out rec.op)) g)
+          ∙ taken_parent (is_listed (taken_below c (taken_out rec.op)) g) (map.get c.holds g) ∙ ap (λ b. cond b None (parent_of c g)) (sym (goes g))
+
+      new : (g : Fid) (b : Bool) → is_listed mentioned g ≡ b → parent_of n g ≡ cond b (parent_of n g) (cond b None (cond (is_listed gone g) None (parent_of c g)))
+      new g true e = refl
+      new g false e = others g e
