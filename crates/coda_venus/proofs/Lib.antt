@@ -17,3 +17,4 @@ pub mod DirtyBelow
 pub mod OwnRefusals
 pub mod Performed
 pub mod Entered
+pub mod Reached

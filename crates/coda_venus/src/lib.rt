@@ -14,6 +14,7 @@ mod law;
 mod looking;
 mod operating;
 mod parents;
+mod reaching;
 mod recovery;
 mod refused;
 mod seen;
