@@ -18,3 +18,4 @@ pub mod OwnRefusals
 pub mod Performed
 pub mod Entered
 pub mod Reached
+pub mod Followed

@@ -9,6 +9,7 @@ mod calls;
 mod client;
 mod done;
 mod entries;
+mod following;
 mod fronts;
 mod law;
 mod looking;
