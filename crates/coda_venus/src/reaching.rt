@@ -10,8 +10,8 @@ use indexmap::IndexSet;
 use std::alloc::AllocError;
 
 impl Client {
-    // Whether going up from an object, by the directories that bind it, leads to the root: then some path leads down that way. Each step is
-    // a look-up, where no other name is bound to what it goes up from.
+    // Whether going up from an object, by the directories that bind it, leads to the root: then some path leads down that way. A step
+    // is a look-up, where no other name was bound to what it goes up from, and else a search of what is held.
     fn leads_up(&self, volume: u32, fid: Fid) -> bool
         ensures { result ≡ true → IsReached self.now.nodes volume fid }
     {
@@ -84,8 +84,8 @@ impl Client {
         Ok(met)
     }
 
-    /// Whether some path leads to an object. It costs the depth, where what is bound on the way up is bound once and leads to the root;
-    /// else all that is held is searched.
+    /// Whether some path leads to an object. It costs the depth, where what is bound on the way up is bound once and leads to the
+    /// root; else all that is held is searched.
     pub fn reaches(&self, volume: u32, fid: Fid) -> Result<bool, AllocError>
         ensures { IfOk result (λ b. (b ≡ true) ↔ IsReached self.now.nodes volume fid) }
     {
