@@ -25,3 +25,5 @@ pub mod Operations
 pub mod Bindings
 pub mod Fetches
 pub mod Children
+pub mod Reached
+pub mod Followed

@@ -4,6 +4,7 @@ pub mod Looking
 pub mod State
 pub mod Times
 pub mod Accepting
+pub mod Reaching
 pub mod History
 pub mod Code
 pub mod Operating

@@ -6,8 +6,9 @@ use Rattle.coda_fid.specs.declared.fid.Fid.{Fid}
 use Rattle.coda_fid.specs.declared.op.Over.{Over}
 use Rattle.coda_fid.specs.declared.op.Op.{Op}
 use Rattle.coda_fid.specs.declared.op.Op.TheVariants.{Create, Mkdir, Symlink, Store, Setattr, Remove, Rmdir, Rename}
+use Rattle.coda_tree.specs.declared.node.Node.{Node}
 use Rattle.coda_tree.specs.Bindings.{Name, Bindings}
-use Rattle.coda_tree.specs.Volume.{Nodes, has}
+use Rattle.coda_tree.specs.Volume.{Nodes, bindings, has}
 use Rattle.coda_venus.specs.Accepting.{Sight, new_under, store_at, setattr_at, remove_at, rmdir_at, bound_at, move_to, accept}
 use Rattle.coda_venus.specs.Ask.{Asked, too_big, too_long}
 use Rattle.coda_venus.specs.Held.{Held}
@@ -58,7 +59,19 @@ ArePlaced m volume (Remove dir name fid pre) = IsReached m volume dir
 ArePlaced m volume (Rmdir dir name fid pre) = IsReached m volume dir
 ArePlaced m volume (Rename from_dir from to_dir to fid over) = IsReached m volume from_dir × IsReached m volume to_dir
 
--- what a directory binds and a client holds was gathered behind other objects
+-- an object was put behind others, if it is held and isn't among them
+pub record Meets (m : Nodes) (old : List Fid) (fid : Fid) (new : List Fid) : Type 0 where
+  pub more : List Fid
+  pub behind : new ≡ old ++ more
+  pub only : (other : Fid) → Contains more other → (other ≡ fid) × (has m fid ≡ true)
+  pub there : has m fid ≡ true → Contains new fid
+
+-- what a node binds, where there is one
+abbrev pub bound_by : Option Node → Bindings
+bound_by None = map.empty
+bound_by (Some node) = bindings node.kind
+
+-- what entries bind and a client holds was put behind other objects
 pub record Gathers (m : Nodes) (old : List Fid) (entries : Bindings) (new : List Fid) : Type 0 where
   pub more : List Fid
   pub behind : new ≡ old ++ more

@@ -19,6 +19,7 @@ mod operating;
 mod parents;
 mod recover;
 mod recovering;
+mod reaching;
 mod recovery;
 mod refused;
 mod seen;
