@@ -1,5 +1,5 @@
 -- Whether an object is bound at some name, found name by name.
-use Rattle.std.proofs.Common.{◌≡◌, ℕ, zero, suc, cond, ◌||◌, Bool, true, false, List, [], ◌∷◌, take, length, ◌≤◌, arith, Option, Some, None, refl, sym, ap, ◌∙◌, subst}
+use Rattle.std.proofs.Common.{◌≡◌, ℕ, zero, suc, cond, ◌||◌, Bool, true, false, List, [], ◌∷◌, take, length, ◌≤◌, arith, Some, None, refl, sym, ap, ◌∙◌}
 use Rattle.std.specs.Prelude.{slice_get}
 use Rattle.std.specs.List.{list_any}
 use Rattle.std.specs.Ordering.{eq_by_cmp}

@@ -1,8 +1,7 @@
 -- What was fetched may follow, and can be spelled.
-use Rattle.std.proofs.Common.{◌≡◌, ℕ, ◌<◌, ◌⊎◌, true, false, List, [], ◌∷◌, Option, Some, None, is_some, Result, Ok, Err, refl, sym, ap, ◌∙◌, subst, inl, inr}
+use Rattle.std.proofs.Common.{◌≡◌, true, false, List, [], ◌∷◌, Option, Some, None, is_some, Result, Ok, Err, refl, sym, ap, ◌∙◌, subst, inl, inr}
 use Rattle.std.specs.Prelude.{IsSome, OnOk, OnErr}
 use Rattle.std.specs.FinMap as map
-use Rattle.coda_fid.specs.Fid.{root_of}
 use Rattle.coda_fid.specs.declared.fid.Fid.{Fid}
 use Rattle.coda_tree.specs.declared.node.Node.{Node}
 use Rattle.coda_tree.specs.declared.node.NodeKind.{NodeKind}
@@ -22,7 +21,7 @@ use Rattle.coda_spelling.specs.Spelled.{AreSpelled}
 use Rattle.coda_spelling.proofs.SpelledParts.{both_true}
 use Rattle.coda_venus.specs.Code.{IsClient, held_of}
 use Rattle.coda_venus.specs.Held.{Held}
-use Rattle.coda_venus.specs.History.{Payload, IsDirty, IsParent, MayEnter, MayFollow, IsHistory, state_of}
+use Rattle.coda_venus.specs.History.{Payload, IsDirty, IsParent, MayFollow, state_of}
 use Rattle.coda_venus.specs.Keeping.{IsMissed, parent_for_of, parent_for}
 use Rattle.coda_venus.specs.State.{ClientState}
 use Rattle.coda_venus.specs.declared.client.Client.{Client}
@@ -62,10 +61,13 @@ pub parent_fits : (held : Held) (fid : Fid) → IsMissed held.nodes fid → IsPa
 parent_fits held fid missed = by (map.get held.parents fid) refl
   where
     bound : (o : Option Fid) → map.get held.parents fid ≡ None → parent_of held.nodes fid ≡ o → IsParent held fid o
-    bound None own at = (own, elim missed.place [
-      | inl root ↦ inr root
-      | inr some ↦ (let no : false ≡ true = ap is_some (sym at) ∙ some in cc)
-    ])
+    bound None own at = (
+      own,
+      elim missed.place [
+        | inl root ↦ inr root
+        | inr some ↦ (let no : false ≡ true = ap is_some (sym at) ∙ some in cc)
+      ],
+    )
     bound (Some dir) own at = let b = parent_sound held.nodes fid dir at in inr (missed.absent, binds_at held.nodes dir b.0 fid b.1, b)
 
     by : (o : Option Fid) → map.get held.parents fid ≡ o → IsParent held fid (parent_for_of o held.nodes fid)

@@ -1,11 +1,11 @@
 -- An operation that the journal has may follow exactly where acceptance makes it of some ask, and it is the next of its log.
-use Rattle.std.proofs.Common.{◌≡◌, ℕ, ◌+◌, ◌≤◌, ◌<◌, ◌++◌, true, arith, Ok, refl, sym, ap, ◌∙◌, subst}
+use Rattle.std.proofs.Common.{◌≡◌, ℕ, ◌+◌, ◌++◌, true, arith, Ok, refl, sym, subst}
 use Rattle.std.specs.BTreeMap as tree
 use Rattle.std.specs.Ordering.{nat_cmp}
 use Rattle.coda_fid.specs.declared.op.Record.{Record}
 use Rattle.coda_cancel.specs.Cancel.{add}
 use Rattle.coda_cancel.specs.Weights.{fits}
-use Rattle.coda_venus.specs.Accepting.{Sight, sight_of, accept}
+use Rattle.coda_venus.specs.Accepting.{Sight, accept}
 use Rattle.coda_venus.specs.Code.{IsClient, IsNextOf, MayPerform, volume_in, sight}
 use Rattle.coda_venus.specs.History.{MayOperate}
 use Rattle.coda_venus.specs.Operating.{MayBegin}

@@ -1,5 +1,5 @@
 -- Payloads that are read as a history, one after the other.
-use Rattle.std.proofs.Common.{◌≡◌, ℕ, suc, ◌+◌, ◌*◌, ◌-◌, ◌^◌, ◌<◌, ◌≤◌, min, List, [], ◌∷◌, ◌++◌, length, take, drop, refl, sym, ap, ◌∙◌, subst, append-nil, append_assoc, arith}
+use Rattle.std.proofs.Common.{◌≡◌, ℕ, suc, ◌+◌, ◌-◌, ◌^◌, ◌<◌, min, List, [], ◌∷◌, ◌++◌, length, take, drop, refl, sym, ap, ◌∙◌, subst, append-nil, arith}
 use Rattle.std.proofs.lemmas.List.{length-append}
 use Rattle.std.proofs.Math.Seq.{take-suc, split_at}
 use Rattle.std.specs.Prelude.{Result, Err, get_or}
@@ -9,14 +9,11 @@ use Rattle.coda_journal.specs.Lengths.{length_bytes}
 use Rattle.coda_journal.specs.declared.header.Header.{Header}
 use Rattle.coda_journal.specs.declared.mounting.MountFault.{MountFault}
 use Rattle.coda_journal.specs.declared.mounting.MountFault.TheVariants.{Foreign}
-use Rattle.coda_journal.proofs.Lengths.{Spells as WidthSpells, spells_4}
-use Rattle.coda_record.specs.Entries.{client_payload}
-use Rattle.coda_record.specs.Form.{four}
-use Rattle.coda_record.specs.Spelling.{Spells}
-use Rattle.coda_venus.specs.State.{ClientState, new_client, client_after_all}
+use Rattle.coda_journal.proofs.Lengths.{spells_4}
+use Rattle.coda_venus.specs.State.{ClientState, new_client}
 use Rattle.coda_venus.specs.Code.{IsClient}
 use Rattle.coda_venus.specs.declared.client.Client.{Client}
-use Rattle.coda_venus.specs.History.{Payload, payload_of, payloads_of, state_of, MayEnterAll, MayFollow, IsHistory}
+use Rattle.coda_venus.specs.History.{payloads_of, state_of}
 use Rattle.coda_venus.specs.Entering.{Enters, IsUnfit, AreEntered, Breaks}
 use Rattle.coda_venus.proofs.Growing.{payloads_push, history_push}
 use Rattle.coda_venus.proofs.KeptLogs.{state_push}

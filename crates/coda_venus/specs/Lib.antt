@@ -12,6 +12,5 @@ pub mod Standing
 pub mod Appending
 pub mod Keeping
 pub mod Laws
-pub mod Reaching
 pub mod Recovering
 pub mod Entering

@@ -12,7 +12,7 @@ use Rattle.coda_record.specs.Entries.{client_payload}
 use Rattle.coda_record.specs.Form.{four}
 use Rattle.coda_record.specs.Spelling.{Spells}
 use Rattle.coda_venus.specs.History.{Payload, payloads_of, MayFollow, IsHistory}
-use Rattle.coda_venus.specs.Standing.{IsUp, ReadsAsHistory}
+use Rattle.coda_venus.specs.Standing.{IsUp}
 use Rattle.coda_venus.specs.declared.venus.Venus.{Venus}
 
 -- The client is up with the history that the disk read as, and so many payloads.

@@ -100,9 +100,7 @@ impl Client {
     {
         let cached = self.nodes.get(fid).is_some();
         match parent {
-            None => {
-                self.parents.get(fid).is_none() && (cached || fid == Fid::root(fid.volume))
-            }
+            None => { self.parents.get(fid).is_none() && (cached || fid == Fid::root(fid.volume)) }
             Some(dir) => {
                 self.parents.get(fid) == Some(dir) || (!cached && self.is_bound_in(dir, fid))
             }
@@ -154,12 +152,7 @@ impl Client {
     /// # Errors
     ///
     /// `Misfit` exactly where it can't follow, and `Memory`; then all is as it was.
-    pub fn enter_fetched(
-        &mut self,
-        fid: Fid,
-        parent: Option<Fid>,
-        node: Node,
-    ) -> Result<(), Unfit>
+    pub fn enter_fetched(&mut self, fid: Fid, parent: Option<Fid>, node: Node) -> Result<(), Unfit>
         ensures ok { (c : ClientState) → IsClient c self.old → OnOk result (MayEnter c (FetchedEntry fid parent node)) }
         ensures leaves { (c : ClientState) → IsClient c self.old → OnOk result (IsClient (client_after c (FetchedEntry fid parent node)) self.new) }
         ensures misfit { (c : ClientState) → IsClient c self.old → result ≡ Err Unfit.Misfit → ¬ MayEnter c (FetchedEntry fid parent node) }

@@ -60,12 +60,7 @@ impl<D: Disk> Venus<D> {
     ghost use Rattle.coda_venus.specs.Standing.{IsUp};
 
     // Keeps an object that was fetched. The payload is made, and its room tested, before what is held changes.
-    fn keep_fetched(
-        &mut self,
-        fid: Fid,
-        parent: Option<Fid>,
-        node: Node,
-    ) -> Result<(), Refused>
+    fn keep_fetched(&mut self, fid: Fid, parent: Option<Fid>, node: Node) -> Result<(), Refused>
         requires up { self.old.down ≡ false }
         requires node { HasSpelling (a_node four) node }
         requires absent { map.get self.old.client.nodes fid ≡ None }

@@ -22,11 +22,7 @@ impl<D: Disk> Venus<D> {
     /// The disk is given back. `Foreign` where it holds no journal under this header, or a payload that can't follow those before
     /// it, with the place of its gate, and never for a disk on which clients with this header alone wrote; `DiskFault` where a call
     /// of the disk was refused; `Memory`.
-    pub fn recover(
-        alloc: Global,
-        disk: D,
-        header: &Header,
-    ) -> Result<(Venus<D>, u64), Unmounted<D>>
+    pub fn recover(alloc: Global, disk: D, header: &Header) -> Result<(Venus<D>, u64), Unmounted<D>>
         requires header { IsHeader header.now }
         requires kind { header.now.kind ≡ OfClient }
         ensures ok { (D.told disk).honest → IfOk result (λ r. Recovered D.told header.now disk r.0 r.1) }

@@ -1,4 +1,4 @@
-use Rattle.std.proofs.Common.{arith, ◌≡◌, ◌<◌}
+use Rattle.std.proofs.Common.{arith}
 use Rattle.coda_spelling.proofs.SpelledParts.{fid_spelled}
 use Rattle.coda_venus.proofs.installing.has_spelling.Goals as goal
 

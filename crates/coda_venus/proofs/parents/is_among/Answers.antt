@@ -1,4 +1,4 @@
-use Rattle.std.proofs.Common.{◌≡◌, ◌≢◌, ◌∷◌, true, false, Some, sym, ap, ◌∙◌}
+use Rattle.std.proofs.Common.{◌≡◌, true, false, Some, sym, ap, ◌∙◌}
 use Rattle.coda_fid.specs.Fid.{same_fid}
 use Rattle.coda_cancel.proofs.Keys.{fid_true, fid_same}
 use Rattle.coda_venus.proofs.Children.{rest_distinct, kept_in_all, passed_over}

@@ -1,4 +1,3 @@
-use Rattle.std.proofs.Common.{◌≡◌, true, false}
 use Rattle.coda_venus.specs.Code.{IsClient}
 use Rattle.coda_venus.proofs.Entered.{on_err}
 use Rattle.coda_venus.proofs.Operations.{follows, is_accepted, is_next, begins, performs}

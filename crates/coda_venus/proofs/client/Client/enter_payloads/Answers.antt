@@ -1,10 +1,9 @@
-use Rattle.std.proofs.Common.{rules, arith, ap, sym, subst, ◌∙◌, ◌≡◌, ◌+◌, ◌<◌, ◌^◌, ◌-◌, min, List, ℕ, suc, ◌∷◌, ◌++◌, [], length, take, drop}
+use Rattle.std.proofs.Common.{rules, ap, sym, subst, ◌∙◌, ◌≡◌, ◌+◌, ◌^◌, ◌-◌, min, List, ℕ, suc, length, take, drop}
 use Rattle.std.specs.Int.{w32}
 use Rattle.coda_journal.specs.Entries.{blocks}
-use Rattle.coda_journal.specs.declared.header.Header.{Header}
 use Rattle.coda_venus.specs.History.{state_of}
 use Rattle.coda_venus.specs.Entering.{AreEntered, IsUnfit, Enters}
-use Rattle.coda_venus.proofs.Reading.{none_entered, entered_push, breaks_at, place_push, one_more, parted, foreign_place}
+use Rattle.coda_venus.proofs.Reading.{entered_push, breaks_at, place_push, one_more, parted, foreign_place}
 use Rattle.coda_venus.proofs.client.Client.enter_payloads.Goals as goal
 
 pub returns-in-Err-Misfit-clause-breaks : goal.returns-in-Err-Misfit-clause-breaks
@@ -26,9 +25,9 @@ loop-payload-preserved c =
     let more = one_more payloads i payload c.loop-payload-test.true c.payload-item.is in
     let place : c.saturating_add-place.result ≡ min (c.loop-payload.place + (5 + length payload)) (2 ^ 64 - 1) = c.saturating_add-place.ensures ∙ ap (λ (n : ℕ). min (c.loop-payload.place + (5 + n)) (2 ^ 64 - 1)) c.len.ensures.count in (
       λ header fresh.
-      let are = c.loop-payload.invariant.0 header fresh in
-      let s = state_of header are.history in
-      subst (λ (ps : List (List ℕ)). AreEntered header ps c.enter_payload.new.self) (sym more)
+          let are = c.loop-payload.invariant.0 header fresh in
+          let s = state_of header are.history in
+          subst (λ (ps : List (List ℕ)). AreEntered header ps c.enter_payload.new.self) (sym more)
           (entered_push header (take i payloads) payload c.loop-payload.self c.enter_payload.new.self are (subst (λ (p : List ℕ). Enters s p c.enter_payload.new.self) c.bytes.ensures (c.in-Ok.ensures.ok s are.leaves))),
       place ∙ place_push c.args.start c.loop-payload.place (take i payloads) payload c.loop-payload.invariant.1 ∙ sym (ap (λ (ps : List (List ℕ)). min (c.args.start + length (blocks w32 ps)) (2 ^ 64 - 1)) more),
     )

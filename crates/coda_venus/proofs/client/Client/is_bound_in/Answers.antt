@@ -1,4 +1,4 @@
-use Rattle.std.proofs.Common.{rules, ◌≡◌, None, Some, true, sym, ap, subst, ◌∙◌}
+use Rattle.std.proofs.Common.{◌≡◌, None, Some, true, sym, subst, ◌∙◌}
 use Rattle.coda_fid.specs.Fid.{same_fid}
 use Rattle.coda_fid.specs.declared.fid.Fid.{Fid}
 use Rattle.coda_tree.specs.Bindings.{Name}

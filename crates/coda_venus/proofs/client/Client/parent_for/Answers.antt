@@ -1,7 +1,5 @@
-use Rattle.std.proofs.Common.{rules, ◌≡◌, None, Some, Option, sym, ap, subst, ◌∙◌}
+use Rattle.std.proofs.Common.{◌≡◌, None, sym, ap, subst, ◌∙◌}
 use Rattle.std.specs.FinMap as map
-use Rattle.coda_fid.specs.declared.fid.Fid.{Fid}
-use Rattle.coda_tree.specs.Volume.{parent_of}
 use Rattle.coda_venus.specs.Code.{held_of}
 use Rattle.coda_venus.specs.History.{IsParent}
 use Rattle.coda_venus.specs.Keeping.{parent_for_of}

@@ -1,4 +1,4 @@
-use Rattle.std.proofs.Common.{ap, sym, subst, ◌∙◌, ◌≡◌, Option}
+use Rattle.std.proofs.Common.{sym, subst, ◌∙◌, ◌≡◌}
 use Rattle.std.specs.Prelude.{IsSome}
 use Rattle.std.specs.FinMap as map
 use Rattle.coda_venus.specs.Held.{Held, Parents}

@@ -1,4 +1,4 @@
-use Rattle.std.proofs.Common.{arith, sym, ◌∙◌, refl, Some, ◌≤◌}
+use Rattle.std.proofs.Common.{arith, sym, ◌∙◌, refl, Some}
 use Rattle.std.proofs.lemmas.Bool.{leb-true}
 use Rattle.coda_venus.specs.Code.{volume_in}
 use Rattle.coda_venus.proofs.volume_log.VolumeLog.is_next.Goals as goal
