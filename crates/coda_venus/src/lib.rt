@@ -24,8 +24,6 @@ mod recovery;
 mod refused;
 mod seen;
 mod settling;
-#[cfg(test)]
-mod tests;
 mod venus;
 mod volume_log;
 
