@@ -9,3 +9,5 @@ mod disk;
 mod journal;
 #[cfg(test)]
 mod replica;
+#[cfg(test)]
+mod venus;

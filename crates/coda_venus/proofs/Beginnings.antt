@@ -1,5 +1,5 @@
 -- What an operation that has begun leaves, once the rest is done or it is undone.
-use Rattle.std.proofs.Common.{◌≡◌, ◌≢◌, ℕ, List, Option, Some, None, option_map, refl, sym, ap, ◌∙◌, subst, inl, inr}
+use Rattle.std.proofs.Common.{◌≡◌, ℕ, List, Option, Some, None, option_map, refl, sym, ap, ◌∙◌, subst, inl, inr}
 use Rattle.std.specs.Prelude.{IsSome, IfOk, Result, Ok, Err}
 use Rattle.std.specs.FinMap as map
 use Rattle.coda_fid.specs.declared.fid.Fid.{Fid}
@@ -12,13 +12,13 @@ use Rattle.coda_fid.specs.declared.fid.Sid.{Sid}
 use Rattle.coda_fid.proofs.Fids.{exact_fids, fids_total}
 use Rattle.coda_tree.specs.declared.node.Node.{Node}
 use Rattle.coda_tree.specs.Bindings.{Name}
-use Rattle.coda_tree.specs.Volume.{Nodes, bindings, child, child_of, IsDir, IsDirAt, bind_in, unbind_in, bound, unbound, additions, edited_all, added, detached, moved, replaced}
-use Rattle.coda_tree.proofs.Order.{fid_cases, get_here, get_else, gone_here, gone_else, insert_removed, insert_apart}
+use Rattle.coda_tree.specs.Volume.{Nodes, bindings, child, child_of, IsDirAt, bind_in, unbind_in, bound, unbound, edited_all, added, detached, moved, replaced}
+use Rattle.coda_tree.proofs.Order.{fid_cases, get_here, get_else, insert_removed, insert_apart}
 use Rattle.coda_tree.proofs.Changes.{at_changed, off_changed, bind_undone, dir_node, dir_changed, detached_added, dir_added}
 use Rattle.coda_tree.proofs.Moved.{moved_apart}
-use Rattle.coda_certify.specs.Replay.{MayCreate, MayRename, effects, applied, sid_of, empty_file, empty_dir, new_link}
-use Rattle.coda_venus.specs.Held.{Parents, Held, parents_after, without_over, held_after_operation}
-use Rattle.coda_venus.specs.Operating.{IsOther, MayMove, MayBegin, restored, finished, undone, MayEnd, HasBegun}
+use Rattle.coda_certify.specs.Replay.{MayCreate, effects, applied, sid_of, empty_file, empty_dir, new_link}
+use Rattle.coda_venus.specs.Held.{Parents, Held, parents_after}
+use Rattle.coda_venus.specs.Operating.{MayMove, restored, HasBegun}
 use Rattle.coda_venus.specs.declared.begun.Begun.{Begun}
 use Rattle.coda_venus.specs.declared.begun.Begun.TheVariants.{Made, Content, Attributes, Leaving, Moving, Replacing}
 

@@ -1,12 +1,11 @@
 -- What is mentioned below an object is found record by record.
-use Rattle.std.proofs.Common.{◌≡◌, ◌||◌, ◌&&◌, not, cond, Bool, true, false, List, [], ◌∷◌, Option, Some, None, is_some, refl, sym, ap, ◌∙◌, subst, inl, inr}
+use Rattle.std.proofs.Common.{◌≡◌, ◌||◌, ◌&&◌, not, cond, Bool, true, false, List, [], ◌∷◌, is_some, refl, sym, ap, ◌∙◌}
 use Rattle.std.specs.List.{list_any}
 use Rattle.std.specs.Ordering.{is_eq, eq_by_cmp}
 use Rattle.std.specs.FinMap as map
 use Rattle.coda_fid.specs.Fid.{same_fid, fid_cmp}
-use Rattle.coda_fid.specs.Op.{fids_of, mentions}
+use Rattle.coda_fid.specs.Op.{fids_of}
 use Rattle.coda_fid.specs.declared.fid.Fid.{Fid}
-use Rattle.coda_fid.specs.declared.op.Op.{Op}
 use Rattle.coda_fid.specs.declared.op.Record.{Record}
 use Rattle.coda_fid.proofs.Fids.{exact_fids, fids_total}
 use Rattle.coda_tree.proofs.Booleans.{and_true, and_both, or_true, eq_true}

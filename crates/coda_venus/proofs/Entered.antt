@@ -21,7 +21,6 @@ use Rattle.coda_venus.specs.Code.{IsLogAt, IsClient, held_of}
 use Rattle.coda_venus.specs.Operating.{finished, undone, HasBegun}
 use Rattle.coda_venus.specs.declared.begun.Begun.{Begun}
 use Rattle.coda_venus.specs.declared.client.Client.{Client}
-use Rattle.coda_venus.specs.declared.volume_log.VolumeLog.{VolumeLog}
 
 pub on_err : {A E : Type 0} (r : Result A E) (P : Type 0) → P → OnErr r P
 on_err (Ok x) P p = tt

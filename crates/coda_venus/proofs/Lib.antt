@@ -17,3 +17,13 @@ pub mod DirtyBelow
 pub mod OwnRefusals
 pub mod Performed
 pub mod Entered
+pub mod SpelledStates
+pub mod Reading
+pub mod Recoveries
+pub mod Taking
+pub mod Operations
+pub mod Bindings
+pub mod Fetches
+pub mod Children
+pub mod Reached
+pub mod Followed

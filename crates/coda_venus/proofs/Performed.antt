@@ -22,7 +22,7 @@ use Rattle.coda_record.specs.Spelling.{HasSpelling}
 use Rattle.coda_record.specs.Table as table
 use Rattle.coda_spelling.specs.Spelled.{IsSpelled, AreSpelled}
 use Rattle.coda_spelling.proofs.SpelledParts.{within, below}
-use Rattle.coda_venus.specs.Code.{IsVolumeLog, IsLogAt, IsClient, IsNextOf, MayPerform, held_of, creations_in, volume_in, sight}
+use Rattle.coda_venus.specs.Code.{IsLogAt, IsClient, IsNextOf, MayPerform, creations_in, volume_in, sight}
 use Rattle.coda_venus.specs.Operating.{IsOther, MayBegin}
 use Rattle.coda_venus.specs.State.{ClientVolume, ClientState}
 use Rattle.coda_venus.specs.declared.client.Client.{Client}

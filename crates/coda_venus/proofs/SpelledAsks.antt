@@ -19,7 +19,6 @@ use Rattle.coda_tree.specs.declared.node.NodeKind.TheVariants.{File, Link, Dir}
 use Rattle.coda_tree.specs.Bindings.{Name}
 use Rattle.coda_tree.specs.Volume.{child}
 use Rattle.coda_record.specs.Form.{two, four}
-use Rattle.coda_record.specs.Parts.{u16, u32}
 use Rattle.coda_record.specs.Spelling.{HasSpelling}
 use Rattle.coda_record.specs.Table as table
 use Rattle.coda_record.proofs.PartsAgree.{first_true, second_true}

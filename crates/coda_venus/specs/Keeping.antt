@@ -1,5 +1,5 @@
 -- What the calls of a client answer, and what they keep.
-use Rattle.std.specs.Prelude.{◌≡◌, ◌⊎◌, option_map, ◌<◌, ◌+◌, ℕ, nat_le, if◌then◌else◌, Bool, true, List, [], ◌∷◌, ◌++◌, length, Option, Some, None, Result, Ok, Err}
+use Rattle.std.specs.Prelude.{◌≡◌, ◌⊎◌, option_map, ◌<◌, ◌+◌, ℕ, nat_le, if◌then◌else◌, Bool, true, List, [], ◌∷◌, ◌++◌, length, Option, Some, None, IsSome, Result, Ok, Err}
 use Rattle.std.specs.Int.{w32}
 use Rattle.std.specs.FinMap as map
 use Rattle.coda_fid.specs.Fid.{root_of}
@@ -10,7 +10,7 @@ use Rattle.coda_tree.specs.declared.node.Node.{Node}
 use Rattle.coda_tree.specs.declared.node.NodeKind.{NodeKind}
 use Rattle.coda_tree.specs.declared.node.NodeKind.TheVariants.{File, Link, Dir}
 use Rattle.coda_tree.specs.Bindings.{Name}
-use Rattle.coda_tree.specs.Volume.{Nodes}
+use Rattle.coda_tree.specs.Volume.{Nodes, parent_of}
 use Rattle.coda_certify.specs.declared.verdict.Verdict.{Verdict}
 use Rattle.coda_cml.specs.Chunks.{freeze_refusal}
 use Rattle.coda_cml.specs.State.{LogState}
@@ -24,8 +24,9 @@ use Rattle.coda_journal.specs.Journal.{IsBeforeOrAfter}
 use Rattle.coda_journal.specs.declared.header.Header.{Header}
 use Rattle.coda_journal.specs.declared.journal.Journal.{Journal}
 use Rattle.coda_record.specs.declared.entry.ClientEntry.{ClientEntry}
-use Rattle.coda_record.specs.declared.entry.ClientEntry.TheVariants.{Op as OpEntry, Freeze, Settled}
+use Rattle.coda_record.specs.declared.entry.ClientEntry.TheVariants.{Op as OpEntry, Freeze, Settled, Fetched}
 use Rattle.coda_cml.specs.Steps.{settle_refusal}
+use Rattle.coda_venus.specs.Held.{Held}
 use Rattle.coda_venus.specs.Looking.{then_find, resolve}
 use Rattle.coda_venus.specs.Ask.{Asked, too_big, object_of}
 use Rattle.coda_venus.specs.Accepting.{sight_of, accept}
@@ -107,6 +108,23 @@ operate_due c time volume ask = then_find (operation c time volume ask) (λ rec.
 -- what is answered of an operation
 abbrev pub done_of : Record → Done
 done_of rec = record { number = rec.number; fid = object_of rec.op }
+
+-- the parent that an object gets which isn't cached yet: its own one where it has one, and else the first directory that binds it
+abbrev pub parent_for_of : Option Fid → Nodes → Fid → Option Fid
+parent_for_of None m fid = parent_of m fid
+parent_for_of (Some parent) m fid = Some parent
+
+abbrev pub parent_for : Held → Fid → Option Fid
+parent_for held fid = parent_for_of (map.get held.parents fid) held.nodes fid
+
+-- an object may be fetched: it isn't held, and is a volume's root or bound in a directory that is held
+pub record IsMissed (m : Nodes) (fid : Fid) : Type 0 where
+  pub absent : map.get m fid ≡ None
+  pub place : (fid ≡ root_of fid.volume) ⊎ IsSome (parent_of m fid)
+
+-- the object that was fetched
+abbrev pub fetched_due : ClientState → Fid → Node → Due
+fetched_due c fid node = Ok (Fetched fid (parent_for c.held fid) node ∷ [])
 
 -- ---- what a client shows
 

@@ -4,6 +4,7 @@ pub mod Looking
 pub mod State
 pub mod Times
 pub mod Accepting
+pub mod Reaching
 pub mod History
 pub mod Code
 pub mod Operating
@@ -11,3 +12,5 @@ pub mod Standing
 pub mod Appending
 pub mod Keeping
 pub mod Laws
+pub mod Recovering
+pub mod Entering

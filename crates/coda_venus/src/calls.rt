@@ -99,7 +99,7 @@ impl<D: Disk> Venus<D> {
     }
 
     // Adds a payload to the journal, which has room for it. After a fault the client is down.
-    fn write(&mut self, frame: &Frame) -> Result<(), Refused>
+    pub(crate) fn write(&mut self, frame: &Frame) -> Result<(), Refused>
         requires up { self.old.down ≡ false }
         requires room { self.old.journal.used + vec_len frame.now.bytes ≤ self.old.journal.area }
         ensures writes { (header : AskedHeader) (payloads : List (List ℕ)) (payload : List ℕ) → frame.now.bytes.items ≡ framed w32 payload

@@ -4,14 +4,19 @@ ghost use Rattle.std.specs.Int.{w32};
 ghost use Rattle.coda_journal.specs.Entries.{framed};
 ghost use Rattle.coda_record.specs.Form.{four};
 ghost use Rattle.coda_record.specs.Spelling.{HasSpelling};
+ghost use Rattle.coda_record.specs.Entries.{node as a_node};
 ghost use Rattle.coda_record.specs.Table.{op as an_op};
-ghost use Rattle.coda_record.specs.declared.entry.ClientEntry.TheVariants.{Op as OpEntry, Freeze as FreezeEntry, Settled as SettledEntry};
+ghost use Rattle.coda_record.specs.declared.entry.ClientEntry.TheVariants.{Op as OpEntry, Freeze as FreezeEntry, Settled as SettledEntry, Fetched as FetchedEntry};
 ghost use Rattle.coda_venus.specs.History.{payload_of};
 
 use coda_certify::Verdict;
-use coda_fid::Record;
+use coda_fid::{Fid, Record};
 use coda_journal::{Frame, Journal};
-use coda_record::writing::{put_record, put_u8, put_u32, put_u64, put_verdict};
+use coda_record::nodes::put_node;
+use coda_record::writing::{
+    put_fid, put_optional_fid, put_record, put_u8, put_u32, put_u64, put_verdict,
+};
+use coda_tree::Node;
 use std::alloc::{AllocError, Global};
 
 // The payload of an operation.
@@ -65,6 +70,26 @@ pub(crate) fn settled_frame(
     put_u32(&mut payload, volume)?;
     put_u64(&mut payload, number)?;
     put_verdict(&mut payload, verdict)?;
+    Frame::new(alloc, &payload)
+}
+
+// The payload of an object that was fetched.
+#[tactic(auto, unfolding(coda_record::specs::Entries::client_entry, coda_record::specs::Entries::client_payload))]
+pub(crate) fn fetched_frame(
+    alloc: Global,
+    fid: Fid,
+    parent: Option<Fid>,
+    node: &Node,
+) -> Result<Frame, AllocError>
+    requires { HasSpelling (a_node four) node.now }
+    ensures { IfOk result (λ f. f.bytes.items ≡ framed w32 (payload_of (FetchedEntry fid parent node.now ∷ []))) }
+{
+    let mut payload = Vec::new(alloc);
+    put_u32(&mut payload, 1)?;
+    put_u8(&mut payload, 5)?;
+    put_fid(&mut payload, fid)?;
+    put_optional_fid(&mut payload, parent)?;
+    put_node(&mut payload, node)?;
     Frame::new(alloc, &payload)
 }
 

@@ -5,21 +5,25 @@ mod accepting;
 mod ask;
 mod begun;
 mod below;
+mod caching;
 mod calls;
 mod client;
 mod done;
 mod entries;
+mod following;
 mod fronts;
+mod installing;
 mod law;
 mod looking;
 mod operating;
 mod parents;
+mod reaching;
+mod recover;
+mod recovering;
 mod recovery;
 mod refused;
 mod seen;
 mod settling;
-#[cfg(test)]
-mod tests;
 mod venus;
 mod volume_log;
 

@@ -1,5 +1,5 @@
 // The parents of what a client holds.
-ghost use Rattle.std.specs.Prelude.{◌≡◌, OnOk, OnErr, IsSome, Some, cond};
+ghost use Rattle.std.specs.Prelude.{◌≡◌, ◌≢◌, true, false, OnOk, OnErr, IsSome, Some, cond};
 ghost use Rattle.std.specs.HashMap as hash;
 ghost use Rattle.coda_fid.specs.Fid.{same_fid};
 ghost use Rattle.coda_fid.specs.declared.fid.Fid.{Fid};
@@ -41,6 +41,19 @@ fn set(parents: &mut HashMap<Fid, Fid>, fid: Fid, parent: Fid)
     }
 }
 
+// Whether an object is the parent of some other one.
+fn is_among(parents: &HashMap<Fid, Fid>, fid: Fid) -> bool
+    ensures yes { result ≡ true → (f : Fid) × (hash.get same_fid parents.now f ≡ Some fid) }
+    ensures no { result ≡ false → (f : Fid) → hash.get same_fid parents.now f ≢ Some fid }
+{
+    for (_, parent) in parents {
+        if *parent == fid {
+            return true;
+        }
+    }
+    false
+}
+
 impl ParentTable {
     ghost use Rattle.coda_venus.specs.Held.{below_within, is_below};
 
@@ -65,6 +78,14 @@ impl ParentTable {
         ensures { result ≡ map.get self.now fid }
     {
         self.parents.get(&fid).copied()
+    }
+
+    /// Whether an object is the parent of another one. It costs the number of parents.
+    pub fn is_parent(&self, fid: Fid) -> bool
+        ensures yes { result ≡ true → (f : Fid) × (map.get self.now f ≡ Some fid) }
+        ensures no { result ≡ false → (f : Fid) → map.get self.now f ≢ Some fid }
+    {
+        is_among(&self.parents, fid)
     }
 
     /// Gives an object a parent, in the place of the one that it has. Fails for want of memory alone, and then changes nothing.

@@ -1,12 +1,19 @@
 // How the entries of a journal become a client's state again, one by one.
-ghost use Rattle.std.specs.Prelude.{◌≡◌, OnOk, OnErr, IfSome, Ok, Err, None};
-ghost use Rattle.coda_record.specs.declared.entry.ClientEntry.TheVariants.{Freeze as FreezeEntry, Settled as SettledEntry, Giveup as GiveupEntry};
+ghost use Rattle.std.specs.Prelude.{◌≡◌, true, OnOk, OnErr, IfSome, Ok, Err, None};
+ghost use Rattle.std.specs.BTreeMap as tree;
+ghost use Rattle.std.specs.Ordering.{nat_cmp};
+ghost use Rattle.coda_record.specs.declared.entry.ClientEntry.TheVariants.{Op as OpEntry, Freeze as FreezeEntry, Settled as SettledEntry, Giveup as GiveupEntry};
+ghost use Rattle.coda_venus.specs.Code.{IsNextOf, volume_in};
+ghost use Rattle.coda_venus.specs.declared.recovery.Unfit.TheVariants.{Memory as NoMemory};
 ghost use Rattle.coda_venus.specs.History.{MayEnter, MayFreeze};
 ghost use Rattle.coda_venus.specs.Keeping.{next_chunk};
 ghost use Rattle.coda_venus.specs.State.{ClientState, client_after};
 
 use crate::client::Client;
+use crate::volume_log::VolumeLog;
 use coda_certify::Verdict;
+use coda_fid::Record;
+use std::alloc::AllocError;
 use thiserror::Error;
 
 /// Why an entry isn't taken up.
@@ -20,8 +27,48 @@ pub enum Unfit {
     Memory,
 }
 
+impl From<AllocError> for Unfit {
+    ghost from_gives = { λ _ e. e ≡ NoMemory };
+
+    fn from(_e: AllocError) -> Unfit {
+        Unfit::Memory
+    }
+}
+
 impl Client {
     ghost use Rattle.coda_venus.specs.Code.{IsClient};
+
+    // Whether an operation is the next of a volume's log, which has room for it.
+    fn is_next(&self, volume: u32, rec: &Record) -> bool
+        ensures yes { result ≡ true → IsNextOf (volume_in (tree.get nat_cmp self.now.logs volume)).log rec.now.time rec.now.op rec.now }
+        ensures no { IsNextOf (volume_in (tree.get nat_cmp self.now.logs volume)).log rec.now.time rec.now.op rec.now → result ≡ true }
+    {
+        match self.logs.get(&volume) {
+            Some(log) => log.is_next(rec),
+            None => VolumeLog::new(self.alloc).is_next(rec),
+        }
+    }
+
+    /// Takes up an operation that the journal has.
+    ///
+    /// # Errors
+    ///
+    /// `Misfit` exactly where it can't follow, and `Memory`; then all is as it was.
+    pub fn enter_operated(&mut self, volume: u32, rec: Record) -> Result<(), Unfit>
+        ensures ok { (c : ClientState) → IsClient c self.old → OnOk result (MayEnter c (OpEntry volume rec)) }
+        ensures leaves { (c : ClientState) → IsClient c self.old → OnOk result (IsClient (client_after c (OpEntry volume rec)) self.new) }
+        ensures misfit { (c : ClientState) → IsClient c self.old → result ≡ Err Unfit.Misfit → ¬ MayEnter c (OpEntry volume rec) }
+        ensures err { (c : ClientState) → IsClient c self.old → OnErr result (IsClient c self.new) }
+    {
+        if !self.is_next(volume, &rec) {
+            return Err(Unfit::Misfit);
+        }
+        if !self.accepts(volume, &rec.op)? {
+            return Err(Unfit::Misfit);
+        }
+        self.enter_operation(volume, rec)?;
+        Ok(())
+    }
 
     // A time and a window by which the next chunk of a volume is this one, where there are any.
     fn time_of(&self, volume: u32, number: u64, last: u64) -> Option<(u64, u64)>

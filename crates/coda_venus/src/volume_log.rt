@@ -23,7 +23,7 @@ const MOST_OPERATIONS: u64 = 4_294_967_295;
 const MOST_CHUNKS: u64 = 4_294_967_295;
 
 impl VolumeLog {
-    ghost use Rattle.std.specs.Prelude.{◌≡◌, ◌≢◌, ◌↔◌, ◌⊎◌, ◌<◌, ◌≤◌, ◌+◌, ◌++◌, false, OnOk, OnErr, IfOk, IfErr, IfSome, IsOk, Ok, Err, Some, None, [], option_map};
+    ghost use Rattle.std.specs.Prelude.{◌≡◌, ◌≢◌, ◌↔◌, ◌⊎◌, ◌<◌, ◌≤◌, ◌+◌, ◌++◌, true, false, OnOk, OnErr, IfOk, IfErr, IfSome, IsOk, Ok, Err, Some, None, [], option_map};
     ghost use Rattle.coda_cancel.specs.Cancel.{add};
     ghost use Rattle.coda_cancel.specs.Weights.{fits};
     ghost use Rattle.coda_venus.specs.State.{ClientVolume, new_volume, volume_after};
@@ -83,6 +83,17 @@ impl VolumeLog {
             return Err(Refused::JournalFull);
         }
         Ok(rec)
+    }
+
+    /// Whether an operation is the next of the log, which has room for it.
+    pub fn is_next(&self, rec: &Record) -> bool
+        ensures yes { result ≡ true → IsNextOf self.now.log rec.now.time rec.now.op rec.now }
+        ensures no { IsNextOf self.now.log rec.now.time rec.now.op rec.now → result ≡ true }
+    {
+        if self.is_full() {
+            return false;
+        }
+        rec.number == self.log.last() + 1 && self.has_room(rec)
     }
 
     /// Puts the next operation behind the log, for which it has room, and counts what that creates. Fails for want of memory alone.

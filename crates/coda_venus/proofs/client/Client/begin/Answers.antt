@@ -1,13 +1,8 @@
-use Rattle.std.specs.Prelude.{IfOk}
-use Rattle.std.proofs.Common.{Result, Ok, Err, rules, ap, sym, subst, ◌∙◌, ◌≡◌, Option, Some, None, refl}
-use Rattle.coda_fid.specs.declared.op.Op.TheVariants.{Rename}
-use Rattle.std.specs.FinMap as map
-use Rattle.coda_tree.specs.Volume.{bound}
-use Rattle.coda_certify.specs.Replay.{sid_of}
+use Rattle.std.proofs.Common.{sym, subst}
 use Rattle.coda_venus.specs.Code.{held_of}
 use Rattle.coda_venus.specs.Operating.{MayBegin, HasBegun}
 use Rattle.coda_venus.specs.declared.begun.Begun.{Begun}
-use Rattle.coda_venus.specs.declared.begun.Begun.TheVariants.{Content, Attributes, Leaving, Moving, Replacing}
+use Rattle.coda_venus.specs.declared.begun.Begun.TheVariants.{Content, Attributes, Leaving}
 use Rattle.coda_venus.proofs.Beginnings.{creation_ok, begun_ok, begun_create, begun_mkdir, begun_symlink, begun_store, begun_setattr, begun_remove, begun_rmdir}
 use Rattle.coda_venus.proofs.client.Client.begin.Goals as goal
 

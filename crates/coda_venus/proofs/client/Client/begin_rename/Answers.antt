@@ -1,5 +1,5 @@
 use Rattle.std.specs.Prelude.{IfOk}
-use Rattle.std.proofs.Common.{Result, Ok, Err, rules, ap, sym, subst, ◌∙◌, ◌≡◌, Option, Some, None, refl}
+use Rattle.std.proofs.Common.{Result, Ok, Err, rules, ap, subst, ◌∙◌, ◌≡◌, Option, Some, None}
 use Rattle.std.specs.FinMap as map
 use Rattle.coda_fid.specs.declared.op.Over.{Over}
 use Rattle.coda_fid.specs.declared.op.Op.TheVariants.{Rename}

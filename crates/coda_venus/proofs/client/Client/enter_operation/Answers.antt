@@ -1,4 +1,4 @@
-use Rattle.std.proofs.Common.{rules, ◌≡◌, refl, sym, ap, ◌∙◌, subst}
+use Rattle.std.proofs.Common.{◌≡◌, sym, ◌∙◌}
 use Rattle.coda_venus.specs.Code.{IsClient, held_of}
 use Rattle.coda_venus.proofs.Entered.{on_err, with_held, between, is_between, entered, returned}
 use Rattle.coda_venus.proofs.client.Client.enter_operation.Goals as goal

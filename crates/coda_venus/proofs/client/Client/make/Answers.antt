@@ -1,8 +1,6 @@
-use Rattle.std.proofs.Common.{ap, sym, subst, ◌∙◌, ◌≡◌, Option}
+use Rattle.std.proofs.Common.{sym, subst, ◌∙◌, ◌≡◌}
 use Rattle.std.specs.Prelude.{IsSome}
 use Rattle.std.specs.FinMap as map
-use Rattle.coda_fid.specs.declared.fid.Fid.{Fid}
-use Rattle.coda_tree.specs.Volume.{Nodes}
 use Rattle.coda_venus.specs.Held.{Held, Parents}
 use Rattle.coda_venus.specs.Operating.{restored}
 use Rattle.coda_venus.proofs.Beginnings.{put_back, put_some}

@@ -2,9 +2,8 @@ use Rattle.std.proofs.Common.{rules, refl, sym, subst}
 use Rattle.std.specs.Prelude.{OnOk, Result, Ok, Err}
 use Rattle.coda_plain.specs.Deeds.{Operated}
 use Rattle.coda_venus.specs.Code.{IsLogAt, IsVolumeLog, IsClient}
-use Rattle.coda_venus.specs.State.{ClientState, after_deed, volume_after}
+use Rattle.coda_venus.specs.State.{after_deed, volume_after}
 use Rattle.coda_venus.specs.declared.client.Client.{Client}
-use Rattle.coda_venus.specs.declared.volume_log.VolumeLog.{VolumeLog}
 use Rattle.coda_venus.proofs.OneLog.{with_log}
 use Rattle.coda_venus.proofs.client.Client.push.Goals as goal
 

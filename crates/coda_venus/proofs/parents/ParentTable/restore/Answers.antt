@@ -1,4 +1,4 @@
-use Rattle.std.proofs.Common.{◌≡◌, Option, IsSome, sym, ap, ◌∙◌, subst}
+use Rattle.std.proofs.Common.{Option, IsSome, sym, ap, ◌∙◌, subst}
 use Rattle.std.specs.FinMap as map
 use Rattle.coda_fid.specs.declared.fid.Fid.{Fid}
 use Rattle.coda_tree.proofs.Keyed.{get_keyed, keyed_put}

@@ -1,4 +1,4 @@
-use Rattle.std.proofs.Common.{rules, refl, ap, sym, subst, ◌∙◌, ◌≡◌, ◌≤◌, [], ◌∷◌}
+use Rattle.std.proofs.Common.{rules, refl, ap, sym, subst, ◌∙◌, ◌≡◌, [], ◌∷◌}
 use Rattle.std.specs.Prelude.{Ok, Err, Some, option_map}
 use Rattle.coda_venus.specs.declared.done.Done.{Done}
 use Rattle.std.specs.Result.{result_ok}

@@ -1,9 +1,8 @@
-use Rattle.std.proofs.Common.{rules, ◌≡◌, ◌+◌, true, if◌then◌else◌, Ok, Err, refl, sym, ap, ◌∙◌, arith}
+use Rattle.std.proofs.Common.{◌≡◌, ◌+◌, true, if◌then◌else◌, Ok, Err, refl, sym, ap, ◌∙◌, arith}
 use Rattle.coda_fid.specs.declared.op.Record.{Record}
 use Rattle.coda_venus.specs.State.{ClientVolume}
-use Rattle.coda_venus.specs.Code.{has_room, is_full, volume_in}
+use Rattle.coda_venus.specs.Code.{has_room, is_full}
 use Rattle.coda_venus.specs.Keeping.{record_of}
-use Rattle.coda_venus.specs.declared.refused.Refused.{Refused}
 use Rattle.coda_venus.specs.declared.refused.Refused.TheVariants.{LogFull, JournalFull}
 use Rattle.coda_venus.proofs.volume_log.VolumeLog.next_record.Goals as goal
 

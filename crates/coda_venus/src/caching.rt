@@ -1,0 +1,192 @@
+// What the journal has of objects that were fetched into a client's cache, and of those that were dropped from it.
+ghost use Rattle.std.specs.Prelude.{◌≡◌, ◌≢◌, true, false, None, Some, Err, OnOk, OnErr, IsSome};
+ghost use Rattle.std.specs.BTreeMap as tree;
+ghost use Rattle.std.specs.FinMap as map;
+ghost use Rattle.std.specs.Ordering.{nat_cmp};
+ghost use Rattle.coda_tree.specs.Bindings.{Name as AName};
+ghost use Rattle.coda_tree.specs.Volume.{child, IsDirAt};
+ghost use Rattle.coda_cancel.specs.Dropping.{mentioning};
+ghost use Rattle.coda_cml.specs.Steady.{any_record};
+ghost use Rattle.coda_record.specs.declared.entry.ClientEntry.TheVariants.{Fetched as FetchedEntry, Dropped as DroppedEntry};
+ghost use Rattle.coda_venus.specs.Accepting.{is_mentioned};
+ghost use Rattle.coda_venus.specs.Code.{volume_in};
+ghost use Rattle.coda_venus.specs.Held.{held_after_fetch};
+ghost use Rattle.coda_venus.specs.History.{IsParent, MayEnter};
+ghost use Rattle.coda_venus.specs.State.{ClientState, client_after};
+
+use crate::client::Client;
+use crate::recovery::Unfit;
+use coda_cancel::LentRecords;
+use coda_fid::Fid;
+use coda_tree::{Entries, Node, NodeKind};
+use std::alloc::AllocError;
+
+// Whether one of some records mentions an object.
+fn any_mentions(fid: Fid, mut records: LentRecords<'_>) -> bool
+    ensures { result ≡ any_record (mentioning fid) records.entry }
+{
+    for _ in 0..records.len() {
+        let Some(rec) = records.take_first() else {
+            return false;
+        };
+        if rec.op.mentions(fid) {
+            return true;
+        }
+    }
+    false
+}
+
+// Whether an object is bound at one of some names.
+fn is_bound(entries: &Entries, fid: Fid) -> bool
+    ensures yes { result ≡ true → (name : AName) × (map.get entries.now name ≡ Some fid) }
+    ensures no { result ≡ false → (name : AName) → map.get entries.now name ≢ Some fid }
+{
+    for index in 0..entries.len() {
+        if let Some((_, bound)) = entries.at(index) {
+            if bound == fid {
+                return true;
+            }
+        }
+    }
+    false
+}
+
+impl Client {
+    ghost use Rattle.coda_venus.specs.Code.{IsClient, held_of};
+
+    // Whether a record of the log of its volume mentions an object. It costs the records of the log.
+    fn is_dirty(&self, fid: Fid) -> bool
+        ensures { result ≡ is_mentioned (volume_in (tree.get nat_cmp self.now.logs fid.volume)) fid }
+    {
+        match self.logs.get(&fid.volume) {
+            Some(log) => {
+                let (chunk, records) = log.log.records();
+                any_mentions(fid, LentRecords::of(chunk)) || any_mentions(fid, records)
+            }
+            None => false,
+        }
+    }
+
+    // Whether an object that is held binds another, at whatever name. It costs its names.
+    fn holds_in(&self, dir: Fid, fid: Fid) -> bool
+        ensures yes { result ≡ true → (name : AName) × (child self.now.nodes dir name ≡ Some fid) }
+        ensures no { result ≡ false → (name : AName) → child self.now.nodes dir name ≢ Some fid }
+    {
+        match self.nodes.get(dir) {
+            Some(node) => match &node.kind {
+                NodeKind::Dir(entries) => is_bound(entries, fid),
+                NodeKind::File(_) => false,
+                NodeKind::Link(_) => false,
+            },
+            None => false,
+        }
+    }
+
+    // Whether a directory that is held binds an object. It costs the directory's names only where another one may bind it too.
+    fn is_bound_in(&self, dir: Fid, fid: Fid) -> bool
+        ensures yes { result ≡ true → IsDirAt self.now.nodes dir × ((name : AName) × (child self.now.nodes dir name ≡ Some fid)) }
+        ensures no { result ≡ false → (name : AName) → child self.now.nodes dir name ≢ Some fid }
+    {
+        match self.nodes.binder(fid) {
+            Some(binder) => binder == dir || self.holds_in(dir, fid),
+            None => false,
+        }
+    }
+
+    // Whether this is the parent that an object is cached with.
+    fn is_parent(&self, fid: Fid, parent: Option<Fid>) -> bool
+        ensures yes { result ≡ true → IsParent (held_of self.now) fid parent }
+        ensures no { IsParent (held_of self.now) fid parent → result ≡ true }
+    {
+        let cached = self.nodes.get(fid).is_some();
+        match parent {
+            None => { self.parents.get(fid).is_none() && (cached || fid == Fid::root(fid.volume)) }
+            Some(dir) => {
+                self.parents.get(fid) == Some(dir) || (!cached && self.is_bound_in(dir, fid))
+            }
+        }
+    }
+
+    // Puts a node in the place of what is held of an object, below a directory. Fails for want of memory alone, and then changes nothing.
+    fn put_below(&mut self, fid: Fid, dir: Fid, node: Node) -> Result<(), AllocError>
+        ensures held { OnOk result (held_of self.new ≡ held_after_fetch (held_of self.old) fid (Some dir) node) }
+        ensures kept { (self.new.number ≡ self.old.number) × (self.new.blocks ≡ self.old.blocks) × (self.new.logs ≡ self.old.logs) }
+        ensures err { OnErr result (held_of self.new ≡ held_of self.old) }
+    {
+        let was = self.parents.get(fid);
+        self.parents.put(fid, dir)?;
+        match self.nodes.put(fid, node) {
+            Ok(()) => Ok(()),
+            Err(e) => {
+                self.parents.restore(fid, was);
+                Err(e)
+            }
+        }
+    }
+
+    // Puts a node in the place of what is held of an object, with its parent. Fails for want of memory alone, and then changes nothing.
+    fn put_node(&mut self, fid: Fid, parent: Option<Fid>, node: Node) -> Result<(), AllocError>
+        ensures held { OnOk result (held_of self.new ≡ held_after_fetch (held_of self.old) fid parent node) }
+        ensures kept { (self.new.number ≡ self.old.number) × (self.new.blocks ≡ self.old.blocks) × (self.new.logs ≡ self.old.logs) }
+        ensures err { OnErr result (held_of self.new ≡ held_of self.old) }
+    {
+        match parent {
+            None => self.nodes.put(fid, node),
+            Some(dir) => self.put_below(fid, dir, node),
+        }
+    }
+
+    /// Holds an object that was fetched. Fails for want of memory alone; then all is as it was.
+    pub fn hold(&mut self, fid: Fid, parent: Option<Fid>, node: Node) -> Result<(), AllocError>
+        ensures entered { (c : ClientState) → IsClient c self.old → OnOk result (IsClient (client_after c (FetchedEntry fid parent node)) self.new) }
+        ensures err { (c : ClientState) → IsClient c self.old → OnErr result (IsClient c self.new) }
+        ensures nodes { OnOk result (self.new.nodes ≡ map.insert self.old.nodes fid node) }
+        ensures nodes_err { OnErr result (self.new.nodes ≡ self.old.nodes) }
+        ensures number { self.new.number ≡ self.old.number }
+    {
+        self.put_node(fid, parent, node)
+    }
+
+    /// Takes up that an object was fetched, as the journal has it.
+    ///
+    /// # Errors
+    ///
+    /// `Misfit` exactly where it can't follow, and `Memory`; then all is as it was.
+    pub fn enter_fetched(&mut self, fid: Fid, parent: Option<Fid>, node: Node) -> Result<(), Unfit>
+        ensures ok { (c : ClientState) → IsClient c self.old → OnOk result (MayEnter c (FetchedEntry fid parent node)) }
+        ensures leaves { (c : ClientState) → IsClient c self.old → OnOk result (IsClient (client_after c (FetchedEntry fid parent node)) self.new) }
+        ensures misfit { (c : ClientState) → IsClient c self.old → result ≡ Err Unfit.Misfit → ¬ MayEnter c (FetchedEntry fid parent node) }
+        ensures err { (c : ClientState) → IsClient c self.old → OnErr result (IsClient c self.new) }
+    {
+        if self.nodes.get(fid).is_some() && self.is_dirty(fid) {
+            return Err(Unfit::Misfit);
+        }
+        if !self.is_parent(fid, parent) {
+            return Err(Unfit::Misfit);
+        }
+        self.hold(fid, parent, node)?;
+        Ok(())
+    }
+
+    /// Takes up that an object was dropped, as the journal has it.
+    ///
+    /// # Errors
+    ///
+    /// `Misfit` exactly where it can't follow; then all is as it was.
+    pub fn enter_dropped(&mut self, fid: Fid) -> Result<(), Unfit>
+        ensures ok { (c : ClientState) → IsClient c self.old → OnOk result (MayEnter c (DroppedEntry fid)) }
+        ensures leaves { (c : ClientState) → IsClient c self.old → OnOk result (IsClient (client_after c (DroppedEntry fid)) self.new) }
+        ensures misfit { (c : ClientState) → IsClient c self.old → result ≡ Err Unfit.Misfit → ¬ MayEnter c (DroppedEntry fid) }
+        ensures err { (c : ClientState) → IsClient c self.old → OnErr result (IsClient c self.new) }
+    {
+        if self.nodes.get(fid).is_none() || self.is_dirty(fid) {
+            return Err(Unfit::Misfit);
+        }
+        if self.parents.is_parent(fid) {
+            return Err(Unfit::Misfit);
+        }
+        self.nodes.take_out(fid);
+        self.parents.remove(fid);
+        Ok(())
+    }
+}
