@@ -61,6 +61,7 @@ fn recovered(alloc: Global, image: Vec<u8>) -> Result<(Venus<MemDisk>, u64), Fai
 
 // What a call of a client does, by its number: it fetches the root of volume 7, creates `/a`, freezes that, and settles the chunk.
 // Answers whether it was done.
+#[tactic(auto, unfolding(coda_record::specs::Table::verdict))]
 fn call(alloc: Global, venus: &mut Venus<MemDisk>, number: u64) -> Result<bool, Fail> {
     let at = path(alloc, b"/a")?;
     let done = match number {
@@ -95,6 +96,7 @@ fn image_of(alloc: Global, calls: u64) -> Result<Vec<u8>, Fail> {
 type Fate = (bool, bool, bool, u64);
 
 // The fate of a call behind others, where so many calls of the disk pass.
+#[tactic(auto, unfolding(coda_record::specs::Table::verdict))]
 fn fate(alloc: Global, calls: u64, passes: u64, choice: u64) -> Result<Fate, Fail> {
     let (mut venus, _) = recovered(alloc, image_of(alloc, calls)?)?;
     venus.arm(passes);
@@ -145,6 +147,7 @@ fn calls_are_recovered(rt: HostRuntime) -> Result<(), Fail> {
 
 // An operation of second 5 goes in a chunk, which is lent and settled; else each call is refused for its cause.
 #[test]
+#[tactic(auto, unfolding(coda_record::specs::Table::verdict))]
 fn chunks_go_once(rt: HostRuntime) -> Result<(), Fail> {
     let (mut venus, _) = recovered(rt.alloc(), image_of(rt.alloc(), 2)?)?;
     let applied = Verdict::Applied;
