@@ -91,21 +91,17 @@ fn image_of(alloc: Global, calls: u64) -> Result<Vec<u8>, Fail> {
     Ok(venus.down().image(0)?)
 }
 
-// What became of a call: whether it was done, whether the client is down then, whether it refuses all that follows for that, and how
-// many payloads there are after a crash.
-type Fate = (bool, bool, bool, u64);
+// What became of a call: whether it was done, whether the client is down then, and how many payloads there are after a crash.
+type Fate = (bool, bool, u64);
 
 // The fate of a call behind others, where so many calls of the disk pass.
-#[tactic(auto, unfolding(coda_record::specs::Table::verdict))]
 fn fate(alloc: Global, calls: u64, passes: u64, choice: u64) -> Result<Fate, Fail> {
     let (mut venus, _) = recovered(alloc, image_of(alloc, calls)?)?;
     venus.arm(passes);
     let done = call(alloc, &mut venus, calls)?;
-    let frozen = venus.freeze(8, 1, 9, 0) == Err(Refused::Down);
-    let settled = venus.settle(8, 1, &Verdict::Applied) == Err(Refused::Down);
     let down = venus.is_down();
     let (_, count) = recovered(alloc, venus.down().image(choice)?)?;
-    Ok((done, down, frozen && settled, count))
+    Ok((done, down, count))
 }
 
 // Each call is there or isn't, whichever of its four calls of the disk fails; by choice 180 a gate that wasn't synced is 1.
@@ -114,9 +110,9 @@ fn calls_are_whole(rt: HostRuntime) -> Result<(), Fail> {
     for calls in 0..4u64 {
         for passes in 0..5u64 {
             for choice in [0u64, 1, 7, 180] {
-                let (done, down, refused, count) = fate(rt.alloc(), calls, passes, choice)?;
+                let (done, down, count) = fate(rt.alloc(), calls, passes, choice)?;
                 let fails = passes < 4;
-                assert_eq!(rt; (done, down, refused), (!fails, fails, fails));
+                assert_eq!(rt; (done, down), (!fails, fails));
                 let there = !fails || passes >= 2 && count > calls;
                 assert_eq!(rt; count, calls + u64::from(there));
             }
@@ -142,28 +138,6 @@ fn calls_are_recovered(rt: HostRuntime) -> Result<(), Fail> {
         }
         assert_eq!(rt; venus.misses(Fid::root(7)), calls == 0);
     }
-    Ok(())
-}
-
-// An operation of second 5 goes in a chunk, which is lent and settled; else each call is refused for its cause.
-#[test]
-#[tactic(auto, unfolding(coda_record::specs::Table::verdict))]
-fn chunks_go_once(rt: HostRuntime) -> Result<(), Fail> {
-    let (mut venus, _) = recovered(rt.alloc(), image_of(rt.alloc(), 2)?)?;
-    let applied = Verdict::Applied;
-    assert_eq!(rt; venus.settle(7, 1, &applied), Err(Refused::NotFrozen(1)));
-    assert_eq!(rt; venus.freeze(7, 2, 6, 2), Err(Refused::Young(1, 2)));
-    assert_eq!(rt; venus.freeze(8, 2, 6, 2), Err(Refused::Nothing));
-    assert_eq!(rt; venus.freeze(7, 2, 7, 2)?, 1);
-    assert_eq!(rt; venus.chunk(7).len(), 1);
-    assert_eq!(rt; venus.freeze(7, 2, 7, 2), Err(Refused::Frozen(1, 2)));
-    assert_eq!(rt;
-        venus.settle(7, 2, &applied),
-        Err(Refused::WrongNumber(1, 2))
-    );
-    venus.settle(7, 1, &applied)?;
-    assert_eq!(rt; venus.chunk(7).len(), 0);
-    assert_eq!(rt; venus.freeze(7, 2, 9, 0), Err(Refused::Nothing));
     Ok(())
 }
 
