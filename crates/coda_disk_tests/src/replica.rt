@@ -98,6 +98,14 @@ fn decisions_are_recovered(rt: HostRuntime) -> Result<(), Fail> {
     Ok(())
 }
 
+// The volume of a replica on a fresh disk has its root alone.
+#[test]
+fn volumes_are_shown(rt: HostRuntime) -> Result<(), Fail> {
+    let (replica, _) = recovered(rt.alloc(), Vec::new(rt.alloc()))?;
+    assert_eq!(rt; replica.volume().len(), 1);
+    Ok(())
+}
+
 // What became of a chunk: whether it was decided, whether the replica is down then, whether it refuses all that follows for
 // that, and how many entries there are after a crash.
 type Fate = (bool, bool, bool, u64);

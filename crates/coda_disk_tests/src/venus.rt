@@ -141,6 +141,15 @@ fn calls_are_recovered(rt: HostRuntime) -> Result<(), Fail> {
     Ok(())
 }
 
+// The root that was fetched is listed.
+#[test]
+fn roots_are_listed(rt: HostRuntime) -> Result<(), Fail> {
+    let (mut venus, _) = recovered(rt.alloc(), image_of(rt.alloc(), 1)?)?;
+    let at = path(rt.alloc(), b"/")?;
+    assert_eq!(rt; venus.list(7, &at)?.fid, Fid::root(7));
+    Ok(())
+}
+
 // What the journal says of the calls: the root, which binds nothing; a file of mode 0644; chunk 1 for server 1 up to operation 1; and
 // that it was applied.
 #[test]
