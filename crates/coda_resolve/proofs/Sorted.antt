@@ -15,7 +15,7 @@ use Rattle.coda_fid.specs.declared.fid.Fid.{Fid}
 use Rattle.coda_fid.proofs.Fids.{exact_fids, fids_total}
 use Rattle.coda_tree.proofs.Booleans.{and_true, and_both, lt_less, to_T}
 use Rattle.coda_reslog.specs.declared.change.Held.{Held}
-use Rattle.coda_resolve.specs.Views.{HeldPairs, IsIndexOf, IsGapFor, objects_in}
+use Rattle.coda_resolve.specs.Views.{HeldPairs, IsIndexOf, IsGapFor, IsBetween, objects_in}
 
 pub turn : (a b : Fid) (o : Ordering) → fid_cmp a b ≡ o → fid_cmp b a ≡ ordering_reverse o
 turn a b o h = fids_total.antisymm b a ∙ ap ordering_reverse h
@@ -76,6 +76,39 @@ greater_from es fid up i j d greater le in_range = elim (cases_lt i j) [
   | inl lt ↦ turn fid (get_or es j d).0 Less (fids_total.trans fid (get_or es i d).0 _ (turn (get_or es i d).0 fid Greater greater) (sorted_at es up i j d lt in_range))
   | inr ge ↦ let same : j ≡ i = omega arith in subst (λ k. fid_cmp (get_or es k d).0 fid ≡ Greater) (sym same) greater
 ]
+
+-- what stands at a place, compared with the fid
+pub compared : (es : HeldPairs) (fid : Fid) (i : ℕ) (e : Fid × Held) (o : Ordering) → i < length es → o ≡ fid_cmp (get_or es i e).0 fid → (d : Fid × Held) → fid_cmp (get_or es i d).0 fid ≡ o
+compared es fid i e o in_range is d = ap (λ (p : Fid × Held). fid_cmp p.0 fid) (get_or_default es i d e in_range) ∙ sym is
+
+-- wherever it is, it is from the first place up to the end
+pub between_all : (es : HeldPairs) (fid : Fid) → IsBetween es fid 0 (length es)
+between_all es fid = record {
+  ordered = omega arith;
+  in_range = omega arith;
+  smaller = λ j d lt. absurd (omega (arith, lt));
+  greater = λ j d le lt. absurd (omega (arith, le, lt));
+}
+
+-- behind a place that is before the fid
+pub from_above : (es : HeldPairs) (fid : Fid) → is_sorted fid_cmp es ≡ true → (low high i : ℕ) → IsBetween es fid low high → i < high → ((d : Fid × Held) → fid_cmp (get_or es i d).0 fid ≡ Less) → IsBetween es fid (i + 1) high
+from_above es fid up low high i h lt less =
+    let within : i < length es = omega (arith, h.in_range, lt) in
+    record {
+      ordered = omega (arith, lt);
+      in_range = h.in_range;
+      smaller = λ j d under. less_up_to es fid up i j d within (less d) (omega (arith, under));
+      greater = h.greater;
+    }
+
+-- before a place that is behind the fid
+pub up_to : (es : HeldPairs) (fid : Fid) → is_sorted fid_cmp es ≡ true → (low high i : ℕ) → IsBetween es fid low high → low ≤ i → i < length es → ((d : Fid × Held) → fid_cmp (get_or es i d).0 fid ≡ Greater) → IsBetween es fid low i
+up_to es fid up low high i h le lt greater = record {
+  ordered = le;
+  in_range = omega (arith, lt);
+  smaller = h.smaller;
+  greater = λ j d from within. greater_from es fid up i j d (greater d) from within;
+}
 
 pub held_there : (es : HeldPairs) (fid : Fid) (i : ℕ) (d : Fid × Held) → is_sorted fid_cmp es ≡ true → IsIndexOf es fid i → Some (get_or es i d).1 ≡ finmap.get (objects_in es) fid
 held_there es fid i d up at = sym (finmap.get-from_sorted fid_cmp es fid (to_T _ up) ∙ find_at es fid i d up at)

@@ -25,6 +25,13 @@ pub record IsGapFor (pairs : HeldPairs) (fid : Fid) (i : ℕ) : Type 0 where
   pub smaller_before : (j : ℕ) (d : Fid × Held) → j < i → fid_cmp (slice_index_or pairs j d).0 fid ≡ Less
   pub greater_after : (j : ℕ) (d : Fid × Held) → i ≤ j → j < length pairs → fid_cmp (slice_index_or pairs j d).0 fid ≡ Greater
 
+-- the fid is from the one place up to the other, or nowhere
+pub record IsBetween (pairs : HeldPairs) (fid : Fid) (low high : ℕ) : Type 0 where
+  pub ordered : low ≤ high
+  pub in_range : high ≤ length pairs
+  pub smaller : (j : ℕ) (d : Fid × Held) → j < low → fid_cmp (slice_index_or pairs j d).0 fid ≡ Less
+  pub greater : (j : ℕ) (d : Fid × Held) → high ≤ j → j < length pairs → fid_cmp (slice_index_or pairs j d).0 fid ≡ Greater
+
 -- the objects of a list in order, by fid
 abbrev pub objects_in : HeldPairs → Objects
 objects_in pairs = finmap.from_sorted pairs

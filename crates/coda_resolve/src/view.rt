@@ -1,9 +1,9 @@
-ghost use Rattle.std.specs.Prelude.{◌≡◌, ◌++◌, ◌↔◌, true, IsTrue, option_copied, map, IfOk, IfErr};
+ghost use Rattle.std.specs.Prelude.{◌≡◌, ◌++◌, ◌↔◌, true, IsTrue, length, option_copied, map, IfOk, IfErr};
 ghost use Rattle.std.specs.FinMap as finmap;
 ghost use Rattle.std.specs.FinMap.{is_sorted};
 ghost use Rattle.coda_fid.specs.Fid.{fid_cmp};
 ghost use Rattle.coda_resolve.specs.Resolution.{copies_at};
-ghost use Rattle.coda_resolve.specs.Views.{IsIndexOf, IsGapFor, objects_in, objects_of, replicas_of, AreInOrder};
+ghost use Rattle.coda_resolve.specs.Views.{IsIndexOf, IsGapFor, IsBetween, objects_in, objects_of, replicas_of, AreInOrder};
 
 use crate::lasts::Lasts;
 use coda_fid::Fid;
@@ -24,14 +24,13 @@ pub struct View {
     pub lasts: Lasts,
 }
 
-// Where the object is, or where it would go.
-fn search(items: &[(Fid, Held)], fid: Fid) -> Result<usize, usize>
-    requires { is_sorted fid_cmp items.now ≡ true }
+// Where the object is from the one place up to the other, or where it would go.
+fn search(items: &[(Fid, Held)], fid: Fid, mut low: usize, mut high: usize) -> Result<usize, usize>
+    requires order { is_sorted fid_cmp items.now ≡ true }
+    requires between { IsBetween items.now fid low high }
     ensures found { IfOk result (λ i. IsIndexOf items.now fid i) }
     ensures absent { IfErr result (λ i. IsGapFor items.now fid i) }
 {
-    let mut low = 0;
-    let mut high = items.len();
     while low < high {
         let mid = low + (high - low) / 2;
         match items[mid].0.cmp(&fid) {
@@ -43,22 +42,66 @@ fn search(items: &[(Fid, Held)], fid: Fid) -> Result<usize, usize>
     Err(low)
 }
 
-// Where the object is, or where it would go. It is looked for first at a place where it may well be.
+// Where the object is from a place on, or where it would go: the steps get longer until one passes it.
+fn search_after(items: &[(Fid, Held)], fid: Fid, from: usize) -> Result<usize, usize>
+    requires order { is_sorted fid_cmp items.now ≡ true }
+    requires between { IsBetween items.now fid from (length items.now) }
+    ensures found { IfOk result (λ i. IsIndexOf items.now fid i) }
+    ensures absent { IfErr result (λ i. IsGapFor items.now fid i) }
+{
+    let mut low = from;
+    let mut step = 1usize;
+    while step < items.len() - low {
+        let at = low + step;
+        match items[at].0.cmp(&fid) {
+            Ordering::Less => low = at + 1,
+            Ordering::Equal => return Ok(at),
+            Ordering::Greater => return search(items, fid, low, at),
+        }
+        step = step.saturating_mul(2);
+    }
+    search(items, fid, low, items.len())
+}
+
+// Where the object is before a place, or where it would go: the steps get longer until one passes it.
+fn search_before(items: &[(Fid, Held)], fid: Fid, to: usize) -> Result<usize, usize>
+    requires order { is_sorted fid_cmp items.now ≡ true }
+    requires between { IsBetween items.now fid 0 to }
+    ensures found { IfOk result (λ i. IsIndexOf items.now fid i) }
+    ensures absent { IfErr result (λ i. IsGapFor items.now fid i) }
+{
+    let mut high = to;
+    let mut step = 1usize;
+    while step < high {
+        let at = high - 1 - step;
+        match items[at].0.cmp(&fid) {
+            Ordering::Less => return search(items, fid, at + 1, high),
+            Ordering::Equal => return Ok(at),
+            Ordering::Greater => high = at,
+        }
+        step = step.saturating_mul(2);
+    }
+    search(items, fid, 0, high)
+}
+
+// Where the object is, or where it would go. It is looked for first at a place where it may well be, and then around it.
 fn search_near(items: &[(Fid, Held)], fid: Fid, near: usize) -> Result<usize, usize>
     requires { is_sorted fid_cmp items.now ≡ true }
     ensures found { IfOk result (λ i. IsIndexOf items.now fid i) }
     ensures absent { IfErr result (λ i. IsGapFor items.now fid i) }
 {
-    if near < items.len() {
-        if let Ordering::Equal = items[near].0.cmp(&fid) {
-            return Ok(near);
-        }
+    if near >= items.len() {
+        return search_before(items, fid, items.len());
     }
-    search(items, fid)
+    match items[near].0.cmp(&fid) {
+        Ordering::Less => search_after(items, fid, near + 1),
+        Ordering::Equal => Ok(near),
+        Ordering::Greater => search_before(items, fid, near),
+    }
 }
 
 // What is held of the object, which may well be at a place; that place is then the one behind it. So objects that are asked for
-// in the order of their fids are found without a search.
+// in the order of their fids are found at once, and others near each other by a short search.
 pub(crate) fn held_near<'a>(
     items: &'a [(Fid, Held)],
     fid: Fid,
@@ -81,7 +124,7 @@ pub(crate) fn held_in(items: &[(Fid, Held)], fid: Fid) -> Option<&Held>
     requires { is_sorted fid_cmp items.now ≡ true }
     ensures { option_copied result ≡ finmap.get (objects_in items.now) fid }
 {
-    match search(items, fid) {
+    match search(items, fid, 0, items.len()) {
         Ok(at) => Some(&items[at].1),
         Err(_) => None,
     }

@@ -15,7 +15,7 @@ loop-low-preserved-in-Less c =
     record {
       ordered = omega arith;
       in_range = c.loop-low.invariant.in_range;
-      smaller = λ j d lt. less_up_to items fid c.requires mid j d within
+      smaller = λ j d lt. less_up_to items fid c.requires.order mid j d within
           (ap (λ (e : Fid × Held). fid_cmp e.0 fid) (get_or_default items mid d c.index-items-mid.result within) ∙ sym c.in-Less.ensures) (omega arith);
       greater = c.loop-low.invariant.greater;
     }
@@ -30,6 +30,6 @@ loop-low-preserved c =
       ordered = omega arith;
       in_range = omega (arith, c.loop-low.invariant.in_range);
       smaller = c.loop-low.invariant.smaller;
-      greater = λ j d le lt. greater_from items fid c.requires mid j d
+      greater = λ j d le lt. greater_from items fid c.requires.order mid j d
           (ap (λ (e : Fid × Held). fid_cmp e.0 fid) (get_or_default items mid d c.index-items-mid.result within) ∙ sym c.in-Greater.ensures) le lt;
     }
