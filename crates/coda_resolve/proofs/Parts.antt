@@ -183,9 +183,9 @@ is_marked_among views (t ∷ objects) f why are e is = by (is_mark t.fate) refl 
     by true at more = ⊎_elim (λ same. ap (λ b. b || is_among (marked_among objects) f) same) (λ rest. or_right (same_fid f t.fid) (is_among (marked_among objects) f) (more rest is)) (or_cases (same_fid f t.fid) (is_among (fids_of objects) f) e)
     by false at more = ⊎_elim (λ same. absurd (true≢false (sym (mark_here same) ∙ at))) (λ rest. more rest is) (or_cases (same_fid f t.fid) (is_among (fids_of objects) f) e)
 
-pub part_from : (views : Replicas) (root : Fid) (view : Objects) → AreOfOneHistory views root → IsIn view views → (objects : List Taken) → fids_of objects ≡ taken_up views root → AreFates views objects → (change : Change) (held : BTreeMap Fid Held) (touched : List Fid) (seen left : BTreeSet Fid) (marks : List Fid) → marks ≡ marked_among objects → AreReached view marks seen → ((f : Fid) → has_fid left f ≡ (has_fid seen f || is_among (fids_of objects) f)) → AreRenewed views view (fids_of objects) held touched → is_sorted fid_cmp change.held ≡ true → ((f : Fid) → finmap.get (objects_in change.held) f ≡ get fid_cmp held f) → change.gone ≡ filter (λ f. not (has_fid left f)) (finmap.keys view) → IsPart views root view change (touched ++ change.gone)
+pub part_from : (views : Replicas) (root : Fid) (view : Objects) → AreOfOneHistory views root → IsIn view views → (objects : List Taken) → fids_of objects ≡ taken_up views root → AreFates views objects → (change : Change) (held : BTreeMap Fid Held) (touched : List Fid) (seen : BTreeSet Fid) (left : Fid → Bool) (marks : List Fid) → marks ≡ marked_among objects → AreReached view marks seen → ((f : Fid) → left f ≡ (has_fid seen f || is_among (fids_of objects) f)) → AreRenewed views view (fids_of objects) held touched → is_sorted fid_cmp change.held ≡ true → ((f : Fid) → finmap.get (objects_in change.held) f ≡ get fid_cmp held f) → change.gone ≡ filter (λ f. not (left f)) (finmap.keys view) → IsPart views root view change (touched ++ change.gone)
 part_from views root view history inview objects all are change held touched seen left marks marks_are reached left_are renewed up same gone =
-    part_made views root view history inview (fids_of objects) all change held touched (has_fid left) renewed up same gone
+    part_made views root view history inview (fids_of objects) all change held touched left renewed up same gone
     (λ f e. ⊎_elim (λ s. from_reached f (reached.only f s)) (λ a. inl (taken f a)) (or_cases (has_fid seen f) (is_among (fids_of objects) f) (sym (left_are f) ∙ e)))
     (λ f a. left_are f ∙ or_right (has_fid seen f) (is_among (fids_of objects) f) a)
     (λ f keeps. left_are f ∙ or_left (has_fid seen f) (is_among (fids_of objects) f) (reached.all f (to_reached f keeps)))

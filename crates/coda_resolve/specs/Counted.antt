@@ -2,6 +2,8 @@
 use Rattle.std.specs.Prelude.{◌≡◌, Bool, nat_le, List}
 use Rattle.std.specs.List.{list_any}
 use Rattle.std.specs.BTreeSet.{BTreeSet, contains}
+use Rattle.std.specs.HashSet as hash
+use Rattle.std.specs.HashSet.{HashSet}
 use Rattle.coda_fid.specs.Fid.{fid_cmp, same_fid}
 use Rattle.coda_fid.specs.declared.fid.Fid.{Fid}
 use Rattle.coda_resolve.specs.Causes.{times}
@@ -9,6 +11,10 @@ use Rattle.coda_resolve.specs.Causes.{times}
 -- whether the fid is in the set
 abbrev pub has_fid : BTreeSet Fid → Fid → Bool
 has_fid fids f = contains fid_cmp fids f
+
+-- whether the fid is in the set, which finds it by its hash
+abbrev pub has_hashed : {S : Type 0} → HashSet Fid S → Fid → Bool
+has_hashed fids f = hash.contains same_fid fids f
 
 -- the set has these fids, and no others
 abbrev pub AreFids : BTreeSet Fid → List Fid → Type 0

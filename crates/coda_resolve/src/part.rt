@@ -6,7 +6,7 @@ ghost use Rattle.std.specs.FinMap as finmap;
 ghost use Rattle.std.specs.FinMap.{is_sorted};
 ghost use Rattle.coda_fid.specs.Fid.{fid_cmp};
 ghost use Rattle.coda_fid.specs.declared.fid.Fid.{Fid};
-ghost use Rattle.coda_resolve.specs.Counted.{has_fid};
+ghost use Rattle.coda_resolve.specs.Counted.{has_fid, has_hashed};
 ghost use Rattle.coda_resolve.specs.Outcome.{taken_up};
 ghost use Rattle.coda_resolve.specs.Placement.{IsIn, AreOfOneHistory};
 ghost use Rattle.coda_resolve.specs.Resolution.{Objects, Replicas};
@@ -23,7 +23,7 @@ use crate::walking::Taken;
 use coda_fid::Fid;
 use coda_reslog::{Change, Fids, Held, HeldObjects};
 use std::alloc::{AllocError, Global};
-use std::collections::{BTreeMap, BTreeSet};
+use std::collections::{BTreeMap, BTreeSet, HashSet};
 
 // The change of a replica, and the objects of which it then has another node, a new one, or none any more.
 #[derive(Drop)]
@@ -127,23 +127,36 @@ pub(crate) fn marked(alloc: Global, objects: &[Taken]) -> Result<Vec<Fid>, Alloc
     Ok(fids)
 }
 
-// Adds the objects to the set.
-fn add_taken(set: &mut BTreeSet<Fid>, objects: &[Taken]) -> Result<(), AllocError>
-    ensures { OnOk result ((f : Fid) → has_fid set.new f ≡ (has_fid set.old f || is_among (fids_of objects.now) f)) }
+// The objects, found by their hashes.
+pub(crate) fn taken_set(alloc: Global, objects: &[Taken]) -> Result<HashSet<Fid>, AllocError>
+    ensures { IfOk result (λ set. (f : Fid) → has_hashed set f ≡ is_among (fids_of objects.now) f) }
 {
+    let mut set = HashSet::new(alloc);
     for object in objects {
         set.insert(object.fid)?;
     }
-    Ok(())
+    Ok(set)
 }
 
-// The objects of the replica that aren't in the set, in their order.
-fn gone(alloc: Global, held: &[(Fid, Held)], left: &BTreeSet<Fid>) -> Result<Vec<Fid>, AllocError>
-    ensures { IfOk result (λ fids. fids.items ≡ filter (λ f. not (has_fid left.now f)) (map (λ object. object.0) held.now)) }
+// Whether the object is in one of the sets.
+fn stays(below: &BTreeSet<Fid>, taken: &HashSet<Fid>, fid: Fid) -> bool
+    ensures { result ≡ (has_fid below.now fid || has_hashed taken.now fid) }
+{
+    below.contains(&fid) || taken.contains(&fid)
+}
+
+// The objects of the replica that aren't in one of the sets, in their order.
+fn gone(
+    alloc: Global,
+    held: &[(Fid, Held)],
+    below: &BTreeSet<Fid>,
+    taken: &HashSet<Fid>,
+) -> Result<Vec<Fid>, AllocError>
+    ensures { IfOk result (λ fids. fids.items ≡ filter (λ f. not (has_fid below.now f || has_hashed taken.now f)) (map (λ object. object.0) held.now)) }
 {
     let mut fids = Vec::new(alloc);
     for object in held {
-        add_where(&mut fids, object.0, !left.contains(&object.0))?;
+        add_where(&mut fids, object.0, !stays(below, taken, object.0))?;
     }
     Ok(fids)
 }
@@ -160,23 +173,25 @@ fn add_all(fids: &mut Vec<Fid>, more: &[Fid]) -> Result<(), AllocError>
 
 // ---- the replica
 
-// What a resolution makes of one of the replicas, from what it takes up and what all replicas have marked of that.
+// What a resolution makes of one of the replicas, from what it takes up, what all replicas have marked of that, and the
+// set of what it takes up.
 pub(crate) fn part_of(
     alloc: Global,
     views: &[View],
     view: &View,
     objects: &[Taken],
     marked: &[Fid],
+    taken: &HashSet<Fid>,
 ) -> Result<Part, AllocError>
     requires order { AreInOrder views.now }
     requires sorted { is_sorted fid_cmp view.now.held ≡ true }
     requires fates { AreFates (replicas_of views.now) objects.now }
     requires marked { marked.now ≡ marked_among objects.now }
+    requires taken { (f : Fid) → has_hashed taken.now f ≡ is_among (fids_of objects.now) f }
     ensures { IfOk result (λ part. (root : Fid) → AreOfOneHistory (replicas_of views.now) root → fids_of objects.now ≡ taken_up (replicas_of views.now) root → IsIn (objects_of view.now) (replicas_of views.now) → IsPart (replicas_of views.now) root (objects_of view.now) part.change part.touched.items) }
 {
-    let mut left = below(alloc, view, marked)?;
-    add_taken(&mut left, objects)?;
-    let gone = gone(alloc, view.held.objects(), &left)?;
+    let below = below(alloc, view, marked)?;
+    let gone = gone(alloc, view.held.objects(), &below, taken)?;
     let renewed = renewed(alloc, views, view, objects)?;
     let mut touched = renewed.touched;
     add_all(&mut touched, &gone)?;

@@ -16,7 +16,7 @@ ghost use Rattle.coda_resolve.specs.Views.{replicas_of, volume_of, AreInOrder};
 
 use crate::lasts::{Lasts, joined};
 use crate::marks::marks_among;
-use crate::part::{Part, marked, part_of};
+use crate::part::{Part, marked, part_of, taken_set};
 use crate::view::View;
 use crate::walking::{Taken, walk};
 use crate::why::Mark;
@@ -146,10 +146,11 @@ fn parts_of(alloc: Global, views: &[View], objects: &[Taken]) -> Result<Parts, A
     ensures parts { IfOk result (λ parts. (root : Fid) → AreOfOneHistory (replicas_of views.now) root → fids_of objects.now ≡ taken_up (replicas_of views.now) root → AreParts (replicas_of views.now) root (replicas_of views.now) parts.changes.items parts.touched) }
 {
     let marked = marked(alloc, objects)?;
+    let taken = taken_set(alloc, objects)?;
     let mut changes = Vec::new(alloc);
     let mut touched = BTreeSet::new(alloc);
     for view in views {
-        let part = part_of(alloc, views, view, objects, &marked)?;
+        let part = part_of(alloc, views, view, objects, &marked, &taken)?;
         add_part(&mut changes, &mut touched, view.server, part)?;
     }
     Ok(Parts { changes, touched })
