@@ -23,7 +23,7 @@ latest_more lasts last c = ap (fold later None) (filter-append (is_of c) lasts (
     by true = refl
     by false = refl
 
-same_number : (n : ℕ) → (n == n) ≡ true
+pub same_number : (n : ℕ) → (n == n) ≡ true
 same_number n = by (n == n) refl
   where
     by : (b : Bool) → (n == n) ≡ b → (n == n) ≡ true

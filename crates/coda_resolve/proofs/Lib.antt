@@ -5,6 +5,7 @@ pub mod Again
 pub mod Twice
 pub mod Whole
 pub mod There
+pub mod Told
 pub mod Logged
 pub mod Once
 pub mod Apart

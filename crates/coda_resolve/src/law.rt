@@ -4,6 +4,7 @@ ghost use Rattle.coda_resolve.specs.Placement.{SettledBindApart, SettledBindAlon
 ghost use Rattle.coda_resolve.specs.Trees.{TreesStayTrees};
 ghost use Rattle.coda_resolve.specs.Past.{RecalledAreOfOneHistory};
 ghost use Rattle.coda_resolve.specs.Outcome.{WalkIsTakenUp};
+ghost use Rattle.coda_resolve.specs.Told.{MarksAreTold, GreatestAreJoined};
 ghost use Rattle.coda_resolve.specs.Outcomes.{ChangesLeaveEqualOrMarked, ChangesKeepOneHistory, SecondOutcomeIsNothing};
 
 /// A law of resolution: an object that some replica has is the same at all replicas after its
@@ -87,4 +88,16 @@ pub fn changes_keep_one_history()
 /// A law of resolution: a second `merge` right after the changes of a first has no change, no mark, and touches nothing.
 pub fn second_outcome_is_nothing()
     ensures { SecondOutcomeIsNothing }
+{}
+
+/// A law of resolution: of replicas of one history, an object that a resolution takes up and marks was marked at all of them
+/// before, or it is among the new marks, with the cause.
+pub fn marks_are_told()
+    ensures { MarksAreTold }
+{}
+
+/// A law of resolution: of each decision of a client that some replica knows, the joined last decisions have one of that
+/// client with the same number or a greater one.
+pub fn greatest_are_joined()
+    ensures { GreatestAreJoined }
 {}
