@@ -36,3 +36,4 @@ mod Reaching
 pub mod After
 mod Lasting
 mod Merging
+mod Kept

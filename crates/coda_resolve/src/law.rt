@@ -4,7 +4,7 @@ ghost use Rattle.coda_resolve.specs.Placement.{SettledBindApart, SettledBindAlon
 ghost use Rattle.coda_resolve.specs.Trees.{TreesStayTrees};
 ghost use Rattle.coda_resolve.specs.Past.{RecalledAreOfOneHistory};
 ghost use Rattle.coda_resolve.specs.Outcome.{WalkIsTakenUp};
-ghost use Rattle.coda_resolve.specs.Told.{MarksAreTold, GreatestAreJoined};
+ghost use Rattle.coda_resolve.specs.Told.{MarksAreTold, GreatestAreJoined, MergedLogsKeepTheLatest};
 ghost use Rattle.coda_resolve.specs.Outcomes.{ChangesLeaveEqualOrMarked, ChangesKeepOneHistory, SecondOutcomeIsNothing};
 
 /// A law of resolution: an object that some replica has is the same at all replicas after its
@@ -100,4 +100,10 @@ pub fn marks_are_told()
 /// client with the same number or a greater one.
 pub fn greatest_are_joined()
     ensures { GreatestAreJoined }
+{}
+
+/// A law of resolution: the log of a merged directory is the end of the logs of all copies, in which each update of theirs
+/// stands: all of them, or the last 256.
+pub fn merged_logs_keep_the_latest()
+    ensures { MergedLogsKeepTheLatest }
 {}
