@@ -90,20 +90,20 @@ pub fn second_outcome_is_nothing()
     ensures { SecondOutcomeIsNothing }
 {}
 
-/// A law of resolution: of replicas of one history, an object that a resolution takes up and marks was marked at all of them
-/// before, or it is among the new marks, with the cause.
+/// A law of resolution: of replicas of one history, an object that a resolution takes up and marks was marked
+/// at all of them before, or it is among the new marks, with the cause.
 pub fn marks_are_told()
     ensures { MarksAreTold }
 {}
 
-/// A law of resolution: of each decision of a client that some replica knows, the joined last decisions have one of that
-/// client with the same number or a greater one.
+/// A law of resolution: of each decision of a client that some replica knows, the joined last decisions have one
+/// of that client with the same number or a greater one.
 pub fn greatest_are_joined()
     ensures { GreatestAreJoined }
 {}
 
-/// A law of resolution: the log of a merged directory is the end of the logs of all copies, in which each update of theirs
-/// stands: all of them, or the last 256.
+/// A law of resolution: the log of a merged directory is the end of the logs of all copies, in which each update
+/// of theirs stands: all of them, or the last 256.
 pub fn merged_logs_keep_the_latest()
     ensures { MergedLogsKeepTheLatest }
 {}
