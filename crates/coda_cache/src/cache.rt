@@ -460,13 +460,8 @@ impl Cache {
         match &self.queued.queue {
             Some(queue) => {
                 let pinned = self.contents.pinned_from(&self.dirty)?;
-                match self
-                    .contents
-                    .chosen_for(queue, pinned, fid, parent, blocks, keep)?
-                {
-                    Some(going) => Ok(going),
-                    None => self.contents.going_for(fid, parent, blocks, keep),
-                }
+                self.contents
+                    .chosen_for(queue, pinned, fid, parent, blocks, keep)
             }
             None => self.contents.going_for(fid, parent, blocks, keep),
         }

@@ -1,11 +1,11 @@
-ghost use Rattle.std.specs.Prelude.{◌≡◌, ◌+◌, ◌||◌, true, Ok, Err, IfOk, IfSome, MatchResult, List, Option};
+ghost use Rattle.std.specs.Prelude.{◌≡◌, ◌+◌, ◌≤◌, ◌||◌, true, Ok, Err, IfOk, MatchResult, List, Option};
 ghost use Rattle.std.specs.BTreeSet as btree;
 ghost use Rattle.std.specs.List.Sorted.{IsStrictlySortedBy};
 ghost use Rattle.coda_fid.specs.declared.fid.Fid.{Fid};
 ghost use Rattle.coda_fid.specs.Fid.{fid_cmp, same_fid};
 ghost use Rattle.coda_walk.specs.Going.{is_listed, who_goes};
 ghost use Rattle.coda_walk.specs.Queue.{IsQueueOf};
-ghost use Rattle.coda_cache.specs.State.{is_dirty};
+ghost use Rattle.coda_cache.specs.State.{is_dirty, blocks_at};
 ghost use Rattle.coda_cache.specs.Ways.{is_pinned};
 ghost use Rattle.coda_cache.specs.Room.{items_of, items_with, pinned_blocks, is_needed, blocks_where, kept_for, evicted_for};
 ghost use Rattle.coda_cache.specs.Indexed.{standings, AreMarked, blocks_unless, blocks_beside};
@@ -103,27 +103,22 @@ impl Contents {
         Ok(blocks)
     }
 
-    // Who goes from a queue for a node of so many blocks, where a set has those that stay. Answers nothing only after 2^64
-    // steps, or where the node is larger than the cache.
+    // Who goes from a queue for a node of so many blocks that the cache has room for, where a set has those that stay.
     fn going_from(
         &self,
         queue: &Queue,
         stay: &BTreeSet<Fid>,
         fid: Fid,
         blocks: u32,
-    ) -> Result<Option<Vec<Fid>>, AllocError>
+    ) -> Result<Vec<Fid>, AllocError>
         requires queue { IsQueueOf queue.now (standings self.now) }
-        ensures { (parent : Option Fid) (keep : List Fid) → ((f : Fid) → btree.contains fid_cmp stay.now f ≡ (is_pinned self.now f || is_listed (kept_for self.now fid parent keep) f)) → IfOk result (λ o. IfSome o (λ v. v.items ≡ who_goes self.now.size (kept_for self.now fid parent keep) (items_with self.now fid parent blocks))) }
+        requires room { blocks ≤ self.now.size + blocks_at self.now fid }
+        ensures { (parent : Option Fid) (keep : List Fid) → ((f : Fid) → btree.contains fid_cmp stay.now f ≡ (is_pinned self.now f || is_listed (kept_for self.now fid parent keep) f)) → IfOk result (λ v. v.items ≡ who_goes self.now.size (kept_for self.now fid parent keep) (items_with self.now fid parent blocks)) }
     {
         self.agree();
         let whole = self.size as u64 + self.blocks(fid) as u64;
-        match whole.checked_sub(blocks as u64) {
-            Some(size) => match queue.who_goes(self.alloc, size, stay)? {
-                Some(gone) => Ok(Some(gone.fids)),
-                None => Ok(None),
-            },
-            None => Ok(None),
-        }
+        let gone = queue.who_goes(self.alloc, whole - blocks as u64, stay)?;
+        Ok(gone.fids)
     }
 
     // Who goes for a node of so many blocks that is put, or how many blocks are pinned and how many more are needed where
@@ -136,10 +131,10 @@ impl Contents {
         parent: Option<Fid>,
         blocks: u32,
         keep: &[Fid],
-    ) -> Result<Option<Result<Vec<Fid>, (u64, u64)>>, AllocError>
+    ) -> Result<Result<Vec<Fid>, (u64, u64)>, AllocError>
         requires queue { IsQueueOf queue.now (standings self.now) }
         requires pinned { (f : Fid) → btree.contains fid_cmp pinned f ≡ is_pinned self.now f }
-        ensures { IfOk result (λ o. IfSome o (λ r. MatchResult r (λ v. evicted_for self.now fid parent blocks keep.now ≡ Ok v.items) (λ e. evicted_for self.now fid parent blocks keep.now ≡ Err (CacheFull e.0 e.1 self.now.size)))) }
+        ensures { IfOk result (λ r. MatchResult r (λ v. evicted_for self.now fid parent blocks keep.now ≡ Ok v.items) (λ e. evicted_for self.now fid parent blocks keep.now ≡ Err (CacheFull e.0 e.1 self.now.size))) }
     {
         let way = self.kept_for(fid, parent, keep)?;
         let mut kept = BTreeSet::new(self.alloc);
@@ -150,12 +145,10 @@ impl Contents {
         note(&mut stay, fid)?;
         let needed = self.blocks_needed(queue, &stay, fid, &kept, more)?;
         if !room::fits(self.size, pinned_blocks, needed) {
-            return Ok(Some(Err((pinned_blocks, needed))));
+            return Ok(Err((pinned_blocks, needed)));
         }
         add(&mut stay, &way)?;
-        match self.going_from(queue, &stay, fid, blocks)? {
-            Some(gone) => Ok(Some(Ok(gone))),
-            None => Ok(None),
-        }
+        let gone = self.going_from(queue, &stay, fid, blocks)?;
+        Ok(Ok(gone))
     }
 }

@@ -129,18 +129,16 @@ fn items_go_from_a_queue(rt: HostRuntime) -> Result<(), Fail> {
     let mut queue = queue(rt.alloc())?;
     assert_eq!(rt; queue.blocks(), 4);
     let gone = queue.who_goes(rt.alloc(), 2, &kept)?;
-    assert!(rt;
-        gone.is_some_and(|gone| gone.fits && gone.fids.as_slice() == [fid(6), fid(7)].as_slice())
-    );
+    assert!(rt; gone.fits);
+    assert_eq!(rt; gone.fids.as_slice(), [fid(6), fid(7)].as_slice());
     queue.take_out(fid(6))?;
     assert!(rt; queue.get(fid(6)).is_none());
     queue.change(cached(7, Some(fid(0)), true))?;
     let gone = queue.who_goes(rt.alloc(), 0, &kept)?;
-    assert!(rt; gone.is_some_and(|gone| !gone.fits && gone.fids.as_slice() == [fid(5)].as_slice()));
+    assert!(rt; !gone.fits);
+    assert_eq!(rt; gone.fids.as_slice(), [fid(5)].as_slice());
     queue.change(cached(7, Some(fid(0)), false))?;
     let gone = queue.who_goes(rt.alloc(), 0, &kept)?;
-    assert!(rt;
-        gone.is_some_and(|gone| gone.fids.as_slice() == [fid(7), fid(5), fid(0)].as_slice())
-    );
+    assert_eq!(rt; gone.fids.as_slice(), [fid(7), fid(5), fid(0)].as_slice());
     Ok(())
 }

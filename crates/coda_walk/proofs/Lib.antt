@@ -4,6 +4,7 @@ pub mod Steps
 pub mod Ways
 pub mod Blocks
 pub mod Choices
+pub mod Once
 pub mod Orders
 pub mod Loops
 pub mod Balance

@@ -2,12 +2,12 @@
 use Rattle.std.specs.Prelude.{◌≡◌, ℕ, Bool, true, false, not, ◌&&◌, ◌||◌, List, ◌++◌, Option, Some, None}
 use Rattle.std.specs.Option.{option_map_or, unwrap_or}
 use Rattle.std.specs.Ordering.{is_gt, is_lt}
-use Rattle.std.specs.BTreeMap as tree
-use Rattle.std.specs.BTreeMap.{BTreeMap}
+use Rattle.std.specs.HashMap as hash
+use Rattle.std.specs.HashMap.{HashMap}
 use Rattle.std.specs.BTreeSet as tree_set
 use Rattle.std.specs.BTreeSet.{BTreeSet}
 use Rattle.coda_fid.specs.declared.fid.Fid.{Fid}
-use Rattle.coda_fid.specs.Fid.{fid_cmp}
+use Rattle.coda_fid.specs.Fid.{fid_cmp, same_fid}
 use Rattle.coda_walk.specs.declared.item.Item.{Item}
 use Rattle.coda_walk.specs.declared.rank.Rank.{Rank}
 use Rattle.coda_walk.specs.declared.rank.Standing.{Standing}
@@ -37,8 +37,8 @@ pub record Takes (old new : Rank → Bool) (r : Rank) : Type 0 where
   pub rest : (q : Rank) → new q ≡ (not (same_rank r q) && old q)
 
 -- how many items are left under an object
-abbrev pub remaining : BTreeMap Fid ℕ → BTreeMap Fid ℕ → Fid → ℕ
-remaining children fewer p = unwrap_or (tree.get fid_cmp fewer p) (count_in children p)
+abbrev pub remaining : {S : Type 0} → HashMap Fid ℕ S → HashMap Fid ℕ S → Fid → ℕ
+remaining children fewer p = unwrap_or (hash.get same_fid fewer p) (count_in children p)
 
 -- whether a rank is that of the parent, where its item may go
 abbrev pub frees_under : (Fid → Option Standing) → Option Fid → (Fid → ℕ) → Rank → Bool

@@ -5,8 +5,8 @@ use Rattle.std.specs.Option.{option_map_or, unwrap_or}
 use Rattle.std.specs.List.{filter}
 use Rattle.std.specs.Ordering.{nat_cmp, ordering_then, eq_by_cmp}
 use Rattle.std.specs.declared.cmp.Ordering.{Ordering}
-use Rattle.std.specs.BTreeMap as tree
-use Rattle.std.specs.BTreeMap.{BTreeMap}
+use Rattle.std.specs.HashMap as hash
+use Rattle.std.specs.HashMap.{HashMap}
 use Rattle.std.specs.BTreeSet as tree_set
 use Rattle.std.specs.BTreeSet.{BTreeSet}
 use Rattle.coda_fid.specs.declared.fid.Fid.{Fid}
@@ -40,12 +40,12 @@ may_leave under s = not s.item.pinned && (under == 0)
 -- ---- what the maps have, as functions
 
 -- where the item of an object stands
-abbrev pub place_in : BTreeMap Fid Standing → Fid → Option Standing
-place_in places f = tree.get fid_cmp places f
+abbrev pub place_in : {S : Type 0} → HashMap Fid Standing S → Fid → Option Standing
+place_in places f = hash.get same_fid places f
 
 -- how many items stand under an object
-abbrev pub count_in : BTreeMap Fid ℕ → Fid → ℕ
-count_in children f = unwrap_or (tree.get fid_cmp children f) 0
+abbrev pub count_in : {S : Type 0} → HashMap Fid ℕ S → Fid → ℕ
+count_in children f = unwrap_or (hash.get same_fid children f) 0
 
 -- whether a rank is in a set
 abbrev pub is_in : BTreeSet Rank → Rank → Bool

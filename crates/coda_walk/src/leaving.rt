@@ -15,7 +15,7 @@ use crate::queue::{Queue, count, put_rank, take_rank};
 use crate::rank::{Rank, Standing, may_leave, rank_of};
 use coda_fid::Fid;
 use std::alloc::{AllocError, Global};
-use std::collections::{BTreeMap, BTreeSet};
+use std::collections::{BTreeSet, HashMap};
 use std::ops::Bound;
 
 /// Who goes from a queue.
@@ -41,7 +41,7 @@ pub(crate) struct Pool {
 pub(crate) struct Leaving {
     pub gone: Vec<Fid>,
     pub pool: Pool,
-    pub fewer: BTreeMap<Fid, u64>,
+    pub fewer: HashMap<Fid, u64>,
     pub left: u64,
 }
 
@@ -125,7 +125,7 @@ fn pop(free: &BTreeSet<Rank>, pool: &mut Pool) -> Option<Rank>
 // ---- counts
 
 // How many items are left under an object.
-fn under(children: &BTreeMap<Fid, u64>, fewer: &BTreeMap<Fid, u64>, fid: Fid) -> u64
+fn under(children: &HashMap<Fid, u64>, fewer: &HashMap<Fid, u64>, fid: Fid) -> u64
     ensures { result ≡ remaining children.now fewer.now fid }
 {
     match fewer.get(&fid) {
@@ -136,8 +136,8 @@ fn under(children: &BTreeMap<Fid, u64>, fewer: &BTreeMap<Fid, u64>, fid: Fid) ->
 
 // Counts one item less under an object, and answers how many are left there.
 fn take_under(
-    children: &BTreeMap<Fid, u64>,
-    fewer: &mut BTreeMap<Fid, u64>,
+    children: &HashMap<Fid, u64>,
+    fewer: &mut HashMap<Fid, u64>,
     fid: Fid,
 ) -> Result<u64, AllocError>
     ensures counts { OnOk result ((p : Fid) → remaining children.now fewer.new p ≡ remaining children.now fewer.old p - one_under (Some fid) p) }
@@ -151,7 +151,7 @@ fn take_under(
 // Puts in the rank of an object under which nothing is left, where its item may go.
 fn free_parent(
     more: &mut BTreeSet<Rank>,
-    places: &BTreeMap<Fid, Standing>,
+    places: &HashMap<Fid, Standing>,
     fid: Fid,
     left: u64,
 ) -> Result<(), AllocError>
@@ -259,32 +259,36 @@ impl Queue {
                 after: None,
                 more: BTreeSet::new(alloc),
             },
-            fewer: BTreeMap::new(alloc),
+            fewer: HashMap::new(alloc),
             left: self.total,
         }
     }
 
     /// Who goes, in order, so that the rest fits in so many blocks: see `who_goes`. It takes logarithmic time for each that
-    /// goes or is kept. Answers nothing only after 2^64 steps.
+    /// goes or is kept.
+    ///
+    /// # Errors
+    ///
+    /// Fails for want of memory, and after 2^64 steps.
     pub fn who_goes(
         &self,
         alloc: Global,
         size: u64,
         kept: &BTreeSet<Fid>,
-    ) -> Result<Option<Gone>, AllocError>
-        ensures fids { (fids : List Fid) (items : List Item) → IsQueueOf self.now items → AreKept kept.now fids → IfOk result (λ o. IfSome o (λ gone. gone.fids.items ≡ who_goes size fids items)) }
-        ensures fits { (fids : List Fid) (items : List Item) → IsQueueOf self.now items → AreKept kept.now fids → IfOk result (λ o. IfSome o (λ gone. gone.fits ≡ nat_le (blocks_of (left gone.fids.items items)) size)) }
+    ) -> Result<Gone, AllocError>
+        ensures fids { (fids : List Fid) (items : List Item) → IsQueueOf self.now items → AreKept kept.now fids → IfOk result (λ gone. gone.fids.items ≡ who_goes size fids items) }
+        ensures fits { (fids : List Fid) (items : List Item) → IsQueueOf self.now items → AreKept kept.now fids → IfOk result (λ gone. gone.fits ≡ nat_le (blocks_of (left gone.fids.items items)) size) }
     {
         let mut leaving = self.begin(alloc);
         for _step in 0..u64::MAX {
             if step(self, size, kept, &mut leaving)? {
                 let fits = fit(leaving.left, size);
-                return Ok(Some(Gone {
+                return Ok(Gone {
                     fids: leaving.gone,
                     fits,
-                }));
+                });
             }
         }
-        Ok(None)
+        Err(AllocError)
     }
 }

@@ -12,7 +12,7 @@ use crate::Item;
 use crate::rank::{Rank, Standing, may_leave, rank_of};
 use coda_fid::Fid;
 use std::alloc::{AllocError, Global};
-use std::collections::{BTreeMap, BTreeSet};
+use std::collections::{BTreeSet, HashMap};
 
 /// Items in the order of their use, kept so that who goes is found without a look at all of them.
 ///
@@ -20,9 +20,9 @@ use std::collections::{BTreeMap, BTreeSet};
 /// any items: it is to be made anew.
 #[derive(Drop)]
 pub struct Queue {
-    pub(crate) places: BTreeMap<Fid, Standing>,
+    pub(crate) places: HashMap<Fid, Standing>,
     // how many items stand under each object
-    pub(crate) children: BTreeMap<Fid, u64>,
+    pub(crate) children: HashMap<Fid, u64>,
     // the ranks of the items that aren't pinned and have nothing under them
     pub(crate) free: BTreeSet<Rank>,
     pub(crate) clock: u64,
@@ -32,7 +32,7 @@ pub struct Queue {
 // ---- counts
 
 // How many items stand under an object.
-pub(crate) fn count(children: &BTreeMap<Fid, u64>, fid: Fid) -> u64
+pub(crate) fn count(children: &HashMap<Fid, u64>, fid: Fid) -> u64
     ensures { result ≡ count_in children.now fid }
 {
     children.get(&fid).copied().unwrap_or(0)
@@ -40,7 +40,7 @@ pub(crate) fn count(children: &BTreeMap<Fid, u64>, fid: Fid) -> u64
 
 // Sets how many items stand under an object.
 pub(crate) fn set_count(
-    children: &mut BTreeMap<Fid, u64>,
+    children: &mut HashMap<Fid, u64>,
     fid: Fid,
     count: u64,
 ) -> Result<(), AllocError>
@@ -58,7 +58,7 @@ pub(crate) fn set_count(
 
 // Puts in where an item stands.
 fn put_place(
-    places: &mut BTreeMap<Fid, Standing>,
+    places: &mut HashMap<Fid, Standing>,
     fid: Fid,
     standing: Standing,
 ) -> Result<(), AllocError>
@@ -69,7 +69,7 @@ fn put_place(
 }
 
 // Takes out where an item stands.
-fn take_place(places: &mut BTreeMap<Fid, Standing>, fid: Fid)
+fn take_place(places: &mut HashMap<Fid, Standing>, fid: Fid)
     ensures { (f : Fid) → place_in places.new f ≡ cond (same_fid f fid) None (place_in places.old f) }
 {
     let _ = places.remove(&fid);
@@ -78,7 +78,7 @@ fn take_place(places: &mut BTreeMap<Fid, Standing>, fid: Fid)
 // ---- ranks
 
 // Takes out the rank of an object.
-fn hide(free: &mut BTreeSet<Rank>, places: &BTreeMap<Fid, Standing>, fid: Fid)
+fn hide(free: &mut BTreeSet<Rank>, places: &HashMap<Fid, Standing>, fid: Fid)
     ensures { (children : Fid → ℕ) → AreKeyed (place_in places.now) → AreFree (place_in places.now) children (is_in free.old) → AreFreeBut (place_in places.now) children fid (is_in free.new) }
 {
     if let Some(standing) = places.get(&fid) {
@@ -104,8 +104,8 @@ pub(crate) fn put_rank(free: &mut BTreeSet<Rank>, rank: Rank) -> Result<(), Allo
 // Puts in the rank of an object, where its item may go.
 fn show(
     free: &mut BTreeSet<Rank>,
-    places: &BTreeMap<Fid, Standing>,
-    children: &BTreeMap<Fid, u64>,
+    places: &HashMap<Fid, Standing>,
+    children: &HashMap<Fid, u64>,
     fid: Fid,
 ) -> Result<(), AllocError>
     ensures { AreKeyed (place_in places.now) → AreFreeBut (place_in places.now) (count_in children.now) fid (is_in free.old) → OnOk result (AreFree (place_in places.now) (count_in children.now) (is_in free.new)) }
@@ -125,8 +125,8 @@ fn show(
 // Counts one item more under a parent.
 fn add_child(
     free: &mut BTreeSet<Rank>,
-    places: &BTreeMap<Fid, Standing>,
-    children: &mut BTreeMap<Fid, u64>,
+    places: &HashMap<Fid, Standing>,
+    children: &mut HashMap<Fid, u64>,
     parent: Option<Fid>,
 ) -> Result<(), AllocError>
     ensures free { AreKeyed (place_in places.now) → AreFree (place_in places.now) (count_in children.old) (is_in free.old) → OnOk result (AreFree (place_in places.now) (count_in children.new) (is_in free.new)) }
@@ -145,8 +145,8 @@ fn add_child(
 // Counts one item less under a parent.
 fn take_child(
     free: &mut BTreeSet<Rank>,
-    places: &BTreeMap<Fid, Standing>,
-    children: &mut BTreeMap<Fid, u64>,
+    places: &HashMap<Fid, Standing>,
+    children: &mut HashMap<Fid, u64>,
     parent: Option<Fid>,
 ) -> Result<(), AllocError>
     ensures free { AreKeyed (place_in places.now) → AreFree (place_in places.now) (count_in children.old) (is_in free.old) → OnOk result (AreFree (place_in places.now) (count_in children.new) (is_in free.new)) }
@@ -170,8 +170,8 @@ impl Queue {
         ensures { IsQueueOf result [] }
     {
         Queue {
-            places: BTreeMap::new(alloc),
-            children: BTreeMap::new(alloc),
+            places: HashMap::new(alloc),
+            children: HashMap::new(alloc),
             free: BTreeSet::new(alloc),
             clock: 0,
             total: 0,

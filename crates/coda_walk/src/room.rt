@@ -1,5 +1,5 @@
-ghost use Rattle.std.specs.Prelude.{◌≡◌, ◌<◌, ◌≤◌, ◌^◌, nat_le, Option, Some, IfOk, IfSome, OnOk, true, false, length, ◌||◌, ◌++◌, ◌∷◌, [], List};
-ghost use Rattle.std.specs.List.{list_any, filter};
+ghost use Rattle.std.specs.Prelude.{◌≡◌, ◌<◌, ◌≤◌, ◌^◌, nat_le, Option, Some, None, IfOk, IfSome, IsSome, OnOk, true, false, length, ◌||◌, ◌++◌, ◌∷◌, [], List};
+ghost use Rattle.std.specs.List.{list_any, filter, IsDistinct};
 ghost use Rattle.std.specs.Option.{option_map_or};
 ghost use Rattle.std.specs.BTreeSet as set;
 ghost use Rattle.coda_fid.specs.declared.fid.Fid.{Fid};
@@ -7,6 +7,7 @@ ghost use Rattle.coda_fid.specs.Fid.{fid_cmp, same_fid};
 ghost use Rattle.coda_walk.specs.Going.{blocks_of, is_listed, is_under, may_go, goes_before, sooner, is_free, first_to_go, next_to_go, without, who_goes};
 ghost use Rattle.std.specs.Bool.{OnTrue};
 ghost use Rattle.coda_walk.specs.declared.item.Item.{Item};
+ghost use Rattle.coda_walk.specs.Planning.{fids_of, item_at};
 ghost use Rattle.coda_walk.specs.Queue.{IsQueueOf};
 
 use crate::{Item, Queue};
@@ -165,7 +166,8 @@ fn going_plainly(
 
 // Puts in an item whose object has none, and answers whether it has none.
 fn put_new(queue: &mut Queue, item: &Item) -> Result<bool, AllocError>
-    ensures { (items : List Item) → IsQueueOf queue.old items → IfOk result (λ new. OnTrue new (IsQueueOf queue.new (items ++ item.now ∷ []))) }
+    ensures there { (items : List Item) → IsQueueOf queue.old items → IfOk result (λ new. OnTrue new (IsQueueOf queue.new (items ++ item.now ∷ []))) }
+    ensures new { (items : List Item) → IsQueueOf queue.old items → item_at items item.now.fid ≡ None → IfOk result (λ new. new ≡ true) }
 {
     if queue.get(item.fid).is_some() {
         return Ok(false);
@@ -174,9 +176,10 @@ fn put_new(queue: &mut Queue, item: &Item) -> Result<bool, AllocError>
     Ok(true)
 }
 
-/// The queue of items, where no object has two of them. Fails for want of memory alone, and for want of times.
+/// The queue of items. There is one where no object has two of them. Fails for want of memory alone, and for want of times.
 pub fn queue_of(alloc: Global, items: &[Item]) -> Result<Option<Queue>, AllocError>
-    ensures { IfOk result (λ o. IfSome o (λ queue. IsQueueOf queue items.now)) }
+    ensures queue { IfOk result (λ o. IfSome o (λ queue. IsQueueOf queue items.now)) }
+    ensures once { IsDistinct same_fid (fids_of items.now) → IfOk result IsSome }
 {
     let mut queue = Queue::new(alloc);
     for item in items {
@@ -194,13 +197,14 @@ fn going_by_queue(
     kept: &BTreeSet<Fid>,
     items: &[Item],
 ) -> Result<Option<Vec<Fid>>, AllocError>
-    ensures { (fids : List Fid) → ((f : Fid) → set.contains fid_cmp kept.now f ≡ is_listed fids f) → IfOk result (λ o. IfSome o (λ v. v.items ≡ who_goes size fids items.now)) }
+    ensures fids { (fids : List Fid) → ((f : Fid) → set.contains fid_cmp kept.now f ≡ is_listed fids f) → IfOk result (λ o. IfSome o (λ v. v.items ≡ who_goes size fids items.now)) }
+    ensures once { IsDistinct same_fid (fids_of items.now) → IfOk result IsSome }
 {
     match queue_of(alloc, items)? {
-        Some(queue) => match queue.who_goes(alloc, size, kept)? {
-            Some(gone) => Ok(Some(gone.fids)),
-            None => Ok(None),
-        },
+        Some(queue) => {
+            let gone = queue.who_goes(alloc, size, kept)?;
+            Ok(Some(gone.fids))
+        }
         None => Ok(None),
     }
 }

@@ -1,5 +1,4 @@
 use Rattle.std.proofs.Common.{◌≡◌, sym, ap, ◌∙◌, subst, arith}
-use Rattle.std.specs.Option.{IfSome}
 use Rattle.coda_walk.specs.Going.{who_goes}
 use Rattle.coda_cache.specs.State.{CacheState}
 use Rattle.coda_cache.specs.Indexed.{standings}
@@ -7,11 +6,11 @@ use Rattle.coda_cache.proofs.Removed.{keys_listed}
 use Rattle.coda_cache.proofs.Chosen.{fresh_queue, goes_for}
 use Rattle.coda_cache.proofs.contents.Contents.going_from.Goals as goal
 
-pub returns-in-Some-2 : goal.returns-in-Some-2
-returns-in-Some-2 c parent keep are =
+pub returns : goal.returns
+returns c parent keep are =
     let size = ap (λ (x : CacheState). x.size) c.self.view_is in
     let old = c.blocks-2.ensures in
-    let taken = c.in-Some.ensures in
-    subst (λ o. IfSome o (λ gone. gone.fids.items ≡ who_goes c.in-Some.size c.args.stay.now.keys (standings c.args.self.now))) c.in-Some-2.is (c.in_ok-gone-in-Some.ensures.fids c.args.stay.now.keys (standings c.args.self.now) c.requires.queue (keys_listed c.args.stay.now.keys))
-    ∙ goes_for c.args.self.now c.agree.ensures (fresh_queue c.args.queue.now c.args.self.now c.requires.queue) c.args.fid parent c.args.blocks keep c.args.stay.now.keys (λ g. sym (keys_listed c.args.stay.now.keys g) ∙ are g) c.in-Some.size
-    (omega (arith, size, old, taken))
+    let room = c.requires.room in
+    c.in_ok-gone.ensures.fids c.args.stay.now.keys (standings c.args.self.now) c.requires.queue (keys_listed c.args.stay.now.keys)
+    ∙ goes_for c.args.self.now c.agree.ensures (fresh_queue c.args.queue.now c.args.self.now c.requires.queue) c.args.fid parent c.args.blocks keep c.args.stay.now.keys (λ g. sym (keys_listed c.args.stay.now.keys g) ∙ are g) _
+    (omega (arith, size, old, room))

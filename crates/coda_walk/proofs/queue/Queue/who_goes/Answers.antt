@@ -1,4 +1,4 @@
-use Rattle.std.proofs.Common.{true, false, ap, ◌∙◌, subst}
+use Rattle.std.proofs.Common.{ap, ◌∙◌, subst}
 use Rattle.std.specs.Prelude.{nat_le}
 use Rattle.coda_walk.specs.Leaving.{HaveLeft, IsTurn}
 use Rattle.coda_walk.proofs.queue.Queue.who_goes.Goals as goal
