@@ -1,14 +1,16 @@
 -- That each cached node is kept under its parent after each step of a cache.
 use Rattle.std.proofs.Common.{◌≡◌, ℕ, Bool, true, false, cond, ◌&&◌, List, [], ◌∷◌, Option, Some, None, option_map, refl, sym, ap, ◌∙◌, inl, inr}
 use Rattle.std.specs.Prelude.{if◌then◌else◌}
-use Rattle.std.specs.Option.{IfSome}
-use Rattle.std.specs.BTreeMap.{BTreeMap}
+use Rattle.std.specs.Option.{IfSome, option_map_or}
+use Rattle.std.specs.HashMap as hash
+use Rattle.std.specs.HashMap.{HashMap}
+use Rattle.std.specs.BTreeSet as btree
 use Rattle.std.specs.BTreeSet.{BTreeSet}
 use Rattle.std.specs.FinMap as map
 use Rattle.coda_fid.specs.declared.fid.Fid.{Fid}
 use Rattle.coda_fid.specs.declared.op.Record.{Record}
 use Rattle.coda_fid.specs.Op.{fids_of}
-use Rattle.coda_fid.specs.Fid.{same_fid}
+use Rattle.coda_fid.specs.Fid.{fid_cmp, same_fid}
 use Rattle.coda_fid.proofs.Fids.{fids_total, exact_fids, same_fid_is, same_fid_refl}
 use Rattle.coda_tree.specs.declared.node.Node.{Node}
 use Rattle.coda_tree.specs.Slots.{altered}
@@ -36,13 +38,13 @@ under_same s p q same h = (elim s.parents as (λ o. IfSome o (λ parents. (f d :
   | Some parents ↦ λ h f d e. h f d (sym (same f) ∙ e)
 ]) h
 
--- what is kept where one fid is put in or taken out
-pub kept_with : (parents rest : BTreeMap Fid (BTreeSet Fid)) (dir fid : Fid) (there : Bool) (had has : Fid → Bool) → ((f : Fid) → had f ≡ is_kept_under parents dir f) → ((p f : Fid) → same_fid dir p ≡ false → is_kept_under rest p f ≡ is_kept_under parents p f) →
-    ((f : Fid) → has f ≡ cond (same_fid fid f) there (had f)) → (p f : Fid) → cond (same_fid dir p) (has f) (is_kept_under rest p f) ≡ cond (same_fid dir p && same_fid fid f) there (is_kept_under parents p f)
-kept_with parents rest dir fid there had has was others now p f = (elim (same_fid dir p) as (λ b. same_fid dir p ≡ b → cond b (has f) (is_kept_under rest p f) ≡ cond (b && same_fid fid f) there (is_kept_under parents p f)) [
-  | true ↦ λ e. now f ∙ ap (cond (same_fid fid f) there) (was f ∙ ap (λ x. is_kept_under parents x f) (same_fid_is dir p e))
-  | false ↦ λ e. others p f e
-]) refl
+-- what is kept where nothing was kept under a directory and nothing is
+pub none_kept : {S : Type 0} (old new : HashMap Fid (BTreeSet Fid) S) (dir : Fid) → ((q : Fid) → hash.get same_fid new q ≡ cond (same_fid dir q) None (hash.get same_fid old q)) → ((f : Fid) → is_kept_under old dir f ≡ false) → (p f : Fid) → is_kept_under new p f ≡ is_kept_under old p f
+none_kept old new dir gone none p f = ap (λ (o : Option (BTreeSet Fid)). option_map_or (λ fids. btree.contains fid_cmp fids f) o false) (gone p)
+    ∙ (elim (same_fid dir p) as (λ b. same_fid dir p ≡ b → option_map_or (λ fids. btree.contains fid_cmp fids f) (cond b None (hash.get same_fid old p)) false ≡ is_kept_under old p f) [
+      | true ↦ λ e. sym (ap (λ x. is_kept_under old x f) (sym (same_fid_is dir p e)) ∙ none f)
+      | false ↦ λ _. refl
+    ]) refl
 
 -- ---- under what nodes are cached after each change of holds
 

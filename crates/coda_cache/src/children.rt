@@ -1,75 +1,103 @@
-ghost use Rattle.std.specs.Prelude.{◌≡◌, ◌&&◌, Bool, true, false, cond, Option, Some, None, IfSome};
-ghost use Rattle.std.specs.BTreeSet as btree;
+ghost use Rattle.std.specs.Prelude.{◌≡◌, ◌&&◌, Bool, true, false, cond, Option, Some, None, IfSome, IsSome, IfOk, OnOk};
+ghost use Rattle.std.specs.Bool.{OnTrue};
+ghost use Rattle.std.specs.HashMap as hash;
 ghost use Rattle.coda_fid.specs.declared.fid.Fid.{Fid};
-ghost use Rattle.coda_fid.specs.Fid.{fid_cmp, same_fid};
+ghost use Rattle.coda_fid.specs.Fid.{same_fid};
 ghost use Rattle.coda_walk.specs.Going.{is_listed};
 ghost use Rattle.coda_cache.specs.State.{parent_of};
 ghost use Rattle.coda_cache.specs.Indexed.{AreUnder, is_parent, is_kept_under};
 
 use crate::contents::Contents;
-use crate::marks::with;
+use crate::marks::{only, put_or_take};
 use coda_fid::Fid;
-use std::alloc::Global;
-use std::collections::{BTreeMap, BTreeSet};
+use std::alloc::{AllocError, Global};
+use std::collections::{BTreeSet, HashMap};
 
 // The fids of the cached nodes, by the directory under which each is cached. Where a change wanted memory that was not there,
 // they are given up.
 #[derive(Drop)]
 pub(crate) struct Children {
     pub alloc: Global,
-    pub parents: Option<BTreeMap<Fid, BTreeSet<Fid>>>,
+    pub parents: Option<HashMap<Fid, BTreeSet<Fid>>>,
 }
 
-// Takes out the fids that are kept under a directory.
-fn take_fids(
+// Changes the fids that are kept under a directory by one, where some are, and answers whether none are then.
+fn change(
+    parents: &mut HashMap<Fid, BTreeSet<Fid>>,
+    parent: Fid,
+    fid: Fid,
+    there: bool,
+) -> Result<bool, AllocError>
+    requires { IsSome (hash.get same_fid parents.old parent) }
+    ensures kept { OnOk result ((p f : Fid) → is_kept_under parents.new p f ≡ cond (same_fid parent p && same_fid fid f) there (is_kept_under parents.old p f)) }
+    ensures none { IfOk result (λ none. OnTrue none ((f : Fid) → is_kept_under parents.new parent f ≡ false)) }
+{
+    match parents.get_mut(&parent) {
+        Some(fids) => put_or_take(fids, fid, there),
+        None => Ok(false),
+    }
+}
+
+// Keeps a first fid under a directory, where it is to be there.
+fn begin(
     alloc: Global,
-    parents: &mut BTreeMap<Fid, BTreeSet<Fid>>,
+    parents: &mut HashMap<Fid, BTreeSet<Fid>>,
     parent: Fid,
-) -> BTreeSet<Fid>
-    ensures fids { (f : Fid) → btree.contains fid_cmp result f ≡ is_kept_under parents.old parent f }
-    ensures none { (f : Fid) → is_kept_under parents.new parent f ≡ false }
-    ensures others { (p f : Fid) → same_fid parent p ≡ false → is_kept_under parents.new p f ≡ is_kept_under parents.old p f }
+    fid: Fid,
+    there: bool,
+) -> Result<(), AllocError>
+    requires { hash.get same_fid parents.old parent ≡ None }
+    ensures { OnOk result ((p f : Fid) → is_kept_under parents.new p f ≡ cond (same_fid parent p && same_fid fid f) there (is_kept_under parents.old p f)) }
 {
-    match parents.remove(&parent) {
-        Some(fids) => fids,
-        None => BTreeSet::new(alloc),
+    if there {
+        let fids = only(alloc, fid)?;
+        parents.insert(parent, fids)?;
     }
+    Ok(())
 }
 
-// Puts in the fids that are kept under a directory, where there are any.
-fn put_fids(
-    parents: BTreeMap<Fid, BTreeSet<Fid>>,
-    parent: Fid,
-    fids: BTreeSet<Fid>,
-) -> Option<BTreeMap<Fid, BTreeSet<Fid>>>
-    requires { (f : Fid) → is_kept_under parents parent f ≡ false }
-    ensures { IfSome result (λ s. (p f : Fid) → is_kept_under s p f ≡ cond (same_fid parent p) (btree.contains fid_cmp fids f) (is_kept_under parents p f)) }
+// Keeps no set for a directory under which no fid is kept.
+fn forget(parents: &mut HashMap<Fid, BTreeSet<Fid>>, parent: Fid)
+    requires { (f : Fid) → is_kept_under parents.old parent f ≡ false }
+    ensures { (p f : Fid) → is_kept_under parents.new p f ≡ is_kept_under parents.old p f }
 {
-    if fids.is_empty() {
-        return Some(parents);
-    }
-    let mut parents = parents;
-    match parents.insert(parent, fids) {
-        Ok(_) => Some(parents),
-        Err(_) => None,
+    let _ = parents.remove(&parent);
+}
+
+// Keeps a fid under a directory, where it is to be there, or keeps it no longer.
+fn set_under(
+    alloc: Global,
+    parents: &mut HashMap<Fid, BTreeSet<Fid>>,
+    parent: Fid,
+    fid: Fid,
+    there: bool,
+) -> Result<(), AllocError>
+    ensures { OnOk result ((p f : Fid) → is_kept_under parents.new p f ≡ cond (same_fid parent p && same_fid fid f) there (is_kept_under parents.old p f)) }
+{
+    if parents.contains_key(&parent) {
+        if change(parents, parent, fid, there)? {
+            forget(parents, parent);
+        }
+        Ok(())
+    } else {
+        begin(alloc, parents, parent, fid, there)
     }
 }
 
 // What is kept, with a fid under a directory, where it is to be there, or without it.
 fn with_fid(
     alloc: Global,
-    parents: BTreeMap<Fid, BTreeSet<Fid>>,
+    parents: HashMap<Fid, BTreeSet<Fid>>,
     parent: Fid,
     fid: Fid,
     there: bool,
-) -> Option<BTreeMap<Fid, BTreeSet<Fid>>>
+) -> Option<HashMap<Fid, BTreeSet<Fid>>>
     ensures { IfSome result (λ s. (p f : Fid) → is_kept_under s p f ≡ cond (same_fid parent p && same_fid fid f) there (is_kept_under parents p f)) }
 {
     let mut parents = parents;
-    let fids = take_fids(alloc, &mut parents, parent);
-    match with(fids, fid, there) {
-        Some(fids) => put_fids(parents, parent, fids),
-        None => None,
+    match set_under(alloc, &mut parents, parent, fid, there) {
+        Ok(()) => Some(parents),
+        Err(_) => None,
     }
 }
 
@@ -80,7 +108,7 @@ impl Children {
     {
         Children {
             alloc,
-            parents: Some(BTreeMap::new(alloc)),
+            parents: Some(HashMap::new(alloc)),
         }
     }
 

@@ -11,7 +11,7 @@ ghost use Rattle.coda_cache.specs.Indexed.{is_parent, is_kept_under, is_under_an
 use crate::contents::Contents;
 use coda_fid::Fid;
 use std::alloc::AllocError;
-use std::collections::{BTreeMap, BTreeSet};
+use std::collections::{BTreeSet, HashMap};
 
 // Whether a node is cached under a directory.
 fn is_child(contents: &Contents, dir: Fid, fid: Fid) -> bool
@@ -43,7 +43,7 @@ fn add_among(
 // Adds the nodes that are cached under a directory.
 fn add_under(
     contents: &Contents,
-    parents: &BTreeMap<Fid, BTreeSet<Fid>>,
+    parents: &HashMap<Fid, BTreeSet<Fid>>,
     level: &mut Vec<Fid>,
     dir: Fid,
 ) -> Result<(), AllocError>
@@ -59,7 +59,7 @@ fn add_under(
 // The nodes that are cached under one of these.
 fn next_level(
     contents: &Contents,
-    parents: &BTreeMap<Fid, BTreeSet<Fid>>,
+    parents: &HashMap<Fid, BTreeSet<Fid>>,
     level: &[Fid],
 ) -> Result<Vec<Fid>, AllocError>
     requires { (f p : Fid) → parent_of contents.now f ≡ Some p → is_kept_under parents.now p f ≡ true }
@@ -88,7 +88,7 @@ fn add_cached(contents: &Contents, below: &mut Vec<Fid>, level: &[Fid]) -> Resul
 // nodes. Fails for want of memory alone.
 pub(crate) fn below(
     contents: &Contents,
-    parents: &BTreeMap<Fid, BTreeSet<Fid>>,
+    parents: &HashMap<Fid, BTreeSet<Fid>>,
     fid: Fid,
 ) -> Result<Vec<Fid>, AllocError>
     requires { (f p : Fid) → parent_of contents.now f ≡ Some p → is_kept_under parents.now p f ≡ true }

@@ -1,4 +1,5 @@
-ghost use Rattle.std.specs.Prelude.{◌≡◌, ◌&&◌, ◌||◌, not, Bool, false, cond, IfOk, IfSome};
+ghost use Rattle.std.specs.Prelude.{◌≡◌, ◌&&◌, ◌||◌, not, Bool, false, cond, IfOk, IfSome, OnOk};
+ghost use Rattle.std.specs.Bool.{OnTrue};
 ghost use Rattle.std.specs.BTreeSet as btree;
 ghost use Rattle.coda_fid.specs.declared.fid.Fid.{Fid};
 ghost use Rattle.coda_fid.specs.Fid.{fid_cmp, same_fid};
@@ -17,19 +18,48 @@ pub(crate) struct Marks {
     pub fids: Option<BTreeSet<Fid>>,
 }
 
+// Puts a fid into a set, where it is to be there, or takes it out.
+pub(crate) fn set_in(fids: &mut BTreeSet<Fid>, fid: Fid, there: bool) -> Result<(), AllocError>
+    ensures { OnOk result ((f : Fid) → btree.contains fid_cmp fids.new f ≡ cond (same_fid fid f) there (btree.contains fid_cmp fids.old f)) }
+{
+    if there {
+        fids.insert(fid)?;
+    } else {
+        let _ = fids.remove(&fid);
+    }
+    Ok(())
+}
+
+// The same, and answers whether the set is empty then.
+pub(crate) fn put_or_take(
+    fids: &mut BTreeSet<Fid>,
+    fid: Fid,
+    there: bool,
+) -> Result<bool, AllocError>
+    ensures fids { OnOk result ((f : Fid) → btree.contains fid_cmp fids.new f ≡ cond (same_fid fid f) there (btree.contains fid_cmp fids.old f)) }
+    ensures none { IfOk result (λ none. OnTrue none ((f : Fid) → btree.contains fid_cmp fids.new f ≡ false)) }
+{
+    set_in(fids, fid, there)?;
+    Ok(fids.is_empty())
+}
+
+// A set of one fid.
+pub(crate) fn only(alloc: Global, fid: Fid) -> Result<BTreeSet<Fid>, AllocError>
+    ensures { IfOk result (λ s. (f : Fid) → btree.contains fid_cmp s f ≡ same_fid fid f) }
+{
+    let mut fids = BTreeSet::new(alloc);
+    fids.insert(fid)?;
+    Ok(fids)
+}
+
 // The fids with one of them, where it is to be there, or without it.
 pub(crate) fn with(fids: BTreeSet<Fid>, fid: Fid, there: bool) -> Option<BTreeSet<Fid>>
     ensures { IfSome result (λ s. (f : Fid) → btree.contains fid_cmp s f ≡ cond (same_fid fid f) there (btree.contains fid_cmp fids f)) }
 {
     let mut fids = fids;
-    if there {
-        match fids.insert(fid) {
-            Ok(_) => Some(fids),
-            Err(_) => None,
-        }
-    } else {
-        let _ = fids.remove(&fid);
-        Some(fids)
+    match set_in(&mut fids, fid, there) {
+        Ok(()) => Some(fids),
+        Err(_) => None,
     }
 }
 

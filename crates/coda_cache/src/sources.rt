@@ -1,14 +1,15 @@
-ghost use Rattle.std.specs.Prelude.{◌≡◌, ◌&&◌, ◌==◌, Bool, true, false, cond, ℕ, Option, None, Some, IfOk, IfSome};
+ghost use Rattle.std.specs.Prelude.{◌≡◌, ◌&&◌, ◌==◌, Bool, true, false, cond, ℕ, Option, None, Some, IfOk, IfSome, IsSome, OnOk};
 ghost use Rattle.std.specs.List.{filter};
-ghost use Rattle.std.specs.BTreeSet as btree;
+ghost use Rattle.std.specs.BTreeMap as tree;
+ghost use Rattle.std.specs.Ordering.{nat_cmp};
 ghost use Rattle.coda_fid.specs.declared.fid.Fid.{Fid};
-ghost use Rattle.coda_fid.specs.Fid.{fid_cmp, same_fid};
+ghost use Rattle.coda_fid.specs.Fid.{same_fid};
 ghost use Rattle.coda_walk.specs.Going.{is_listed};
 ghost use Rattle.coda_cache.specs.State.{source_of};
 ghost use Rattle.coda_cache.specs.Indexed.{AreCovered, same_server, is_from, is_kept_for};
 
 use crate::contents::Contents;
-use crate::marks::with;
+use crate::marks::{only, set_in};
 use coda_fid::Fid;
 use std::alloc::{AllocError, Global};
 use std::collections::{BTreeMap, BTreeSet};
@@ -21,29 +22,54 @@ pub(crate) struct Sources {
     pub servers: Option<BTreeMap<u8, BTreeSet<Fid>>>,
 }
 
-// Takes out the fids that are kept for a server.
-fn take_fids(alloc: Global, servers: &mut BTreeMap<u8, BTreeSet<Fid>>, server: u8) -> BTreeSet<Fid>
-    ensures fids { (f : Fid) → btree.contains fid_cmp result f ≡ is_kept_for servers.old server f }
-    ensures others { (t : ℕ) (f : Fid) → same_server server t ≡ false → is_kept_for servers.new t f ≡ is_kept_for servers.old t f }
+// Changes the fids that are kept for a server by one, where a set of them is kept.
+fn change(
+    servers: &mut BTreeMap<u8, BTreeSet<Fid>>,
+    server: u8,
+    fid: Fid,
+    there: bool,
+) -> Result<(), AllocError>
+    requires { IsSome (tree.get nat_cmp servers.old server) }
+    ensures { OnOk result ((t : ℕ) (f : Fid) → is_kept_for servers.new t f ≡ cond (same_server server t && same_fid fid f) there (is_kept_for servers.old t f)) }
 {
-    match servers.remove(&server) {
-        Some(fids) => fids,
-        None => BTreeSet::new(alloc),
+    match servers.get_mut(&server) {
+        Some(fids) => set_in(fids, fid, there),
+        None => Ok(()),
     }
 }
 
-// Puts in the fids that are kept for a server.
-fn put_fids(
-    servers: BTreeMap<u8, BTreeSet<Fid>>,
+// Keeps a first fid for a server, where it is to be there.
+fn begin(
+    alloc: Global,
+    servers: &mut BTreeMap<u8, BTreeSet<Fid>>,
     server: u8,
-    fids: BTreeSet<Fid>,
-) -> Option<BTreeMap<u8, BTreeSet<Fid>>>
-    ensures { IfSome result (λ s. (t : ℕ) (f : Fid) → is_kept_for s t f ≡ cond (same_server server t) (btree.contains fid_cmp fids f) (is_kept_for servers t f)) }
+    fid: Fid,
+    there: bool,
+) -> Result<(), AllocError>
+    requires { tree.get nat_cmp servers.old server ≡ None }
+    ensures { OnOk result ((t : ℕ) (f : Fid) → is_kept_for servers.new t f ≡ cond (same_server server t && same_fid fid f) there (is_kept_for servers.old t f)) }
 {
-    let mut servers = servers;
-    match servers.insert(server, fids) {
-        Ok(_) => Some(servers),
-        Err(_) => None,
+    if there {
+        let fids = only(alloc, fid)?;
+        servers.insert(server, fids)?;
+    }
+    Ok(())
+}
+
+// Keeps a fid for a server, where it is to be there, or keeps it no longer.
+fn set_for(
+    alloc: Global,
+    servers: &mut BTreeMap<u8, BTreeSet<Fid>>,
+    server: u8,
+    fid: Fid,
+    there: bool,
+) -> Result<(), AllocError>
+    ensures { OnOk result ((t : ℕ) (f : Fid) → is_kept_for servers.new t f ≡ cond (same_server server t && same_fid fid f) there (is_kept_for servers.old t f)) }
+{
+    if servers.contains_key(&server) {
+        change(servers, server, fid, there)
+    } else {
+        begin(alloc, servers, server, fid, there)
     }
 }
 
@@ -58,10 +84,9 @@ fn with_fid(
     ensures { IfSome result (λ s. (t : ℕ) (f : Fid) → is_kept_for s t f ≡ cond (same_server server t && same_fid fid f) there (is_kept_for servers t f)) }
 {
     let mut servers = servers;
-    let fids = take_fids(alloc, &mut servers, server);
-    match with(fids, fid, there) {
-        Some(fids) => put_fids(servers, server, fids),
-        None => None,
+    match set_for(alloc, &mut servers, server, fid, there) {
+        Ok(()) => Some(servers),
+        Err(_) => None,
     }
 }
 
