@@ -77,3 +77,78 @@ fn pinned_nodes_stay(rt: HostRuntime) -> Result<(), Fail> {
     assert!(rt; cache.recency()?.is_empty());
     Ok(())
 }
+
+// A cache with a root, of which two directories stand: of the first a directory with a link, and a link, and of the second a
+// link. They were put from the top, and then the first directory was used.
+fn levels(alloc: Global) -> Result<Cache, AllocError> {
+    let mut cache = Cache::new(alloc, 8)?;
+    cache.put(fid(0), None, link(alloc)?, Some(1))?;
+    cache.put(fid(1), Some(fid(0)), link(alloc)?, Some(1))?;
+    cache.put(fid(2), Some(fid(0)), link(alloc)?, Some(1))?;
+    cache.put(fid(11), Some(fid(1)), link(alloc)?, Some(1))?;
+    cache.put(fid(12), Some(fid(1)), link(alloc)?, Some(2))?;
+    cache.put(fid(111), Some(fid(11)), link(alloc)?, Some(1))?;
+    cache.put(fid(21), Some(fid(2)), link(alloc)?, Some(1))?;
+    cache.touch(fid(1));
+    Ok(cache)
+}
+
+// What is cached below a node is listed by its use, and not by its level.
+#[test]
+fn what_is_below_is_listed_by_use(rt: HostRuntime) -> Result<(), Fail> {
+    let mut cache = levels(rt.alloc())?;
+    let below = cache.at_or_below(fid(1))?;
+    assert_eq!(rt;
+        below.as_slice(),
+        [fid(11), fid(12), fid(111), fid(1)].as_slice()
+    );
+    cache.touch(fid(11));
+    let below = cache.at_or_below(fid(1))?;
+    assert_eq!(rt;
+        below.as_slice(),
+        [fid(12), fid(111), fid(1), fid(11)].as_slice()
+    );
+    let below = cache.at_or_below(fid(21))?;
+    assert_eq!(rt; below.as_slice(), [fid(21)].as_slice());
+    assert!(rt; cache.at_or_below(fid(3))?.is_empty());
+    Ok(())
+}
+
+// A directory is removed with all levels below it, and what stands beside it stays as it was.
+#[test]
+fn levels_are_removed(rt: HostRuntime) -> Result<(), Fail> {
+    let mut cache = levels(rt.alloc())?;
+    cache.pin(&[fid(111), fid(21)]);
+    cache.remove(fid(1));
+    assert_eq!(rt;
+        cache.recency()?.as_slice(),
+        [fid(0), fid(2), fid(21)].as_slice()
+    );
+    assert!(rt; !cache.contains(fid(111)));
+    assert!(rt; !cache.is_dirty(fid(111)));
+    assert!(rt; cache.is_dirty(fid(21)));
+    assert_eq!(rt; cache.parent(fid(11)), None);
+    assert_eq!(rt; cache.parent(fid(21)), Some(fid(2)));
+    assert_eq!(rt; cache.source(fid(12)), None);
+    assert_eq!(rt; cache.source(fid(2)), Some(1));
+    cache.put(fid(11), Some(fid(2)), link(rt.alloc())?, Some(1))?;
+    let below = cache.at_or_below(fid(2))?;
+    assert_eq!(rt; below.as_slice(), [fid(2), fid(21), fid(11)].as_slice());
+    assert!(rt; cache.at_or_below(fid(1))?.is_empty());
+    Ok(())
+}
+
+// For one that needs all the room go the nodes of all levels, each before what it stands under.
+#[test]
+fn levels_go_from_below(rt: HostRuntime) -> Result<(), Fail> {
+    let mut cache = levels(rt.alloc())?;
+    let gone = cache.evict_for(fid(3), Some(fid(0)), 7, &[])?;
+    assert_eq!(rt;
+        gone.as_slice(),
+        [fid(12), fid(111), fid(11), fid(21), fid(2), fid(1)].as_slice()
+    );
+    cache.drop_all(&gone);
+    assert_eq!(rt; cache.recency()?.as_slice(), [fid(0)].as_slice());
+    assert!(rt; cache.at_or_below(fid(1))?.is_empty());
+    Ok(())
+}
