@@ -1,5 +1,4 @@
-use Rattle.std.proofs.Common.{◌≡◌, sym, ap, ◌∙◌, subst, arith}
-use Rattle.coda_walk.specs.Going.{who_goes}
+use Rattle.std.proofs.Common.{sym, ap, ◌∙◌, arith}
 use Rattle.coda_cache.specs.State.{CacheState}
 use Rattle.coda_cache.specs.Indexed.{standings}
 use Rattle.coda_cache.proofs.Removed.{keys_listed}
