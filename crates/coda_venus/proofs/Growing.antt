@@ -34,7 +34,8 @@ use Rattle.coda_venus.specs.Keeping.{record_of, unless_full, operation_unless, o
 use Rattle.coda_venus.specs.declared.refused.Refused.{Refused}
 use Rattle.coda_venus.specs.declared.refused.Refused.TheVariants.{JournalFull, LogFull}
 use Rattle.coda_venus.proofs.Ends.{end_upto, end_above}
-use Rattle.coda_venus.proofs.KeptLogs.{IsNumbered, logs_kept}
+use Rattle.coda_venus.proofs.KeptLogs.{logs_kept}
+use Rattle.coda_venus.specs.Logs.{IsNumbered}
 use Rattle.coda_venus.proofs.Ends.{begin_behind}
 
 pub payloads_push : (history : List Payload) (payload : Payload) → payloads_of (history ++ payload ∷ []) ≡ payloads_of history ++ payload_of payload ∷ []

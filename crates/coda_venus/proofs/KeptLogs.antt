@@ -1,5 +1,5 @@
 -- What a lawful history leaves of a client's logs.
-use Rattle.std.proofs.Common.{◌≡◌, ℕ, ◌+◌, ◌<◌, ◌≤◌, if◌then◌else◌, List, [], ◌∷◌, ◌++◌, take, drop, length, Option, Some, None, refl, sym, ap, ◌∙◌, subst, inl, inr, arith}
+use Rattle.std.proofs.Common.{◌≡◌, ℕ, ◌+◌, ◌<◌, ◌≤◌, if◌then◌else◌, List, [], ◌∷◌, ◌++◌, take, drop, length, None, refl, sym, ap, ◌∙◌, subst, inl, inr, arith}
 use Rattle.std.proofs.lemmas.Bool.{eq-eqb, ne_eqb, cases_eq}
 use Rattle.std.proofs.lemmas.List.{take-append-drop}
 use Rattle.std.proofs.lemmas.Option.{none-some}
@@ -12,7 +12,7 @@ use Rattle.coda_cancel.proofs.Turns.{rising_added}
 use Rattle.coda_certify.specs.declared.verdict.Verdict.{Verdict}
 use Rattle.coda_certify.specs.declared.verdict.Verdict.TheVariants.{Applied, Conflict}
 use Rattle.coda_cml.specs.Chunks.{chunk_length}
-use Rattle.coda_cml.specs.Partition.{BeginAbove, ArePartsOf}
+use Rattle.coda_cml.specs.Partition.{BeginAbove}
 use Rattle.coda_cml.specs.Regrouping.{is_inside}
 use Rattle.coda_cml.specs.Segments.{single}
 use Rattle.coda_cml.specs.State.{LogState, empty_log}
@@ -28,29 +28,15 @@ use Rattle.coda_journal.specs.declared.header.Header.{Header}
 use Rattle.coda_plain.proofs.Lists.{left_push, along}
 use Rattle.coda_record.specs.declared.entry.ClientEntry.{ClientEntry}
 use Rattle.coda_record.specs.declared.entry.ClientEntry.TheVariants.{Op, Freeze, Settled, Giveup, Fetched, Dropped}
+use Rattle.coda_venus.specs.Logs.{IsLogKept}
 use Rattle.coda_venus.specs.State.{ClientVolume, ClientState, put, new_client, ended_by, client_after, client_after_all}
 use Rattle.coda_venus.specs.History.{Payload, state_of, MayFreeze, MayEnter, MayEnterAll, MayFollow, IsHistory}
 use Rattle.coda_venus.proofs.Ends.{begin_both, begin_front, begin_behind, ended_front, chunk_within}
 
--- a chunk has a number from 1 on
-abbrev pub IsNumbered : Option Frozen → Type 0
-IsNumbered None = Unit {0}
-IsNumbered (Some chunk) = (1 ≤ chunk.number) × (chunk.number ≤ 4294967295)
-
--- Numbers rise from 1 on, and are 2^32 - 1 at most; the segments of each part have its records; and there is no chunk where none is frozen.
-pub record IsLogKept (log : LogState) : Type 0 where
-  pub rising : IsRising (log.chunk ++ log.records)
-  pub reached : AreUpTo log.last (log.chunk ++ log.records)
-  pub parts : ArePartsOf log.last log.chunk_segments log.chunk log.segments log.records
-  pub above : BeginAbove 0 (log.chunk_segments ++ log.segments)
-  pub thaws : log.frozen ≡ None → (log.chunk ≡ []) × (log.chunk_segments ≡ [])
-  pub few : log.last ≤ 4294967295
-  pub numbered : IsNumbered log.frozen
-
-empty_kept : IsLogKept empty_log
+pub empty_kept : IsLogKept empty_log
 empty_kept = record { rising = tt; reached = tt; parts = none_keeps 0; above = tt; thaws = λ e. (refl, refl); few = omega arith; numbered = tt }
 
-appended_kept : (log : LogState) (rec : Record) → IsLogKept log → rec.number ≡ log.last + 1 → rec.number ≤ 4294967295 → IsLogKept (appended_to log rec)
+pub appended_kept : (log : LogState) (rec : Record) → IsLogKept log → rec.number ≡ log.last + 1 → rec.number ≤ 4294967295 → IsLogKept (appended_to log rec)
 appended_kept log rec k next few =
     let later : log.last < rec.number = omega (arith, next) in
     let below = below_later log.last rec.number later log.records (upto_back log.last log.chunk log.records k.reached) in
@@ -79,7 +65,7 @@ frozen_kept log n chunk k some there low high =
       numbered = (low, high);
     }
 
-settled_kept : (verdict : Verdict) (log : LogState) → IsLogKept log → IsLogKept (settled verdict log)
+pub settled_kept : (verdict : Verdict) (log : LogState) → IsLogKept log → IsLogKept (settled verdict log)
 settled_kept Applied log k = record {
   rising = rising_behind log.chunk log.records k.rising;
   reached = upto_back log.last log.chunk log.records k.reached;
@@ -99,7 +85,7 @@ settled_kept (Conflict number why) log k = record {
   numbered = tt;
 }
 
-given_up_kept : (log : LogState) → IsLogKept log → log.frozen ≡ None → IsLogKept (given_up log)
+pub given_up_kept : (log : LogState) → IsLogKept log → log.frozen ≡ None → IsLogKept (given_up log)
 given_up_kept log k none =
     let chunk = (k.thaws none).0 in
     let segments = (k.thaws none).1 in
@@ -125,7 +111,7 @@ put_kept f volume v all is q = elim (cases_eq q volume) [
   | inr other ↦ subst (λ (w : ClientVolume). IsLogKept w.log) (sym (ap (λ b. if b then v else f q) (ne_eqb q volume other))) (all q)
 ]
 
-froze_kept : (log : LogState) (number home last : ℕ) → IsLogKept log → MayFreeze log number last → IsLogKept (frozen_at log (ended_by last log.segments) (record { number = number; home = home }))
+pub froze_kept : (log : LogState) (number home last : ℕ) → IsLogKept log → MayFreeze log number last → IsLogKept (frozen_at log (ended_by last log.segments) (record { number = number; home = home }))
 froze_kept log number home last k may =
     let goes = may_go log.frozen may.now may.window 64 log.segments may.goes in
     let next = may.next in

@@ -2,6 +2,8 @@ pub mod Endings
 pub mod ParentMap
 pub mod Ends
 pub mod KeptLogs
+pub mod SpelledLogs
+pub mod SendableLogs
 pub mod Chunked
 pub mod Unsettled
 pub mod Growing

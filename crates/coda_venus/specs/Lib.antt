@@ -8,6 +8,7 @@ pub mod Reaching
 pub mod History
 pub mod Code
 pub mod Operating
+pub mod Logs
 pub mod Standing
 pub mod Appending
 pub mod Keeping

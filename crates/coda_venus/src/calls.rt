@@ -4,13 +4,15 @@ ghost use Rattle.std.specs.BTreeMap as tree;
 ghost use Rattle.std.specs.Ordering.{nat_cmp};
 ghost use Rattle.std.specs.Result.{result_ok};
 ghost use Rattle.std.specs.Int.{w32};
+ghost use Rattle.coda_fid.specs.declared.fid.Fid.{Fid as AFid};
 ghost use Rattle.coda_io.specs.Faults.{counted, Rose};
 ghost use Rattle.coda_cml.specs.Steps.{settle_refusal};
 ghost use Rattle.coda_disk.specs.Told.{Kept};
 ghost use Rattle.coda_journal.specs.Entries.{framed};
 ghost use Rattle.coda_journal.specs.declared.header.Header.{Header as AskedHeader};
 ghost use Rattle.coda_record.specs.Spelling.{HasSpelling};
-ghost use Rattle.coda_record.specs.Table.{volume as a_volume, server as a_server, verdict as a_verdict};
+ghost use Rattle.coda_record.specs.Form.{four};
+ghost use Rattle.coda_record.specs.Table.{volume as a_volume, server as a_server, verdict as a_verdict, records as some_records};
 ghost use Rattle.coda_record.specs.declared.entry.ClientEntry.TheVariants.{Op as OpEntry, Freeze as FreezeEntry, Settled as SettledEntry};
 ghost use Rattle.coda_spelling.specs.Spelled.{IsSpelled, AreSpelled};
 ghost use Rattle.coda_venus.specs.Ask.{asked, IsAskSpelled};
@@ -131,6 +133,7 @@ impl<D: Disk> Venus<D> {
         ensures keeps { (header : AskedHeader) (history : List Payload) → IsUp D.told header self.old history → MayOperate (state_of header history) volume rec
             → KeepingOne D.told header self.old history (OpEntry volume rec ∷ []) self.new result }
         ensures never { result ≢ Err Refused.Down }
+        ensures cached { (fid : AFid) → result ≢ Err (Refused.Need fid) }
         ensures falls { Falls self.old.down self.new.down result }
         ensures later { D.faults self.old.journal.disk ≤ D.faults self.new.journal.disk }
         ensures cause { IsErrOf result Refused.DiskFault → Rose (D.faults self.old.journal.disk) (D.faults self.new.journal.disk) }
@@ -163,6 +166,7 @@ impl<D: Disk> Venus<D> {
             → DoesKeepIn D.told header self.old history (operate_due (state_of header history) now volume (asked ask.now)) self.new result }
         ensures done { (header : AskedHeader) (history : List Payload) → IsUp D.told header self.old history
             → IfOk result (λ done. option_map done_of (result_ok (operation (state_of header history) now volume (asked ask.now))) ≡ Some done) }
+        ensures needs { (fid : AFid) → result ≡ Err (Refused.Need fid) → self.new ≡ self.old }
         ensures down { self.old.down ≡ true → (result ≡ Err Refused.Down) × (self.new ≡ self.old) }
         ensures only_down { result ≡ Err Refused.Down → self.old.down ≡ true }
         ensures falls { Falls self.old.down self.new.down result }
@@ -300,7 +304,8 @@ impl<D: Disk> Venus<D> {
     /// The records of the chunk of a volume that is on its way, while the client isn't down; none where none is frozen.
     pub fn chunk(&self, volume: u32) -> &[Record]
         requires { self.now.down ≡ false }
-        ensures { (c : ClientState) → IsClient c self.now.client → result.now ≡ (c.volumes volume).log.chunk }
+        ensures records { (c : ClientState) → IsClient c self.now.client → result.now ≡ (c.volumes volume).log.chunk }
+        ensures sendable { HasSpelling (some_records four) result.now }
     {
         match self.client.logs.get(&volume) {
             Some(log) => log.log.chunk(),

@@ -1,5 +1,5 @@
 // What a client on a disk fetched.
-ghost use Rattle.std.specs.Prelude.{◌≡◌, ◌≢◌, ◌≤◌, List, [], ◌∷◌, true, false, None, IsErrOf, Err};
+ghost use Rattle.std.specs.Prelude.{◌≡◌, ◌≢◌, ◌≤◌, List, [], ◌∷◌, true, false, None, IsErrOf, OnOk, Err};
 ghost use Rattle.std.specs.FinMap as map;
 ghost use Rattle.coda_fid.specs.declared.fid.Fid.{Fid as AFid};
 ghost use Rattle.coda_io.specs.Faults.{Rose};
@@ -68,6 +68,7 @@ impl<D: Disk> Venus<D> {
         ensures keeps { (header : AskedHeader) (history : List Payload) → IsUp D.told header self.old history
             → KeepingOne D.told header self.old history (FetchedEntry fid parent node ∷ []) self.new result }
         ensures never { result ≢ Err Refused.Down }
+        ensures held { OnOk result (self.new.client.nodes ≡ map.insert self.old.client.nodes fid node) }
         ensures falls { Falls self.old.down self.new.down result }
         ensures later { D.faults self.old.journal.disk ≤ D.faults self.new.journal.disk }
         ensures cause { IsErrOf result Refused.DiskFault → Rose (D.faults self.old.journal.disk) (D.faults self.new.journal.disk) }
@@ -108,6 +109,7 @@ impl<D: Disk> Venus<D> {
         requires missed { IsMissed self.old.client.nodes fid }
         ensures keeps { (header : AskedHeader) (history : List Payload) → IsUp D.told header self.old history
             → DoesKeep D.told header self.old history (fetched_due (state_of header history) fid node) self.new result }
+        ensures held { OnOk result (self.new.client.nodes ≡ map.insert self.old.client.nodes fid node) }
         ensures down { self.old.down ≡ true → (result ≡ Err Refused.Down) × (self.new ≡ self.old) }
         ensures only_down { result ≡ Err Refused.Down → self.old.down ≡ true }
         ensures falls { Falls self.old.down self.new.down result }

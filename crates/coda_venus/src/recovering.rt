@@ -6,6 +6,7 @@ ghost use Rattle.coda_journal.specs.declared.header.Kind.TheVariants.{Client as 
 ghost use Rattle.coda_spelling.specs.Spelled.{AreSpelled};
 ghost use Rattle.coda_venus.specs.Entering.{Enters, IsUnfit, AreEntered, Breaks};
 ghost use Rattle.coda_venus.specs.History.{MayEnter, MayEnterAll};
+ghost use Rattle.coda_venus.specs.Logs.{AreSendable};
 ghost use Rattle.coda_venus.specs.State.{ClientState, new_client, client_after, client_after_all};
 
 use crate::client::Client;
@@ -97,6 +98,7 @@ pub(crate) fn client_of(
     ensures breaks { (at : ℕ) → result ≡ Err (MountFault.Foreign at) → Breaks header.now payloads.now start at }
     ensures no_fault { result ≢ Err MountFault.DiskFault }
     ensures spelled { IfOk result (λ c. AreSpelled c.nodes) }
+    ensures sendable { IfOk result (λ c. AreSendable c.logs) }
 {
     let mut client = Client::new(alloc, header.number as u8, header.cache);
     client.enter_payloads(payloads, start)?;

@@ -1,5 +1,6 @@
 ghost use Rattle.std.specs.Prelude.{◌<◌};
 ghost use Rattle.coda_spelling.specs.Spelled.{AreSpelled};
+ghost use Rattle.coda_venus.specs.Logs.{AreSendable};
 
 use crate::client::Client;
 use coda_journal::Journal;
@@ -17,4 +18,5 @@ pub struct Venus<D> {
 
     ghost numbered: { client.number < 256 },
     ghost spelled: { AreSpelled client.nodes },
+    ghost sendable: { ∥ AreSendable client.logs ∥₁ },
 }

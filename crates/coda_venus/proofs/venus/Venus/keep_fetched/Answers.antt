@@ -1,4 +1,5 @@
 use Rattle.std.proofs.Common.{rules, refl, arith, ap, sym, subst, ◌≡◌, ◌<◌, [], ◌∷◌, length}
+use Rattle.std.proofs.Math.Logic.{∥∥₁_map}
 use Rattle.std.specs.Prelude.{Err}
 use Rattle.coda_record.specs.declared.entry.ClientEntry.TheVariants.{Fetched}
 use Rattle.coda_venus.specs.State.{client_after}
@@ -9,6 +10,7 @@ use Rattle.coda_venus.specs.declared.client.Client.{Client}
 use Rattle.coda_venus.specs.declared.refused.Refused.TheVariants.{Memory}
 use Rattle.coda_venus.proofs.Fetches.{may_fetch, spelled_with}
 use Rattle.coda_venus.proofs.Keepings.{written, no_memory}
+use Rattle.coda_venus.proofs.SendableLogs.{state_now, is_now, on_ok, sendable_after}
 use Rattle.coda_venus.proofs.venus.Venus.keep_fetched.Goals as goal
 
 pub returns-in_err-hold-clause-keeps : goal.returns-in_err-hold-clause-keeps
@@ -39,4 +41,6 @@ invariant_of-self g c =
     record {
       numbered = subst (λ n. n < 256) (sym c.hold.ensures.number) old.numbered;
       spelled = spelled_with c.hold.result old.client.nodes c.hold.new.self.nodes c.args.fid c.args.node c.hold.ensures.nodes c.hold.ensures.nodes_err old.spelled c.requires.node;
+      sendable = ∥∥₁_map old.sendable (λ all. sendable_after c.hold.result old.client c.hold.new.self (Fetched c.args.fid c.args.parent c.args.node) all (on_ok c.hold.result (Unit {0}) tt) (c.hold.ensures.entered (state_now old.client) (is_now old.client))
+          (c.hold.ensures.err (state_now old.client) (is_now old.client)));
     }

@@ -1,15 +1,17 @@
 use Rattle.std.proofs.Common.{◌<◌, rules, refl, arith, ap, sym, subst, ◌∙◌, ◌≡◌, ◌+◌, [], ◌∷◌, length, inl, inr}
+use Rattle.std.proofs.Math.Logic.{∥∥₁_map}
 use Rattle.std.specs.Prelude.{Err}
 use Rattle.coda_record.specs.declared.entry.ClientEntry.TheVariants.{Freeze}
 use Rattle.coda_spelling.specs.Spelled.{AreSpelled}
 use Rattle.coda_venus.specs.State.{client_after}
-use Rattle.coda_venus.specs.History.{Payload, payload_of, payloads_of, state_of}
+use Rattle.coda_venus.specs.History.{Payload, payload_of, payloads_of, state_of, last_to_go}
 use Rattle.coda_venus.specs.Code.{IsClient}
 use Rattle.coda_venus.specs.Keeping.{IsFull}
 use Rattle.coda_venus.specs.declared.client.Client.{Client}
 use Rattle.coda_venus.specs.declared.refused.Refused.TheVariants.{Memory}
 use Rattle.coda_venus.proofs.Growing.{next_is, may_freeze}
 use Rattle.coda_venus.proofs.Keepings.{written, no_memory, not_both}
+use Rattle.coda_venus.proofs.SendableLogs.{state_now, is_now, freezes, sendable_after}
 use Rattle.coda_venus.proofs.venus.Venus.keep_freeze.Goals as goal
 
 pub returns-in_err-freeze-clause-keeps : goal.returns-in_err-freeze-clause-keeps
@@ -42,7 +44,13 @@ returns-clause-keeps g c = λ header history up next.
     c.write.ensures.fault (c.write.ensures.writes header (payloads_of history) (payload_of payload) c.in_ok-frame.ensures up.journal)
 
 pub invariant_of-self : goal.invariant_of-self
-invariant_of-self g c = record {
-  numbered = subst (λ n. n < 256) (sym c.freeze.ensures.number) c.args.self.now.numbered;
-  spelled = subst AreSpelled (sym c.freeze.ensures.nodes) c.args.self.now.spelled;
-}
+invariant_of-self g c =
+    let old = c.args.self.now in
+    let state = state_now old.client in
+    let log = (state.volumes c.args.volume).log in
+    record {
+      numbered = subst (λ n. n < 256) (sym c.freeze.ensures.number) old.numbered;
+      spelled = subst AreSpelled (sym c.freeze.ensures.nodes) old.spelled;
+      sendable = ∥∥₁_map old.sendable (λ all. sendable_after c.freeze.result old.client c.freeze.new.self (Freeze c.args.volume (log.chunks + 1) c.args.home (last_to_go c.args.now c.args.window log.segments)) all
+          (freezes c.freeze.result log c.args.now c.args.window (c.freeze.ensures.only state (is_now old.client))) (c.freeze.ensures.frozen state (is_now old.client)) (c.freeze.ensures.err state (is_now old.client)));
+    }

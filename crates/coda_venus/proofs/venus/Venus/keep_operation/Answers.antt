@@ -1,15 +1,19 @@
-use Rattle.std.proofs.Common.{rules, refl, arith, ap, sym, subst, ◌≡◌, ◌<◌, [], ◌∷◌, length}
+use Rattle.std.proofs.Common.{rules, refl, arith, ap, sym, subst, ◌≡◌, ◌<◌, ◌≤◌, ◌+◌, [], ◌∷◌, length}
+use Rattle.coda_fid.specs.declared.op.Record.{Record}
+use Rattle.coda_spelling.specs.Spelled.{IsSpelled}
+use Rattle.std.proofs.Math.Logic.{∥∥₁_map}
 use Rattle.std.specs.Prelude.{Err}
 use Rattle.coda_record.specs.declared.entry.ClientEntry.TheVariants.{Op}
-use Rattle.coda_venus.specs.State.{client_after}
+use Rattle.coda_venus.specs.State.{ClientVolume, client_after}
 use Rattle.coda_venus.specs.History.{Payload, payload_of, payloads_of, state_of}
-use Rattle.coda_venus.specs.Code.{IsClient}
+use Rattle.coda_venus.specs.Code.{IsClient, MayPerform}
 use Rattle.coda_venus.specs.Keeping.{IsFull}
 use Rattle.coda_venus.specs.declared.client.Client.{Client}
 use Rattle.coda_venus.specs.declared.refused.Refused.TheVariants.{Memory}
 use Rattle.coda_venus.proofs.Growing.{may_operate}
 use Rattle.coda_venus.proofs.Entered.{spelled_after}
 use Rattle.coda_venus.proofs.Keepings.{written, no_memory}
+use Rattle.coda_venus.proofs.SendableLogs.{state_now, is_now, on_ok, sendable_after}
 use Rattle.coda_venus.proofs.venus.Venus.keep_operation.Goals as goal
 
 pub returns-in_err-enter_operation-clause-keeps : goal.returns-in_err-enter_operation-clause-keeps
@@ -40,4 +44,12 @@ invariant_of-self g c =
     record {
       numbered = subst (λ n. n < 256) (sym c.enter_operation.ensures.number) old.numbered;
       spelled = spelled_after c.enter_operation.result old.client.nodes c.enter_operation.new.self.nodes old.client.number c.args.rec c.enter_operation.ensures.nodes c.enter_operation.ensures.nodes_err old.spelled old.numbered c.requires.spelled;
+      sendable = ∥∥₁_map old.sendable (λ all. sendable_after c.enter_operation.result old.client c.enter_operation.new.self (Op c.args.volume c.args.rec) all (on_ok c.enter_operation.result _ (may_log c.args.rec c.requires.perform c.requires.spelled))
+          (c.enter_operation.ensures.entered (state_now old.client) (is_now old.client)) (c.enter_operation.ensures.err (state_now old.client) (is_now old.client)));
     }
+  where
+    may_log : {v : ClientVolume} (rec : Record) → MayPerform v rec → IsSpelled rec → (rec.number ≡ v.log.last + 1) × (rec.number ≤ 4294967295) × IsSpelled rec
+    may_log rec may is =
+        let next = may.next in
+        let few = may.few in
+        (next, omega (arith, next, few), is)

@@ -1,4 +1,5 @@
 use Rattle.std.proofs.Common.{◌<◌, rules, refl, arith, ap, sym, subst, ◌∙◌, ◌≡◌, [], ◌∷◌, length, inl, inr}
+use Rattle.std.proofs.Math.Logic.{∥∥₁_map}
 use Rattle.std.specs.Prelude.{Err, option_map}
 use Rattle.std.proofs.lemmas.Option.{none-some}
 use Rattle.coda_record.specs.declared.entry.ClientEntry.TheVariants.{Settled}
@@ -11,6 +12,7 @@ use Rattle.coda_venus.specs.declared.client.Client.{Client}
 use Rattle.coda_venus.specs.declared.refused.Refused.TheVariants.{Memory}
 use Rattle.coda_venus.proofs.Growing.{may_settle}
 use Rattle.coda_venus.proofs.Keepings.{written, no_memory}
+use Rattle.coda_venus.proofs.SendableLogs.{state_now, is_now, on_ok, sendable_after}
 use Rattle.coda_venus.proofs.venus.Venus.keep_settled.Goals as goal
 
 pub returns-in_err-settle-clause-keeps : goal.returns-in_err-settle-clause-keeps
@@ -42,4 +44,6 @@ pub invariant_of-self : goal.invariant_of-self
 invariant_of-self g c = record {
   numbered = subst (λ n. n < 256) (sym c.settle.ensures.number) c.args.self.now.numbered;
   spelled = subst AreSpelled (sym c.settle.ensures.nodes) c.args.self.now.spelled;
+  sendable = ∥∥₁_map c.args.self.now.sendable (λ all. sendable_after c.settle.result c.args.self.now.client c.settle.new.self (Settled c.args.volume c.args.number c.args.verdict.now) all (on_ok c.settle.result (Unit {0}) tt)
+      (c.settle.ensures.settled (state_now c.args.self.now.client) (is_now c.args.self.now.client)) (c.settle.ensures.err (state_now c.args.self.now.client) (is_now c.args.self.now.client)));
 }
