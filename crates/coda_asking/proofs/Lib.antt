@@ -1,0 +1,5 @@
+pub mod Spelled
+pub mod Absent
+pub mod Calls
+pub mod Ended
+pub mod Brought

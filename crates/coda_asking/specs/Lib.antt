@@ -1,0 +1,5 @@
+pub mod Spelling
+pub mod Fetching
+pub mod Unfetched
+pub mod Answering
+pub mod Laws
