@@ -1,0 +1,4 @@
+pub mod Form
+pub mod Plain
+pub mod Fits
+pub mod Slots

@@ -1,0 +1,32 @@
+-- What a slot has, and what its disk counts.
+use Rattle.std.specs.Prelude.{ℕ, Bool, true, false, not}
+use Rattle.coda_disk.specs.Bays.{plus}
+use Rattle.coda_actors.specs.Form.{Form}
+use Rattle.coda_actors.specs.declared.slot.Slot.{Slot}
+use Rattle.coda_actors.specs.declared.slot.Slot.TheVariants.{Vacant, Spare, Stopped, Started}
+
+-- a line made the actor
+abbrev pub is_made : {A D : Type 0} → Slot A D → Bool
+is_made Vacant = false
+is_made (Spare disk) = false
+is_made (Stopped header disk) = true
+is_made (Started header actor) = true
+
+-- the actor is up
+abbrev pub is_up : {A D : Type 0} → Form A D → Slot A D → Bool
+is_up form (Started header actor) = not (form.is_down actor)
+is_up form slot = false
+
+-- what the disk of the slot counts, and nothing where the slot has none
+abbrev pub count_in : {A D : Type 0} → Form A D → (D → ℕ) → Slot A D → ℕ
+count_in form count Vacant = 0
+count_in form count (Spare disk) = count disk
+count_in form count (Stopped header disk) = count disk
+count_in form count (Started header actor) = count (form.disk actor)
+
+-- a sum with what the disk of the slot counts
+abbrev pub sum_with : {A D : Type 0} → Form A D → (D → ℕ) → Slot A D → ℕ → ℕ
+sum_with form count Vacant sum = sum
+sum_with form count (Spare disk) sum = plus sum (count disk)
+sum_with form count (Stopped header disk) sum = plus sum (count disk)
+sum_with form count (Started header actor) sum = plus sum (count (form.disk actor))
