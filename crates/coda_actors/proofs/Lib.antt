@@ -1,0 +1,2 @@
+pub mod Mountings
+pub mod Deeds

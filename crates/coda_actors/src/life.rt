@@ -1,8 +1,9 @@
 // The life of an actor, from the line that makes it to the end of its cell.
-ghost use Rattle.std.specs.Prelude.{◌≡◌, ℕ, ◌≤◌, ◌++◌, ◌∷◌, [], List, Bool, true, false, IfOk, OnOk, OnErr, Err};
+ghost use Rattle.std.specs.Prelude.{◌≡◌, ℕ, ◌≤◌, ◌<◌, ◌^◌, ◌++◌, ◌∷◌, [], List, Bool, true, false, IfOk, OnOk, OnErr, Err};
 ghost use Rattle.coda_io.specs.Faults.{counted, Rose, HasCause};
 ghost use Rattle.coda_disk.specs.Bays.{plus, KeepsAll, KeepsOthers, PutsOut};
 ghost use Rattle.coda_journal.specs.Header.{IsHeader};
+ghost use Rattle.coda_journal.specs.Laws.{HasWords};
 ghost use Rattle.coda_actors.specs.Fits.{Fits, FitsHeld, FitsUnmade, Stays, StandsFor, IsOwn, IsPlaced, Others};
 ghost use Rattle.coda_actors.specs.Plain.{PlainActor, Opens, Crashes, Recovers, Arms, Leaves, Step};
 ghost use Rattle.coda_actors.specs.Slots.{is_made, is_up, count_in, sum_with};
@@ -12,6 +13,22 @@ use crate::slot::{Mounting, Slot};
 use coda_disk::{Bay, BayFault, Disk};
 use coda_journal::{Header, MountFault};
 use std::alloc::Global;
+
+// What the types of a header's numbers say of them.
+fn numbers(number: u32, area: u32, cache: u32)
+    ensures number { number < 2 ^ 32 }
+    ensures area { area < 2 ^ 32 }
+    ensures cache { cache < 2 ^ 32 }
+{
+    let _ = (number, area, cache);
+}
+
+// The bytes of a header hold its numbers.
+fn has_words(header: &Header)
+    ensures { HasWords header.now }
+{
+    numbers(header.number, header.area, header.cache);
+}
 
 // Mounts a disk of an actor that no line made.
 fn make<D: Disk, A: Actor<D>>(alloc: Global, disk: D, header: &Header) -> (Mounting, Slot<A, D>)
@@ -24,19 +41,26 @@ fn make<D: Disk, A: Actor<D>>(alloc: Global, disk: D, header: &Header) -> (Mount
     ensures cause { result.0 ≡ Mounting.DiskFault → Rose (D.faults disk) (count_in A.form D.faults result.1) }
     ensures arms { count_in A.form D.arms result.1 ≡ D.arms disk }
 {
+    has_words(header);
     match A::recover(alloc, disk, header) {
-        Ok((actor, count)) => {
-            let header = *header;
-            (Mounting::Entries(count), Slot::Started { header, actor })
-        }
+        Ok((actor, count)) => (
+            Mounting::Entries(count),
+            Slot::Started {
+                header: *header,
+                actor,
+            },
+        ),
         Err(unmounted) => {
             let disk = unmounted.disk;
             match unmounted.why {
                 MountFault::Foreign(at) => (Mounting::Foreign(at), Slot::Spare(disk)),
-                MountFault::DiskFault => {
-                    let header = *header;
-                    (Mounting::DiskFault, Slot::Stopped { header, disk })
-                }
+                MountFault::DiskFault => (
+                    Mounting::DiskFault,
+                    Slot::Stopped {
+                        header: *header,
+                        disk,
+                    },
+                ),
                 MountFault::Memory => (Mounting::Memory, Slot::Spare(disk)),
             }
         }
@@ -153,12 +177,11 @@ pub fn recover<D: Disk, A: Actor<D>>(alloc: Global, slot: Slot<A, D>) -> (Mounti
         Ok((actor, count)) => (Mounting::Entries(count), Slot::Started { header, actor }),
         Err(unmounted) => {
             let disk = unmounted.disk;
-            let mounting = match unmounted.why {
-                MountFault::Foreign(at) => Mounting::Foreign(at),
-                MountFault::DiskFault => Mounting::DiskFault,
-                MountFault::Memory => Mounting::Memory,
-            };
-            (mounting, Slot::Stopped { header, disk })
+            match unmounted.why {
+                MountFault::Foreign(at) => (Mounting::Foreign(at), Slot::Stopped { header, disk }),
+                MountFault::DiskFault => (Mounting::DiskFault, Slot::Stopped { header, disk }),
+                MountFault::Memory => (Mounting::Memory, Slot::Stopped { header, disk }),
+            }
         }
     }
 }
