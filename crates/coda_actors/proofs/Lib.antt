@@ -1,2 +1,3 @@
 pub mod Mountings
 pub mod Deeds
+pub mod Lives

@@ -2,3 +2,4 @@ pub mod Form
 pub mod Plain
 pub mod Fits
 pub mod Slots
+pub mod Laws

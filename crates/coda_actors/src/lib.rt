@@ -3,9 +3,13 @@
 #![tactic(auto)]
 
 mod actor;
+mod law;
 mod life;
 mod slot;
 
 pub use actor::Actor;
+pub use law::{
+    actors_are_at_rest, additions_fit, crashes_are_recovered, entries_stay, own_headers_are_served,
+};
 pub use life::{arm, crash, give_back, give_up, open, recover};
 pub use slot::{Mounting, Slot};
