@@ -1,18 +1,16 @@
 -- What each call makes of a plain actor.
-use Rattle.std.proofs.Common.{◌≡◌, ◌≢◌, ◌⊎◌, inl, inr, ℕ, ◌<◌, ◌^◌, Bool, true, List, [], ◌∷◌, length, refl, sym, ◌∙◌, ap, subst}
+use Rattle.std.proofs.Common.{◌≡◌, ℕ, Bool, true, List, refl, sym, subst}
 use Rattle.std.proofs.lemmas.Bool.{false≢true}
-use Rattle.std.specs.Prelude.{Option, Some, None}
+use Rattle.std.specs.Prelude.{Some, None}
 use Rattle.coda_disk.specs.Told.{Told, Kept}
 use Rattle.coda_disk.specs.Bays.{Crashed}
-use Rattle.coda_journal.specs.Header.{IsHeader}
 use Rattle.coda_journal.specs.Image.{ReadsAs}
-use Rattle.coda_journal.specs.Laws.{HasWords}
 use Rattle.coda_journal.specs.Mount.{NotMounted}
 use Rattle.coda_journal.specs.declared.header.Header.{Header}
 use Rattle.coda_journal.specs.declared.mounting.MountFault.TheVariants.{DiskFault as FaultOfDisk}
 use Rattle.coda_actors.specs.Form.{Form, payloads_of, IsAsked, IsOwnDisk, Mounted, WhyForeign}
-use Rattle.coda_actors.specs.Plain.{PlainDisk, PlainActor, Unmade, Down, Up, Opens, Recovers, Crashes, Tries, Step}
-use Rattle.coda_actors.specs.Fits.{FitsUnmade, FitsDown, FitsUp, FitsHeld, Fits, Stays, StandsFor, IsOwn, Echoes}
+use Rattle.coda_actors.specs.Plain.{PlainActor, Unmade, Down, Up, Opens, Recovers, Tries, Step}
+use Rattle.coda_actors.specs.Fits.{FitsUnmade, FitsDown, FitsUp, FitsHeld, Fits, Stays}
 use Rattle.coda_actors.specs.declared.slot.Mounting.TheVariants.{Entries, Foreign, DiskFault, Memory}
 use Rattle.coda_actors.specs.Slots.{is_made}
 use Rattle.coda_actors.specs.declared.slot.Slot.{Slot}

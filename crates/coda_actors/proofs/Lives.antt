@@ -3,13 +3,12 @@ use Rattle.std.proofs.Common.{◌≡◌, ◌≢◌, ◌⊎◌, inl, inr, ⊎_eli
 use Rattle.std.proofs.lemmas.List.{append-nil, append_assoc}
 use Rattle.std.specs.Prelude.{Option, Some, None, IfSome}
 use Rattle.coda_disk.specs.Told.{Told}
-use Rattle.coda_journal.specs.Header.{marks}
 use Rattle.coda_journal.specs.Image.{ReadsAs}
 use Rattle.coda_journal.specs.Open.{Stands}
 use Rattle.coda_journal.specs.declared.header.Header.{Header}
 use Rattle.coda_actors.specs.Form.{Form, payloads_of}
 use Rattle.coda_actors.specs.Plain.{PlainDisk, PlainActor, Life, Unmade, Down, Up, Deed, Opens, Adds, Fails, Crashes, Recovers, Arms, Leaves, Joins, Tries, HasOther, Mounts, MayHave, Step, Runs}
-use Rattle.coda_actors.specs.Fits.{IsLawful, StandsFor, Echoes, FitsUp, FitsDown, FitsHeld}
+use Rattle.coda_actors.specs.Fits.{IsLawful, Echoes, FitsUp, FitsDown, FitsHeld}
 use Rattle.coda_actors.specs.Laws.{EntriesStay, AreRefused, CrashesAreRecovered, IsAtRest, ActorsStayAtRest, IsAnothers, OwnHeadersAreServed}
 use Rattle.coda_actors.specs.declared.slot.Mounting.{Mounting}
 use Rattle.coda_actors.specs.declared.slot.Mounting.TheVariants.{Entries, Foreign, DiskFault, Memory}
@@ -141,9 +140,9 @@ module _ {A D : Type 0} (form : Form A D) where
   found old mid late new same since (inl is) = inl (is ∙ since.history ∙ ap (λ (d : PlainDisk form.Entry). d.history) same)
   found old mid late new same since (inr more) =
       ⊎_elim
-        (λ kept. inr (more.0, sym (ap (λ (d : PlainDisk form.Entry). d.failed) same) ∙ sym kept ∙ more.1, more.2 ∙ ap (λ l. l ++ more.0 ∷ []) (since.history ∙ ap (λ (d : PlainDisk form.Entry). d.history) same)))
-        (λ none. absurd (no_entry more.0 (sym none ∙ more.1)))
-        since.failed
+      (λ kept. inr (more.0, sym (ap (λ (d : PlainDisk form.Entry). d.failed) same) ∙ sym kept ∙ more.1, more.2 ∙ ap (λ l. l ++ more.0 ∷ []) (since.history ∙ ap (λ (d : PlainDisk form.Entry). d.history) same)))
+      (λ none. absurd (no_entry more.0 (sym none ∙ more.1)))
+      since.failed
     where
       no_entry : (entry : form.Entry) → None ≡ Some entry → ⊥
       no_entry entry e = cc e
@@ -151,8 +150,7 @@ module _ {A D : Type 0} (form : Form A D) where
   pub crashes_are_recovered : CrashesAreRecovered form
   crashes_are_recovered old mid late new image tried count crash refused runs recovery =
       let s = since tried mid late refused runs in
-      let left : late.left ≡ Some image = s.left ∙ ap (λ (p : PlainActor form.Entry). p.left) crash.3 in
-      (
+      let left : late.left ≡ Some image = s.left ∙ ap (λ (p : PlainActor form.Entry). p.left) crash.3 in (
         found old mid late new (ap (λ (p : PlainActor form.Entry). p.disk) crash.3) s recovery.2.0.history,
         (recovery.0, recovery.4, subst (λ (o : Option (List ℕ)). IfSome o (ReadsAs recovery.0 (payloads_of form new.disk.history))) left recovery.3),
       )

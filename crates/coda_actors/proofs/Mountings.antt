@@ -1,18 +1,18 @@
 -- What the mounting of a disk makes of what it stands for.
-use Rattle.std.proofs.Common.{◌≡◌, ◌≢◌, ◌⊎◌, inl, inr, ⊎_elim, ℕ, ◌+◌, ◌-◌, ◌<◌, ◌≤◌, List, [], ◌∷◌, ◌++◌, length, map, get_or, take, drop, refl, sym, ◌∙◌, ap, subst, arith, length-append}
-use Rattle.std.proofs.lemmas.List.{map-append, length-map, get_or-take, get_or-drop, take-take}
+use Rattle.std.proofs.Common.{◌≡◌, ◌⊎◌, inl, inr, ⊎_elim, ℕ, ◌+◌, ◌-◌, ◌<◌, List, [], ◌∷◌, ◌++◌, length, map, get_or, take, drop, refl, sym, ◌∙◌, ap, subst, arith, length-append}
+use Rattle.std.proofs.lemmas.List.{map-append, get_or-take, get_or-drop, take-take}
 use Rattle.std.specs.Prelude.{Option, Some, None, IfSome, option_map}
-use Rattle.coda_disk.specs.Told.{Told, Kept}
+use Rattle.coda_disk.specs.Told.{Told}
 use Rattle.coda_journal.specs.Header.{marks, IsHeader}
 use Rattle.coda_journal.specs.Heading.{DiffersFirst}
-use Rattle.coda_journal.specs.Image.{IsMade, IsUnmade, HasHeader, Reads, ReadsAs, OtherHeader, BrokenArea, IsForeign}
+use Rattle.coda_journal.specs.Image.{IsMade, IsUnmade, HasHeader, ReadsAs, OtherHeader, IsForeign}
 use Rattle.coda_journal.specs.Laws.{HasWords}
 use Rattle.coda_journal.specs.Mount.{NotMounted}
 use Rattle.coda_journal.specs.Open.{MayBe}
 use Rattle.coda_journal.specs.declared.header.Header.{Header}
 use Rattle.coda_journal.specs.declared.mounting.MountFault.TheVariants.{DiskFault}
 use Rattle.coda_journal.proofs.Fields.{headers_are_told_apart}
-use Rattle.coda_journal.proofs.Images.{length-marks, made_made, as_once, unmade_not_foreign}
+use Rattle.coda_journal.proofs.Images.{length-marks, made_made, as_once}
 use Rattle.coda_actors.specs.Form.{Form, payloads_of, IsAsked, ReadsAsHistory, IsOwnDisk, WhyForeign}
 use Rattle.coda_actors.specs.Plain.{PlainDisk, Joins, Tries, HasOther, MayHave}
 use Rattle.coda_actors.specs.Fits.{IsLawful, StandsFor, Echoes}
@@ -83,8 +83,12 @@ module _ {A D : Type 0} (form : Form A D) (are : AreHistories form) where
   reads_one header history None image found lawful is may reads = inl (are.same header found history is lawful.1 (as_once header image lawful.0.whole (payloads_of form found) (payloads_of form history) reads may))
   reads_one header history (Some entry) image found lawful is (inl may) reads = inl (are.same header found history is lawful.1 (as_once header image lawful.0.whole (payloads_of form found) (payloads_of form history) reads may))
   reads_one header history (Some entry) image found lawful is (inr may) reads =
-      inr (entry, refl, are.same header found (history ++ entry ∷ []) is (are.grows header history entry lawful.1 lawful.2)
-        (as_once header image lawful.0.whole (payloads_of form found) (payloads_of form history ++ form.payload_of entry ∷ []) reads may ∙ sym (payloads_push history entry)))
+      inr (
+        entry,
+        refl,
+        are.same header found (history ++ entry ∷ []) is (are.grows header history entry lawful.1 lawful.2)
+            (as_once header image lawful.0.whole (payloads_of form found) (payloads_of form history ++ form.payload_of entry ∷ []) reads may ∙ sym (payloads_push history entry)),
+      )
 
   joins_given : (header : Header) (given : Option Header) (history : List form.Entry) (failed : Option form.Entry) (image : List ℕ) (found : List form.Entry) → given ≡ Some header → IsLawful form given history failed → form.IsHistory header found
       → MayHave form given history failed image → ReadsAs header (payloads_of form found) image → Joins header (record { header = given; history = history; failed = failed }) (read_as form header found)
@@ -155,15 +159,14 @@ module _ {A D : Type 0} (form : Form A D) (are : AreHistories form) where
   pub own : (told : Told) (disk : PlainDisk form.Entry) (header : Header) → StandsFor form told disk → disk.header ≡ Some header → IsOwnDisk form header told
   own told disk header stands is =
       own_given told header disk.history disk.failed (subst (λ (o : Option Header). IsLawful form o disk.history disk.failed) is stands.lawful)
-        (λ c now. subst (λ (o : Option Header). MayHave form o disk.history disk.failed c) is (stands.each c now))
+      (λ c now. subst (λ (o : Option Header). MayHave form o disk.history disk.failed c) is (stands.each c now))
 
   differs : (other header : Header) (image : List ℕ) (at : ℕ) → HasHeader other image → OtherHeader header image at → (place : ℕ) × (at ≡ 2 + place) × DiffersFirst (marks other) (marks header) place
   differs other header image at has o =
       let k = at - 2 in
       let lt : k < 62 = omega (arith, o.to, o.from) in
       let there : 2 + k ≡ at = omega (arith, o.from) in
-      let middle : get_or (marks other) k 0 ≡ get_or image at 0 = ap (λ (l : List ℕ). get_or l k 0) (sym has) ∙ get_or-take 62 (drop 2 image) k 0 lt ∙ get_or-drop 2 image k 0 ∙ ap (λ (i : ℕ). get_or image i 0) there in
-      (
+      let middle : get_or (marks other) k 0 ≡ get_or image at 0 = ap (λ (l : List ℕ). get_or l k 0) (sym has) ∙ get_or-take 62 (drop 2 image) k 0 lt ∙ get_or-drop 2 image k 0 ∙ ap (λ (i : ℕ). get_or image i 0) there in (
         k,
         sym there,
         record {

@@ -1,13 +1,11 @@
 -- What differs between clients and replicas.
-use Rattle.std.specs.Prelude.{◌≡◌, ◌⊎◌, ℕ, Bool, List, map, length, Option}
+use Rattle.std.specs.Prelude.{◌≡◌, ◌⊎◌, ℕ, Bool, List, map, length}
 use Rattle.coda_disk.specs.Told.{Told}
 use Rattle.coda_journal.specs.Header.{IsHeader}
 use Rattle.coda_journal.specs.Image.{IsMade, HasHeader, ReadsAs, IsForeign}
 use Rattle.coda_journal.specs.Laws.{HasWords}
 use Rattle.coda_journal.specs.declared.header.Header.{Header}
 use Rattle.coda_journal.specs.declared.header.Kind.{Kind}
-use Rattle.coda_journal.specs.declared.mounting.MountFault.{MountFault}
-use Rattle.coda_journal.specs.declared.mounting.MountFault.TheVariants.{Foreign}
 
 -- A kind of actors that stand on disks of one type: whose headers they ask for, what one of them writes at once and as which payload, what may
 -- follow what, and what is known of one.

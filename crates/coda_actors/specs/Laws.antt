@@ -4,7 +4,7 @@ use Rattle.coda_journal.specs.Image.{ReadsAs}
 use Rattle.coda_journal.specs.declared.header.Header.{Header}
 use Rattle.coda_actors.specs.Form.{Form, payloads_of}
 use Rattle.coda_actors.specs.Plain.{PlainActor, Down, Up, Deed, Opens, Adds, Crashes, Recovers, Step, Runs}
-use Rattle.coda_actors.specs.declared.slot.Mounting.TheVariants.{Entries, Foreign, DiskFault, Memory}
+use Rattle.coda_actors.specs.declared.slot.Mounting.TheVariants.{Entries, Foreign}
 
 -- An entry that was acknowledged stands behind those before it in every history that is found later, whatever happens between.
 abbrev pub EntriesStay : {A D : Type 0} → Form A D → Type 0

@@ -136,8 +136,8 @@ pub fn crash<B: Bay, A: Actor<B::D>>(
     ensures bay_cause { HasCause (B.faults bay.old) (B.faults bay.new) result }
     ensures follows { B.follows bay.old bay.new }
 {
-    let (header, disk) = made_disk(slot);
-    let disk = bay.crash(disk, choice)?;
+    let (header, whole) = made_disk(slot);
+    let disk = bay.crash(whole, choice)?;
     Ok(Slot::Stopped { header, disk })
 }
 

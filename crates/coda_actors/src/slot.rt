@@ -1,4 +1,8 @@
 // What a cell has of an actor.
+ghost use Rattle.std.specs.Prelude.{◌≡◌};
+
+use crate::actor::Actor;
+use coda_disk::Disk;
 use coda_journal::Header;
 
 /// What a cell has of an actor of type `A` on a disk of type `D`.
@@ -15,6 +19,31 @@ pub enum Slot<A, D> {
     Stopped { header: Header, disk: D },
     /// It was mounted. It is up, unless a call of its disk failed since. `header` is the one that it asks for.
     Started { header: Header, actor: A },
+}
+
+impl<A, D> Slot<A, D> {
+    ghost use Rattle.coda_actors.specs.Slots.{is_made};
+
+    /// Whether a line made the actor.
+    pub fn is_made(&self) -> bool
+        ensures { result ≡ is_made self.now }
+    {
+        matches!(self, Slot::Stopped { .. } | Slot::Started { .. })
+    }
+}
+
+impl<D: Disk, A: Actor<D>> Slot<A, D> {
+    ghost use Rattle.coda_actors.specs.Slots.{is_up};
+
+    /// Whether the actor is up.
+    pub fn is_up(&self) -> bool
+        ensures { result ≡ is_up A.form self.now }
+    {
+        match self {
+            Slot::Started { actor, .. } => !actor.is_down(),
+            _ => false,
+        }
+    }
 }
 
 /// How the mounting of a disk ended.

@@ -1,6 +1,5 @@
 use Rattle.std.proofs.Common.{inl}
 use Rattle.coda_actors.specs.Form.{IsAsked}
-use Rattle.coda_actors.proofs.Mountings.{AreHistories}
 use Rattle.coda_actors.proofs.Deeds.{opens, opens_fault, opens_memory, opens_foreign}
 use Rattle.coda_actors.proofs.life.make.Goals as goal
 
@@ -24,7 +23,7 @@ returns-in-Foreign-clause-step g c = λ plain fits.
     let at = c.in-Foreign.at in
     let told = g.D.Disk.told in
     opens_foreign form (record { same = law.same; empty = law.empty; grows = law.grows }) header asked plain (told c.args.disk) (c.in-Err.ensures.seen honest) (told c.in-Err.unmounted.disk) at (c.in-Err.ensures.err honest).honest
-      (λ own. c.in-Err.ensures.never_foreign honest own at c.in-Foreign.is) (c.in-Err.ensures.foreign honest at c.in-Foreign.is) fits
+    (λ own. c.in-Err.ensures.never_foreign honest own at c.in-Foreign.is) (c.in-Err.ensures.foreign honest at c.in-Foreign.is) fits
 
 pub returns-in-DiskFault-clause-step : goal.returns-in-DiskFault-clause-step
 returns-in-DiskFault-clause-step g c = λ plain fits.

@@ -1,9 +1,5 @@
-use Rattle.std.proofs.Common.{◌≡◌, ap, sym, subst, ◌∙◌, ℕ, Bool, true}
-use Rattle.coda_disk.specs.Told.{Told, Kept}
-use Rattle.coda_actors.specs.Fits.{Fits, FitsUnmade, FitsHeld}
-use Rattle.coda_actors.specs.Plain.{PlainActor, Opens, Step}
-use Rattle.coda_actors.specs.declared.slot.Slot.{Slot}
-use Rattle.coda_actors.specs.declared.slot.Slot.TheVariants.{Vacant, Spare}
+use Rattle.std.proofs.Common.{◌≡◌, ap, ◌∙◌, true}
+use Rattle.coda_actors.specs.Fits.{FitsUnmade}
 use Rattle.coda_actors.proofs.Deeds.{taken, spared, spared_out, placed}
 use Rattle.coda_actors.proofs.life.open.Goals as goal
 use Rattle.coda_actors.proofs.life.open.Goals.{in-Vacant+in_ok-disk-in-Vacant, in-Spare}

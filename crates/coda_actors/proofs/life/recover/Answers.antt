@@ -1,5 +1,4 @@
 use Rattle.std.proofs.Common.{inl}
-use Rattle.coda_actors.proofs.Mountings.{AreHistories}
 use Rattle.coda_actors.proofs.Deeds.{recovers, recovers_fault, recovers_memory, recovers_foreign}
 use Rattle.coda_actors.proofs.life.recover.Goals as goal
 
@@ -24,7 +23,7 @@ returns-in-Foreign-clause-step g c = λ plain fits.
     let at = c.in-Foreign.at in
     let told = g.D.Disk.told in
     recovers_foreign g.A.Actor.form (record { same = law.same; empty = law.empty; grows = law.grows }) header stays.asked plain (told disk) (c.in-Err.ensures.seen honest) (told c.in-Err.unmounted.disk) at (c.in-Err.ensures.err honest).honest
-      (λ own. c.in-Err.ensures.never_foreign honest own at c.in-Foreign.is) (c.in-Err.ensures.foreign honest at c.in-Foreign.is) stays
+    (λ own. c.in-Err.ensures.never_foreign honest own at c.in-Foreign.is) (c.in-Err.ensures.foreign honest at c.in-Foreign.is) stays
 
 pub returns-in-DiskFault-clause-step : goal.returns-in-DiskFault-clause-step
 returns-in-DiskFault-clause-step g c = λ plain fits.
