@@ -72,12 +72,17 @@ Fits form told out has slot plain = (out ≡ true) × FitsHeld form told slot pl
 abbrev pub IsOwn : {A D : Type 0} → Form A D → Header → Type 0
 IsOwn form header = IsHeader header × (header.kind ≡ form.owner)
 
--- The number of the disk is out exactly where the slot has it, and an actor that was made asks for a header of its kind.
-abbrev pub IsPlaced : {A D : Type 0} → Form A D → Bool → Slot A D → Type 0
-IsPlaced form out Vacant = out ≡ false
-IsPlaced form out (Spare disk) = out ≡ true
-IsPlaced form out (Stopped header disk) = (out ≡ true) × IsOwn form header
-IsPlaced form out (Started header actor) = (out ≡ true) × IsOwn form header
+-- an actor that was made asks for a header of its kind
+abbrev pub AsksOwn : {A D : Type 0} → Form A D → Slot A D → Type 0
+AsksOwn form Vacant = Unit {0}
+AsksOwn form (Spare disk) = Unit {0}
+AsksOwn form (Stopped header disk) = IsOwn form header
+AsksOwn form (Started header actor) = IsOwn form header
+
+-- the number of the disk is out exactly where the slot has it
+abbrev pub OutFits : {A D : Type 0} → Bool → Slot A D → Type 0
+OutFits out Vacant = out ≡ false
+OutFits out slot = out ≡ true
 
 -- each other number is out where it was
 abbrev pub Others : ℕ → (ℕ → Bool) → (ℕ → Bool) → Type 0

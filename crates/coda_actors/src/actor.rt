@@ -12,7 +12,7 @@ use coda_journal::{Header, MountFault, Unmounted};
 use std::alloc::Global;
 
 /// An actor that stands on a disk: a client, or a server's replica of a volume.
-pub trait Actor<D: Disk>: Sized + Drop {
+pub trait Actor<D: Disk>: Sized {
     // What it writes, and what is known of it.
     ghost form: { Form Self D };
 

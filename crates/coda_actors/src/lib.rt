@@ -3,8 +3,10 @@
 #![tactic(auto)]
 
 mod actor;
+mod client;
 mod law;
 mod life;
+mod replica;
 mod slot;
 
 pub use actor::Actor;

@@ -4,7 +4,7 @@ ghost use Rattle.coda_io.specs.Faults.{counted, Rose, HasCause};
 ghost use Rattle.coda_disk.specs.Bays.{plus, KeepsAll, KeepsOthers, PutsOut};
 ghost use Rattle.coda_journal.specs.Header.{IsHeader};
 ghost use Rattle.coda_journal.specs.Laws.{HasWords};
-ghost use Rattle.coda_actors.specs.Fits.{Fits, FitsHeld, FitsUnmade, Stays, StandsFor, IsOwn, IsPlaced, Others};
+ghost use Rattle.coda_actors.specs.Fits.{Fits, FitsHeld, FitsUnmade, Stays, StandsFor, IsOwn, AsksOwn, OutFits, Others};
 ghost use Rattle.coda_actors.specs.Plain.{PlainActor, Opens, Crashes, Recovers, Arms, Leaves, Step};
 ghost use Rattle.coda_actors.specs.Slots.{is_made, is_up, count_in, sum_with};
 
@@ -36,7 +36,8 @@ fn make<D: Disk, A: Actor<D>>(alloc: Global, disk: D, header: &Header) -> (Mount
     requires owner { header.now.kind ≡ A.form.owner }
     ensures step { (plain : PlainActor A.form.Entry) → FitsUnmade A.form (D.told disk) plain
         → (new : PlainActor A.form.Entry) × Step A.form plain (Opens header.now result.0) new × FitsHeld A.form D.told result.1 new }
-    ensures placed { IsPlaced A.form true result.1 }
+    ensures out { OutFits true result.1 }
+    ensures own { AsksOwn A.form result.1 }
     ensures later { D.faults disk ≤ count_in A.form D.faults result.1 }
     ensures cause { result.0 ≡ Mounting.DiskFault → Rose (D.faults disk) (count_in A.form D.faults result.1) }
     ensures arms { count_in A.form D.arms result.1 ≡ D.arms disk }
@@ -73,7 +74,7 @@ fn make<D: Disk, A: Actor<D>>(alloc: Global, disk: D, header: &Header) -> (Mount
 ///
 /// # Errors
 ///
-/// `BayFault` where the bay refused the disk. Its number isn't out, and the slot was vacant.
+/// `BayFault` where the bay refused the disk: the slot was vacant, the disk stays with the bay, and its number isn't out.
 pub fn open<B: Bay, A: Actor<B::D>>(
     alloc: Global,
     bay: &mut B,
@@ -82,16 +83,18 @@ pub fn open<B: Bay, A: Actor<B::D>>(
     header: &Header,
 ) -> Result<(Mounting, Slot<A, B::D>), BayFault>
     requires unmade { is_made slot ≡ false }
-    requires placed { IsPlaced A.form (B.out bay.old number) slot }
+    requires out { OutFits (B.out bay.old number) slot }
     requires header { IsHeader header.now }
     requires owner { header.now.kind ≡ A.form.owner }
     ensures step { (plain : PlainActor A.form.Entry) → Fits A.form B.D.told (B.out bay.old number) (B.has bay.old number) slot plain
         → IfOk result (λ r. (new : PlainActor A.form.Entry) × Step A.form plain (Opens header.now r.0) new
         × Fits A.form B.D.told (B.out bay.new number) (B.has bay.new number) r.1 new) }
-    ensures placed { IfOk result (λ r. IsPlaced A.form (B.out bay.new number) r.1) }
+    ensures out { IfOk result (λ r. OutFits (B.out bay.new number) r.1) }
+    ensures own { IfOk result (λ r. AsksOwn A.form r.1) }
     ensures out_err { OnErr result ((slot ≡ Slot.Vacant) × (B.out bay.new number ≡ false)) }
     ensures others { Others number (B.out bay.old) (B.out bay.new) }
     ensures keeps { KeepsOthers number (B.has bay.old) (B.has bay.new) }
+    ensures keeps_err { OnErr result (KeepsAll (B.has bay.old) (B.has bay.new)) }
     ensures answered { B.answered bay.new ≡ B.answered bay.old }
     ensures later { IfOk result (λ r. count_in A.form B.D.faults slot ≤ count_in A.form B.D.faults r.1) }
     ensures cause { IfOk result (λ r. r.0 ≡ Mounting.DiskFault → Rose (count_in A.form B.D.faults slot) (count_in A.form B.D.faults r.1)) }
@@ -122,13 +125,15 @@ pub fn crash<B: Bay, A: Actor<B::D>>(
     choice: u64,
 ) -> Result<Slot<A, B::D>, BayFault>
     requires made { is_made slot ≡ true }
-    requires placed { IsPlaced A.form true slot }
+    requires own { AsksOwn A.form slot }
     ensures step { (plain : PlainActor A.form.Entry) → FitsHeld A.form B.D.told slot plain
         → IfOk result (λ r. (image : List ℕ) × (new : PlainActor A.form.Entry) × (B.answered bay.new ≡ B.answered bay.old ++ image ∷ [])
         × Step A.form plain (Crashes image) new × FitsHeld A.form B.D.told r new) }
     ensures answered_err { OnErr result (B.answered bay.new ≡ B.answered bay.old) }
-    ensures made { IfOk result (λ r. (is_made r ≡ true) × IsPlaced A.form true r) }
-    ensures out { (k : ℕ) → B.out bay.new k ≡ B.out bay.old k }
+    ensures made { IfOk result (λ r. is_made r ≡ true) }
+    ensures own { IfOk result (AsksOwn A.form) }
+    ensures out { IfOk result (λ r. (out : Bool) → OutFits out slot → OutFits out r) }
+    ensures numbers { (k : ℕ) → B.out bay.new k ≡ B.out bay.old k }
     ensures keeps { KeepsAll (B.has bay.old) (B.has bay.new) }
     ensures rested { IfOk result (λ r. (count_in A.form B.D.faults r ≡ 0) × (count_in A.form B.D.arms r ≡ 0)) }
     ensures disk_faults { B.disk_faults bay.new ≡ sum_with A.form B.D.faults slot (B.disk_faults bay.old) }
@@ -144,8 +149,9 @@ pub fn crash<B: Bay, A: Actor<B::D>>(
 // The disk of an actor that was made, and the header that it asks for.
 fn made_disk<D: Disk, A: Actor<D>>(slot: Slot<A, D>) -> (Header, D)
     requires made { is_made slot ≡ true }
-    requires placed { IsPlaced A.form true slot }
+    requires own { AsksOwn A.form slot }
     ensures own { IsOwn A.form result.0 }
+    ensures out { (out : Bool) → OutFits out slot → out ≡ true }
     ensures stands { (plain : PlainActor A.form.Entry) → FitsHeld A.form D.told slot plain → Stays A.form (D.told result.1) result.0 plain }
     ensures faults { (sum : ℕ) → plus sum (D.faults result.1) ≡ sum_with A.form D.faults slot sum }
     ensures arms { (sum : ℕ) → plus sum (D.arms result.1) ≡ sum_with A.form D.arms slot sum }
@@ -164,10 +170,12 @@ fn made_disk<D: Disk, A: Actor<D>>(slot: Slot<A, D>) -> (Header, D)
 /// also where it was up. It is up again where the mounting succeeds, and else down.
 pub fn recover<D: Disk, A: Actor<D>>(alloc: Global, slot: Slot<A, D>) -> (Mounting, Slot<A, D>)
     requires made { is_made slot ≡ true }
-    requires placed { IsPlaced A.form true slot }
+    requires own { AsksOwn A.form slot }
     ensures step { (plain : PlainActor A.form.Entry) → FitsHeld A.form D.told slot plain
         → (new : PlainActor A.form.Entry) × Step A.form plain (Recovers result.0) new × FitsHeld A.form D.told result.1 new }
-    ensures made { (is_made result.1 ≡ true) × IsPlaced A.form true result.1 }
+    ensures made { is_made result.1 ≡ true }
+    ensures own { AsksOwn A.form result.1 }
+    ensures out { (out : Bool) → OutFits out slot → OutFits out result.1 }
     ensures later { count_in A.form D.faults slot ≤ count_in A.form D.faults result.1 }
     ensures cause { result.0 ≡ Mounting.DiskFault → Rose (count_in A.form D.faults slot) (count_in A.form D.faults result.1) }
     ensures arms { count_in A.form D.arms result.1 ≡ count_in A.form D.arms slot }
@@ -190,10 +198,12 @@ pub fn recover<D: Disk, A: Actor<D>>(alloc: Global, slot: Slot<A, D>) -> (Mounti
 /// nothing else.
 pub fn arm<D: Disk, A: Actor<D>>(slot: Slot<A, D>, passes: u64) -> Slot<A, D>
     requires up { is_up A.form slot ≡ true }
-    requires placed { IsPlaced A.form true slot }
+    requires own { AsksOwn A.form slot }
     ensures step { (plain : PlainActor A.form.Entry) → FitsHeld A.form D.told slot plain
         → (new : PlainActor A.form.Entry) × Step A.form plain Arms new × FitsHeld A.form D.told result new }
-    ensures up { (is_up A.form result ≡ true) × IsPlaced A.form true result }
+    ensures up { is_up A.form result ≡ true }
+    ensures own { AsksOwn A.form result }
+    ensures out { (out : Bool) → OutFits out slot → OutFits out result }
     ensures faults { count_in A.form D.faults result ≡ count_in A.form D.faults slot }
     ensures arms { count_in A.form D.arms result ≡ counted (count_in A.form D.arms slot) }
 {
@@ -212,10 +222,11 @@ pub fn arm<D: Disk, A: Actor<D>>(slot: Slot<A, D>, passes: u64) -> Slot<A, D>
 /// Gives an actor up that a line made which is refused afterwards, for the disk of another one. Its disk stays in the slot as it is.
 pub fn give_up<D: Disk, A: Actor<D>>(slot: Slot<A, D>) -> Slot<A, D>
     requires made { is_made slot ≡ true }
-    requires placed { IsPlaced A.form true slot }
+    requires own { AsksOwn A.form slot }
     ensures step { (plain : PlainActor A.form.Entry) → FitsHeld A.form D.told slot plain
         → (new : PlainActor A.form.Entry) × Step A.form plain Leaves new × FitsHeld A.form D.told result new }
-    ensures unmade { (is_made result ≡ false) × IsPlaced A.form true result }
+    ensures unmade { is_made result ≡ false }
+    ensures out { (out : Bool) → OutFits out slot → OutFits out result }
     ensures faults { count_in A.form D.faults result ≡ count_in A.form D.faults slot }
     ensures arms { count_in A.form D.arms result ≡ count_in A.form D.arms slot }
 {
@@ -225,7 +236,7 @@ pub fn give_up<D: Disk, A: Actor<D>>(slot: Slot<A, D>) -> Slot<A, D>
 
 /// Gives the disk of a slot back to the bay, under its number, as it is. What the disk counts is added to the bay's sums.
 pub fn give_back<B: Bay, A: Actor<B::D>>(bay: &mut B, number: u32, slot: Slot<A, B::D>)
-    requires { IsPlaced A.form (B.out bay.old number) slot }
+    requires { OutFits (B.out bay.old number) slot }
     ensures stands { (plain : PlainActor A.form.Entry) → Fits A.form B.D.told (B.out bay.old number) (B.has bay.old number) slot plain
         → StandsFor A.form (B.has bay.new number) plain.disk }
     ensures out { PutsOut number false (B.out bay.old) (B.out bay.new) }

@@ -3,6 +3,7 @@
 
 #[cfg(test)]
 mod asking;
+mod actors;
 #[cfg(test)]
 mod decider;
 #[cfg(test)]
