@@ -5,4 +5,6 @@ pub mod Slots
 pub mod Laws
 pub mod Spelled
 pub mod Clients
+pub mod ClientDisks
 pub mod Replicas
+pub mod ReplicaDisks

@@ -1,5 +1,5 @@
 // Clients as actors.
-ghost use Rattle.std.specs.Prelude.{◌≡◌, [], ◌∷◌};
+ghost use Rattle.std.specs.Prelude.{◌≡◌};
 
 use crate::actor::Actor;
 use coda_disk::Disk;
@@ -8,7 +8,8 @@ use coda_venus::Venus;
 use std::alloc::Global;
 
 impl<D: Disk> Actor<D> for Venus<D> {
-    ghost use Rattle.coda_actors.specs.Clients.{client_form, client_stands, one_client_history, client_history_grows};
+    ghost use Rattle.coda_actors.specs.Clients.{client_form};
+    ghost use Rattle.coda_actors.specs.ClientDisks.{client_stands, one_client_history, client_history_grows};
 
     ghost form = { client_form D.told };
 

@@ -1,5 +1,5 @@
 // Replicas as actors.
-ghost use Rattle.std.specs.Prelude.{◌≡◌, [], ◌∷◌};
+ghost use Rattle.std.specs.Prelude.{◌≡◌};
 
 use crate::actor::Actor;
 use coda_disk::Disk;
@@ -8,15 +8,12 @@ use coda_replica::Replica;
 use std::alloc::Global;
 
 impl<D: Disk> Actor<D> for Replica<D> {
-    ghost use Rattle.coda_actors.specs.Replicas.{replica_form, replica_stands, one_replica_history, replica_history_grows};
+    ghost use Rattle.coda_actors.specs.Replicas.{replica_form};
+    ghost use Rattle.coda_actors.specs.ReplicaDisks.{replica_stands, one_replica_history, replica_history_grows};
 
     ghost form = { replica_form D.told };
 
-    fn recover(
-        alloc: Global,
-        disk: D,
-        header: &Header,
-    ) -> Result<(Replica<D>, u64), Unmounted<D>> {
+    fn recover(alloc: Global, disk: D, header: &Header) -> Result<(Replica<D>, u64), Unmounted<D>> {
         Replica::recover(alloc, disk, header)
     }
 
