@@ -1,7 +1,9 @@
 -- What a slot has, and what its disk counts.
-use Rattle.std.specs.Prelude.{ℕ, Bool, true, false, not}
+use Rattle.std.specs.Prelude.{◌≡◌, ℕ, Bool, true, false, not}
 use Rattle.coda_disk.specs.Bays.{plus}
 use Rattle.coda_actors.specs.Form.{Form}
+use Rattle.coda_actors.specs.declared.slot.Mounting.{Mounting}
+use Rattle.coda_actors.specs.declared.slot.Mounting.TheVariants.{Entries, DiskFault}
 use Rattle.coda_actors.specs.declared.slot.Slot.{Slot}
 use Rattle.coda_actors.specs.declared.slot.Slot.TheVariants.{Vacant, Spare, Stopped, Started}
 
@@ -16,6 +18,17 @@ is_made (Started header actor) = true
 abbrev pub is_up : {A D : Type 0} → Form A D → Slot A D → Bool
 is_up form (Started header actor) = not (form.is_down actor)
 is_up form slot = false
+
+-- An actor that was opened so is up; is down, but made; or isn't made.
+abbrev pub IsOpened : {A D : Type 0} → Form A D → Mounting → Slot A D → Type 0
+IsOpened form (Entries count) slot = is_up form slot ≡ true
+IsOpened form DiskFault slot = (is_made slot ≡ true) × (is_up form slot ≡ false)
+IsOpened form mounting slot = is_made slot ≡ false
+
+-- An actor that was recovered so is up, or is still down.
+abbrev pub IsRecovered : {A D : Type 0} → Form A D → Mounting → Slot A D → Type 0
+IsRecovered form (Entries count) slot = is_up form slot ≡ true
+IsRecovered form mounting slot = is_up form slot ≡ false
 
 -- what the disk of the slot counts, and nothing where the slot has none
 abbrev pub count_in : {A D : Type 0} → Form A D → (D → ℕ) → Slot A D → ℕ

@@ -13,11 +13,7 @@ impl<D: Disk> Actor<D> for Venus<D> {
 
     ghost form = { client_form D.told };
 
-    fn recover(
-        alloc: Global,
-        disk: D,
-        header: &Header,
-    ) -> Result<(Venus<D>, u64), Unmounted<D>> {
+    fn recover(alloc: Global, disk: D, header: &Header) -> Result<(Venus<D>, u64), Unmounted<D>> {
         Venus::recover(alloc, disk, header)
     }
 

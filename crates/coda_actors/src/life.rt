@@ -6,7 +6,7 @@ ghost use Rattle.coda_journal.specs.Header.{IsHeader};
 ghost use Rattle.coda_journal.specs.Laws.{HasWords};
 ghost use Rattle.coda_actors.specs.Fits.{Fits, FitsHeld, FitsUnmade, Stays, StandsFor, IsOwn, AsksOwn, OutFits, Others};
 ghost use Rattle.coda_actors.specs.Plain.{PlainActor, Opens, Crashes, Recovers, Arms, Leaves, Step};
-ghost use Rattle.coda_actors.specs.Slots.{is_made, is_up, count_in, sum_with};
+ghost use Rattle.coda_actors.specs.Slots.{is_made, is_up, IsOpened, IsRecovered, count_in, sum_with};
 
 use crate::actor::Actor;
 use crate::slot::{Mounting, Slot};
@@ -36,6 +36,7 @@ fn make<D: Disk, A: Actor<D>>(alloc: Global, disk: D, header: &Header) -> (Mount
     requires owner { header.now.kind ≡ A.form.owner }
     ensures step { (plain : PlainActor A.form.Entry) → FitsUnmade A.form (D.told disk) plain
         → (new : PlainActor A.form.Entry) × Step A.form plain (Opens header.now result.0) new × FitsHeld A.form D.told result.1 new }
+    ensures opened { IsOpened A.form result.0 result.1 }
     ensures out { OutFits true result.1 }
     ensures own { AsksOwn A.form result.1 }
     ensures later { D.faults disk ≤ count_in A.form D.faults result.1 }
@@ -89,6 +90,7 @@ pub fn open<B: Bay, A: Actor<B::D>>(
     ensures step { (plain : PlainActor A.form.Entry) → Fits A.form B.D.told (B.out bay.old number) (B.has bay.old number) slot plain
         → IfOk result (λ r. (new : PlainActor A.form.Entry) × Step A.form plain (Opens header.now r.0) new
         × Fits A.form B.D.told (B.out bay.new number) (B.has bay.new number) r.1 new) }
+    ensures opened { IfOk result (λ r. IsOpened A.form r.0 r.1) }
     ensures out { IfOk result (λ r. OutFits (B.out bay.new number) r.1) }
     ensures own { IfOk result (λ r. AsksOwn A.form r.1) }
     ensures out_err { OnErr result ((slot ≡ Slot.Vacant) × (B.out bay.new number ≡ false)) }
@@ -130,7 +132,7 @@ pub fn crash<B: Bay, A: Actor<B::D>>(
         → IfOk result (λ r. (image : List ℕ) × (new : PlainActor A.form.Entry) × (B.answered bay.new ≡ B.answered bay.old ++ image ∷ [])
         × Step A.form plain (Crashes image) new × FitsHeld A.form B.D.told r new) }
     ensures answered_err { OnErr result (B.answered bay.new ≡ B.answered bay.old) }
-    ensures made { IfOk result (λ r. is_made r ≡ true) }
+    ensures down { IfOk result (λ r. (is_made r ≡ true) × (is_up A.form r ≡ false)) }
     ensures own { IfOk result (AsksOwn A.form) }
     ensures out { IfOk result (λ r. (out : Bool) → OutFits out slot → OutFits out r) }
     ensures numbers { (k : ℕ) → B.out bay.new k ≡ B.out bay.old k }
@@ -174,6 +176,7 @@ pub fn recover<D: Disk, A: Actor<D>>(alloc: Global, slot: Slot<A, D>) -> (Mounti
     ensures step { (plain : PlainActor A.form.Entry) → FitsHeld A.form D.told slot plain
         → (new : PlainActor A.form.Entry) × Step A.form plain (Recovers result.0) new × FitsHeld A.form D.told result.1 new }
     ensures made { is_made result.1 ≡ true }
+    ensures recovered { IsRecovered A.form result.0 result.1 }
     ensures own { AsksOwn A.form result.1 }
     ensures out { (out : Bool) → OutFits out slot → OutFits out result.1 }
     ensures later { count_in A.form D.faults slot ≤ count_in A.form D.faults result.1 }
