@@ -168,8 +168,8 @@ fn made_disk<D: Disk, A: Actor<D>>(slot: Slot<A, D>) -> (Header, D)
     }
 }
 
-/// Mounts the disk of an actor that was made anew, under the header that its making line asked for. What it had in memory is dropped,
-/// also where it was up. It is up again where the mounting succeeds, and else down.
+/// Mounts once more the disk of an actor that was made, under the header that its making line asked for. What the actor had in memory is
+/// dropped, also where it was up. It is up again where the mounting succeeds, and else down.
 pub fn recover<D: Disk, A: Actor<D>>(alloc: Global, slot: Slot<A, D>) -> (Mounting, Slot<A, D>)
     requires made { is_made slot ≡ true }
     requires own { AsksOwn A.form slot }

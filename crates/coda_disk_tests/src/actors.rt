@@ -1,57 +1,61 @@
-ghost use Rattle.std.specs.Prelude.{◌≡◌, true, false, IfOk, Some, is_some};
-ghost use Rattle.coda_record.specs.Entries.{node as a_node};
-ghost use Rattle.coda_record.specs.Form.{four};
-ghost use Rattle.coda_record.specs.Spelling.{HasSpelling};
+ghost use Rattle.std.specs.Prelude.{◌≡◌, Bool, true};
+ghost use Rattle.coda_actors.specs.Fits.{AsksOwn, OutFits};
 
-use coda_actors::{Mounting, Slot, arm, crash, give_back, give_up, open, recover};
+use crate::venus::root;
+use coda_actors::{Actor, Mounting, Slot, arm, crash, give_back, give_up, open, recover};
 use coda_disk::{MemBay, MemDisk};
-use coda_fid::{Fid, Sid};
+use coda_fid::Fid;
 use coda_journal::{Header, Kind};
 use coda_replica::Replica;
-use coda_tree::{Entries, Node, NodeKind};
 use coda_venus::Venus;
 use std::alloc::Global;
 use std::test::Fail;
 
 type ClientSlot = Slot<Venus<MemDisk>, MemDisk>;
 
-// The header of client 1 with a cache of so many blocks.
-fn header(cache: u32) -> Header {
-    Header {
-        kind: Kind::Client,
-        number: 1,
-        server: 0,
-        group: 0,
-        area: 1,
-        cache,
-    }
-}
+// The header of client 1.
+const HEADER: Header = Header {
+    kind: Kind::Client,
+    number: 1,
+    server: 0,
+    group: 0,
+    area: 1,
+    cache: 64,
+};
 
-// The root of a fresh volume.
-fn root(alloc: Global) -> Node
-    ensures { HasSpelling (a_node four) result }
-{
-    Node {
-        kind: NodeKind::Dir(Entries::new(alloc)),
-        mode: 0o755,
-        owner: 0,
-        mtime: 0,
-        sid: Sid {
-            client: 0,
-            number: 0,
-        },
-        marked: false,
-    }
-}
+// The same with a cache of a block more.
+const WIDER: Header = Header {
+    kind: Kind::Client,
+    number: 1,
+    server: 0,
+    group: 0,
+    area: 1,
+    cache: 65,
+};
+
+// The header of the replica of volume 7 at server 1.
+const REPLICA: Header = Header {
+    kind: Kind::Replica,
+    number: 7,
+    server: 1,
+    group: 1,
+    area: 1,
+    cache: 0,
+};
 
 // Client 1 fetches the root of a volume, if it is up. Was it fetched?
-fn fetch(alloc: Global, slot: &mut ClientSlot, volume: u32) -> bool {
-    let fid = Fid::root(volume);
+fn fetch(alloc: Global, slot: ClientSlot, volume: u32) -> (bool, ClientSlot)
+    ensures out { (out : Bool) → OutFits out slot → OutFits out result.1 }
+    ensures own { AsksOwn ⟦<Venus<MemDisk> as Actor<MemDisk>>⟧.form slot → AsksOwn ⟦<Venus<MemDisk> as Actor<MemDisk>>⟧.form result.1 }
+{
     match slot {
-        Slot::Started { actor, .. } => {
-            actor.misses(fid) && actor.installed(fid, root(alloc)).is_ok()
+        Slot::Started { header, actor } => {
+            let mut actor = actor;
+            let fid = Fid::root(volume);
+            let done = actor.misses(fid) && actor.installed(fid, root(alloc)).is_ok();
+            (done, Slot::Started { header, actor })
         }
-        _ => false,
+        other => (false, other),
     }
 }
 
@@ -61,20 +65,21 @@ fn fetch(alloc: Global, slot: &mut ClientSlot, volume: u32) -> bool {
 fn headers_are_kept(rt: HostRuntime) -> Result<(), Fail> {
     let alloc = rt.alloc();
     let mut bay = MemBay::new(alloc, Vec::new(alloc));
-    let (mounting, mut slot) = open(alloc, &mut bay, 1, ClientSlot::Vacant, &header(64))?;
+    let (mounting, slot) = open(alloc, &mut bay, 1, ClientSlot::Vacant, &HEADER)?;
     assert_eq!(rt; mounting, Mounting::Entries(0));
-    assert_eq!(rt; fetch(alloc, &mut slot, 7), true);
+    let (done, slot) = fetch(alloc, slot, 7);
+    assert_eq!(rt; done, true);
     give_back(&mut bay, 1, slot);
-    let (mounting, slot) = open(alloc, &mut bay, 1, ClientSlot::Vacant, &header(65))?;
+    let (mounting, slot) = open(alloc, &mut bay, 1, ClientSlot::Vacant, &WIDER)?;
     assert_eq!(rt; mounting, Mounting::Foreign(27));
     if slot.is_made() {
         return Err(Fail::new("it is made"));
     }
-    let (mounting, slot) = open(alloc, &mut bay, 1, slot, &header(64))?;
+    let (mounting, slot) = open(alloc, &mut bay, 1, slot, &HEADER)?;
     assert_eq!(rt; mounting, Mounting::Entries(1));
     assert_eq!(rt; slot.is_up(), true);
     give_back(&mut bay, 1, slot);
-    let (mounting, slot) = open(alloc, &mut bay, 1, ClientSlot::Vacant, &header(64))?;
+    let (mounting, slot) = open(alloc, &mut bay, 1, ClientSlot::Vacant, &HEADER)?;
     assert_eq!(rt; mounting, Mounting::Entries(1));
     give_back(&mut bay, 1, slot);
     Ok(())
@@ -84,16 +89,18 @@ fn headers_are_kept(rt: HostRuntime) -> Result<(), Fail> {
 // fetched, and whether the client was up then.
 fn fate(alloc: Global, passes: u64, choice: u64) -> Result<(bool, bool, Mounting), Fail> {
     let mut bay = MemBay::new(alloc, Vec::new(alloc));
-    let (_, mut slot) = open(alloc, &mut bay, 1, ClientSlot::Vacant, &header(64))?;
-    if !fetch(alloc, &mut slot, 7) || !slot.is_up() {
-        return Err(Fail::new("it isn't fetched"));
+    let (_, slot) = open(alloc, &mut bay, 1, ClientSlot::Vacant, &HEADER)?;
+    let (_, slot) = fetch(alloc, slot, 7);
+    if !slot.is_up() {
+        return Err(Fail::new("it isn't up"));
     }
-    let mut slot = arm(slot, passes);
-    let done = fetch(alloc, &mut slot, 8);
+    let (done, slot) = fetch(alloc, arm(slot, passes), 8);
     let up = slot.is_up();
+    if !slot.is_made() {
+        return Err(Fail::new("it isn't made"));
+    }
     let slot = crash(&mut bay, slot, choice)?;
-    let (mounting, slot) = recover(alloc, slot);
-    give_back(&mut bay, 1, slot);
+    let (mounting, _) = recover(alloc, slot);
     Ok((done, up, mounting))
 }
 
@@ -121,7 +128,7 @@ fn faults_at_opening_take_actors_down(rt: HostRuntime) -> Result<(), Fail> {
     let mut failing = Vec::new(alloc);
     failing.push(1)?;
     bay.add(1, MemDisk::new(alloc, Vec::new(alloc), failing)?)?;
-    let (mounting, slot) = open(alloc, &mut bay, 1, ClientSlot::Vacant, &header(64))?;
+    let (mounting, slot) = open(alloc, &mut bay, 1, ClientSlot::Vacant, &HEADER)?;
     assert_eq!(rt; mounting, Mounting::DiskFault);
     assert_eq!(rt; (slot.is_made(), slot.is_up()), (true, false));
     if !slot.is_made() {
@@ -138,22 +145,14 @@ fn faults_at_opening_take_actors_down(rt: HostRuntime) -> Result<(), Fail> {
 fn replicas_are_given_up(rt: HostRuntime) -> Result<(), Fail> {
     let alloc = rt.alloc();
     let mut bay = MemBay::new(alloc, Vec::new(alloc));
-    let header = Header {
-        kind: Kind::Replica,
-        number: 7,
-        server: 1,
-        group: 1,
-        area: 1,
-        cache: 0,
-    };
     let slot: Slot<Replica<MemDisk>, MemDisk> = Slot::Vacant;
-    let (mounting, slot) = open(alloc, &mut bay, 256, slot, &header)?;
+    let (mounting, slot) = open(alloc, &mut bay, 256, slot, &REPLICA)?;
     assert_eq!(rt; mounting, Mounting::Entries(0));
     if !slot.is_made() {
         return Err(Fail::new("it isn't made"));
     }
     let slot = give_up(slot);
-    let (mounting, slot) = open(alloc, &mut bay, 256, slot, &header)?;
+    let (mounting, slot) = open(alloc, &mut bay, 256, slot, &REPLICA)?;
     assert_eq!(rt; mounting, Mounting::Entries(0));
     give_back(&mut bay, 256, slot);
     Ok(())

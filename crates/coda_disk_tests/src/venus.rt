@@ -23,7 +23,7 @@ const HEADER: Header = Header {
 };
 
 // The root of a fresh volume.
-fn root(alloc: Global) -> Node
+pub(crate) fn root(alloc: Global) -> Node
     ensures { HasSpelling (a_node four) result }
 {
     Node {
