@@ -1,5 +1,5 @@
 -- What a slot has, and what its disk counts.
-use Rattle.std.specs.Prelude.{◌≡◌, ℕ, Bool, true, false, not}
+use Rattle.std.specs.Prelude.{◌≡◌, ℕ, Bool, true, false, not, Option, None}
 use Rattle.coda_disk.specs.Bays.{plus}
 use Rattle.coda_actors.specs.Form.{Form}
 use Rattle.coda_actors.specs.declared.slot.Mounting.{Mounting}
@@ -43,3 +43,10 @@ sum_with form count Vacant sum = sum
 sum_with form count (Spare disk) sum = plus sum (count disk)
 sum_with form count (Stopped header disk) sum = plus sum (count disk)
 sum_with form count (Started header actor) sum = plus sum (count (form.disk actor))
+
+-- how many further calls of the slot's disk pass; nothing where all do
+abbrev pub passes_in : {A D : Type 0} → Form A D → (D → Option ℕ) → Slot A D → Option ℕ
+passes_in form passes Vacant = None
+passes_in form passes (Spare disk) = passes disk
+passes_in form passes (Stopped header disk) = passes disk
+passes_in form passes (Started header actor) = passes (form.disk actor)

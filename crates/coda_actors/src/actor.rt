@@ -51,7 +51,8 @@ pub trait Actor<D: Disk>: Sized {
         ensures up { (header : AskedHeader) (history : List form.Entry) → form.IsUp header self.old history → form.IsUp header self.new history }
         ensures same { form.is_down self.new ≡ false }
         ensures faults { D.faults (form.disk self.new) ≡ D.faults (form.disk self.old) }
-        ensures arms { D.arms (form.disk self.new) ≡ counted (D.arms (form.disk self.old)) };
+        ensures arms { D.arms (form.disk self.new) ≡ counted (D.arms (form.disk self.old)) }
+        ensures passes { D.passes (form.disk self.new) ≡ Some passes };
 
     // Each image that a crash may leave of the disk of an actor that is up reads as its history.
     ghost stands: { (a : Self) (header : AskedHeader) (history : List form.Entry) → form.IsUp header a history

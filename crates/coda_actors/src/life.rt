@@ -1,12 +1,12 @@
 // The life of an actor, from the line that makes it to the end of its cell.
-ghost use Rattle.std.specs.Prelude.{◌≡◌, ℕ, ◌≤◌, ◌<◌, ◌^◌, ◌++◌, ◌∷◌, [], List, Bool, true, false, IfOk, OnOk, OnErr, Err};
+ghost use Rattle.std.specs.Prelude.{◌≡◌, ℕ, ◌≤◌, ◌<◌, ◌^◌, ◌++◌, ◌∷◌, [], List, Bool, true, false, IfOk, OnOk, OnErr, Err, Some};
 ghost use Rattle.coda_io.specs.Faults.{counted, Rose, HasCause};
 ghost use Rattle.coda_disk.specs.Bays.{plus, KeepsAll, KeepsOthers, PutsOut};
 ghost use Rattle.coda_journal.specs.Header.{IsHeader};
 ghost use Rattle.coda_journal.specs.Laws.{HasWords};
 ghost use Rattle.coda_actors.specs.Fits.{Fits, FitsHeld, FitsUnmade, Stays, StandsFor, IsOwn, AsksOwn, OutFits, Others};
 ghost use Rattle.coda_actors.specs.Plain.{PlainActor, Opens, Crashes, Recovers, Arms, Leaves, Step};
-ghost use Rattle.coda_actors.specs.Slots.{is_made, is_up, IsOpened, IsRecovered, count_in, sum_with};
+ghost use Rattle.coda_actors.specs.Slots.{is_made, is_up, IsOpened, IsRecovered, count_in, sum_with, passes_in};
 
 use crate::actor::Actor;
 use crate::slot::{Mounting, Slot};
@@ -209,6 +209,7 @@ pub fn arm<D: Disk, A: Actor<D>>(slot: Slot<A, D>, passes: u64) -> Slot<A, D>
     ensures out { (out : Bool) → OutFits out slot → OutFits out result }
     ensures faults { count_in A.form D.faults result ≡ count_in A.form D.faults slot }
     ensures arms { count_in A.form D.arms result ≡ counted (count_in A.form D.arms slot) }
+    ensures passes { passes_in A.form D.passes result ≡ Some passes }
 {
     match slot {
         Slot::Vacant => unreachable!(),

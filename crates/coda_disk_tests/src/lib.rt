@@ -2,8 +2,9 @@
 #![tactic(auto)]
 
 #[cfg(test)]
-mod asking;
 mod actors;
+#[cfg(test)]
+mod asking;
 #[cfg(test)]
 mod decider;
 #[cfg(test)]
