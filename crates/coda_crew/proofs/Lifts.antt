@@ -1,0 +1,104 @@
+-- A step of one actor is a step of its crew.
+use Rattle.std.proofs.Common.{◌≡◌, ◌≢◌, ◌⊎◌, inl, inr, ℕ, Bool, true, false, refl, sym, ◌∙◌, subst}
+use Rattle.std.proofs.lemmas.Bool.{cases_eq, false≢true}
+use Rattle.std.specs.BTreeMap.{BTreeMap}
+use Rattle.coda_disk.specs.Told.{Told, Kept}
+use Rattle.coda_disk.specs.Bays.{KeepsOthers}
+use Rattle.coda_actors.specs.Form.{Form}
+use Rattle.coda_actors.specs.Plain.{PlainActor, Deed, Step}
+use Rattle.coda_actors.specs.Fits.{Fits, AsksOwn, OutFits, Others}
+use Rattle.coda_actors.specs.declared.slot.Slot.{Slot}
+use Rattle.coda_actors.specs.declared.slot.Slot.TheVariants.{Vacant, Spare, Stopped, Started}
+use Rattle.coda_actors.proofs.Deeds.{kept_unmade}
+use Rattle.coda_crew.specs.Crews.{slot_at, KeepsSlots, KeepsOtherSlots, FitsAll, OutAt, OutAll, OwnAll, CrewStep, Takes, LeavesBe}
+
+-- one plain actor under a number, and another one under each other number
+abbrev pub choose : {Entry : Type 0} {k n : ℕ} → (k ≡ n) ⊎ (k ≢ n) → PlainActor Entry → PlainActor Entry → PlainActor Entry
+choose (inl same) p q = p
+choose (inr other) p q = q
+
+choose_here : {Entry : Type 0} {k n : ℕ} (s : (k ≡ n) ⊎ (k ≢ n)) (p q : PlainActor Entry) → k ≡ n → choose s p q ≡ p
+choose_here (inl same) p q is = refl
+choose_here (inr other) p q is = absurd (other is)
+
+choose_other : {Entry : Type 0} {k n : ℕ} (s : (k ≡ n) ⊎ (k ≢ n)) (p q : PlainActor Entry) → k ≢ n → choose s p q ≡ q
+choose_other (inl same) p q not = absurd (not same)
+choose_other (inr other) p q not = refl
+
+-- the plain crew with another actor under a number
+abbrev pub with_actor : {Entry : Type 0} → ℕ → PlainActor Entry → (ℕ → PlainActor Entry) → ℕ → PlainActor Entry
+with_actor n p plain k = choose (cases_eq k n) p (plain k)
+
+pub others_left : (of out0 out1 : ℕ → Bool) (has0 has1 : ℕ → Told) (n : ℕ) → of n ≡ false → Others n out0 out1 → KeepsOthers n has0 has1 → LeavesBe of out0 out1 has0 has1
+others_left of out0 out1 has0 has1 n not others keeps k is = let other : k ≢ n = (λ same. false≢true (sym not ∙ subst (λ (m : ℕ). of m ≡ true) same is)) in (others k other, keeps k other)
+
+module _ {A D : Type 0} (form : Form A D) (told : D → Told) where
+  pub fits_kept : (out0 out1 : Bool) (has0 has1 : Told) (slot : Slot A D) (plain : PlainActor form.Entry) → out1 ≡ out0 → (has0.honest → Kept has0 has1) → Fits form told out0 has0 slot plain → Fits form told out1 has1 slot plain
+  fits_kept out0 out1 has0 has1 Vacant plain same kept f = (same ∙ f.0, kept_unmade form has0 has1 plain (kept f.1.stands.honest) f.1)
+  fits_kept out0 out1 has0 has1 (Spare disk) plain same kept f = (same ∙ f.0, f.1)
+  fits_kept out0 out1 has0 has1 (Stopped header disk) plain same kept f = (same ∙ f.0, f.1)
+  fits_kept out0 out1 has0 has1 (Started header actor) plain same kept f = (same ∙ f.0, f.1)
+
+  pub left_fits : (of out0 out1 : ℕ → Bool) (has0 has1 : ℕ → Told) (slots : BTreeMap ℕ (Slot A D)) (plain : ℕ → PlainActor form.Entry) → LeavesBe of out0 out1 has0 has1 → FitsAll form told of out0 has0 slots plain → FitsAll form told of out1 has1 slots plain
+  left_fits of out0 out1 has0 has1 slots plain left fits k is = fits_kept (out0 k) (out1 k) (has0 k) (has1 k) (slot_at slots k) (plain k) (left k is).0 (left k is).1 (fits k is)
+
+  -- slots that are as they were
+  pub same_fits : (of out0 out1 : ℕ → Bool) (has0 has1 : ℕ → Told) (slots0 slots1 : BTreeMap ℕ (Slot A D)) (plain : ℕ → PlainActor form.Entry) → KeepsSlots slots0 slots1 → ((k : ℕ) → out1 k ≡ out0 k) → ((k : ℕ) → (has0 k).honest → Kept (has0 k) (has1 k))
+      → FitsAll form told of out0 has0 slots0 plain → FitsAll form told of out1 has1 slots1 plain
+  same_fits of out0 out1 has0 has1 slots0 slots1 plain same outs kept fits k is =
+      subst (λ (s : Slot A D). Fits form told (out1 k) (has1 k) s (plain k)) (sym (same k)) (fits_kept (out0 k) (out1 k) (has0 k) (has1 k) (slot_at slots0 k) (plain k) (outs k) (kept k) (fits k is))
+
+  pub lifted : (of out0 out1 : ℕ → Bool) (has0 has1 : ℕ → Told) (slots0 slots1 : BTreeMap ℕ (Slot A D)) (plain : ℕ → PlainActor form.Entry) (n : ℕ) (deed : Deed form.Entry) (next : PlainActor form.Entry)
+      → FitsAll form told of out0 has0 slots0 plain → Others n out0 out1 → KeepsOthers n has0 has1 → KeepsOtherSlots n slots0 slots1
+      → Step form (plain n) deed next → Fits form told (out1 n) (has1 n) (slot_at slots1 n) next → Takes form told of plain n deed out1 has1 slots1
+  lifted of out0 out1 has0 has1 slots0 slots1 plain n deed next fits others keeps there step here = (
+    with_actor n next plain,
+    (subst (λ (p : PlainActor form.Entry). Step form (plain n) deed p) (sym (choose_here (cases_eq n n) next (plain n) refl)) step, λ k other. choose_other (cases_eq k n) next (plain k) other),
+    λ k is. each k is (cases_eq k n),
+  )
+    where
+      each : (k : ℕ) → of k ≡ true → (w : (k ≡ n) ⊎ (k ≢ n)) → Fits form told (out1 k) (has1 k) (slot_at slots1 k) (with_actor n next plain k)
+      each k is (inl same) =
+          subst (λ (q : PlainActor form.Entry). Fits form told (out1 k) (has1 k) (slot_at slots1 k) q) (sym (choose_here (cases_eq k n) next (plain k) same))
+            (subst (λ (m : ℕ). Fits form told (out1 m) (has1 m) (slot_at slots1 m) next) (sym same) here)
+      each k is (inr other) =
+          subst (λ (q : PlainActor form.Entry). Fits form told (out1 k) (has1 k) (slot_at slots1 k) q) (sym (choose_other (cases_eq k n) next (plain k) other))
+            (subst (λ (s : Slot A D). Fits form told (out1 k) (has1 k) s (plain k)) (sym (there k other))
+              (fits_kept (out0 k) (out1 k) (has0 k) (has1 k) (slot_at slots0 k) (plain k) (others k other) (keeps k other) (fits k is)))
+
+module _ {A D : Type 0} where
+  out_kept : (of out0 out1 : Bool) (slot : Slot A D) → (of ≡ true → out1 ≡ out0) → OutAt of out0 slot → OutAt of out1 slot
+  out_kept false out0 out1 slot same fits = fits
+  out_kept true out0 out1 slot same fits = subst (λ (b : Bool). OutFits b slot) (sym (same refl)) fits
+
+  pub left_out : (of out0 out1 : ℕ → Bool) (has0 has1 : ℕ → Told) (slots : BTreeMap ℕ (Slot A D)) → LeavesBe of out0 out1 has0 has1 → OutAll of out0 slots → OutAll of out1 slots
+  left_out of out0 out1 has0 has1 slots left fits k = out_kept (of k) (out0 k) (out1 k) (slot_at slots k) (λ is. (left k is).0) (fits k)
+
+  pub out_here : (of out : Bool) (slot : Slot A D) → of ≡ true → OutFits out slot → OutAt of out slot
+  out_here false out slot is fits = absurd (false≢true is)
+  out_here true out slot is fits = fits
+
+  pub out_from : (of out : Bool) (slot : Slot A D) → of ≡ true → OutAt of out slot → OutFits out slot
+  out_from false out slot is fits = absurd (false≢true is)
+  out_from true out slot is fits = fits
+
+  pub out_same : (of out0 out1 : ℕ → Bool) (slots0 slots1 : BTreeMap ℕ (Slot A D)) → KeepsSlots slots0 slots1 → ((k : ℕ) → out1 k ≡ out0 k) → OutAll of out0 slots0 → OutAll of out1 slots1
+  out_same of out0 out1 slots0 slots1 same outs fits k = subst (OutAt (of k) (out1 k)) (sym (same k)) (out_kept (of k) (out0 k) (out1 k) (slot_at slots0 k) (λ is. outs k) (fits k))
+
+  -- the slot of one number changes, whether it is of the crew or not: then it fits so
+  pub out_more : (of out0 out1 : ℕ → Bool) (slots0 slots1 : BTreeMap ℕ (Slot A D)) (n : ℕ) → Others n out0 out1 → KeepsOtherSlots n slots0 slots1 → OutAt (of n) (out1 n) (slot_at slots1 n) → OutAll of out0 slots0 → OutAll of out1 slots1
+  out_more of out0 out1 slots0 slots1 n others there here fits k = each (cases_eq k n)
+    where
+      each : (k ≡ n) ⊎ (k ≢ n) → OutAt (of k) (out1 k) (slot_at slots1 k)
+      each (inl same) = subst (λ (m : ℕ). OutAt (of m) (out1 m) (slot_at slots1 m)) (sym same) here
+      each (inr other) = subst (OutAt (of k) (out1 k)) (sym (there k other)) (out_kept (of k) (out0 k) (out1 k) (slot_at slots0 k) (λ is. others k other) (fits k))
+
+  pub own_more : (form : Form A D) (slots0 slots1 : BTreeMap ℕ (Slot A D)) (n : ℕ) → KeepsOtherSlots n slots0 slots1 → AsksOwn form (slot_at slots1 n) → OwnAll form slots0 → OwnAll form slots1
+  own_more form slots0 slots1 n there here own k = each (cases_eq k n)
+    where
+      each : (k ≡ n) ⊎ (k ≢ n) → AsksOwn form (slot_at slots1 k)
+      each (inl same) = subst (λ (m : ℕ). AsksOwn form (slot_at slots1 m)) (sym same) here
+      each (inr other) = subst (AsksOwn form) (sym (there k other)) (own k)
+
+  pub own_same : (form : Form A D) (slots0 slots1 : BTreeMap ℕ (Slot A D)) → KeepsSlots slots0 slots1 → OwnAll form slots0 → OwnAll form slots1
+  own_same form slots0 slots1 same own k = subst (AsksOwn form) (sym (same k)) (own k)
