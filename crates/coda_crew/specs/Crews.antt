@@ -2,7 +2,7 @@
 use Rattle.std.specs.Prelude.{◌≡◌, ◌≢◌, ◌⊎◌, ℕ, Bool, true, false, List, [], ◌∷◌, Option, Some, None, IsSome}
 use Rattle.std.specs.BTreeMap.{BTreeMap, get}
 use Rattle.std.specs.Ordering.{nat_cmp}
-use Rattle.coda_disk.specs.Told.{Told, Kept}
+use Rattle.coda_disk.specs.Told.{Told}
 use Rattle.coda_actors.specs.Form.{Form}
 use Rattle.coda_actors.specs.Plain.{PlainActor, Unmade, Deed, Step}
 use Rattle.coda_actors.specs.Fits.{Fits, FitsHeld, StandsFor, AsksOwn, OutFits}
@@ -77,9 +77,13 @@ abbrev pub Lies : {A D : Type 0} → (form : Form A D) → (D → Told) → Told
 Lies form told has Vacant plain = StandsFor form has plain.disk
 Lies form told has slot plain = FitsHeld form told slot plain
 
--- each number of a crew is out where it was, and the bay's disk of it is as it was
+-- the disk is honest still, and a crash leaves nothing of it that it couldn't leave before
+abbrev pub LeavesNoMore : Told → Told → Type 0
+LeavesNoMore old new = new.honest × ((image : List ℕ) → new.may_leave image → old.may_leave image)
+
+-- each number of a crew is out where it was, and a crash of the bay's disk of it leaves nothing that it couldn't leave before
 abbrev pub LeavesBe : (ℕ → Bool) → (ℕ → Bool) → (ℕ → Bool) → (ℕ → Told) → (ℕ → Told) → Type 0
-LeavesBe of out0 out1 has0 has1 = (k : ℕ) → of k ≡ true → (out1 k ≡ out0 k) × ((has0 k).honest → Kept (has0 k) (has1 k))
+LeavesBe of out0 out1 has0 has1 = (k : ℕ) → of k ≡ true → (out1 k ≡ out0 k) × ((has0 k).honest → LeavesNoMore (has0 k) (has1 k))
 
 -- a sum with what the disks of all slots count
 abbrev pub sum_all : {A D : Type 0} → Form A D → (D → ℕ) → List (ℕ × Slot A D) → ℕ → ℕ
