@@ -1,12 +1,12 @@
 -- Slots that are given back one after the other.
-use Rattle.std.proofs.Common.{◌≡◌, ◌≢◌, ◌⊎◌, inl, inr, ℕ, Bool, true, false, List, [], ◌∷◌, refl, sym, ◌∙◌, ap, subst}
-use Rattle.std.proofs.lemmas.Bool.{cases_eq, false≢true}
+use Rattle.std.proofs.Common.{◌≡◌, ◌≢◌, ◌⊎◌, inl, inr, ℕ, Bool, true, false, List, ◌∷◌, refl, sym, ◌∙◌, ap, subst}
+use Rattle.std.proofs.lemmas.Bool.{cases_eq}
 use Rattle.std.specs.BTreeMap.{BTreeMap}
 use Rattle.coda_disk.specs.Told.{Told}
 use Rattle.coda_disk.specs.Bays.{KeepsAll, KeepsOthers}
 use Rattle.coda_actors.specs.Form.{Form}
 use Rattle.coda_actors.specs.Plain.{PlainActor}
-use Rattle.coda_actors.specs.Fits.{Fits, FitsHeld, StandsFor, OutFits, Others}
+use Rattle.coda_actors.specs.Fits.{Fits, StandsFor, Others}
 use Rattle.coda_actors.specs.Slots.{sum_with}
 use Rattle.coda_actors.specs.declared.slot.Slot.{Slot}
 use Rattle.coda_actors.specs.declared.slot.Slot.TheVariants.{Vacant, Spare, Stopped, Started}
@@ -92,16 +92,16 @@ module _ {A D : Type 0} (form : Form A D) (told : D → Told) where
     stands_more : (of : ℕ → Bool) (plain : ℕ → PlainActor form.Entry) → FitsAll form told of out0 has0 slots0 plain → (k : ℕ) → of k ≡ true → (k ≡ n) ⊎ (k ≢ n) → Lies form told (has2 k) (slot_at slots2 k) (plain k)
     stands_more of plain fits k kind (inl same) =
         subst (λ (m : ℕ). Lies form told (has2 m) (slot_at slots2 m) (plain m)) (sym same)
-          (subst (λ (s : Slot A D). Lies form told (has2 n) s (plain n)) (sym gone)
-            (given (plain n) (subst (λ (s : Slot A D). Lies form told (has1 n) s (plain n)) (sym was) (g.stands of plain fits n (subst (λ (m : ℕ). of m ≡ true) same kind)))))
+        (subst (λ (s : Slot A D). Lies form told (has2 n) s (plain n)) (sym gone)
+        (given (plain n) (subst (λ (s : Slot A D). Lies form told (has1 n) s (plain n)) (sym was) (g.stands of plain fits n (subst (λ (m : ℕ). of m ≡ true) same kind)))))
     stands_more of plain fits k kind (inr other) =
         subst (λ (s : Slot A D). Lies form told (has2 k) s (plain k)) (sym (there k other)) (lies_on (has1 k) (has2 k) (slot_at slots1 k) (plain k) (on k other) (g.stands of plain fits k kind))
 
     out_more : (of : ℕ → Bool) → OutAll of out0 slots0 → (k : ℕ) → (k ≡ n) ⊎ (k ≢ n) → OutAt (of k) (out2 k) (slot_at slots2 k)
     out_more of fits k (inl same) =
         subst (λ (m : ℕ). OutAt (of m) (out2 m) (slot_at slots2 m)) (sym same)
-          (subst (OutAt (of n) (out2 n)) (sym gone)
-            (subst (λ (b : Bool). OutAt {A = A} {D = D} (of n) b Vacant) (sym here) (out_given (of n) (out1 n) slot (subst (OutAt (of n) (out1 n)) (sym was) (g.out of fits n)))))
+        (subst (OutAt (of n) (out2 n)) (sym gone)
+        (subst (λ (b : Bool). OutAt {A = A} {D = D} (of n) b Vacant) (sym here) (out_given (of n) (out1 n) slot (subst (OutAt (of n) (out1 n)) (sym was) (g.out of fits n)))))
     out_more of fits k (inr other) = subst (OutAt (of k) (out2 k)) (sym (there k other)) (out_kept (of k) (out1 k) (out2 k) (slot_at slots1 k) (λ kind. others k other) (g.out of fits k))
 
     step_apart : (k : ℕ) → slot_at slots1 k ≡ Vacant → (k ≡ n) ⊎ (k ≢ n) → (out2 k ≡ out1 k) × ((has1 k).honest → LeavesNoMore (has1 k) (has2 k)) × (slot_at slots2 k ≡ Vacant)

@@ -7,14 +7,14 @@ use Rattle.std.specs.Ordering.{nat_cmp}
 use Rattle.coda_disk.specs.Told.{Told, Kept}
 use Rattle.coda_disk.specs.Bays.{KeepsOthers}
 use Rattle.coda_actors.specs.Form.{Form}
-use Rattle.coda_actors.specs.Plain.{PlainDisk, PlainActor, Unmade, Deed, Step}
+use Rattle.coda_actors.specs.Plain.{PlainDisk, PlainActor, Deed, Step}
 use Rattle.coda_actors.specs.Fits.{Fits, FitsHeld, StandsFor, AsksOwn, OutFits, Others}
 use Rattle.coda_actors.specs.Slots.{is_made, is_up}
 use Rattle.coda_actors.specs.declared.slot.Slot.{Slot}
 use Rattle.coda_actors.specs.declared.slot.Slot.TheVariants.{Vacant, Spare, Stopped, Started}
 use Rattle.coda_actors.proofs.Mountings.{fewer}
 use Rattle.coda_actors.proofs.Deeds.{held, placed}
-use Rattle.coda_crew.specs.Crews.{slot_or_vacant, slot_at, KeepsSlots, KeepsOtherSlots, FitsAll, OutAt, OutAll, OwnAll, CrewStep, IsAtEntry, Takes, LeavesNoMore, LeavesBe}
+use Rattle.coda_crew.specs.Crews.{slot_or_vacant, slot_at, KeepsSlots, KeepsOtherSlots, FitsAll, OutAt, OutAll, OwnAll, IsAtEntry, Takes, LeavesNoMore, LeavesBe}
 
 -- one plain actor under a number, and another one under each other number
 abbrev pub choose : {Entry : Type 0} {k n : ℕ} → (k ≡ n) ⊎ (k ≢ n) → PlainActor Entry → PlainActor Entry → PlainActor Entry
@@ -89,11 +89,11 @@ module _ {A D : Type 0} (form : Form A D) (told : D → Told) where
       each : (k : ℕ) → of k ≡ true → (w : (k ≡ n) ⊎ (k ≢ n)) → Fits form told (out1 k) (has1 k) (slot_at slots1 k) (with_actor n next plain k)
       each k is (inl same) =
           subst (λ (q : PlainActor form.Entry). Fits form told (out1 k) (has1 k) (slot_at slots1 k) q) (sym (choose_here (cases_eq k n) next (plain k) same))
-            (subst (λ (m : ℕ). Fits form told (out1 m) (has1 m) (slot_at slots1 m) next) (sym same) here)
+          (subst (λ (m : ℕ). Fits form told (out1 m) (has1 m) (slot_at slots1 m) next) (sym same) here)
       each k is (inr other) =
           subst (λ (q : PlainActor form.Entry). Fits form told (out1 k) (has1 k) (slot_at slots1 k) q) (sym (choose_other (cases_eq k n) next (plain k) other))
-            (subst (λ (s : Slot A D). Fits form told (out1 k) (has1 k) s (plain k)) (sym (there k other))
-              (fits_kept (out0 k) (out1 k) (has0 k) (has1 k) (slot_at slots0 k) (plain k) (others k other) (keeps k other) (fits k is)))
+          (subst (λ (s : Slot A D). Fits form told (out1 k) (has1 k) s (plain k)) (sym (there k other))
+          (fits_kept (out0 k) (out1 k) (has0 k) (has1 k) (slot_at slots0 k) (plain k) (others k other) (keeps k other) (fits k is)))
 
   -- the bay is as it was
   pub lifted_here : (of out : ℕ → Bool) (has : ℕ → Told) (slots0 slots1 : BTreeMap ℕ (Slot A D)) (plain : ℕ → PlainActor form.Entry) (n : ℕ) (deed : Deed form.Entry) (next : PlainActor form.Entry)

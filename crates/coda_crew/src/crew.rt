@@ -5,7 +5,7 @@ ghost use Rattle.coda_disk.specs.Bays.{KeepsAll, KeepsOthers};
 ghost use Rattle.coda_journal.specs.Header.{IsHeader};
 ghost use Rattle.coda_journal.specs.declared.header.Header.{Header as AskedHeader};
 ghost use Rattle.coda_actors.specs.Fits.{StandsFor, AsksOwn, Others, OutFits};
-ghost use Rattle.coda_actors.specs.Plain.{PlainActor, Opens, Crashes, Recovers, Arms};
+ghost use Rattle.coda_actors.specs.Plain.{PlainActor, Opens, Crashes, Recovers, Arms, Leaves};
 ghost use Rattle.coda_actors.specs.Slots.{is_made, is_up, IsOpened, IsRecovered, count_in, sum_with, passes_in};
 ghost use Rattle.coda_crew.specs.Crews.{slot_at, KeepsSlots, KeepsOtherSlots, FitsAll, OutAll, OwnAll, StandsAll, IsAtEntry, Takes, IsOutIfHeld, Lies, out_after, LeavesBe, sum_all};
 
@@ -173,6 +173,29 @@ pub fn arm<B: Bay, A: Actor<B::D> + Drop>(
     put(slots, number, slot);
 }
 
+/// Gives the actor of a number up that a line made which is refused afterwards, for the disk of another one. Its disk stays in its slot as it
+/// is.
+pub fn give_up<B: Bay, A: Actor<B::D> + Drop>(
+    _bay: &B,
+    slots: &mut BTreeMap<u32, Slot<A, B::D>>,
+    number: u32,
+)
+    requires made { is_made (slot_at slots.old number) ≡ true }
+    requires own { AsksOwn A.form (slot_at slots.old number) }
+    ensures step { (of : ℕ → Bool) (plain : ℕ → PlainActor A.form.Entry) → FitsAll A.form B.D.told of (B.out _bay.now) (B.has _bay.now) slots.old plain → of number ≡ true
+        → Takes A.form B.D.told of plain number Leaves (B.out _bay.now) (B.has _bay.now) slots.new }
+    ensures unmade { is_made (slot_at slots.new number) ≡ false }
+    ensures out { (of : ℕ → Bool) → OutAll of (B.out _bay.now) slots.old → OutAll of (B.out _bay.now) slots.new }
+    ensures own { OwnAll A.form slots.old → OwnAll A.form slots.new }
+    ensures slots { KeepsOtherSlots number slots.old slots.new }
+    ensures faults { count_in A.form B.D.faults (slot_at slots.new number) ≡ count_in A.form B.D.faults (slot_at slots.old number) }
+    ensures arms { count_in A.form B.D.arms (slot_at slots.new number) ≡ count_in A.form B.D.arms (slot_at slots.old number) }
+{
+    let slot = take(slots, number);
+    let slot = coda_actors::give_up(slot);
+    put(slots, number, slot);
+}
+
 /// Whether a line made the actor of a number.
 pub fn is_made<A, D>(slots: &BTreeMap<u32, Slot<A, D>>, number: u32) -> bool
     ensures { result ≡ is_made (slot_at slots.now number) }
@@ -199,13 +222,7 @@ pub fn get<D: Disk, A: Actor<D>>(slots: &BTreeMap<u32, Slot<A, D>>, number: u32)
         (λ actor. (header : AskedHeader) × (slot_at slots.now number ≡ Slot.Started header actor.now) × (A.form.is_down actor.now ≡ false)) }
 {
     match slots.get(&number) {
-        Some(Slot::Started { actor, .. }) => {
-            if actor.is_down() {
-                None
-            } else {
-                Some(actor)
-            }
-        }
+        Some(Slot::Started { actor, .. }) => { if actor.is_down() { None } else { Some(actor) } }
         _ => None,
     }
 }

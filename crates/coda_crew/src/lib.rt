@@ -6,7 +6,7 @@ mod fault;
 mod law;
 mod places;
 
-pub use crew::{arm, crash, get, give_back, is_made, is_up, open, recover, unmade};
+pub use crew::{arm, crash, get, give_back, give_up, is_made, is_up, open, recover, unmade};
 pub use fault::CrewFault;
 pub use law::{others_fit, steps_fit};
 pub use places::{put, take};

@@ -33,7 +33,10 @@ pub fn put<A: Drop, D: Drop>(slots: &mut BTreeMap<u32, Slot<A, D>>, number: u32,
 }
 
 // Makes a place for a number, if it has none.
-pub(crate) fn make_place<A: Drop, D: Drop>(slots: &mut BTreeMap<u32, Slot<A, D>>, number: u32) -> Result<(), AllocError>
+pub(crate) fn make_place<A: Drop, D: Drop>(
+    slots: &mut BTreeMap<u32, Slot<A, D>>,
+    number: u32,
+) -> Result<(), AllocError>
     ensures same { KeepsSlots slots.old slots.new }
     ensures place { OnOk result (HasPlace slots.new number) }
 {

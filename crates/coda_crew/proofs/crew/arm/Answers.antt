@@ -16,4 +16,4 @@ returns-clause-step g c = λ of plain fits is.
     let h = held_there form told (out n) (has n) (slot_at slots0 n) c.take-slot.result (plain n) c.take-slot.ensures.taken (up_made form (slot_at slots0 n) c.requires.up) (fits n is) in
     let w = c.arm-slot.ensures.step (plain n) h.1 in
     lifted_here form told of out has slots0 slots1 plain n Arms w.0 fits (λ k other. c.put.ensures.others k other ∙ c.take-slot.ensures.others k other) w.1
-      (put_there form told (out n) (has n) (slot_at slots1 n) c.arm-slot.result w.0 c.put.ensures.here h.0 w.2)
+    (put_there form told (out n) (has n) (slot_at slots1 n) c.arm-slot.result w.0 c.put.ensures.here h.0 w.2)

@@ -20,5 +20,5 @@ returns-in-Ok-clause-step g c = λ of plain fits is.
       w.0,
       w.2,
       lifted form told of out0 out1 has0 has1 slots0 slots1 plain n (Crashes w.0) w.1 fits (λ k other. c.in-Ok.ensures.numbers k) (λ k other h. no_more (has0 k) (has1 k) (c.in-Ok.ensures.keeps k h))
-        (λ k other. c.put.ensures.others k other ∙ c.take-slot.ensures.others k other) w.3 (put_there form told (out1 n) (has1 n) (slot_at slots1 n) c.in-Ok.slot w.1 c.put.ensures.here (c.in-Ok.ensures.numbers n ∙ h.0) w.4),
+          (λ k other. c.put.ensures.others k other ∙ c.take-slot.ensures.others k other) w.3 (put_there form told (out1 n) (has1 n) (slot_at slots1 n) c.in-Ok.slot w.1 c.put.ensures.here (c.in-Ok.ensures.numbers n ∙ h.0) w.4),
     )

@@ -17,7 +17,7 @@ returns-clause-step g c = λ of plain fits is.
     let h = held_there form told (out n) (has n) (slot_at slots0 n) c.take-slot.result (plain n) c.take-slot.ensures.taken c.requires.made (fits n is) in
     let w = c.recover-mounting.ensures.step (plain n) h.1 in
     lifted_here form told of out has slots0 slots1 plain n (Recovers c.recover-mounting.result.0) w.0 fits (λ k other. c.put.ensures.others k other ∙ c.take-slot.ensures.others k other) w.1
-      (put_there form told (out n) (has n) (slot_at slots1 n) next w.0 c.put.ensures.here h.0 w.2)
+    (put_there form told (out n) (has n) (slot_at slots1 n) next w.0 c.put.ensures.here h.0 w.2)
 
 pub returns-clause-out : goal.returns-clause-out
 returns-clause-out g c = λ of fits.
@@ -26,4 +26,4 @@ returns-clause-out g c = λ of fits.
     let slots0 = c.args.slots.now in
     let slots1 = c.put.new.slots in
     out_more of out out slots0 slots1 n (λ k other. refl) (λ k other. c.put.ensures.others k other ∙ c.take-slot.ensures.others k other)
-      (out_changed (of n) (out n) (slot_at slots0 n) c.take-slot.result c.recover-mounting.result.1 (slot_at slots1 n) c.take-slot.ensures.taken c.put.ensures.here c.requires.made (c.recover-mounting.ensures.out (out n)) (fits n)) fits
+    (out_changed (of n) (out n) (slot_at slots0 n) c.take-slot.result c.recover-mounting.result.1 (slot_at slots1 n) c.take-slot.ensures.taken c.put.ensures.here c.requires.made (c.recover-mounting.ensures.out (out n)) (fits n)) fits
