@@ -14,7 +14,7 @@ use Rattle.coda_actors.specs.declared.slot.Slot.{Slot}
 use Rattle.coda_actors.specs.declared.slot.Slot.TheVariants.{Vacant, Spare, Stopped, Started}
 use Rattle.coda_actors.proofs.Mountings.{fewer}
 use Rattle.coda_actors.proofs.Deeds.{held, placed}
-use Rattle.coda_crew.specs.Crews.{slot_or_vacant, slot_at, KeepsSlots, KeepsOtherSlots, FitsAll, OutAt, OutAll, OwnAll, IsAtEntry, Takes, LeavesNoMore, LeavesBe}
+use Rattle.coda_crew.specs.Crews.{slot_or_vacant, slot_at, KeepsSlots, KeepsOtherSlots, FitsAll, OutAt, OutAll, OwnAll, IsAtEntry, Takes, IsOutIfHeld, LeavesNoMore, LeavesBe}
 
 -- one plain actor under a number, and another one under each other number
 abbrev pub choose : {Entry : Type 0} {k n : ℕ} → (k ≡ n) ⊎ (k ≢ n) → PlainActor Entry → PlainActor Entry → PlainActor Entry
@@ -159,3 +159,14 @@ module _ {A D : Type 0} where
 
   pub own_same : (form : Form A D) (slots0 slots1 : BTreeMap ℕ (Slot A D)) → KeepsSlots slots0 slots1 → OwnAll form slots0 → OwnAll form slots1
   own_same form slots0 slots1 same own k = subst (AsksOwn form) (sym (same k)) (own k)
+
+  held_of : (of out : Bool) (slot : Slot A D) → OutAt of out slot → IsOutIfHeld out slot
+  held_of false out slot fits = subst (IsOutIfHeld out) (sym fits) tt
+  held_of true out Vacant fits = tt
+  held_of true out (Spare disk) fits = fits
+  held_of true out (Stopped header disk) fits = fits
+  held_of true out (Started header actor) fits = fits
+
+  -- all disks of a crew can be given back
+  pub all_held : (of out : ℕ → Bool) (slots : BTreeMap ℕ (Slot A D)) → OutAll of out slots → (k : ℕ) → IsOutIfHeld (out k) (slot_at slots k)
+  all_held of out slots fits k = held_of (of k) (out k) (slot_at slots k) (fits k)

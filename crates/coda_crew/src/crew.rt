@@ -66,6 +66,7 @@ pub fn open<B: Bay, A: Actor<B::D> + Drop>(
     ensures disk_arms { B.disk_arms bay.new ≡ B.disk_arms bay.old }
     ensures bay_later { B.faults bay.old ≤ B.faults bay.new }
     ensures bay_cause { result ≡ Err CrewFault.Bay → Rose (B.faults bay.old) (B.faults bay.new) }
+    ensures memory { result ≡ Err CrewFault.Memory → B.faults bay.new ≡ B.faults bay.old }
     ensures follows { B.follows bay.old bay.new }
 {
     if make_place(slots, number).is_err() {
