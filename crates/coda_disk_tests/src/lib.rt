@@ -6,6 +6,8 @@ mod actors;
 #[cfg(test)]
 mod asking;
 #[cfg(test)]
+mod crew;
+#[cfg(test)]
 mod decider;
 #[cfg(test)]
 mod disk;
