@@ -90,11 +90,7 @@ fn create(
         mode: 0o644,
         owner: 0,
     };
-    let offers = if offered {
-        Some(server.volume())
-    } else {
-        None
-    };
+    let offers = if offered { Some(server.volume()) } else { None };
     Ok(operate(venus, offers, 5, 7, &ask))
 }
 
@@ -103,7 +99,10 @@ fn create(
 fn what_is_needed_is_fetched(rt: HostRuntime) -> Result<(), Fail> {
     let alloc = rt.alloc();
     let (mut venus, _) = recovered(alloc, Vec::new(alloc))?;
-    assert_eq!(rt; create(alloc, &mut venus, false)?, Err(Refused::Need(Fid::root(7))));
+    assert_eq!(rt;
+        create(alloc, &mut venus, false)?,
+        Err(Refused::Need(Fid::root(7)))
+    );
     assert_eq!(rt; create(alloc, &mut venus, true)?.is_ok(), true);
     assert_eq!(rt; create(alloc, &mut venus, true)?, Err(Refused::Exists));
     let (mut venus, count) = recovered(alloc, venus.down().image(0)?)?;
