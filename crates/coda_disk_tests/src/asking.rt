@@ -111,25 +111,38 @@ fn what_is_needed_is_fetched(rt: HostRuntime) -> Result<(), Fail> {
     Ok(())
 }
 
+// What is shown at a path, by its fid, and whether it was fetched for it.
+fn shown(
+    alloc: Global,
+    venus: &mut Venus<MemDisk>,
+    offered: bool,
+    showing: Showing,
+    text: &[u8],
+) -> Result<Result<(Fid, bool), Refused>, Fail> {
+    let server = server(alloc)?;
+    let path = path(alloc, text)?;
+    let offers = if offered { Some(server.volume()) } else { None };
+    match show(alloc, venus, offers, showing, 7, &path) {
+        Ok((seen, fetched)) => Ok(Ok((seen.fid, fetched))),
+        Err(why) => Ok(Err(why)),
+    }
+}
+
 // An object that is shown was fetched for it or was cached; one that isn't offered is needed.
 #[test]
 fn what_is_shown_is_fetched_or_cached(rt: HostRuntime) -> Result<(), Fail> {
     let alloc = rt.alloc();
-    let server = server(alloc)?;
-    let file = path(alloc, b"/d/f")?;
-    let directory = path(alloc, b"/d")?;
     let (mut venus, _) = recovered(alloc, Vec::new(alloc))?;
-    let offers = Some(server.volume());
-    let (seen, fetched) = show(alloc, &mut venus, offers, Showing::Names, 7, &directory)?;
-    assert_eq!(rt; (seen.fid, fetched), (made(1), true));
-    let needed = show(alloc, &mut venus, None, Showing::Content, 7, &file);
-    assert_eq!(rt; needed.err(), Some(Refused::Need(made(2))));
-    for fetched_now in [true, false] {
-        let (seen, fetched) = show(alloc, &mut venus, offers, Showing::Content, 7, &file)?;
-        assert_eq!(rt; (seen.fid, fetched), (made(2), fetched_now));
+    let directory = shown(alloc, &mut venus, true, Showing::Names, b"/d")?;
+    assert_eq!(rt; directory, Ok((made(1), true)));
+    let needed = shown(alloc, &mut venus, false, Showing::Content, b"/d/f")?;
+    assert_eq!(rt; needed, Err(Refused::Need(made(2))));
+    for fetched in [true, false] {
+        let file = shown(alloc, &mut venus, true, Showing::Content, b"/d/f")?;
+        assert_eq!(rt; file, Ok((made(2), fetched)));
     }
-    let names = show(alloc, &mut venus, None, Showing::Names, 7, &file);
-    assert_eq!(rt; names.err(), Some(Refused::NotDir));
+    let names = shown(alloc, &mut venus, false, Showing::Names, b"/d/f")?;
+    assert_eq!(rt; names, Err(Refused::NotDir));
     Ok(())
 }
 
