@@ -1,5 +1,5 @@
 // What a client on a disk is asked, and what it keeps.
-ghost use Rattle.std.specs.Prelude.{◌≡◌, ◌≢◌, ℕ, ◌+◌, ◌≤◌, List, [], ◌∷◌, true, false, vec_len, IfOk, IfErr, IsErrOf, option_map, Ok, Err, Some, None};
+ghost use Rattle.std.specs.Prelude.{◌≡◌, ◌≢◌, ℕ, ◌+◌, ◌≤◌, List, [], ◌∷◌, true, false, vec_len, IfOk, IfErr, IsErrOf, MatchOption, option_map, Ok, Err, Some, None};
 ghost use Rattle.std.specs.BTreeMap as tree;
 ghost use Rattle.std.specs.Ordering.{nat_cmp};
 ghost use Rattle.std.specs.Result.{result_ok};
@@ -21,7 +21,7 @@ ghost use Rattle.coda_venus.specs.Operating.{MayBegin};
 ghost use Rattle.coda_venus.specs.Appending.{Writes};
 ghost use Rattle.coda_venus.specs.History.{Payload, state_of, MayOperate};
 ghost use Rattle.coda_venus.specs.Keeping.{next_chunk, operation, operate_due, done_of, freeze_due, settle_due, KeepingOne, DoesKeep, DoesKeepIn, Falls};
-ghost use Rattle.coda_venus.specs.State.{ClientState};
+ghost use Rattle.coda_venus.specs.State.{ClientState, new_volume};
 
 use crate::ask::{Ask, object_of};
 use crate::done::Done;
@@ -30,6 +30,7 @@ use crate::refused::Refused;
 use crate::seen::Seen;
 use crate::venus::Venus;
 use coda_certify::Verdict;
+use coda_cml::{Frozen, Log};
 use coda_disk::Disk;
 use coda_fid::{Path, Record};
 use coda_journal::{Frame, Journal};
@@ -310,6 +311,28 @@ impl<D: Disk> Venus<D> {
         match self.client.logs.get(&volume) {
             Some(log) => log.log.chunk(),
             None => &[],
+        }
+    }
+
+    /// The chunk of a volume that is on its way, while the client isn't down: its number and its server; none where none is frozen.
+    pub fn frozen(&self, volume: u32) -> Option<Frozen>
+        requires { self.now.down ≡ false }
+        ensures { (c : ClientState) → IsClient c self.now.client → result ≡ (c.volumes volume).log.frozen }
+    {
+        match self.client.logs.get(&volume) {
+            Some(log) => log.log.frozen(),
+            None => None,
+        }
+    }
+
+    /// The log of a volume, while the client isn't down; none where it did nothing there.
+    pub fn log(&self, volume: u32) -> Option<&Log>
+        requires { self.now.down ≡ false }
+        ensures { (c : ClientState) → IsClient c self.now.client → MatchOption result (c.volumes volume ≡ new_volume) (λ log. log.now ≡ (c.volumes volume).log) }
+    {
+        match self.client.logs.get(&volume) {
+            Some(log) => Some(&log.log),
+            None => None,
         }
     }
 }
