@@ -1,0 +1,5 @@
+pub mod Cells
+pub mod Room
+pub mod Lines
+pub mod Kept
+pub mod Laws

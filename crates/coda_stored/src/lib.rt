@@ -1,0 +1,32 @@
+//! A cell whose actors stand on disks: what each line does in it, wherever a disk fails or has no room, and what holds of all its runs.
+#![tactic(auto)]
+
+ghost use Rattle.coda_stored.specs.Laws.{StoredCellsAreKept, StoredCellsArePromised, EntriesStay, ClientsAreRecovered, ReplicasAreRecovered};
+
+/// A law of lines: in a cell that is kept each line leaves one that is kept, wherever the disk of an actor fails or has no room, and
+/// whatever crashes; and the cell in which nothing was made is kept.
+pub fn stored_cells_are_kept()
+    ensures { StoredCellsAreKept }
+{}
+
+/// A law of cells on disks: their histories are a run from nothing, so they keep what is promised of runs, whichever of the entries join
+/// whose appends failed (Kistler and Satyanarayanan 1992: a log is replayed as one transaction).
+pub fn stored_cells_are_promised()
+    ensures { StoredCellsArePromised }
+{}
+
+/// A law of lines: no entry that was acknowledged is lost, whatever the line does and wherever a disk stops it.
+pub fn entries_stay()
+    ensures { EntriesStay }
+{}
+
+/// A law of recoveries: the log of a client that is recovered is the one from before, or that one with the one entry whose append failed,
+/// and it is read from the image that the bay answered at the client's last crash.
+pub fn clients_are_recovered()
+    ensures { ClientsAreRecovered }
+{}
+
+/// A law of recoveries: the same of a server's replica of a volume, so that a verdict that was answered is kept.
+pub fn replicas_are_recovered()
+    ensures { ReplicasAreRecovered }
+{}
