@@ -34,6 +34,7 @@ use Rattle.coda_cell.specs.declared.refused.Refused.TheVariants as refused
 use Rattle.coda_cell.proofs.Histories.{nodes_are, lasts_are}
 use Rattle.coda_cell.proofs.KeptCells.{lawful}
 use Rattle.coda_cell.proofs.KeptChunks.{gone}
+use Rattle.coda_cell.proofs.Moving.{all_left}
 use Rattle.coda_cell.proofs.SpelledCells.{span_all, chunk_spelled}
 use Rattle.coda_cell.proofs.SpelledDecisions.{verdict_spelled}
 use Rattle.coda_cell.proofs.SpelledLines.{byte, froze_spelled, spelled_after, number_spelled_of}
@@ -108,8 +109,9 @@ module _ (cell : MadeCell) (number blocks : ℕ) (kept : IsKept cell) (can : Can
       let events = deeds_at number volume f.deeds in
       let new = grown_all cell events in
       let deeds = done_on new.acted number volume in
-      let law = lawful new g.left.kept number volume in
-      let after = spelled_after cell events kept can g.left (froze_spelled number volume now window server ((client_of number (cell.acted.clients number).history blocks).volumes volume) f e) in
+      let left = all_left cell events kept g.left in
+      let law = lawful new left.kept number volume in
+      let after = spelled_after cell events kept can left (froze_spelled number volume now window server ((client_of number (cell.acted.clients number).history blocks).volumes volume) f e) in
       let most = (is_within 0 4294967295 eight (course_of deeds).chunks (after.did.chunks number volume)).1 in
       let last = g.frozen.last in
       let listed = (numbered deeds law).way g.frozen.cut g.frozen.frozen in

@@ -64,7 +64,8 @@ within_fetch m fid node within inner = λ dir kid name is. elim (fid_cases dir f
   | inr off ↦ within dir kid name (sym (ap (λ o. child_of o name) (get_else fids_total exact_fids m fid node dir off)) ∙ is)
 ]
 
-within_look : (offers : Option Nodes) → ((nodes : Nodes) → offers ≡ Some nodes → AreWithin nodes) → (h : Held) (fid : Fid) → AreWithin h.nodes → AreWithin (looked offers h fid).nodes
+-- after a look-up, where what is offered binds so
+pub within_look : (offers : Option Nodes) → ((nodes : Nodes) → offers ≡ Some nodes → AreWithin nodes) → (h : Held) (fid : Fid) → AreWithin h.nodes → AreWithin (looked offers h fid).nodes
 within_look offers from h fid within = by (map.get h.nodes fid) (offered offers fid) refl
   where
     by : (o offer : Option Node) → offered offers fid ≡ offer → AreWithin (held_after_fetches h (fetch_of o offer (parent_of h.nodes fid) fid)).nodes
@@ -73,9 +74,3 @@ within_look offers from h fid within = by (map.get h.nodes fid) (offered offers 
     by None (Some node) e = (
         let at = offered_is offers fid node e in
         within_fetch h.nodes fid node within (λ name kid is. from at.0 at.1 fid kid name (ap (λ o. child_of o name) at.2 ∙ is)))
-
-pub within_along : (offers : Option Nodes) → ((nodes : Nodes) → offers ≡ Some nodes → AreWithin nodes) → (h : Held) (at : Fid) (names : List Name) → AreWithin h.nodes → AreWithin (held_after_fetches h (look_along offers h at names)).nodes
-within_along offers from h at names within = keeps_along (λ held. AreWithin held.nodes) offers (within_look offers from) h at names within
-
-pub within_look_ups : (offers : Option Nodes) → ((nodes : Nodes) → offers ≡ Some nodes → AreWithin nodes) → (h : Held) (volume : ℕ) (ask : Asked) → AreWithin h.nodes → AreWithin (held_after_fetches h (look_ups offers h volume ask)).nodes
-within_look_ups offers from h volume ask within = keeps_look_ups (λ held. AreWithin held.nodes) offers (within_look offers from) h volume ask within
