@@ -21,14 +21,12 @@ use Rattle.coda_cancel.specs.Cancel.{add}
 use Rattle.coda_cancel.proofs.Keys.{fid_true}
 use Rattle.coda_cml.specs.Steady.{any_record, makes_in, unbinds, is_over, ChildrenLeft, RemovesEmpty, GoesOn, IsSteady}
 use Rattle.coda_cml.proofs.runs.WithoutObject.{any-append}
-use Rattle.coda_cell.specs.Ask.{Asked}
 use Rattle.coda_cell.specs.Held.{Held, held_after_fetches}
-use Rattle.coda_cell.specs.Looking.{offered, fetch_of, looked, look_along}
+use Rattle.coda_cell.specs.Looking.{offered, fetch_of, looked}
 use Rattle.coda_cell.specs.Accepting.{Sight}
-use Rattle.coda_cell.specs.Asking.{look_ups}
 use Rattle.coda_cell.specs.Kept.{AreChildrenKept}
 use Rattle.coda_cell.proofs.Accepted.{Relies}
-use Rattle.coda_cell.proofs.Fetches.{child_fetched, keeps_along, keeps_look_ups}
+use Rattle.coda_cell.proofs.Fetches.{child_fetched}
 use Rattle.coda_cell.proofs.AfterOperations.{IsBoundBy, still_bound, newly_bound}
 
 -- ---- tests over runs

@@ -1,10 +1,9 @@
 -- A cell stays kept by a letter that is posted or lost, and by lines that send, deliver and lose letters.
-use Rattle.std.proofs.Common.{◌≡◌, ◌≢◌, ℕ, ◌+◌, ◌<◌, ◌≤◌, ◌==◌, Bool, true, false, cond, List, [], ◌∷◌, ◌++◌, append-nil, map, take, Option, Some, None, is_some, option_map, Result, Ok, Err, refl, sym, ap, ◌∙◌, subst, inl, inr, arith}
+use Rattle.std.proofs.Common.{◌≡◌, ◌≢◌, ℕ, ◌+◌, ◌≤◌, ◌==◌, Bool, true, false, cond, List, [], ◌∷◌, ◌++◌, append-nil, map, take, Option, Some, None, option_map, Result, Ok, Err, refl, sym, ap, ◌∙◌, subst, inl, arith}
 use Rattle.std.specs.Prelude.{nat_eq}
-use Rattle.std.proofs.lemmas.Bool.{eqb-true, cases_Bool, ne_eqb}
+use Rattle.std.proofs.lemmas.Bool.{eqb-true, ne_eqb}
 use Rattle.std.proofs.lemmas.Bool.Decides.{nat_tests}
 use Rattle.coda_fid.specs.declared.op.Record.{Record}
-use Rattle.coda_certify.specs.declared.verdict.Verdict.TheVariants as verdict
 use Rattle.coda_cml.specs.Steps.{settle_refusal}
 use Rattle.coda_cml.specs.declared.fault.SettleFault.{SettleFault}
 use Rattle.coda_cml.specs.declared.fault.SettleFault.TheVariants as settle_fault
@@ -13,21 +12,21 @@ use Rattle.coda_record.specs.declared.answer.Answer.{Answer}
 use Rattle.coda_record.specs.declared.answer.Answer.TheVariants.{Applied, Conflict, Behind, Old}
 use Rattle.coda_script.specs.declared.line.Strength.{Strength}
 use Rattle.coda_script.specs.declared.line.Strength.TheVariants.{Strong, Weak, Down}
-use Rattle.coda_plain.specs.Deeds.{Cut, Course, course_of, span_of, MaySettle}
+use Rattle.coda_plain.specs.Deeds.{Cut, Course, course_of, MaySettle}
 use Rattle.coda_plain.specs.Cell.{Letter, ChunkSent as PlainChunk, AnswerSent as PlainAnswer, Ruled, Behind as PlainBehind, Old as PlainOld, PlainCell}
-use Rattle.coda_plain.specs.Moves.{Posts, Loses, after as after_move, done_on, IsFrozenFor, IsKeptBy, IsSent, IsToldOf, MayPost}
+use Rattle.coda_plain.specs.Moves.{Posts, Loses, after as after_move, done_on, MayPost}
 use Rattle.coda_plain.proofs.Soundness.{moves_keep_sound}
 use Rattle.coda_letters.specs.Sent.{Sent, ChunkSent, AnswerSent, Waiting, sent_at, lost_by, number_of, without}
-use Rattle.coda_cell.specs.State.{ClientVolume, ClientState, ReplicaState, CellState, Event, Posted, Lost}
-use Rattle.coda_cell.specs.Made.{MadeCell, client_of, replica_of, state_of, plain_letter, grown, grown_all}
+use Rattle.coda_cell.specs.State.{ClientVolume, ClientState, CellState, Posted, Lost}
+use Rattle.coda_cell.specs.Made.{MadeCell, client_of, replica_of, plain_letter, grown, grown_all}
 use Rattle.coda_cell.specs.Refusing.{settle_refused_as}
 use Rattle.coda_cell.specs.Sending.{Freezing, freezing, Ruling, ruling, Taking, taken_unless, taking, deeds_at, entries_at}
 use Rattle.coda_cell.specs.Messages.{over, posting, going_by, sends_of, sends, ruled_in, taken_in}
-use Rattle.coda_cell.specs.Runs.{AreUp, IsKept, IsLeft, AreNumbered, IsSaid, ArePooled, AreLettersOf}
+use Rattle.coda_cell.specs.Runs.{IsKept, IsLeft, AreNumbered, IsSaid, ArePooled}
 use Rattle.coda_cell.specs.declared.refused.Refused.{Refused}
-use Rattle.coda_cell.proofs.Histories.{volume_of, volumes_are, shown, frozen_by}
+use Rattle.coda_cell.proofs.Histories.{volumes_are, shown, frozen_by}
 use Rattle.coda_cell.proofs.KeptCells.{lawful}
-use Rattle.coda_cell.proofs.KeptChunks.{KeepsAnswer, IsToldAnswer, IsGone, gone, IsRuled, ruled_left, taking_left}
+use Rattle.coda_cell.proofs.KeptChunks.{KeepsAnswer, IsToldAnswer, IsGone, gone, ruled_left, taking_left}
 use Rattle.coda_cell.proofs.Moving.{AreLeft, are_left_one, are_left_both, kept_behind}
 
 -- ---- a letter is posted

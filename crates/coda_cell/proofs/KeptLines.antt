@@ -152,9 +152,11 @@ looked_left : (cell : MadeCell) (number blocks : ℕ) (kept : IsKept cell) (ther
 looked_left cell number blocks kept there volume [] are = kept
 looked_left cell number blocks kept there volume (fetch ∷ fetches) are =
     let first = fetch_left cell number blocks kept there volume fetch are.0 in
-    let next = grown cell (at_client number (fetched fetch)) in
-    (first, looked_left next number blocks first.kept there volume fetches
-        (subst (λ h. AreLookUps (offers_of (state_of cell) number volume) h fetches) (sym (held_behind cell number blocks kept there volume fetch)) are.1))
+    let next = grown cell (at_client number (fetched fetch)) in (
+      first,
+      looked_left next number blocks first.kept there volume fetches
+          (subst (λ h. AreLookUps (offers_of (state_of cell) number volume) h fetches) (sym (held_behind cell number blocks kept there volume fetch)) are.1),
+    )
 
 module _ (cell : MadeCell) (number blocks : ℕ) (kept : IsKept cell) (there : cell.sizes number ≡ Some blocks) (volume : ℕ) where
   abbrev asker : ClientState

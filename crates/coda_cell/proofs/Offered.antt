@@ -14,7 +14,6 @@ use Rattle.coda_cell.specs.Ask.{Asked, Create, Mkdir, Symlink, Store, Setattr, R
 use Rattle.coda_cell.specs.Held.{Held, Fetch, held_after_fetches}
 use Rattle.coda_cell.specs.Looking.{step_from, resolve, offered, fetch_of, look, looked, look_on, look_along}
 use Rattle.coda_cell.specs.Asking.{rename_look_ups, look_ups}
-use Rattle.coda_cell.proofs.Fetches.{keeps_along, keeps_look_ups}
 use Rattle.coda_cell.proofs.AfterOperations.{there_put}
 
 -- a node that is offered at a fid

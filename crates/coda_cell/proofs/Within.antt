@@ -1,5 +1,5 @@
 -- Directories bind objects of their own volume alone, after operations and after fetches.
-use Rattle.std.proofs.Common.{◌≡◌, ℕ, true, false, ◌||◌, List, Option, Some, None, refl, sym, ap, ◌∙◌, inl, inr}
+use Rattle.std.proofs.Common.{◌≡◌, ℕ, true, false, ◌||◌, Option, Some, None, refl, sym, ap, ◌∙◌, inl, inr}
 use Rattle.std.specs.List.{list_any}
 use Rattle.std.specs.FinMap as map
 use Rattle.std.proofs.lemmas.Bool.{or_left, or_right}
@@ -17,12 +17,9 @@ use Rattle.coda_tree.proofs.Order.{fid_cases, get_here, get_else}
 use Rattle.coda_certify.specs.Replay.{applied}
 use Rattle.coda_cancel.specs.Dropping.{mentioning}
 use Rattle.coda_cancel.proofs.Keys.{fid_same}
-use Rattle.coda_cell.specs.Ask.{Asked}
 use Rattle.coda_cell.specs.Held.{Held, held_after_fetches}
-use Rattle.coda_cell.specs.Looking.{offered, fetch_of, looked, look_along}
-use Rattle.coda_cell.specs.Asking.{look_ups}
+use Rattle.coda_cell.specs.Looking.{offered, fetch_of, looked}
 use Rattle.coda_cell.specs.Kept.{AreWithin}
-use Rattle.coda_cell.proofs.Fetches.{keeps_along, keeps_look_ups}
 use Rattle.coda_cell.proofs.AfterOperations.{IsBoundBy, bound_before}
 use Rattle.coda_cell.proofs.Offered.{offered_is}
 

@@ -15,8 +15,9 @@ pub fn lines_keep_cells()
     ensures { LinesKeepCells }
 {}
 
-/// A law of lines that are stopped: in a cell that is kept each front of what a line does might happen to its actors, one entry
-/// after the other, and keeps it; so where a disk fails between two entries of a line, what is promised of cells still holds.
+/// A law of lines that are stopped: in a cell that is kept each front of what a line does might happen to its actors,
+/// one entry after the other, and keeps it; so a line may be stopped between any two of its entries, as by a disk that
+/// is full, and what is promised of cells still holds.
 pub fn lines_keep_fronts()
     ensures { LinesKeepFronts }
 {}
