@@ -64,6 +64,56 @@ module _ (Kept : Held → Type 0) (offers : Option Nodes) (keeps : (h : Held) (f
   keeps_look_ups h volume (Rmdir path) kept = keeps_along h (root_of volume) path kept
   keeps_look_ups h volume (Rename from to) kept = keeps_rename h volume from to kept
 
+-- ---- each fetch is a look-up
+
+-- each fetch is what the look-up of its object comes to, over what those before it left
+abbrev pub AreLookUps : Option Nodes → Held → List Fetch → Type 0
+AreLookUps offers h [] = Unit {0}
+AreLookUps offers h (fetch ∷ fetches) = (look offers h fetch.fid ≡ fetch ∷ []) × AreLookUps offers (held_after_fetch h fetch.fid fetch.parent fetch.node) fetches
+
+module _ (offers : Option Nodes) where
+  both_look_ups : (h : Held) (first rest : List Fetch) → AreLookUps offers h first → AreLookUps offers (held_after_fetches h first) rest → AreLookUps offers h (first ++ rest)
+  both_look_ups h [] rest a b = b
+  both_look_ups h (fetch ∷ first) rest a b = (a.0, both_look_ups (held_after_fetch h fetch.fid fetch.parent fetch.node) first rest a.1 b)
+
+  one_looks_up : (h : Held) (fid : Fid) → AreLookUps offers h (look offers h fid)
+  one_looks_up h fid = by (map.get h.nodes fid) (offered offers fid) refl refl
+    where
+      by : (o offer : Option Node) → map.get h.nodes fid ≡ o → offered offers fid ≡ offer → AreLookUps offers h (fetch_of o offer (parent_of h.nodes fid) fid)
+      by (Some node) offer held offers_it = tt
+      by None None held offers_it = tt
+      by None (Some node) held offers_it = ((λ i. fetch_of (held i) (offers_it i) (parent_of h.nodes fid) fid), tt)
+
+  on_look_up : (h : Held) (next : Fid → List Fetch) → ((fid : Fid) → AreLookUps offers h (next fid)) → (r : Result Fid Refused) → AreLookUps offers h (look_on r next)
+  on_look_up h next then_ (Err why) = tt
+  on_look_up h next then_ (Ok fid) = then_ fid
+
+  pub along_looks_up : (h : Held) (at : Fid) (names : List Name) → AreLookUps offers h (look_along offers h at names)
+  along_looks_up h at [] = one_looks_up h at
+  along_looks_up h at (name ∷ names) =
+      let next : Fid → List Fetch = λ next. look_along offers (looked offers h at) next names in
+      let step = step_from (map.get (looked offers h at).nodes at) at name in
+      both_look_ups h (look offers h at) (look_on step next) (one_looks_up h at) (on_look_up (looked offers h at) next (λ fid. along_looks_up (looked offers h at) fid names) step)
+
+  rename_looks_up : (h : Held) (volume : ℕ) (from to : List Name) → AreLookUps offers h (rename_look_ups offers h volume from to)
+  rename_looks_up h volume from to =
+      let first = look_along offers h (root_of volume) from in
+      let then_ = held_after_fetches h first in
+      let next : Fid → List Fetch = λ fid. look_along offers then_ (root_of volume) to in
+      let led = resolve then_.nodes (root_of volume) from in
+      both_look_ups h first (look_on led next) (along_looks_up h (root_of volume) from) (on_look_up then_ next (λ fid. along_looks_up then_ (root_of volume) to) led)
+
+  -- the look-ups of an ask
+  pub ask_looks_up : (h : Held) (volume : ℕ) (ask : Asked) → AreLookUps offers h (look_ups offers h volume ask)
+  ask_looks_up h volume (Create path mode owner) = along_looks_up h (root_of volume) (front_of (ending path))
+  ask_looks_up h volume (Mkdir path mode owner) = along_looks_up h (root_of volume) (front_of (ending path))
+  ask_looks_up h volume (Symlink path target) = along_looks_up h (root_of volume) (front_of (ending path))
+  ask_looks_up h volume (Store path content) = along_looks_up h (root_of volume) path
+  ask_looks_up h volume (Setattr path attrs) = along_looks_up h (root_of volume) path
+  ask_looks_up h volume (Remove path) = along_looks_up h (root_of volume) path
+  ask_looks_up h volume (Rmdir path) = along_looks_up h (root_of volume) path
+  ask_looks_up h volume (Rename from to) = rename_looks_up h volume from to
+
 -- ---- the parents of what is fetched
 
 pub some_fid : (x y : Fid) → Some x ≡ Some y → x ≡ y
@@ -98,9 +148,6 @@ bound_look offers h fid bound = by (map.get h.nodes fid) (offered offers fid) re
     by (Some node) offer e = bound
     by None (Some node) e = bound_fetch h fid (parent_of h.nodes fid) node e refl bound
     by None None e = bound
-
-pub bound_along : (offers : Option Nodes) (h : Held) (at : Fid) (names : List Name) → AreBound h → AreBound (held_after_fetches h (look_along offers h at names))
-bound_along offers h at names bound = keeps_along AreBound offers (bound_look offers) h at names bound
 
 -- what look-ups leave is bound by its parents
 pub bound_look_ups : (offers : Option Nodes) (h : Held) (volume : ℕ) (ask : Asked) → AreBound h → AreBound (held_after_fetches h (look_ups offers h volume ask))

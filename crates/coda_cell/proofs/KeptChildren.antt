@@ -21,14 +21,12 @@ use Rattle.coda_cancel.specs.Cancel.{add}
 use Rattle.coda_cancel.proofs.Keys.{fid_true}
 use Rattle.coda_cml.specs.Steady.{any_record, makes_in, unbinds, is_over, ChildrenLeft, RemovesEmpty, GoesOn, IsSteady}
 use Rattle.coda_cml.proofs.runs.WithoutObject.{any-append}
-use Rattle.coda_cell.specs.Ask.{Asked}
 use Rattle.coda_cell.specs.Held.{Held, held_after_fetches}
-use Rattle.coda_cell.specs.Looking.{offered, fetch_of, looked, look_along}
+use Rattle.coda_cell.specs.Looking.{offered, fetch_of, looked}
 use Rattle.coda_cell.specs.Accepting.{Sight}
-use Rattle.coda_cell.specs.Asking.{look_ups}
 use Rattle.coda_cell.specs.Kept.{AreChildrenKept}
 use Rattle.coda_cell.proofs.Accepted.{Relies}
-use Rattle.coda_cell.proofs.Fetches.{child_fetched, keeps_along, keeps_look_ups}
+use Rattle.coda_cell.proofs.Fetches.{child_fetched}
 use Rattle.coda_cell.proofs.AfterOperations.{IsBoundBy, still_bound, newly_bound}
 
 -- ---- tests over runs
@@ -86,8 +84,8 @@ kept_children_beside s volume client rec run kept relies others = λ dir kid mad
 
 -- ---- fetches
 
-kept_look : (offers : Option Nodes) (run : List Record) (h : Held) (fid : Fid) → AreChildrenKept h.nodes run → AreChildrenKept (looked offers h fid).nodes run
-kept_look offers run h fid kept = by (map.get h.nodes fid) (offered offers fid) refl
+pub kept_children_look : (offers : Option Nodes) (run : List Record) (h : Held) (fid : Fid) → AreChildrenKept h.nodes run → AreChildrenKept (looked offers h fid).nodes run
+kept_children_look offers run h fid kept = by (map.get h.nodes fid) (offered offers fid) refl
   where
     by : (o offer : Option Node) → map.get h.nodes fid ≡ o → AreChildrenKept (held_after_fetches h (fetch_of o offer (parent_of h.nodes fid) fid)).nodes run
     by (Some node) offer e = kept
@@ -96,12 +94,6 @@ kept_look offers run h fid kept = by (map.get h.nodes fid) (offered offers fid) 
       | inl left ↦ inl left
       | inr at ↦ inr (at.0, child_fetched h.nodes fid dir kid node at.0 e at.1)
     ]
-
-pub kept_children_along : (offers : Option Nodes) (h : Held) (at : Fid) (names : List Name) (run : List Record) → AreChildrenKept h.nodes run → AreChildrenKept (held_after_fetches h (look_along offers h at names)).nodes run
-kept_children_along offers h at names run kept = keeps_along (λ held. AreChildrenKept held.nodes run) offers (kept_look offers run) h at names kept
-
-pub kept_children_look_ups : (offers : Option Nodes) (h : Held) (volume : ℕ) (ask : Asked) (run : List Record) → AreChildrenKept h.nodes run → AreChildrenKept (held_after_fetches h (look_ups offers h volume ask)).nodes run
-kept_children_look_ups offers h volume ask run kept = keeps_look_ups (λ held. AreChildrenKept held.nodes run) offers (kept_look offers run) h volume ask kept
 
 -- ---- removals
 

@@ -24,14 +24,14 @@ use Rattle.coda_plain.specs.Deeds.{Deed, Froze, Settled, Cut, end_of, done_by, C
 use Rattle.coda_plain.specs.Decisions.{ReplicaEntry, Decided, Last, decision, last_of}
 use Rattle.coda_plain.specs.Logs.{front_by}
 use Rattle.coda_plain.specs.Cell.{ClientEntry, Did, deeds_of, Actor, PlainCell}
-use Rattle.coda_plain.specs.Moves.{done_on, IsFrozenFor, IsKeptBy, IsSent, IsToldOf}
+use Rattle.coda_plain.specs.Moves.{AtReplica, done_on, IsFrozenFor, IsKeptBy, IsSent, IsToldOf}
 use Rattle.coda_plain.proofs.Chunking.{course_push, full_push, numbered}
 use Rattle.coda_plain.proofs.Following.{frozen_now as frozen_for_now, decided_keeps}
 use Rattle.coda_plain.proofs.Ledger.{orderly}
 use Rattle.coda_plain.proofs.Lists.{follow_push, told_push, in_right}
 use Rattle.coda_plain.proofs.Parting.{above_up}
 use Rattle.coda_plain.proofs.Ranges.{both_parts, above_twice, above_rising}
-use Rattle.coda_cell.specs.State.{ClientVolume, ClientState, ReplicaState, new_replica, at_client}
+use Rattle.coda_cell.specs.State.{ClientVolume, ClientState, ReplicaState, new_replica, Event, Entered, at_client}
 use Rattle.coda_cell.specs.Kept.{AreChildrenKept}
 use Rattle.coda_cell.specs.Made.{MadeCell, client_of, replica_of, grown, grown_all}
 use Rattle.coda_cell.specs.Sending.{Freezing, frozen_now, frozen_unless, freezing_of, freezing, Ruling, decides, ruling_of, ruling, Taking, taken, taken_unless, taking, deeds_at, entries_at, answered_to, ruled_on}
@@ -43,7 +43,7 @@ use Rattle.coda_cell.proofs.Histories.{volume_of, volumes_are, shown, thawed_are
 use Rattle.coda_cell.proofs.KeptCells.{lawful, steady, pending_is}
 use Rattle.coda_cell.proofs.KeptChildren.{children_of_rest}
 use Rattle.coda_cell.proofs.KeptDeeds.{deeds_here, deed_left, decision_left}
-use Rattle.coda_cell.proofs.Moving.{HasMore, has_more, left_none, left_both}
+use Rattle.coda_cell.proofs.Moving.{HasMore, has_more, AreLeft, are_left_one, are_left_both, kept_behind}
 
 -- ---- where a chunk ends
 
@@ -125,7 +125,7 @@ module _ (cell : MadeCell) (number blocks : ℕ) (kept : IsKept cell) (there : c
 -- A chunk went for a server: what its client did for it might happen and keeps the cell, it is frozen then, and its operations are those of
 -- the chunk of this number.
 pub record IsGone (cell : MadeCell) (number server volume : ℕ) (f : Freezing) : Type 0 where
-  pub left : IsLeft cell (deeds_at number volume f.deeds)
+  pub left : AreLeft cell (deeds_at number volume f.deeds)
   pub frozen : IsFrozenFor (grown_all cell (deeds_at number volume f.deeds)).acted number server volume f.number
   pub span : f.span ≡ span_of (done_on (grown_all cell (deeds_at number volume f.deeds)).acted number volume) f.number
 
@@ -190,7 +190,7 @@ module _ (cell : MadeCell) (number blocks : ℕ) (kept : IsKept cell) (there : c
 
     gone_now : IsGone cell number server volume (frozen_now now window server log)
     gone_now = record {
-      left = freeze_left cell number blocks kept there volume server homed chunk server last freezes;
+      left = are_left_one cell (at_client number (Did volume froze)) (freeze_left cell number blocks kept there volume server homed chunk server last freezes);
       frozen = frozen_for_now cell.acted number volume server last chunk (kept.up.clients number);
       span = span_is;
     }
@@ -203,7 +203,7 @@ module _ (cell : MadeCell) (number blocks : ℕ) (kept : IsKept cell) (there : c
     by_course (Some cut) frozen e =
         let same : chunk ≡ record { number = (course_of deeds).chunks; home = cut.home } = cc in
         record {
-          left = left_none cell kept;
+          left = kept;
           frozen = record { up = kept.up.clients number; cut = cut; frozen = frozen; home = sym (ap (λ (c : Frozen). c.home) same) ∙ home; last = ap (λ (c : Frozen). c.number) same };
           span = ap (λ (v : ClientVolume). v.front) is_left ∙ (shown deeds law).front ∙ ap (λ o. front_by o (pending_of deeds)) frozen ∙ sym ((orderly deeds law).1.front cut frozen).span
               ∙ sym (ap (λ (c : Frozen). span_of deeds c.number) same);
@@ -248,7 +248,7 @@ KeepsAnswer cell c server volume number (Old decided) = Unit {0}
 -- a chunk of this number was ruled on: what the server did for it might happen and keeps the cell, no client did anything, and it keeps what
 -- it answered
 pub record IsRuled (cell : MadeCell) (client server volume number : ℕ) (ruled : Ruling) : Type 0 where
-  pub left : IsLeft cell (entries_at server volume ruled.entries)
+  pub left : AreLeft cell (entries_at server volume ruled.entries)
   pub clients : (grown_all cell (entries_at server volume ruled.entries)).acted.clients ≡ cell.acted.clients
   pub sizes : (grown_all cell (entries_at server volume ruled.entries)).sizes ≡ cell.sizes
   pub homes : (grown_all cell (entries_at server volume ruled.entries)).homes ≡ cell.homes
@@ -276,7 +276,7 @@ module _ (cell : MadeCell) (kept : IsKept cell) (volume server : ℕ) (homed : c
       let same : decides client number span home ≡ ruled = cc in
       let nodes = nodes_are server volume (cell.acted.replicas server volume).history in
       subst (IsRuled cell client server volume number) same (record {
-        left = decision_left cell kept volume server homed client number span next_is sent span_is;
+        left = are_left_one cell (Entered (AtReplica server volume (Decided client number span))) (decision_left cell kept volume server homed client number span next_is sent span_is);
         clients = refl;
         sizes = refl;
         homes = refl;
@@ -307,7 +307,7 @@ module _ (cell : MadeCell) (kept : IsKept cell) (volume server : ℕ) (homed : c
       by false next e =
           let tells : Ruling = record { answer = told (home.lasts client) number; entries = []; replica = home } in
           let same : tells ≡ ruled = cc in
-          subst (IsRuled cell client server volume number) same (record { left = left_none cell kept; clients = refl; sizes = refl; homes = refl; keeps = keeps_told })
+          subst (IsRuled cell client server volume number) same (record { left = kept; clients = refl; sizes = refl; homes = refl; keeps = keeps_told })
 
 -- ---- the client takes the answer
 
@@ -325,18 +325,22 @@ told_at_once cell c server volume number (Behind decided) keeps = tt
 told_at_once cell c server volume number (Old decided) keeps = tt
 
 module _ (cell : MadeCell) (number blocks : ℕ) (kept : IsKept cell) (there : cell.sizes number ≡ Some blocks) (volume server : ℕ) (homed : cell.homes volume ≡ Some server) (chunk : ℕ) (may : MaySettle (done_on cell.acted number volume) chunk) where
-  pub taken_left : (v : ClientVolume) (answer : Answer) → IsToldAnswer cell.acted number volume chunk answer → IsLeft cell (deeds_at number volume (taken chunk answer v).deeds)
-  taken_left v Applied told = settlement_left cell number blocks kept there volume server homed chunk verdict.Applied may told
-  taken_left v (Conflict record_number why) told = settlement_left cell number blocks kept there volume server homed chunk (verdict.Conflict record_number why) may told
-  taken_left v (Behind decided) told = left_none cell kept
-  taken_left v (Old decided) told = left_none cell kept
+  abbrev settled : Verdict → Event
+  settled verdict = at_client number (Did volume (Settled chunk verdict))
 
-  pub taking_left : (v : ClientVolume) (answer : Answer) (took : Taking) → IsToldAnswer cell.acted number volume chunk answer → taking chunk answer v ≡ Ok took → IsLeft cell (deeds_at number volume took.deeds)
+  pub taken_left : (v : ClientVolume) (answer : Answer) → IsToldAnswer cell.acted number volume chunk answer → AreLeft cell (deeds_at number volume (taken chunk answer v).deeds)
+  taken_left v Applied told = are_left_one cell (settled verdict.Applied) (settlement_left cell number blocks kept there volume server homed chunk verdict.Applied may told)
+  taken_left v (Conflict record_number why) told =
+      are_left_one cell (settled (verdict.Conflict record_number why)) (settlement_left cell number blocks kept there volume server homed chunk (verdict.Conflict record_number why) may told)
+  taken_left v (Behind decided) told = kept
+  taken_left v (Old decided) told = kept
+
+  pub taking_left : (v : ClientVolume) (answer : Answer) (took : Taking) → IsToldAnswer cell.acted number volume chunk answer → taking chunk answer v ≡ Ok took → AreLeft cell (deeds_at number volume took.deeds)
   taking_left v answer took told e = by (settle_refusal v.frozen chunk) e
     where
-      by : (o : Option SettleFault) → taken_unless o chunk answer v ≡ Ok took → IsLeft cell (deeds_at number volume took.deeds)
+      by : (o : Option SettleFault) → taken_unless o chunk answer v ≡ Ok took → AreLeft cell (deeds_at number volume took.deeds)
       by (Some why) e = cc
-      by None e = (let same : taken chunk answer v ≡ took = cc in subst (λ (t : Taking). IsLeft cell (deeds_at number volume t.deeds)) same (taken_left v answer told))
+      by None e = (let same : taken chunk answer v ≡ took = cc in subst (λ (t : Taking). AreLeft cell (deeds_at number volume t.deeds)) same (taken_left v answer told))
 
 -- ---- all three in turn
 
@@ -372,21 +376,21 @@ module _ (cell : MadeCell) (number blocks : ℕ) (kept : IsKept cell) (there : c
     may : MaySettle (done_on third.acted number volume) f.number
     may = record { cut = frozen_third.cut; frozen = frozen_third.frozen; last = frozen_third.last }
 
-    took_left : (took : Taking) → taking f.number ruled.answer f.volume ≡ Ok took → IsLeft third (deeds_at number volume took.deeds)
-    took_left took e = taking_left third number blocks rules.left.kept (ap (λ s. s number) rules.sizes ∙ ap (λ s. s number) more.sizes ∙ there) volume server (ap (λ h. h volume) rules.homes ∙ homed_second) f.number may
+    took_left : (took : Taking) → taking f.number ruled.answer f.volume ≡ Ok took → AreLeft third (deeds_at number volume took.deeds)
+    took_left took e = taking_left third number blocks (kept_behind second (entries_at server volume ruled.entries) rules.left) (ap (λ s. s number) rules.sizes ∙ ap (λ s. s number) more.sizes ∙ there) volume server (ap (λ h. h volume) rules.homes ∙ homed_second) f.number may
         f.volume ruled.answer took (told_at_once third.acted number server volume f.number ruled.answer rules.keeps) e
 
-    pub answered_left : (o : Result Taking Refused) → taking f.number ruled.answer f.volume ≡ o → ruled.replica.server ≡ server → IsLeft cell (answered_to number volume f ruled o).events
-    answered_left (Err why) e at = subst (λ s. IsLeft cell (deeds_at number volume f.deeds ++ entries_at s volume ruled.entries)) (sym at)
-        (left_both cell (deeds_at number volume f.deeds) (entries_at server volume ruled.entries) g.left rules.left)
-    answered_left (Ok took) e at = subst (λ s. IsLeft cell (deeds_at number volume f.deeds ++ (entries_at s volume ruled.entries ++ deeds_at number volume took.deeds))) (sym at)
-        (left_both cell (deeds_at number volume f.deeds) (entries_at server volume ruled.entries ++ deeds_at number volume took.deeds) g.left
-        (left_both second (entries_at server volume ruled.entries) (deeds_at number volume took.deeds) rules.left (took_left took e)))
+    pub answered_left : (o : Result Taking Refused) → taking f.number ruled.answer f.volume ≡ o → ruled.replica.server ≡ server → AreLeft cell (answered_to number volume f ruled o).events
+    answered_left (Err why) e at = subst (λ s. AreLeft cell (deeds_at number volume f.deeds ++ entries_at s volume ruled.entries)) (sym at)
+        (are_left_both cell (deeds_at number volume f.deeds) (entries_at server volume ruled.entries) g.left rules.left)
+    answered_left (Ok took) e at = subst (λ s. AreLeft cell (deeds_at number volume f.deeds ++ (entries_at s volume ruled.entries ++ deeds_at number volume took.deeds))) (sym at)
+        (are_left_both cell (deeds_at number volume f.deeds) (entries_at server volume ruled.entries ++ deeds_at number volume took.deeds) g.left
+        (are_left_both second (entries_at server volume ruled.entries) (deeds_at number volume took.deeds) rules.left (took_left took e)))
 
   -- a chunk went, and was ruled on
-  pub ruled_on_left : (r : ReplicaState) → replica_of (λ s. (cell.acted.replicas s volume).history) volume server ≡ r → (o : Result Ruling Refused) → ruling number f.number f.span r ≡ o → IsLeft cell (ruled_on number volume f r o).events
+  pub ruled_on_left : (r : ReplicaState) → replica_of (λ s. (cell.acted.replicas s volume).history) volume server ≡ r → (o : Result Ruling Refused) → ruling number f.number f.span r ≡ o → AreLeft cell (ruled_on number volume f r o).events
   ruled_on_left r is (Err why) e = g.left
   ruled_on_left r is (Ok ruled) e =
-      let rules = ruled_left second g.left.kept volume server homed_second number f.number f.span (inr g.frozen) g.span ruled (ap (ruling number f.number f.span) (home_second ∙ is) ∙ e) in
+      let rules = ruled_left second (kept_behind cell (deeds_at number volume f.deeds) g.left) volume server homed_second number f.number f.span (inr g.frozen) g.span ruled (ap (ruling number f.number f.span) (home_second ∙ is) ∙ e) in
       let at : r.server ≡ server = ap (λ (x : ReplicaState). x.server) (sym is) ∙ server_stays (new_replica server volume) (cell.acted.replicas server volume).history in
       answered_left ruled rules (taking f.number ruled.answer f.volume) refl ((ruling_left number f.number f.span r ruled e).1 ∙ at)

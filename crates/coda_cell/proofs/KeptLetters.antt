@@ -1,10 +1,9 @@
 -- A cell stays kept by a letter that is posted or lost, and by lines that send, deliver and lose letters.
-use Rattle.std.proofs.Common.{◌≡◌, ◌≢◌, ℕ, ◌+◌, ◌<◌, ◌≤◌, ◌==◌, Bool, true, false, cond, List, [], ◌∷◌, ◌++◌, append-nil, map, take, Option, Some, None, is_some, option_map, Result, Ok, Err, refl, sym, ap, ◌∙◌, subst, inl, inr, arith}
+use Rattle.std.proofs.Common.{◌≡◌, ◌≢◌, ℕ, ◌+◌, ◌≤◌, ◌==◌, Bool, true, false, cond, List, [], ◌∷◌, ◌++◌, append-nil, map, take, Option, Some, None, option_map, Result, Ok, Err, refl, sym, ap, ◌∙◌, subst, inl, arith}
 use Rattle.std.specs.Prelude.{nat_eq}
-use Rattle.std.proofs.lemmas.Bool.{eqb-true, cases_Bool, ne_eqb}
+use Rattle.std.proofs.lemmas.Bool.{eqb-true, ne_eqb}
 use Rattle.std.proofs.lemmas.Bool.Decides.{nat_tests}
 use Rattle.coda_fid.specs.declared.op.Record.{Record}
-use Rattle.coda_certify.specs.declared.verdict.Verdict.TheVariants as verdict
 use Rattle.coda_cml.specs.Steps.{settle_refusal}
 use Rattle.coda_cml.specs.declared.fault.SettleFault.{SettleFault}
 use Rattle.coda_cml.specs.declared.fault.SettleFault.TheVariants as settle_fault
@@ -13,22 +12,22 @@ use Rattle.coda_record.specs.declared.answer.Answer.{Answer}
 use Rattle.coda_record.specs.declared.answer.Answer.TheVariants.{Applied, Conflict, Behind, Old}
 use Rattle.coda_script.specs.declared.line.Strength.{Strength}
 use Rattle.coda_script.specs.declared.line.Strength.TheVariants.{Strong, Weak, Down}
-use Rattle.coda_plain.specs.Deeds.{Cut, Course, course_of, span_of, MaySettle}
+use Rattle.coda_plain.specs.Deeds.{Cut, Course, course_of, MaySettle}
 use Rattle.coda_plain.specs.Cell.{Letter, ChunkSent as PlainChunk, AnswerSent as PlainAnswer, Ruled, Behind as PlainBehind, Old as PlainOld, PlainCell}
-use Rattle.coda_plain.specs.Moves.{Posts, Loses, after as after_move, done_on, IsFrozenFor, IsKeptBy, IsSent, IsToldOf, MayPost}
+use Rattle.coda_plain.specs.Moves.{Posts, Loses, after as after_move, done_on, MayPost}
 use Rattle.coda_plain.proofs.Soundness.{moves_keep_sound}
 use Rattle.coda_letters.specs.Sent.{Sent, ChunkSent, AnswerSent, Waiting, sent_at, lost_by, number_of, without}
-use Rattle.coda_cell.specs.State.{ClientVolume, ClientState, ReplicaState, CellState, Event, Posted, Lost}
-use Rattle.coda_cell.specs.Made.{MadeCell, client_of, replica_of, state_of, plain_letter, grown, grown_all}
+use Rattle.coda_cell.specs.State.{ClientVolume, ClientState, CellState, Posted, Lost}
+use Rattle.coda_cell.specs.Made.{MadeCell, client_of, replica_of, plain_letter, grown, grown_all}
 use Rattle.coda_cell.specs.Refusing.{settle_refused_as}
 use Rattle.coda_cell.specs.Sending.{Freezing, freezing, Ruling, ruling, Taking, taken_unless, taking, deeds_at, entries_at}
 use Rattle.coda_cell.specs.Messages.{over, posting, going_by, sends_of, sends, ruled_in, taken_in}
-use Rattle.coda_cell.specs.Runs.{AreUp, IsKept, IsLeft, AreNumbered, IsSaid, ArePooled, AreLettersOf}
+use Rattle.coda_cell.specs.Runs.{IsKept, IsLeft, AreNumbered, IsSaid, ArePooled}
 use Rattle.coda_cell.specs.declared.refused.Refused.{Refused}
-use Rattle.coda_cell.proofs.Histories.{volume_of, volumes_are, shown, frozen_by}
+use Rattle.coda_cell.proofs.Histories.{volumes_are, shown, frozen_by}
 use Rattle.coda_cell.proofs.KeptCells.{lawful}
-use Rattle.coda_cell.proofs.KeptChunks.{KeepsAnswer, IsToldAnswer, IsGone, gone, IsRuled, ruled_left, taking_left}
-use Rattle.coda_cell.proofs.Moving.{left_none, left_both}
+use Rattle.coda_cell.proofs.KeptChunks.{KeepsAnswer, IsToldAnswer, IsGone, gone, ruled_left, taking_left}
+use Rattle.coda_cell.proofs.Moving.{AreLeft, are_left_one, are_left_both, kept_behind}
 
 -- ---- a letter is posted
 
@@ -135,14 +134,13 @@ may_post_on cell message (PlainAnswer server client volume number (Ruled verdict
 may_post_on cell message (PlainAnswer server client volume number (PlainBehind last)) may = tt
 may_post_on cell message (PlainAnswer server client volume number (PlainOld last)) may = tt
 
-put_out_left : (going : Waiting) (cell : MadeCell) (sent : Sent) → IsKept cell → MayPost cell.acted (plain_letter sent) → IsSaid cell.acted sent → IsLeft cell (map (λ l. Lost l.0) going ++ Posted sent ∷ [])
-put_out_left [] cell sent kept may said = posted_left cell sent kept may said
+put_out_left : (going : Waiting) (cell : MadeCell) (sent : Sent) → IsKept cell → MayPost cell.acted (plain_letter sent) → IsSaid cell.acted sent → AreLeft cell (map (λ l. Lost l.0) going ++ Posted sent ∷ [])
+put_out_left [] cell sent kept may said = are_left_one cell (Posted sent) (posted_left cell sent kept may said)
 put_out_left (l ∷ going) cell sent kept may said =
     let first = lost_left cell l.0 kept in
-    left_both cell (Lost l.0 ∷ []) (map (λ m. Lost m.0) going ++ Posted sent ∷ []) first
-    (put_out_left going (grown cell (Lost l.0)) sent first.kept (may_post_on cell.acted l.0 (plain_letter sent) may) (said_lost cell.acted l.0 sent said))
+    (first, put_out_left going (grown cell (Lost l.0)) sent first.kept (may_post_on cell.acted l.0 (plain_letter sent) may) (said_lost cell.acted l.0 sent said))
 
-pub posting_left : (cell : MadeCell) (sent : Sent) (waiting : Waiting) → IsKept cell → MayPost cell.acted (plain_letter sent) → IsSaid cell.acted sent → IsLeft cell (posting sent waiting)
+pub posting_left : (cell : MadeCell) (sent : Sent) (waiting : Waiting) → IsKept cell → MayPost cell.acted (plain_letter sent) → IsSaid cell.acted sent → AreLeft cell (posting sent waiting)
 posting_left cell sent waiting kept may said = put_out_left (take (lost_by sent waiting) waiting) cell sent kept may said
 
 -- ---- a client sends a chunk
@@ -151,29 +149,29 @@ module _ (cell : MadeCell) (s : CellState) (number blocks : ℕ) (kept : IsKept 
   abbrev sender : ClientState
   sender = client_of number (cell.acted.clients number).history blocks
 
-  going_left : (f : Freezing) → IsGone cell number server volume f → (o : Option ℕ) → IsLeft cell (deeds_at number volume f.deeds ++ (going_by o (ChunkSent number server volume f.number f.span) s).events)
-  going_left f g (Some message) = subst (IsLeft cell) (sym (append-nil (deeds_at number volume f.deeds))) g.left
-  going_left f g None = left_both cell (deeds_at number volume f.deeds) (posting (ChunkSent number server volume f.number f.span) s.waiting) g.left
-      (posting_left (grown_all cell (deeds_at number volume f.deeds)) (ChunkSent number server volume f.number f.span) s.waiting g.left.kept g.frozen g.span)
+  going_left : (f : Freezing) → IsGone cell number server volume f → (o : Option ℕ) → AreLeft cell (deeds_at number volume f.deeds ++ (going_by o (ChunkSent number server volume f.number f.span) s).events)
+  going_left f g (Some message) = subst (AreLeft cell) (sym (append-nil (deeds_at number volume f.deeds))) g.left
+  going_left f g None = are_left_both cell (deeds_at number volume f.deeds) (posting (ChunkSent number server volume f.number f.span) s.waiting) g.left
+      (posting_left (grown_all cell (deeds_at number volume f.deeds)) (ChunkSent number server volume f.number f.span) s.waiting (kept_behind cell (deeds_at number volume f.deeds) g.left) g.frozen g.span)
 
-  sent_left : (o : Result Freezing Refused) → freezing now window server (sender.volumes volume) ≡ o → IsLeft cell (sends_of s number volume server o).events
-  sent_left (Err why) e = left_none cell kept
+  sent_left : (o : Result Freezing Refused) → freezing now window server (sender.volumes volume) ≡ o → AreLeft cell (sends_of s number volume server o).events
+  sent_left (Err why) e = kept
   sent_left (Ok f) e = going_left f (gone cell number blocks kept there volume server homed now window f e) (number_of (ChunkSent number server volume f.number f.span) s.waiting)
 
 pub sends_left : (cell : MadeCell) (s : CellState) (number blocks : ℕ) → IsKept cell → cell.sizes number ≡ Some blocks → (volume server : ℕ) → cell.homes volume ≡ Some server → (window : ℕ)
-    → IsLeft cell (sends s number volume server window ((client_of number (cell.acted.clients number).history blocks).volumes volume)).events
+    → AreLeft cell (sends s number volume server window ((client_of number (cell.acted.clients number).history blocks).volumes volume)).events
 sends_left cell s number blocks kept there volume server homed window = by (s.links number server)
   where
     v : ClientVolume
     v = (client_of number (cell.acted.clients number).history blocks).volumes volume
 
-    up : IsLeft cell (sends_of s number volume server (freezing s.clock window server v)).events
+    up : AreLeft cell (sends_of s number volume server (freezing s.clock window server v)).events
     up = sent_left cell s number blocks kept there volume server homed s.clock window (freezing s.clock window server v) refl
 
-    by : (strength : Strength) → IsLeft cell (sends_of s number volume server (over strength (freezing s.clock window server v))).events
+    by : (strength : Strength) → AreLeft cell (sends_of s number volume server (over strength (freezing s.clock window server v))).events
     by Strong = up
     by Weak = up
-    by Down = left_none cell kept
+    by Down = kept
 
 -- ---- a letter that waits
 
@@ -201,13 +199,13 @@ may_answer cell client server volume number (Behind decided) keeps = tt
 may_answer cell client server volume number (Old decided) keeps = tt
 
 pub chunk_comes_left : (cell : MadeCell) (s : CellState) → IsKept cell → (volume server : ℕ) → cell.homes volume ≡ Some server → (client number : ℕ) (span : List Record) → IsWaiting cell.acted (ChunkSent client server volume number span)
-    → (o : Result Ruling Refused) → ruling client number span (replica_of (λ x. (cell.acted.replicas x volume).history) volume server) ≡ o → IsLeft cell (ruled_in s client server volume number o).events
-chunk_comes_left cell s kept volume server homed client number span is (Err why) e = left_none cell kept
+    → (o : Result Ruling Refused) → ruling client number span (replica_of (λ x. (cell.acted.replicas x volume).history) volume server) ≡ o → AreLeft cell (ruled_in s client server volume number o).events
+chunk_comes_left cell s kept volume server homed client number span is (Err why) e = kept
 chunk_comes_left cell s kept volume server homed client number span is (Ok ruled) e =
     let r = ruled_left cell kept volume server homed client number span (inl (is.message, is.there)) is.said ruled e in
     let sent = AnswerSent server client volume number ruled.answer in
-    left_both cell (entries_at server volume ruled.entries) (posting sent s.waiting) r.left
-    (posting_left (grown_all cell (entries_at server volume ruled.entries)) sent s.waiting r.left.kept (may_answer (grown_all cell (entries_at server volume ruled.entries)).acted client server volume number ruled.answer r.keeps) tt)
+    are_left_both cell (entries_at server volume ruled.entries) (posting sent s.waiting) r.left
+    (posting_left (grown_all cell (entries_at server volume ruled.entries)) sent s.waiting (kept_behind cell (entries_at server volume ruled.entries) r.left) (may_answer (grown_all cell (entries_at server volume ruled.entries)).acted client server volume number ruled.answer r.keeps) tt)
 
 -- ---- an answer is delivered
 
@@ -237,10 +235,10 @@ module _ (cell : MadeCell) (number blocks : ℕ) (kept : IsKept cell) (there : c
       let s = settles (course_of deeds).cut (course_of deeds) chunk refl (sym (ap (λ f. settle_refusal f chunk) frozen) ∙ e ∙ none) in
       record { cut = s.0; frozen = s.1; last = s.2 }
 
-  took_left : (o : Option SettleFault) → settle_refusal taker.frozen chunk ≡ o → (took : Taking) → taking chunk answer taker ≡ Ok took → IsLeft cell (deeds_at number volume took.deeds)
+  took_left : (o : Option SettleFault) → settle_refusal taker.frozen chunk ≡ o → (took : Taking) → taking chunk answer taker ≡ Ok took → AreLeft cell (deeds_at number volume took.deeds)
   took_left None e took t = taking_left cell number blocks kept there volume server homed chunk (may_settle None e refl) taker answer took (told_of cell.acted origin number volume chunk answer is.message is.there) t
   took_left (Some why) e took t = (let no : taking chunk answer taker ≡ Err (settle_refused_as why) = ap (λ r. taken_unless r chunk answer taker) e in cc)
 
-  pub answer_comes_left : (o : Result Taking Refused) → taking chunk answer taker ≡ o → IsLeft cell (taken_in number volume chunk answer o).events
-  answer_comes_left (Err why) e = left_none cell kept
+  pub answer_comes_left : (o : Result Taking Refused) → taking chunk answer taker ≡ o → AreLeft cell (taken_in number volume chunk answer o).events
+  answer_comes_left (Err why) e = kept
   answer_comes_left (Ok took) e = took_left (settle_refusal taker.frozen chunk) refl took e

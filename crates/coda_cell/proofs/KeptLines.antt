@@ -25,31 +25,31 @@ use Rattle.coda_plain.specs.Moves.{done_on}
 use Rattle.coda_plain.proofs.Soundness.{none_joins}
 use Rattle.coda_plain.proofs.Volumes.{volumes}
 use Rattle.coda_cell.specs.Ask.{Asked, Create, Mkdir, Symlink, Store, Setattr, Remove, Rmdir, Rename, too_big, object_of}
-use Rattle.coda_cell.specs.Held.{Held, Fetch, AreBound, held_after_fetches}
-use Rattle.coda_cell.specs.Looking.{look_along, entries_of}
-use Rattle.coda_cell.specs.State.{pending, ClientState, new_client, ReplicaState, new_replica, Event, at_client}
+use Rattle.coda_cell.specs.Held.{Held, Fetch, AreBound, held_after_fetch, held_after_fetches}
+use Rattle.coda_cell.specs.Looking.{look, look_along, fetched, entries_of}
+use Rattle.coda_cell.specs.State.{pending, ClientState, new_client, ReplicaState, new_replica, Event, VolumeMade, ClientMade, Ticked, LinkSet, Lost, at_client}
 use Rattle.coda_cell.specs.Accepting.{Accepted, sight_of, accept}
 use Rattle.coda_cell.specs.Asking.{Answer, answers, look_ups, behind_fetches, next_record, has_room, is_full, answer_to, operate_unless, operate, read, list}
 use Rattle.coda_cell.specs.Kept.{AreWithin, AreChildrenKept, IsHolding}
-use Rattle.coda_cell.specs.Made.{MadeCell, client_of, replica_of, state_of, grown_all}
+use Rattle.coda_cell.specs.Made.{MadeCell, client_of, replica_of, state_of, grown, grown_all}
 use Rattle.coda_letters.specs.Sent.{Sent, ChunkSent, AnswerSent, client_of as sender_of, server_of, sent_at}
 use Rattle.coda_cell.specs.Messages.{sends, chunk_comes, answer_comes}
 use Rattle.coda_cell.specs.Steps.{first_missing, on_volume, on_holder, client_named, volume_named, server_named, holder_named, no_volume, no_client, no_room, Doing, Unless, reached, offers_of, ByClient, ByBoth, BySend, ByRuling, ByTaking, bytes_of, Operates, DoesTask, Comes, link_down, Delivers, Loses, alone, Does}
 use Rattle.coda_cell.specs.Sending.{Freezing, freezing, ruling, taking, drained_of, drained, drain}
-use Rattle.coda_cell.specs.Runs.{IsKept, IsLeft, MakesNumbered, LinesKeepCells}
+use Rattle.coda_cell.specs.Runs.{IsKept, IsLeft, MakesNumbered, LinesKeepCells, LinesKeepFronts}
 use Rattle.coda_cell.specs.declared.refused.Refused.{Refused}
 use Rattle.coda_cell.specs.declared.refused.Refused.TheVariants as refused
 use Rattle.coda_cell.proofs.Events.{are_there, all_there}
-use Rattle.coda_cell.proofs.Fetches.{bound_along, bound_look_ups, client_after_both, client_after_fetches}
+use Rattle.coda_cell.proofs.Fetches.{AreLookUps, along_looks_up, ask_looks_up, bound_look, client_after_both, client_after_fetches}
 use Rattle.coda_cell.proofs.Histories.{nodes_are, server_stays}
 use Rattle.coda_cell.proofs.KeptCells.{client_there, volume_left, client_left, ticked_left, linked_left}
-use Rattle.coda_cell.proofs.KeptChildren.{kept_children_along, kept_children_look_ups}
+use Rattle.coda_cell.proofs.KeptChildren.{kept_children_look}
 use Rattle.coda_cell.proofs.KeptChunks.{gone, ruled_on_left}
 use Rattle.coda_cell.proofs.KeptClients.{IsReplicated, the_client, fetches_left, operated_left}
 use Rattle.coda_cell.proofs.KeptLetters.{IsWaiting, waits, lost_left, sends_left, chunk_comes_left, answer_comes_left}
-use Rattle.coda_cell.proofs.Moving.{has_more, left_none, left_both}
-use Rattle.coda_cell.proofs.Offered.{fetched_along_is_offered, fetched_is_offered, has_along, has_look_ups}
-use Rattle.coda_cell.proofs.Within.{within_along, within_look_ups}
+use Rattle.coda_cell.proofs.Moving.{has_more, AreLeft, are_left_one, are_left_both, kept_behind, front_left, all_left}
+use Rattle.coda_cell.proofs.Offered.{offered_look, held_look}
+use Rattle.coda_cell.proofs.Within.{within_look}
 
 -- ---- what is offered
 
@@ -92,35 +92,71 @@ module _ (cell : MadeCell) (kept : IsKept cell) where
 
 -- ---- look-ups
 
--- what look-ups keep
-record AreLookUps (offers : Option Nodes) (h : Held) (fetches : List Fetch) : Type 0 where
+-- what fetches keep that a look-up comes to
+record AreKeeping (offers : Option Nodes) (h : Held) (fetches : List Fetch) : Type 0 where
   pub bound : AreBound h → AreBound (held_after_fetches h fetches)
   pub within : ((nodes : Nodes) → offers ≡ Some nodes → AreWithin nodes) → AreWithin h.nodes → AreWithin (held_after_fetches h fetches).nodes
   pub had : (f : Fid) → has (held_after_fetches h fetches).nodes f ≡ true → (has h.nodes f ≡ true) ⊎ ((nodes : Nodes) × (offers ≡ Some nodes) × (has nodes f ≡ true))
   pub children : (run : List Record) → AreChildrenKept h.nodes run → AreChildrenKept (held_after_fetches h fetches).nodes run
   pub offered : (fetch : Fetch) → In fetch fetches → (nodes : Nodes) × (offers ≡ Some nodes) × (finite.get nodes fetch.fid ≡ Some fetch.node)
 
-along : (offers : Option Nodes) (h : Held) (at : Fid) (names : List Name) → AreLookUps offers h (look_along offers h at names)
-along offers h at names = record {
-  bound = bound_along offers h at names;
-  within = λ o w. within_along offers o h at names w;
-  had = has_along offers h at names;
-  children = kept_children_along offers h at names;
-  offered = fetched_along_is_offered offers h at names;
-}
-
-of_ask : (offers : Option Nodes) (h : Held) (volume : ℕ) (ask : Asked) → AreLookUps offers h (look_ups offers h volume ask)
-of_ask offers h volume ask = record {
-  bound = bound_look_ups offers h volume ask;
-  within = λ o w. within_look_ups offers o h volume ask w;
-  had = has_look_ups offers h volume ask;
-  children = kept_children_look_ups offers h volume ask;
-  offered = fetched_is_offered offers h volume ask;
+keeping : (offers : Option Nodes) (h : Held) (fid : Fid) → AreKeeping offers h (look offers h fid)
+keeping offers h fid = record {
+  bound = bound_look offers h fid;
+  within = λ o w. within_look offers o h fid w;
+  had = λ f. held_look offers h f h fid (λ is. inl is);
+  children = λ run. kept_children_look offers run h fid;
+  offered = offered_look offers h fid;
 }
 
 map_both : {A B : Type 0} (f : A → B) (xs ys : List A) → map f (xs ++ ys) ≡ map f xs ++ map f ys
 map_both f [] ys = refl
 map_both f (x ∷ xs) ys = ap (λ l. f x ∷ l) (map_both f xs ys)
+
+module _ (cell : MadeCell) (number blocks : ℕ) (kept : IsKept cell) (there : cell.sizes number ≡ Some blocks) (volume : ℕ) (fetch : Fetch) where
+  abbrev looker : ClientState
+  looker = the_client cell number blocks kept there
+
+  abbrev can_see : Option Nodes
+  can_see = offers_of (state_of cell) number volume
+
+  -- a look-up keeps the cell
+  fetch_left : look can_see looker.held fetch.fid ≡ fetch ∷ [] → IsLeft cell (at_client number (fetched fetch) ∷ [])
+  fetch_left is = fetches_left cell number blocks kept there (fetch ∷ []) replicated (record {
+    bound = are.bound holds.bound;
+    within = are.within (offered_within cell kept number volume) holds.within;
+    made = λ fid has_it. elim (are.had fid has_it) [ inl old ↦ holds.made fid old | inr new ↦ offered_made cell kept number volume new.0 fid new.1 new.2 ];
+    kept = λ w. are.children (pending (looker.volumes w)) (holds.kept w);
+  })
+    where
+      holds : IsHolding cell.acted looker
+      holds = kept.holding number blocks there
+
+      are : AreKeeping can_see looker.held (fetch ∷ [])
+      are = subst (AreKeeping can_see looker.held) is (keeping can_see looker.held fetch.fid)
+
+      replicated : (f : Fetch) → In f (fetch ∷ []) → IsReplicated cell.acted f
+      replicated f i =
+          let o = are.offered f i in
+          let r = offered_are cell number volume o.0 o.1 in
+          record { server = r.server; volume = volume; there = ap (λ m. finite.get m f.fid) r.are ∙ o.2 }
+
+  -- what the client holds behind it
+  held_behind : (client_of number ((grown cell (at_client number (fetched fetch))).acted.clients number).history blocks).held ≡ held_after_fetch looker.held fetch.fid fetch.parent fetch.node
+  held_behind = ap (λ (c : ClientState). c.held)
+      (ap (λ h. client_of number h blocks) (has_more cell number (fetched fetch ∷ [])).here ∙ client_after_both (new_client number blocks) (cell.acted.clients number).history (fetched fetch ∷ []))
+
+-- look-ups keep it, each in turn
+looked_left : (cell : MadeCell) (number blocks : ℕ) (kept : IsKept cell) (there : cell.sizes number ≡ Some blocks) (volume : ℕ) (fetches : List Fetch)
+    → AreLookUps (offers_of (state_of cell) number volume) (the_client cell number blocks kept there).held fetches → AreLeft cell (map (at_client number) (entries_of fetches))
+looked_left cell number blocks kept there volume [] are = kept
+looked_left cell number blocks kept there volume (fetch ∷ fetches) are =
+    let first = fetch_left cell number blocks kept there volume fetch are.0 in
+    let next = grown cell (at_client number (fetched fetch)) in (
+      first,
+      looked_left next number blocks first.kept there volume fetches
+          (subst (λ h. AreLookUps (offers_of (state_of cell) number volume) h fetches) (sym (held_behind cell number blocks kept there volume fetch)) are.1),
+    )
 
 module _ (cell : MadeCell) (number blocks : ℕ) (kept : IsKept cell) (there : cell.sizes number ≡ Some blocks) (volume : ℕ) where
   abbrev asker : ClientState
@@ -128,26 +164,6 @@ module _ (cell : MadeCell) (number blocks : ℕ) (kept : IsKept cell) (there : c
 
   abbrev offers : Option Nodes
   offers = offers_of (state_of cell) number volume
-
-  looked_holding : (fetches : List Fetch) → AreLookUps offers asker.held fetches → IsHolding cell.acted (behind_fetches asker fetches)
-  looked_holding fetches are =
-      let holds = kept.holding number blocks there in
-      record {
-        bound = are.bound holds.bound;
-        within = are.within (offered_within cell kept number volume) holds.within;
-        made = λ fid is. elim (are.had fid is) [ inl old ↦ holds.made fid old | inr new ↦ offered_made cell kept number volume new.0 fid new.1 new.2 ];
-        kept = λ w. are.children (pending (asker.volumes w)) (holds.kept w);
-      }
-
-  looked_replicated : (fetches : List Fetch) → AreLookUps offers asker.held fetches → (fetch : Fetch) → In fetch fetches → IsReplicated cell.acted fetch
-  looked_replicated fetches are fetch i =
-      let o = are.offered fetch i in
-      let r = offered_are cell number volume o.0 o.1 in
-      record { server = r.server; volume = volume; there = ap (λ m. finite.get m fetch.fid) r.are ∙ o.2 }
-
-  -- look-ups keep the cell
-  looked_left : (fetches : List Fetch) → AreLookUps offers asker.held fetches → IsLeft cell (map (at_client number) (entries_of fetches))
-  looked_left fetches are = fetches_left cell number blocks kept there fetches (looked_replicated fetches are) (looked_holding fetches are)
 
   -- look-ups and an operation do
   module _ (server : ℕ) (homed : cell.homes volume ≡ Some server) (time : ℕ) (ask : Asked) where
@@ -160,39 +176,39 @@ module _ (cell : MadeCell) (number blocks : ℕ) (kept : IsKept cell) (there : c
     abbrev looked : MadeCell
     looked = grown_all cell (map (at_client number) (entries_of fetches))
 
-    fetches_are : AreLookUps offers asker.held fetches
-    fetches_are = of_ask offers asker.held volume ask
+    fetches_left_all : AreLeft cell (map (at_client number) (entries_of fetches))
+    fetches_left_all = looked_left cell number blocks kept there volume fetches (ask_looks_up offers asker.held volume ask)
 
     behind_is : client_of number (looked.acted.clients number).history blocks ≡ behind
     behind_is = ap (λ h. client_of number h blocks) (has_more cell number (entries_of fetches)).here
         ∙ client_after_both (new_client number blocks) (cell.acted.clients number).history (entries_of fetches) ∙ client_after_fetches asker fetches
 
-    operation_left : (op : Op) → accept (sight_of behind volume) volume ask ≡ Ok op → IsLeft cell (map (at_client number) (entries_of fetches ++ Did volume (Operated (next_record (asker.volumes volume) time op)) ∷ []))
+    operation_left : (op : Op) → accept (sight_of behind volume) volume ask ≡ Ok op → AreLeft cell (map (at_client number) (entries_of fetches ++ Did volume (Operated (next_record (asker.volumes volume) time op)) ∷ []))
     operation_left op accepted =
-        let first = looked_left fetches fetches_are in
+        let first = fetches_left_all in
         let more = has_more cell number (entries_of fetches) in
-        let second = operated_left looked number blocks first.kept (ap (λ f. f number) more.sizes ∙ there) volume server (ap (λ f. f volume) more.homes ∙ homed) time ask op (ap (λ c. accept (sight_of c volume) volume ask) behind_is ∙ accepted) in
-        subst (IsLeft cell) (sym (map_both (at_client number) (entries_of fetches) (Did volume (Operated (next_record (asker.volumes volume) time op)) ∷ [])))
-        (left_both cell (map (at_client number) (entries_of fetches)) (at_client number (Did volume (Operated (next_record (asker.volumes volume) time op))) ∷ []) first
-        (subst (λ (c : ClientState). IsLeft looked (at_client number (Did volume (Operated (next_record (c.volumes volume) time op))) ∷ [])) behind_is second))
+        let second = operated_left looked number blocks (kept_behind cell (map (at_client number) (entries_of fetches)) first) (ap (λ f. f number) more.sizes ∙ there) volume server (ap (λ f. f volume) more.homes ∙ homed) time ask op (ap (λ c. accept (sight_of c volume) volume ask) behind_is ∙ accepted) in
+        subst (AreLeft cell) (sym (map_both (at_client number) (entries_of fetches) (Did volume (Operated (next_record (asker.volumes volume) time op)) ∷ [])))
+        (are_left_both cell (map (at_client number) (entries_of fetches)) (at_client number (Did volume (Operated (next_record (asker.volumes volume) time op))) ∷ []) first
+        (subst (λ (c : ClientState). AreLeft looked (at_client number (Did volume (Operated (next_record (c.volumes volume) time op))) ∷ [])) behind_is (are_left_one looked _ second)))
 
     entered_left : (op : Op) → accept (sight_of behind volume) volume ask ≡ Ok op → (room full : Bool)
         → (let rec = next_record (asker.volumes volume) time op in
-        IsLeft cell (map (at_client number) (cond room (cond full (answers (entries_of fetches) (Err refused.JournalFull)) (answers (entries_of fetches ++ Did volume (Operated rec) ∷ []) (Ok (Done ((asker.volumes volume).operations + 1) (object_of op)))))
+        AreLeft cell (map (at_client number) (cond room (cond full (answers (entries_of fetches) (Err refused.JournalFull)) (answers (entries_of fetches ++ Did volume (Operated rec) ∷ []) (Ok (Done ((asker.volumes volume).operations + 1) (object_of op)))))
         (answers (entries_of fetches) (Err refused.LogFull))).entries))
-    entered_left op accepted true true = looked_left fetches fetches_are
+    entered_left op accepted true true = fetches_left_all
     entered_left op accepted true false = operation_left op accepted
-    entered_left op accepted false full = looked_left fetches fetches_are
+    entered_left op accepted false full = fetches_left_all
 
-    answered_left : (r : Accepted) → accept (sight_of behind volume) volume ask ≡ r → IsLeft cell (map (at_client number) (answer_to (entries_of fetches) (asker.volumes volume) time volume r).entries)
-    answered_left (Err why) is = looked_left fetches fetches_are
+    answered_left : (r : Accepted) → accept (sight_of behind volume) volume ask ≡ r → AreLeft cell (map (at_client number) (answer_to (entries_of fetches) (asker.volumes volume) time volume r).entries)
+    answered_left (Err why) is = fetches_left_all
     answered_left (Ok op) is = let rec = next_record (asker.volumes volume) time op in entered_left op is (has_room (asker.volumes volume) rec) (is_full (asker.volumes volume))
 
-    unless_left : (o : Option ℕ) → IsLeft cell (map (at_client number) (operate_unless o offers asker time volume ask).entries)
-    unless_left (Some length) = left_none cell kept
+    unless_left : (o : Option ℕ) → AreLeft cell (map (at_client number) (operate_unless o offers asker time volume ask).entries)
+    unless_left (Some length) = kept
     unless_left None = answered_left (accept (sight_of behind volume) volume ask) refl
 
-    pub operate_left : IsLeft cell (map (at_client number) (operate offers asker time volume ask).entries)
+    pub operate_left : AreLeft cell (map (at_client number) (operate offers asker time volume ask).entries)
     unfolding operate
     operate_left = unless_left (too_big ask)
 
@@ -208,26 +224,26 @@ module _ (cell : MadeCell) (number blocks : ℕ) (kept : IsKept cell) (there : c
   home_is : home.server ≡ server
   home_is = server_stays (new_replica server volume) (cell.acted.replicas server volume).history
 
-  drained_left : (o : Result Freezing Refused) → freezing now window server (sender.volumes volume) ≡ o → IsLeft cell (drained_of number volume (sender.volumes volume) home o).events
-  drained_left (Err why) is = left_none cell kept
+  drained_left : (o : Result Freezing Refused) → freezing now window server (sender.volumes volume) ≡ o → AreLeft cell (drained_of number volume (sender.volumes volume) home o).events
+  drained_left (Err why) is = kept
   drained_left (Ok f) is =
       ruled_on_left cell number blocks kept there volume server homed f (gone cell number blocks kept there volume server homed now window f is) home refl (ruling number f.number f.span home) refl
 
-  all_left : IsLeft cell (drained now window number volume (sender.volumes volume) home).events
-  all_left = drained_left (freezing now window home.server (sender.volumes volume)) (ap (λ s. freezing now window s (sender.volumes volume)) (sym home_is))
+  home_left : AreLeft cell (drained now window number volume (sender.volumes volume) home).events
+  home_left = drained_left (freezing now window home.server (sender.volumes volume)) (ap (λ s. freezing now window s (sender.volumes volume)) (sym home_is))
 
-  drain_left : (strength : Strength) → IsLeft cell (drain strength now window number volume (sender.volumes volume) home).events
-  drain_left Strong = all_left
-  drain_left Weak = all_left
-  drain_left Down = left_none cell kept
+  drain_left : (strength : Strength) → AreLeft cell (drain strength now window number volume (sender.volumes volume) home).events
+  drain_left Strong = home_left
+  drain_left Weak = home_left
+  drain_left Down = kept
 
 -- ---- lines
 
 module _ (cell : MadeCell) (kept : IsKept cell) where
-  nothing_left : (events : List Event) → events ≡ [] → IsLeft cell events
-  nothing_left events none = subst (IsLeft cell) (sym none) (left_none cell kept)
+  nothing_left : (events : List Event) → events ≡ [] → AreLeft cell events
+  nothing_left events none = subst (AreLeft cell) (sym none) kept
 
-  unless_own : (o : Option Refused) (own : Doing) (reply : Reply) (events : List Event) → (o ≡ None → own reply events → IsLeft cell events) → Unless o own reply events → IsLeft cell events
+  unless_own : (o : Option Refused) (own : Doing) (reply : Reply) (events : List Event) → (o ≡ None → own reply events → AreLeft cell events) → Unless o own reply events → AreLeft cell events
   unless_own (Some why) own reply events rest does = nothing_left events does.1
   unless_own None own reply events rest does = rest refl does
 
@@ -245,29 +261,29 @@ module _ (cell : MadeCell) (kept : IsKept cell) where
       by None e = cc
       by (Some server) e = (server, refl)
 
-  operates_left : (client volume : ℕ) (ask : Asked) (reply : Reply) (events : List Event) → Operates (state_of cell) client volume ask reply events → IsLeft cell events
+  operates_left : (client volume : ℕ) (ask : Asked) (reply : Reply) (events : List Event) → Operates (state_of cell) client volume ask reply events → AreLeft cell events
   operates_left client volume ask reply events does =
       unless_own (first_missing (on_volume (state_of cell) client volume)) (ByClient (state_of cell) client volume (λ offers c. operate offers c cell.clock volume ask)) reply events (λ all did.
       let c = client_there cell kept client did.client did.there in
       let home = home_there volume (are_there (client_named (state_of cell) client) (volume_named (state_of cell) volume) all).1 in
-      subst (IsLeft cell) (sym (did.happened ∙ ap (λ x. map (at_client client) (operate (offers_of (state_of cell) client volume) x cell.clock volume ask).entries) (sym c.2)))
+      subst (AreLeft cell) (sym (did.happened ∙ ap (λ x. map (at_client client) (operate (offers_of (state_of cell) client volume) x cell.clock volume ask).entries) (sym c.2)))
       (operate_left cell client c.0 kept c.1 volume home.0 home.1 cell.clock ask)) does
 
   shows_left : (ask : Option Nodes → ClientState → Answer) (client volume : ℕ) (path : List Name) (reply : Reply) (events : List Event)
       → ((offers : Option Nodes) (c : ClientState) → (ask offers c).entries ≡ entries_of (look_along offers c.held (root_of volume) path))
-      → Unless (first_missing (on_volume (state_of cell) client volume)) (ByClient (state_of cell) client volume ask) reply events → IsLeft cell events
+      → Unless (first_missing (on_volume (state_of cell) client volume)) (ByClient (state_of cell) client volume ask) reply events → AreLeft cell events
   shows_left ask client volume path reply events looks does = unless_own (first_missing (on_volume (state_of cell) client volume)) (ByClient (state_of cell) client volume ask) reply events (λ all did.
       let c = client_there cell kept client did.client did.there in
       let offers = offers_of (state_of cell) client volume in
       let made = client_of client (cell.acted.clients client).history c.0 in
-      subst (IsLeft cell) (sym (did.happened ∙ ap (λ x. map (at_client client) (ask offers x).entries) (sym c.2) ∙ ap (map (at_client client)) (looks offers made)))
-      (looked_left cell client c.0 kept c.1 volume (look_along offers made.held (root_of volume) path) (along offers made.held (root_of volume) path))) does
+      subst (AreLeft cell) (sym (did.happened ∙ ap (λ x. map (at_client client) (ask offers x).entries) (sym c.2) ∙ ap (map (at_client client)) (looks offers made)))
+      (looked_left cell client c.0 kept c.1 volume (look_along offers made.held (root_of volume) path) (along_looks_up offers made.held (root_of volume) path))) does
 
-  both_left : (o : Option Refused) (client volume window : ℕ) (reply : Reply) (events : List Event) → Unless o (ByBoth (state_of cell) client volume window) reply events → IsLeft cell events
+  both_left : (o : Option Refused) (client volume window : ℕ) (reply : Reply) (events : List Event) → Unless o (ByBoth (state_of cell) client volume window) reply events → AreLeft cell events
   both_left o client volume window reply events does = unless_own o (ByBoth (state_of cell) client volume window) reply events (λ all did.
       let c = client_there cell kept client did.client did.client_there in
       let r = replica_there volume did.replica did.replica_there in
-      subst (IsLeft cell) (sym (did.happened ∙ (λ i. (drain (cell.links client (sym r.2 i).server) cell.clock window client volume ((sym c.2 i).volumes volume) (sym r.2 i)).events)))
+      subst (AreLeft cell) (sym (did.happened ∙ (λ i. (drain (cell.links client (sym r.2 i).server) cell.clock window client volume ((sym c.2 i).volumes volume) (sym r.2 i)).events)))
       (drain_left cell client c.0 kept c.1 volume r.0 r.1 cell.clock window (cell.links client (replica_of (λ s. (cell.acted.replicas s volume).history) volume r.0).server))) does
 
   -- a server that holds a volume is the volume's own
@@ -285,35 +301,35 @@ module _ (cell : MadeCell) (kept : IsKept cell) where
   pub homed : (client volume server : ℕ) → first_missing (on_holder (state_of cell) client volume server) ≡ None → cell.homes volume ≡ Some server
   homed client volume server all = holder_there volume server (all_there (client_named (state_of cell) client) (volume_named (state_of cell) volume) (holder_named (state_of cell) server volume) all).2
 
-  send_left : (client volume server window : ℕ) (reply : Reply) (events : List Event) → Unless (first_missing (on_holder (state_of cell) client volume server)) (BySend (state_of cell) client volume server window) reply events → IsLeft cell events
+  send_left : (client volume server window : ℕ) (reply : Reply) (events : List Event) → Unless (first_missing (on_holder (state_of cell) client volume server)) (BySend (state_of cell) client volume server window) reply events → AreLeft cell events
   send_left client volume server window reply events does = unless_own (first_missing (on_holder (state_of cell) client volume server)) (BySend (state_of cell) client volume server window) reply events (λ all did.
       let c = client_there cell kept client did.client did.there in
-      subst (IsLeft cell) (sym (did.happened ∙ ap (λ (x : ClientState). (sends (state_of cell) client volume server window (x.volumes volume)).events) (sym c.2)))
+      subst (AreLeft cell) (sym (did.happened ∙ ap (λ (x : ClientState). (sends (state_of cell) client volume server window (x.volumes volume)).events) (sym c.2)))
       (sends_left cell (state_of cell) client c.0 kept c.1 volume server (homed client volume server all) window)) does
 
-  comes_left : (sent : Sent) (reply : Reply) (events : List Event) → IsWaiting cell.acted sent → Comes (state_of cell) sent reply events → IsLeft cell events
+  comes_left : (sent : Sent) (reply : Reply) (events : List Event) → IsWaiting cell.acted sent → Comes (state_of cell) sent reply events → AreLeft cell events
   comes_left (ChunkSent client server volume number span) reply events is does =
       unless_own (first_missing (on_holder (state_of cell) client volume server)) (ByRuling (state_of cell) client server volume number span) reply events (λ all did.
       let home = homed client volume server all in
       let same = replica_is volume server did.replica home did.there in
-      subst (IsLeft cell) (sym (did.happened ∙ ap (λ x. (chunk_comes (state_of cell) client server volume number span x).events) (sym same)))
+      subst (AreLeft cell) (sym (did.happened ∙ ap (λ x. (chunk_comes (state_of cell) client server volume number span x).events) (sym same)))
       (chunk_comes_left cell (state_of cell) kept volume server home client number span is (ruling client number span (replica_of (λ s. (cell.acted.replicas s volume).history) volume server)) refl)) does
   comes_left (AnswerSent server client volume number answer) reply events is does =
       unless_own (first_missing (on_holder (state_of cell) client volume server)) (ByTaking (state_of cell) client volume number answer) reply events (λ all did.
       let c = client_there cell kept client did.client did.there in
-      subst (IsLeft cell) (sym (did.happened ∙ ap (λ (x : ClientState). (answer_comes client volume number answer (x.volumes volume)).events) (sym c.2)))
+      subst (AreLeft cell) (sym (did.happened ∙ ap (λ (x : ClientState). (answer_comes client volume number answer (x.volumes volume)).events) (sym c.2)))
       (answer_comes_left cell client c.0 kept c.1 volume server (homed client volume server all) server number answer is (taking number answer ((client_of client (cell.acted.clients client).history c.0).volumes volume)) refl)) does
 
-  delivers_left : (message : ℕ) (o : Option Sent) (reply : Reply) (events : List Event) → sent_at message cell.waiting ≡ o → Delivers (state_of cell) message o reply events → IsLeft cell events
+  delivers_left : (message : ℕ) (o : Option Sent) (reply : Reply) (events : List Event) → sent_at message cell.waiting ≡ o → Delivers (state_of cell) message o reply events → AreLeft cell events
   delivers_left message None reply events e does = nothing_left events does.1
   delivers_left message (Some sent) reply events e does = unless_own (link_down (cell.links (sender_of sent) (server_of sent))) (Comes (state_of cell) sent) reply events
       (λ up did. comes_left sent reply events (waits cell.acted message cell.waiting sent kept.letters.pooled e) did) does
 
-  loses_left : (message : ℕ) (o : Option Sent) (reply : Reply) (events : List Event) → Loses message o reply events → IsLeft cell events
+  loses_left : (message : ℕ) (o : Option Sent) (reply : Reply) (events : List Event) → Loses message o reply events → AreLeft cell events
   loses_left message None reply events does = nothing_left events does.1
-  loses_left message (Some sent) reply events does = subst (IsLeft cell) (sym does.1) (lost_left cell message kept)
+  loses_left message (Some sent) reply events does = subst (AreLeft cell) (sym does.1) (are_left_one cell (Lost message) (lost_left cell message kept))
 
-  task_left : (t : Task) (reply : Reply) (events : List Event) → DoesTask (state_of cell) t reply events → IsLeft cell events
+  task_left : (t : Task) (reply : Reply) (events : List Event) → DoesTask (state_of cell) t reply events → AreLeft cell events
   task_left (task.Create client volume path mode owner) reply events does = operates_left client volume (Create path (unwrap_or mode 420) (unwrap_or owner 0)) reply events does
   task_left (task.Mkdir client volume path mode owner) reply events does = operates_left client volume (Mkdir path (unwrap_or mode 493) (unwrap_or owner 0)) reply events does
   task_left (task.Symlink client volume path target) reply events does = operates_left client volume (Symlink path target) reply events does
@@ -349,14 +365,14 @@ module _ (cell : MadeCell) (kept : IsKept cell) where
       by None e = refl
       by (Some blocks) e = cc
 
-  line_left : (said : Line) (reply : Reply) (events : List Event) → MakesNumbered said → Does (state_of cell) said reply events → IsLeft cell events
+  line_left : (said : Line) (reply : Reply) (events : List Event) → MakesNumbered said → Does (state_of cell) said reply events → AreLeft cell events
   line_left (line.Volume volume servers area) reply events numbered does = unless_own (no_volume (state_of cell) volume) _ reply events (λ free did.
-      subst (IsLeft cell) (sym did.1) (volume_left cell volume (alone servers) kept (no_home volume (not_there (is_some ((state_of cell).replicas volume)) _ free)))) does
+      subst (AreLeft cell) (sym did.1) (are_left_one cell (VolumeMade volume (alone servers)) (volume_left cell volume (alone servers) kept (no_home volume (not_there (is_some ((state_of cell).replicas volume)) _ free))))) does
   line_left (line.Client client blocks area) reply events numbered does = unless_own (no_client (state_of cell) client) _ reply events (λ free did.
-      subst (IsLeft cell) (sym did.1) (client_left cell client blocks kept (no_size client (not_there (is_some ((state_of cell).clients client)) _ free)) numbered)) does
+      subst (AreLeft cell) (sym did.1) (are_left_one cell (ClientMade client blocks) (client_left cell client blocks kept (no_size client (not_there (is_some ((state_of cell).clients client)) _ free)) numbered))) does
   line_left (line.Link client server strength) reply events numbered does =
-      unless_own (first_missing (client_named (state_of cell) client ∷ server_named (state_of cell) server ∷ [])) _ reply events (λ all did. subst (IsLeft cell) (sym did.1) (linked_left cell client server strength kept)) does
-  line_left (line.Tick seconds) reply events numbered does = subst (IsLeft cell) (sym does.1) (ticked_left cell seconds kept)
+      unless_own (first_missing (client_named (state_of cell) client ∷ server_named (state_of cell) server ∷ [])) _ reply events (λ all did. subst (AreLeft cell) (sym did.1) (are_left_one cell (LinkSet client server strength) (linked_left cell client server strength kept))) does
+  line_left (line.Tick seconds) reply events numbered does = subst (AreLeft cell) (sym does.1) (are_left_one cell (Ticked seconds) (ticked_left cell seconds kept))
   line_left (line.Task t) reply events numbered does = task_left t reply events does
   line_left (line.ShowVolume server volume) reply events numbered does = unless_own (first_missing (holder_named (state_of cell) server volume ∷ [])) _ reply events (λ all did. nothing_left events did.1) does
   line_left (line.ShowLog client volume) reply events numbered does = unless_own (first_missing (on_volume (state_of cell) client volume)) _ reply events (λ all did. nothing_left events did.1) does
@@ -366,4 +382,7 @@ module _ (cell : MadeCell) (kept : IsKept cell) where
   line_left _ reply events numbered does = absurd does
 
 pub lines_keep_cells : LinesKeepCells
-lines_keep_cells old said reply events kept numbered does = line_left old kept said reply events numbered does
+lines_keep_cells old said reply events kept numbered does = all_left old events kept (line_left old kept said reply events numbered does)
+
+pub lines_keep_fronts : LinesKeepFronts
+lines_keep_fronts old said reply done rest kept numbered does = front_left old done rest kept (line_left old kept said reply (done ++ rest) numbered does)

@@ -28,6 +28,7 @@ pub mod KeptDeeds
 pub mod KeptChunks
 pub mod KeptLetters
 pub mod KeptLines
+pub mod AlikeStates
 pub mod Decided
 pub mod SpelledFolds
 pub mod SpelledDecisions

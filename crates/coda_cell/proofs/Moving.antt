@@ -44,6 +44,34 @@ left_both cell first rest a b = record {
 pub left_none : (cell : MadeCell) → IsKept cell → IsLeft cell []
 left_none cell kept = record { moved = refl; kept = kept; shown = refl }
 
+-- ---- events in turn
+
+-- each of events in turn might happen in the cell that those before it left, and keeps it
+abbrev pub AreLeft : MadeCell → List Event → Type 0
+AreLeft cell [] = IsKept cell
+AreLeft cell (event ∷ events) = IsLeft cell (event ∷ []) × AreLeft (grown cell event) events
+
+pub are_left_one : (cell : MadeCell) (event : Event) → IsLeft cell (event ∷ []) → AreLeft cell (event ∷ [])
+are_left_one cell event left = (left, left.kept)
+
+pub are_left_both : (cell : MadeCell) (first rest : List Event) → AreLeft cell first → AreLeft (grown_all cell first) rest → AreLeft cell (first ++ rest)
+are_left_both cell [] rest a b = b
+are_left_both cell (event ∷ first) rest a b = (a.0, are_left_both (grown cell event) first rest a.1 b)
+
+-- the cell behind all of them is kept
+pub kept_behind : (cell : MadeCell) (events : List Event) → AreLeft cell events → IsKept (grown_all cell events)
+kept_behind cell [] are = are
+kept_behind cell (event ∷ events) are = kept_behind (grown cell event) events are.1
+
+-- each front of them might happen, and keeps the cell
+pub front_left : (cell : MadeCell) (done rest : List Event) → IsKept cell → AreLeft cell (done ++ rest) → IsLeft cell done
+front_left cell [] rest kept are = left_none cell kept
+front_left cell (event ∷ done) rest kept are = left_both cell (event ∷ []) done are.0 (front_left (grown cell event) done rest are.0.kept are.1)
+
+-- and so all of them
+pub all_left : (cell : MadeCell) (events : List Event) → IsKept cell → AreLeft cell events → IsLeft cell events
+all_left cell events kept are = front_left cell events [] kept (subst (AreLeft cell) (sym (append-nil events)) are)
+
 -- ---- actors stay up
 
 up_after : (cell : PlainCell) (append : Append) → AreUp cell → AreUp (after_move cell (Does append))

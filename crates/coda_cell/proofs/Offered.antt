@@ -14,7 +14,6 @@ use Rattle.coda_cell.specs.Ask.{Asked, Create, Mkdir, Symlink, Store, Setattr, R
 use Rattle.coda_cell.specs.Held.{Held, Fetch, held_after_fetches}
 use Rattle.coda_cell.specs.Looking.{step_from, resolve, offered, fetch_of, look, looked, look_on, look_along}
 use Rattle.coda_cell.specs.Asking.{rename_look_ups, look_ups}
-use Rattle.coda_cell.proofs.Fetches.{keeps_along, keeps_look_ups}
 use Rattle.coda_cell.proofs.AfterOperations.{there_put}
 
 -- a node that is offered at a fid
@@ -31,7 +30,7 @@ offered_is (Some nodes) fid node h = (nodes, refl, h)
 
 -- ---- what is fetched
 
-offered_look : (offers : Option Nodes) (h : Held) (fid : Fid) (fetch : Fetch) → In fetch (look offers h fid) → IsOfferedAt offers fetch.fid fetch.node
+pub offered_look : (offers : Option Nodes) (h : Held) (fid : Fid) (fetch : Fetch) → In fetch (look offers h fid) → IsOfferedAt offers fetch.fid fetch.node
 offered_look offers h fid fetch i = by (map.get h.nodes fid) (offered offers fid) refl i
   where
     by : (o offer : Option Node) → offered offers fid ≡ offer → In fetch (fetch_of o offer (parent_of h.nodes fid) fid) → IsOfferedAt offers fetch.fid fetch.node
@@ -83,10 +82,10 @@ fetched_is_offered offers h volume (Rename from to) fetch i = offered_rename off
 -- ---- what is held
 
 -- if an object is held, it was held before, or is offered
-abbrev WasHeld : Option Nodes → Held → Fid → Held → Type 0
+abbrev pub WasHeld : Option Nodes → Held → Fid → Held → Type 0
 WasHeld offers before f h = has h.nodes f ≡ true → (has before.nodes f ≡ true) ⊎ IsOffered offers f
 
-held_look : (offers : Option Nodes) (before : Held) (f : Fid) (h : Held) (fid : Fid) → WasHeld offers before f h → WasHeld offers before f (looked offers h fid)
+pub held_look : (offers : Option Nodes) (before : Held) (f : Fid) (h : Held) (fid : Fid) → WasHeld offers before f h → WasHeld offers before f (looked offers h fid)
 held_look offers before f h fid was = by (map.get h.nodes fid) (offered offers fid) refl
   where
     by : (o offer : Option Node) → offered offers fid ≡ offer → WasHeld offers before f (held_after_fetches h (fetch_of o offer (parent_of h.nodes fid) fid))
@@ -96,12 +95,3 @@ held_look offers before f h fid was = by (map.get h.nodes fid) (offered offers f
       | inl old ↦ was old
       | inr same ↦ (let at = offered_is offers fid node e in inr (at.0, at.1, ap (has at.0) same ∙ ap is_some at.2))
     ]
-
-pub has_along : (offers : Option Nodes) (h : Held) (at : Fid) (names : List Name) (f : Fid) → has (held_after_fetches h (look_along offers h at names)).nodes f ≡ true
-    → (has h.nodes f ≡ true) ⊎ ((nodes : Nodes) × (offers ≡ Some nodes) × (has nodes f ≡ true))
-has_along offers h at names f = keeps_along (WasHeld offers h f) offers (held_look offers h f) h at names (λ is. inl is)
-
--- what is held after the look-ups of an ask was held before, or is offered
-pub has_look_ups : (offers : Option Nodes) (h : Held) (volume : ℕ) (ask : Asked) (f : Fid) → has (held_after_fetches h (look_ups offers h volume ask)).nodes f ≡ true
-    → (has h.nodes f ≡ true) ⊎ ((nodes : Nodes) × (offers ≡ Some nodes) × (has nodes f ≡ true))
-has_look_ups offers h volume ask f = keeps_look_ups (WasHeld offers h f) offers (held_look offers h f) h volume ask (λ is. inl is)

@@ -1,5 +1,5 @@
 -- What is sent can be spelled: a client's chunk, and a replica's answer to it.
-use Rattle.std.proofs.Common.{◌≡◌, ℕ, ◌+◌, ◌<◌, ◌≤◌, ◌&&◌, Bool, true, false, cond, List, [], ◌∷◌, ◌++◌, Some, Ok, Err, Result, refl, sym, ap, ◌∙◌, subst, inl, inr, arith}
+use Rattle.std.proofs.Common.{◌≡◌, ℕ, ◌≤◌, ◌&&◌, Bool, true, false, cond, List, [], ◌∷◌, ◌++◌, Some, Ok, refl, sym, ap, subst, inl, inr, arith}
 use Rattle.std.specs.Prelude.{nat_lt, ◌==◌}
 use Rattle.coda_fid.specs.declared.op.Record.{Record}
 use Rattle.coda_certify.specs.declared.verdict.Verdict.{Verdict}
@@ -7,7 +7,7 @@ use Rattle.coda_certify.specs.declared.verdict.Verdict.TheVariants as verdict
 use Rattle.coda_certify.specs.Verdicts.{verdict_of}
 use Rattle.coda_cancel.specs.Cancel.{fold}
 use Rattle.coda_record.specs.declared.answer.Answer.{Answer}
-use Rattle.coda_record.specs.declared.answer.Answer.TheVariants.{Applied, Conflict, Behind, Old}
+use Rattle.coda_record.specs.declared.answer.Answer.TheVariants.{Behind, Old}
 use Rattle.coda_record.specs.Form.{four, eight}
 use Rattle.coda_record.specs.Parts.{u8}
 use Rattle.coda_record.specs.Spelling.{HasSpelling}
@@ -19,7 +19,7 @@ use Rattle.coda_wire.specs.Table.{message}
 use Rattle.coda_plain.specs.Histories.{In}
 use Rattle.coda_plain.specs.Deeds.{Deed, Operated, Froze, Settled, Gaveup, Chunk as FrozenChunk, chunk_at, chunks_of, course_of, span_of, MayDo, AreLawful}
 use Rattle.coda_plain.specs.Decisions.{Last, last_of, decision, nodes_of}
-use Rattle.coda_plain.specs.Moves.{done_on, IsFrozenFor}
+use Rattle.coda_plain.specs.Moves.{done_on}
 use Rattle.coda_plain.proofs.Chunking.{numbered}
 use Rattle.coda_plain.proofs.Lists.{told_last, follow_push, along}
 use Rattle.coda_spelling.specs.Spelled.{AreAllSpelled}
@@ -28,15 +28,14 @@ use Rattle.coda_cell.specs.Made.{MadeCell, client_of, replica_of, grown_all}
 use Rattle.coda_cell.specs.Runs.{IsKept}
 use Rattle.coda_cell.specs.Sending.{Freezing, freezing, Ruling, decides, ruling_of, ruling, deeds_at}
 use Rattle.coda_cell.specs.Spelled.{CanBeSpelled}
-use Rattle.coda_cell.specs.State.{ClientVolume, ReplicaState}
-use Rattle.coda_cell.specs.declared.refused.Refused.{Refused}
-use Rattle.coda_cell.specs.declared.refused.Refused.TheVariants as refused
+use Rattle.coda_cell.specs.State.{ReplicaState}
 use Rattle.coda_cell.proofs.Histories.{nodes_are, lasts_are}
 use Rattle.coda_cell.proofs.KeptCells.{lawful}
 use Rattle.coda_cell.proofs.KeptChunks.{gone}
+use Rattle.coda_cell.proofs.Moving.{all_left}
 use Rattle.coda_cell.proofs.SpelledCells.{span_all, chunk_spelled}
 use Rattle.coda_cell.proofs.SpelledDecisions.{verdict_spelled}
-use Rattle.coda_cell.proofs.SpelledLines.{byte, froze_spelled, spelled_after, number_spelled_of}
+use Rattle.coda_cell.proofs.SpelledLines.{froze_spelled, spelled_after, number_spelled_of}
 
 -- ---- messages by their parts
 
@@ -108,8 +107,9 @@ module _ (cell : MadeCell) (number blocks : ℕ) (kept : IsKept cell) (can : Can
       let events = deeds_at number volume f.deeds in
       let new = grown_all cell events in
       let deeds = done_on new.acted number volume in
-      let law = lawful new g.left.kept number volume in
-      let after = spelled_after cell events kept can g.left (froze_spelled number volume now window server ((client_of number (cell.acted.clients number).history blocks).volumes volume) f e) in
+      let left = all_left cell events kept g.left in
+      let law = lawful new left.kept number volume in
+      let after = spelled_after cell events kept can left (froze_spelled number volume now window server ((client_of number (cell.acted.clients number).history blocks).volumes volume) f e) in
       let most = (is_within 0 4294967295 eight (course_of deeds).chunks (after.did.chunks number volume)).1 in
       let last = g.frozen.last in
       let listed = (numbered deeds law).way g.frozen.cut g.frozen.frozen in

@@ -1,5 +1,5 @@
 -- Directories bind objects of their own volume alone, after operations and after fetches.
-use Rattle.std.proofs.Common.{◌≡◌, ℕ, true, false, ◌||◌, List, Option, Some, None, refl, sym, ap, ◌∙◌, inl, inr}
+use Rattle.std.proofs.Common.{◌≡◌, ℕ, true, false, ◌||◌, Option, Some, None, refl, sym, ap, ◌∙◌, inl, inr}
 use Rattle.std.specs.List.{list_any}
 use Rattle.std.specs.FinMap as map
 use Rattle.std.proofs.lemmas.Bool.{or_left, or_right}
@@ -17,12 +17,9 @@ use Rattle.coda_tree.proofs.Order.{fid_cases, get_here, get_else}
 use Rattle.coda_certify.specs.Replay.{applied}
 use Rattle.coda_cancel.specs.Dropping.{mentioning}
 use Rattle.coda_cancel.proofs.Keys.{fid_same}
-use Rattle.coda_cell.specs.Ask.{Asked}
 use Rattle.coda_cell.specs.Held.{Held, held_after_fetches}
-use Rattle.coda_cell.specs.Looking.{offered, fetch_of, looked, look_along}
-use Rattle.coda_cell.specs.Asking.{look_ups}
+use Rattle.coda_cell.specs.Looking.{offered, fetch_of, looked}
 use Rattle.coda_cell.specs.Kept.{AreWithin}
-use Rattle.coda_cell.proofs.Fetches.{keeps_along, keeps_look_ups}
 use Rattle.coda_cell.proofs.AfterOperations.{IsBoundBy, bound_before}
 use Rattle.coda_cell.proofs.Offered.{offered_is}
 
@@ -64,7 +61,8 @@ within_fetch m fid node within inner = λ dir kid name is. elim (fid_cases dir f
   | inr off ↦ within dir kid name (sym (ap (λ o. child_of o name) (get_else fids_total exact_fids m fid node dir off)) ∙ is)
 ]
 
-within_look : (offers : Option Nodes) → ((nodes : Nodes) → offers ≡ Some nodes → AreWithin nodes) → (h : Held) (fid : Fid) → AreWithin h.nodes → AreWithin (looked offers h fid).nodes
+-- after a look-up, where what is offered binds so
+pub within_look : (offers : Option Nodes) → ((nodes : Nodes) → offers ≡ Some nodes → AreWithin nodes) → (h : Held) (fid : Fid) → AreWithin h.nodes → AreWithin (looked offers h fid).nodes
 within_look offers from h fid within = by (map.get h.nodes fid) (offered offers fid) refl
   where
     by : (o offer : Option Node) → offered offers fid ≡ offer → AreWithin (held_after_fetches h (fetch_of o offer (parent_of h.nodes fid) fid)).nodes
@@ -73,9 +71,3 @@ within_look offers from h fid within = by (map.get h.nodes fid) (offered offers 
     by None (Some node) e = (
         let at = offered_is offers fid node e in
         within_fetch h.nodes fid node within (λ name kid is. from at.0 at.1 fid kid name (ap (λ o. child_of o name) at.2 ∙ is)))
-
-pub within_along : (offers : Option Nodes) → ((nodes : Nodes) → offers ≡ Some nodes → AreWithin nodes) → (h : Held) (at : Fid) (names : List Name) → AreWithin h.nodes → AreWithin (held_after_fetches h (look_along offers h at names)).nodes
-within_along offers from h at names within = keeps_along (λ held. AreWithin held.nodes) offers (within_look offers from) h at names within
-
-pub within_look_ups : (offers : Option Nodes) → ((nodes : Nodes) → offers ≡ Some nodes → AreWithin nodes) → (h : Held) (volume : ℕ) (ask : Asked) → AreWithin h.nodes → AreWithin (held_after_fetches h (look_ups offers h volume ask)).nodes
-within_look_ups offers from h volume ask within = keeps_look_ups (λ held. AreWithin held.nodes) offers (within_look offers from) h volume ask within

@@ -1,5 +1,5 @@
 -- What holds of a cell between two lines, and what each line makes of it.
-use Rattle.std.specs.Prelude.{◌≡◌, ◌≢◌, ◌<◌, ◌≤◌, ℕ, ◌+◌, true, Some, None, Ok, List, [], ◌∷◌}
+use Rattle.std.specs.Prelude.{◌≡◌, ◌≢◌, ◌<◌, ◌≤◌, ℕ, ◌+◌, true, Some, None, Ok, List, [], ◌∷◌, ◌++◌}
 use Rattle.coda_certify.specs.Verdicts.{verdict_of}
 use Rattle.coda_cml.specs.Segments.{segments_of}
 use Rattle.coda_cml.specs.Chunks.{freeze_refusal}
@@ -79,6 +79,10 @@ pub record IsLeft (old : MadeCell) (events : List Event) : Type 0 where
 -- In a cell that is kept, whatever a line does might happen, and keeps it.
 abbrev pub LinesKeepCells : Type 0
 LinesKeepCells = (old : MadeCell) (said : Line) (reply : Reply) (events : List Event) → IsKept old → MakesNumbered said → Does (state_of old) said reply events → IsLeft old events
+
+-- In a cell that is kept, each front of what a line does might happen, and keeps it: a line may be stopped behind any of its events.
+abbrev pub LinesKeepFronts : Type 0
+LinesKeepFronts = (old : MadeCell) (said : Line) (reply : Reply) (done rest : List Event) → IsKept old → MakesNumbered said → Does (state_of old) said reply (done ++ rest) → IsLeft old done
 
 -- What holds of cells that are kept: the first one is, and in each what a client holds is bound, and what is pending of it is steady.
 pub record CellsAreKept : Type 0 where

@@ -28,4 +28,7 @@ pub use laws::{
     refusals_come_in_order,
 };
 pub use lines::is_built;
-pub use runs::{cells_are_kept, drains_are_decided, lines_keep_cells, messages_can_be_spelled};
+pub use runs::{
+    cells_are_kept, drains_are_decided, lines_keep_cells, lines_keep_fronts,
+    messages_can_be_spelled,
+};

@@ -1,5 +1,5 @@
 // What holds of cells over all their runs.
-ghost use Rattle.coda_cell.specs.Runs.{CellsAreKept, DrainsAreDecided, LinesKeepCells};
+ghost use Rattle.coda_cell.specs.Runs.{CellsAreKept, DrainsAreDecided, LinesKeepCells, LinesKeepFronts};
 ghost use Rattle.coda_cell.specs.Spelled.{MessagesCanBeSpelled};
 
 /// A law of cells: one in which nothing was made is kept, and in one that is kept what each client holds is bound by its
@@ -13,6 +13,13 @@ pub fn cells_are_kept()
 /// Satyanarayanan 1992: a log is replayed as one transaction).
 pub fn lines_keep_cells()
     ensures { LinesKeepCells }
+{}
+
+/// A law of lines that are stopped: in a cell that is kept each front of what a line does might happen to its actors,
+/// one entry after the other, and keeps it; so a line may be stopped between any two of its entries, as by a disk that
+/// is full, and what is promised of cells still holds.
+pub fn lines_keep_fronts()
+    ensures { LinesKeepFronts }
 {}
 
 /// A law of messages: in a cell that is kept, lines whose numbers are in their ranges leave what messages can say; so the records that
