@@ -1,5 +1,5 @@
 -- A client's history in a cell, and its journal.
-use Rattle.std.specs.Prelude.{◌≡◌, ◌<◌, ◌⊎◌, ◌+◌, ℕ, true, List, [], ◌∷◌, ◌++◌, Option, Some, None, Result, Ok, Err, map, length}
+use Rattle.std.specs.Prelude.{◌≡◌, ◌<◌, ◌⊎◌, ◌+◌, ℕ, true, List, [], ◌∷◌, ◌++◌, Some, Result, Ok, Err, map, length}
 use Rattle.std.specs.Int.{w32}
 use Rattle.coda_disk.specs.Told.{Told}
 use Rattle.coda_journal.specs.Entries.{blocks, framed}

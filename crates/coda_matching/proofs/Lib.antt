@@ -1,0 +1,3 @@
+pub mod Volumes
+pub mod Histories
+pub mod Replicas
