@@ -2,8 +2,20 @@
 //! way, and what each line of a script does.
 #![tactic(auto)]
 
+mod cell;
+mod draining;
+mod failing;
 mod fault;
+mod lines;
+mod links;
+mod making;
+mod messages;
+mod replies;
 mod site;
+mod tasks;
+mod there;
 
+pub use cell::Cell;
 pub use fault::CellFault;
+pub use lines::is_built;
 pub use site::{Place, Site};
