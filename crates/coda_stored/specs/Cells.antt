@@ -1,12 +1,12 @@
 -- A cell whose actors stand on disks.
-use Rattle.std.specs.Prelude.{◌≡◌, ℕ, ◌+◌, ◌*◌, ◌-◌, ◌^◌, Bool, true, false, List, [], ◌∷◌, Option, Some, None, map, length}
+use Rattle.std.specs.Prelude.{ℕ, ◌+◌, ◌*◌, ◌-◌, ◌^◌, Bool, true, false, List, [], ◌∷◌, Option, Some, None}
 use Rattle.std.specs.Option.{option_map, option_and_then}
 use Rattle.coda_journal.specs.declared.header.Header.{Header}
 use Rattle.coda_journal.specs.declared.header.Kind.TheVariants.{Client as OfClient, Replica as OfReplica}
 use Rattle.coda_actors.specs.Plain.{PlainActor, Life, Unmade, Down, Up}
-use Rattle.coda_plain.specs.Cell.{ClientEntry, Actor, joined_to}
+use Rattle.coda_plain.specs.Cell.{ClientEntry, Actor}
 use Rattle.coda_plain.specs.Decisions.{ReplicaEntry}
-use Rattle.coda_plain.specs.Moves.{Append, AtClient, AtReplica, Move, Fails, after as after_move}
+use Rattle.coda_plain.specs.Moves.{Append, Move, Fails, after as after_move}
 use Rattle.coda_record.specs.declared.entry.ReplicaEntry.{ReplicaEntry as KeptEntry}
 use Rattle.coda_venus.specs.History.{Payload}
 use Rattle.coda_cell.specs.Made.{MadeCell, nothing_made, grown}

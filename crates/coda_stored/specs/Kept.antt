@@ -1,7 +1,7 @@
 -- What holds of a cell on disks between two lines.
-use Rattle.std.specs.Prelude.{◌≡◌, ◌≢◌, ◌⊎◌, ◌<◌, ◌≤◌, ◌+◌, ℕ, Bool, true, List, [], Option, Some, None, length}
+use Rattle.std.specs.Prelude.{◌≡◌, ◌<◌, ◌≤◌, ℕ, Bool, true, false, [], Option, Some, None, length}
 use Rattle.coda_journal.specs.declared.header.Header.{Header}
-use Rattle.coda_plain.specs.Cell.{ClientEntry, Actor, found, Joins}
+use Rattle.coda_plain.specs.Cell.{ClientEntry, Actor, new_actor, found, Joins}
 use Rattle.coda_plain.specs.Decisions.{ReplicaEntry}
 use Rattle.coda_cell.specs.Made.{MadeCell}
 use Rattle.coda_cell.specs.Runs.{IsKept}
@@ -24,9 +24,9 @@ whole cell joins = record cell {
 
 -- ---- what is known of disks
 
--- A disk that was given no header holds nothing; else it was given the one that its actor asks for.
+-- A disk that was given no header holds nothing, and its actor is down; else it was given the one that its actor asks for.
 abbrev pub IsGiven : {E : Type 0} → Option Header → Header → Actor E → Type 0
-IsGiven None header actor = (actor.history ≡ []) × (actor.failed ≡ None)
+IsGiven None header actor = (actor.history ≡ []) × (actor.failed ≡ None) × (actor.up ≡ false)
 IsGiven (Some given) header actor = given ≡ header
 
 -- an area is of 1 to 64 MiB
@@ -35,14 +35,14 @@ IsArea area = (1 ≤ area) × (area ≤ 64)
 
 -- what is known of the disk of a client, by the size of its cache where it was made
 abbrev pub IsClientSide : ℕ → Option ℕ → Actor ClientEntry → Side → Type 0
-IsClientSide client None actor side = (side ≡ no_side) × (actor.history ≡ []) × (actor.failed ≡ None)
+IsClientSide client None actor side = (side ≡ no_side) × (actor ≡ new_actor)
 IsClientSide client (Some blocks) actor side =
     (area : ℕ) × IsArea area × (1 ≤ client) × (client < 256) × (1 ≤ blocks) × (blocks ≤ 32768)
     × (side.asked ≡ Some (client_header client blocks area)) × IsGiven side.given (client_header client blocks area) actor
 
 -- what is known of the disk of the replica of a volume, by the volume's server where it was made
 abbrev pub IsReplicaSide : ℕ → Option ℕ → (ℕ → Actor ReplicaEntry) → Side → Type 0
-IsReplicaSide volume None actors side = side ≡ no_side
+IsReplicaSide volume None actors side = (side ≡ no_side) × ((server : ℕ) → actors server ≡ new_actor)
 IsReplicaSide volume (Some server) actors side =
     (area : ℕ) × IsArea area × (1 ≤ volume) × (1 ≤ server) × (server ≤ 8)
     × (side.asked ≡ Some (replica_header volume server area)) × IsGiven side.given (replica_header volume server area) (actors server)

@@ -1,8 +1,8 @@
 -- What holds of cells on disks, whatever crashes and whatever disks fail.
-use Rattle.std.specs.Prelude.{◌≡◌, ◌≢◌, ◌⊎◌, ℕ, List, [], ◌∷◌, ◌++◌, Option, Some, None, length}
+use Rattle.std.specs.Prelude.{◌≡◌, ℕ, List, Some, length}
 use Rattle.coda_journal.specs.Image.{ReadsAs}
 use Rattle.coda_journal.specs.declared.header.Header.{Header}
-use Rattle.coda_plain.specs.Cell.{ClientEntry, Actor, empty_cell}
+use Rattle.coda_plain.specs.Cell.{empty_cell}
 use Rattle.coda_plain.specs.Laws.{IsRun, IsRecovered}
 use Rattle.coda_plain.specs.Logs.{BeginsWith}
 use Rattle.coda_script.specs.Ranges.{InRange}

@@ -1,15 +1,14 @@
 -- What a line does in a cell on disks: a relation of the cell before, the line, its reply, the images that the bay answered, and the cell behind
 -- it.
-use Rattle.std.specs.Prelude.{◌≡◌, ◌⊎◌, ◌+◌, ◌<◌, ℕ, Bool, true, false, ◌||◌, ◌&&◌, not, nat_le, nat_lt, is_some, if◌then◌else◌, List, [], ◌∷◌, ◌++◌, length, Option, Some, None, IfSome, Ok, Err}
-use Rattle.std.specs.Option.{option_map, option_map_or, option_and_then, unwrap_or}
+use Rattle.std.specs.Prelude.{◌≡◌, ◌⊎◌, ◌+◌, ℕ, Bool, true, false, ◌||◌, ◌&&◌, not, nat_le, nat_lt, is_some, if◌then◌else◌, List, [], ◌∷◌, ◌++◌, length, Option, Some, None, IfSome}
+use Rattle.std.specs.Option.{option_map, option_map_or, unwrap_or}
 use Rattle.coda_journal.specs.Image.{IsUnmade, ReadsAs}
 use Rattle.coda_journal.specs.Open.{MayBe}
 use Rattle.coda_journal.specs.declared.header.Header.{Header}
 use Rattle.coda_letters.specs.Sent.{Sent, ChunkSent, AnswerSent, sent_at}
-use Rattle.coda_plain.specs.Cell.{ClientEntry, Actor}
+use Rattle.coda_plain.specs.Cell.{ClientEntry}
 use Rattle.coda_plain.specs.Decisions.{ReplicaEntry}
-use Rattle.coda_plain.specs.Moves.{Append, Who, TheClient, TheReplica, Crashes, Recovers, after as after_move}
-use Rattle.coda_record.specs.declared.entry.ReplicaEntry.{ReplicaEntry as KeptEntry}
+use Rattle.coda_plain.specs.Moves.{Append, Who, TheClient, TheReplica, Crashes, Recovers}
 use Rattle.coda_replica.specs.History.{payload_of as replica_payload_of, payloads_of as replica_payloads_of}
 use Rattle.coda_script.specs.declared.line.Strength.{Strength}
 use Rattle.coda_script.specs.declared.line.Strength.TheVariants.{Strong, Weak, Down as LinkIsDown}
@@ -22,10 +21,10 @@ use Rattle.coda_script.specs.declared.reply.Reply.{Reply}
 use Rattle.coda_script.specs.declared.reply.Reply.TheVariants.{Opened, Accepted, Crashed, Recovered, Refused}
 use Rattle.coda_venus.specs.History.{payload_of, payloads_of}
 use Rattle.coda_cell.specs.State.{put, CellState, Event, VolumeMade, ClientMade, Entered}
-use Rattle.coda_cell.specs.Made.{MadeCell, state_of}
+use Rattle.coda_cell.specs.Made.{state_of}
 use Rattle.coda_cell.specs.Refusing.{refusal}
 use Rattle.coda_cell.specs.declared.refused.Refused.{Refused as Refusal}
-use Rattle.coda_cell.specs.Steps.{Doing, Does, Naming, Named, client_named, server_named, holder_named, volume_named, on_volume, on_holder, first_missing, no_room, is_alone, alone, is_plain, is_built_task}
+use Rattle.coda_cell.specs.Steps.{Does, Named, client_named, server_named, holder_named, on_volume, on_holder, first_missing, no_room, is_alone, alone, is_plain, is_built_task}
 use Rattle.coda_matching.specs.Clients.{journal_by, payload_by}
 use Rattle.coda_matching.specs.Replicas.{journal_at}
 use Rattle.coda_stored.specs.Cells.{Side, StoredCell, client_header, replica_header, disk_number, failed_at, after, after_all, moved, failed}

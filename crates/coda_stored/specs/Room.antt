@@ -1,5 +1,5 @@
 -- Whether the journals of actors have room for entries.
-use Rattle.std.specs.Prelude.{◌≡◌, ℕ, List, [], ◌∷◌, ◌++◌, Option, Some, None}
+use Rattle.std.specs.Prelude.{List, [], ◌∷◌, Option, Some, None}
 use Rattle.coda_journal.specs.declared.header.Header.{Header}
 use Rattle.coda_plain.specs.Moves.{Append, AtClient, AtReplica}
 use Rattle.coda_plain.specs.Decisions.{ReplicaEntry}
