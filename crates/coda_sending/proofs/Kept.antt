@@ -101,7 +101,7 @@ module _ (header : Header) (history : List ClientEntry) (volume : ℕ) (is : IsC
           (ap (λ n. n + 1) (ap (λ (x : ClientVolume). x.chunks) is_left ∙ (shown deeds (is.deeds volume)).chunks)) goes
 
     -- what a freeze leaves is its own, with the chunk's operations in front
-    abbrev IsFrozenSo : Freezing → Type 0
+    abbrev pub IsFrozenSo : Freezing → Type 0
     IsFrozenSo f = (IsHistory header (journal_by (history ++ entries_on volume f.deeds)) → GoesOn header history volume f.deeds f.volume) × (f.volume.front ≡ f.span)
 
     pub frozen_so : (f : Freezing) → freezing now window server v ≡ Ok f → IsFrozenSo f
@@ -144,7 +144,8 @@ module _ (header : Header) (history : List ClientEntry) (volume : ℕ) (is : IsC
       let frozen : v.frozen ≡ frozen_by (course_of deeds) = ap (λ (x : ClientVolume). x.frozen) is_left ∙ (shown deeds (is.deeds volume)).frozen in
       may_by number (course_of deeds).cut refl (sym (ap (λ o. settle_refusal o number) frozen) ∙ e)
 
-  abbrev IsTakenSo : Taking → Type 0
+  -- what an answer that is taken leaves is its own
+  abbrev pub IsTakenSo : Taking → Type 0
   IsTakenSo t = IsHistory header (journal_by (history ++ entries_on volume t.deeds)) → GoesOn header history volume t.deeds t.volume
 
   taken_as : (number : ℕ) (a : Answer) → MaySettle deeds number → IsTakenSo (taken number a v)
@@ -171,7 +172,8 @@ module _ (header : Header) (history : List ReplicaEntry) (is : IsReplicaHistory 
   abbrev r : ReplicaState
   r = replica_after_all (new_replica header.server header.number) history
 
-  abbrev IsRuledSo : Ruling → Type 0
+  -- what a ruling leaves is its own
+  abbrev pub IsRuledSo : Ruling → Type 0
   IsRuledSo ruled = IsReplicaJournal header (journal_at header.number (history ++ ruled.entries)) → GoesOnAt header history ruled.entries ruled.replica
 
   alone_push : (entry : ReplicaEntry) → In entry (history ++ Decided client number span ∷ []) → IsDecision entry
