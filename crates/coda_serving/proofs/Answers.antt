@@ -1,5 +1,5 @@
 -- What a client of a cell answers, where the one on a disk fetches what it needs, and how that ends.
-use Rattle.std.proofs.Common.{◌≡◌, ℕ, ◌+◌, ◌<◌, true, List, [], ◌∷◌, ◌++◌, append-nil, append_assoc, length, Option, Some, None, Result, Ok, Err, refl, sym, ap, ◌∙◌, subst, inl, inr, ◌⊎◌}
+use Rattle.std.proofs.Common.{◌≡◌, ◌+◌, ◌<◌, List, [], ◌∷◌, ◌++◌, append-nil, append_assoc, length, Option, Some, Result, Ok, Err, refl, sym, ap, ◌∙◌, subst, inl, inr}
 use Rattle.std.specs.Int.{w32}
 use Rattle.std.proofs.lemmas.List.{map-append}
 use Rattle.coda_disk.specs.Told.{Told}
@@ -8,26 +8,23 @@ use Rattle.coda_tree.specs.Volume.{Nodes, parent_of}
 use Rattle.coda_tree.specs.declared.node.Node.{Node}
 use Rattle.coda_journal.specs.Entries.{blocks, framed}
 use Rattle.coda_journal.specs.declared.header.Header.{Header}
-use Rattle.coda_plain.proofs.Lists.{left_push}
 use Rattle.coda_plain.specs.Cell.{ClientEntry, Fetched}
 use Rattle.coda_script.specs.declared.reply.Reply.{Reply}
 use Rattle.coda_venus.specs.History.{Payload, payload_of, payloads_of, state_of}
 use Rattle.coda_venus.specs.Keeping.{IsFull}
 use Rattle.coda_venus.specs.Standing.{IsUp, StandsFor}
-use Rattle.coda_venus.specs.State.{ClientState as VenusState, new_client, client_after_all as venus_after_all}
+use Rattle.coda_venus.specs.State.{ClientState as VenusState, client_after_all as venus_after_all}
 use Rattle.coda_venus.specs.declared.refused.Refused.{Refused as VenusRefused}
 use Rattle.coda_venus.specs.declared.refused.Refused.TheVariants as venus
 use Rattle.coda_venus.specs.declared.venus.Venus.{Venus}
-use Rattle.coda_asking.specs.Answering.{Call, IsNext, Answered, LacksRoom as LacksRoomFor, Ends as EndsSo}
-use Rattle.coda_asking.specs.Fetching.{IsFetchable, fetch_of, IsFetch, Fetches}
+use Rattle.coda_asking.specs.Answering.{Call, IsNext, LacksRoom as LacksRoomFor, Ends as EndsSo}
+use Rattle.coda_asking.specs.Fetching.{IsFetchable, IsFetch, Fetches}
 use Rattle.coda_asking.specs.Laws.{after_payloads}
-use Rattle.coda_cell.specs.Asking.{Said, Answer, answers}
+use Rattle.coda_cell.specs.Asking.{Answer, answers}
 use Rattle.coda_cell.specs.Made.{client_of}
 use Rattle.coda_cell.specs.State.{ClientState, client_after, client_after_all}
-use Rattle.coda_cell.specs.declared.refused.Refused.{Refused}
 use Rattle.coda_cell.specs.declared.refused.Refused.TheVariants as refused
-use Rattle.coda_matching.specs.Clients.{payload_by, journal_by, IsOneClient, refused_as, Cut, LacksRoom, Ends}
-use Rattle.coda_serving.proofs.Orphans.{no_orphans}
+use Rattle.coda_matching.specs.Clients.{payload_by, journal_by, refused_as, LacksRoom, Ends}
 use Rattle.coda_serving.proofs.Pairs.{IsPair, parent_is, pair_fetched}
 
 -- an answer behind other entries
@@ -152,13 +149,10 @@ module _ {A R : Type 0} (offers : Option Nodes) (call : Call A R) (IsAs : Reply 
           subst (IsUp told header new) (ap (λ l. journal_by past ++ l) (sym g.kept) ∙ sym (map-append payload_by past g.entries)) e.up,
         )
 
-    -- a refusal that is no end of its own
-    refused_so : (why : VenusRefused) → NeedsNothing why → call.comes there ≡ Err why → IsUp told header new (journal_by past) → ((a : Answer) → a ≡ answers [] (Err (refused_as why)) → (a.said ≡ Err (refused_as why)) × IsUp told header new (journal_by (past ++ a.entries)))
-    refused_so why other comes up a is = subst (λ (x : Answer). (x.said ≡ Err (refused_as why)) × IsUp told header new (journal_by (past ++ x.entries))) (sym is) (refl, nothing_more up)
-
-    own : (why : VenusRefused) → NeedsNothing why → call.comes there ≡ Err why → IsUp told header new (journal_by past)
-        → ((answer fids here).said ≡ Err (refused_as why)) × IsUp told header new (journal_by (past ++ (answer fids here).entries))
-    own why other comes up = refused_so why other comes up (answer fids here) (does.refuses here there pair fids why comes other)
+    -- a refusal that needs nothing
+    own : (why : VenusRefused) → NeedsNothing why → call.comes there ≡ Err why → IsUp told header new (journal_by past) → ((answer fids here).said ≡ Err (refused_as why)) × IsUp told header new (journal_by (past ++ (answer fids here).entries))
+    own why other comes up =
+        subst (λ (a : Answer). (a.said ≡ Err (refused_as why)) × IsUp told header new (journal_by (past ++ a.entries))) (sym (does.refuses here there pair fids why comes other)) (refl, nothing_more up)
 
     no_room : LacksRoomFor header offers call (journal_by past) new → IsUp told header new (journal_by past) → EndsAs (answer fids here) (Err venus.JournalFull)
     no_room lacks up =

@@ -1,5 +1,5 @@
 -- What acceptance misses, the walk of the ask misses.
-use Rattle.std.proofs.Common.{◌≡◌, ℕ, ◌||◌, Bool, true, false, cond, List, [], ◌∷◌, ◌++◌, Option, Some, None, is_some, Result, Ok, Err, refl, sym, ap, ◌∙◌, subst, inl, inr, ◌⊎◌}
+use Rattle.std.proofs.Common.{◌≡◌, ℕ, ◌||◌, Bool, true, false, cond, List, [], ◌∷◌, ◌++◌, Option, Some, None, is_some, Result, Ok, Err, refl, sym, ap, ◌∙◌, subst, inl, inr}
 use Rattle.std.specs.FinMap as map
 use Rattle.coda_fid.specs.Fid.{root_of, same_fid}
 use Rattle.coda_fid.specs.declared.fid.Fid.{Fid}
@@ -7,20 +7,19 @@ use Rattle.coda_fid.specs.declared.fid.Sid.{Sid}
 use Rattle.coda_fid.specs.declared.op.Attrs.{Attrs}
 use Rattle.coda_fid.specs.declared.op.Op.{Op}
 use Rattle.coda_fid.specs.declared.op.Op.TheVariants.{Rename as RenameOp}
-use Rattle.coda_fid.specs.declared.op.Over.{Over}
 use Rattle.coda_tree.specs.Bindings.{Name}
 use Rattle.coda_tree.specs.Volume.{Nodes}
 use Rattle.coda_tree.specs.declared.node.Node.{Node}
 use Rattle.coda_tree.specs.declared.node.NodeKind.{NodeKind}
 use Rattle.coda_tree.specs.declared.node.NodeKind.TheVariants.{File, Link, Dir}
-use Rattle.coda_cell.specs.Accepting.{Accepted, Sight, next_fid, is_used_up, unless_used, new_fid, new_at, new_in, new_under, new_place, at_root, accept_creation, store_in, store_at, setattr_at, remove_in, remove_at, rmdir_of, rmdir_in, rmdir_at, spot, held_bound, bound_in, bound_at, place, is_dir_at, with_version, replaced_by, move_to, rename_to, rename_root, accept_rename, accept_remove, accept_rmdir, accept}
+use Rattle.coda_cell.specs.Accepting.{Accepted, Sight, next_fid, is_used_up, unless_used, new_at, new_in, new_under, new_place, at_root, accept_creation, store_in, store_at, setattr_at, remove_in, remove_at, rmdir_of, rmdir_in, rmdir_at, spot, held_bound, bound_in, bound_at, place, is_dir_at, with_version, replaced_by, move_to, rename_to, rename_root, accept_rename, accept_remove, accept_rmdir, accept}
 use Rattle.coda_cell.specs.Ask.{Asked, Create, Mkdir, Symlink, Store, Setattr, Remove, Rmdir, Rename, Ending, ending, front_of}
-use Rattle.coda_cell.specs.Held.{Held, is_below, some_below}
+use Rattle.coda_cell.specs.Held.{is_below}
 use Rattle.coda_cell.specs.Looking.{then_find, held, found, step_in, step_from, resolve}
 use Rattle.coda_cell.specs.declared.refused.Refused.{Refused}
 use Rattle.coda_cell.specs.declared.refused.Refused.TheVariants.{Miss, JournalFull, Exists, Loop, IsDir}
 use Rattle.coda_serving.proofs.Needed.{walk}
-use Rattle.coda_serving.proofs.Walks.{Misses, Comes, first_or_then, misses_then, seen_misses, comes_then, not_missing, err_is, resolve_push, ended, not_ended, held_is, resolve_has}
+use Rattle.coda_serving.proofs.Walks.{Misses, first_or_then, misses_then, seen_misses, comes_then, err_is, resolve_push, ended, not_ended, held_is, resolve_has}
 
 -- ---- spots and places
 

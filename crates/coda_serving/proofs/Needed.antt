@@ -1,5 +1,5 @@
 -- What is looked up first, where a walk misses an object.
-use Rattle.std.proofs.Common.{◌≡◌, ◌≢◌, ℕ, List, [], ◌∷◌, ◌++◌, Option, Some, None, Result, Ok, Err, refl, sym, ap, ◌∙◌, subst, inl, inr, ◌⊎◌}
+use Rattle.std.proofs.Common.{◌≡◌, ℕ, List, [], ◌∷◌, ◌++◌, Option, Some, None, Result, Ok, Err, refl, sym, ap, ◌∙◌, subst, inl, inr, ◌⊎◌}
 use Rattle.std.specs.FinMap as map
 use Rattle.coda_fid.specs.Fid.{root_of}
 use Rattle.coda_fid.specs.declared.fid.Fid.{Fid}
@@ -11,11 +11,11 @@ use Rattle.coda_tree.specs.declared.node.Node.{Node}
 use Rattle.coda_cell.specs.Ask.{Asked, Create, Mkdir, Symlink, Store, Setattr, Remove, Rmdir, Rename, ending, front_of}
 use Rattle.coda_cell.specs.Asking.{rename_look_ups, look_ups}
 use Rattle.coda_cell.specs.Held.{Held, Fetch, held_after_fetch, held_after_fetches}
-use Rattle.coda_cell.specs.Looking.{then_find, held, step_from, resolve, offered, fetch_of, look, looked, look_on, look_along}
+use Rattle.coda_cell.specs.Looking.{then_find, step_from, resolve, offered, fetch_of, look, look_on, look_along}
 use Rattle.coda_cell.specs.declared.refused.Refused.{Refused}
 use Rattle.coda_cell.specs.declared.refused.Refused.TheVariants.{Miss}
 use Rattle.coda_cell.proofs.Unlooked.{MissesNothing, no_look_along}
-use Rattle.coda_serving.proofs.Walks.{Misses, Comes, first_or_then, comes_then, held_misses, step_misses, missing_absent, missing_bound, still_held, leads_still}
+use Rattle.coda_serving.proofs.Walks.{Misses, Comes, first_or_then, held_misses, step_misses, missing_absent, missing_bound, still_held, leads_still}
 
 -- the walk of an ask: the path of the object that it needs first, and then of the other one
 abbrev pub walk : Nodes → ℕ → Asked → Result Fid Refused

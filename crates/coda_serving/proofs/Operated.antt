@@ -1,49 +1,44 @@
 -- An operation is answered as the client on a disk performs it.
-use Rattle.std.proofs.Common.{◌≡◌, ℕ, ◌+◌, Bool, true, false, cond, List, [], ◌∷◌, ◌++◌, Option, Some, None, Result, Ok, Err, refl, sym, ap, ◌∙◌, subst, inl, inr, ◌⊎◌}
+use Rattle.std.proofs.Common.{◌≡◌, ℕ, ◌+◌, Bool, true, false, cond, List, [], ◌∷◌, ◌++◌, Option, Some, None, Result, Ok, Err, refl, sym, ap, ◌∙◌, subst, inl, inr}
 use Rattle.std.specs.Prelude.{IsSome, nat_le}
-use Rattle.std.proofs.lemmas.Option.{none-some}
-use Rattle.std.specs.FinMap as map
 use Rattle.coda_fid.specs.Fid.{root_of}
 use Rattle.coda_fid.specs.declared.fid.Fid.{Fid}
 use Rattle.coda_fid.specs.declared.op.Op.{Op}
 use Rattle.coda_fid.specs.declared.op.Record.{Record}
 use Rattle.coda_tree.proofs.Parents.{parent_complete}
-use Rattle.coda_tree.specs.Volume.{Nodes, child, parent_of}
+use Rattle.coda_tree.specs.Volume.{Nodes, parent_of}
 use Rattle.coda_tree.specs.declared.node.Node.{Node}
 use Rattle.coda_cancel.specs.Cancel.{add, added, fold}
 use Rattle.coda_cancel.specs.Weights.{fits}
 use Rattle.coda_plain.specs.Cell.{ClientEntry, Fetched, Did}
 use Rattle.coda_plain.specs.Deeds.{Operated}
-use Rattle.coda_script.specs.declared.reply.Reply.{Reply}
 use Rattle.coda_script.specs.declared.reply.Reply.TheVariants as reply
 use Rattle.coda_venus.specs.Accepting as venus_accepting
 use Rattle.coda_venus.specs.Ask.{Asked as VenusAsked, too_big as venus_too_big}
 use Rattle.coda_venus.specs.Code as venus_code
-use Rattle.coda_venus.specs.Keeping.{IsMissed, record_of, unless_full, operation_unless, operation, done_of}
+use Rattle.coda_venus.specs.Keeping.{record_of, unless_full, operation_unless, operation, done_of}
 use Rattle.coda_venus.specs.Looking as venus_looking
 use Rattle.coda_venus.specs.State.{ClientState as VenusState, ClientVolume as VenusVolume}
-use Rattle.coda_venus.specs.declared.done.Done.{Done}
 use Rattle.coda_venus.specs.declared.refused.Refused.{Refused as VenusRefused}
 use Rattle.coda_venus.specs.declared.refused.Refused.TheVariants as venus
 use Rattle.coda_asking.specs.Answering.{operating}
 use Rattle.coda_asking.specs.Fetching.{offered, IsFetchable}
 use Rattle.coda_cell.specs.Accepting.{Accepted, sight_of, accept}
-use Rattle.coda_cell.specs.Ask.{Asked, too_big, object_of}
-use Rattle.coda_cell.specs.Asking.{Answer, answers, look_ups, behind_fetches, next_record, has_room, is_full, entered, answer_to, operate_unless, operate}
-use Rattle.coda_cell.specs.Held.{Held, Fetch, held_after_fetch}
+use Rattle.coda_cell.specs.Ask.{Asked, object_of}
+use Rattle.coda_cell.specs.Asking.{Answer, answers, look_ups, behind_fetches, next_record, has_room, is_full, answer_to, operate_unless, operate}
+use Rattle.coda_cell.specs.Held.{Fetch}
 use Rattle.coda_cell.specs.Looking.{entries_of}
 use Rattle.coda_cell.specs.Looking as cell_looking
-use Rattle.coda_cell.specs.State.{ClientVolume, log_of, ClientState, client_after}
-use Rattle.coda_cell.specs.declared.refused.Refused.{Refused}
+use Rattle.coda_cell.specs.State.{ClientVolume, ClientState, client_after}
 use Rattle.coda_cell.specs.declared.refused.Refused.TheVariants as refused
 use Rattle.coda_cell.proofs.Unlooked.{MissesNothing, no_look_ups}
-use Rattle.coda_matching.specs.Clients.{IsOneVolume, IsOneClient, refused_as, journal_by}
+use Rattle.coda_matching.specs.Clients.{IsOneVolume, refused_as, journal_by}
 use Rattle.coda_serving.specs.Serving.{asked_as, AreSpelledOffers, IsDone}
-use Rattle.coda_serving.proofs.Answers.{AnswersAs, Gives, NeedsNothing, Answering, behind, fetch_by}
+use Rattle.coda_serving.proofs.Answers.{AnswersAs, Gives, NeedsNothing, behind, fetch_by}
 use Rattle.coda_serving.proofs.Missed.{walk_misses}
 use Rattle.coda_serving.proofs.Needed.{IsMissing, walk, walk_missing, look_ups_first, look_ups_none}
 use Rattle.coda_serving.proofs.Pairs.{IsPair, sight_is}
-use Rattle.coda_serving.proofs.Renamed.{renamed, sight_as, too_big_is, object_is, accept_is}
+use Rattle.coda_serving.proofs.Renamed.{renamed, too_big_is, object_is, accept_is}
 
 -- ---- what is offered
 
@@ -68,11 +63,11 @@ is_fetchable offers m volume fid node spelled missing offer = record {
 
 -- so what can't be fetched isn't offered
 pub not_offered : (offers : Option Nodes) (m : Nodes) (volume : ℕ) (fid : Fid) → AreSpelledOffers offers → IsMissing m volume fid → ((node : Node) → ¬ IsFetchable offers m fid node) → cell_looking.offered offers fid ≡ None
-not_offered offers m volume fid spelled missing can't = offers_are offers fid ∙ by (offered offers fid) refl
+not_offered offers m volume fid spelled missing unfetchable = offers_are offers fid ∙ by (offered offers fid) refl
   where
     by : (o : Option Node) → offered offers fid ≡ o → offered offers fid ≡ None
     by None is = is
-    by (Some node) is = absurd (can't node (is_fetchable offers m volume fid node spelled missing is))
+    by (Some node) is = absurd (unfetchable node (is_fetchable offers m volume fid node spelled missing is))
 
 -- ---- the log of a volume
 
@@ -260,9 +255,9 @@ module _ (offers : Option Nodes) (spelled : AreSpelledOffers offers) (time volum
         ∙ ap (λ (m : Nodes). behind (Fetched fid (parent_of m fid) node ∷ []) (operate offers (client_after c (Fetched fid (parent_of m fid) node)) time volume asks)) (sym pair.one.nodes)
 
     lacks : (fid : Fid) → operation d time volume ask ≡ Err (venus.Need fid) → ((node : Node) → ¬ IsFetchable offers d.held.nodes fid node) → operate offers c time volume asks ≡ answers [] (Err (refused.Miss fid))
-    lacks fid is can't =
+    lacks fid is unfetchable =
         let need = needed fid is in
-        let gone = not_offered offers d.held.nodes volume fid spelled (subst (λ m. IsMissing m volume fid) (sym pair.one.nodes) (missing fid need.1)) can't in
+        let gone = not_offered offers d.held.nodes volume fid spelled (subst (λ m. IsMissing m volume fid) (sym pair.one.nodes) (missing fid need.1)) unfetchable in
         let none = look_ups_none offers c.held fid gone volume asks (walks fid need.1) in
         looks_up c need.0 ∙ ap (with_fetches c) none ∙ ap (answer_to [] (c.volumes volume) time volume) (accepts (Err (venus.Need fid)) need.1)
 
@@ -302,7 +297,7 @@ module _ (offers : Option Nodes) (spelled : AreSpelledOffers offers) (time volum
   pub operates : AnswersAs offers (operating time volume ask) IsDone (λ before c. operate offers c time volume asks)
   operates = record {
     needs = λ c d pair before fid node is can. needs c d pair fid node is can;
-    lacks = λ c d pair before fid is can't. lacks c d pair fid is can't;
+    lacks = λ c d pair before fid is unfetchable. lacks c d pair fid is unfetchable;
     refuses = λ c d pair before why is other. refuses c d pair why is other;
     gives = λ c d pair before rec is. gives c d pair before rec is;
   }

@@ -1,20 +1,17 @@
 -- An object that a client doesn't hold has no parent, whatever its history.
-use Rattle.std.proofs.Common.{◌≡◌, ◌≢◌, ℕ, true, false, List, [], ◌∷◌, ◌++◌, Option, Some, None, is_some, Result, Ok, Err, refl, sym, ap, ◌∙◌, subst, inl, inr}
+use Rattle.std.proofs.Common.{◌≡◌, ℕ, true, List, [], ◌∷◌, ◌++◌, Option, Some, None, is_some, refl, sym, ap, ◌∙◌, subst, inl, inr}
 use Rattle.std.proofs.lemmas.Option.{none-some}
 use Rattle.std.proofs.lemmas.Bool.{false≢true}
 use Rattle.std.specs.FinMap as map
-use Rattle.std.specs.FinMap.{FinMap}
 use Rattle.coda_fid.specs.Fid.{fid_cmp}
 use Rattle.coda_fid.specs.declared.fid.Fid.{Fid}
 use Rattle.coda_fid.specs.declared.op.Op.{Op}
 use Rattle.coda_fid.specs.declared.op.Op.TheVariants.{Create, Mkdir, Symlink, Store, Setattr, Remove, Rmdir, Rename}
-use Rattle.coda_fid.specs.declared.op.Over.{Over}
 use Rattle.coda_fid.specs.declared.op.Record.{Record}
 use Rattle.coda_fid.proofs.Fids.{fids_total, exact_fids}
 use Rattle.coda_tree.proofs.Changes.{has_changed}
 use Rattle.coda_tree.proofs.Order.{fid_cases, get_here, get_else, gone_here, gone_else}
-use Rattle.coda_tree.specs.Bindings.{Name}
-use Rattle.coda_tree.specs.Volume.{Nodes, has, changed, bound, unbound, bind_in, unbind_in}
+use Rattle.coda_tree.specs.Volume.{Nodes, has, changed}
 use Rattle.coda_tree.specs.declared.node.Node.{Node}
 use Rattle.coda_certify.specs.Replay.{applied}
 use Rattle.coda_journal.specs.declared.header.Header.{Header}
@@ -22,7 +19,7 @@ use Rattle.coda_plain.proofs.Lists.{left_push, along}
 use Rattle.coda_record.specs.declared.entry.ClientEntry.{ClientEntry}
 use Rattle.coda_record.specs.declared.entry.ClientEntry.TheVariants as entry
 use Rattle.coda_venus.specs.Accepting.{sight_of}
-use Rattle.coda_venus.specs.Held.{Parents, Held, parents_after, held_after_operation, held_after_fetch, held_after_drop}
+use Rattle.coda_venus.specs.Held.{Parents, Held, held_after_operation, held_after_fetch}
 use Rattle.coda_venus.specs.History.{Payload, state_of, MayEnter, MayEnterAll, MayFollow, IsHistory}
 use Rattle.coda_venus.specs.State.{ClientState, new_client, client_after, client_after_all}
 use Rattle.coda_venus.proofs.Accepted.{Relies, accepted_relies}

@@ -1,5 +1,5 @@
 -- A client of a cell, and the one on a disk that is the same.
-use Rattle.std.proofs.Common.{◌≡◌, ℕ, ◌||◌, List, [], ◌∷◌, Option, Some, None, refl, sym, ap, ◌∙◌, subst}
+use Rattle.std.proofs.Common.{◌≡◌, ℕ, ◌||◌, Option, Some, None, refl, sym, ap, ◌∙◌}
 use Rattle.std.specs.FinMap as map
 use Rattle.coda_fid.specs.declared.fid.Fid.{Fid}
 use Rattle.coda_tree.specs.Volume.{Nodes, parent_of}
@@ -13,8 +13,8 @@ use Rattle.coda_venus.specs.Keeping.{parent_for_of, parent_for}
 use Rattle.coda_venus.specs.State as venus_state
 use Rattle.coda_cell.specs.Accepting as cell
 use Rattle.coda_cell.specs.Held as cell_held
-use Rattle.coda_cell.specs.State.{ClientState, log_of, client_after}
-use Rattle.coda_matching.specs.Clients.{IsOneVolume, IsOneClient, payload_by}
+use Rattle.coda_cell.specs.State.{ClientState, client_after}
+use Rattle.coda_matching.specs.Clients.{IsOneClient, payload_by}
 use Rattle.coda_serving.proofs.Orphans.{HasNoOrphans, fetch_fits}
 use Rattle.coda_serving.proofs.Renamed.{held_as, sight_as}
 

@@ -1,5 +1,5 @@
 -- A client on a disk accepts what a client of a cell does that sees the same, and refuses all else for the same reason.
-use Rattle.std.proofs.Common.{◌≡◌, ℕ, suc, zero, ◌||◌, ◌&&◌, not, Bool, true, false, cond, List, [], ◌∷◌, length, Option, Some, None, is_some, option_map, Result, Ok, Err, refl, sym, ap, ◌∙◌, inl, inr}
+use Rattle.std.proofs.Common.{◌≡◌, ℕ, suc, zero, ◌||◌, ◌&&◌, not, Bool, true, false, cond, List, [], ◌∷◌, length, Option, Some, None, is_some, option_map, Result, Ok, Err, refl, ap, ◌∙◌, inl, inr}
 use Rattle.std.specs.Prelude.{nat_lt, ◌==◌}
 use Rattle.std.specs.List.{list_any}
 use Rattle.std.specs.Option.{option_map_or}
@@ -11,7 +11,6 @@ use Rattle.coda_fid.specs.declared.fid.Sid.{Sid}
 use Rattle.coda_fid.specs.declared.op.Attrs.{Attrs}
 use Rattle.coda_fid.specs.declared.op.Op.{Op}
 use Rattle.coda_fid.specs.declared.op.Op.TheVariants as op
-use Rattle.coda_fid.specs.declared.op.Over.{Over}
 use Rattle.coda_tree.specs.Bindings.{Name}
 use Rattle.coda_tree.specs.Volume.{Nodes}
 use Rattle.coda_tree.specs.declared.node.Node.{Node}

@@ -1,5 +1,5 @@
 -- What is at a path is shown as the client on a disk shows it.
-use Rattle.std.proofs.Common.{◌≡◌, ℕ, Bool, true, false, List, [], ◌∷◌, ◌++◌, append-nil, append_assoc, Option, Some, None, Result, Ok, Err, refl, sym, ap, ◌∙◌, subst}
+use Rattle.std.proofs.Common.{◌≡◌, ℕ, Bool, List, [], ◌∷◌, ◌++◌, append-nil, append_assoc, Option, Some, Result, Ok, Err, refl, sym, ap, ◌∙◌, subst}
 use Rattle.std.specs.FinMap as map
 use Rattle.coda_fid.specs.Fid.{root_of}
 use Rattle.coda_fid.specs.declared.fid.Fid.{Fid}
@@ -9,7 +9,6 @@ use Rattle.coda_tree.specs.declared.node.Node.{Node}
 use Rattle.coda_tree.specs.declared.node.NodeKind.{NodeKind}
 use Rattle.coda_tree.specs.declared.node.NodeKind.TheVariants.{File, Link, Dir}
 use Rattle.coda_plain.specs.Cell.{Fetched}
-use Rattle.coda_script.specs.declared.reply.Reply.{Reply}
 use Rattle.coda_venus.specs.Keeping.{cached, seen_at}
 use Rattle.coda_venus.specs.Looking as venus_looking
 use Rattle.coda_venus.specs.State.{ClientState as VenusState}
@@ -166,10 +165,10 @@ module _ (offers : Option Nodes) (what : Showing) (volume : ℕ) (path : List Na
         ∙ ap (λ (m : Nodes). behind (Fetched fid (parent_of m fid) node ∷ []) (show_from (before ++ fid ∷ []) (client_after c (Fetched fid (parent_of m fid) node)))) (sym pair.one.nodes)
 
     lacks : (before : List Fid) (fid : Fid) → seen_at (shown_as what) d.held.nodes volume path ≡ Err (venus.Need fid) → ((node : Node) → ¬ IsFetchable offers d.held.nodes fid node) → show_from before c ≡ answers [] (Err (refused.Miss fid))
-    lacks before fid is can't =
+    lacks before fid is unfetchable =
         let miss = needed fid is in
         let missing = along_missing c.held.nodes volume path fid miss in
-        let gone = not_offered offers d.held.nodes volume fid spelled (subst (λ m. IsMissing m volume fid) (sym pair.one.nodes) missing) can't in
+        let gone = not_offered offers d.held.nodes volume fid spelled (subst (λ m. IsMissing m volume fid) (sym pair.one.nodes) missing) unfetchable in
         let none = along_none offers c.held fid gone top path miss in
         ap (with_fetches before c.held) none ∙ ap (λ r. answers [] (shown_by (show_in what) (before ++ []) c.held.nodes r)) miss
 
@@ -203,7 +202,7 @@ module _ (offers : Option Nodes) (what : Showing) (volume : ℕ) (path : List Na
   pub shows : AreSpelledOffers offers → AnswersAs offers (showing what volume path) IsShown show_from
   shows spelled = record {
     needs = λ c d pair before fid node is can. needs spelled c d pair before fid node is can;
-    lacks = λ c d pair before fid is can't. lacks spelled c d pair before fid is can't;
+    lacks = λ c d pair before fid is unfetchable. lacks spelled c d pair before fid is unfetchable;
     refuses = λ c d pair before why is other. refuses spelled c d pair before why is other;
     gives = λ c d pair before seen is. gives spelled c d pair before seen is;
   }

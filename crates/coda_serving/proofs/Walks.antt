@@ -1,11 +1,10 @@
 -- Where a walk along a path comes to an object that isn't held.
-use Rattle.std.proofs.Common.{◌≡◌, ◌≢◌, ℕ, List, [], ◌∷◌, ◌++◌, Option, Some, None, option_map, Result, Ok, Err, refl, sym, ap, ◌∙◌, subst, inl, inr, ◌⊎◌}
+use Rattle.std.proofs.Common.{◌≡◌, List, [], ◌∷◌, ◌++◌, Option, Some, None, option_map, Result, Ok, Err, refl, sym, ap, ◌∙◌, inl, inr, ◌⊎◌}
 use Rattle.std.proofs.lemmas.Option.{none-some}
 use Rattle.std.specs.FinMap as map
-use Rattle.coda_fid.specs.Fid.{root_of}
 use Rattle.coda_fid.specs.declared.fid.Fid.{Fid}
 use Rattle.coda_fid.proofs.Fids.{fids_total, exact_fids}
-use Rattle.coda_tree.proofs.Order.{get_here, get_else}
+use Rattle.coda_tree.proofs.Order.{get_else}
 use Rattle.coda_tree.specs.Bindings.{Name}
 use Rattle.coda_tree.specs.Volume.{Nodes, child, child_of}
 use Rattle.coda_tree.specs.declared.node.Node.{Node}

@@ -1,8 +1,7 @@
 -- How a whole call ends, with all that was fetched for it.
-use Rattle.std.proofs.Common.{◌≡◌, ℕ, List, [], ◌∷◌, ◌++◌, append-nil, append_assoc, Option, Some, Result, Ok, Err, refl, sym, ap, ◌∙◌, subst, inl, inr, ◌⊎◌}
+use Rattle.std.proofs.Common.{◌≡◌, List, [], ◌∷◌, ◌++◌, append-nil, append_assoc, Option, Some, Result, Ok, Err, sym, ap, ◌∙◌, subst, inl, inr}
 use Rattle.std.proofs.lemmas.List.{map-append}
 use Rattle.coda_disk.specs.Told.{Told}
-use Rattle.coda_fid.specs.declared.fid.Fid.{Fid}
 use Rattle.coda_tree.specs.Volume.{Nodes}
 use Rattle.coda_journal.specs.declared.header.Header.{Header}
 use Rattle.coda_plain.proofs.Lists.{left_push}
@@ -16,15 +15,14 @@ use Rattle.coda_venus.specs.declared.refused.Refused.TheVariants as venus
 use Rattle.coda_venus.specs.declared.venus.Venus.{Venus}
 use Rattle.coda_asking.specs.Answering.{Call, Answered, Ends as EndsSo}
 use Rattle.coda_asking.specs.Laws.{after_payloads}
-use Rattle.coda_cell.specs.Asking.{Said, Answer}
+use Rattle.coda_cell.specs.Asking.{Answer}
 use Rattle.coda_cell.specs.Made.{client_of}
-use Rattle.coda_cell.specs.State.{ClientState, new_client, client_after_all}
+use Rattle.coda_cell.specs.State.{new_client, client_after_all}
 use Rattle.coda_cell.specs.declared.refused.Refused.{Refused}
-use Rattle.coda_cell.specs.declared.refused.Refused.TheVariants as refused
 use Rattle.coda_cell.proofs.Fetches.{client_after_both}
 use Rattle.coda_matching.specs.Clients.{IsClientHistory, payload_by, journal_by, refused_as, Cut, LacksRoom, Ends}
 use Rattle.coda_matching.proofs.Histories.{journals_leave_clients}
-use Rattle.coda_serving.proofs.Answers.{Answering, AnswersAs, IsBehind, behind, fetched, ends}
+use Rattle.coda_serving.proofs.Answers.{Answering, AnswersAs, IsBehind, fetched, ends}
 use Rattle.coda_serving.proofs.Orphans.{no_orphans}
 use Rattle.coda_serving.proofs.Pairs.{IsPair}
 
@@ -91,11 +89,11 @@ module _ {D A R : Type 0} (told : D → Told) (header : Header) (offers : Option
       let cell_is : client_of header.number past header.cache ≡ client_after_all c b.entries = client_after_both (new_client header.number header.cache) history b.entries in
       let disk_is : state_of header (journal_by past) ≡ after_payloads d asked.payloads = ap (state_of header) journal ∙ state_behind header (journal_by history) asked.payloads in
       let pair : IsPair (client_of header.number past header.cache) (state_of header (journal_by past)) =
-          subst (λ x. IsPair x (state_of header (journal_by past))) (sym cell_is) (subst (λ y. IsPair (client_after_all c b.entries) y) (sym disk_is) b.pair)
+      subst (λ x. IsPair x (state_of header (journal_by past))) (sym cell_is) (subst (λ y. IsPair (client_after_all c b.entries) y) (sym disk_is) b.pair)
       in
       let last = answer asked.fids (client_after_all c b.entries) in
       let so : EndsSo told header offers call (journal_by past) asked.fids new result = subst (λ l. EndsSo told header offers call l asked.fids new result) (sym journal) asked.ends in
       let then_ : Ends told header past last.entries last.said IsAs new result =
-          subst (λ x. Ends told header past (answer asked.fids x).entries (answer asked.fids x).said IsAs new result) cell_is (ends offers call IsAs answer does told header past asked.fids new pair result so)
+      subst (λ x. Ends told header past (answer asked.fids x).entries (answer asked.fids x).said IsAs new result) cell_is (ends offers call IsAs answer does told header past asked.fids new pair result so)
       in
       subst (λ (a : Answer). Ends told header history a.entries a.said IsAs new result) (sym b.is) (ends_behind told header history b.entries last.entries last.said IsAs new result then_)
