@@ -32,7 +32,7 @@ pub enum Undrained {
 }
 
 // A client and a replica that are up: the client's chunk for the replica goes, is ruled on, and the client takes the answer.
-fn drained<D: Disk>(
+fn drained<D: Disk + Drop>(
     until: Until,
     client: u8,
     volume: u32,
@@ -54,7 +54,7 @@ fn drained<D: Disk>(
 }
 
 // The same of a client and a replica in their slots, which are up.
-fn drain_between<D: Disk>(
+fn drain_between<D: Disk + Drop>(
     until: Until,
     client: u8,
     volume: u32,

@@ -1,13 +1,13 @@
 // Lines that make actors.
 use crate::fault::CellFault;
-use crate::replies::{opened, refuse};
+use crate::replies::{opened, refuse, refuse_number};
 use crate::site::{Place, Site};
 use coda_actors::Mounting;
 use coda_crew::{CrewFault, open};
 use coda_disk::Bay;
 use coda_journal::{Header, Kind};
 use coda_script::{Refusal, Reply};
-use std::alloc::Global;
+use std::alloc::{AllocError, Global};
 
 /// The MiB of an area where the line names none.
 const USUAL_AREA: u8 = 8;
@@ -47,7 +47,7 @@ fn mounted(alloc: Global, mounting: Mounting) -> Result<Reply, CellFault> {
     match mounting {
         Mounting::Entries(count) => Ok(opened(alloc, count)?),
         Mounting::DiskFault => Ok(refuse(alloc, Refusal::DiskFault)),
-        Mounting::Foreign(at) => Ok(crate::replies::refuse_number(alloc, Refusal::Foreign, at)?),
+        Mounting::Foreign(at) => Ok(refuse_number(alloc, Refusal::Foreign, at)?),
         Mounting::Memory => Err(CellFault::Memory),
     }
 }
@@ -79,6 +79,13 @@ pub fn make_client<B: Bay>(
     mounted(site.alloc, mounting)
 }
 
+// Notes where a volume was made. Fails for want of memory alone.
+fn note_volume<D>(site: &mut Site<D>, volume: u32, place: Place) -> Result<(), AllocError> {
+    site.servers.push(place.server)?;
+    site.places.insert(volume, place)?;
+    Ok(())
+}
+
 /// Makes a volume on a server alone, on the disk of the server's replica.
 pub fn make_volume<B: Bay>(
     bay: &mut B,
@@ -105,8 +112,7 @@ pub fn make_volume<B: Bay>(
         Mounting::Foreign(_) => {}
         Mounting::Memory => {}
         _ => {
-            site.servers.push(server)?;
-            site.places.insert(volume, Place { server, disk })?;
+            note_volume(site, volume, Place { server, disk })?;
             site.areas += u32::from(area);
         }
     }

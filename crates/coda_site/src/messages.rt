@@ -25,7 +25,7 @@ use std::collections::BTreeMap;
 
 // Sends the chunk of a client that is frozen for a server, or that is frozen now, over a link that is up: the numbers of the letter and of
 // the chunk.
-fn send_from<D: Disk>(
+fn send_from<D: Disk + Drop>(
     alloc: Global,
     net: &mut Net,
     until: Until,
@@ -44,7 +44,7 @@ fn send_from<D: Disk>(
 }
 
 // The same of a client in its slot, which is up.
-fn send_at<D: Disk>(
+fn send_at<D: Disk + Drop>(
     alloc: Global,
     net: &mut Net,
     until: Until,
@@ -106,7 +106,7 @@ pub fn send<B: Bay>(
 // ---- a chunk is delivered
 
 // Has a replica rule on a client's chunk, where it is up.
-fn rule_at<D: Disk>(
+fn rule_at<D: Disk + Drop>(
     replicas: &mut BTreeMap<u32, Slot<Replica<D>, D>>,
     disk: u32,
     client: u8,
@@ -172,7 +172,7 @@ fn chunk_comes<B: Bay>(
 // ---- an answer is delivered
 
 // Has a client take the answer to a chunk, where it is up.
-fn take_at<D: Disk>(
+fn take_at<D: Disk + Drop>(
     clients: &mut BTreeMap<u32, Slot<Venus<D>, D>>,
     client: u8,
     volume: u32,

@@ -11,6 +11,7 @@ ghost use Rattle.coda_script.specs.declared.reply.Reply.TheVariants as reply;
 
 use crate::fault::CellFault;
 use coda_certify::Verdict;
+use coda_fid::Fid;
 use coda_record::Answer;
 use coda_replica::ReplicaFault;
 use coda_script::{Answer as ReplyAnswer, Arg, Args, Numbers, Refusal, Reply, Undecided};
@@ -54,6 +55,17 @@ pub fn refuse_numbers(
     })
 }
 
+/// The refusal that names an object. Fails for want of memory alone.
+pub fn refuse_object(alloc: Global, refusal: Refusal, fid: Fid) -> Result<Reply, AllocError>
+    ensures { IfOk result (λ said. said ≡ reply.Refused refusal (AnArg.Object fid ∷ [])) }
+{
+    let args = vec![in alloc; Arg::Object(fid)]?;
+    Ok(Reply::Refused {
+        refusal,
+        args: Args::from_vec(args),
+    })
+}
+
 /// The refusal for an actor that isn't there. Fails for want of memory alone.
 pub fn no_such_actor(alloc: Global, number: u32) -> Result<Reply, AllocError>
     ensures { IfOk result (λ said. said ≡ refusal (refused.NoSuchActor number)) }
@@ -83,13 +95,7 @@ pub fn refused(alloc: Global, why: Refused) -> Result<Reply, CellFault>
         Refused::NotFile => refuse(alloc, Refusal::NotFile),
         Refused::NotEmpty => refuse(alloc, Refusal::NotEmpty),
         Refused::Loop => refuse(alloc, Refusal::Loop),
-        Refused::Need(fid) => {
-            let args = vec![in alloc; Arg::Object(fid)]?;
-            Reply::Refused {
-                refusal: Refusal::Miss,
-                args: Args::from_vec(args),
-            }
-        }
+        Refused::Need(fid) => refuse_object(alloc, Refusal::Miss, fid)?,
         Refused::LogFull => refuse(alloc, Refusal::LogFull),
         Refused::JournalFull => refuse(alloc, Refusal::JournalFull),
         Refused::DiskFault => refuse(alloc, Refusal::DiskFault),

@@ -29,7 +29,7 @@ const FILE_MODE: u16 = 0o644;
 pub const AGING_WINDOW: u64 = 600;
 
 // What a client can fetch of a volume: what its replica has, where that is up and can be reached.
-fn offers_of<'a, D: Disk>(
+fn offers_of<'a, D: Disk + Drop>(
     net: &Net,
     places: &BTreeMap<u32, Place>,
     replicas: &'a BTreeMap<u32, Slot<Replica<D>, D>>,
@@ -49,7 +49,7 @@ fn offers_of<'a, D: Disk>(
 }
 
 // Has a client that is up perform an operation.
-fn operate_at<D: Disk>(
+fn operate_at<D: Disk + Drop>(
     clients: &mut BTreeMap<u32, Slot<Venus<D>, D>>,
     number: u32,
     offers: Option<&Volume>,
@@ -68,7 +68,7 @@ fn operate_at<D: Disk>(
 }
 
 // Has a client that is up show what is at a path.
-fn show_at<D: Disk>(
+fn show_at<D: Disk + Drop>(
     alloc: Global,
     clients: &mut BTreeMap<u32, Slot<Venus<D>, D>>,
     number: u32,
