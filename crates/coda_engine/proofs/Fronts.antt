@@ -1,5 +1,5 @@
 -- Bytes of one line, taken at once.
-use Rattle.std.proofs.Common.{◌≡◌, ◌≢◌, ◌≤◌, ◌<◌, ◌+◌, ◌-◌, zero, suc, ◌++◌, ◌∷◌, [], ℕ, List, Option, Some, length, take, min, subst, sym, ◌∙◌, ap, refl, arith, drop, get_or}
+use Rattle.std.proofs.Common.{◌≡◌, ◌≢◌, ◌≤◌, ◌<◌, ◌+◌, ◌-◌, zero, suc, ◌++◌, ◌∷◌, [], ℕ, List, Option, length, take, subst, sym, ◌∙◌, ap, refl, arith, drop, get_or}
 use Rattle.std.proofs.lemmas.List.{append-nil, append_assoc, take-append-drop, drop-take}
 use Rattle.std.proofs.lemmas.List.Elements.{All-head, All-tail, All-take}
 use Rattle.coda_engine.specs.Lines.{HasNoNewline}

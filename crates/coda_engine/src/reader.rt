@@ -69,6 +69,8 @@ fn run_line<M: Machine, K: Sink>(
     ensures stops { IfErr result (LineHalts M.gives M.refuses (K.held sink.old) (K.held sink.new) (waiting gathered.old) (waiting gathered.new) machine.old machine.new line.now number) }
     ensures later { K.faults sink.old ≤ K.faults sink.new }
     ensures sink_fault { result ≡ Err Status.SinkFault → Rose (K.faults sink.old) (K.faults sink.new) }
+    ensures bay_later { M.faults machine.old ≤ M.faults machine.new }
+    ensures bay_fault { result ≡ Err Status.BayFault → Rose (M.faults machine.old) (M.faults machine.new) }
 {
     match machine.run(alloc, line) {
         Ok(text) => match gathered.add(&text, sink) {
@@ -80,6 +82,7 @@ fn run_line<M: Machine, K: Sink>(
             column: fault.column,
             kind: fault.kind,
         }),
+        Err(LineStop::Bay) => Err(Status::BayFault),
         Err(LineStop::Memory) => Err(Status::Memory),
     }
 }
@@ -138,6 +141,8 @@ impl Reader {
         ensures stops { IfErr result (Halts M.gives M.refuses (K.held sink.old) (K.held sink.new) (waiting gathered.old) (waiting gathered.new) (place machine.old self.old) machine.new (10 ∷ [])) }
         ensures later { K.faults sink.old ≤ K.faults sink.new }
         ensures sink_fault { result ≡ Err Status.SinkFault → Rose (K.faults sink.old) (K.faults sink.new) }
+        ensures bay_later { M.faults machine.old ≤ M.faults machine.new }
+        ensures bay_fault { result ≡ Err Status.BayFault → Rose (M.faults machine.old) (M.faults machine.new) }
     {
         let line = without_carriage_return(&self.pending);
         run_line(self.alloc, machine, self.lines + 1, line, gathered, sink)?;
@@ -161,6 +166,8 @@ impl Reader {
         ensures stops { IfErr result (Halts M.gives M.refuses (K.held sink.old) (K.held sink.new) (waiting gathered.old) (waiting gathered.new) (place machine.old self.old) machine.new (byte ∷ [])) }
         ensures later { K.faults sink.old ≤ K.faults sink.new }
         ensures sink_fault { result ≡ Err Status.SinkFault → Rose (K.faults sink.old) (K.faults sink.new) }
+        ensures bay_later { M.faults machine.old ≤ M.faults machine.new }
+        ensures bay_fault { result ≡ Err Status.BayFault → Rose (M.faults machine.old) (M.faults machine.new) }
     {
         if self.is_full() {
             return Err(Status::TooLong);
@@ -217,6 +224,8 @@ impl Reader {
         ensures stops { IfErr result (Halts M.gives M.refuses (K.held sink.old) (K.held sink.new) (waiting gathered.old) (waiting gathered.new) (place machine.old self.old) machine.new piece.now) }
         ensures later { K.faults sink.old ≤ K.faults sink.new }
         ensures sink_fault { IsErrOf result Status.SinkFault → Rose (K.faults sink.old) (K.faults sink.new) }
+        ensures bay_later { M.faults machine.old ≤ M.faults machine.new }
+        ensures bay_fault { IsErrOf result Status.BayFault → Rose (M.faults machine.old) (M.faults machine.new) }
     {
         let count = self.fitting(piece);
         if count == 0 {
@@ -243,6 +252,8 @@ impl Reader {
         ensures stops { IfErr result (Halts M.gives M.refuses (K.held sink.old) (K.held sink.new) (waiting gathered.old) (waiting gathered.new) (place machine.old self.old) machine.new piece.now) }
         ensures later { K.faults sink.old ≤ K.faults sink.new }
         ensures sink_fault { result ≡ Err Status.SinkFault → Rose (K.faults sink.old) (K.faults sink.new) }
+        ensures bay_later { M.faults machine.old ≤ M.faults machine.new }
+        ensures bay_fault { result ≡ Err Status.BayFault → Rose (M.faults machine.old) (M.faults machine.new) }
     {
         let mut at = 0;
         while at < piece.len() {
@@ -255,7 +266,7 @@ impl Reader {
     ///
     /// # Errors
     ///
-    /// The status that ends the run: `Script`, `SinkFault`, `TooLong` or `Memory`.
+    /// The status that ends the run: `Script`, `SinkFault`, `BayFault`, `TooLong` or `Memory`.
     pub fn feed<M: Machine, K: Sink>(
         &mut self,
         machine: &mut M,
@@ -268,6 +279,8 @@ impl Reader {
         ensures stops { IfErr result (Stops M.gives M.refuses 65536 (K.held sink.old) (K.held sink.new) (place machine.old self.old) machine.new piece.now) }
         ensures later { K.faults sink.old ≤ K.faults sink.new }
         ensures sink_fault { result ≡ Err Status.SinkFault → Rose (K.faults sink.old) (K.faults sink.new) }
+        ensures bay_later { M.faults machine.old ≤ M.faults machine.new }
+        ensures bay_fault { result ≡ Err Status.BayFault → Rose (M.faults machine.old) (M.faults machine.new) }
     {
         let mut gathered = Gathered::new(self.alloc);
         match self.take(machine, piece, &mut gathered, sink) {
@@ -286,6 +299,8 @@ impl Reader {
         ensures no_source_fault { result ≡ Status.SourceFault → ⊥ }
         ensures later { K.faults sink.old ≤ K.faults sink.new }
         ensures sink_fault { result ≡ Status.SinkFault → Rose (K.faults sink.old) (K.faults sink.new) }
+        ensures bay_later { M.faults machine.old ≤ M.faults machine.new }
+        ensures bay_fault { result ≡ Status.BayFault → Rose (M.faults machine.old) (M.faults machine.new) }
     {
         let line = self.pending.as_slice();
         if line.is_empty() {

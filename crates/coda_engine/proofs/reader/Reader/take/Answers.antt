@@ -1,15 +1,13 @@
-use Rattle.std.proofs.Common.{◌≡◌, ◌≤◌, ◌++◌, ◌∷◌, [], ◌+◌, take, drop, sym, ◌∙◌, ap, arith, subst, length}
+use Rattle.std.proofs.Common.{◌≡◌, [], take, arith}
 use Rattle.std.proofs.lemmas.List.{take_all, take_rest, length-drop}
 use Rattle.std.proofs.lemmas.Result.{err_from_is_err_and}
-use Rattle.coda_engine.specs.Gathering.{Gathers}
 use Rattle.coda_engine.specs.Place.{place}
-use Rattle.coda_engine.specs.Waiting.{waiting}
 use Rattle.coda_engine.proofs.Forwarding.{gathers_none, gathers_more, gathers_stop}
 use Rattle.coda_engine.proofs.Fronts.{take_both, all_parts}
 use Rattle.coda_engine.proofs.reader.Reader.take.Goals as goal
 
 pub loop-at-init : goal.loop-at-init
-loop-at-init g c = (omega arith, gathers_none _ _ (place c.args.machine.now c.args.self.now), omega arith, c.requires)
+loop-at-init g c = (omega arith, gathers_none _ _ (place c.args.machine.now c.args.self.now), omega arith, omega arith, c.requires)
 
 pub loop-at-preserved : goal.loop-at-preserved
 loop-at-preserved g c =
@@ -19,6 +17,7 @@ loop-at-preserved g c =
       rw (take_both at c.in_ok-at.field-0 piece, ← take_rest piece at)
           (gathers_more _ _ _ _ _ _ (place c.args.machine.now c.args.self.now) (place c.loop-at.machine c.loop-at.self) (place c.take_next.new.machine c.take_next.new.self) (take at piece) _ c.loop-at.invariant.1 c.in_ok-at.ensures.ok),
       (let before = c.loop-at.invariant.2 in let later = c.take_next.ensures.later in omega (arith, before, later)),
+      (let before = c.loop-at.invariant.3 in let later = c.take_next.ensures.bay_later in omega (arith, before, later)),
       c.in_ok-at.ensures.ready,
     )
 

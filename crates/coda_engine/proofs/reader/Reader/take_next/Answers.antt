@@ -1,9 +1,8 @@
-use Rattle.std.proofs.Common.{◌≡◌, ◌++◌, ◌∷◌, [], ◌+◌, get_or, take, drop, sym, ◌∙◌, ap, refl, rules, arith, subst}
+use Rattle.std.proofs.Common.{◌≡◌, [], take, drop, sym, arith, subst}
 use Rattle.std.proofs.lemmas.List.{length-take}
 use Rattle.std.proofs.lemmas.Result.{err_from_is_err_and}
 use Rattle.coda_engine.specs.Gathering.{Gathers}
 use Rattle.coda_engine.specs.Place.{place}
-use Rattle.coda_engine.specs.Waiting.{waiting}
 use Rattle.coda_engine.proofs.Forwarding.{gathers_none, gathers_stop, memory_halts}
 use Rattle.coda_engine.proofs.Fronts.{behind, front_gathers, first_and_rest}
 use Rattle.coda_engine.proofs.reader.Reader.take_next.Goals as goal
