@@ -1,0 +1,4 @@
+pub mod Wholes
+pub mod Entering
+pub mod Sides
+pub mod Acting
