@@ -4,7 +4,7 @@ use Rattle.std.proofs.lemmas.Bool.{eqb-true, and_parts}
 use Rattle.coda_journal.specs.declared.header.Header.{Header}
 use Rattle.coda_plain.specs.Cell.{ClientEntry, Actor, PlainCell, Joins}
 use Rattle.coda_plain.specs.Decisions.{ReplicaEntry}
-use Rattle.coda_plain.specs.Moves.{with_client, with_replica, grown as grown_actor, fallen, crashed}
+use Rattle.coda_plain.specs.Moves.{with_client, with_replica, grown as grown_actor, fallen, crashed, recovered}
 use Rattle.coda_cell.specs.Made.{MadeCell}
 use Rattle.coda_cell.specs.Runs.{IsKept}
 use Rattle.coda_stored.specs.Cells.{Side, StoredCell}
@@ -34,43 +34,38 @@ stored_kept cell clean kept sided = record { clients_up = clean.clients; replica
 -- ---- one actor
 
 module _ {E : Type 0} where
-  -- An actor is another now: no append failed if it is up, and where its disk was given no header the disk holds nothing and the actor is down.
-  pub record Goes (old new : Actor E) : Type 0 where
+  -- An actor is another now, on a disk that was last given this header, if any: no append failed if it is up, and what is known of its disk holds.
+  pub record Goes (given : Option Header) (old new : Actor E) : Type 0 where
     pub clean : new.up ≡ true → new.failed ≡ None
-    pub given : (given : Option Header) (header : Header) → IsGiven given header old → IsGiven given header new
+    pub keeps : (header : Header) → IsGiven given header old → IsGiven given header new
 
-  pub goes_grown : (actor : Actor E) (entry : E) → actor.up ≡ true → (actor.up ≡ true → actor.failed ≡ None) → Goes actor (grown_actor entry actor)
-  goes_grown actor entry up clean = record { clean = clean; given = by }
-    where
-      by : (given : Option Header) (header : Header) → IsGiven given header actor → IsGiven given header (grown_actor entry actor)
-      by None header is = (let no : true ≡ false = sym up ∙ is.2 in cc)
-      by (Some given) header is = is
+  pub goes_grown : (given : Option Header) (actor : Actor E) (entry : E) → actor.up ≡ true → (actor.up ≡ true → actor.failed ≡ None) → Goes given actor (grown_actor entry actor)
+  goes_grown None actor entry up clean = record { clean = clean; keeps = λ header is. (let no : true ≡ false = sym up ∙ is.2 in cc) }
+  goes_grown (Some given) actor entry up clean = record { clean = clean; keeps = λ header is. is }
 
-  pub goes_fallen : (actor : Actor E) (entry : E) → actor.up ≡ true → Goes actor (fallen entry actor)
-  goes_fallen actor entry up = record { clean = λ e. cc; given = by }
-    where
-      by : (given : Option Header) (header : Header) → IsGiven given header actor → IsGiven given header (fallen entry actor)
-      by None header is = (let no : true ≡ false = sym up ∙ is.2 in cc)
-      by (Some given) header is = is
+  pub goes_fallen : (given : Option Header) (actor : Actor E) (entry : E) → actor.up ≡ true → Goes given actor (fallen entry actor)
+  goes_fallen None actor entry up = record { clean = λ e. cc; keeps = λ header is. (let no : true ≡ false = sym up ∙ is.2 in cc) }
+  goes_fallen (Some given) actor entry up = record { clean = λ e. cc; keeps = λ header is. is }
 
-  pub goes_crashed : (actor : Actor E) → Goes actor (crashed actor)
-  goes_crashed actor = record { clean = λ e. cc; given = by }
-    where
-      by : (given : Option Header) (header : Header) → IsGiven given header actor → IsGiven given header (crashed actor)
-      by None header is = (is.0, is.1, refl)
-      by (Some given) header is = is
+  pub goes_crashed : (given : Option Header) (actor : Actor E) → Goes given actor (crashed actor)
+  goes_crashed None actor = record { clean = λ e. cc; keeps = λ header is. (is.0, is.1, refl) }
+  goes_crashed (Some given) actor = record { clean = λ e. cc; keeps = λ header is. is }
+
+  pub goes_recovered : (given : Option Header) (header : Header) (actor : Actor E) (joins : Bool) → given ≡ Some header → Goes given actor (recovered joins actor)
+  goes_recovered None header actor joins e = cc
+  goes_recovered (Some given) header actor joins e = record { clean = λ up. refl; keeps = λ other is. is }
 
 -- ---- the sides
 
-client_goes : (client : ℕ) (o : Option ℕ) (old new : Actor ClientEntry) (side : Side) → (o ≡ None → new ≡ old) → ((given : Option Header) (header : Header) → IsGiven given header old → IsGiven given header new)
+client_goes : (client : ℕ) (o : Option ℕ) (old new : Actor ClientEntry) (side : Side) → (o ≡ None → new ≡ old) → ((header : Header) → IsGiven side.given header old → IsGiven side.given header new)
     → IsClientSide client o old side → IsClientSide client o new side
 client_goes client None old new side same goes is = (is.0, same refl ∙ is.1)
-client_goes client (Some blocks) old new side same goes (area, sized, one, under, some, few, asked, given) = (area, sized, one, under, some, few, asked, goes side.given _ given)
+client_goes client (Some blocks) old new side same goes (area, sized, one, under, some, few, asked, given) = (area, sized, one, under, some, few, asked, goes _ given)
 
 replica_goes : (volume : ℕ) (o : Option ℕ) (old new : ℕ → Actor ReplicaEntry) (side : Side) → ((server : ℕ) → o ≡ None → new server ≡ old server)
-    → ((server : ℕ) (given : Option Header) (header : Header) → IsGiven given header (old server) → IsGiven given header (new server)) → IsReplicaSide volume o old side → IsReplicaSide volume o new side
+    → ((server : ℕ) (header : Header) → IsGiven side.given header (old server) → IsGiven side.given header (new server)) → IsReplicaSide volume o old side → IsReplicaSide volume o new side
 replica_goes volume None old new side same goes is = (is.0, λ server. same server refl ∙ is.1 server)
-replica_goes volume (Some server) old new side same goes (area, sized, one, some, few, asked, given) = (area, sized, one, some, few, asked, goes server side.given _ given)
+replica_goes volume (Some server) old new side same goes (area, sized, one, some, few, asked, given) = (area, sized, one, some, few, asked, goes server _ given)
 
 -- ---- an actor of a cell
 
@@ -91,11 +86,11 @@ module _ (cell : StoredCell) (clean : AreClean cell.made.acted) (sided : AreSide
   }
 
   -- a client that was made is another
-  pub sided_client : (client blocks : ℕ) (actor : Actor ClientEntry) → cell.made.sizes client ≡ Some blocks → Goes (cell.made.acted.clients client) actor → AreSided (acting cell (with_client cell.made.acted client actor))
+  pub sided_client : (client blocks : ℕ) (actor : Actor ClientEntry) → cell.made.sizes client ≡ Some blocks → Goes (cell.clients client).given (cell.made.acted.clients client) actor → AreSided (acting cell (with_client cell.made.acted client actor))
   sided_client client blocks actor there goes = record {
     clients = λ c. elim (c == client) as (λ b. (c == client) ≡ b → IsClientSide c (cell.made.sizes c) (cond b actor (cell.made.acted.clients c)) (cell.clients c)) [
       | true ↦ λ e. subst (λ n. IsClientSide n (cell.made.sizes n) actor (cell.clients n)) (sym (eqb-true c client e))
-          (client_goes client (cell.made.sizes client) (cell.made.acted.clients client) actor (cell.clients client) (λ none. (let no : None ≡ Some blocks = sym none ∙ there in cc)) goes.given (sided.clients client))
+          (client_goes client (cell.made.sizes client) (cell.made.acted.clients client) actor (cell.clients client) (λ none. (let no : None ≡ Some blocks = sym none ∙ there in cc)) goes.keeps (sided.clients client))
       | false ↦ λ e. sided.clients c
     ] refl;
     replicas = sided.replicas;
@@ -104,10 +99,10 @@ module _ (cell : StoredCell) (clean : AreClean cell.made.acted) (sided : AreSide
   }
 
   -- the replica of a volume that was made is another
-  pub sided_replica : (server volume : ℕ) (actor : Actor ReplicaEntry) → cell.made.homes volume ≡ Some server → Goes (cell.made.acted.replicas server volume) actor → AreSided (acting cell (with_replica cell.made.acted server volume actor))
+  pub sided_replica : (server volume : ℕ) (actor : Actor ReplicaEntry) → cell.made.homes volume ≡ Some server → Goes (cell.replicas volume).given (cell.made.acted.replicas server volume) actor → AreSided (acting cell (with_replica cell.made.acted server volume actor))
   sided_replica server volume actor there goes = record {
     clients = sided.clients;
-    replicas = λ v. replica_goes v (cell.made.homes v) (λ s. cell.made.acted.replicas s v) (λ s. cond ((s == server) && (v == volume)) actor (cell.made.acted.replicas s v)) (cell.replicas v) (same v) (given v) (sided.replicas v);
+    replicas = λ v. replica_goes v (cell.made.homes v) (λ s. cell.made.acted.replicas s v) (λ s. cond ((s == server) && (v == volume)) actor (cell.made.acted.replicas s v)) (cell.replicas v) (same v) (keeps v) (sided.replicas v);
     placed = sided.placed;
     apart = sided.apart;
   }
@@ -118,9 +113,10 @@ module _ (cell : StoredCell) (clean : AreClean cell.made.acted) (sided : AreSide
         | false ↦ λ e. refl
       ] refl
 
-      given : (v s : ℕ) (given : Option Header) (header : Header) → IsGiven given header (cell.made.acted.replicas s v) → IsGiven given header (cond ((s == server) && (v == volume)) actor (cell.made.acted.replicas s v))
-      given v s h header = elim ((s == server) && (v == volume)) as (λ b. ((s == server) && (v == volume)) ≡ b → IsGiven h header (cell.made.acted.replicas s v) → IsGiven h header (cond b actor (cell.made.acted.replicas s v))) [
-        | true ↦ λ e is. let both = and_parts (s == server) (v == volume) e in
-            goes.given h header (subst (λ n. IsGiven h header (cell.made.acted.replicas n volume)) (eqb-true s server both.0) (subst (λ n. IsGiven h header (cell.made.acted.replicas s n)) (eqb-true v volume both.1) is))
+      keeps : (v s : ℕ) (header : Header) → IsGiven (cell.replicas v).given header (cell.made.acted.replicas s v) → IsGiven (cell.replicas v).given header (cond ((s == server) && (v == volume)) actor (cell.made.acted.replicas s v))
+      keeps v s header = elim ((s == server) && (v == volume)) as (λ b. ((s == server) && (v == volume)) ≡ b → IsGiven (cell.replicas v).given header (cell.made.acted.replicas s v) → IsGiven (cell.replicas v).given header (cond b actor (cell.made.acted.replicas s v))) [
+        | true ↦ λ e. let both = and_parts (s == server) (v == volume) e in
+            subst (λ n. IsGiven (cell.replicas n).given header (cell.made.acted.replicas s n) → IsGiven (cell.replicas n).given header actor) (sym (eqb-true v volume both.1))
+            (subst (λ n. IsGiven (cell.replicas volume).given header (cell.made.acted.replicas n volume) → IsGiven (cell.replicas volume).given header actor) (sym (eqb-true s server both.0)) (goes.keeps header))
         | false ↦ λ e is. is
       ] refl
