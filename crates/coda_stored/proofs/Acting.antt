@@ -87,7 +87,7 @@ module _ (volume : ℕ) (histories others : ℕ → List ReplicaEntry) where
   replica_home None r e = cc
   replica_home (Some home) r e = ap Some (sym (server_stays (new_replica home volume) (histories home))) ∙ ap home_of e
 
-  holder_home : (o : Option ℕ) (server : ℕ) → option_map_or (λ (r : ReplicaState). r.server == server) (option_map (replica_of histories volume) o) false ≡ true → o ≡ Some server
+  pub holder_home : (o : Option ℕ) (server : ℕ) → option_map_or (λ (r : ReplicaState). r.server == server) (option_map (replica_of histories volume) o) false ≡ true → o ≡ Some server
   holder_home None server e = cc
   holder_home (Some home) server e = ap Some (sym (server_stays (new_replica home volume) (histories home)) ∙ eqb-true (replica_of histories volume home).server server e)
 
@@ -212,7 +212,7 @@ module _ (old : StoredCell) (clean : AreClean old.made.acted) where
         some_is : (a b : ℕ) → Some a ≡ Some b → a ≡ b
         some_is a b e = cc
 
-    tasks_acted : (work : Task) → is_down_for old (line.Task work) ≡ false → Does (meets old (line.Task work)) (line.Task work) own events → (events ≡ []) ⊎ IsActed old (line.Task work) own events
+    pub tasks_acted : (work : Task) → is_down_for old (line.Task work) ≡ false → Does (meets old (line.Task work)) (line.Task work) own events → (events ≡ []) ⊎ IsActed old (line.Task work) own events
     tasks_acted (task.Create client volume path mode owner) down does = task_acted (task.Create client volume path mode owner) (links_to old volume) (operates_acted (task.Create client volume path mode owner) client volume (Create path (unwrap_or mode 420) (unwrap_or owner 0)) down does)
     tasks_acted (task.Mkdir client volume path mode owner) down does = task_acted (task.Mkdir client volume path mode owner) (links_to old volume) (operates_acted (task.Mkdir client volume path mode owner) client volume (Mkdir path (unwrap_or mode 493) (unwrap_or owner 0)) down does)
     tasks_acted (task.Symlink client volume path target) down does = task_acted (task.Symlink client volume path target) (links_to old volume) (operates_acted (task.Symlink client volume path target) client volume (Symlink path target) down does)
@@ -230,7 +230,7 @@ module _ (old : StoredCell) (clean : AreClean old.made.acted) where
 
     -- ---- letters
 
-    send_acted : (client volume server : ℕ) (window : Option ℕ) → is_down_for old (line.Send client volume server window) ≡ false → Does (state_of old.made) (line.Send client volume server window) own events
+    pub send_acted : (client volume server : ℕ) (window : Option ℕ) → is_down_for old (line.Send client volume server window) ≡ false → Does (state_of old.made) (line.Send client volume server window) own events
         → (events ≡ []) ⊎ IsActed old (line.Send client volume server window) own events
     send_acted client volume server window down does =
         unless_acted (first_missing (on_holder (state_of old.made) client volume server)) (BySend (state_of old.made) client volume server (unwrap_or window 600)) own events (λ all did.
@@ -274,7 +274,7 @@ module _ (old : StoredCell) (clean : AreClean old.made.acted) where
               (λ v s e there. (let no : None ≡ Some v = sym (ap replica_to is) ∙ e in cc)) does;
         }
 
-    delivers_acted : (message : ℕ) (o : Option Sent) → sent_at message old.made.waiting ≡ o → receiver_down old o ≡ false → Delivers (state_of old.made) message o own events → Does (state_of old.made) (line.Deliver message) own events
+    pub delivers_acted : (message : ℕ) (o : Option Sent) → sent_at message old.made.waiting ≡ o → receiver_down old o ≡ false → Delivers (state_of old.made) message o own events → Does (state_of old.made) (line.Deliver message) own events
         → (events ≡ []) ⊎ IsActed old (line.Deliver message) own events
     delivers_acted message None is down delivers does = inl delivers.1
     delivers_acted message (Some (ChunkSent client server volume number span)) is down delivers does =
@@ -291,7 +291,7 @@ module _ (old : StoredCell) (clean : AreClean old.made.acted) where
         inr (answer_acted message server client volume number answer is
           (behind (not (is_cut (old.made.links client server))) (all_there names && client_down old client) (ap not (uncut (old.made.links client server) link)) down) all did does)) comes) delivers
 
-    loses_acted : (message : ℕ) (o : Option Sent) → Loses message o own events → Does (state_of old.made) (line.Lose message) own events → (events ≡ []) ⊎ IsActed old (line.Lose message) own events
+    pub loses_acted : (message : ℕ) (o : Option Sent) → Loses message o own events → Does (state_of old.made) (line.Lose message) own events → (events ≡ []) ⊎ IsActed old (line.Lose message) own events
     loses_acted message None loses does = inl loses.1
     loses_acted message (Some sent) loses does = inr (record {
       by = subst (AreBy (UpClient old.made) (UpReplica old.made)) (sym loses.1) (tt, tt);
@@ -301,14 +301,14 @@ module _ (old : StoredCell) (clean : AreClean old.made.acted) where
 
     -- ---- lines that need nobody
 
-    tick_acted : (seconds : ℕ) → Does (state_of old.made) (line.Tick seconds) own events → (events ≡ []) ⊎ IsActed old (line.Tick seconds) own events
+    pub tick_acted : (seconds : ℕ) → Does (state_of old.made) (line.Tick seconds) own events → (events ≡ []) ⊎ IsActed old (line.Tick seconds) own events
     tick_acted seconds does = inr (record {
       by = subst (AreBy (UpClient old.made) (UpReplica old.made)) (sym does.1) (tt, tt);
       links = old.made.links;
       does = alike_does (line.Tick seconds) own events (λ c is. cc) (λ v s is there. cc) does;
     })
 
-    link_acted : (client server : ℕ) (strength : Strength) → Does (state_of old.made) (line.Link client server strength) own events → (events ≡ []) ⊎ IsActed old (line.Link client server strength) own events
+    pub link_acted : (client server : ℕ) (strength : Strength) → Does (state_of old.made) (line.Link client server strength) own events → (events ≡ []) ⊎ IsActed old (line.Link client server strength) own events
     link_acted client server strength does = unless_acted (first_missing (client_named (state_of old.made) client ∷ server_named (state_of old.made) server ∷ [])) _ own events (λ all did.
         inr (record {
           by = subst (AreBy (UpClient old.made) (UpReplica old.made)) (sym did.1) (tt, tt);
@@ -316,5 +316,5 @@ module _ (old : StoredCell) (clean : AreClean old.made.acted) where
           does = alike_does (line.Link client server strength) own events (λ c is. cc) (λ v s is there. cc) does;
         })) does
 
-    nothing_acted : {X : Type 0} (o : Option Refused) (said : Reply) → Unless o (λ reply happened. (reply ≡ said) × (happened ≡ [])) own events → (events ≡ []) ⊎ X
+    pub nothing_acted : {X : Type 0} (o : Option Refused) (said : Reply) → Unless o (λ reply happened. (reply ≡ said) × (happened ≡ [])) own events → (events ≡ []) ⊎ X
     nothing_acted o said does = unless_acted o _ own events (λ all did. inl did.1) does

@@ -3,3 +3,7 @@ pub mod Entering
 pub mod Sides
 pub mod Acting
 pub mod Stopping
+pub mod Disks
+pub mod Making
+pub mod Keeping
+pub mod Remaining
