@@ -1,3 +1,5 @@
 pub mod Endings
+pub mod Kept
 pub mod Rulings
 pub mod Spelled
+pub mod Weights

@@ -15,6 +15,7 @@ use Rattle.coda_record.proofs.PartsAgree.{first_true, second_true}
 use Rattle.coda_spelling.proofs.SpelledParts.{both_true, within, is_within, sid_spelled}
 use Rattle.coda_wire.specs.declared.message.Message.TheVariants.{Verdict}
 use Rattle.coda_wire.specs.Table.{message}
+use Rattle.coda_sending.specs.Ending.{verdict_in}
 use Rattle.coda_sending.specs.Spelling.{sid_fits, reason_fits, number_fits, last_fits, answer_fits}
 
 -- what holds of one thing holds of it and nothing else
@@ -86,3 +87,11 @@ pub answer_message : (server client volume number : ℕ) (answer : Answer) → H
     → HasSpelling message (Verdict server client volume number answer)
 unfolding message
 answer_message server client volume number answer s c v n a = both_true _ _ s (both_true _ _ c (both_true _ _ v (both_true _ _ n (both_true _ _ a refl))))
+
+-- the verdict in an answer
+pub verdict_spelled : (a : Answer) → answer_fits a ≡ true → IfSome (verdict_in a) (HasSpelling table.verdict)
+unfolding table.answer table.verdict
+verdict_spelled Applied fits = refl
+verdict_spelled (Conflict n why) fits = fits
+verdict_spelled (Behind n) fits = tt
+verdict_spelled (Old n) fits = tt

@@ -2,11 +2,13 @@
 ghost use Rattle.std.specs.Prelude.{◌≡◌, ◌≤◌, ℕ, List, true, false, IsErrOf, Err};
 ghost use Rattle.coda_io.specs.Faults.{Rose};
 ghost use Rattle.coda_journal.specs.declared.header.Header.{Header as AskedHeader};
+ghost use Rattle.coda_cancel.specs.Weights.{total_weight};
 ghost use Rattle.coda_record.specs.Form.{four};
 ghost use Rattle.coda_record.specs.Spelling.{HasSpelling};
 ghost use Rattle.coda_record.specs.Table.{volume as a_volume, server as a_server, records as some_records};
 ghost use Rattle.coda_plain.specs.Cell.{ClientEntry};
 ghost use Rattle.coda_plain.specs.Decisions.{sent_of};
+ghost use Rattle.coda_venus.specs.History.{Payload};
 ghost use Rattle.coda_venus.specs.Keeping.{Falls};
 ghost use Rattle.coda_venus.specs.Standing.{IsUp};
 ghost use Rattle.coda_cell.specs.Made.{client_of};
@@ -67,13 +69,15 @@ pub fn freeze_for<D: Disk>(
 }
 
 /// The records of the chunk of a volume that is on its way, while the client isn't down: what cancellation leaves of
-/// its operations; none where none is frozen.
+/// its operations, 16 MiB at most; none where none is frozen.
 pub fn chunk_for<D: Disk>(venus: &Venus<D>, volume: u32) -> &[Record]
     requires { venus.now.down ≡ false }
     ensures records { (header : AskedHeader) (history : List ClientEntry)
         → IsUp D.told header venus.now (journal_by history) → IsClientHistory header history
         → result.now ≡ sent_of ((client_of header.number history header.cache).volumes volume).front }
     ensures sendable { HasSpelling (some_records four) result.now }
+    ensures light { (header : AskedHeader) (payloads : List Payload) → IsUp D.told header venus.now payloads
+        → total_weight result.now ≤ 16777216 }
 {
     venus.chunk(volume)
 }

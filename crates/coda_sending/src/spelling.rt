@@ -4,9 +4,10 @@ ghost use Rattle.coda_fid.specs.declared.fid.Fid.{Fid as AFid};
 ghost use Rattle.coda_record.specs.Parts.{u8, u64};
 ghost use Rattle.coda_record.specs.Spelling.{HasSpelling};
 ghost use Rattle.coda_record.specs.Table.{client as a_client, server as a_server, volume as a_volume};
-ghost use Rattle.coda_record.specs.Table.{ordinal as an_ordinal, fid as a_fid};
+ghost use Rattle.coda_record.specs.Table.{ordinal as an_ordinal, fid as a_fid, verdict as a_verdict};
 ghost use Rattle.coda_wire.specs.Table.{message as a_message};
 ghost use Rattle.coda_wire.specs.declared.message.Message.TheVariants.{Verdict};
+ghost use Rattle.coda_sending.specs.Ending.{verdict_in};
 ghost use Rattle.coda_sending.specs.Spelling.{sid_fits, reason_fits, number_fits, last_fits, answer_fits};
 
 use coda_certify::Reason;
@@ -123,6 +124,7 @@ pub fn can_be_posted(answer: &Answer) -> bool
         → HasSpelling a_server server → HasSpelling a_client client
         → HasSpelling a_volume volume → HasSpelling an_ordinal number
         → HasSpelling a_message (Verdict server client volume number answer.now) }
+    ensures takes { result ≡ true → IfSome (verdict_in answer.now) (HasSpelling a_verdict) }
 {
     answer_fits(answer)
 }

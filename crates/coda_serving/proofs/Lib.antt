@@ -1,0 +1,10 @@
+pub mod Walks
+pub mod Needed
+pub mod Missed
+pub mod Renamed
+pub mod Orphans
+pub mod Pairs
+pub mod Answers
+pub mod Whole
+pub mod Operated
+pub mod Shown

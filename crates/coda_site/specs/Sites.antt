@@ -1,0 +1,77 @@
+-- What a site stands for.
+use Rattle.std.specs.Prelude.{◌≡◌, ◌≢◌, ◌<◌, ◌≤◌, ◌+◌, ◌*◌, ℕ, Bool, true, false, ◌==◌, nat_lt, nat_le, is_some, List, [], ◌∷◌, length, Option, Some, None, IfSome}
+use Rattle.std.specs.Option.{option_map, option_map_or}
+use Rattle.std.specs.List.{list_any}
+use Rattle.std.specs.BTreeMap as tree
+use Rattle.std.specs.Ordering.{nat_cmp}
+use Rattle.coda_disk.specs.Told.{Told}
+use Rattle.coda_actors.specs.Clients.{client_form}
+use Rattle.coda_actors.specs.Plain.{PlainActor}
+use Rattle.coda_actors.specs.Replicas.{replica_form}
+use Rattle.coda_actors.specs.Slots.{is_made}
+use Rattle.coda_crew.specs.Crews.{slot_at, FitsAll, OutAll, OwnAll}
+use Rattle.coda_record.specs.declared.entry.ReplicaEntry.{ReplicaEntry as KeptEntry}
+use Rattle.coda_cell.specs.Cells.{IsNetwork}
+use Rattle.coda_cell.specs.Steps.{Named}
+use Rattle.coda_stored.specs.Cells.{StoredCell, plain_client, plain_replica, unmade}
+use Rattle.coda_site.specs.declared.site.Site.{Site}
+use Rattle.coda_site.specs.declared.site.Place.{Place}
+
+-- ---- numbers of disks
+
+-- the numbers of clients' disks, and those of replicas'
+abbrev pub is_client_disk : ℕ → Bool
+is_client_disk number = nat_lt number 256
+
+abbrev pub is_replica_disk : ℕ → Bool
+is_replica_disk number = nat_le 256 number
+
+-- where a volume was made
+abbrev pub place_in : {D : Type 0} → Site D → ℕ → Option Place
+place_in site volume = tree.get nat_cmp site.places volume
+
+-- ---- what a site stands for
+
+-- The replicas of a cell by the numbers of their disks: each volume's at its place, and no line made any other.
+pub record AreReplicas (cell : StoredCell) (plain : ℕ → PlainActor KeptEntry) : Type 0 where
+  pub placed : (volume server : ℕ) → cell.made.homes volume ≡ Some server → plain (cell.places volume) ≡ plain_replica volume (cell.made.acted.replicas server volume) (cell.replicas volume)
+  pub others : (number : ℕ) → ((volume server : ℕ) → cell.made.homes volume ≡ Some server → cell.places volume ≢ number) → plain number ≡ unmade
+
+-- The site, with the disks that the bay has and those that are out, stands for the cell.
+pub record IsSite {D : Type 0} (told : D → Told) (out : ℕ → Bool) (has : ℕ → Told) (cell : StoredCell) (site : Site D) : Type 0 where
+  pub clock : cell.made.clock ≡ site.clock
+  pub servers : cell.made.servers ≡ site.servers.items
+  pub homes : (volume : ℕ) → cell.made.homes volume ≡ option_map (λ (p : Place). p.server) (place_in site volume)
+  pub places : (volume : ℕ) → IfSome (place_in site volume) (λ p. cell.places volume ≡ p.disk)
+  pub areas : cell.areas ≡ site.areas
+  pub clients : FitsAll (client_form told) told is_client_disk out has site.clients (λ client. plain_client (cell.made.acted.clients client) (cell.clients client))
+  pub replicas : (plain : ℕ → PlainActor KeptEntry) × AreReplicas cell plain × FitsAll (replica_form told) told is_replica_disk out has site.replicas plain
+  pub net : IsNetwork cell.made.links cell.made.waiting cell.made.acted.posted site.net
+
+-- ---- what a site is, whatever it stands for
+
+-- Each disk that a slot has is out, and no other one; each actor that was made asks for a header of its kind; and the disks of replicas have the
+-- numbers of their places, each below that of the volume that is made next.
+pub record IsReady {D : Type 0} (told : D → Told) (out : ℕ → Bool) (site : Site D) : Type 0 where
+  pub clients : OutAll is_client_disk out site.clients
+  pub replicas : OutAll is_replica_disk out site.replicas
+  pub clients_own : OwnAll (client_form told) site.clients
+  pub replicas_own : OwnAll (replica_form told) site.replicas
+  pub few : length site.servers.items ≤ 64
+  pub places : (volume : ℕ) → IfSome (place_in site volume) (λ p. (256 ≤ p.disk) × (p.disk < 256 + 8 * length site.servers.items) × (1 ≤ p.server) × (p.server ≤ 8))
+  pub made : (number : ℕ) → is_made (slot_at site.replicas number) ≡ true → number < 256 + 8 * length site.servers.items
+  pub areas : site.areas ≤ 512
+
+-- ---- the actors that a line names, by the site
+
+abbrev pub client_at : {D : Type 0} → Site D → ℕ → Named
+client_at site client = record { number = client; there = is_made (slot_at site.clients client) }
+
+abbrev pub volume_at : {D : Type 0} → Site D → ℕ → Named
+volume_at site volume = record { number = volume; there = is_some (place_in site volume) }
+
+abbrev pub server_at : {D : Type 0} → Site D → ℕ → Named
+server_at site server = record { number = server; there = list_any (λ other. other == server) site.servers.items }
+
+abbrev pub holder_at : {D : Type 0} → Site D → ℕ → ℕ → Named
+holder_at site server volume = record { number = server; there = option_map_or (λ (p : Place). p.server == server) (place_in site volume) false }

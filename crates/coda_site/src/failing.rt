@@ -1,0 +1,116 @@
+// Lines that crash actors, recover them, or let their disks fail.
+use crate::fault::CellFault;
+use crate::replies::{no_such_actor, refuse, refuse_number};
+use crate::site::Site;
+use coda_actors::Mounting;
+use coda_crew::{arm, crash, is_up, recover};
+use coda_disk::Bay;
+use coda_script::{Refusal, Reply};
+use std::alloc::Global;
+
+// The reply to a recovery, by how its mounting ended.
+fn recovered(alloc: Global, mounting: Mounting) -> Result<Reply, CellFault> {
+    match mounting {
+        Mounting::Entries(entries) => Ok(Reply::Recovered { entries }),
+        Mounting::DiskFault => Ok(refuse(alloc, Refusal::DiskFault)),
+        Mounting::Foreign(at) => Ok(refuse_number(alloc, Refusal::Foreign, at)?),
+        Mounting::Memory => Err(CellFault::Memory),
+    }
+}
+
+/// Crashes a client: it is down, and its disk has one of the images that a crash may leave, by a choice.
+pub fn crash_client<B: Bay>(
+    bay: &mut B,
+    site: &mut Site<B::D>,
+    client: u8,
+    choice: u64,
+) -> Result<Reply, CellFault> {
+    if !site.has_client(client) {
+        return Ok(no_such_actor(site.alloc, u32::from(client))?);
+    }
+    crash(bay, &mut site.clients, u32::from(client), choice)?;
+    Ok(Reply::Crashed)
+}
+
+/// Crashes a server's replica of a volume likewise.
+pub fn crash_replica<B: Bay>(
+    bay: &mut B,
+    site: &mut Site<B::D>,
+    server: u8,
+    volume: u32,
+    choice: u64,
+) -> Result<Reply, CellFault> {
+    match site.place(volume) {
+        Some(place) if place.server == server => {
+            crash(bay, &mut site.replicas, place.disk, choice)?;
+            Ok(Reply::Crashed)
+        }
+        _ => Ok(no_such_actor(site.alloc, u32::from(server))?),
+    }
+}
+
+/// Recovers a client from its disk.
+pub fn recover_client<B: Bay>(
+    bay: &B,
+    site: &mut Site<B::D>,
+    client: u8,
+) -> Result<Reply, CellFault> {
+    if !site.has_client(client) {
+        return Ok(no_such_actor(site.alloc, u32::from(client))?);
+    }
+    let mounting = recover(site.alloc, bay, &mut site.clients, u32::from(client));
+    recovered(site.alloc, mounting)
+}
+
+/// Recovers a server's replica of a volume from its disk.
+pub fn recover_replica<B: Bay>(
+    bay: &B,
+    site: &mut Site<B::D>,
+    server: u8,
+    volume: u32,
+) -> Result<Reply, CellFault> {
+    match site.place(volume) {
+        Some(place) if place.server == server => {
+            let mounting = recover(site.alloc, bay, &mut site.replicas, place.disk);
+            recovered(site.alloc, mounting)
+        }
+        _ => Ok(no_such_actor(site.alloc, u32::from(server))?),
+    }
+}
+
+/// Lets so many further calls of a client's disk through; the next one and all after it fail until a crash.
+pub fn arm_client<B: Bay>(
+    bay: &B,
+    site: &mut Site<B::D>,
+    client: u8,
+    passes: u64,
+) -> Result<Reply, CellFault> {
+    if !site.has_client(client) {
+        return Ok(no_such_actor(site.alloc, u32::from(client))?);
+    }
+    if !is_up(&site.clients, u32::from(client)) {
+        return Ok(refuse(site.alloc, Refusal::Down));
+    }
+    arm(bay, &mut site.clients, u32::from(client), passes);
+    Ok(Reply::Accepted)
+}
+
+/// The same of the disk of a server's replica of a volume.
+pub fn arm_replica<B: Bay>(
+    bay: &B,
+    site: &mut Site<B::D>,
+    server: u8,
+    volume: u32,
+    passes: u64,
+) -> Result<Reply, CellFault> {
+    match site.place(volume) {
+        Some(place) if place.server == server => {
+            if !is_up(&site.replicas, place.disk) {
+                return Ok(refuse(site.alloc, Refusal::Down));
+            }
+            arm(bay, &mut site.replicas, place.disk, passes);
+            Ok(Reply::Accepted)
+        }
+        _ => Ok(no_such_actor(site.alloc, u32::from(server))?),
+    }
+}

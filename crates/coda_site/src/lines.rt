@@ -1,0 +1,186 @@
+// What a line of a script does in a cell.
+use crate::failing::{
+    arm_client, arm_replica, crash_client, crash_replica, recover_client, recover_replica,
+};
+use crate::fault::CellFault;
+use crate::links::set_strength;
+use crate::making::{make_client, make_volume};
+use crate::messages::{deliver, lose, send};
+use crate::replies::{no_such_actor, refuse};
+use crate::site::Site;
+use crate::tasks::{AGING_WINDOW, carry_out};
+use coda_crew::is_up;
+use coda_disk::Bay;
+use coda_script::{Line, Refusal, Reply, Strength, Task};
+
+// Whether a link may have this strength so far.
+fn is_plain(strength: Strength) -> bool {
+    match strength {
+        Strength::Strong => true,
+        Strength::Weak => false,
+        Strength::Down => true,
+    }
+}
+
+// Whether a task has a meaning so far.
+fn is_built_task(task: &Task) -> bool {
+    match task {
+        Task::Hardlink { .. } => false,
+        Task::Refresh { .. } => false,
+        Task::Giveup { .. } => false,
+        _ => true,
+    }
+}
+
+/// Whether a line has a meaning so far.
+pub fn is_built(line: &Line) -> bool {
+    match line {
+        Line::Volume { servers, .. } => servers.servers().len() == 1,
+        Line::Link { strength, .. } => is_plain(*strength),
+        Line::Task(task) => is_built_task(task),
+        Line::Client { .. } => true,
+        Line::Tick { .. } => true,
+        Line::ShowVolume { .. } => true,
+        Line::ShowLog { .. } => true,
+        Line::Send { .. } => true,
+        Line::Deliver { .. } => true,
+        Line::Lose { .. } => true,
+        Line::CrashClient { .. } => true,
+        Line::CrashReplica { .. } => true,
+        Line::RecoverClient { .. } => true,
+        Line::RecoverReplica { .. } => true,
+        Line::ArmClient { .. } => true,
+        Line::ArmReplica { .. } => true,
+        _ => false,
+    }
+}
+
+// The server of a volume that is on one alone.
+fn alone(servers: &[u8]) -> u8 {
+    match servers {
+        [] => 0,
+        [server, ..] => *server,
+    }
+}
+
+// Sets a link.
+fn set_link<B: Bay>(
+    _bay: &B,
+    site: &mut Site<B::D>,
+    client: u8,
+    server: u8,
+    strength: Strength,
+) -> Result<Reply, CellFault> {
+    if let Some(number) = site.missing_end(client, server) {
+        return Ok(no_such_actor(site.alloc, number)?);
+    }
+    if !is_up(&site.clients, u32::from(client)) {
+        return Ok(refuse(site.alloc, Refusal::Down));
+    }
+    match set_strength(&mut site.net, client, server, strength) {
+        Ok(()) => Ok(Reply::Accepted),
+        Err(_) => Err(CellFault::Memory),
+    }
+}
+
+// Lets time pass.
+fn tick<B: Bay>(_bay: &B, site: &mut Site<B::D>, seconds: u32) -> Reply {
+    site.clock = site.clock.saturating_add(u64::from(seconds));
+    Reply::Accepted
+}
+
+// Names a volume to be shown, where its server has it and is up.
+fn show_volume<B: Bay>(
+    _bay: &B,
+    site: &Site<B::D>,
+    server: u8,
+    volume: u32,
+) -> Result<Reply, CellFault> {
+    match site.place(volume) {
+        Some(place) if place.server == server => {
+            if !is_up(&site.replicas, place.disk) {
+                return Ok(refuse(site.alloc, Refusal::Down));
+            }
+            Ok(Reply::ShowVolume { server, volume })
+        }
+        _ => Ok(no_such_actor(site.alloc, u32::from(server))?),
+    }
+}
+
+// Names a log to be shown, where the client and the volume are there, and the client is up.
+fn show_log<B: Bay>(
+    _bay: &B,
+    site: &Site<B::D>,
+    client: u8,
+    volume: u32,
+) -> Result<Reply, CellFault> {
+    if let Some(number) = site.missing(client, volume) {
+        return Ok(no_such_actor(site.alloc, number)?);
+    }
+    if !is_up(&site.clients, u32::from(client)) {
+        return Ok(refuse(site.alloc, Refusal::Down));
+    }
+    Ok(Reply::ShowLog { client, volume })
+}
+
+// Lines of disks.
+fn fail<B: Bay>(bay: &mut B, site: &mut Site<B::D>, line: &Line) -> Result<Reply, CellFault> {
+    match line {
+        Line::CrashClient { client, choice } => crash_client(bay, site, *client, *choice),
+        Line::CrashReplica {
+            server,
+            volume,
+            choice,
+        } => crash_replica(bay, site, *server, *volume, *choice),
+        Line::RecoverClient { client } => recover_client(bay, site, *client),
+        Line::RecoverReplica { server, volume } => recover_replica(bay, site, *server, *volume),
+        Line::ArmClient { client, passes } => arm_client(bay, site, *client, *passes),
+        Line::ArmReplica {
+            server,
+            volume,
+            passes,
+        } => arm_replica(bay, site, *server, *volume, *passes),
+        _ => unreachable!(),
+    }
+}
+
+/// Carries out a line that is built, and answers its reply.
+pub fn step<B: Bay>(
+    bay: &mut B,
+    site: &mut Site<B::D>,
+    line: &Line,
+) -> Result<Reply, CellFault> {
+    match line {
+        Line::Volume {
+            volume,
+            servers,
+            area,
+        } => make_volume(bay, site, *volume, alone(servers.servers()), *area),
+        Line::Client {
+            client,
+            blocks,
+            area,
+        } => make_client(bay, site, *client, *blocks, *area),
+        Line::Link {
+            client,
+            server,
+            strength,
+        } => set_link(bay, site, *client, *server, *strength),
+        Line::Tick { seconds } => Ok(tick(bay, site, *seconds)),
+        Line::Task(task) => carry_out(bay, site, task),
+        Line::ShowVolume { server, volume } => show_volume(bay, site, *server, *volume),
+        Line::ShowLog { client, volume } => show_log(bay, site, *client, *volume),
+        Line::Send {
+            client,
+            volume,
+            server,
+            window,
+        } => {
+            let window = window.unwrap_or(AGING_WINDOW);
+            send(bay, site, *client, *volume, *server, window)
+        }
+        Line::Deliver { message } => deliver(bay, site, *message),
+        Line::Lose { message } => lose(bay, site, *message),
+        _ => fail(bay, site, line),
+    }
+}

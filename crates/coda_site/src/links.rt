@@ -1,0 +1,44 @@
+// The links between clients and servers, as lines name them.
+ghost use Rattle.std.specs.Prelude.{◌≡◌, ℕ, OnOk};
+ghost use Rattle.coda_cell.specs.Cells.{linked_in, strength_of};
+ghost use Rattle.coda_cell.specs.State.{linked};
+
+use coda_net::{Net, NetFault};
+use coda_script::Strength;
+use coda_state::Link;
+
+// A link of this strength.
+fn link_of(strength: Strength) -> Link
+    ensures { strength_of result ≡ strength }
+{
+    match strength {
+        Strength::Strong => Link::Strong,
+        Strength::Weak => Link::Weak,
+        Strength::Down => Link::Down,
+    }
+}
+
+/// How well a client reaches a server. A link that wasn't set is down.
+pub fn strength(net: &Net, client: u8, server: u8) -> Strength
+    ensures { result ≡ linked_in net.now client server }
+{
+    match net.link(client, server) {
+        Link::Strong => Strength::Strong,
+        Link::Weak => Strength::Weak,
+        Link::Down => Strength::Down,
+    }
+}
+
+/// Sets the strength of a link. Fails for want of memory alone.
+pub fn set_strength(
+    net: &mut Net,
+    client: u8,
+    server: u8,
+    strength: Strength,
+) -> Result<(), NetFault>
+    ensures links { OnOk result ((c s : ℕ) → linked_in net.new c s ≡ linked (linked_in net.old) client server strength c s) }
+    ensures letters { net.new.letters ≡ net.old.letters }
+    ensures posted { net.new.posted ≡ net.old.posted }
+{
+    net.set_link(client, server, link_of(strength))
+}
