@@ -16,7 +16,7 @@ use crate::fault::CellFault;
 use crate::lines::step;
 use crate::site::Site;
 use coda_cml::Log;
-use coda_crew::{get, give_back};
+use coda_crew::{get, give_back, unmade};
 use coda_disk::Bay;
 use coda_net::Net;
 use coda_script::{Line, Reply};
@@ -42,6 +42,8 @@ impl<B: Bay> Cell<B> {
         ensures posted { result.site.net.posted ≡ 0 }
         ensures stands { AreBlank (B.has result.bay) → IsSite B.D.told (B.out result.bay) (B.has result.bay) nothing_stored result.site }
     {
+        let clients = unmade(alloc, &bay);
+        let replicas = unmade(alloc, &bay);
         Cell {
             bay,
             site: Site {
@@ -50,8 +52,8 @@ impl<B: Bay> Cell<B> {
                 servers: Vec::new(alloc),
                 places: BTreeMap::new(alloc),
                 areas: 0,
-                clients: BTreeMap::new(alloc),
-                replicas: BTreeMap::new(alloc),
+                clients,
+                replicas,
                 net: Net::new(alloc),
             },
         }
