@@ -1,1 +1,3 @@
 pub mod ClientSites
+pub mod Slots
+pub mod ReplicaSites
