@@ -1,2 +1,4 @@
 pub mod Sites
 pub mod Steps
+pub mod Calls
+pub mod Drains
