@@ -1,1 +1,5 @@
 pub mod ClientSites
+pub mod Theres
+pub mod Becomings
+pub mod Clocks
+pub mod Calls
