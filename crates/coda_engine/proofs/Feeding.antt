@@ -10,7 +10,7 @@ use Rattle.coda_engine.specs.Machine.{Gives, Refuses}
 use Rattle.coda_engine.specs.Run.{Ran, BrokeOff, Answers}
 use Rattle.coda_engine.specs.Reading.{Place, HasRoom, IsFull, Stands, StopsAmong, Advances, Stops, Ends, LineStops}
 use Rattle.coda_engine.specs.declared.status.Status.{Status}
-use Rattle.coda_engine.specs.declared.status.Status.TheVariants.{Done, Usage, Script, SourceFault, SinkFault, TooLong, Memory}
+use Rattle.coda_engine.specs.declared.status.Status.TheVariants.{Done, Usage, Script, SourceFault, SinkFault, TooLong, BayFault, Memory}
 use Rattle.coda_engine.proofs.Splitting.{lines-more, lines-last}
 use Rattle.coda_engine.proofs.Standing.{runs_more, whole_of, ran_more, stands_byte, stands_line, stop_long, stop_script, stop_sink, stop_memory}
 
@@ -77,6 +77,8 @@ stops_more gives refuses most start new read written more outside TooLong h = (
   (h.3.0, h.3.1, h.3.2 ++ more, rw (h.3.3, append_assoc h.3.0 (h.3.1 ∷ h.3.2) more) refl, h.3.4, h.3.5, h.3.6),
 )
 stops_more gives refuses most start new read written more outside SinkFault h = (h.0, h.1 ++ more, broke_more read h.0 h.1 written more outside new h.2, h.3)
+stops_more gives refuses most start new read written more outside BayFault h =
+    (h.0, (h.1.0, h.1.1 ++ more, h.1.2, ran_more false read h.1.0 h.1.1 h.1.2 more outside h.0 h.1.3, h.1.4))
 stops_more gives refuses most start new read written more outside Memory h =
     (h.0, (h.1.0, h.1.1 ++ more, h.1.2, ran_more false read h.1.0 h.1.1 h.1.2 more outside h.0 h.1.3, h.1.4))
 
@@ -129,6 +131,7 @@ answers_all gives refuses most start new all read written outside (Script line c
     (h.0, h.1, h.2, h.3, elim h.4 [ inl n ↦ inl n | inr n ↦ absurd (false≢true n.0) ], h.5, h.6)
 answers_all gives refuses most start new all read written outside TooLong h = h
 answers_all gives refuses most start new all read written outside SinkFault h = (h.0, h.1, broke_all all read h.0 h.1 written outside new h.2)
+answers_all gives refuses most start new all read written outside BayFault h = (h.0, (h.1.0, h.1.1, h.1.2, ran_all all read h.1.0 h.1.1 h.1.2 outside h.0 h.1.3, h.1.4))
 answers_all gives refuses most start new all read written outside Memory h = (h.0, (h.1.0, h.1.1, h.1.2, ran_all all read h.1.0 h.1.1 h.1.2 outside h.0 h.1.3, h.1.4))
 
 -- a list of no length is empty, and others aren't
@@ -208,6 +211,13 @@ ends_stop gives refuses a b p new SinkFault some h = (
   h.5,
   λ start read report outside s. (read, [], last_broke read report h.0 h.1 outside h.2 new p s some h.3 h.4),
 )
+ends_stop gives refuses a b p new BayFault some h = (
+  [],
+  [],
+  h,
+  λ start read report outside s. rw (append-nil report, append-nil outside)
+      (p.state, (s.front, p.pending, report, ran_all true read s.front p.pending report outside p.state s.ran, ([], rw (append-nil report) refl))),
+)
 ends_stop gives refuses a b p new Memory some h = (
   [],
   [],
@@ -237,6 +247,10 @@ pub memory_stops : {M : Type 0} (gives : Gives M) (refuses : Refuses M) (a b : O
     → Stops gives refuses 0 a b p new bs Memory
 memory_stops gives refuses a b p new bs held = ([], [], held, λ start read report outside s. stop_memory gives refuses new read report bs outside p s)
 
+pub bay_stops : {M : Type 0} (gives : Gives M) (refuses : Refuses M) (a b : Option (List ℕ)) (p : Place M) (new : M) (bs : List ℕ) → Appends a b []
+    → Stops gives refuses 0 a b p new bs BayFault
+bay_stops gives refuses a b p new bs held = ([], [], held, λ start read report outside s. stop_memory gives refuses new read report bs outside p s)
+
 pub line_stops : {M : Type 0} (gives : Gives M) (refuses : Refuses M) (a b : Option (List ℕ)) (p : Place M) (new : M) (status : Status) → HasRoom p.pending p.lines p.bytes
     → LineStops gives refuses a b p.state new (strip_carriage_return p.pending) (p.lines + 1) status → Stops gives refuses 0 a b p new (10 ∷ []) status
 line_stops gives refuses a b p new Done free h = absurd h
@@ -247,4 +261,5 @@ line_stops gives refuses a b p new (Script line column kind) free h =
     ([], [], h.0, λ start read report outside s. rw (h.1, h.3) (stop_script gives refuses read report outside column kind p s free h.2))
 line_stops gives refuses a b p new SinkFault free h =
     (h.0, h.2, h.5, λ start read report outside s. stop_sink gives refuses read report h.0 h.1 outside h.2 new p s free h.3 h.4)
+line_stops gives refuses a b p new BayFault free h = bay_stops gives refuses a b p new (10 ∷ []) h
 line_stops gives refuses a b p new Memory free h = memory_stops gives refuses a b p new (10 ∷ []) h

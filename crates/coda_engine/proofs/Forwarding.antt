@@ -9,7 +9,7 @@ use Rattle.coda_engine.specs.Run.{Runs, Ran, BrokeOff}
 use Rattle.coda_engine.specs.Reading.{Place, HasRoom, IsFull, Stands, StopsAmong, Advances, Stops, Ends, LineStops}
 use Rattle.coda_engine.specs.Gathering.{Forwards, LineHalts, Gathers, Halts, IsClosed, Closes}
 use Rattle.coda_engine.specs.declared.status.Status.{Status}
-use Rattle.coda_engine.specs.declared.status.Status.TheVariants.{Done, Usage, Script, SourceFault, SinkFault, TooLong, Memory}
+use Rattle.coda_engine.specs.declared.status.Status.TheVariants.{Done, Usage, Script, SourceFault, SinkFault, TooLong, BayFault, Memory}
 use Rattle.coda_engine.proofs.Feeding.{advances_none, advances_more, advances_stop, byte_advances, line_advances, full_stops, memory_stops, line_stops, ends_last, ends_stop}
 
 -- ---- what waits behind what was sent
@@ -281,6 +281,10 @@ among_closed gives refuses start new read all written left outside SinkFault las
     let Among : Status → Type 0 = λ s. StopsAmong gives refuses 65536 start new read written outside s in
     let broke = broke_earlier read h.0 h.1 all written left outside new (h.2, h.3) e few in
     subst Among (sym close) (h.0, h.1, broke.0, broke.1)
+among_closed gives refuses start new read all written left outside BayFault last h e few close =
+    let Among : Status → Type 0 = λ s. StopsAmong gives refuses 65536 start new read written outside s in
+    let cut = h.1.4 in
+    subst Among (sym close) (h.0, (h.1.0, h.1.1, h.1.2, h.1.3, (left ++ cut.0, rw (cut.1, e, append_assoc written left cut.0) refl)))
 among_closed gives refuses start new read all written left outside Memory last h e few close =
     let Among : Status → Type 0 = λ s. StopsAmong gives refuses 65536 start new read written outside s in
     let cut = h.1.4 in
@@ -313,6 +317,9 @@ line_sent gives refuses a b v w old new line number TooLong first h = absurd h.2
 line_sent gives refuses a b v w old new line number (Script at column kind) first h =
     let Sent : List ℕ → Type 0 = λ sent. Appends a b sent in
     (subst Sent (none_sent h.0 v w first h.2.0) h.1, h.2.1, h.2.2, h.2.3)
+line_sent gives refuses a b v w old new line number BayFault first h =
+    let Sent : List ℕ → Type 0 = λ sent. Appends a b sent in
+    subst Sent (none_sent h.0 v w first h.2) h.1
 line_sent gives refuses a b v w old new line number Memory first h =
     let Sent : List ℕ → Type 0 = λ sent. Appends a b sent in
     subst Sent (none_sent h.0 v w first h.2) h.1

@@ -5,7 +5,7 @@ use Rattle.std.proofs.lemmas.List.{append-nil}
 use Rattle.coda_engine.specs.Machine.{Gives, Refuses}
 use Rattle.coda_engine.specs.Run.{Runs, IsNext}
 use Rattle.coda_engine.specs.Exact.{TellsApart, CleanScriptsRun}
-use Rattle.coda_engine.specs.declared.status.Status.TheVariants.{Done, Usage, Script, SourceFault, SinkFault, TooLong, Memory}
+use Rattle.coda_engine.specs.declared.status.Status.TheVariants.{Done, Usage, Script, SourceFault, SinkFault, TooLong, BayFault, Memory}
 use Rattle.coda_engine.proofs.Splitting.{lines-more, lines-ended, lines-last}
 use Rattle.coda_engine.proofs.Standing.{whole_of}
 use Rattle.coda_engine.proofs.Limits.{within_front}
@@ -35,6 +35,7 @@ pub clean_scripts_run : {M : Type 0} {Alike : M → M → Type 0} {gives : Gives
 clean_scripts_run tells start start' alike script read rest written outside new all Done e whole clean a = tt
 clean_scripts_run tells start start' alike script read rest written outside new all SourceFault e whole clean a = tt
 clean_scripts_run tells start start' alike script read rest written outside new all SinkFault e whole clean a = tt
+clean_scripts_run tells start start' alike script read rest written outside new all BayFault e whole clean a = tt
 clean_scripts_run tells start start' alike script read rest written outside new all Memory e whole clean a = tt
 clean_scripts_run tells start start' alike script read rest written outside new all Usage e whole clean a = a
 clean_scripts_run tells start start' alike script read rest written outside new all TooLong e whole clean a =

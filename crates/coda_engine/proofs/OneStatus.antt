@@ -8,7 +8,7 @@ use Rattle.coda_engine.specs.Machine.{Gives, Refuses}
 use Rattle.coda_engine.specs.Run.{Runs, Answers}
 use Rattle.coda_engine.specs.Exact.{TellsApart, IsClean, OneStatus}
 use Rattle.coda_engine.specs.declared.status.Kind.{Kind}
-use Rattle.coda_engine.specs.declared.status.Status.TheVariants.{Done, Usage, Script, SourceFault, SinkFault, TooLong, Memory}
+use Rattle.coda_engine.specs.declared.status.Status.TheVariants.{Done, Usage, Script, SourceFault, SinkFault, TooLong, BayFault, Memory}
 use Rattle.coda_engine.proofs.Splitting.{lines-more, lines-ended}
 use Rattle.coda_engine.proofs.Standing.{whole_of}
 use Rattle.coda_engine.proofs.Limits.{within_front}
@@ -230,9 +230,11 @@ one_status {gives = gives} {refuses = refuses} tells s t alike back script read 
     one_stop tells s t alike back script l m c d k j (stops_at gives refuses s new script read rest written o all l c k e w a) (stops_at gives refuses t new' script read' rest' written' o' all' m d j e' w' a')
 one_status tells s t alike back script read rest written read' rest' written' o o' new new' all all' SourceFault status e w a i e' w' a' i' = absurd i
 one_status tells s t alike back script read rest written read' rest' written' o o' new new' all all' SinkFault status e w a i e' w' a' i' = absurd i
+one_status tells s t alike back script read rest written read' rest' written' o o' new new' all all' BayFault status e w a i e' w' a' i' = absurd i
 one_status tells s t alike back script read rest written read' rest' written' o o' new new' all all' Memory status e w a i e' w' a' i' = absurd i
 one_status tells s t alike back script read rest written read' rest' written' o o' new new' all all' Usage status e w a i e' w' a' i' = absurd i
 one_status tells s t alike back script read rest written read' rest' written' o o' new new' all all' status SourceFault e w a i e' w' a' i' = absurd i'
 one_status tells s t alike back script read rest written read' rest' written' o o' new new' all all' status SinkFault e w a i e' w' a' i' = absurd i'
+one_status tells s t alike back script read rest written read' rest' written' o o' new new' all all' status BayFault e w a i e' w' a' i' = absurd i'
 one_status tells s t alike back script read rest written read' rest' written' o o' new new' all all' status Memory e w a i e' w' a' i' = absurd i'
 one_status tells s t alike back script read rest written read' rest' written' o o' new new' all all' status Usage e w a i e' w' a' i' = absurd i'

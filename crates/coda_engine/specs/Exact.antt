@@ -6,7 +6,7 @@ use Rattle.coda_engine.specs.Machine.{Gives, Refuses}
 use Rattle.coda_engine.specs.Run.{Runs, Answers}
 use Rattle.coda_engine.specs.declared.status.Kind.{Kind}
 use Rattle.coda_engine.specs.declared.status.Status.{Status}
-use Rattle.coda_engine.specs.declared.status.Status.TheVariants.{Done, Usage, Script, SourceFault, SinkFault, TooLong, Memory}
+use Rattle.coda_engine.specs.declared.status.Status.TheVariants.{Done, Usage, Script, SourceFault, SinkFault, TooLong, BayFault, Memory}
 
 -- States that are alike refuse the same lines: a state is alike itself; states that are alike stay so by one line; a line that
 -- one of them may run isn't refused in the other; and what both refuse they refuse at one column for one reason.
@@ -26,6 +26,7 @@ abbrev pub IsDoneOrFault : Status → Type 0
 IsDoneOrFault Done = Unit {0}
 IsDoneOrFault SourceFault = Unit {0}
 IsDoneOrFault SinkFault = Unit {0}
+IsDoneOrFault BayFault = Unit {0}
 IsDoneOrFault Memory = Unit {0}
 IsDoneOrFault Usage = ⊥
 IsDoneOrFault TooLong = ⊥
@@ -45,6 +46,7 @@ IsByScript TooLong = Unit {0}
 IsByScript (Script line column kind) = Unit {0}
 IsByScript SourceFault = ⊥
 IsByScript SinkFault = ⊥
+IsByScript BayFault = ⊥
 IsByScript Memory = ⊥
 IsByScript Usage = ⊥
 

@@ -4,7 +4,7 @@ use Rattle.std.specs.Io.KnownBytes.{Appends}
 use Rattle.coda_engine.specs.Machine.{Gives, Refuses}
 use Rattle.coda_engine.specs.Reading.{Place, LineStops, Advances, Stops}
 use Rattle.coda_engine.specs.declared.status.Status.{Status}
-use Rattle.coda_engine.specs.declared.status.Status.TheVariants.{Done, Usage, Script, SourceFault, SinkFault, TooLong, Memory}
+use Rattle.coda_engine.specs.declared.status.Status.TheVariants.{Done, Usage, Script, SourceFault, SinkFault, TooLong, BayFault, Memory}
 
 -- This text came behind the replies that waited, and the sink got what waits no more.
 abbrev pub Forwards : Option (List ℕ) → Option (List ℕ) → List ℕ → List ℕ → List ℕ → Type 0
@@ -34,6 +34,7 @@ IsClosed status left last = ((last ≡ status) × (left ≡ [])) ⊎ ((last ≡ 
 -- asked to take them.
 abbrev pub Closes : Status → List ℕ → Status → Type 0
 Closes SinkFault left last = last ≡ SinkFault
+Closes BayFault left last = last ≡ BayFault
 Closes Memory left last = last ≡ Memory
 Closes Done left last = IsClosed Done left last
 Closes Usage left last = IsClosed Usage left last

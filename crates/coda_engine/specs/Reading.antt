@@ -6,7 +6,7 @@ use Rattle.coda_engine.specs.Lines.{HasNoNewline, IsWithinLimits}
 use Rattle.coda_engine.specs.Machine.{Gives, Refuses}
 use Rattle.coda_engine.specs.Run.{Ran, BrokeOff, Answers}
 use Rattle.coda_engine.specs.declared.status.Status.{Status}
-use Rattle.coda_engine.specs.declared.status.Status.TheVariants.{Done, Usage, Script, SourceFault, SinkFault, TooLong, Memory}
+use Rattle.coda_engine.specs.declared.status.Status.TheVariants.{Done, Usage, Script, SourceFault, SinkFault, TooLong, BayFault, Memory}
 
 -- The line with this number may end the run that was at old and is at new, with this status.
 abbrev pub LineStops : {M : Type 0} → Gives M → Refuses M → Option (List ℕ) → Option (List ℕ) → M → M → List ℕ → ℕ → Status → Type 0
@@ -15,6 +15,7 @@ LineStops gives refuses held_old held_new old new line number (Script at column 
 LineStops gives refuses held_old held_new old new line number SinkFault =
     (part : List ℕ) × (missing : List ℕ) × (answered : List (List ℕ)) × gives old line (part ++ missing) answered new × (missing ≢ [])
     × Appends held_old held_new part
+LineStops gives refuses held_old held_new old new line number BayFault = Appends held_old held_new []
 LineStops gives refuses held_old held_new old new line number Memory = Appends held_old held_new []
 LineStops gives refuses held_old held_new old new line number Done = ⊥
 LineStops gives refuses held_old held_new old new line number Usage = ⊥
@@ -63,6 +64,7 @@ StopsAmong gives refuses most start new read written outside (Script line column
 StopsAmong gives refuses most start new read written outside SinkFault =
     (front : List ℕ) × (rest : List ℕ) × (broke : BrokeOff gives start false read front rest written outside new) × (length broke.report ≤ length written + most)
 StopsAmong gives refuses most start new read written outside TooLong = Answers gives refuses start new false read written outside TooLong
+StopsAmong gives refuses most start new read written outside BayFault = Answers gives refuses start new false read written outside BayFault
 StopsAmong gives refuses most start new read written outside Memory = Answers gives refuses start new false read written outside Memory
 
 -- The run ended among these further bytes, and left the machine at new. Where the sink refused, at most so many bytes are missing of

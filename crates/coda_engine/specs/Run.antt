@@ -5,7 +5,7 @@ use Rattle.std.specs.Str.Lines.{lines, strip_carriage_return}
 use Rattle.coda_engine.specs.Lines.{HasNoNewline, IsWholeLines, IsWithinLimits}
 use Rattle.coda_engine.specs.Machine.{Gives, Refuses}
 use Rattle.coda_engine.specs.declared.status.Status.{Status}
-use Rattle.coda_engine.specs.declared.status.Status.TheVariants.{Done, Usage, Script, SourceFault, SinkFault, TooLong, Memory}
+use Rattle.coda_engine.specs.declared.status.Status.TheVariants.{Done, Usage, Script, SourceFault, SinkFault, TooLong, BayFault, Memory}
 
 -- From old, the machine may run these lines in order, with this report and these answers of the outside, and be new then.
 abbrev pub Runs : {M : Type 0} → Gives M → M → List (List ℕ) → List ℕ → List (List ℕ) → M → Type 0
@@ -84,7 +84,8 @@ Answers gives refuses start new all read written outside SourceFault =
 -- some whole lines ran, and not all of their report was written
 Answers gives refuses start new all read written outside SinkFault =
     (front : List ℕ) × (rest : List ℕ) × BrokeOff gives start all read front rest written outside new
--- some whole lines ran; what the machine is after the line that found no memory isn't said
+-- some whole lines ran; what the machine is after the line that met a fault of the bay, or found no memory, isn't said
+Answers {M} gives refuses start new all read written outside BayFault = (state : M) × IsCutShort gives start state all read written outside
 Answers {M} gives refuses start new all read written outside Memory = (state : M) × IsCutShort gives start state all read written outside
 -- a run has other statuses
 Answers gives refuses start new all read written outside Usage = ⊥

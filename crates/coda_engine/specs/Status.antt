@@ -4,7 +4,7 @@ use Rattle.std.specs.Fmt.{decimal}
 use Rattle.coda_engine.specs.declared.status.Kind.{Kind}
 use Rattle.coda_engine.specs.declared.status.Kind.TheVariants.{Word, Number, Text, Path, Count, Mode, Actors}
 use Rattle.coda_engine.specs.declared.status.Status.{Status}
-use Rattle.coda_engine.specs.declared.status.Status.TheVariants.{Done, Usage, Script, SourceFault, SinkFault, TooLong, Memory}
+use Rattle.coda_engine.specs.declared.status.Status.TheVariants.{Done, Usage, Script, SourceFault, SinkFault, TooLong, BayFault, Memory}
 
 -- the exit code of a status
 abbrev pub code_of : Status → ℕ
@@ -14,6 +14,7 @@ code_of (Script line column kind) = 3
 code_of SourceFault = 4
 code_of SinkFault = 5
 code_of TooLong = 7
+code_of BayFault = 6
 code_of Memory = 8
 
 -- the word of a kind
@@ -35,4 +36,5 @@ text_of (Script line column kind) =
 text_of SourceFault = codes "coda: read fault"
 text_of SinkFault = codes "coda: write fault"
 text_of TooLong = codes "coda: script too long"
+text_of BayFault = codes "coda: bay fault"
 text_of Memory = codes "coda: out of memory"

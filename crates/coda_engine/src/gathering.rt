@@ -86,7 +86,7 @@ impl Gathered {
     }
 
     /// Writes what waits where the run ends with this status, and answers how it ends then: a write that is refused makes
-    /// it `SinkFault`, but for `Memory`, which stays. After a `SinkFault` nothing more is written.
+    /// it `SinkFault`, but for `BayFault` and `Memory`, which stay. After a `SinkFault` nothing more is written.
     pub fn close<K: Sink>(&mut self, status: Status, sink: &mut K) -> Status
         ensures sent { Forwards (K.held sink.old) (K.held sink.new) (waiting self.old) (waiting self.new) [] }
         ensures closes { Closes status (waiting self.new) result }
@@ -95,6 +95,10 @@ impl Gathered {
     {
         match status {
             Status::SinkFault => Status::SinkFault,
+            Status::BayFault => {
+                let _ = self.flush(sink);
+                Status::BayFault
+            }
             Status::Memory => {
                 let _ = self.flush(sink);
                 Status::Memory

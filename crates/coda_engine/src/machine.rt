@@ -16,13 +16,16 @@ pub struct LineFault {
 pub enum LineStop {
     /// The line isn't in the language, or not in this state.
     Refused(LineFault),
+    /// The bay refused a disk, or a crash.
+    Bay,
     /// There was no memory.
     Memory,
 }
 
 /// What runs the lines of a script, one after another.
 pub trait Machine {
-    ghost use Rattle.std.specs.Prelude.{ℕ, ◌≤◌, ◌+◌, List, IfOk, IfErr, OnOk};
+    ghost use Rattle.std.specs.Prelude.{ℕ, ◌≤◌, ◌≡◌, ◌+◌, List, IfOk, IfErr, OnOk, Err};
+    ghost use Rattle.coda_io.specs.Faults.{Rose};
     ghost use Rattle.coda_engine.specs.declared.status.Kind.{Kind};
     ghost use Rattle.coda_engine.specs.Machine.{HasReason};
 
@@ -33,18 +36,34 @@ pub trait Machine {
     // In this state the line is refused at this column, for this.
     ghost refuses: { Self → List ℕ → ℕ → Kind → Type 0 };
 
+    // How many calls the bay refused, up to the end of the count's type.
+    ghost faults: { Self → ℕ };
+
     // After so many lines the machine may run another.
     ghost ready: { Self → ℕ → Type 0 };
+
+    // The second is the first after some lines, of which the last may have stopped.
+    ghost follows: { Self → Self → Type 0 };
 
     /// Runs a line, which has no newline, and answers the bytes of its reply: none, or lines that each have their
     /// newline. A script has at most 16,777,216 lines.
     ///
     /// # Errors
     ///
-    /// `Refused` where the machine refuses the line; nothing has changed then. `Memory` where there was no memory.
+    /// `Refused` where the machine refuses the line; nothing has changed then. `Bay` where the bay refused a call:
+    /// its count of faults rose. `Memory` where there was no memory.
     fn run(&mut self, alloc: Global, line: &[u8]) -> Result<Vec<u8>, LineStop>
         requires { (lines : ℕ) × (lines ≤ 16777216) × ready self.old lines }
         ensures ready { OnOk result ((lines : ℕ) → ready self.old lines → ready self.new (lines + 1)) }
         ensures ok { IfOk result (λ text. (outside : List (List ℕ)) × gives self.old line.now text.items outside self.new) }
-        ensures reason { IfErr result (HasReason refuses self.old line.now self.new) };
+        ensures reason { IfErr result (HasReason refuses self.old line.now self.new) }
+        ensures later { faults self.old ≤ faults self.new }
+        ensures follows { follows self.old self.new }
+        ensures bay_fault { result ≡ Err LineStop.Bay → Rose (faults self.old) (faults self.new) };
+
+    // A machine follows itself.
+    ghost same: { (a : Self) → follows a a };
+
+    // What follows goes on.
+    ghost then: { (a b c : Self) → follows a b → follows b c → follows a c };
 }

@@ -1,5 +1,6 @@
 // The reading of a script, byte by byte.
-ghost use Rattle.std.specs.Prelude.{◌≡◌, ◌≤◌, ℕ, ◌+◌, List, IfErr, OnOk, Err};
+ghost use Rattle.std.specs.Prelude.{◌≡◌, ◌≤◌, ℕ, ◌+◌, List, length, take, IfErr, OnOk, Err};
+ghost use Rattle.coda_engine.specs.Lines.{HasNoNewline};
 ghost use Rattle.std.specs.Str.Lines.{strip_carriage_return};
 ghost use Rattle.coda_io.specs.Faults.{Rose};
 ghost use Rattle.coda_engine.specs.Gathering.{Forwards, LineHalts};
@@ -9,7 +10,7 @@ use crate::gathering::Gathered;
 use crate::machine::{LineStop, Machine};
 use crate::status::Status;
 use coda_io::Sink;
-use std::alloc::Global;
+use std::alloc::{AllocError, Global};
 
 const NEWLINE: u8 = 10;
 
@@ -28,6 +29,18 @@ pub struct Reader {
     bytes: u32,
     ghost counted: { lines ≤ bytes },
     ghost few: { bytes ≤ 16777216 },
+}
+
+// How many bytes stand before the first newline.
+fn front_of(bytes: &[u8]) -> usize
+    ensures within { result ≤ length bytes.now }
+    ensures front { HasNoNewline (take result bytes.now) }
+{
+    let mut count = 0;
+    while count < bytes.len() && bytes[count] != NEWLINE {
+        count += 1;
+    }
+    count
 }
 
 // The line without the carriage return at its end.
@@ -56,6 +69,9 @@ fn run_line<M: Machine, K: Sink>(
     ensures stops { IfErr result (LineHalts M.gives M.refuses (K.held sink.old) (K.held sink.new) (waiting gathered.old) (waiting gathered.new) machine.old machine.new line.now number) }
     ensures later { K.faults sink.old ≤ K.faults sink.new }
     ensures sink_fault { result ≡ Err Status.SinkFault → Rose (K.faults sink.old) (K.faults sink.new) }
+    ensures bay_later { M.faults machine.old ≤ M.faults machine.new }
+    ensures follows { M.follows machine.old machine.new }
+    ensures bay_fault { result ≡ Err Status.BayFault → Rose (M.faults machine.old) (M.faults machine.new) }
 {
     match machine.run(alloc, line) {
         Ok(text) => match gathered.add(&text, sink) {
@@ -67,12 +83,14 @@ fn run_line<M: Machine, K: Sink>(
             column: fault.column,
             kind: fault.kind,
         }),
+        Err(LineStop::Bay) => Err(Status::BayFault),
         Err(LineStop::Memory) => Err(Status::Memory),
     }
 }
 
 impl Reader {
-    ghost use Rattle.std.specs.Prelude.{◌≡◌, ◌<◌, ◌≤◌, ◌+◌, ◌∷◌, [], IfErr, OnOk, Err, MatchBool};
+    ghost use Rattle.std.specs.Prelude.{◌≡◌, ◌<◌, ◌≤◌, ◌+◌, ◌∷◌, ◌++◌, [], length, take, IfOk, IfErr, OnOk, Err, IsErrOf, MatchBool};
+    ghost use Rattle.coda_engine.specs.Lines.{HasNoNewline};
     ghost use Rattle.coda_io.specs.Faults.{Rose};
     ghost use Rattle.coda_engine.specs.Reading.{HasRoom, IsFull, Advances, Stops, Ends};
     ghost use Rattle.coda_engine.specs.Gathering.{Gathers, Halts};
@@ -124,6 +142,9 @@ impl Reader {
         ensures stops { IfErr result (Halts M.gives M.refuses (K.held sink.old) (K.held sink.new) (waiting gathered.old) (waiting gathered.new) (place machine.old self.old) machine.new (10 ∷ [])) }
         ensures later { K.faults sink.old ≤ K.faults sink.new }
         ensures sink_fault { result ≡ Err Status.SinkFault → Rose (K.faults sink.old) (K.faults sink.new) }
+        ensures bay_later { M.faults machine.old ≤ M.faults machine.new }
+        ensures follows { M.follows machine.old machine.new }
+        ensures bay_fault { result ≡ Err Status.BayFault → Rose (M.faults machine.old) (M.faults machine.new) }
     {
         let line = without_carriage_return(&self.pending);
         run_line(self.alloc, machine, self.lines + 1, line, gathered, sink)?;
@@ -147,6 +168,9 @@ impl Reader {
         ensures stops { IfErr result (Halts M.gives M.refuses (K.held sink.old) (K.held sink.new) (waiting gathered.old) (waiting gathered.new) (place machine.old self.old) machine.new (byte ∷ [])) }
         ensures later { K.faults sink.old ≤ K.faults sink.new }
         ensures sink_fault { result ≡ Err Status.SinkFault → Rose (K.faults sink.old) (K.faults sink.new) }
+        ensures bay_later { M.faults machine.old ≤ M.faults machine.new }
+        ensures follows { M.follows machine.old machine.new }
+        ensures bay_fault { result ≡ Err Status.BayFault → Rose (M.faults machine.old) (M.faults machine.new) }
     {
         if self.is_full() {
             return Err(Status::TooLong);
@@ -159,6 +183,63 @@ impl Reader {
         }
         self.bytes += 1;
         Ok(())
+    }
+
+    // How many bytes in front of these the line under way takes at once: none of them is a newline, and none passes a limit.
+    fn fitting(&self, bytes: &[u8]) -> usize
+        ensures within { result ≤ length bytes.now }
+        ensures front { HasNoNewline (take result bytes.now) }
+        ensures room { self.now.bytes + result ≤ 16777216 }
+        ensures count { 0 < result → self.now.pending.items ≡ [] → self.now.lines < 200000 }
+    {
+        if self.is_full() {
+            return 0;
+        }
+        front_of(bytes).min((MAX_BYTES - self.bytes) as usize)
+    }
+
+    // Takes bytes of the line under way.
+    fn take_front(&mut self, front: &[u8]) -> Result<(), AllocError>
+        requires room { self.old.bytes + length front.now ≤ 16777216 }
+        ensures pending { OnOk result (self.new.pending.items ≡ self.old.pending.items ++ front.now) }
+        ensures bytes { OnOk result (self.new.bytes ≡ self.old.bytes + length front.now) }
+        ensures lines { self.new.lines ≡ self.old.lines }
+    {
+        self.pending.extend_from_slice(front)?;
+        self.bytes += front.len() as u32;
+        Ok(())
+    }
+
+    // Takes what is next of a piece of the script, and answers how many bytes that was: those in front of a newline that fit, or one.
+    fn take_next<M: Machine, K: Sink>(
+        &mut self,
+        machine: &mut M,
+        piece: &[u8],
+        gathered: &mut Gathered,
+        sink: &mut K,
+    ) -> Result<usize, Status>
+        requires some { 0 < length piece.now }
+        requires ready { M.ready machine.old self.old.lines }
+        ensures some { IfOk result (λ count. 0 < count) }
+        ensures within { IfOk result (λ count. count ≤ length piece.now) }
+        ensures ready { OnOk result (M.ready machine.new self.new.lines) }
+        ensures ok { IfOk result (λ count. Gathers M.gives (K.held sink.old) (K.held sink.new) (waiting gathered.old) (waiting gathered.new) (place machine.old self.old) (take count piece.now) (place machine.new self.new)) }
+        ensures stops { IfErr result (Halts M.gives M.refuses (K.held sink.old) (K.held sink.new) (waiting gathered.old) (waiting gathered.new) (place machine.old self.old) machine.new piece.now) }
+        ensures later { K.faults sink.old ≤ K.faults sink.new }
+        ensures sink_fault { IsErrOf result Status.SinkFault → Rose (K.faults sink.old) (K.faults sink.new) }
+        ensures bay_later { M.faults machine.old ≤ M.faults machine.new }
+        ensures follows { M.follows machine.old machine.new }
+        ensures bay_fault { IsErrOf result Status.BayFault → Rose (M.faults machine.old) (M.faults machine.new) }
+    {
+        let count = self.fitting(piece);
+        if count == 0 {
+            self.take_byte(machine, piece[0], gathered, sink)?;
+            return Ok(1);
+        }
+        match self.take_front(&piece[..count]) {
+            Ok(()) => Ok(count),
+            Err(_) => Err(Status::Memory),
+        }
     }
 
     // Takes a piece of the script, and runs each line as soon as its newline comes.
@@ -175,9 +256,13 @@ impl Reader {
         ensures stops { IfErr result (Halts M.gives M.refuses (K.held sink.old) (K.held sink.new) (waiting gathered.old) (waiting gathered.new) (place machine.old self.old) machine.new piece.now) }
         ensures later { K.faults sink.old ≤ K.faults sink.new }
         ensures sink_fault { result ≡ Err Status.SinkFault → Rose (K.faults sink.old) (K.faults sink.new) }
+        ensures bay_later { M.faults machine.old ≤ M.faults machine.new }
+        ensures follows { M.follows machine.old machine.new }
+        ensures bay_fault { result ≡ Err Status.BayFault → Rose (M.faults machine.old) (M.faults machine.new) }
     {
-        for byte in piece {
-            self.take_byte(machine, *byte, gathered, sink)?;
+        let mut at = 0;
+        while at < piece.len() {
+            at += self.take_next(machine, &piece[at..], gathered, sink)?;
         }
         Ok(())
     }
@@ -186,7 +271,7 @@ impl Reader {
     ///
     /// # Errors
     ///
-    /// The status that ends the run: `Script`, `SinkFault`, `TooLong` or `Memory`.
+    /// The status that ends the run: `Script`, `SinkFault`, `BayFault`, `TooLong` or `Memory`.
     pub fn feed<M: Machine, K: Sink>(
         &mut self,
         machine: &mut M,
@@ -199,6 +284,9 @@ impl Reader {
         ensures stops { IfErr result (Stops M.gives M.refuses 65536 (K.held sink.old) (K.held sink.new) (place machine.old self.old) machine.new piece.now) }
         ensures later { K.faults sink.old ≤ K.faults sink.new }
         ensures sink_fault { result ≡ Err Status.SinkFault → Rose (K.faults sink.old) (K.faults sink.new) }
+        ensures bay_later { M.faults machine.old ≤ M.faults machine.new }
+        ensures follows { M.follows machine.old machine.new }
+        ensures bay_fault { result ≡ Err Status.BayFault → Rose (M.faults machine.old) (M.faults machine.new) }
     {
         let mut gathered = Gathered::new(self.alloc);
         match self.take(machine, piece, &mut gathered, sink) {
@@ -217,6 +305,9 @@ impl Reader {
         ensures no_source_fault { result ≡ Status.SourceFault → ⊥ }
         ensures later { K.faults sink.old ≤ K.faults sink.new }
         ensures sink_fault { result ≡ Status.SinkFault → Rose (K.faults sink.old) (K.faults sink.new) }
+        ensures bay_later { M.faults machine.old ≤ M.faults machine.new }
+        ensures follows { M.follows machine.old machine.new }
+        ensures bay_fault { result ≡ Status.BayFault → Rose (M.faults machine.old) (M.faults machine.new) }
     {
         let line = self.pending.as_slice();
         if line.is_empty() {

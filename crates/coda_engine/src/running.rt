@@ -33,6 +33,9 @@ fn run_pieces<M: Machine, S: Source, K: Sink>(
     ensures sink_fault { result ≡ Status.SinkFault → Rose (K.faults sink.old) (K.faults sink.new) }
     ensures source_later { S.faults source.old ≤ S.faults source.new }
     ensures sink_later { K.faults sink.old ≤ K.faults sink.new }
+    ensures bay_fault { result ≡ Status.BayFault → Rose (M.faults machine.old) (M.faults machine.new) }
+    ensures bay_later { M.faults machine.old ≤ M.faults machine.new }
+    ensures follows { M.follows machine.old machine.new }
 {
     let mut reader = Reader::new(alloc);
     loop {
@@ -53,7 +56,7 @@ fn run_pieces<M: Machine, S: Source, K: Sink>(
 /// Runs the script that the source gives over a machine, and writes the replies to the sink.
 ///
 /// The status says how the run ended, and what was read, run and written then; `Usage` is never answered. The machine is
-/// left in the state that it was in after the last line that ran, except at `Memory`.
+/// left in the state that it was in after the last line that ran, except at `BayFault` and `Memory`.
 pub fn run<M: Machine, S: Source, K: Sink>(
     alloc: Global,
     machine: &mut M,
@@ -66,6 +69,9 @@ pub fn run<M: Machine, S: Source, K: Sink>(
     ensures sink_fault { result ≡ Status.SinkFault → Rose (K.faults sink.old) (K.faults sink.new) }
     ensures source_later { S.faults source.old ≤ S.faults source.new }
     ensures sink_later { K.faults sink.old ≤ K.faults sink.new }
+    ensures bay_fault { result ≡ Status.BayFault → Rose (M.faults machine.old) (M.faults machine.new) }
+    ensures bay_later { M.faults machine.old ≤ M.faults machine.new }
+    ensures follows { M.follows machine.old machine.new }
 {
     match buffer_of(alloc, PIECE) {
         Ok(mut buffer) => run_pieces(alloc, machine, &mut buffer, source, sink),

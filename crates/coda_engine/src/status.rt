@@ -52,6 +52,8 @@ pub enum Status {
     SourceFault,
     /// A write of the report was refused, or took nothing: a front of the report of the lines that ran is written, not all of it.
     SinkFault,
+    /// The bay refused a disk, or a crash.
+    BayFault,
     /// A byte was read that passes 16 MiB or begins line 200,001.
     TooLong,
     /// There was no memory.
@@ -69,6 +71,7 @@ impl Status {
             Status::Script { .. } => 3,
             Status::SourceFault => 4,
             Status::SinkFault => 5,
+            Status::BayFault => 6,
             Status::TooLong => 7,
             Status::Memory => 8,
         }
@@ -89,6 +92,7 @@ impl fmt::Display for Status {
             }
             Status::SourceFault => f.write_str("coda: read fault"),
             Status::SinkFault => f.write_str("coda: write fault"),
+            Status::BayFault => f.write_str("coda: bay fault"),
             Status::TooLong => f.write_str("coda: script too long"),
             Status::Memory => f.write_str("coda: out of memory"),
         }

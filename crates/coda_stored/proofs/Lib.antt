@@ -1,0 +1,9 @@
+pub mod Wholes
+pub mod Entering
+pub mod Sides
+pub mod Acting
+pub mod Stopping
+pub mod Disks
+pub mod Making
+pub mod Keeping
+pub mod Remaining

@@ -1,0 +1,122 @@
+-- What is known of disks, after what happens to actors.
+use Rattle.std.proofs.Common.{◌≡◌, ℕ, ◌==◌, ◌&&◌, Bool, true, false, cond, List, [], ◌∷◌, Option, Some, None, refl, sym, ap, ◌∙◌, subst}
+use Rattle.std.proofs.lemmas.Bool.{eqb-true, and_parts}
+use Rattle.coda_journal.specs.declared.header.Header.{Header}
+use Rattle.coda_plain.specs.Cell.{ClientEntry, Actor, PlainCell, Joins}
+use Rattle.coda_plain.specs.Decisions.{ReplicaEntry}
+use Rattle.coda_plain.specs.Moves.{with_client, with_replica, grown as grown_actor, fallen, crashed, recovered}
+use Rattle.coda_cell.specs.Made.{MadeCell}
+use Rattle.coda_cell.specs.Runs.{IsKept}
+use Rattle.coda_stored.specs.Cells.{Side, StoredCell}
+use Rattle.coda_stored.specs.Kept.{whole, IsGiven, IsClientSide, IsReplicaSide, IsPlaced, IsStoredKept}
+
+-- no append of an actor that is up failed
+pub record AreClean (cell : PlainCell) : Type 0 where
+  pub clients : (client : ℕ) → (cell.clients client).up ≡ true → (cell.clients client).failed ≡ None
+  pub replicas : (server volume : ℕ) → (cell.replicas server volume).up ≡ true → (cell.replicas server volume).failed ≡ None
+
+-- what is known of disks in a cell that is kept
+pub record AreSided (cell : StoredCell) : Type 0 where
+  pub clients : (client : ℕ) → IsClientSide client (cell.made.sizes client) (cell.made.acted.clients client) (cell.clients client)
+  pub replicas : (volume : ℕ) → IsReplicaSide volume (cell.made.homes volume) (λ server. cell.made.acted.replicas server volume) (cell.replicas volume)
+  pub placed : (volume server : ℕ) → cell.made.homes volume ≡ Some server → IsPlaced cell volume server
+  pub apart : (volume other server home : ℕ) → cell.made.homes volume ≡ Some server → cell.made.homes other ≡ Some home → cell.places volume ≡ cell.places other → volume ≡ other
+
+pub clean_in : (cell : StoredCell) → IsStoredKept cell → AreClean cell.made.acted
+clean_in cell kept = record { clients = kept.clients_up; replicas = kept.replicas_up }
+
+pub sided_in : (cell : StoredCell) → IsStoredKept cell → AreSided cell
+sided_in cell kept = record { clients = kept.clients; replicas = kept.replicas; placed = kept.placed; apart = kept.apart }
+
+pub stored_kept : (cell : StoredCell) → AreClean cell.made.acted → ((joins : Joins) → IsKept (whole cell.made joins)) → AreSided cell → IsStoredKept cell
+stored_kept cell clean kept sided = record { clients_up = clean.clients; replicas_up = clean.replicas; kept = kept; clients = sided.clients; replicas = sided.replicas; placed = sided.placed; apart = sided.apart }
+
+-- ---- one actor
+
+module _ {E : Type 0} where
+  -- An actor is another now, on a disk that was last given this header, if any: no append failed if it is up, and what is known of its disk holds.
+  pub record Goes (given : Option Header) (old new : Actor E) : Type 0 where
+    pub clean : new.up ≡ true → new.failed ≡ None
+    pub keeps : (header : Header) → IsGiven given header old → IsGiven given header new
+
+  pub goes_grown : (given : Option Header) (actor : Actor E) (entry : E) → actor.up ≡ true → (actor.up ≡ true → actor.failed ≡ None) → Goes given actor (grown_actor entry actor)
+  goes_grown None actor entry up clean = record { clean = clean; keeps = λ header is. (let no : true ≡ false = sym up ∙ is.2 in cc) }
+  goes_grown (Some given) actor entry up clean = record { clean = clean; keeps = λ header is. is }
+
+  pub goes_fallen : (given : Option Header) (actor : Actor E) (entry : E) → actor.up ≡ true → Goes given actor (fallen entry actor)
+  goes_fallen None actor entry up = record { clean = λ e. cc; keeps = λ header is. (let no : true ≡ false = sym up ∙ is.2 in cc) }
+  goes_fallen (Some given) actor entry up = record { clean = λ e. cc; keeps = λ header is. is }
+
+  pub goes_crashed : (given : Option Header) (actor : Actor E) → Goes given actor (crashed actor)
+  goes_crashed None actor = record { clean = λ e. cc; keeps = λ header is. (is.0, is.1, refl) }
+  goes_crashed (Some given) actor = record { clean = λ e. cc; keeps = λ header is. is }
+
+  pub goes_recovered : (given : Option Header) (header : Header) (actor : Actor E) (joins : Bool) → given ≡ Some header → Goes given actor (recovered joins actor)
+  goes_recovered None header actor joins e = cc
+  goes_recovered (Some given) header actor joins e = record { clean = λ up. refl; keeps = λ other is. is }
+
+-- ---- the sides
+
+client_goes : (client : ℕ) (o : Option ℕ) (old new : Actor ClientEntry) (side : Side) → (o ≡ None → new ≡ old) → ((header : Header) → IsGiven side.given header old → IsGiven side.given header new)
+    → IsClientSide client o old side → IsClientSide client o new side
+client_goes client None old new side same goes is = (is.0, same refl ∙ is.1)
+client_goes client (Some blocks) old new side same goes (area, sized, one, under, some, few, asked, given) = (area, sized, one, under, some, few, asked, goes _ given)
+
+replica_goes : (volume : ℕ) (o : Option ℕ) (old new : ℕ → Actor ReplicaEntry) (side : Side) → ((server : ℕ) → o ≡ None → new server ≡ old server)
+    → ((server : ℕ) (header : Header) → IsGiven side.given header (old server) → IsGiven side.given header (new server)) → IsReplicaSide volume o old side → IsReplicaSide volume o new side
+replica_goes volume None old new side same goes is = (is.0, λ server. same server refl ∙ is.1 server)
+replica_goes volume (Some server) old new side same goes (area, sized, one, some, few, asked, given) = (area, sized, one, some, few, asked, goes server _ given)
+
+-- ---- an actor of a cell
+
+abbrev pub acting : StoredCell → PlainCell → StoredCell
+acting cell acted = record cell { made = record cell.made { acted = acted } }
+
+module _ (cell : StoredCell) (clean : AreClean cell.made.acted) (sided : AreSided cell) where
+  pub clean_client : (client : ℕ) (actor : Actor ClientEntry) → (actor.up ≡ true → actor.failed ≡ None) → AreClean (with_client cell.made.acted client actor)
+  clean_client client actor goes = record {
+    clients = λ c. elim (c == client) as (λ b. (cond b actor (cell.made.acted.clients c)).up ≡ true → (cond b actor (cell.made.acted.clients c)).failed ≡ None) [ true ↦ goes | false ↦ clean.clients c ];
+    replicas = clean.replicas;
+  }
+
+  pub clean_replica : (server volume : ℕ) (actor : Actor ReplicaEntry) → (actor.up ≡ true → actor.failed ≡ None) → AreClean (with_replica cell.made.acted server volume actor)
+  clean_replica server volume actor goes = record {
+    clients = clean.clients;
+    replicas = λ s v. elim ((s == server) && (v == volume)) as (λ b. (cond b actor (cell.made.acted.replicas s v)).up ≡ true → (cond b actor (cell.made.acted.replicas s v)).failed ≡ None) [ true ↦ goes | false ↦ clean.replicas s v ];
+  }
+
+  -- a client that was made is another
+  pub sided_client : (client blocks : ℕ) (actor : Actor ClientEntry) → cell.made.sizes client ≡ Some blocks → Goes (cell.clients client).given (cell.made.acted.clients client) actor → AreSided (acting cell (with_client cell.made.acted client actor))
+  sided_client client blocks actor there goes = record {
+    clients = λ c. elim (c == client) as (λ b. (c == client) ≡ b → IsClientSide c (cell.made.sizes c) (cond b actor (cell.made.acted.clients c)) (cell.clients c)) [
+      | true ↦ λ e. subst (λ n. IsClientSide n (cell.made.sizes n) actor (cell.clients n)) (sym (eqb-true c client e))
+          (client_goes client (cell.made.sizes client) (cell.made.acted.clients client) actor (cell.clients client) (λ none. (let no : None ≡ Some blocks = sym none ∙ there in cc)) goes.keeps (sided.clients client))
+      | false ↦ λ e. sided.clients c
+    ] refl;
+    replicas = sided.replicas;
+    placed = sided.placed;
+    apart = sided.apart;
+  }
+
+  -- the replica of a volume that was made is another
+  pub sided_replica : (server volume : ℕ) (actor : Actor ReplicaEntry) → cell.made.homes volume ≡ Some server → Goes (cell.replicas volume).given (cell.made.acted.replicas server volume) actor → AreSided (acting cell (with_replica cell.made.acted server volume actor))
+  sided_replica server volume actor there goes = record {
+    clients = sided.clients;
+    replicas = λ v. replica_goes v (cell.made.homes v) (λ s. cell.made.acted.replicas s v) (λ s. cond ((s == server) && (v == volume)) actor (cell.made.acted.replicas s v)) (cell.replicas v) (same v) (keeps v) (sided.replicas v);
+    placed = sided.placed;
+    apart = sided.apart;
+  }
+    where
+      same : (v s : ℕ) → cell.made.homes v ≡ None → cond ((s == server) && (v == volume)) actor (cell.made.acted.replicas s v) ≡ cell.made.acted.replicas s v
+      same v s none = elim ((s == server) && (v == volume)) as (λ b. ((s == server) && (v == volume)) ≡ b → cond b actor (cell.made.acted.replicas s v) ≡ cell.made.acted.replicas s v) [
+        | true ↦ λ e. (let no : None ≡ Some server = sym none ∙ ap cell.made.homes (eqb-true v volume (and_parts (s == server) (v == volume) e).1) ∙ there in cc)
+        | false ↦ λ e. refl
+      ] refl
+
+      keeps : (v s : ℕ) (header : Header) → IsGiven (cell.replicas v).given header (cell.made.acted.replicas s v) → IsGiven (cell.replicas v).given header (cond ((s == server) && (v == volume)) actor (cell.made.acted.replicas s v))
+      keeps v s header = elim ((s == server) && (v == volume)) as (λ b. ((s == server) && (v == volume)) ≡ b → IsGiven (cell.replicas v).given header (cell.made.acted.replicas s v) → IsGiven (cell.replicas v).given header (cond b actor (cell.made.acted.replicas s v))) [
+        | true ↦ λ e. let both = and_parts (s == server) (v == volume) e in
+            subst (λ n. IsGiven (cell.replicas n).given header (cell.made.acted.replicas s n) → IsGiven (cell.replicas n).given header actor) (sym (eqb-true v volume both.1))
+            (subst (λ n. IsGiven (cell.replicas volume).given header (cell.made.acted.replicas n volume) → IsGiven (cell.replicas volume).given header actor) (sym (eqb-true s server both.0)) (goes.keeps header))
+        | false ↦ λ e is. is
+      ] refl
