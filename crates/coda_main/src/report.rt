@@ -1,6 +1,6 @@
 // The texts of replies, in the cell that a line left.
 ghost use Rattle.std.specs.Prelude.{◌≡◌, [], false, Some, IfOk};
-ghost use Rattle.coda_cell.specs.Cells.{volume_at, log_at};
+ghost use Rattle.coda_cell.specs.Cells.{volume_at};
 ghost use Rattle.coda_cell.specs.Made.{state_of};
 ghost use Rattle.coda_cell.specs.State.{ClientState};
 ghost use Rattle.coda_stored.specs.Cells.{StoredCell};
@@ -39,7 +39,7 @@ fn volume_shown<B: Bay>(alloc: Global, cell: &Cell<B>, server: u8, volume: u32) 
 fn log_shown<B: Bay>(alloc: Global, cell: &Cell<B>, client: u8, volume: u32) -> Result<Bytes, AllocError>
     ensures { IfOk result (λ text. (plain : StoredCell) → IsStoredKept plain → IsSite B.D.told (B.out cell.now.bay) (B.has cell.now.bay) plain cell.now.site
         → client_down plain client ≡ false → (c : ClientState) → (state_of plain.made).clients client ≡ Some c
-        → text ≡ shown_log (log_at ((state_of plain.made).clients client) volume)) }
+        → text ≡ shown_log ((state_of plain.made).clients client) volume) }
 {
     match cell.log(client, volume) {
         Some(log) => log_text(alloc, log),

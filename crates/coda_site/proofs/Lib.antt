@@ -1,4 +1,5 @@
 pub mod Blank
+pub mod Shown
 pub mod Closing
 pub mod ClientSites
 pub mod Theres

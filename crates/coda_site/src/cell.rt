@@ -4,7 +4,7 @@ ghost use Rattle.coda_io.specs.Faults.{Rose};
 ghost use Rattle.coda_script.specs.Ranges.{InRange};
 ghost use Rattle.coda_cell.specs.Cells.{volume_at};
 ghost use Rattle.coda_cell.specs.Made.{state_of};
-ghost use Rattle.coda_cell.specs.State.{ClientState, log_of};
+ghost use Rattle.coda_cell.specs.State.{ClientState, log_of, new_volume};
 ghost use Rattle.coda_stored.specs.Cells.{StoredCell, nothing_stored};
 ghost use Rattle.coda_stored.specs.Kept.{IsStoredKept};
 ghost use Rattle.coda_stored.specs.Lines.{is_built, client_down, replica_down, Happens};
@@ -110,11 +110,11 @@ impl<B: Bay> Cell<B> {
         }
     }
 
-    /// A client's log of a volume; `None` where the client isn't there or is down, or accepted no operation on the volume.
+    /// A client's log of a volume; `None` where the client isn't there or is down, or never had a log of the volume.
     pub fn log(&self, client: u8, volume: u32) -> Option<&Log>
         ensures { (cell : StoredCell) → IsStoredKept cell → IsSite B.D.told (B.out self.now.bay) (B.has self.now.bay) cell self.now.site
             → client_down cell client ≡ false → (c : ClientState) → (state_of cell.made).clients client ≡ Some c
-            → MatchOption result ((c.volumes volume).operations ≡ 0) (λ log. log.now ≡ log_of (c.volumes volume)) }
+            → MatchOption result (log_of (c.volumes volume) ≡ log_of new_volume) (λ log. log.now ≡ log_of (c.volumes volume)) }
     {
         match get(&self.site.clients, u32::from(client)) {
             Some(venus) => venus.log(volume),
