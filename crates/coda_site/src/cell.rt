@@ -98,7 +98,8 @@ impl<B: Bay> Cell<B> {
     /// The volume that a server has; `None` where it has none of this number, or is down.
     pub fn volume(&self, server: u8, volume: u32) -> Option<&Volume>
         ensures { (cell : StoredCell) → IsStoredKept cell → IsSite B.D.told (B.out self.now.bay) (B.has self.now.bay) cell self.now.site
-            → replica_down cell volume ≡ false → result ≡ volume_at ((state_of cell.made).replicas volume) server }
+            → replica_down cell volume ≡ false
+            → MatchOption result (volume_at ((state_of cell.made).replicas volume) server ≡ None) (λ tree. volume_at ((state_of cell.made).replicas volume) server ≡ Some tree.now) }
     {
         let place = self.site.place(volume)?;
         if place.server != server {
