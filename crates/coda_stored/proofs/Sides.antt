@@ -1,11 +1,10 @@
 -- What is known of disks, after what happens to actors.
-use Rattle.std.proofs.Common.{◌≡◌, ℕ, ◌==◌, ◌&&◌, Bool, true, false, cond, List, [], ◌∷◌, Option, Some, None, refl, sym, ap, ◌∙◌, subst}
+use Rattle.std.proofs.Common.{◌≡◌, ℕ, ◌==◌, ◌&&◌, Bool, true, false, cond, Option, Some, None, refl, sym, ap, ◌∙◌, subst}
 use Rattle.std.proofs.lemmas.Bool.{eqb-true, and_parts}
 use Rattle.coda_journal.specs.declared.header.Header.{Header}
 use Rattle.coda_plain.specs.Cell.{ClientEntry, Actor, PlainCell, Joins}
 use Rattle.coda_plain.specs.Decisions.{ReplicaEntry}
 use Rattle.coda_plain.specs.Moves.{with_client, with_replica, grown as grown_actor, fallen, crashed, recovered}
-use Rattle.coda_cell.specs.Made.{MadeCell}
 use Rattle.coda_cell.specs.Runs.{IsKept}
 use Rattle.coda_stored.specs.Cells.{Side, StoredCell}
 use Rattle.coda_stored.specs.Kept.{whole, IsGiven, IsClientSide, IsReplicaSide, IsPlaced, IsStoredKept}
