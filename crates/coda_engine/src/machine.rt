@@ -42,6 +42,9 @@ pub trait Machine {
     // After so many lines the machine may run another.
     ghost ready: { Self → ℕ → Type 0 };
 
+    // The second is the first after some lines, of which the last may have stopped.
+    ghost follows: { Self → Self → Type 0 };
+
     /// Runs a line, which has no newline, and answers the bytes of its reply: none, or lines that each have their
     /// newline. A script has at most 16,777,216 lines.
     ///
@@ -55,5 +58,12 @@ pub trait Machine {
         ensures ok { IfOk result (λ text. (outside : List (List ℕ)) × gives self.old line.now text.items outside self.new) }
         ensures reason { IfErr result (HasReason refuses self.old line.now self.new) }
         ensures later { faults self.old ≤ faults self.new }
+        ensures follows { follows self.old self.new }
         ensures bay_fault { result ≡ Err LineStop.Bay → Rose (faults self.old) (faults self.new) };
+
+    // A machine follows itself.
+    ghost same: { (a : Self) → follows a a };
+
+    // What follows goes on.
+    ghost then: { (a b c : Self) → follows a b → follows b c → follows a c };
 }

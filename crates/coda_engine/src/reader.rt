@@ -70,6 +70,7 @@ fn run_line<M: Machine, K: Sink>(
     ensures later { K.faults sink.old ≤ K.faults sink.new }
     ensures sink_fault { result ≡ Err Status.SinkFault → Rose (K.faults sink.old) (K.faults sink.new) }
     ensures bay_later { M.faults machine.old ≤ M.faults machine.new }
+    ensures follows { M.follows machine.old machine.new }
     ensures bay_fault { result ≡ Err Status.BayFault → Rose (M.faults machine.old) (M.faults machine.new) }
 {
     match machine.run(alloc, line) {
@@ -142,6 +143,7 @@ impl Reader {
         ensures later { K.faults sink.old ≤ K.faults sink.new }
         ensures sink_fault { result ≡ Err Status.SinkFault → Rose (K.faults sink.old) (K.faults sink.new) }
         ensures bay_later { M.faults machine.old ≤ M.faults machine.new }
+        ensures follows { M.follows machine.old machine.new }
         ensures bay_fault { result ≡ Err Status.BayFault → Rose (M.faults machine.old) (M.faults machine.new) }
     {
         let line = without_carriage_return(&self.pending);
@@ -167,6 +169,7 @@ impl Reader {
         ensures later { K.faults sink.old ≤ K.faults sink.new }
         ensures sink_fault { result ≡ Err Status.SinkFault → Rose (K.faults sink.old) (K.faults sink.new) }
         ensures bay_later { M.faults machine.old ≤ M.faults machine.new }
+        ensures follows { M.follows machine.old machine.new }
         ensures bay_fault { result ≡ Err Status.BayFault → Rose (M.faults machine.old) (M.faults machine.new) }
     {
         if self.is_full() {
@@ -225,6 +228,7 @@ impl Reader {
         ensures later { K.faults sink.old ≤ K.faults sink.new }
         ensures sink_fault { IsErrOf result Status.SinkFault → Rose (K.faults sink.old) (K.faults sink.new) }
         ensures bay_later { M.faults machine.old ≤ M.faults machine.new }
+        ensures follows { M.follows machine.old machine.new }
         ensures bay_fault { IsErrOf result Status.BayFault → Rose (M.faults machine.old) (M.faults machine.new) }
     {
         let count = self.fitting(piece);
@@ -253,6 +257,7 @@ impl Reader {
         ensures later { K.faults sink.old ≤ K.faults sink.new }
         ensures sink_fault { result ≡ Err Status.SinkFault → Rose (K.faults sink.old) (K.faults sink.new) }
         ensures bay_later { M.faults machine.old ≤ M.faults machine.new }
+        ensures follows { M.follows machine.old machine.new }
         ensures bay_fault { result ≡ Err Status.BayFault → Rose (M.faults machine.old) (M.faults machine.new) }
     {
         let mut at = 0;
@@ -280,6 +285,7 @@ impl Reader {
         ensures later { K.faults sink.old ≤ K.faults sink.new }
         ensures sink_fault { result ≡ Err Status.SinkFault → Rose (K.faults sink.old) (K.faults sink.new) }
         ensures bay_later { M.faults machine.old ≤ M.faults machine.new }
+        ensures follows { M.follows machine.old machine.new }
         ensures bay_fault { result ≡ Err Status.BayFault → Rose (M.faults machine.old) (M.faults machine.new) }
     {
         let mut gathered = Gathered::new(self.alloc);
@@ -300,6 +306,7 @@ impl Reader {
         ensures later { K.faults sink.old ≤ K.faults sink.new }
         ensures sink_fault { result ≡ Status.SinkFault → Rose (K.faults sink.old) (K.faults sink.new) }
         ensures bay_later { M.faults machine.old ≤ M.faults machine.new }
+        ensures follows { M.follows machine.old machine.new }
         ensures bay_fault { result ≡ Status.BayFault → Rose (M.faults machine.old) (M.faults machine.new) }
     {
         let line = self.pending.as_slice();

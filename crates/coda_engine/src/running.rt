@@ -35,6 +35,7 @@ fn run_pieces<M: Machine, S: Source, K: Sink>(
     ensures sink_later { K.faults sink.old ≤ K.faults sink.new }
     ensures bay_fault { result ≡ Status.BayFault → Rose (M.faults machine.old) (M.faults machine.new) }
     ensures bay_later { M.faults machine.old ≤ M.faults machine.new }
+    ensures follows { M.follows machine.old machine.new }
 {
     let mut reader = Reader::new(alloc);
     loop {
@@ -70,6 +71,7 @@ pub fn run<M: Machine, S: Source, K: Sink>(
     ensures sink_later { K.faults sink.old ≤ K.faults sink.new }
     ensures bay_fault { result ≡ Status.BayFault → Rose (M.faults machine.old) (M.faults machine.new) }
     ensures bay_later { M.faults machine.old ≤ M.faults machine.new }
+    ensures follows { M.follows machine.old machine.new }
 {
     match buffer_of(alloc, PIECE) {
         Ok(mut buffer) => run_pieces(alloc, machine, &mut buffer, source, sink),

@@ -28,7 +28,7 @@ use Rattle.coda_cell.specs.declared.refused.Refused.{Refused}
 use Rattle.coda_cell.proofs.Histories.{server_stays}
 use Rattle.coda_cell.proofs.KeptCells.{client_there, first_kept}
 use Rattle.coda_cell.proofs.KeptLines.{homed}
-use Rattle.coda_main.specs.PlainRun.{LineGives}
+use Rattle.coda_main.specs.Runs.{LineGives}
 use Rattle.coda_main.specs.Lettered.{volume_of, LettersHaveEnds}
 use Rattle.coda_main.proofs.Running.{gives_moved}
 

@@ -8,7 +8,7 @@ use Rattle.coda_script.specs.Reading.{Fault}
 use Rattle.coda_script.specs.Lines.{line_of}
 use Rattle.coda_cell.specs.Made.{MadeCell}
 use Rattle.coda_cell.specs.Steps.{is_built}
-use Rattle.coda_main.specs.PlainRun.{LineGives, LineRefused}
+use Rattle.coda_main.specs.Runs.{LineGives, LineRefused}
 
 abbrev pub Alike : MadeCell → MadeCell → Type 0
 Alike a b = Unit {0}

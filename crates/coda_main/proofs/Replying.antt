@@ -23,7 +23,7 @@ use Rattle.coda_letters.specs.Sent.{Sent, ChunkSent, AnswerSent, client_of as se
 use Rattle.coda_cell.specs.Messages.{sends, chunk_comes, answer_comes}
 use Rattle.coda_cell.specs.Sending.{drain}
 use Rattle.coda_cell.specs.Made.{MadeCell, state_of, grown_all}
-use Rattle.coda_main.specs.PlainRun.{LineGives}
+use Rattle.coda_main.specs.Runs.{LineGives}
 use Rattle.coda_main.specs.Texts.{text_of}
 use Rattle.coda_main.specs.Complete.{IsTaken, ScriptsInGrammarAreClean}
 

@@ -31,7 +31,7 @@ use Rattle.coda_cell.proofs.Moving.{moved_both}
 use Rattle.coda_cell.proofs.PostedOnce.{posted_once}
 use Rattle.coda_cell.proofs.SpelledLines.{lines_keep_spellings}
 use Rattle.coda_main.specs.Texts.{text_of}
-use Rattle.coda_main.specs.PlainRun.{LineGives, LineRefused}
+use Rattle.coda_main.specs.Runs.{LineGives, LineRefused}
 use Rattle.coda_main.specs.Shows.{Shows, MayRun, CellGives, Answered}
 use Rattle.coda_main.specs.Headline.{histories_of, IsOfPending, HasRun, ScriptsRun, ChunksAreDecidedOnce, CertifiedChunksAreApplied, ConflictsNameASentRecord, OperationsAreKept, SettlementsAreDecided, LogsArePending}
 use Rattle.coda_main.specs.declared.machine.CellMachine.{CellMachine}

@@ -1,6 +1,6 @@
 pub mod Words
 pub mod Texts
-pub mod PlainRun
+pub mod Runs
 pub mod Shows
 pub mod Headline
 pub mod Complete

@@ -7,7 +7,7 @@ ghost use Rattle.coda_main.specs.Complete.{ScriptsInGrammarAreClean};
 ghost use Rattle.coda_main.specs.Headline.{ScriptsRun, ChunksAreDecidedOnce, CertifiedChunksAreApplied, ConflictsNameASentRecord, OperationsAreKept, SettlementsAreDecided, LogsArePending};
 ghost use Rattle.coda_main.specs.Lettered.{RepliesNameLetters, LettersSayWhatIsSo, LettersHaveEnds};
 ghost use Rattle.coda_main.specs.Performed.{OperationsArePerformed};
-ghost use Rattle.coda_main.specs.PlainRun.{LineGives, LineRefused};
+ghost use Rattle.coda_main.specs.Runs.{LineGives, LineRefused};
 ghost use Rattle.coda_main.specs.Shown.{WhatIsShownIsThere};
 ghost use Rattle.coda_main.specs.Thawed.{VerdictsThaw};
 

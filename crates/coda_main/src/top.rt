@@ -4,7 +4,7 @@ ghost use Rattle.std.specs.String.{string_bytes};
 ghost use Rattle.coda_io.specs.Faults.{Rose};
 ghost use Rattle.coda_engine.specs.Run.{Reports};
 ghost use Rattle.coda_cell.specs.Made.{MadeCell, nothing_made};
-ghost use Rattle.coda_main.specs.PlainRun.{LineGives, LineRefused};
+ghost use Rattle.coda_main.specs.Runs.{LineGives, LineRefused};
 ghost use Rattle.coda_main.specs.Headline.{HasRun};
 ghost use Rattle.coda_main.specs.Words.{IsRun};
 

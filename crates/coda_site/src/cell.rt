@@ -1,4 +1,17 @@
 // A cell: a site, and the bay that has its disks.
+ghost use Rattle.std.specs.Prelude.{◌≡◌, ◌<◌, ◌≤◌, ◌+◌, ◌^◌, ℕ, true, false, Err, Some, IfOk, MatchOption};
+ghost use Rattle.coda_io.specs.Faults.{Rose};
+ghost use Rattle.coda_script.specs.Ranges.{InRange};
+ghost use Rattle.coda_cell.specs.Cells.{volume_at};
+ghost use Rattle.coda_cell.specs.Made.{state_of};
+ghost use Rattle.coda_cell.specs.State.{ClientState, log_of};
+ghost use Rattle.coda_stored.specs.Cells.{StoredCell, nothing_stored};
+ghost use Rattle.coda_stored.specs.Kept.{IsStoredKept};
+ghost use Rattle.coda_stored.specs.Lines.{is_built, client_down, replica_down, Happens};
+ghost use Rattle.coda_site.specs.Sites.{IsSite, IsReady};
+ghost use Rattle.coda_site.specs.Steps.{Becomes};
+ghost use Rattle.coda_site.specs.Cells.{AreBlank, AreOnDisks};
+
 use crate::fault::CellFault;
 use crate::lines::step;
 use crate::site::Site;
@@ -22,7 +35,13 @@ pub struct Cell<B: Bay> {
 
 impl<B: Bay> Cell<B> {
     /// A cell in which nothing was made. No number of the bay is out.
-    pub fn new(alloc: Global, bay: B) -> Cell<B> {
+    pub fn new(alloc: Global, bay: B) -> Cell<B>
+        requires { (number : ℕ) → B.out bay number ≡ false }
+        ensures bay { result.bay ≡ bay }
+        ensures ready { IsReady B.D.told (B.out result.bay) result.site }
+        ensures posted { result.site.net.posted ≡ 0 }
+        ensures stands { AreBlank (B.has result.bay) → IsSite B.D.told (B.out result.bay) (B.has result.bay) nothing_stored result.site }
+    {
         Cell {
             bay,
             site: Site {
@@ -38,17 +57,36 @@ impl<B: Bay> Cell<B> {
         }
     }
 
-    /// Carries out a line that is built, and answers its reply.
+    /// Carries out a line that is built, and answers its reply. Every other refusal than those below is a reply.
     ///
     /// # Errors
     ///
-    /// `Memory`, and `Bay` where the bay refused a disk or a crash; both end a run.
-    pub fn step(&mut self, line: &Line) -> Result<Reply, CellFault> {
+    /// `Memory` where there was none, and `Bay` where the bay refused a disk or a crash; both end a run.
+    pub fn step(&mut self, line: &Line) -> Result<Reply, CellFault>
+        requires built { is_built line.now ≡ true }
+        requires range { InRange line.now }
+        requires few { self.old.site.net.posted < 2 ^ 63 }
+        requires ready { IsReady B.D.told (B.out self.old.bay) self.old.site }
+        ensures ready { IsReady B.D.told (B.out self.new.bay) self.new.site }
+        ensures does { (cell : StoredCell) → IsStoredKept cell → IsSite B.D.told (B.out self.old.bay) (B.has self.old.bay) cell self.old.site
+            → IfOk result (λ reply. Becomes B.D.told (B.out self.new.bay) (B.has self.new.bay) (Happens cell line.now) reply (B.answered self.old.bay) (B.answered self.new.bay) self.new.site) }
+        ensures posted { self.new.site.net.posted ≤ self.old.site.net.posted + 1 }
+        ensures later { B.faults self.old.bay ≤ B.faults self.new.bay }
+        ensures bay_cause { result ≡ Err CellFault.Bay → Rose (B.faults self.old.bay) (B.faults self.new.bay) }
+        ensures follows { B.follows self.old.bay self.new.bay }
+    {
         step(&mut self.bay, &mut self.site, line)
     }
 
     /// Gives every disk back, and answers the bay. It takes no memory.
-    pub fn close(self) -> B {
+    pub fn close(self) -> B
+        requires { IsReady B.D.told (B.out self.bay) self.site }
+        ensures out { (number : ℕ) → B.out result number ≡ false }
+        ensures stands { (cell : StoredCell) → IsSite B.D.told (B.out self.bay) (B.has self.bay) cell self.site → AreOnDisks B.D.told (B.has result) cell }
+        ensures answered { B.answered result ≡ B.answered self.bay }
+        ensures faults { B.faults result ≡ B.faults self.bay }
+        ensures follows { B.follows self.bay result }
+    {
         let mut bay = self.bay;
         give_back(&mut bay, self.site.clients);
         give_back(&mut bay, self.site.replicas);
@@ -56,7 +94,10 @@ impl<B: Bay> Cell<B> {
     }
 
     /// The volume that a server has; `None` where it has none of this number, or is down.
-    pub fn volume(&self, server: u8, volume: u32) -> Option<&Volume> {
+    pub fn volume(&self, server: u8, volume: u32) -> Option<&Volume>
+        ensures { (cell : StoredCell) → IsStoredKept cell → IsSite B.D.told (B.out self.now.bay) (B.has self.now.bay) cell self.now.site
+            → replica_down cell volume ≡ false → result ≡ volume_at ((state_of cell.made).replicas volume) server }
+    {
         let place = self.site.place(volume)?;
         if place.server != server {
             return None;
@@ -68,7 +109,11 @@ impl<B: Bay> Cell<B> {
     }
 
     /// A client's log of a volume; `None` where the client isn't there or is down, or accepted no operation on the volume.
-    pub fn log(&self, client: u8, volume: u32) -> Option<&Log> {
+    pub fn log(&self, client: u8, volume: u32) -> Option<&Log>
+        ensures { (cell : StoredCell) → IsStoredKept cell → IsSite B.D.told (B.out self.now.bay) (B.has self.now.bay) cell self.now.site
+            → client_down cell client ≡ false → (c : ClientState) → (state_of cell.made).clients client ≡ Some c
+            → MatchOption result ((c.volumes volume).operations ≡ 0) (λ log. log.now ≡ log_of (c.volumes volume)) }
+    {
         match get(&self.site.clients, u32::from(client)) {
             Some(venus) => venus.log(volume),
             None => None,

@@ -8,7 +8,7 @@ use Rattle.coda_engine.proofs.running.run_pieces.Goals as goal
 pub loop-reader-init : goal.loop-reader-init
 loop-reader-init g c =
     let new = c.new-reader.ensures in
-    (goes_start _ _ (place c.args.machine.now c.new-reader.result) new.pending new.lines new.bytes, omega arith, omega arith, omega arith, subst (g.M.Machine.ready c.args.machine.now) (sym new.lines) c.requires.ready)
+    (goes_start _ _ (place c.args.machine.now c.new-reader.result) new.pending new.lines new.bytes, omega arith, omega arith, omega arith, g.met.M.Machine.same c.args.machine.now, subst (g.M.Machine.ready c.args.machine.now) (sym new.lines) c.requires.ready)
 
 pub returns-in-Ok-eq0-clause-report : goal.returns-in-Ok-eq0-clause-report
 returns-in-Ok-eq0-clause-report g c =
@@ -34,6 +34,7 @@ loop-reader-preserved g c = (
   omega (arith, c.read.ensures.cause.later),
   omega (arith, c.feed.ensures.later),
   (let before = c.loop-reader.invariant.3 in let later = c.feed.ensures.bay_later in omega (arith, before, later)),
+  g.met.M.Machine.then c.args.machine.now c.loop-reader.machine c.feed.new.machine c.loop-reader.invariant.4 c.feed.ensures.follows,
   c.in-Ok-feed.ensures.ready,
 )
 

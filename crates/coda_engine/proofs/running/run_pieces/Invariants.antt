@@ -10,6 +10,7 @@ invariant-loop-reader g l =
     × (g.S.Source.faults l.initial.source ≤ g.S.Source.faults l.source)
     × (g.K.Sink.faults l.initial.sink ≤ g.K.Sink.faults l.sink)
     × (g.M.Machine.faults l.initial.machine ≤ g.M.Machine.faults l.machine)
+    × g.M.Machine.follows l.initial.machine l.machine
     × g.M.Machine.ready l.machine l.reader.lines
 
 abbrev pub decreases-loop-reader : goal.decreases-loop-reader

@@ -7,7 +7,7 @@ use Rattle.coda_engine.proofs.Fronts.{take_both, all_parts}
 use Rattle.coda_engine.proofs.reader.Reader.take.Goals as goal
 
 pub loop-at-init : goal.loop-at-init
-loop-at-init g c = (omega arith, gathers_none _ _ (place c.args.machine.now c.args.self.now), omega arith, omega arith, c.requires)
+loop-at-init g c = (omega arith, gathers_none _ _ (place c.args.machine.now c.args.self.now), omega arith, omega arith, g.met.M.Machine.same c.args.machine.now, c.requires)
 
 pub loop-at-preserved : goal.loop-at-preserved
 loop-at-preserved g c =
@@ -18,6 +18,7 @@ loop-at-preserved g c =
           (gathers_more _ _ _ _ _ _ (place c.args.machine.now c.args.self.now) (place c.loop-at.machine c.loop-at.self) (place c.take_next.new.machine c.take_next.new.self) (take at piece) _ c.loop-at.invariant.1 c.in_ok-at.ensures.ok),
       (let before = c.loop-at.invariant.2 in let later = c.take_next.ensures.later in omega (arith, before, later)),
       (let before = c.loop-at.invariant.3 in let later = c.take_next.ensures.bay_later in omega (arith, before, later)),
+      g.met.M.Machine.then c.args.machine.now c.loop-at.machine c.take_next.new.machine c.loop-at.invariant.4 c.take_next.ensures.follows,
       c.in_ok-at.ensures.ready,
     )
 

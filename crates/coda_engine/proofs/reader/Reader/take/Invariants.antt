@@ -11,6 +11,7 @@ invariant-loop-at g l =
     × Gathers g.M.Machine.gives (g.K.Sink.held l.initial.sink) (g.K.Sink.held l.sink) (waiting l.initial.gathered) (waiting l.gathered) (place l.initial.machine l.initial.self) (take l.at l.piece) (place l.machine l.self)
     × (g.K.Sink.faults l.initial.sink ≤ g.K.Sink.faults l.sink)
     × (g.M.Machine.faults l.initial.machine ≤ g.M.Machine.faults l.machine)
+    × g.M.Machine.follows l.initial.machine l.machine
     × g.M.Machine.ready l.machine l.self.lines
 
 abbrev pub decreases-loop-at : goal.decreases-loop-at
