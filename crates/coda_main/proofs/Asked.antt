@@ -408,7 +408,8 @@ module _ (old new : StoredCell) (kept : IsStoredKept old) (t : Task) (number : �
   abbrev IsLeft : StoredCell → Type 0
   IsLeft cell = WasPerformed t (state_of old.made).clients (state_of cell.made).clients (state_of old.made).replicas old.made.clock number object
 
-  all_done : (links : ℕ → ℕ → Strength) (events : List Event) → Does (state_of (met old links)) (line.Task t) (Done number object) events → ShowsAs (grown_all (met old links) events) new.made → IsLeft new
+  all_done : (links : ℕ → ℕ → Strength) (events : List Event) → Does (state_of (met old links)) (line.Task t) (Done number object) events
+      → ShowsAs (grown_all (met old links) events) new.made → IsLeft new
   all_done links events does shows =
       let cell = met old links in
       let found = met_kept old links kept in

@@ -27,7 +27,8 @@ gives_begins old new bytes text outside (inr x) = entries_stay old new x.said x.
 
 runs_begin : (old new : StoredCell) (ls : List (List ℕ)) (report : List ℕ) (outside : List (List ℕ)) → Runs LineGives old ls report outside new → Begins new old
 runs_begin old new [] report outside run = subst (λ cell. Begins cell old) (sym run.2) (begins_same old)
-runs_begin old new (l ∷ more) report outside run = begins_then old run.0 new (gives_begins old run.0 l run.1 run.3 run.5) (runs_begin run.0 new more run.2 run.4 run.6)
+runs_begin old new (l ∷ more) report outside run =
+    begins_then old run.0 new (gives_begins old run.0 l run.1 run.3 run.5) (runs_begin run.0 new more run.2 run.4 run.6)
 
 pub acknowledged_entries_stay : AcknowledgedEntriesStay
 acknowledged_entries_stay before said_before answered_before cell started ls report outside later run = runs_begin cell later ls report outside run

@@ -64,7 +64,8 @@ module _ (old : StoredCell) (reply : Reply) (outside : List (List ℕ)) (new : S
   whole : (other : Reply) → IsWhole other → reply ≡ other → IsWhole reply
   whole other is same = subst IsWhole (sym same) is
 
-  unless_left : (o : Option Refusal) (own : Becoming) → (o ≡ None → own reply outside new → IsLeft old reply new) → Unless old o own reply outside new → IsLeft old reply new
+  unless_left : (o : Option Refusal) (own : Becoming) → (o ≡ None → own reply outside new → IsLeft old reply new) → Unless old o own reply outside new
+      → IsLeft old reply new
   unless_left (Some why) own rest does = (whole (refusal why) tt does.0, stays does.2)
   unless_left None own rest does = rest refl does
 
@@ -75,17 +76,22 @@ module _ (old : StoredCell) (reply : Reply) (outside : List (List ℕ)) (new : S
   arms_left : (o : Option Refusal) → Unless old o (Stays old Accepted) reply outside new → IsLeft old reply new
   arms_left o does = unless_left o (Stays old Accepted) (λ all did. (whole Accepted tt did.0, stays did.2)) does
 
-  volume_left : (volume server area : ℕ) → old.made.homes volume ≡ None → Opens old (replica_header volume server area) (with_volume old volume server area) (TheReplica server volume) reply outside new → IsLeft old reply new
-  volume_left volume server area none (out, inl up) = (whole (Opened (0 ∷ [])) tt up.0, OneVolume volume server old.made.acted none (ap (λ (c : StoredCell). c.made) up.1))
+  volume_left : (volume server area : ℕ) → old.made.homes volume ≡ None
+      → Opens old (replica_header volume server area) (with_volume old volume server area) (TheReplica server volume) reply outside new → IsLeft old reply new
+  volume_left volume server area none (out, inl up) =
+      (whole (Opened (0 ∷ [])) tt up.0, OneVolume volume server old.made.acted none (ap (λ (c : StoredCell). c.made) up.1))
   volume_left volume server area none (out, inr down) =
       (whole refused_fault tt down.2, OneVolume volume server (after_move old.made.acted (Crashes (TheReplica server volume))) none (ap (λ (c : StoredCell). c.made) down.3))
 
-  client_left : (client blocks area : ℕ) → old.made.sizes client ≡ None → Opens old (client_header client blocks area) (with_client old client blocks area) (TheClient client) reply outside new → IsLeft old reply new
-  client_left client blocks area none (out, inl up) = (whole (Opened (0 ∷ [])) tt up.0, OneClient client blocks old.made.acted none (ap (λ (c : StoredCell). c.made) up.1))
+  client_left : (client blocks area : ℕ) → old.made.sizes client ≡ None
+      → Opens old (client_header client blocks area) (with_client old client blocks area) (TheClient client) reply outside new → IsLeft old reply new
+  client_left client blocks area none (out, inl up) =
+      (whole (Opened (0 ∷ [])) tt up.0, OneClient client blocks old.made.acted none (ap (λ (c : StoredCell). c.made) up.1))
   client_left client blocks area none (out, inr down) =
       (whole refused_fault tt down.2, OneClient client blocks (after_move old.made.acted (Crashes (TheClient client))) none (ap (λ (c : StoredCell). c.made) down.3))
 
-  refused_left : (who : Who) (was : Option Header) (header : Header) (entries : ℕ) (given : Option Header) (mid : StoredCell) → IsRefused old who was header entries given mid → new.made ≡ mid.made → Leaves old.made new.made
+  refused_left : (who : Who) (was : Option Header) (header : Header) (entries : ℕ) (given : Option Header) (mid : StoredCell)
+      → IsRefused old who was header entries given mid → new.made ≡ mid.made → Leaves old.made new.made
   refused_left who was header entries given mid (inl same) is = Actors (after_move old.made.acted (Crashes who)) (is ∙ ap (λ (c : StoredCell). c.made) same.1)
   refused_left who was header entries given mid (inr next) is =
       Actors (after_move (after_move old.made.acted (Recovers who false)) (Crashes who)) (is ∙ ap (λ (c : StoredCell). c.made) next.2)
@@ -94,11 +100,14 @@ module _ (old : StoredCell) (reply : Reply) (outside : List (List ℕ)) (new : S
   crashes_client_left client did = (whole Crashed tt did.2, Actors (after_move old.made.acted (Crashes (TheClient client))) (ap (λ (c : StoredCell). c.made) did.4))
 
   crashes_replica_left : (server volume : ℕ) → CrashesReplica old server volume reply outside new → IsLeft old reply new
-  crashes_replica_left server volume did = (whole Crashed tt did.2, Actors (after_move old.made.acted (Crashes (TheReplica server volume))) (ap (λ (c : StoredCell). c.made) did.4))
+  crashes_replica_left server volume did =
+      (whole Crashed tt did.2, Actors (after_move old.made.acted (Crashes (TheReplica server volume))) (ap (λ (c : StoredCell). c.made) did.4))
 
   recovers_client_left : (client : ℕ) → RecoversClient old client reply outside new → IsLeft old reply new
-  recovers_client_left client (none, (header, asked, inl did)) = (whole (Recovered _) tt did.1, Actors (after_move old.made.acted (Recovers (TheClient client) did.0)) (ap (λ (c : StoredCell). c.made) did.3))
-  recovers_client_left client (none, (header, asked, inr did)) = (whole refused_fault tt did.3, refused_left (TheClient client) _ header _ did.0 did.1 did.2 (ap (λ (c : StoredCell). c.made) did.4))
+  recovers_client_left client (none, (header, asked, inl did)) =
+      (whole (Recovered _) tt did.1, Actors (after_move old.made.acted (Recovers (TheClient client) did.0)) (ap (λ (c : StoredCell). c.made) did.3))
+  recovers_client_left client (none, (header, asked, inr did)) =
+      (whole refused_fault tt did.3, refused_left (TheClient client) _ header _ did.0 did.1 did.2 (ap (λ (c : StoredCell). c.made) did.4))
 
   recovers_replica_left : (server volume : ℕ) → RecoversReplica old server volume reply outside new → IsLeft old reply new
   recovers_replica_left server volume (none, (header, asked, inl did)) =

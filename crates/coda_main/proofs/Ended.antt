@@ -269,7 +269,8 @@ module _ (cell : MadeCell) (kept : IsKept cell) where
 
 -- the ends that are there in one cell are there in another that shows the same
 there_as : (a b : MadeCell) → a.sizes ≡ b.sizes → a.homes ≡ b.homes → (sent : Sent) → IsThere a sent → IsThere b sent
-there_as a b sizes homes sent there = ((there.0.0, sym (ap (λ (f : ℕ → Option ℕ). f (client_of sent)) sizes) ∙ there.0.1), sym (ap (λ (f : ℕ → Option ℕ). f (volume_of sent)) homes) ∙ there.1)
+there_as a b sizes homes sent there =
+    ((there.0.0, sym (ap (λ (f : ℕ → Option ℕ). f (client_of sent)) sizes) ∙ there.0.1), sym (ap (λ (f : ℕ → Option ℕ). f (volume_of sent)) homes) ∙ there.1)
 
 all_as : (a b : MadeCell) → ShowsAs a b → AllThere a a.waiting → AllThere b b.waiting
 all_as a b shows all = subst (AllThere b) shows.waiting (all_stay a b (there_as a b shows.sizes shows.homes) a.waiting all)
@@ -285,10 +286,12 @@ module _ (old new : StoredCell) (kept : IsStoredKept old) (said : Line) (all : A
   met_fine : (links : ℕ → ℕ → Strength) (own : Reply) (events : List Event) → Does (state_of (met old links)) said own events → AreFine (met old links) events
   met_fine links own events does = line_fine (met old links) (met_kept old links kept) said own events (met_there links) does
 
-  fronts_there : (links : ℕ → ℕ → Strength) (done : List Event) → AreFine (met old links) done → ShowsAs (grown_all (met old links) done) new.made → AllThere new.made new.made.waiting
+  fronts_there : (links : ℕ → ℕ → Strength) (done : List Event) → AreFine (met old links) done → ShowsAs (grown_all (met old links) done) new.made
+      → AllThere new.made new.made.waiting
   fronts_there links done fine shows = all_as (grown_all (met old links) done) new.made shows (each (met old links) done fine (met_there links))
 
-  stopped_there : (links : ℕ → ℕ → Strength) (own : Reply) (events : List Event) (stop : Stop events) → Does (state_of (met old links)) said own events → ShowsAs (grown_all (met old links) stop.done) new.made → AllThere new.made new.made.waiting
+  stopped_there : (links : ℕ → ℕ → Strength) (own : Reply) (events : List Event) (stop : Stop events) → Does (state_of (met old links)) said own events
+      → ShowsAs (grown_all (met old links) stop.done) new.made → AllThere new.made new.made.waiting
   stopped_there links own events stop does shows =
       fronts_there links stop.done (front_fine (met old links) stop.done (Entered stop.next ∷ stop.rest) (subst (AreFine (met old links)) stop.is (met_fine links own events does))) shows
 
@@ -303,8 +306,10 @@ module _ (old new : StoredCell) (kept : IsStoredKept old) (said : Line) (all : A
 
   leaves_there : Leaves old.made new.made → AllThere new.made new.made.waiting
   leaves_there (Actors acted is) = acting_there old.made acted all is
-  leaves_there (OneVolume volume server acted none is) = acting_there (grown old.made (VolumeMade volume server)) acted (one old.made (VolumeMade volume server) none all) is
-  leaves_there (OneClient client blocks acted none is) = acting_there (grown old.made (ClientMade client blocks)) acted (one old.made (ClientMade client blocks) none all) is
+  leaves_there (OneVolume volume server acted none is) =
+      acting_there (grown old.made (VolumeMade volume server)) acted (one old.made (VolumeMade volume server) none all) is
+  leaves_there (OneClient client blocks acted none is) =
+      acting_there (grown old.made (ClientMade client blocks)) acted (one old.made (ClientMade client blocks) none all) is
 
   came_there : (reply : Reply) → ComesTo old said reply new → AllThere new.made new.made.waiting
   came_there reply (Acted ends) = ended_there reply ends
@@ -312,11 +317,13 @@ module _ (old new : StoredCell) (kept : IsStoredKept old) (said : Line) (all : A
 
 -- ---- runs
 
-gives_there : (old new : StoredCell) (bytes text : List ℕ) (outside : List (List ℕ)) → IsStoredKept old → AllThere old.made old.made.waiting → LineGives old bytes text outside new → AllThere new.made new.made.waiting
+gives_there : (old new : StoredCell) (bytes text : List ℕ) (outside : List (List ℕ)) → IsStoredKept old → AllThere old.made old.made.waiting
+    → LineGives old bytes text outside new → AllThere new.made new.made.waiting
 gives_there old new bytes text outside kept all (inl silent) = subst (λ (c : StoredCell). AllThere c.made c.made.waiting) (sym silent.3) all
 gives_there old new bytes text outside kept all (inr x) = came_there old new kept x.said all x.reply (line_comes old x.reply outside new x.said x.happens)
 
-runs_there : (old new : StoredCell) (ls : List (List ℕ)) (report : List ℕ) (outside : List (List ℕ)) → IsStoredKept old → AllThere old.made old.made.waiting → Runs LineGives old ls report outside new → AllThere new.made new.made.waiting
+runs_there : (old new : StoredCell) (ls : List (List ℕ)) (report : List ℕ) (outside : List (List ℕ)) → IsStoredKept old → AllThere old.made old.made.waiting
+    → Runs LineGives old ls report outside new → AllThere new.made new.made.waiting
 runs_there old new [] report outside kept all run = subst (λ (c : StoredCell). AllThere c.made c.made.waiting) (sym run.2) all
 runs_there old new (l ∷ more) report outside kept all run =
     runs_there run.0 new more run.2 run.4 (gives_kept old run.0 l run.1 run.3 kept run.5) (gives_there old run.0 l run.1 run.3 kept all run.5) run.6

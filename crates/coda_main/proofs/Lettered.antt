@@ -388,11 +388,15 @@ module _ (old new : StoredCell) (kept : IsStoredKept old) (said : Line) where
   Tells reply = TellsLetters said reply old.made.waiting new.made.waiting
 
   -- a line that is stopped at an entry posted nothing before it
-  stopped : (links : ℕ → ℕ → Strength) (own : Reply) (events : List Event) (stop : Stop events) → Does (state_of (met old links)) said own events → ShowsAs (grown_all (met old links) stop.done) new.made → new.made.waiting ≡ old.made.waiting
-  stopped links own events stop does shows = sym shows.waiting ∙ entries_stay (met old links) stop.done (stopped_entries events (line_first (state_of (met old links)) own events said does) stop)
+  stopped : (links : ℕ → ℕ → Strength) (own : Reply) (events : List Event) (stop : Stop events) → Does (state_of (met old links)) said own events
+      → ShowsAs (grown_all (met old links) stop.done) new.made → new.made.waiting ≡ old.made.waiting
+  stopped links own events stop does shows =
+      sym shows.waiting ∙ entries_stay (met old links) stop.done (stopped_entries events (line_first (state_of (met old links)) own events said does) stop)
 
-  all_told : (reply : Reply) (links : ℕ → ℕ → Strength) (events : List Event) → Does (state_of (met old links)) said reply events → ShowsAs (grown_all (met old links) events) new.made → Tells reply
-  all_told reply links events does shows = subst (TellsLetters said reply old.made.waiting) shows.waiting (tells (met old links) said reply events (met_kept old links kept) does)
+  all_told : (reply : Reply) (links : ℕ → ℕ → Strength) (events : List Event) → Does (state_of (met old links)) said reply events
+      → ShowsAs (grown_all (met old links) events) new.made → Tells reply
+  all_told reply links events does shows =
+      subst (TellsLetters said reply old.made.waiting) shows.waiting (tells (met old links) said reply events (met_kept old links kept) does)
 
   refusal_told : (reply : Reply) (name : Refusal) → reply ≡ replies.Refused name [] → new.made.waiting ≡ old.made.waiting → Tells reply
   refusal_told reply name is same = subst Tells (sym is) (refused_so said name [] old.made.waiting new.made.waiting same)

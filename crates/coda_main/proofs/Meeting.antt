@@ -45,7 +45,8 @@ pub clients_as : (a b : MadeCell) → ShowsAs a b → (state_of a).clients ≡ (
 clients_as a b as_is = λ i client. option_map (client_of client (as_is.clients client i)) (as_is.sizes i client)
 
 met_shows : (cell : StoredCell) (links : ℕ → ℕ → Strength) → ShowsAs (met cell links) cell.made
-met_shows cell links = record { clock = refl; servers = refl; homes = refl; sizes = refl; waiting = refl; posted = refl; clients = λ client. refl; replicas = λ server volume. refl }
+met_shows cell links =
+    record { clock = refl; servers = refl; homes = refl; sizes = refl; waiting = refl; posted = refl; clients = λ client. refl; replicas = λ server volume. refl }
 
 module _ {E : Type 0} where
   -- of two pairs of actors those that are chosen have the same history
@@ -112,7 +113,9 @@ shows_after a b (Entered (AtReplica server volume entry)) s = record {
   waiting = s.waiting;
   posted = s.posted;
   clients = s.clients;
-  replicas = λ t v. same_history ((t == server) && (v == volume)) (grown_actor entry (a.acted.replicas server volume)) (a.acted.replicas t v) (grown_actor entry (b.acted.replicas server volume)) (b.acted.replicas t v)
+  replicas =
+      λ t v. same_history ((t == server) && (v == volume)) (grown_actor entry (a.acted.replicas server volume)) (a.acted.replicas t v)
+      (grown_actor entry (b.acted.replicas server volume)) (b.acted.replicas t v)
       (ap (λ h. h ++ entry ∷ []) (s.replicas server volume)) (s.replicas t v);
 }
 shows_after a b (Posted sent) s = record {
@@ -147,7 +150,8 @@ after_made cell (event ∷ events) = after_made (after cell event) events
 
 -- what happened over other links shows the same
 pub met_after : (cell : StoredCell) (links : ℕ → ℕ → Strength) (events : List Event) → ShowsAs (grown_all (met cell links) events) (after_all cell events).made
-met_after cell links events = subst (ShowsAs (grown_all (met cell links) events)) (sym (after_made cell events)) (shows_all (met cell links) cell.made events (met_shows cell links))
+met_after cell links events =
+    subst (ShowsAs (grown_all (met cell links) events)) (sym (after_made cell events)) (shows_all (met cell links) cell.made events (met_shows cell links))
 
 -- an append that failed shows nothing
 failed_shows : (a : MadeCell) (cell : StoredCell) (append : Append) → ShowsAs a cell.made → ShowsAs a (failed cell append).made
@@ -178,10 +182,13 @@ failed_shows a cell (AtReplica server volume entry) s = record {
   replicas = λ t v. s.replicas t v ∙ sym (at t v);
 }
   where
-    at : (t v : ℕ) → (cond ((t == server) && (v == volume)) (fallen entry (cell.made.acted.replicas server volume)) (cell.made.acted.replicas t v)).history ≡ (cell.made.acted.replicas t v).history
+    at : (t v : ℕ)
+        → (cond ((t == server) && (v == volume)) (fallen entry (cell.made.acted.replicas server volume)) (cell.made.acted.replicas t v)).history ≡ (cell.made.acted.replicas t v).history
     at t v = elim ((t == server) && (v == volume)) as (λ b. ((t == server) && (v == volume)) ≡ b
         → (cond b (fallen entry (cell.made.acted.replicas server volume)) (cell.made.acted.replicas t v)).history ≡ (cell.made.acted.replicas t v).history) [
-          | true ↦ λ e. let both = and_parts (t == server) (v == volume) e in λ i. (cell.made.acted.replicas (sym (eqb-true t server both.0) i) (sym (eqb-true v volume both.1) i)).history
+          | true ↦ λ e. let both =
+              and_parts (t == server) (v == volume) e in λ i.
+              (cell.made.acted.replicas (sym (eqb-true t server both.0) i) (sym (eqb-true v volume both.1) i)).history
           | false ↦ λ e. refl
         ] refl
 
@@ -210,10 +217,13 @@ is_met cell _ = record { links = cell.made.links; is = refl }
 -- append fails, and what was before that happened
 pub data Ends (old : StoredCell) (said : Line) (reply : Reply) (new : StoredCell) : Type 0 where
   WasDown : is_down_for old said ≡ true → reply ≡ refused_down → new ≡ old → Ends old said reply new
-  DidAll : (links : ℕ → ℕ → Strength) (events : List Event) → Does (state_of (met old links)) said reply events → ShowsAs (grown_all (met old links) events) new.made → Ends old said reply new
-  LackedRoom : (links : ℕ → ℕ → Strength) (own : Reply) (events : List Event) (stop : Stop events) → Does (state_of (met old links)) said own events → ShowsAs (grown_all (met old links) stop.done) new.made
+  DidAll : (links : ℕ → ℕ → Strength) (events : List Event) → Does (state_of (met old links)) said reply events
+      → ShowsAs (grown_all (met old links) events) new.made → Ends old said reply new
+  LackedRoom : (links : ℕ → ℕ → Strength) (own : Reply) (events : List Event) (stop : Stop events) → Does (state_of (met old links)) said own events
+      → ShowsAs (grown_all (met old links) stop.done) new.made
       → reply ≡ refused_full → Lacks (after_all old stop.done) stop.next → new ≡ after_all old stop.done → Ends old said reply new
-  HadFault : (links : ℕ → ℕ → Strength) (own : Reply) (events : List Event) (stop : Stop events) → Does (state_of (met old links)) said own events → ShowsAs (grown_all (met old links) stop.done) new.made
+  HadFault : (links : ℕ → ℕ → Strength) (own : Reply) (events : List Event) (stop : Stop events) → Does (state_of (met old links)) said own events
+      → ShowsAs (grown_all (met old links) stop.done) new.made
       → reply ≡ refused_fault → new ≡ failed (after_all old stop.done) stop.next → Ends old said reply new
 
 acts_end : (old : StoredCell) (said : Line) (reply : Reply) (new : StoredCell) → Acts old said reply new → Ends old said reply new
@@ -238,7 +248,8 @@ acts_end old said reply new acts = by acts.ends
 abbrev pub ActsUp : StoredCell → Line → Becoming
 ActsUp old said = λ reply outside new. (outside ≡ []) × Acts old said reply new
 
-pub line_ends : (old : StoredCell) (said : Line) (reply : Reply) (outside : List (List ℕ)) (new : StoredCell) → UnlessDown (is_down_for old said) old (ActsUp old said) reply outside new → Ends old said reply new
+pub line_ends : (old : StoredCell) (said : Line) (reply : Reply) (outside : List (List ℕ)) (new : StoredCell)
+    → UnlessDown (is_down_for old said) old (ActsUp old said) reply outside new → Ends old said reply new
 line_ends old said reply outside new happens = by (is_down_for old said) refl happens
   where
     by : (b : Bool) → is_down_for old said ≡ b → UnlessDown b old (ActsUp old said) reply outside new → Ends old said reply new

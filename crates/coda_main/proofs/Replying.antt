@@ -45,18 +45,21 @@ unless_some (Some why) own has = (refusal why, [], (refl, refl))
 unless_some None own has = has refl
 
 -- an actor that isn't missing is there, and neither is one behind it
-there_of : {A : Type 0} (o : Option A) (rest : Option Refused) (number : ℕ) → (if is_some o then rest else Some (NoSuchActor number)) ≡ None → (x : A) × (o ≡ Some x) × (rest ≡ None)
+there_of : {A : Type 0} (o : Option A) (rest : Option Refused) (number : ℕ) → (if is_some o then rest else Some (NoSuchActor number)) ≡ None
+    → (x : A) × (o ≡ Some x) × (rest ≡ None)
 there_of (Some x) rest number e = (x, refl, e)
 there_of None rest number e = cc
 
-by_client : (s : CellState) (client volume : ℕ) (ask : Option Nodes → ClientState → Answer) → Some_of (Naming (on_volume s client volume) (ByClient s client volume ask))
+by_client : (s : CellState) (client volume : ℕ) (ask : Option Nodes → ClientState → Answer)
+    → Some_of (Naming (on_volume s client volume) (ByClient s client volume ask))
 by_client s client volume ask =
     unless_some (first_missing (on_volume s client volume)) (ByClient s client volume ask) (λ none.
     let c = there_of (s.clients client) (first_missing (volume_named s volume ∷ [])) client none in
     let answer = ask (offers_of s client volume) c.0 in
     (reply_to answer.said, map (at_client client) answer.entries, record { client = c.0; there = c.1; answered = refl; happened = refl }))
 
-by_both : (s : CellState) (client volume server window : ℕ) → Some_of (Naming (client_named s client ∷ volume_named s volume ∷ holder_named s server volume ∷ []) (ByBoth s client volume window))
+by_both : (s : CellState) (client volume server window : ℕ)
+    → Some_of (Naming (client_named s client ∷ volume_named s volume ∷ holder_named s server volume ∷ []) (ByBoth s client volume window))
 by_both s client volume server window =
     let behind = holder_named s server volume ∷ [] in
     unless_some (first_missing (client_named s client ∷ volume_named s volume ∷ behind)) (ByBoth s client volume window) (λ none.
@@ -132,7 +135,8 @@ FirstEntry events = AreNoEntries events ⊎ ((stop : Stop events) × AreNoEntrie
 
 one_more : (event : Event) (events : List Event) → AreNoEntries (event ∷ []) → FirstEntry events → FirstEntry (event ∷ events)
 one_more event events isnt (inl none) = inl (isnt.0, none)
-one_more event events isnt (inr (stop, none)) = inr (record { done = event ∷ stop.done; next = stop.next; rest = stop.rest; is = ap (λ es. event ∷ es) stop.is }, (isnt.0, none))
+one_more event events isnt (inr (stop, none)) =
+    inr (record { done = event ∷ stop.done; next = stop.next; rest = stop.rest; is = ap (λ es. event ∷ es) stop.is }, (isnt.0, none))
 
 first_entry : (events : List Event) → FirstEntry events
 first_entry [] = inl tt
@@ -189,17 +193,21 @@ module _ (old : StoredCell) where
       (refused_fault, [], with_replica_side mid volume (record (old.replicas volume) { given = given }), (refl, (header, asked, inr (given, mid, inl (refl, refl), refl, refl))))
 
   module _ (kept : IsStoredKept old) where
-    client_asked : (client : ℕ) → first_missing (client_named (state_of old.made) client ∷ []) ≡ None → (header : Header) × ((old.clients client).asked ≡ Some header)
+    client_asked : (client : ℕ) → first_missing (client_named (state_of old.made) client ∷ []) ≡ None
+        → (header : Header) × ((old.clients client).asked ≡ Some header)
     client_asked client all = by (old.made.sizes client) (client_size old client all) (kept.clients client)
       where
-        by : (o : Option ℕ) → ((blocks : ℕ) × (o ≡ Some blocks)) → IsClientSide client o (old.made.acted.clients client) (old.clients client) → (header : Header) × ((old.clients client).asked ≡ Some header)
+        by : (o : Option ℕ) → ((blocks : ℕ) × (o ≡ Some blocks)) → IsClientSide client o (old.made.acted.clients client) (old.clients client)
+            → (header : Header) × ((old.clients client).asked ≡ Some header)
         by None size side = (let no = size.1 in cc)
         by (Some blocks) size side = (client_header client blocks side.0, side.6)
 
-    replica_asked : (server volume : ℕ) → first_missing (holder_named (state_of old.made) server volume ∷ []) ≡ None → (header : Header) × ((old.replicas volume).asked ≡ Some header)
+    replica_asked : (server volume : ℕ) → first_missing (holder_named (state_of old.made) server volume ∷ []) ≡ None
+        → (header : Header) × ((old.replicas volume).asked ≡ Some header)
     replica_asked server volume all = by (old.made.homes volume) (holder_is old server volume all) (kept.replicas volume)
       where
-        by : (o : Option ℕ) → o ≡ Some server → IsReplicaSide volume o (λ s. old.made.acted.replicas s volume) (old.replicas volume) → (header : Header) × ((old.replicas volume).asked ≡ Some header)
+        by : (o : Option ℕ) → o ≡ Some server → IsReplicaSide volume o (λ s. old.made.acted.replicas s volume) (old.replicas volume)
+            → (header : Header) × ((old.replicas volume).asked ≡ Some header)
         by None home side = cc
         by (Some at) home side = (replica_header volume at side.0, side.5)
 
@@ -210,10 +218,15 @@ module _ (old : StoredCell) where
         (λ room. opens_some (client_header client blocks (area_of area)) (with_client old client blocks (area_of area)) (TheClient client))
     up_some (line.CrashClient client choice) b c = absurd c
     up_some (line.CrashReplica server volume choice) b c = absurd c
-    up_some (line.RecoverClient client) b c = unless_becomes (first_missing (client_named (state_of old.made) client ∷ [])) _ (λ all. let asked = client_asked client all in recovers_client_some client asked.0 asked.1)
-    up_some (line.RecoverReplica server volume) b c = unless_becomes (first_missing (holder_named (state_of old.made) server volume ∷ [])) _ (λ all. let asked = replica_asked server volume all in recovers_replica_some server volume asked.0 asked.1)
+    up_some (line.RecoverClient client) b c =
+        unless_becomes (first_missing (client_named (state_of old.made) client ∷ [])) _
+        (λ all. let asked = client_asked client all in recovers_client_some client asked.0 asked.1)
+    up_some (line.RecoverReplica server volume) b c =
+        unless_becomes (first_missing (holder_named (state_of old.made) server volume ∷ [])) _
+        (λ all. let asked = replica_asked server volume all in recovers_replica_some server volume asked.0 asked.1)
     up_some (line.ArmClient client passes) b c = unless_becomes (first_missing (client_named (state_of old.made) client ∷ [])) _ (λ all. stays_some Accepted)
-    up_some (line.ArmReplica server volume passes) b c = unless_becomes (first_missing (holder_named (state_of old.made) server volume ∷ [])) _ (λ all. stays_some Accepted)
+    up_some (line.ArmReplica server volume passes) b c =
+        unless_becomes (first_missing (holder_named (state_of old.made) server volume ∷ [])) _ (λ all. stays_some Accepted)
     up_some (line.Link client server strength) b c = acts_some old (line.Link client server strength)
         (unless_some (first_missing (client_named (state_of old.made) client ∷ server_named (state_of old.made) server ∷ [])) _ (λ none. happens_some Accepted (LinkSet client server strength)))
     up_some (line.Tick seconds) b c = acts_some old (line.Tick seconds) (happens_some Accepted (Ticked seconds))
@@ -222,7 +235,8 @@ module _ (old : StoredCell) where
         (unless_some (first_missing (holder_named (state_of old.made) server volume ∷ [])) _ (λ none. (ShowVolume server volume, [], (refl, refl))))
     up_some (line.ShowLog client volume) b c = acts_some old (line.ShowLog client volume)
         (unless_some (first_missing (on_volume (state_of old.made) client volume)) _ (λ none. (ShowLog client volume, [], (refl, refl))))
-    up_some (line.Send client volume server window) b c = acts_some old (line.Send client volume server window) (by_send (state_of old.made) client volume server (unwrap_or window 600))
+    up_some (line.Send client volume server window) b c =
+        acts_some old (line.Send client volume server window) (by_send (state_of old.made) client volume server (unwrap_or window 600))
     up_some (line.Deliver message) b c = acts_some old (line.Deliver message) (delivers_some (state_of old.made) message (sent_at message old.made.waiting))
     up_some (line.Lose message) b c = acts_some old (line.Lose message) (loses_some message (sent_at message old.made.waiting))
     up_some _ b c = absurd (false≢true b)
@@ -234,7 +248,8 @@ line_some old said kept built crashes = down_becomes old (is_down_for old said) 
 -- ---- scripts
 
 -- a line that is taken may run
-taken_gives : (old : StoredCell) (bytes : List ℕ) → IsStoredKept old → IsTaken bytes → (text : List ℕ) × (outside : List (List ℕ)) × (next : StoredCell) × LineGives old bytes text outside next
+taken_gives : (old : StoredCell) (bytes : List ℕ) → IsStoredKept old → IsTaken bytes
+    → (text : List ℕ) × (outside : List (List ℕ)) × (next : StoredCell) × LineGives old bytes text outside next
 taken_gives old bytes kept (inl silent) = ([], [], old, inl (silent, refl, refl, refl))
 taken_gives old bytes kept (inr said) =
     let happens = line_some old said.0 kept said.2 said.3 in
@@ -245,7 +260,8 @@ taken_gives old bytes kept (inr said) =
       inr (record { said = said.0; reply = happens.0; spelled = said.1; built = said.2; happens = happens.3; printed = refl }),
     )
 
-taken_run : (old : StoredCell) (ls : List (List ℕ)) → IsStoredKept old → AllByRecursion IsTaken ls → (report : List ℕ) × (outside : List (List ℕ)) × (state : StoredCell) × Runs LineGives old ls report outside state
+taken_run : (old : StoredCell) (ls : List (List ℕ)) → IsStoredKept old → AllByRecursion IsTaken ls
+    → (report : List ℕ) × (outside : List (List ℕ)) × (state : StoredCell) × Runs LineGives old ls report outside state
 taken_run old [] kept taken = ([], [], old, (refl, refl, refl))
 taken_run old (l ∷ ls) kept taken =
     let first = taken_gives old l kept taken.0 in

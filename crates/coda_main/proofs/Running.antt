@@ -41,12 +41,14 @@ gives_kept old new bytes text outside kept (inr x) = stored_cells_are_kept.lines
 
 -- ---- runs
 
-pub runs_kept : (old new : StoredCell) (ls : List (List ℕ)) (report : List ℕ) (outside : List (List ℕ)) → IsStoredKept old → Runs LineGives old ls report outside new → IsStoredKept new
+pub runs_kept : (old new : StoredCell) (ls : List (List ℕ)) (report : List ℕ) (outside : List (List ℕ)) → IsStoredKept old
+    → Runs LineGives old ls report outside new → IsStoredKept new
 runs_kept old new [] report outside kept run = subst IsStoredKept (sym run.2) kept
 runs_kept old new (l ∷ more) report outside kept run = runs_kept run.0 new more run.2 run.4 (gives_kept old run.0 l run.1 run.3 kept run.5) run.6
 
 -- whatever lines ran from the first cell, the cell is kept
-pub always_kept : (ls : List (List ℕ)) (report : List ℕ) (outside : List (List ℕ)) (cell : StoredCell) → Runs LineGives nothing_stored ls report outside cell → IsStoredKept cell
+pub always_kept : (ls : List (List ℕ)) (report : List ℕ) (outside : List (List ℕ)) (cell : StoredCell) → Runs LineGives nothing_stored ls report outside cell
+    → IsStoredKept cell
 always_kept ls report outside cell run = runs_kept nothing_stored cell ls report outside stored_cells_are_kept.first run
 
 -- ---- what runs leave
@@ -66,8 +68,10 @@ of_pending cell client volume c kept is =
     })
 
 -- the same of a cell on disks: what is pending by its histories is so by those that would be found
-stored_pending : (cell : StoredCell) (client volume : ℕ) (c : ClientState) → IsStoredKept cell → (state_of cell.made).clients client ≡ Some c → IsOfPending cell.made client volume c
-stored_pending cell client volume c kept is = let p = of_pending (whole cell.made none_joins) client volume c (kept.kept none_joins) is in record { chunk = p.chunk; records = p.records; pending = p.pending; thawed = p.thawed }
+stored_pending : (cell : StoredCell) (client volume : ℕ) (c : ClientState) → IsStoredKept cell → (state_of cell.made).clients client ≡ Some c
+    → IsOfPending cell.made client volume c
+stored_pending cell client volume c kept is =
+    let p = of_pending (whole cell.made none_joins) client volume c (kept.kept none_joins) is in record { chunk = p.chunk; records = p.records; pending = p.pending; thawed = p.thawed }
 
 pub has_run : (cell : StoredCell) → IsStoredKept cell → HasRun cell
 has_run cell kept = record { run = stored_cells_are_promised cell kept; logs = λ client volume c is. stored_pending cell client volume c kept is }
@@ -75,23 +79,27 @@ has_run cell kept = record { run = stored_cells_are_promised cell kept; logs = �
 pub scripts_run : ScriptsRun
 scripts_run ls report outside cell run = has_run cell (always_kept ls report outside cell run)
 
-promised : (ls : List (List ℕ)) (report : List ℕ) (outside : List (List ℕ)) (cell : StoredCell) → Runs LineGives nothing_stored ls report outside cell → ArePromised (histories_of cell)
+promised : (ls : List (List ℕ)) (report : List ℕ) (outside : List (List ℕ)) (cell : StoredCell) → Runs LineGives nothing_stored ls report outside cell
+    → ArePromised (histories_of cell)
 promised ls report outside cell run = (scripts_run ls report outside cell run).run.promised none_joins
 
 pub chunks_are_decided_once : ChunksAreDecidedOnce
 chunks_are_decided_once ls report outside cell run volume = (promised ls report outside cell run).once volume
 
 pub certified_chunks_are_applied : CertifiedChunksAreApplied
-certified_chunks_are_applied ls report outside cell run server volume d nodes decides whole = ((promised ls report outside cell run).just server volume d decides).certified nodes whole
+certified_chunks_are_applied ls report outside cell run server volume d nodes decides whole =
+    ((promised ls report outside cell run).just server volume d decides).certified nodes whole
 
 pub conflicts_name_a_sent_record : ConflictsNameASentRecord
-conflicts_name_a_sent_record ls report outside cell run server volume d refused why decides conflict = ((promised ls report outside cell run).just server volume d decides).conflict refused why conflict
+conflicts_name_a_sent_record ls report outside cell run server volume d refused why decides conflict =
+    ((promised ls report outside cell run).just server volume d decides).conflict refused why conflict
 
 pub operations_are_kept : OperationsAreKept
 operations_are_kept ls report outside cell run client volume = (promised ls report outside cell run).kept client volume
 
 pub settlements_are_decided : SettlementsAreDecided
-settlements_are_decided ls report outside cell run client volume s i = (((always_kept ls report outside cell run).kept none_joins).sound.agree none_joins).settled client volume s i
+settlements_are_decided ls report outside cell run client volume s i =
+    (((always_kept ls report outside cell run).kept none_joins).sound.agree none_joins).settled client volume s i
 
 pub logs_are_pending : LogsArePending
 logs_are_pending ls report outside cell run client volume c is = (scripts_run ls report outside cell run).logs client volume c is

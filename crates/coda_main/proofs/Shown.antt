@@ -190,7 +190,8 @@ module _ (cell : MadeCell) (reply : Reply) (kind : NodeKind) (is : shown_by repl
 -- ---- a cell on disks
 
 module _ (old new : StoredCell) (kept : IsStoredKept old) (t : Task) (kind : NodeKind) where
-  all_shown : (reply : Reply) (links : ℕ → ℕ → Strength) (events : List Event) → shown_by reply ≡ Some kind → Does (state_of (met old links)) (line.Task t) reply events → ShowsAs (grown_all (met old links) events) new.made
+  all_shown : (reply : Reply) (links : ℕ → ℕ → Strength) (events : List Event) → shown_by reply ≡ Some kind
+      → Does (state_of (met old links)) (line.Task t) reply events → ShowsAs (grown_all (met old links) events) new.made
       → WasShown t (state_of old.made).clients (state_of new.made).clients (state_of old.made).replicas kind
   all_shown reply links events is does shows =
       let cell = met old links in
@@ -202,7 +203,8 @@ module _ (old new : StoredCell) (kept : IsStoredKept old) (t : Task) (kind : Nod
   never : {A : Type 0} (reply other : Reply) → shown_by reply ≡ Some kind → shown_by other ≡ None → reply ≡ other → A
   never reply other is none same = (let no : None ≡ Some kind = sym none ∙ ap shown_by (sym same) ∙ is in cc)
 
-  ended : (reply : Reply) → shown_by reply ≡ Some kind → Ends old (line.Task t) reply new → WasShown t (state_of old.made).clients (state_of new.made).clients (state_of old.made).replicas kind
+  ended : (reply : Reply) → shown_by reply ≡ Some kind → Ends old (line.Task t) reply new
+      → WasShown t (state_of old.made).clients (state_of new.made).clients (state_of old.made).replicas kind
   ended reply is (WasDown down answered same) = never reply refused_down is refl answered
   ended reply is (DidAll links events does shows) = all_shown reply links events is does shows
   ended reply is (LackedRoom links own events stop does shows answered lacks same) = never reply refused_full is refl answered

@@ -62,7 +62,9 @@ accepted_whole entries v time volume (Ok op) = entered_whole entries v volume op
 
 unless_whole : (o : Option ℕ) (offers : Option Nodes) (c : ClientState) (time volume : ℕ) (ask : Asked) → IsSaid (operate_unless o offers c time volume ask).said
 unless_whole (Some length) offers c time volume ask = tt
-unless_whole None offers c time volume ask = accepted_whole (entries_of (look_ups offers c.held volume ask)) (c.volumes volume) time volume (accept (sight_of (behind_fetches c (look_ups offers c.held volume ask)) volume) volume ask)
+unless_whole None offers c time volume ask =
+    accepted_whole (entries_of (look_ups offers c.held volume ask)) (c.volumes volume) time volume
+    (accept (sight_of (behind_fetches c (look_ups offers c.held volume ask)) volume) volume ask)
 
 operated_whole : (offers : Option Nodes) (c : ClientState) (time volume : ℕ) (ask : Asked) → IsSaid (operate offers c time volume ask).said
 unfolding operate
@@ -78,7 +80,8 @@ listed_whole fetched (File content) = tt
 listed_whole fetched (Link target) = tt
 listed_whole fetched (Dir entries) = tt
 
-found_whole : (show : Bool → NodeKind → Said) → ((fetched : Bool) (kind : NodeKind) → IsSaid (show fetched kind)) → (fetches : List Fetch) (nodes : Nodes) (r : Result Fid Refused) → IsSaid (shown_at show fetches nodes r)
+found_whole : (show : Bool → NodeKind → Said) → ((fetched : Bool) (kind : NodeKind) → IsSaid (show fetched kind))
+    → (fetches : List Fetch) (nodes : Nodes) (r : Result Fid Refused) → IsSaid (shown_at show fetches nodes r)
 found_whole show whole fetches nodes (Err why) = tt
 found_whole show whole fetches nodes (Ok fid) = by (map.get nodes fid)
   where
@@ -137,8 +140,11 @@ module _ (s : CellState) (reply : Reply) (events : List Event) where
   unless_is (Some why) own rest does = whole_as (refusal why) tt does.0
   unless_is None own rest does = rest does
 
-  operates_whole : (client volume : ℕ) (ask : Asked) → Unless (first_missing (on_volume s client volume)) (ByClient s client volume (λ offers c. operate offers c s.clock volume ask)) reply events → IsWhole reply
-  operates_whole client volume ask does = unless_is (first_missing (on_volume s client volume)) (ByClient s client volume (λ offers c. operate offers c s.clock volume ask))
+  operates_whole : (client volume : ℕ) (ask : Asked)
+      → Unless (first_missing (on_volume s client volume)) (ByClient s client volume (λ offers c. operate offers c s.clock volume ask)) reply events
+      → IsWhole reply
+  operates_whole client volume ask does =
+      unless_is (first_missing (on_volume s client volume)) (ByClient s client volume (λ offers c. operate offers c s.clock volume ask))
       (λ did. whole_as (reply_to (operate (offers_of s client volume) did.client s.clock volume ask).said) (operated_whole (offers_of s client volume) did.client s.clock volume ask) did.answered) does
 
   task_whole : (t : Task) → DoesTask s t reply events → IsWhole reply
@@ -150,11 +156,14 @@ module _ (s : CellState) (reply : Reply) (events : List Event) where
   task_whole (task.Remove client volume path) does = operates_whole client volume _ does
   task_whole (task.Rmdir client volume path) does = operates_whole client volume _ does
   task_whole (task.Rename client volume from to) does = operates_whole client volume _ does
-  task_whole (task.Read client volume path) does = unless_is (first_missing (on_volume s client volume)) (ByClient s client volume (λ offers c. read offers c volume path))
+  task_whole (task.Read client volume path) does =
+      unless_is (first_missing (on_volume s client volume)) (ByClient s client volume (λ offers c. read offers c volume path))
       (λ did. whole_as (reply_to (read (offers_of s client volume) did.client volume path).said) (found_whole read_in read_whole _ _ _) did.answered) does
-  task_whole (task.List client volume path) does = unless_is (first_missing (on_volume s client volume)) (ByClient s client volume (λ offers c. list offers c volume path))
+  task_whole (task.List client volume path) does =
+      unless_is (first_missing (on_volume s client volume)) (ByClient s client volume (λ offers c. list offers c volume path))
       (λ did. whole_as (reply_to (list (offers_of s client volume) did.client volume path).said) (found_whole list_in listed_whole _ _ _) did.answered) does
-  task_whole (task.Drain client volume server window) does = unless_is (first_missing (on_holder s client volume server)) (ByBoth s client volume (unwrap_or window 600))
+  task_whole (task.Drain client volume server window) does =
+      unless_is (first_missing (on_holder s client volume server)) (ByBoth s client volume (unwrap_or window 600))
       (λ did. whole_as (reply_to (drain (s.links client did.replica.server) s.clock (unwrap_or window 600) client volume (did.client.volumes volume) did.replica).said)
       (drain_whole (s.links client did.replica.server) s.clock (unwrap_or window 600) client volume (did.client.volumes volume) did.replica) did.answered) does
   task_whole (task.Hardlink client volume from to) does = absurd does
@@ -162,9 +171,11 @@ module _ (s : CellState) (reply : Reply) (events : List Event) where
   task_whole (task.Giveup client volume) does = absurd does
 
   comes_whole : (sent : Sent) → Comes s sent reply events → IsWhole reply
-  comes_whole (ChunkSent client server volume number span) does = unless_is (first_missing (on_holder s client volume server)) (ByRuling s client server volume number span)
+  comes_whole (ChunkSent client server volume number span) does =
+      unless_is (first_missing (on_holder s client volume server)) (ByRuling s client server volume number span)
       (λ did. whole_as (reply_to (ruled_in s client server volume number (ruling client number span did.replica)).said) (rulings_whole s client server volume number (ruling client number span did.replica)) did.answered) does
-  comes_whole (AnswerSent server client volume number answer) does = unless_is (first_missing (on_holder s client volume server)) (ByTaking s client volume number answer)
+  comes_whole (AnswerSent server client volume number answer) does =
+      unless_is (first_missing (on_holder s client volume server)) (ByTaking s client volume number answer)
       (λ did. whole_as (reply_to (taken_in client volume number answer (taking number answer (did.client.volumes volume))).said) (takings_whole client volume number answer (taking number answer (did.client.volumes volume))) did.answered) does
 
   delivers_whole : (message : ℕ) (o : Option Sent) → Delivers s message o reply events → IsWhole reply
@@ -178,12 +189,14 @@ module _ (s : CellState) (reply : Reply) (events : List Event) where
   does_whole : (said : Line) → is_show said ≡ false → Does s said reply events → IsWhole reply
   does_whole (line.Volume volume servers area) isnt does = unless_is (no_volume s volume) _ (λ did. whole_as (Opened (0 ∷ [])) tt did.0) does
   does_whole (line.Client client blocks area) isnt does = unless_is (no_client s client) _ (λ did. whole_as (Opened (0 ∷ [])) tt did.0) does
-  does_whole (line.Link client server strength) isnt does = unless_is (first_missing (client_named s client ∷ server_named s server ∷ [])) _ (λ did. whole_as Accepted tt did.0) does
+  does_whole (line.Link client server strength) isnt does =
+      unless_is (first_missing (client_named s client ∷ server_named s server ∷ [])) _ (λ did. whole_as Accepted tt did.0) does
   does_whole (line.Tick seconds) isnt does = whole_as Accepted tt does.0
   does_whole (line.Task t) isnt does = task_whole t does
   does_whole (line.ShowVolume server volume) isnt does = absurd (false≢true (sym isnt))
   does_whole (line.ShowLog client volume) isnt does = absurd (false≢true (sym isnt))
-  does_whole (line.Send client volume server window) isnt does = unless_is (first_missing (on_holder s client volume server)) (BySend s client volume server (unwrap_or window 600))
+  does_whole (line.Send client volume server window) isnt does =
+      unless_is (first_missing (on_holder s client volume server)) (BySend s client volume server (unwrap_or window 600))
       (λ did. let froze = over (s.links client server) (freezing s.clock (unwrap_or window 600) server (did.client.volumes volume)) in whole_as (reply_to (sends_of s client volume server froze).said) (sends_whole s client volume server froze) did.answered) does
   does_whole (line.Deliver message) isnt does = delivers_whole message (sent_at message s.waiting) does
   does_whole (line.Lose message) isnt does = loses_whole message (sent_at message s.waiting) does
@@ -241,14 +254,16 @@ module _ (old new : StoredCell) (reply : Reply) where
       by same (inr (inr fault)) = refused_can refused_fault tt fault.2
 
   -- it is refused, or shows what is up
-  acted_can : (o : Option Refused) (shown : Reply) (own : Reply) (events : List Event) → (o ≡ None → CanShow old shown) → Unless o (Says shown) own events → EndsBy old events own reply new → CanShow new reply
+  acted_can : (o : Option Refused) (shown : Reply) (own : Reply) (events : List Event) → (o ≡ None → CanShow old shown) → Unless o (Says shown) own events
+      → EndsBy old events own reply new → CanShow new reply
   acted_can (Some why) shown own events can does ends = ended_can own events does.1 (subst (CanShow old) (sym does.0) tt) ends
   acted_can None shown own events can does ends = ended_can own events does.1 (subst (CanShow old) (sym does.0) (can refl)) ends
 
   shows_volume : (server volume : ℕ) (outside : List (List ℕ)) → Happens old (line.ShowVolume server volume) reply outside new → CanShow new reply
   shows_volume server volume outside happens = by (is_down_for old (line.ShowVolume server volume)) refl happens
     where
-      by : (b : Bool) → is_down_for old (line.ShowVolume server volume) ≡ b → UnlessDown b old (ActsUp old (line.ShowVolume server volume)) reply outside new → CanShow new reply
+      by : (b : Bool) → is_down_for old (line.ShowVolume server volume) ≡ b → UnlessDown b old (ActsUp old (line.ShowVolume server volume)) reply outside new
+          → CanShow new reply
       by true down h = refused_can refused_down tt h.0
       by false up h =
           let names = holder_named (state_of old.made) server volume ∷ [] in
@@ -257,7 +272,8 @@ module _ (old new : StoredCell) (reply : Reply) where
   shows_log : (client volume : ℕ) (outside : List (List ℕ)) → Happens old (line.ShowLog client volume) reply outside new → CanShow new reply
   shows_log client volume outside happens = by (is_down_for old (line.ShowLog client volume)) refl happens
     where
-      by : (b : Bool) → is_down_for old (line.ShowLog client volume) ≡ b → UnlessDown b old (ActsUp old (line.ShowLog client volume)) reply outside new → CanShow new reply
+      by : (b : Bool) → is_down_for old (line.ShowLog client volume) ≡ b → UnlessDown b old (ActsUp old (line.ShowLog client volume)) reply outside new
+          → CanShow new reply
       by true down h = refused_can refused_down tt h.0
       by false up h =
           let s = state_of old.made in
@@ -265,7 +281,8 @@ module _ (old new : StoredCell) (reply : Reply) where
           acted_can (first_missing names) (ShowLog client volume) h.1.own h.1.events
           (λ all. (not_down (first_missing names) (client_down old client) all up, some_there (s.clients client) (first_there (client_named s client) (volume_named s volume ∷ []) all))) h.1.does h.1.ends
 
-pub shows_what_is_up : (old new : StoredCell) (said : Line) (reply : Reply) (outside : List (List ℕ)) → IsStoredKept old → Happens old said reply outside new → CanShow new reply
+pub shows_what_is_up : (old new : StoredCell) (said : Line) (reply : Reply) (outside : List (List ℕ)) → IsStoredKept old → Happens old said reply outside new
+    → CanShow new reply
 shows_what_is_up old new (line.ShowVolume server volume) reply outside kept happens = shows_volume old new reply server volume outside happens
 shows_what_is_up old new (line.ShowLog client volume) reply outside kept happens = shows_log old new reply client volume outside happens
 shows_what_is_up old new said reply outside kept happens = whole_can new reply (came_whole old new said refl reply (line_comes old reply outside new said happens))

@@ -34,12 +34,14 @@ abbrev AreOf : ℕ → List Event → Type 0
 AreOf client = AreBy (λ c. c ≡ client) (λ server volume. ⊥)
 
 module _ (s : CellState) (reply : Reply) (events : List Event) where
-  of_asked : (client volume : ℕ) (ask : Option Nodes → ClientState → Answer) (o : Option Refused) → Unless o (ByClient s client volume ask) reply events → AreOf client events
+  of_asked : (client volume : ℕ) (ask : Option Nodes → ClientState → Answer) (o : Option Refused) → Unless o (ByClient s client volume ask) reply events
+      → AreOf client events
   of_asked client volume ask (Some why) isnt = subst (AreOf client) (sym isnt.1) tt
   of_asked client volume ask None did =
       subst (AreOf client) (sym did.happened) (by_entries (λ c. c ≡ client) (λ server volume. ⊥) client (ask (offers_of s client volume) did.client).entries refl)
 
-  of_named : (c v client volume : ℕ) (ask : Option Nodes → ClientState → Answer) → (let named : ℕ × ℕ = (c, v) in Some named ≡ Some (client, volume)) → Unless (first_missing (on_volume s c v)) (ByClient s c v ask) reply events → AreOf client events
+  of_named : (c v client volume : ℕ) (ask : Option Nodes → ClientState → Answer) → (let named : ℕ × ℕ = (c, v) in Some named ≡ Some (client, volume))
+      → Unless (first_missing (on_volume s c v)) (ByClient s c v ask) reply events → AreOf client events
   of_named c v client volume ask named does = at_named c v client volume (λ c v. AreOf c events) named (of_asked c v ask (first_missing (on_volume s c v)) does)
 
   task_of : (t : Task) (client volume : ℕ) → DoesTask s t reply events → named_by t ≡ Some (client, volume) → AreOf client events
@@ -61,8 +63,11 @@ module _ (s : CellState) (reply : Reply) (events : List Event) where
 -- ---- a client that is down
 
 module _ (old : StoredCell) where
-  down_there : (c v client volume : ℕ) → (let named : ℕ × ℕ = (c, v) in Some named ≡ Some (client, volume)) → (all_there (on_volume (state_of old.made) c v) && client_down old c) ≡ true → client_down old client ≡ true
-  down_there c v client volume named down = at_named c v client volume (λ c v. client_down old c ≡ true) named (and_parts (all_there (on_volume (state_of old.made) c v)) (client_down old c) down).1
+  down_there : (c v client volume : ℕ) → (let named : ℕ × ℕ = (c, v) in Some named ≡ Some (client, volume))
+      → (all_there (on_volume (state_of old.made) c v) && client_down old c) ≡ true → client_down old client ≡ true
+  down_there c v client volume named down =
+      at_named c v client volume (λ c v. client_down old c ≡ true) named
+      (and_parts (all_there (on_volume (state_of old.made) c v)) (client_down old c) down).1
 
   down_for : (t : Task) (client volume : ℕ) → named_by t ≡ Some (client, volume) → task_down old t ≡ true → client_down old client ≡ true
   down_for (task.Create c v path mode owner) client volume named down = down_there c v client volume named down
@@ -106,20 +111,25 @@ stopped_of client events stop are = (by_parts (λ c. c ≡ client) (λ server vo
 
 module _ (old new : StoredCell) (kept : IsStoredKept old) (t : Task) (client volume : ℕ) (named : named_by t ≡ Some (client, volume)) where
   abbrev Is : Reply → Type 0
-  Is reply = IsAnswered t client volume (first_missing (on_volume (state_of old.made) client volume)) (state_of new.made).clients reply ⊎ DiskCause old new client reply
+  Is reply =
+      IsAnswered t client volume (first_missing (on_volume (state_of old.made) client volume)) (state_of new.made).clients reply
+      ⊎ DiskCause old new client reply
 
-  answered : (reply : Reply) (links : ℕ → ℕ → Strength) (events : List Event) → Does (state_of (met old links)) (line.Task t) reply events → ShowsAs (grown_all (met old links) events) new.made → Is reply
+  answered : (reply : Reply) (links : ℕ → ℕ → Strength) (events : List Event) → Does (state_of (met old links)) (line.Task t) reply events
+      → ShowsAs (grown_all (met old links) events) new.made → Is reply
   answered reply links events does shows =
       let cell = met old links in
       inl (subst (λ clients. IsAnswered t client volume (first_missing (on_volume (state_of old.made) client volume)) clients reply) (clients_as (grown_all cell events) new.made shows)
       (task_is cell reply events (lines_keep_cells cell (line.Task t) reply events (met_kept old links kept) tt does).shown t client volume does named))
 
-  full : (reply own : Reply) (links : ℕ → ℕ → Strength) (events : List Event) (stop : Stop events) → Does (state_of (met old links)) (line.Task t) own events → reply ≡ refused_full → Lacks (after_all old stop.done) stop.next
+  full : (reply own : Reply) (links : ℕ → ℕ → Strength) (events : List Event) (stop : Stop events) → Does (state_of (met old links)) (line.Task t) own events
+      → reply ≡ refused_full → Lacks (after_all old stop.done) stop.next
       → new ≡ after_all old stop.done → Is reply
   full reply own links events stop does is lacks same =
       inr (no_room old new (after_all old stop.done) client reply stop.next (stopped_of client events stop (task_of (state_of (met old links)) own events t client volume does named)) lacks is same)
 
-  fault : (reply own : Reply) (links : ℕ → ℕ → Strength) (events : List Event) (stop : Stop events) → Does (state_of (met old links)) (line.Task t) own events → reply ≡ refused_fault → new ≡ failed (after_all old stop.done) stop.next → Is reply
+  fault : (reply own : Reply) (links : ℕ → ℕ → Strength) (events : List Event) (stop : Stop events)
+      → Does (state_of (met old links)) (line.Task t) own events → reply ≡ refused_fault → new ≡ failed (after_all old stop.done) stop.next → Is reply
   fault reply own links events stop does is same =
       inr (has_failed old new (after_all old stop.done) client reply stop.next (stopped_of client events stop (task_of (state_of (met old links)) own events t client volume does named)) is same)
 

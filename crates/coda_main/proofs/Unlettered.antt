@@ -136,7 +136,8 @@ module _ (s : CellState) (reply : Reply) (events : List Event) where
   unless_entries (Some why) own rest does = subst AreEntries (sym does.1) tt
   unless_entries None own rest does = rest does
 
-  asked_entries : (o : Option Refused) (client volume : ℕ) (ask : Option Nodes → ClientState → ClientAnswer) → Unless o (ByClient s client volume ask) reply events → AreEntries events
+  asked_entries : (o : Option Refused) (client volume : ℕ) (ask : Option Nodes → ClientState → ClientAnswer)
+      → Unless o (ByClient s client volume ask) reply events → AreEntries events
   asked_entries o client volume ask does =
       unless_entries o (ByClient s client volume ask) (λ did. subst AreEntries (sym did.happened) (client_entries client (ask (offers_of s client volume) did.client).entries)) does
 
@@ -155,17 +156,23 @@ drained_entries : (client volume : ℕ) (v : ClientVolume) (r : ReplicaState) (o
 drained_entries client volume v r (Err why) = tt
 drained_entries client volume v r (Ok f) = ruled_entries client volume f r (ruling client f.number f.span r)
 
-drain_entries : (strength : Strength) (now window client volume : ℕ) (v : ClientVolume) (r : ReplicaState) → AreEntries (drain strength now window client volume v r).events
+drain_entries : (strength : Strength) (now window client volume : ℕ) (v : ClientVolume) (r : ReplicaState)
+    → AreEntries (drain strength now window client volume v r).events
 drain_entries Strong now window client volume v r = drained_entries client volume v r (freezing now window r.server v)
 drain_entries Weak now window client volume v r = drained_entries client volume v r (freezing now window r.server v)
 drain_entries Down now window client volume v r = tt
 
 pub task_entries : (s : CellState) (reply : Reply) (events : List Event) (t : Task) → DoesTask s t reply events → AreEntries events
-task_entries s reply events (task.Create client volume path mode owner) does = asked_entries s reply events (first_missing (on_volume s client volume)) client volume _ does
-task_entries s reply events (task.Mkdir client volume path mode owner) does = asked_entries s reply events (first_missing (on_volume s client volume)) client volume _ does
-task_entries s reply events (task.Symlink client volume path target) does = asked_entries s reply events (first_missing (on_volume s client volume)) client volume _ does
-task_entries s reply events (task.Store client volume path content) does = asked_entries s reply events (first_missing (on_volume s client volume)) client volume _ does
-task_entries s reply events (task.Setattr client volume path attrs) does = asked_entries s reply events (first_missing (on_volume s client volume)) client volume _ does
+task_entries s reply events (task.Create client volume path mode owner) does =
+    asked_entries s reply events (first_missing (on_volume s client volume)) client volume _ does
+task_entries s reply events (task.Mkdir client volume path mode owner) does =
+    asked_entries s reply events (first_missing (on_volume s client volume)) client volume _ does
+task_entries s reply events (task.Symlink client volume path target) does =
+    asked_entries s reply events (first_missing (on_volume s client volume)) client volume _ does
+task_entries s reply events (task.Store client volume path content) does =
+    asked_entries s reply events (first_missing (on_volume s client volume)) client volume _ does
+task_entries s reply events (task.Setattr client volume path attrs) does =
+    asked_entries s reply events (first_missing (on_volume s client volume)) client volume _ does
 task_entries s reply events (task.Remove client volume path) does = asked_entries s reply events (first_missing (on_volume s client volume)) client volume _ does
 task_entries s reply events (task.Rmdir client volume path) does = asked_entries s reply events (first_missing (on_volume s client volume)) client volume _ does
 task_entries s reply events (task.Rename client volume from to) does = asked_entries s reply events (first_missing (on_volume s client volume)) client volume _ does
@@ -219,9 +226,11 @@ module _ (s : CellState) where
     unless_first None own rest does = rest does
 
     comes_first : (sent : Sent) → Comes s sent reply events → ComeFirst events
-    comes_first (ChunkSent client server volume number span) does = unless_first (first_missing (on_holder s client volume server)) (ByRuling s client server volume number span)
+    comes_first (ChunkSent client server volume number span) does =
+        unless_first (first_missing (on_holder s client volume server)) (ByRuling s client server volume number span)
         (λ did. subst ComeFirst (sym did.happened) (rulings_first client server volume number (ruling client number span did.replica))) does
-    comes_first (AnswerSent server client volume number answer) does = unless_first (first_missing (on_holder s client volume server)) (ByTaking s client volume number answer)
+    comes_first (AnswerSent server client volume number answer) does =
+        unless_first (first_missing (on_holder s client volume server)) (ByTaking s client volume number answer)
         (λ did. subst ComeFirst (sym did.happened) (takings_first client volume number answer (taking number answer (did.client.volumes volume)))) does
 
     delivers_first : (message : ℕ) (o : Option Sent) → Delivers s message o reply events → ComeFirst events
@@ -235,12 +244,14 @@ module _ (s : CellState) where
     pub line_first : (said : Line) → Does s said reply events → ComeFirst events
     line_first (line.Volume volume servers area) does = unless_first (no_volume s volume) _ (λ did. subst ComeFirst (sym did.1) tt) does
     line_first (line.Client client blocks area) does = unless_first (no_client s client) _ (λ did. subst ComeFirst (sym did.1) tt) does
-    line_first (line.Link client server strength) does = unless_first (first_missing (client_named s client ∷ server_named s server ∷ [])) _ (λ did. subst ComeFirst (sym did.1) tt) does
+    line_first (line.Link client server strength) does =
+        unless_first (first_missing (client_named s client ∷ server_named s server ∷ [])) _ (λ did. subst ComeFirst (sym did.1) tt) does
     line_first (line.Tick seconds) does = subst ComeFirst (sym does.1) tt
     line_first (line.Task t) does = are_first events (task_entries s reply events t does)
     line_first (line.ShowVolume server volume) does = unless_first (first_missing (holder_named s server volume ∷ [])) _ (λ did. none_first did.1) does
     line_first (line.ShowLog client volume) does = unless_first (first_missing (on_volume s client volume)) _ (λ did. none_first did.1) does
-    line_first (line.Send client volume server window) does = unless_first (first_missing (on_holder s client volume server)) (BySend s client volume server (unwrap_or window 600))
+    line_first (line.Send client volume server window) does =
+        unless_first (first_missing (on_holder s client volume server)) (BySend s client volume server (unwrap_or window 600))
         (λ did. subst ComeFirst (sym did.happened) (sends_first client volume server (over (s.links client server) (freezing s.clock (unwrap_or window 600) server (did.client.volumes volume))))) does
     line_first (line.Deliver message) does = delivers_first message (sent_at message s.waiting) does
     line_first (line.Lose message) does = loses_first message (sent_at message s.waiting) does
