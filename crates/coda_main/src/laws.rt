@@ -1,10 +1,10 @@
 // What follows from the answers of a run, and what all runs have in common.
 ghost use Rattle.coda_engine.specs.Exact.{CleanScriptsRun, OneStatus};
-ghost use Rattle.coda_cell.specs.Made.{nothing_made};
+ghost use Rattle.coda_stored.specs.Cells.{nothing_stored};
 ghost use Rattle.coda_main.specs.Cached.{CachedIsHeld};
 ghost use Rattle.coda_main.specs.Causes.{RefusalsHaveCauses};
 ghost use Rattle.coda_main.specs.Complete.{ScriptsInGrammarAreClean};
-ghost use Rattle.coda_main.specs.Headline.{ScriptsRun, ChunksAreDecidedOnce, CertifiedChunksAreApplied, ConflictsNameASentRecord, OperationsAreKept, SettlementsAreDecided, LogsArePending};
+ghost use Rattle.coda_main.specs.Headline.{ScriptsRun, ChunksAreDecidedOnce, CertifiedChunksAreApplied, ConflictsNameASentRecord, OperationsAreKept, SettlementsAreDecided, LogsArePending, AcknowledgedEntriesStay, ClientsComeBack, ReplicasComeBack};
 ghost use Rattle.coda_main.specs.Lettered.{RepliesNameLetters, LettersSayWhatIsSo, LettersHaveEnds};
 ghost use Rattle.coda_main.specs.Performed.{OperationsArePerformed};
 ghost use Rattle.coda_main.specs.Runs.{LineGives, LineRefused};
@@ -14,12 +14,12 @@ ghost use Rattle.coda_main.specs.Thawed.{VerdictsThaw};
 /// A script that the cell can run from its first line to its last, within the limits, never ends as one with a bad
 /// line or as one that is too long.
 pub fn clean_scripts_run()
-    ensures { CleanScriptsRun LineGives LineRefused nothing_made nothing_made }
+    ensures { CleanScriptsRun LineGives LineRefused nothing_stored nothing_stored }
 {}
 
 /// A script has one status, however it is cut into pieces, but for faults and want of memory.
 pub fn one_status()
-    ensures { OneStatus LineGives LineRefused nothing_made nothing_made }
+    ensures { OneStatus LineGives LineRefused nothing_stored nothing_stored }
 {}
 
 /// A script within the limits whose lines are silent, or in the grammar and built, can run to its end from whatever
@@ -69,6 +69,25 @@ pub fn settlements_are_decided()
 /// applied.
 pub fn logs_are_pending()
     ensures { LogsArePending }
+{}
+
+/// Whatever lines follow, crashes and disks that fail or fill up among them, no entry that a client or a server
+/// acknowledged is lost: its history begins with what it was (Kistler and Satyanarayanan 1992: the log of a client
+/// that isn't connected outlives its crashes).
+pub fn acknowledged_entries_stay()
+    ensures { AcknowledgedEntriesStay }
+{}
+
+/// Whatever lines ran, a client that is recovered has the log from before its crash, or that one with the one
+/// operation whose append failed, and the reply counts its entries.
+pub fn clients_come_back()
+    ensures { ClientsComeBack }
+{}
+
+/// Whatever lines ran, a server's replica of a volume that is recovered has the entries from before its crash, or
+/// those and the one whose append failed, so that a verdict that was answered is kept; and the reply counts them.
+pub fn replicas_come_back()
+    ensures { ReplicasComeBack }
 {}
 
 /// A reply to a read or a listing says `cached` exactly where the client held the object before the line.

@@ -15,7 +15,7 @@ use Rattle.coda_plain.specs.Cell.{ClientEntry, Joins, found}
 use Rattle.coda_plain.specs.Decisions.{ReplicaEntry}
 use Rattle.coda_cell.specs.Ask.{Asked, Create, Mkdir, Symlink, Store, Setattr, Remove, Rmdir, Rename}
 use Rattle.coda_cell.specs.Asking.{Answer, operate, read, list}
-use Rattle.coda_cell.specs.State.{ClientState, ReplicaState, new_replica, CellState, Event, Ticked, LinkSet, Lost, at_client}
+use Rattle.coda_cell.specs.State.{ClientState, ReplicaState, new_replica, Event, at_client}
 use Rattle.coda_cell.specs.Made.{MadeCell, client_of, replica_of, state_of}
 use Rattle.coda_cell.specs.Steps.{Named, client_named, volume_named, server_named, holder_named, on_volume, on_holder, first_missing, Doing, Unless, reached, offers_of, reply_to, ByClient, ByBoth, BySend, ByRuling, ByTaking, bytes_of, Comes, link_down, Delivers, Loses, Does}
 use Rattle.coda_cell.specs.declared.refused.Refused.{Refused}
@@ -154,7 +154,7 @@ module _ (old : StoredCell) (clean : AreClean old.made.acted) where
     ask_acted : (client volume : ℕ) (ask : Option Nodes → ClientState → Answer) → (all_there (on_volume (state_of old.made) client volume) && client_down old client) ≡ false
         → Unless (first_missing (on_volume (state_of old.made) client volume)) (ByClient (met_by old volume) client volume ask) own events
         → (events ≡ []) ⊎ (AreBy (UpClient old.made) (UpReplica old.made) events
-          × ((joins : Joins) → (let t = state_of (relinked (whole old.made joins) (links_to old volume)) in Unless (first_missing (on_volume t client volume)) (ByClient t client volume ask) own events)))
+        × ((joins : Joins) → (let t = state_of (relinked (whole old.made joins) (links_to old volume)) in Unless (first_missing (on_volume t client volume)) (ByClient t client volume ask) own events)))
     ask_acted client volume ask down does = unless_acted (first_missing (on_volume (state_of old.made) client volume)) (ByClient (met_by old volume) client volume ask) own events (λ all did.
         let size = made_size client (old.made.acted.clients client).history (old.made.sizes client) did.client did.there in
         let up = client_up client (on_volume (state_of old.made) client volume) all down size.0 size.1 in
@@ -168,7 +168,7 @@ module _ (old : StoredCell) (clean : AreClean old.made.acted) where
             let volumes = some_same (replica_of (λ server. (old.made.acted.replicas server volume).history) volume) (replica_of (λ server. found (joins.replicas server volume) (old.made.acted.replicas server volume)) volume) (old.made.homes volume) in
             let named : first_missing (on_volume (state_of old.made) client volume) ≡ first_missing (on_volume t client volume) = (λ i. first_missing (record { number = client; there = here i } ∷ record { number = volume; there = volumes i } ∷ [])) in
             let offers : offers_of (met_by old volume) client volume ≡ offers_of t client volume = offered_same volume (λ server. (old.made.acted.replicas server volume).history) (λ server. found (joins.replicas server volume) (old.made.acted.replicas server volume))
-                (λ server. (old.made.acted.replicas server volume).up) (old.made.links client) (old.made.homes volume) (λ server is. found_replica joins server volume is) in
+            (λ server. (old.made.acted.replicas server volume).up) (old.made.links client) (old.made.homes volume) (λ server is. found_replica joins server volume is) in
             subst (λ o. Unless o (ByClient t client volume ask) own events) (sym all ∙ named) (record {
               client = did.client;
               there = sym (same_client joins client up) ∙ did.there;
@@ -182,11 +182,11 @@ module _ (old : StoredCell) (clean : AreClean old.made.acted) where
     task_acted work links (inl none) = inl none
     task_acted work links (inr did) = inr (record { by = did.0; links = links; does = did.1 })
 
-    operates_acted : (work : Task) (client volume : ℕ) (ask : Asked) → (all_there (on_volume (state_of old.made) client volume) && client_down old client) ≡ false
+    operates_acted : (client volume : ℕ) (ask : Asked) → (all_there (on_volume (state_of old.made) client volume) && client_down old client) ≡ false
         → Unless (first_missing (on_volume (state_of old.made) client volume)) (ByClient (met_by old volume) client volume (λ offers c. operate offers c old.made.clock volume ask)) own events
         → (events ≡ []) ⊎ (AreBy (UpClient old.made) (UpReplica old.made) events
-          × ((joins : Joins) → (let t = state_of (relinked (whole old.made joins) (links_to old volume)) in Unless (first_missing (on_volume t client volume)) (ByClient t client volume (λ offers c. operate offers c old.made.clock volume ask)) own events)))
-    operates_acted work client volume ask down does = ask_acted client volume (λ offers c. operate offers c old.made.clock volume ask) down does
+        × ((joins : Joins) → (let t = state_of (relinked (whole old.made joins) (links_to old volume)) in Unless (first_missing (on_volume t client volume)) (ByClient t client volume (λ offers c. operate offers c old.made.clock volume ask)) own events)))
+    operates_acted client volume ask down does = ask_acted client volume (λ offers c. operate offers c old.made.clock volume ask) down does
 
     -- ---- a drain
 
@@ -213,14 +213,14 @@ module _ (old : StoredCell) (clean : AreClean old.made.acted) where
         some_is a b e = cc
 
     pub tasks_acted : (work : Task) → is_down_for old (line.Task work) ≡ false → Does (meets old (line.Task work)) (line.Task work) own events → (events ≡ []) ⊎ IsActed old (line.Task work) own events
-    tasks_acted (task.Create client volume path mode owner) down does = task_acted (task.Create client volume path mode owner) (links_to old volume) (operates_acted (task.Create client volume path mode owner) client volume (Create path (unwrap_or mode 420) (unwrap_or owner 0)) down does)
-    tasks_acted (task.Mkdir client volume path mode owner) down does = task_acted (task.Mkdir client volume path mode owner) (links_to old volume) (operates_acted (task.Mkdir client volume path mode owner) client volume (Mkdir path (unwrap_or mode 493) (unwrap_or owner 0)) down does)
-    tasks_acted (task.Symlink client volume path target) down does = task_acted (task.Symlink client volume path target) (links_to old volume) (operates_acted (task.Symlink client volume path target) client volume (Symlink path target) down does)
-    tasks_acted (task.Store client volume path content) down does = task_acted (task.Store client volume path content) (links_to old volume) (operates_acted (task.Store client volume path content) client volume (Store path (bytes_of content)) down does)
-    tasks_acted (task.Setattr client volume path attrs) down does = task_acted (task.Setattr client volume path attrs) (links_to old volume) (operates_acted (task.Setattr client volume path attrs) client volume (Setattr path attrs) down does)
-    tasks_acted (task.Remove client volume path) down does = task_acted (task.Remove client volume path) (links_to old volume) (operates_acted (task.Remove client volume path) client volume (Remove path) down does)
-    tasks_acted (task.Rmdir client volume path) down does = task_acted (task.Rmdir client volume path) (links_to old volume) (operates_acted (task.Rmdir client volume path) client volume (Rmdir path) down does)
-    tasks_acted (task.Rename client volume from to) down does = task_acted (task.Rename client volume from to) (links_to old volume) (operates_acted (task.Rename client volume from to) client volume (Rename from to) down does)
+    tasks_acted (task.Create client volume path mode owner) down does = task_acted (task.Create client volume path mode owner) (links_to old volume) (operates_acted client volume (Create path (unwrap_or mode 420) (unwrap_or owner 0)) down does)
+    tasks_acted (task.Mkdir client volume path mode owner) down does = task_acted (task.Mkdir client volume path mode owner) (links_to old volume) (operates_acted client volume (Mkdir path (unwrap_or mode 493) (unwrap_or owner 0)) down does)
+    tasks_acted (task.Symlink client volume path target) down does = task_acted (task.Symlink client volume path target) (links_to old volume) (operates_acted client volume (Symlink path target) down does)
+    tasks_acted (task.Store client volume path content) down does = task_acted (task.Store client volume path content) (links_to old volume) (operates_acted client volume (Store path (bytes_of content)) down does)
+    tasks_acted (task.Setattr client volume path attrs) down does = task_acted (task.Setattr client volume path attrs) (links_to old volume) (operates_acted client volume (Setattr path attrs) down does)
+    tasks_acted (task.Remove client volume path) down does = task_acted (task.Remove client volume path) (links_to old volume) (operates_acted client volume (Remove path) down does)
+    tasks_acted (task.Rmdir client volume path) down does = task_acted (task.Rmdir client volume path) (links_to old volume) (operates_acted client volume (Rmdir path) down does)
+    tasks_acted (task.Rename client volume from to) down does = task_acted (task.Rename client volume from to) (links_to old volume) (operates_acted client volume (Rename from to) down does)
     tasks_acted (task.Read client volume path) down does = task_acted (task.Read client volume path) (links_to old volume) (ask_acted client volume (λ offers c. read offers c volume path) down does)
     tasks_acted (task.List client volume path) down does = task_acted (task.List client volume path) (links_to old volume) (ask_acted client volume (λ offers c. list offers c volume path) down does)
     tasks_acted (task.Drain client volume server window) down does = drain_acted client volume server window down does
@@ -247,7 +247,7 @@ module _ (old : StoredCell) (clean : AreClean old.made.acted) where
         → first_missing (on_holder (state_of old.made) client volume server) ≡ None → ByRuling (state_of old.made) client server volume number span own events → Does (state_of old.made) (line.Deliver message) own events → IsActed old (line.Deliver message) own events
     chunk_acted message client server volume number span is down all did does =
         let home = holder_home volume (λ s. (old.made.acted.replicas s volume).history) (λ s. (old.made.acted.replicas s volume).history) (old.made.homes volume) server
-            (are_all_there (client_named (state_of old.made) client) (volume_named (state_of old.made) volume) (holder_named (state_of old.made) server volume) all).2 in
+        (are_all_there (client_named (state_of old.made) client) (volume_named (state_of old.made) volume) (holder_named (state_of old.made) server volume) all).2 in
         let up = replica_up volume server down home in
         record {
           by = subst (AreBy (UpClient old.made) (UpReplica old.made)) (sym did.happened) (by_ruling (UpClient old.made) (UpReplica old.made) client volume (state_of old.made) server number span did.replica (up, home));
@@ -282,14 +282,14 @@ module _ (old : StoredCell) (clean : AreClean old.made.acted) where
         unless_acted (link_down (old.made.links client server)) (Comes (state_of old.made) (ChunkSent client server volume number span)) own events (λ link comes.
         unless_acted (first_missing names) (ByRuling (state_of old.made) client server volume number span) own events (λ all did.
         inr (chunk_acted message client server volume number span is
-          (behind (all_there names) (replica_down old volume) (none_missing names all)
-            (behind (not (is_cut (old.made.links client server))) (all_there names && replica_down old volume) (ap not (uncut (old.made.links client server) link)) down)) all did does)) comes) delivers
+        (behind (all_there names) (replica_down old volume) (none_missing names all)
+        (behind (not (is_cut (old.made.links client server))) (all_there names && replica_down old volume) (ap not (uncut (old.made.links client server) link)) down)) all did does)) comes) delivers
     delivers_acted message (Some (AnswerSent server client volume number answer)) is down delivers does =
         let names = on_holder (state_of old.made) client volume server in
         unless_acted (link_down (old.made.links client server)) (Comes (state_of old.made) (AnswerSent server client volume number answer)) own events (λ link comes.
         unless_acted (first_missing names) (ByTaking (state_of old.made) client volume number answer) own events (λ all did.
         inr (answer_acted message server client volume number answer is
-          (behind (not (is_cut (old.made.links client server))) (all_there names && client_down old client) (ap not (uncut (old.made.links client server) link)) down) all did does)) comes) delivers
+        (behind (not (is_cut (old.made.links client server))) (all_there names && client_down old client) (ap not (uncut (old.made.links client server) link)) down) all did does)) comes) delivers
 
     pub loses_acted : (message : ℕ) (o : Option Sent) → Loses message o own events → Does (state_of old.made) (line.Lose message) own events → (events ≡ []) ⊎ IsActed old (line.Lose message) own events
     loses_acted message None loses does = inl loses.1

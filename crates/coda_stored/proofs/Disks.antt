@@ -1,20 +1,24 @@
 -- Crashes, recoveries, and what is learned of disks keep a cell.
-use Rattle.std.proofs.Common.{◌≡◌, ℕ, ◌==◌, ◌&&◌, Bool, true, false, cond, List, [], ◌∷◌, length, Option, Some, None, is_some, option_map, refl, sym, ap, ◌∙◌, subst, inl, inr, ◌⊎◌}
+use Rattle.std.proofs.Common.{◌≡◌, ℕ, ◌==◌, Bool, true, false, cond, List, [], ◌∷◌, length, Option, Some, None, is_some, option_map, refl, sym, ap, ◌∙◌, subst, inl, inr}
 use Rattle.std.proofs.lemmas.Bool.{eqb-true, eq-eqb}
 use Rattle.coda_journal.specs.declared.header.Header.{Header}
 use Rattle.coda_script.specs.declared.reply.Reply.{Reply}
-use Rattle.coda_plain.specs.Cell.{ClientEntry, Actor, Joins}
+use Rattle.coda_plain.specs.Cell.{ClientEntry, Actor}
 use Rattle.coda_plain.specs.Decisions.{ReplicaEntry}
-use Rattle.coda_plain.specs.Moves.{Who, TheClient, TheReplica, Crashes, Recovers, crashed, recovered}
-use Rattle.coda_cell.specs.Made.{MadeCell, client_of, state_of}
+use Rattle.coda_plain.specs.Moves.{TheClient, TheReplica, Crashes, Recovers, crashed, recovered}
+use Rattle.coda_cell.specs.Made.{client_of, state_of}
 use Rattle.coda_cell.specs.Runs.{IsKept}
 use Rattle.coda_cell.specs.Steps.{Named, client_named, holder_named, first_missing}
 use Rattle.coda_cell.specs.declared.refused.Refused.{Refused}
 use Rattle.coda_stored.specs.Cells.{Side, StoredCell, replica_header, moved}
-use Rattle.coda_stored.specs.Kept.{whole, IsGiven, IsClientSide, IsReplicaSide, IsStoredKept}
+use Rattle.coda_stored.specs.Kept.{IsGiven, IsClientSide, IsReplicaSide, IsStoredKept}
 use Rattle.coda_stored.specs.Lines.{Becoming, Unless, with_client_side, with_replica_side, CrashesClient, CrashesReplica, recovered_side, IsRefused, RecoversClient, RecoversReplica}
 use Rattle.coda_stored.proofs.Acting.{holder_home}
+<<<<<<< HEAD
 use Rattle.coda_stored.proofs.Sides.{AreClean, AreSided, clean_in, sided_in, stored_kept, goes_crashed, goes_recovered, alone_crashed, alone_recovered, clean_client, clean_replica, sided_client, sided_replica}
+=======
+use Rattle.coda_stored.proofs.Sides.{clean_in, sided_in, stored_kept, goes_crashed, goes_recovered, clean_client, clean_replica, sided_client, sided_replica}
+>>>>>>> 1e1760b037de7923be0be962507e2d9070e711d4
 use Rattle.coda_stored.proofs.Wholes.{whole_crashed_client, whole_crashed_replica, client_joins, replica_joins, whole_recovered_client, whole_recovered_replica}
 
 -- ---- actors that lines name are there

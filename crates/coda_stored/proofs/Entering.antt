@@ -1,23 +1,25 @@
 -- Which actors enter what happens by a line.
-use Rattle.std.proofs.Common.{◌≡◌, ℕ, Bool, true, false, List, [], ◌∷◌, ◌++◌, map, take, Option, Some, None, Result, Ok, Err, refl, sym, ap, ◌∙◌, subst}
+use Rattle.std.proofs.Common.{ℕ, Bool, true, false, List, [], ◌∷◌, ◌++◌, map, take, Option, Some, None, Result, Ok, Err}
 use Rattle.std.specs.Prelude.{nat_lt}
 use Rattle.coda_fid.specs.declared.op.Record.{Record}
-use Rattle.coda_plain.specs.Cell.{ClientEntry, Did, Joins}
+use Rattle.coda_plain.specs.Cell.{ClientEntry, Did}
 use Rattle.coda_plain.specs.Decisions.{ReplicaEntry}
-use Rattle.coda_plain.specs.Moves.{Append, AtClient, AtReplica}
+use Rattle.coda_plain.specs.Moves.{AtClient, AtReplica}
 use Rattle.coda_record.specs.declared.answer.Answer.{Answer}
 use Rattle.coda_replica.specs.Answers.{told, is_next}
 use Rattle.coda_script.specs.declared.line.Strength.{Strength}
 use Rattle.coda_script.specs.declared.line.Strength.TheVariants.{Strong, Weak, Down}
 use Rattle.coda_letters.specs.Sent.{Sent, ChunkSent, AnswerSent, Waiting, lost_by, number_of}
 use Rattle.coda_cell.specs.State.{ClientVolume, ReplicaState, CellState, Event, VolumeMade, ClientMade, Ticked, LinkSet, Entered, Posted, Lost, at_client}
-use Rattle.coda_cell.specs.Made.{MadeCell, grown, grown_all}
 use Rattle.coda_cell.specs.Messages.{over, posting, going_by, sends_of, sends, ruled_in, chunk_comes, taken_in, answer_comes}
 use Rattle.coda_cell.specs.Sending.{Freezing, freezing, Ruling, ruling_of, Taking, taking, deeds_at, entries_at, decides, answered_to, ruled_on, drained_of, drain}
 use Rattle.coda_cell.specs.declared.refused.Refused.{Refused}
+<<<<<<< HEAD
 use Rattle.coda_matching.specs.Replicas.{IsDecision}
 use Rattle.coda_stored.specs.Kept.{whole}
 use Rattle.coda_stored.proofs.Wholes.{whole_grown_client, whole_grown_replica}
+=======
+>>>>>>> 1e1760b037de7923be0be962507e2d9070e711d4
 
 -- it makes no actor, and where it is an entry, it is one of these clients or replicas, which decide alone
 abbrev pub IsBy : (ℕ → Type 0) → (ℕ → ℕ → Type 0) → Event → Type 0

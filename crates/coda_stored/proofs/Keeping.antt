@@ -1,26 +1,23 @@
 -- Each line keeps a cell on disks, and the first one is kept.
-use Rattle.std.proofs.Common.{◌≡◌, ℕ, ◌+◌, ◌≤◌, Bool, true, false, List, [], ◌∷◌, ◌++◌, append-nil, Option, Some, None, IfSome, unwrap_or, refl, sym, ap, ◌∙◌, subst, inl, inr, ◌⊎◌, arith}
+use Rattle.std.proofs.Common.{◌≡◌, ℕ, Bool, true, false, List, [], ◌∷◌, Option, Some, None, IfSome, refl, sym, subst, ◌⊎◌, arith}
 use Rattle.coda_script.specs.Ranges.{InRange, IsBetween, IsServer, AreServers}
-use Rattle.coda_script.specs.declared.line.Strength.{Strength}
 use Rattle.coda_script.specs.declared.line.Line.{Line}
 use Rattle.coda_script.specs.declared.line.Line.TheVariants as line
 use Rattle.coda_script.specs.declared.reply.Reply.{Reply}
 use Rattle.coda_script.specs.declared.reply.Reply.TheVariants as replies
 use Rattle.coda_letters.specs.Sent.{sent_at}
-use Rattle.coda_plain.specs.Cell.{Actor, new_actor, empty_cell, Joins, found}
-use Rattle.coda_plain.specs.Laws.{IsRun}
-use Rattle.coda_plain.specs.Logs.{BeginsWith}
+use Rattle.coda_plain.specs.Cell.{empty_cell, Joins}
 use Rattle.coda_plain.specs.Sound.{IsSound}
 use Rattle.coda_plain.proofs.Promised.{sound_cells_are_promised}
 use Rattle.coda_plain.proofs.Soundness.{none_joins}
-use Rattle.coda_cell.specs.Made.{MadeCell, nothing_made, state_of}
+use Rattle.coda_cell.specs.Made.{nothing_made, state_of}
 use Rattle.coda_cell.specs.Runs.{IsKept, MakesNumbered}
 use Rattle.coda_cell.specs.Steps.{client_named, holder_named, on_volume, first_missing, alone}
 use Rattle.coda_cell.proofs.KeptCells.{first_kept}
 use Rattle.coda_stored.specs.Cells.{StoredCell, nothing_stored}
-use Rattle.coda_stored.specs.Kept.{found_up, whole, IsArea, IsStoredKept}
+use Rattle.coda_stored.specs.Kept.{whole, IsArea, IsStoredKept}
 use Rattle.coda_stored.specs.Laws.{StoredCellsAreKept, StoredCellsArePromised}
-use Rattle.coda_stored.specs.Lines.{is_down_for, Acts, Becoming, UnlessDown, area_of, CrashesClient, CrashesReplica, RecoversClient, RecoversReplica, Stays, DoesUp, Happens}
+use Rattle.coda_stored.specs.Lines.{is_down_for, Acts, Becoming, UnlessDown, area_of, CrashesClient, CrashesReplica, RecoversClient, RecoversReplica, Stays, DoesUp}
 use Rattle.coda_stored.proofs.Acting.{IsActed, tasks_acted, send_acted, delivers_acted, loses_acted, tick_acted, link_acted, nothing_acted}
 use Rattle.coda_stored.proofs.Disks.{client_size, holder_is, unless_kept, crashes_client, crashes_replica, recovers_client, recovers_replica}
 use Rattle.coda_stored.proofs.Making.{volume_kept, client_kept}

@@ -1,21 +1,23 @@
 -- Lines that make actors keep a cell.
-use Rattle.std.proofs.Common.{◌≡◌, ◌≢◌, ℕ, ◌+◌, ◌-◌, ◌*◌, ◌<◌, ◌≤◌, ◌==◌, ◌&&◌, Bool, true, false, cond, List, [], ◌∷◌, ◌++◌, length, length-append, Option, Some, None, is_some, refl, sym, ap, ◌∙◌, subst, inl, inr, ◌⊎◌, arith}
+use Rattle.std.proofs.Common.{◌≡◌, ◌≢◌, ℕ, ◌+◌, ◌<◌, ◌≤◌, ◌==◌, ◌&&◌, Bool, true, false, cond, List, [], ◌∷◌, ◌++◌, length, length-append, Option, Some, None, is_some, refl, sym, ap, ◌∙◌, subst, inl, inr, ◌⊎◌, arith}
 use Rattle.std.proofs.lemmas.Bool.{eqb-true, eqb-false, eq-eqb, and_parts}
 use Rattle.coda_journal.specs.declared.header.Header.{Header}
 use Rattle.coda_script.specs.declared.reply.Reply.{Reply}
 use Rattle.coda_plain.specs.Cell.{ClientEntry, Actor, new_actor, PlainCell, Joins}
 use Rattle.coda_plain.specs.Decisions.{ReplicaEntry}
 use Rattle.coda_plain.specs.Moves.{TheClient, TheReplica, Crashes, crashed, with_client, with_replica}
-use Rattle.coda_cell.specs.Made.{MadeCell}
 use Rattle.coda_cell.specs.Runs.{IsKept}
 use Rattle.coda_cell.specs.Steps.{no_room}
-use Rattle.coda_cell.specs.declared.refused.Refused.{Refused}
 use Rattle.coda_cell.proofs.KeptCells.{volume_left, client_left}
 use Rattle.coda_stored.specs.Cells.{Side, StoredCell, client_header, replica_header, disk_number, moved}
-use Rattle.coda_stored.specs.Kept.{whole, IsGiven, IsArea, IsClientSide, IsReplicaSide, IsPlaced, IsStoredKept}
+use Rattle.coda_stored.specs.Kept.{whole, IsGiven, IsArea, IsClientSide, IsReplicaSide, IsStoredKept}
 use Rattle.coda_stored.specs.Lines.{Opens, no_volume, no_client, with_volume, with_client as with_client_made, MakesVolume, MakesClient}
 use Rattle.coda_stored.proofs.Disks.{unless_kept}
+<<<<<<< HEAD
 use Rattle.coda_stored.proofs.Sides.{AreClean, AreSided, clean_in, sided_in, stored_kept, acting, clean_client, clean_replica, alone_crashed}
+=======
+use Rattle.coda_stored.proofs.Sides.{AreSided, clean_in, sided_in, stored_kept, acting, clean_client, clean_replica}
+>>>>>>> 1e1760b037de7923be0be962507e2d9070e711d4
 use Rattle.coda_stored.proofs.Wholes.{whole_crashed_client, whole_crashed_replica}
 
 -- ---- small steps
@@ -74,22 +76,22 @@ module _ (old : StoredCell) (kept : IsStoredKept old) (volume server area : ℕ)
     ] refl;
     placed = λ v s. elim (v == volume) as (λ b. cond b (Some server) (old.made.homes v) ≡ Some s
         → (before : ℕ) × (before < length (old.made.servers ++ server ∷ [])) × (cond b (disk_number (length old.made.servers) server) (old.places v) ≡ disk_number before s)) [
-      | true ↦ λ there. (length old.made.servers, more (length old.made.servers) (omega arith), ap (disk_number (length old.made.servers)) (same there))
-      | false ↦ λ there. let before = kept.placed v s there in (before.0, more before.0 (let less = before.1 in omega (arith, less)), before.2)
-    ];
+          | true ↦ λ there. (length old.made.servers, more (length old.made.servers) (omega arith), ap (disk_number (length old.made.servers)) (same there))
+          | false ↦ λ there. let before = kept.placed v s there in (before.0, more before.0 (let less = before.1 in omega (arith, less)), before.2)
+        ];
     apart = λ v o s h. elim (v == volume) as (λ b. (v == volume) ≡ b → cond b (Some server) (old.made.homes v) ≡ Some s → cond (o == volume) (Some server) (old.made.homes o) ≡ Some h
         → cond b (disk_number (length old.made.servers) server) (old.places v) ≡ cond (o == volume) (disk_number (length old.made.servers) server) (old.places o) → v ≡ o) [
-      | true ↦ λ first. elim (o == volume) as (λ d. (o == volume) ≡ d → Some server ≡ Some s → cond d (Some server) (old.made.homes o) ≡ Some h
-          → disk_number (length old.made.servers) server ≡ cond d (disk_number (length old.made.servers) server) (old.places o) → v ≡ o) [
-        | true ↦ λ second a b same. eqb-true v volume first ∙ sym (eqb-true o volume second)
-        | false ↦ λ second a b same. absurd (made_before o h b (sym same))
-      ] refl
-      | false ↦ λ first. elim (o == volume) as (λ d. (o == volume) ≡ d → old.made.homes v ≡ Some s → cond d (Some server) (old.made.homes o) ≡ Some h
-          → old.places v ≡ cond d (disk_number (length old.made.servers) server) (old.places o) → v ≡ o) [
-        | true ↦ λ second a b same. absurd (made_before v s a same)
-        | false ↦ λ second a b same. kept.apart v o s h a b same
-      ] refl
-    ] refl;
+          | true ↦ λ first. elim (o == volume) as (λ d. (o == volume) ≡ d → Some server ≡ Some s → cond d (Some server) (old.made.homes o) ≡ Some h
+              → disk_number (length old.made.servers) server ≡ cond d (disk_number (length old.made.servers) server) (old.places o) → v ≡ o) [
+                | true ↦ λ second a b same. eqb-true v volume first ∙ sym (eqb-true o volume second)
+                | false ↦ λ second a b same. absurd (made_before o h b (sym same))
+              ] refl
+          | false ↦ λ first. elim (o == volume) as (λ d. (o == volume) ≡ d → old.made.homes v ≡ Some s → cond d (Some server) (old.made.homes o) ≡ Some h
+              → old.places v ≡ cond d (disk_number (length old.made.servers) server) (old.places o) → v ≡ o) [
+                | true ↦ λ second a b same. absurd (made_before v s a same)
+                | false ↦ λ second a b same. kept.apart v o s h a b same
+              ] refl
+        ] refl;
   }
     where
       more : (n : ℕ) → n < length old.made.servers + 1 → n < length (old.made.servers ++ server ∷ [])
@@ -113,13 +115,13 @@ module _ (old : StoredCell) (kept : IsStoredKept old) (volume server area : ℕ)
       stored_kept (moved cell (Crashes (TheReplica server volume))) (clean_replica old (clean_in old kept) (sided_in old kept) server volume actor (λ up. cc) (alone_crashed (old.made.acted.replicas server volume) (kept.alone server volume)))
       (λ joins. subst IsKept (sym (whole_crashed_replica cell.made joins server volume)) (kept_volume joins))
       (volume_sided side (with_replica old.made.acted server volume actor) asked
-        (subst (IsGiven side.given (replica_header volume server area)) (sym (λ i. cond (eq-eqb server server refl i && eq-eqb volume volume refl i) actor (old.made.acted.replicas server volume)))
-          (given_crashed side.given (replica_header volume server area) (old.made.acted.replicas server volume) (new_replicas volume (old.made.homes volume) (λ s. old.made.acted.replicas s volume) (old.replicas volume) none (kept.replicas volume) server) tried))
-        (λ c. refl)
-        (λ s v other. elim ((s == server) && (v == volume)) as (λ b. ((s == server) && (v == volume)) ≡ b → cond b actor (old.made.acted.replicas s v) ≡ old.made.acted.replicas s v) [
-          | true ↦ λ e. absurd (other (eqb-true v volume (and_parts (s == server) (v == volume) e).1))
-          | false ↦ λ e. refl
-        ] refl))
+      (subst (IsGiven side.given (replica_header volume server area)) (sym (λ i. cond (eq-eqb server server refl i && eq-eqb volume volume refl i) actor (old.made.acted.replicas server volume)))
+      (given_crashed side.given (replica_header volume server area) (old.made.acted.replicas server volume) (new_replicas volume (old.made.homes volume) (λ s. old.made.acted.replicas s volume) (old.replicas volume) none (kept.replicas volume) server) tried))
+      (λ c. refl)
+      (λ s v other. elim ((s == server) && (v == volume)) as (λ b. ((s == server) && (v == volume)) ≡ b → cond b actor (old.made.acted.replicas s v) ≡ old.made.acted.replicas s v) [
+        | true ↦ λ e. absurd (other (eqb-true v volume (and_parts (s == server) (v == volume) e).1))
+        | false ↦ λ e. refl
+      ] refl))
 
 pub volume_kept : (old : StoredCell) (volume server area : ℕ) (reply : Reply) (outside : List (List ℕ)) (new : StoredCell) → IsStoredKept old → IsArea area → 1 ≤ volume → 1 ≤ server → server ≤ 8
     → MakesVolume old volume server area reply outside new → IsStoredKept new
@@ -161,13 +163,13 @@ module _ (old : StoredCell) (kept : IsStoredKept old) (client blocks area : ℕ)
       stored_kept (moved cell (Crashes (TheClient client))) (clean_client old (clean_in old kept) (sided_in old kept) client actor (λ up. cc))
       (λ joins. subst IsKept (sym (whole_crashed_client cell.made joins client)) (kept_client joins))
       (client_sided side (with_client old.made.acted client actor) asked
-        (subst (IsGiven side.given (client_header client blocks area)) (sym (λ i. cond (eq-eqb client client refl i) actor (old.made.acted.clients client)))
-          (given_crashed side.given (client_header client blocks area) (old.made.acted.clients client) (new_client client (old.made.sizes client) (old.made.acted.clients client) (old.clients client) none (kept.clients client)) tried))
-        (λ c other. elim (c == client) as (λ b. (c == client) ≡ b → cond b actor (old.made.acted.clients c) ≡ old.made.acted.clients c) [
-          | true ↦ λ e. absurd (other (eqb-true c client e))
-          | false ↦ λ e. refl
-        ] refl)
-        refl)
+      (subst (IsGiven side.given (client_header client blocks area)) (sym (λ i. cond (eq-eqb client client refl i) actor (old.made.acted.clients client)))
+      (given_crashed side.given (client_header client blocks area) (old.made.acted.clients client) (new_client client (old.made.sizes client) (old.made.acted.clients client) (old.clients client) none (kept.clients client)) tried))
+      (λ c other. elim (c == client) as (λ b. (c == client) ≡ b → cond b actor (old.made.acted.clients c) ≡ old.made.acted.clients c) [
+        | true ↦ λ e. absurd (other (eqb-true c client e))
+        | false ↦ λ e. refl
+      ] refl)
+      refl)
 
 pub client_kept : (old : StoredCell) (client blocks area : ℕ) (reply : Reply) (outside : List (List ℕ)) (new : StoredCell) → IsStoredKept old → IsArea area → 1 ≤ client → client < 256 → 1 ≤ blocks → blocks ≤ 32768
     → MakesClient old client blocks area reply outside new → IsStoredKept new

@@ -1,5 +1,5 @@
 -- Whatever a line does, each history begins with what it was.
-use Rattle.std.proofs.Common.{◌≡◌, ℕ, ◌==◌, ◌&&◌, Bool, true, false, cond, List, [], ◌∷◌, ◌++◌, append_assoc, append-nil, Option, Some, None, refl, sym, ap, ◌∙◌, subst, inl, inr, ◌⊎◌}
+use Rattle.std.proofs.Common.{◌≡◌, ℕ, ◌==◌, ◌&&◌, Bool, true, false, cond, List, [], ◌∷◌, ◌++◌, append_assoc, append-nil, Option, Some, None, refl, sym, ap, ◌∙◌, subst, inl, inr}
 use Rattle.std.proofs.lemmas.Bool.{eqb-true, and_parts}
 use Rattle.coda_journal.specs.declared.header.Header.{Header}
 use Rattle.coda_script.specs.declared.line.Line.{Line}
@@ -9,14 +9,14 @@ use Rattle.coda_script.specs.declared.reply.Reply.TheVariants as replies
 use Rattle.coda_plain.specs.Cell.{ClientEntry, Actor, PlainCell, joined_to}
 use Rattle.coda_plain.specs.Decisions.{ReplicaEntry}
 use Rattle.coda_plain.specs.Logs.{BeginsWith}
-use Rattle.coda_plain.specs.Moves.{Append, AtClient, AtReplica, Who, TheClient, TheReplica, Move, Does, Fails, Posts, Loses, Crashes, Recovers, with_client, with_replica, grown as grown_actor, fallen, crashed, recovered, after as after_move}
+use Rattle.coda_plain.specs.Moves.{Append, AtClient, AtReplica, Who, TheClient, TheReplica, Crashes, Recovers, with_client, with_replica, grown as grown_actor, fallen, crashed, recovered}
 use Rattle.coda_cell.specs.Made.{MadeCell, state_of}
 use Rattle.coda_cell.specs.State.{Event, VolumeMade, ClientMade, Ticked, LinkSet, Entered, Posted, Lost}
 use Rattle.coda_cell.specs.Steps.{client_named, holder_named, first_missing, alone}
 use Rattle.coda_cell.specs.declared.refused.Refused.{Refused}
 use Rattle.coda_stored.specs.Cells.{Side, StoredCell, client_header, replica_header, after, after_all, moved, failed}
 use Rattle.coda_stored.specs.Laws.{Begins, EntriesStay}
-use Rattle.coda_stored.specs.Lines.{is_down_for, Acts, EndsBy, Becoming, Unless, UnlessDown, Opens, no_volume, no_client, with_volume, with_client as with_client_made, area_of, IsRefused, CrashesClient, CrashesReplica, RecoversClient, RecoversReplica, Stays, DoesUp, Happens}
+use Rattle.coda_stored.specs.Lines.{is_down_for, EndsBy, Becoming, Unless, UnlessDown, Opens, no_volume, no_client, with_volume, with_client as with_client_made, area_of, IsRefused, CrashesClient, CrashesReplica, RecoversClient, RecoversReplica, Stays, DoesUp}
 
 module _ {E : Type 0} where
   same_entries : (xs : List E) → BeginsWith xs xs

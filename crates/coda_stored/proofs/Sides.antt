@@ -6,7 +6,6 @@ use Rattle.coda_plain.specs.Cell.{ClientEntry, Actor, PlainCell, Joins, found}
 use Rattle.coda_plain.specs.Decisions.{ReplicaEntry}
 use Rattle.coda_plain.specs.Histories.{In}
 use Rattle.coda_plain.specs.Moves.{with_client, with_replica, grown as grown_actor, fallen, crashed, recovered}
-use Rattle.coda_cell.specs.Made.{MadeCell}
 use Rattle.coda_cell.specs.Runs.{IsKept}
 use Rattle.coda_matching.specs.Replicas.{IsDecision}
 use Rattle.coda_stored.specs.Cells.{Side, StoredCell}

@@ -1,8 +1,8 @@
 -- However the events of a line end, the cell behind them is kept.
-use Rattle.std.proofs.Common.{◌≡◌, ℕ, ◌==◌, ◌&&◌, Bool, true, false, cond, List, [], ◌∷◌, ◌++◌, append_assoc, append-nil, Option, Some, None, refl, sym, ap, ◌∙◌, subst, inl, inr, ◌⊎◌}
+use Rattle.std.proofs.Common.{◌≡◌, ℕ, ◌==◌, ◌&&◌, true, false, cond, List, [], ◌∷◌, ◌++◌, append_assoc, append-nil, refl, sym, ap, ◌∙◌, subst, inl, inr, ◌⊎◌}
 use Rattle.coda_script.specs.declared.line.Line.{Line}
 use Rattle.coda_script.specs.declared.reply.Reply.{Reply}
-use Rattle.coda_plain.specs.Cell.{Actor, Joins}
+use Rattle.coda_plain.specs.Cell.{Joins}
 use Rattle.coda_plain.specs.Moves.{Append, AtClient, AtReplica, grown as grown_actor, fallen}
 use Rattle.coda_cell.specs.State.{Event, VolumeMade, ClientMade, Ticked, LinkSet, Entered, Posted, Lost}
 use Rattle.coda_cell.specs.Made.{MadeCell, state_of, grown, grown_all}

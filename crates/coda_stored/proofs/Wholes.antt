@@ -1,9 +1,9 @@
 -- The cell that would be found if all actors were recovered, after what happens in a cell.
-use Rattle.std.proofs.Common.{◌≡◌, ℕ, ◌==◌, ◌&&◌, Bool, true, false, cond, List, [], ◌∷◌, ◌++◌, Option, Some, None, refl, sym, ap, ◌∙◌, subst, inl, inr, ◌⊎◌}
+use Rattle.std.proofs.Common.{◌≡◌, ℕ, ◌==◌, ◌&&◌, Bool, true, false, cond, List, [], ◌∷◌, ◌++◌, None, refl, sym, ap, ◌∙◌, subst, inl, inr, ◌⊎◌}
 use Rattle.std.proofs.lemmas.Bool.{eqb-true, and_parts}
-use Rattle.coda_plain.specs.Cell.{ClientEntry, Actor, PlainCell, Joins, found, joined_to}
+use Rattle.coda_plain.specs.Cell.{ClientEntry, Actor, Joins, found, joined_to}
 use Rattle.coda_plain.specs.Decisions.{ReplicaEntry}
-use Rattle.coda_plain.specs.Moves.{Append, AtClient, AtReplica, TheClient, TheReplica, Does, Fails, Crashes, Recovers, with_client, with_replica, grown as grown_actor, fallen, crashed, recovered, after as after_move}
+use Rattle.coda_plain.specs.Moves.{AtClient, AtReplica, TheClient, TheReplica, Fails, Crashes, Recovers, with_client, with_replica, grown as grown_actor, fallen, crashed, recovered, after as after_move}
 use Rattle.coda_script.specs.declared.line.Strength.{Strength}
 use Rattle.coda_cell.specs.State.{Event, VolumeMade, ClientMade, Ticked, LinkSet, Entered, Posted, Lost}
 use Rattle.coda_cell.specs.Made.{MadeCell, grown, grown_all}
@@ -59,9 +59,9 @@ module _ (cell : MadeCell) (joins : Joins) where
           ≡ cond ((s == server) && (v == volume)) (found_up (joins.replicas server volume) actor) (found_up (joins.replicas s v) (cell.acted.replicas s v))
       at s v = elim ((s == server) && (v == volume)) as (λ b. ((s == server) && (v == volume)) ≡ b → found_up (joins.replicas s v) (cond b actor (cell.acted.replicas s v))
           ≡ cond b (found_up (joins.replicas server volume) actor) (found_up (joins.replicas s v) (cell.acted.replicas s v))) [
-        | true ↦ λ e. let both = and_parts (s == server) (v == volume) e in λ i. found_up (joins.replicas (eqb-true s server both.0 i) (eqb-true v volume both.1 i)) actor
-        | false ↦ λ e. refl
-      ] refl
+            | true ↦ λ e. let both = and_parts (s == server) (v == volume) e in λ i. found_up (joins.replicas (eqb-true s server both.0 i) (eqb-true v volume both.1 i)) actor
+            | false ↦ λ e. refl
+          ] refl
 
   -- an actor that would be found as it was
   pub same_client : (client : ℕ) (actor : Actor ClientEntry) → found_up (joins.clients client) actor ≡ found_up (joins.clients client) (cell.acted.clients client)
@@ -116,10 +116,10 @@ whole_recovered_replica cell joins server volume b = λ i. record (whole cell jo
         ≡ found_up (cond ((s == server) && (v == volume)) b (joins.replicas s v)) (cell.acted.replicas s v)
     at s v = elim ((s == server) && (v == volume)) as (λ x. ((s == server) && (v == volume)) ≡ x → found_up (joins.replicas s v) (cond x (recovered b (cell.acted.replicas server volume)) (cell.acted.replicas s v))
         ≡ found_up (cond x b (joins.replicas s v)) (cell.acted.replicas s v)) [
-      | true ↦ λ e. let both = and_parts (s == server) (v == volume) e in
-          found_recovered b (joins.replicas s v) (cell.acted.replicas server volume) ∙ (λ i. found_up b (cell.acted.replicas (sym (eqb-true s server both.0) i) (sym (eqb-true v volume both.1) i)))
-      | false ↦ λ e. refl
-    ] refl
+          | true ↦ λ e. let both = and_parts (s == server) (v == volume) e in
+              found_recovered b (joins.replicas s v) (cell.acted.replicas server volume) ∙ (λ i. found_up b (cell.acted.replicas (sym (eqb-true s server both.0) i) (sym (eqb-true v volume both.1) i)))
+          | false ↦ λ e. refl
+        ] refl
 
 -- ---- an entry
 
