@@ -3,6 +3,7 @@ pub mod Texts
 pub mod Runs
 pub mod Shows
 pub mod Headline
+pub mod Reported
 pub mod Complete
 pub mod Cached
 pub mod Lettered

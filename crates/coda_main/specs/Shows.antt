@@ -6,6 +6,7 @@ use Rattle.coda_engine.specs.declared.machine.LineStop.{LineStop}
 use Rattle.coda_engine.specs.declared.machine.LineStop.TheVariants.{Refused, Bay, Memory as OutOfMemory}
 use Rattle.coda_script.specs.declared.fault.LineFault.{LineFault}
 use Rattle.coda_script.specs.declared.fault.LineFault.TheVariants.{BadLine, Memory}
+use Rattle.coda_script.specs.declared.line.Line.{Line}
 use Rattle.coda_script.specs.declared.reply.Reply.{Reply}
 use Rattle.coda_script.specs.declared.reply.Reply.TheVariants.{ShowVolume, ShowLog}
 use Rattle.coda_script.specs.Lines.{line_of}
@@ -13,10 +14,12 @@ use Rattle.coda_cell.specs.Made.{state_of}
 use Rattle.coda_cell.specs.State.{ClientState}
 use Rattle.coda_stored.specs.Cells.{StoredCell, nothing_stored}
 use Rattle.coda_stored.specs.Kept.{IsStoredKept}
-use Rattle.coda_stored.specs.Lines.{client_down, replica_down}
+use Rattle.coda_stored.specs.Lines.{client_down, replica_down, Happens}
 use Rattle.coda_site.specs.Sites.{IsSite, IsReady}
+use Rattle.coda_site.specs.Steps.{Becomes}
 use Rattle.coda_site.specs.declared.site.Site.{Site}
 use Rattle.coda_main.specs.Runs.{LineGives, LineRefused, IsUnbuilt}
+use Rattle.coda_main.specs.Texts.{text_of}
 
 -- a cell on disks, and the images that its bay answered so far
 pub record Recorded : Type 0 where
@@ -49,6 +52,16 @@ SiteGives told out has answered bay site bytes text outside bay_new site_new =
 -- Each cell on disks that the site stands for refuses this line.
 abbrev pub SiteRefuses : {B D : Type 0} → (D → Told) → (B → ℕ → Bool) → (B → ℕ → Told) → (B → List (List ℕ)) → B → Site D → List ℕ → ℕ → Kind → Type 0
 SiteRefuses told out has answered bay site bytes column kind = (plain : Recorded) → Shows told out has answered plain bay site → RecordRefuses plain bytes column kind
+
+-- what a line keeps of a machine, however it stops: a site that was ready is ready, and the bay follows the one before
+abbrev pub Goes : {B D : Type 0} → (D → Told) → (B → ℕ → Bool) → (B → B → Type 0) → B → Site D → B → Site D → Type 0
+Goes told out follows bay site bay_new site_new = (IsReady told (out bay) site → IsReady told (out bay_new) site_new) × follows bay bay_new
+
+-- A line that was carried out in a cell has this text, and the bay answered these images; the site stands for the cell that it leaves.
+pub record Answers {D : Type 0} (told : D → Told) (out : ℕ → Bool) (has : ℕ → Told) (plain : StoredCell) (said : Line) (text : List ℕ) (old new : List (List ℕ)) (site : Site D) : Type 0 where
+  pub reply : Reply
+  pub becomes : Becomes told out has (Happens plain said) reply old new site
+  pub printed : text ≡ text_of (state_of becomes.left.made) reply
 
 -- where the reply shows a volume or a log, its actor is up
 abbrev pub CanShow : StoredCell → Reply → Type 0

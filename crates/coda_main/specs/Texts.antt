@@ -15,13 +15,13 @@ abbrev pub shown_volume : ℕ → Option Tree → List ℕ
 shown_volume server None = []
 shown_volume server (Some tree) = volume_text server tree
 
--- the log that a client has of a volume; where it did nothing there the log is empty
-abbrev pub shown_log : Option LogState → List ℕ
-shown_log None = log_text (log_of new_volume)
-shown_log (Some log) = log_text log
+-- the log that a client has of a volume: an empty one where it did nothing there
+abbrev pub shown_log : Option ClientState → ℕ → List ℕ
+shown_log None volume = log_text (log_of new_volume)
+shown_log (Some c) volume = log_text (log_of (c.volumes volume))
 
 -- the text of a reply in the cell that the line left
 abbrev pub text_of : CellState → Reply → List ℕ
 text_of s (ShowVolume server volume) = shown_volume server (volume_at (s.replicas volume) server)
-text_of s (ShowLog client volume) = shown_log (log_at (s.clients client) volume)
+text_of s (ShowLog client volume) = shown_log (s.clients client) volume
 text_of s reply = reply_text reply

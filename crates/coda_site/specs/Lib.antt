@@ -1,3 +1,6 @@
 pub mod Sites
 pub mod Steps
 pub mod Cells
+pub mod Tasks
+pub mod Calls
+pub mod Drains

@@ -4,7 +4,7 @@ ghost use Rattle.coda_io.specs.Faults.{Rose};
 ghost use Rattle.coda_script.specs.Ranges.{InRange};
 ghost use Rattle.coda_cell.specs.Cells.{volume_at};
 ghost use Rattle.coda_cell.specs.Made.{state_of};
-ghost use Rattle.coda_cell.specs.State.{ClientState, log_of};
+ghost use Rattle.coda_cell.specs.State.{ClientState, log_of, new_volume};
 ghost use Rattle.coda_stored.specs.Cells.{StoredCell, nothing_stored};
 ghost use Rattle.coda_stored.specs.Kept.{IsStoredKept};
 ghost use Rattle.coda_stored.specs.Lines.{is_built, client_down, replica_down, Happens};
@@ -16,7 +16,7 @@ use crate::fault::CellFault;
 use crate::lines::step;
 use crate::site::Site;
 use coda_cml::Log;
-use coda_crew::{get, give_back};
+use coda_crew::{get, give_back, unmade};
 use coda_disk::Bay;
 use coda_net::Net;
 use coda_script::{Line, Reply};
@@ -42,6 +42,8 @@ impl<B: Bay> Cell<B> {
         ensures posted { result.site.net.posted ≡ 0 }
         ensures stands { AreBlank (B.has result.bay) → IsSite B.D.told (B.out result.bay) (B.has result.bay) nothing_stored result.site }
     {
+        let clients = unmade(alloc, &bay);
+        let replicas = unmade(alloc, &bay);
         Cell {
             bay,
             site: Site {
@@ -50,8 +52,8 @@ impl<B: Bay> Cell<B> {
                 servers: Vec::new(alloc),
                 places: BTreeMap::new(alloc),
                 areas: 0,
-                clients: BTreeMap::new(alloc),
-                replicas: BTreeMap::new(alloc),
+                clients,
+                replicas,
                 net: Net::new(alloc),
             },
         }
@@ -96,7 +98,8 @@ impl<B: Bay> Cell<B> {
     /// The volume that a server has; `None` where it has none of this number, or is down.
     pub fn volume(&self, server: u8, volume: u32) -> Option<&Volume>
         ensures { (cell : StoredCell) → IsStoredKept cell → IsSite B.D.told (B.out self.now.bay) (B.has self.now.bay) cell self.now.site
-            → replica_down cell volume ≡ false → result ≡ volume_at ((state_of cell.made).replicas volume) server }
+            → replica_down cell volume ≡ false
+            → MatchOption result (volume_at ((state_of cell.made).replicas volume) server ≡ None) (λ tree. volume_at ((state_of cell.made).replicas volume) server ≡ Some tree.now) }
     {
         let place = self.site.place(volume)?;
         if place.server != server {
@@ -108,11 +111,11 @@ impl<B: Bay> Cell<B> {
         }
     }
 
-    /// A client's log of a volume; `None` where the client isn't there or is down, or accepted no operation on the volume.
+    /// A client's log of a volume; `None` where the client isn't there or is down, or never had a log of the volume.
     pub fn log(&self, client: u8, volume: u32) -> Option<&Log>
         ensures { (cell : StoredCell) → IsStoredKept cell → IsSite B.D.told (B.out self.now.bay) (B.has self.now.bay) cell self.now.site
             → client_down cell client ≡ false → (c : ClientState) → (state_of cell.made).clients client ≡ Some c
-            → MatchOption result ((c.volumes volume).operations ≡ 0) (λ log. log.now ≡ log_of (c.volumes volume)) }
+            → MatchOption result (log_of (c.volumes volume) ≡ log_of new_volume) (λ log. log.now ≡ log_of (c.volumes volume)) }
     {
         match get(&self.site.clients, u32::from(client)) {
             Some(venus) => venus.log(volume),

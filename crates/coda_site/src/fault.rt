@@ -1,4 +1,6 @@
 // Why a line wasn't carried out.
+ghost use Rattle.std.specs.Prelude.{◌≡◌};
+
 use coda_disk::BayFault;
 use std::alloc::AllocError;
 use thiserror::Error;
@@ -15,6 +17,8 @@ pub enum CellFault {
 }
 
 impl From<AllocError> for CellFault {
+    ghost use Rattle.coda_site.specs.declared.fault.CellFault.{CellFault};
+
     ghost from_gives = { λ _ fault. fault ≡ CellFault.Memory };
 
     fn from(_fault: AllocError) -> CellFault {
@@ -23,6 +27,8 @@ impl From<AllocError> for CellFault {
 }
 
 impl From<BayFault> for CellFault {
+    ghost use Rattle.coda_site.specs.declared.fault.CellFault.{CellFault};
+
     ghost from_gives = { λ _ fault. fault ≡ CellFault.Bay };
 
     fn from(_fault: BayFault) -> CellFault {

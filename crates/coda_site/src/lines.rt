@@ -1,4 +1,13 @@
 // What a line of a script does in a cell.
+ghost use Rattle.std.specs.Prelude.{◌≡◌, ℕ, IfOk, IfErr};
+ghost use Rattle.coda_script.specs.declared.line.Line.TheVariants as line;
+ghost use Rattle.coda_cell.specs.Steps.{is_built_task, is_plain, alone};
+ghost use Rattle.coda_stored.specs.Cells.{StoredCell};
+ghost use Rattle.coda_stored.specs.Kept.{IsStoredKept};
+ghost use Rattle.coda_stored.specs.Lines.{is_built, Happens};
+ghost use Rattle.coda_site.specs.Sites.{IsSite, IsReady};
+ghost use Rattle.coda_site.specs.Steps.{Becomes};
+
 use crate::failing::{
     arm_client, arm_replica, crash_client, crash_replica, recover_client, recover_replica,
 };
@@ -14,7 +23,9 @@ use coda_disk::Bay;
 use coda_script::{Line, Refusal, Reply, Strength, Task};
 
 // Whether a link may have this strength so far.
-fn is_plain(strength: Strength) -> bool {
+fn is_plain(strength: Strength) -> bool
+    ensures { result ≡ is_plain strength }
+{
     match strength {
         Strength::Strong => true,
         Strength::Weak => false,
@@ -23,7 +34,9 @@ fn is_plain(strength: Strength) -> bool {
 }
 
 // Whether a task has a meaning so far.
-fn is_built_task(task: &Task) -> bool {
+fn is_built_task(task: &Task) -> bool
+    ensures { result ≡ is_built_task task.now }
+{
     match task {
         Task::Hardlink { .. } => false,
         Task::Refresh { .. } => false,
@@ -33,7 +46,9 @@ fn is_built_task(task: &Task) -> bool {
 }
 
 /// Whether a line has a meaning so far.
-pub fn is_built(line: &Line) -> bool {
+pub fn is_built(line: &Line) -> bool
+    ensures { result ≡ is_built line.now }
+{
     match line {
         Line::Volume { servers, .. } => servers.servers().len() == 1,
         Line::Link { strength, .. } => is_plain(*strength),
@@ -56,7 +71,9 @@ pub fn is_built(line: &Line) -> bool {
 }
 
 // The server of a volume that is on one alone.
-fn alone(servers: &[u8]) -> u8 {
+fn alone(servers: &[u8]) -> u8
+    ensures { result ≡ alone servers.now }
+{
     match servers {
         [] => 0,
         [server, ..] => *server,
@@ -70,7 +87,13 @@ fn set_link<B: Bay>(
     client: u8,
     server: u8,
     strength: Strength,
-) -> Result<Reply, CellFault> {
+) -> Result<Reply, CellFault>
+    requires ready { IsReady B.D.told (B.out _bay.now) site.old }
+    ensures ready { IsReady B.D.told (B.out _bay.now) site.new }
+    ensures does { (cell : StoredCell) → IsStoredKept cell → IsSite B.D.told (B.out _bay.now) (B.has _bay.now) cell site.old
+        → IfOk result (λ reply. Becomes B.D.told (B.out _bay.now) (B.has _bay.now) (Happens cell (line.Link client server strength)) reply (B.answered _bay.now) (B.answered _bay.now) site.new) }
+    ensures memory { IfErr result (λ why. why ≡ CellFault.Memory) }
+{
     if let Some(number) = site.missing_end(client, server) {
         return Ok(no_such_actor(site.alloc, number)?);
     }
@@ -84,7 +107,12 @@ fn set_link<B: Bay>(
 }
 
 // Lets time pass.
-fn tick<B: Bay>(_bay: &B, site: &mut Site<B::D>, seconds: u32) -> Reply {
+fn tick<B: Bay>(_bay: &B, site: &mut Site<B::D>, seconds: u32) -> Reply
+    requires ready { IsReady B.D.told (B.out _bay.now) site.old }
+    ensures ready { IsReady B.D.told (B.out _bay.now) site.new }
+    ensures does { (cell : StoredCell) → IsStoredKept cell → IsSite B.D.told (B.out _bay.now) (B.has _bay.now) cell site.old
+        → (Becomes B.D.told (B.out _bay.now) (B.has _bay.now) (Happens cell (line.Tick seconds)) result (B.answered _bay.now) (B.answered _bay.now) site.new) }
+{
     site.clock = site.clock.saturating_add(u64::from(seconds));
     Reply::Accepted
 }
@@ -95,7 +123,12 @@ fn show_volume<B: Bay>(
     site: &Site<B::D>,
     server: u8,
     volume: u32,
-) -> Result<Reply, CellFault> {
+) -> Result<Reply, CellFault>
+    requires ready { IsReady B.D.told (B.out _bay.now) site.now }
+    ensures does { (cell : StoredCell) → IsStoredKept cell → IsSite B.D.told (B.out _bay.now) (B.has _bay.now) cell site.now
+        → IfOk result (λ reply. Becomes B.D.told (B.out _bay.now) (B.has _bay.now) (Happens cell (line.ShowVolume server volume)) reply (B.answered _bay.now) (B.answered _bay.now) site.now) }
+    ensures memory { IfErr result (λ why. why ≡ CellFault.Memory) }
+{
     match site.place(volume) {
         Some(place) if place.server == server => {
             if !is_up(&site.replicas, place.disk) {
@@ -113,7 +146,12 @@ fn show_log<B: Bay>(
     site: &Site<B::D>,
     client: u8,
     volume: u32,
-) -> Result<Reply, CellFault> {
+) -> Result<Reply, CellFault>
+    requires ready { IsReady B.D.told (B.out _bay.now) site.now }
+    ensures does { (cell : StoredCell) → IsStoredKept cell → IsSite B.D.told (B.out _bay.now) (B.has _bay.now) cell site.now
+        → IfOk result (λ reply. Becomes B.D.told (B.out _bay.now) (B.has _bay.now) (Happens cell (line.ShowLog client volume)) reply (B.answered _bay.now) (B.answered _bay.now) site.now) }
+    ensures memory { IfErr result (λ why. why ≡ CellFault.Memory) }
+{
     if let Some(number) = site.missing(client, volume) {
         return Ok(no_such_actor(site.alloc, number)?);
     }

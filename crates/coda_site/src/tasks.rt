@@ -1,4 +1,29 @@
 // What clients are asked to do.
+ghost use Rattle.std.specs.Prelude.{◌≡◌, ℕ, true, Some, replicate, IfOk, IfErr};
+ghost use Rattle.std.specs.BTreeMap.{get as get_in};
+ghost use Rattle.std.specs.Ordering.{nat_cmp};
+ghost use Rattle.coda_fid.specs.Name.{AreNames};
+ghost use Rattle.coda_actors.specs.Clients.{client_form};
+ghost use Rattle.coda_actors.specs.Slots.{is_up};
+ghost use Rattle.coda_crew.specs.Crews.{slot_at, KeepsOtherSlots};
+ghost use Rattle.coda_record.specs.Spelling.{HasSpelling};
+ghost use Rattle.coda_record.specs.Table.{volume as a_volume};
+ghost use Rattle.coda_script.specs.Ranges.{TaskInRange};
+ghost use Rattle.coda_script.specs.declared.line.Line.TheVariants as line;
+ghost use Rattle.coda_script.specs.declared.line.Task.TheVariants as task;
+ghost use Rattle.coda_venus.specs.Ask.{asked, IsAskSpelled};
+ghost use Rattle.coda_asking.specs.Fetching.{nodes_offered};
+ghost use Rattle.coda_cell.specs.Ask.{Store};
+ghost use Rattle.coda_cell.specs.Asking.{operate as operate_answer};
+ghost use Rattle.coda_cell.specs.Steps.{is_built_task, bytes_of};
+ghost use Rattle.coda_serving.specs.Serving.{asked_as, show_answer, reply_of, IsDone, IsShown};
+ghost use Rattle.coda_stored.specs.Cells.{StoredCell};
+ghost use Rattle.coda_stored.specs.Kept.{IsStoredKept};
+ghost use Rattle.coda_stored.specs.Lines.{Happens};
+ghost use Rattle.coda_site.specs.Sites.{IsSite, IsReady};
+ghost use Rattle.coda_site.specs.Steps.{Becomes};
+ghost use Rattle.coda_site.specs.Tasks.{Asks, CallEnds, offered_at};
+
 use crate::draining::drain;
 use crate::fault::CellFault;
 use crate::links::strength;
@@ -35,7 +60,9 @@ fn offers_of<'a, D: Disk + Drop>(
     replicas: &'a BTreeMap<u32, Slot<Replica<D>, D>>,
     client: u8,
     volume: u32,
-) -> Option<&'a Volume> {
+) -> Option<&'a Volume>
+    ensures { nodes_offered result ≡ offered_at net.now replicas.now client (get_in nat_cmp places.now volume) }
+{
     let place = places.get(&volume)?;
     match strength(net, client, place.server) {
         Strength::Strong => {}
@@ -56,7 +83,13 @@ fn operate_at<D: Disk + Drop>(
     now: u64,
     volume: u32,
     ask: &Ask,
-) -> Result<Done, Refused> {
+) -> Result<Done, Refused>
+    requires up { is_up (client_form D.told) (slot_at clients.old number) ≡ true }
+    requires volume { HasSpelling a_volume volume }
+    requires ask { IsAskSpelled (asked ask.now) }
+    ensures slots { KeepsOtherSlots number clients.old clients.new }
+    ensures ends { CallEnds D.told number (nodes_offered offers.entry) (λ o c. operate_answer o c now volume (asked_as (asked ask.now))) clients.old clients.new IsDone result }
+{
     match take(clients, number) {
         Slot::Started { header, mut actor } => {
             let said = operate(&mut actor, offers, now, volume, ask);
@@ -76,7 +109,11 @@ fn show_at<D: Disk + Drop>(
     what: Showing,
     volume: u32,
     path: &Path,
-) -> Result<(Seen, bool), Refused> {
+) -> Result<(Seen, bool), Refused>
+    requires up { is_up (client_form D.told) (slot_at clients.old number) ≡ true }
+    ensures slots { KeepsOtherSlots number clients.old clients.new }
+    ensures ends { CallEnds D.told number (nodes_offered offers.entry) (λ o c. show_answer what o c volume path.now) clients.old clients.new IsShown result }
+{
     match take(clients, number) {
         Slot::Started { header, mut actor } => {
             let said = show(alloc, &mut actor, offers, what, volume, path);
@@ -88,7 +125,9 @@ fn show_at<D: Disk + Drop>(
 }
 
 // The reply to an object that was shown.
-fn shown(fetched: bool, kind: NodeKind) -> Reply {
+fn shown(fetched: bool, kind: NodeKind) -> Reply
+    ensures { result ≡ reply_of fetched kind }
+{
     match kind {
         NodeKind::File(content) => {
             let what = Readable::File(content);
@@ -109,7 +148,15 @@ fn perform<B: Bay>(
     client: u8,
     volume: u32,
     ask: Ask,
-) -> Result<Reply, CellFault> {
+) -> Result<Reply, CellFault>
+    requires ready { IsReady B.D.told (B.out _bay.now) site.old }
+    requires volume { HasSpelling a_volume volume }
+    requires ask { IsAskSpelled (asked ask.entry) }
+    ensures ready { IsReady B.D.told (B.out _bay.now) site.new }
+    ensures does { (cell : StoredCell) → IsStoredKept cell → IsSite B.D.told (B.out _bay.now) (B.has _bay.now) cell site.old
+        → IfOk result (λ reply. Becomes B.D.told (B.out _bay.now) (B.has _bay.now) (Asks cell client volume (λ o c. operate_answer o c cell.made.clock volume (asked_as (asked ask.entry)))) reply (B.answered _bay.now) (B.answered _bay.now) site.new) }
+    ensures memory { IfErr result (λ why. why ≡ CellFault.Memory) }
+{
     if let Some(number) = site.missing(client, volume) {
         return Ok(no_such_actor(site.alloc, number)?);
     }
@@ -142,7 +189,13 @@ fn look<B: Bay>(
     volume: u32,
     what: Showing,
     path: &Path,
-) -> Result<Reply, CellFault> {
+) -> Result<Reply, CellFault>
+    requires ready { IsReady B.D.told (B.out _bay.now) site.old }
+    ensures ready { IsReady B.D.told (B.out _bay.now) site.new }
+    ensures does { (cell : StoredCell) → IsStoredKept cell → IsSite B.D.told (B.out _bay.now) (B.has _bay.now) cell site.old
+        → IfOk result (λ reply. Becomes B.D.told (B.out _bay.now) (B.has _bay.now) (Asks cell client volume (λ o c. show_answer what o c volume path.now)) reply (B.answered _bay.now) (B.answered _bay.now) site.new) }
+    ensures memory { IfErr result (λ why. why ≡ CellFault.Memory) }
+{
     if let Some(number) = site.missing(client, volume) {
         return Ok(no_such_actor(site.alloc, number)?);
     }
@@ -166,7 +219,9 @@ fn look<B: Bay>(
 }
 
 // The bytes of content that is one byte, so many times.
-fn filled(alloc: Global, length: u32, byte: u8) -> Result<Bytes, AllocError> {
+fn filled(alloc: Global, length: u32, byte: u8) -> Result<Bytes, AllocError>
+    ensures { IfOk result (λ bytes. bytes ≡ replicate length byte) }
+{
     let filled = vec![in alloc; byte; length as usize]?;
     Ok(Bytes::from_vec(filled))
 }
@@ -179,7 +234,14 @@ fn store<B: Bay>(
     volume: u32,
     path: &Path,
     content: &Content,
-) -> Result<Reply, CellFault> {
+) -> Result<Reply, CellFault>
+    requires ready { IsReady B.D.told (B.out bay.now) site.old }
+    requires volume { HasSpelling a_volume volume }
+    ensures ready { IsReady B.D.told (B.out bay.now) site.new }
+    ensures does { (cell : StoredCell) → IsStoredKept cell → IsSite B.D.told (B.out bay.now) (B.has bay.now) cell site.old
+        → IfOk result (λ reply. Becomes B.D.told (B.out bay.now) (B.has bay.now) (Asks cell client volume (λ o c. operate_answer o c cell.made.clock volume (Store path.now (bytes_of content.now)))) reply (B.answered bay.now) (B.answered bay.now) site.new) }
+    ensures memory { IfErr result (λ why. why ≡ CellFault.Memory) }
+{
     match content {
         Content::Text(content) => perform(bay, site, client, volume, Ask::Store { path, content }),
         Content::Fill { length, byte } => {
@@ -194,7 +256,15 @@ pub fn carry_out<B: Bay>(
     bay: &B,
     site: &mut Site<B::D>,
     task: &Task,
-) -> Result<Reply, CellFault> {
+) -> Result<Reply, CellFault>
+    requires ready { IsReady B.D.told (B.out bay.now) site.old }
+    requires built { is_built_task task.now ≡ true }
+    requires range { TaskInRange task.now }
+    ensures ready { IsReady B.D.told (B.out bay.now) site.new }
+    ensures does { (cell : StoredCell) → IsStoredKept cell → IsSite B.D.told (B.out bay.now) (B.has bay.now) cell site.old
+        → IfOk result (λ reply. Becomes B.D.told (B.out bay.now) (B.has bay.now) (Happens cell (line.Task task.now)) reply (B.answered bay.now) (B.answered bay.now) site.new) }
+    ensures memory { IfErr result (λ why. why ≡ CellFault.Memory) }
+{
     let (client, volume, ask) = match task {
         Task::Create {
             client,

@@ -1,11 +1,11 @@
 // Which actors are there, and which are up.
-ghost use Rattle.std.specs.Prelude.{◌≡◌, ◌∷◌, []};
+ghost use Rattle.std.specs.Prelude.{◌≡◌, ◌∷◌, [], true};
 ghost use Rattle.std.specs.Option.{option_map};
 ghost use Rattle.coda_actors.specs.Slots.{is_made};
 ghost use Rattle.coda_crew.specs.Crews.{slot_at};
 ghost use Rattle.coda_cell.specs.Steps.{first_missing};
 ghost use Rattle.coda_cell.specs.declared.refused.Refused.TheVariants as refused;
-ghost use Rattle.coda_site.specs.Sites.{place_in, client_at, volume_at, server_at, holder_at};
+ghost use Rattle.coda_site.specs.Sites.{is_client_disk, place_in, client_at, volume_at, server_at, holder_at};
 
 use crate::site::{Place, Site};
 use coda_crew::is_made;
@@ -13,7 +13,8 @@ use coda_crew::is_made;
 impl<D> Site<D> {
     /// Whether a client was made.
     pub fn has_client(&self, client: u8) -> bool
-        ensures { result ≡ (client_at self.now client).there }
+        ensures there { result ≡ (client_at self.now client).there }
+        ensures disk { is_client_disk client ≡ true }
     {
         is_made(&self.clients, u32::from(client))
     }
@@ -44,7 +45,8 @@ impl<D> Site<D> {
 
     /// The number of the first of a client and a volume that isn't there.
     pub fn missing(&self, client: u8, volume: u32) -> Option<u32>
-        ensures { option_map refused.NoSuchActor result ≡ first_missing (client_at self.now client ∷ volume_at self.now volume ∷ []) }
+        ensures missing { option_map refused.NoSuchActor result ≡ first_missing (client_at self.now client ∷ volume_at self.now volume ∷ []) }
+        ensures disk { is_client_disk client ≡ true }
     {
         if !self.has_client(client) {
             return Some(u32::from(client));
@@ -57,7 +59,8 @@ impl<D> Site<D> {
 
     /// The number of the first of a client, a volume and its server that isn't there.
     pub fn missing_holder(&self, client: u8, volume: u32, server: u8) -> Option<u32>
-        ensures { option_map refused.NoSuchActor result ≡ first_missing (client_at self.now client ∷ volume_at self.now volume ∷ holder_at self.now server volume ∷ []) }
+        ensures missing { option_map refused.NoSuchActor result ≡ first_missing (client_at self.now client ∷ volume_at self.now volume ∷ holder_at self.now server volume ∷ []) }
+        ensures disk { is_client_disk client ≡ true }
     {
         if !self.has_client(client) {
             return Some(u32::from(client));
@@ -73,7 +76,8 @@ impl<D> Site<D> {
 
     /// The number of the first of a client and a server that isn't there.
     pub fn missing_end(&self, client: u8, server: u8) -> Option<u32>
-        ensures { option_map refused.NoSuchActor result ≡ first_missing (client_at self.now client ∷ server_at self.now server ∷ []) }
+        ensures missing { option_map refused.NoSuchActor result ≡ first_missing (client_at self.now client ∷ server_at self.now server ∷ []) }
+        ensures disk { is_client_disk client ≡ true }
     {
         if !self.has_client(client) {
             return Some(u32::from(client));

@@ -14,7 +14,11 @@ use Rattle.coda_stored.specs.Cells.{Side, StoredCell, replica_header, moved}
 use Rattle.coda_stored.specs.Kept.{IsGiven, IsClientSide, IsReplicaSide, IsStoredKept}
 use Rattle.coda_stored.specs.Lines.{Becoming, Unless, with_client_side, with_replica_side, CrashesClient, CrashesReplica, recovered_side, IsRefused, RecoversClient, RecoversReplica}
 use Rattle.coda_stored.proofs.Acting.{holder_home}
+<<<<<<< HEAD
+use Rattle.coda_stored.proofs.Sides.{AreClean, AreSided, clean_in, sided_in, stored_kept, goes_crashed, goes_recovered, alone_crashed, alone_recovered, clean_client, clean_replica, sided_client, sided_replica}
+=======
 use Rattle.coda_stored.proofs.Sides.{clean_in, sided_in, stored_kept, goes_crashed, goes_recovered, clean_client, clean_replica, sided_client, sided_replica}
+>>>>>>> 1e1760b037de7923be0be962507e2d9070e711d4
 use Rattle.coda_stored.proofs.Wholes.{whole_crashed_client, whole_crashed_replica, client_joins, replica_joins, whole_recovered_client, whole_recovered_replica}
 
 -- ---- actors that lines name are there
@@ -102,7 +106,7 @@ module _ (cell : StoredCell) (kept : IsStoredKept cell) where
       let clean = clean_in cell kept in
       let sided = sided_in cell kept in
       let actor = crashed (cell.made.acted.replicas server volume) in
-      stored_kept (moved cell (Crashes (TheReplica server volume))) (clean_replica cell clean sided server volume actor (λ up. cc)) (λ joins. subst IsKept (sym (whole_crashed_replica cell.made joins server volume)) (kept.kept joins))
+      stored_kept (moved cell (Crashes (TheReplica server volume))) (clean_replica cell clean sided server volume actor (λ up. cc) (alone_crashed (cell.made.acted.replicas server volume) (clean.alone server volume))) (λ joins. subst IsKept (sym (whole_crashed_replica cell.made joins server volume)) (kept.kept joins))
       (sided_replica cell clean sided server volume actor there (goes_crashed (cell.replicas volume).given (cell.made.acted.replicas server volume)))
 
   pub client_recovered : (client blocks : ℕ) (header : Header) (joins : Bool) → cell.made.sizes client ≡ Some blocks → (cell.clients client).given ≡ Some header → IsStoredKept (moved cell (Recovers (TheClient client) joins))
@@ -119,7 +123,7 @@ module _ (cell : StoredCell) (kept : IsStoredKept cell) where
       let clean = clean_in cell kept in
       let sided = sided_in cell kept in
       let actor = recovered joins (cell.made.acted.replicas server volume) in
-      stored_kept (moved cell (Recovers (TheReplica server volume) joins)) (clean_replica cell clean sided server volume actor (λ up. refl))
+      stored_kept (moved cell (Recovers (TheReplica server volume) joins)) (clean_replica cell clean sided server volume actor (λ up. refl) (alone_recovered (cell.made.acted.replicas server volume) joins (clean.alone server volume)))
       (λ late. subst IsKept (sym (whole_recovered_replica cell.made late server volume joins)) (kept.kept (replica_joins late server volume joins)))
       (sided_replica cell clean sided server volume actor there (goes_recovered (cell.replicas volume).given header (cell.made.acted.replicas server volume) joins given))
 

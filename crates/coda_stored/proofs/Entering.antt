@@ -14,21 +14,42 @@ use Rattle.coda_cell.specs.State.{ClientVolume, ReplicaState, CellState, Event, 
 use Rattle.coda_cell.specs.Messages.{over, posting, going_by, sends_of, sends, ruled_in, chunk_comes, taken_in, answer_comes}
 use Rattle.coda_cell.specs.Sending.{Freezing, freezing, Ruling, ruling_of, Taking, taking, deeds_at, entries_at, decides, answered_to, ruled_on, drained_of, drain}
 use Rattle.coda_cell.specs.declared.refused.Refused.{Refused}
+<<<<<<< HEAD
+use Rattle.coda_matching.specs.Replicas.{IsDecision}
+use Rattle.coda_stored.specs.Kept.{whole}
+use Rattle.coda_stored.proofs.Wholes.{whole_grown_client, whole_grown_replica}
+=======
+>>>>>>> 1e1760b037de7923be0be962507e2d9070e711d4
 
--- it makes no actor, and where it is an entry, it is one of these clients or replicas
+-- it makes no actor, and where it is an entry, it is one of these clients or replicas, which decide alone
 abbrev pub IsBy : (ℕ → Type 0) → (ℕ → ℕ → Type 0) → Event → Type 0
 IsBy C R (VolumeMade volume server) = ⊥
 IsBy C R (ClientMade client blocks) = ⊥
 IsBy C R (Ticked seconds) = Unit {0}
 IsBy C R (LinkSet client server strength) = Unit {0}
 IsBy C R (Entered (AtClient client entry)) = C client
-IsBy C R (Entered (AtReplica server volume entry)) = R server volume
+IsBy C R (Entered (AtReplica server volume entry)) = R server volume × IsDecision entry
 IsBy C R (Posted sent) = Unit {0}
 IsBy C R (Lost message) = Unit {0}
 
 abbrev pub AreBy : (ℕ → Type 0) → (ℕ → ℕ → Type 0) → List Event → Type 0
 AreBy C R [] = Unit {0}
 AreBy C R (event ∷ events) = IsBy C R event × AreBy C R events
+
+-- all of them are decisions
+abbrev pub AreDecided : List ReplicaEntry → Type 0
+AreDecided [] = Unit {0}
+AreDecided (entry ∷ entries) = IsDecision entry × AreDecided entries
+
+-- a ruling leaves decisions alone
+abbrev IsAlone : Result Ruling Refused → Type 0
+IsAlone (Ok ruled) = AreDecided ruled.entries
+IsAlone (Err why) = Unit {0}
+
+ruling_alone : (client number : ℕ) (span : List Record) (r : ReplicaState) (next full : Bool) → IsAlone (ruling_of next full client number span r)
+ruling_alone client number span r true true = tt
+ruling_alone client number span r true false = (tt, tt)
+ruling_alone client number span r false full = tt
 
 module _ (C : ℕ → Type 0) (R : ℕ → ℕ → Type 0) where
   pub by_both : (first rest : List Event) → AreBy C R first → AreBy C R rest → AreBy C R (first ++ rest)
@@ -43,9 +64,9 @@ module _ (C : ℕ → Type 0) (R : ℕ → ℕ → Type 0) where
   by_entries client [] c = tt
   by_entries client (entry ∷ entries) c = (c, by_entries client entries c)
 
-  by_decisions : (server volume : ℕ) (entries : List ReplicaEntry) → R server volume → AreBy C R (entries_at server volume entries)
-  by_decisions server volume [] r = tt
-  by_decisions server volume (entry ∷ entries) r = (r, by_decisions server volume entries r)
+  by_decisions : (server volume : ℕ) (entries : List ReplicaEntry) → R server volume → AreDecided entries → AreBy C R (entries_at server volume entries)
+  by_decisions server volume [] r are = tt
+  by_decisions server volume (entry ∷ entries) r are = ((r, are.0), by_decisions server volume entries r are.1)
 
   by_lost : (going : Waiting) (sent : Sent) → AreBy C R (map (λ l. Lost l.0) going ++ Posted sent ∷ [])
   by_lost [] sent = (tt, tt)
@@ -72,7 +93,7 @@ module _ (C : ℕ → Type 0) (R : ℕ → ℕ → Type 0) where
 
     by_ruled : (f : Freezing) (r : ReplicaState) (next full : Bool) → C client → R r.server volume → AreBy C R (ruled_on client volume f r (ruling_of next full client f.number f.span r)).events
     by_ruled f r true true c h = by_deeds f c
-    by_ruled f r true false c h = let ruled = decides client f.number f.span r in by_answered f ruled (taking f.number ruled.answer f.volume) c (by_decisions r.server volume ruled.entries h)
+    by_ruled f r true false c h = let ruled = decides client f.number f.span r in by_answered f ruled (taking f.number ruled.answer f.volume) c (by_decisions r.server volume ruled.entries h (tt, tt))
     by_ruled f r false full c h =
         let ruled : Ruling = record { answer = told (r.lasts client) f.number; entries = []; replica = r } in by_answered f ruled (taking f.number ruled.answer f.volume) c tt
 
@@ -94,14 +115,17 @@ module _ (C : ℕ → Type 0) (R : ℕ → ℕ → Type 0) where
     pub by_sends : (s : CellState) (server window : ℕ) (v : ClientVolume) → C client → AreBy C R (sends s client volume server window v).events
     by_sends s server window v c = by_sends_of s server (over (s.links client server) (freezing s.clock window server v)) c
 
-    by_ruled_in : (s : CellState) (server number : ℕ) (o : Result Ruling Refused) → R server volume → AreBy C R (ruled_in s client server volume number o).events
-    by_ruled_in s server number (Err why) h = tt
-    by_ruled_in s server number (Ok ruled) h =
+    by_ruled_in : (s : CellState) (server number : ℕ) (o : Result Ruling Refused) → R server volume → IsAlone o → AreBy C R (ruled_in s client server volume number o).events
+    by_ruled_in s server number (Err why) h alone = tt
+    by_ruled_in s server number (Ok ruled) h alone =
         let sent = AnswerSent server client volume number ruled.answer in
-        by_both (entries_at server volume ruled.entries) (posting sent s.waiting) (by_decisions server volume ruled.entries h) (by_posting sent s.waiting)
+        by_both (entries_at server volume ruled.entries) (posting sent s.waiting) (by_decisions server volume ruled.entries h alone) (by_posting sent s.waiting)
 
     pub by_ruling : (s : CellState) (server number : ℕ) (span : List Record) (r : ReplicaState) → R server volume → AreBy C R (chunk_comes s client server volume number span r).events
-    by_ruling s server number span r h = by_ruled_in s server number (ruling_of (is_next (r.lasts client) number) (nat_lt 4294967295 number) client number span r) h
+    by_ruling s server number span r h =
+        let next = is_next (r.lasts client) number in
+        let full = nat_lt 4294967295 number in
+        by_ruled_in s server number (ruling_of next full client number span r) h (ruling_alone client number span r next full)
 
     by_taken_in : (number : ℕ) (answer : Answer) (o : Result Taking Refused) → C client → AreBy C R (taken_in client volume number answer o).events
     by_taken_in number answer (Err why) c = tt

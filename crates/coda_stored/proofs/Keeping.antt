@@ -39,6 +39,7 @@ first_stored : IsStoredKept nothing_stored
 first_stored = record {
   clients_up = λ client up. refl;
   replicas_up = λ server volume up. refl;
+  alone = λ server volume entry i. absurd i;
   kept = λ joins. subst IsKept (sym (whole_nothing joins)) first_kept;
   clients = λ client. (refl, refl);
   replicas = λ volume. (refl, λ server. refl);

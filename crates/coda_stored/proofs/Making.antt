@@ -13,7 +13,11 @@ use Rattle.coda_stored.specs.Cells.{Side, StoredCell, client_header, replica_hea
 use Rattle.coda_stored.specs.Kept.{whole, IsGiven, IsArea, IsClientSide, IsReplicaSide, IsStoredKept}
 use Rattle.coda_stored.specs.Lines.{Opens, no_volume, no_client, with_volume, with_client as with_client_made, MakesVolume, MakesClient}
 use Rattle.coda_stored.proofs.Disks.{unless_kept}
+<<<<<<< HEAD
+use Rattle.coda_stored.proofs.Sides.{AreClean, AreSided, clean_in, sided_in, stored_kept, acting, clean_client, clean_replica, alone_crashed}
+=======
 use Rattle.coda_stored.proofs.Sides.{AreSided, clean_in, sided_in, stored_kept, acting, clean_client, clean_replica}
+>>>>>>> 1e1760b037de7923be0be962507e2d9070e711d4
 use Rattle.coda_stored.proofs.Wholes.{whole_crashed_client, whole_crashed_replica}
 
 -- ---- small steps
@@ -108,7 +112,7 @@ module _ (old : StoredCell) (kept : IsStoredKept old) (volume server area : ℕ)
   volume_down side asked tried =
       let cell = with_volume old volume server area side in
       let actor = crashed (old.made.acted.replicas server volume) in
-      stored_kept (moved cell (Crashes (TheReplica server volume))) (clean_replica old (clean_in old kept) (sided_in old kept) server volume actor (λ up. cc))
+      stored_kept (moved cell (Crashes (TheReplica server volume))) (clean_replica old (clean_in old kept) (sided_in old kept) server volume actor (λ up. cc) (alone_crashed (old.made.acted.replicas server volume) (kept.alone server volume)))
       (λ joins. subst IsKept (sym (whole_crashed_replica cell.made joins server volume)) (kept_volume joins))
       (volume_sided side (with_replica old.made.acted server volume actor) asked
       (subst (IsGiven side.given (replica_header volume server area)) (sym (λ i. cond (eq-eqb server server refl i && eq-eqb volume volume refl i) actor (old.made.acted.replicas server volume)))

@@ -1,18 +1,21 @@
 -- What is known of disks, after what happens to actors.
-use Rattle.std.proofs.Common.{◌≡◌, ℕ, ◌==◌, ◌&&◌, Bool, true, false, cond, Option, Some, None, refl, sym, ap, ◌∙◌, subst}
+use Rattle.std.proofs.Common.{◌≡◌, ◌⊎◌, ℕ, ◌==◌, ◌++◌, inl, inr, ◌&&◌, Bool, true, false, cond, List, [], ◌∷◌, Option, Some, None, refl, sym, ap, ◌∙◌, subst}
 use Rattle.std.proofs.lemmas.Bool.{eqb-true, and_parts}
 use Rattle.coda_journal.specs.declared.header.Header.{Header}
-use Rattle.coda_plain.specs.Cell.{ClientEntry, Actor, PlainCell, Joins}
+use Rattle.coda_plain.specs.Cell.{ClientEntry, Actor, PlainCell, Joins, found}
 use Rattle.coda_plain.specs.Decisions.{ReplicaEntry}
+use Rattle.coda_plain.specs.Histories.{In}
 use Rattle.coda_plain.specs.Moves.{with_client, with_replica, grown as grown_actor, fallen, crashed, recovered}
 use Rattle.coda_cell.specs.Runs.{IsKept}
+use Rattle.coda_matching.specs.Replicas.{IsDecision}
 use Rattle.coda_stored.specs.Cells.{Side, StoredCell}
 use Rattle.coda_stored.specs.Kept.{whole, IsGiven, IsClientSide, IsReplicaSide, IsPlaced, IsStoredKept}
 
--- no append of an actor that is up failed
+-- no append of an actor that is up failed, and replicas decide alone
 pub record AreClean (cell : PlainCell) : Type 0 where
   pub clients : (client : ℕ) → (cell.clients client).up ≡ true → (cell.clients client).failed ≡ None
   pub replicas : (server volume : ℕ) → (cell.replicas server volume).up ≡ true → (cell.replicas server volume).failed ≡ None
+  pub alone : (server volume : ℕ) (entry : ReplicaEntry) → In entry (found true (cell.replicas server volume)) → IsDecision entry
 
 -- what is known of disks in a cell that is kept
 pub record AreSided (cell : StoredCell) : Type 0 where
@@ -22,13 +25,13 @@ pub record AreSided (cell : StoredCell) : Type 0 where
   pub apart : (volume other server home : ℕ) → cell.made.homes volume ≡ Some server → cell.made.homes other ≡ Some home → cell.places volume ≡ cell.places other → volume ≡ other
 
 pub clean_in : (cell : StoredCell) → IsStoredKept cell → AreClean cell.made.acted
-clean_in cell kept = record { clients = kept.clients_up; replicas = kept.replicas_up }
+clean_in cell kept = record { clients = kept.clients_up; replicas = kept.replicas_up; alone = kept.alone }
 
 pub sided_in : (cell : StoredCell) → IsStoredKept cell → AreSided cell
 sided_in cell kept = record { clients = kept.clients; replicas = kept.replicas; placed = kept.placed; apart = kept.apart }
 
 pub stored_kept : (cell : StoredCell) → AreClean cell.made.acted → ((joins : Joins) → IsKept (whole cell.made joins)) → AreSided cell → IsStoredKept cell
-stored_kept cell clean kept sided = record { clients_up = clean.clients; replicas_up = clean.replicas; kept = kept; clients = sided.clients; replicas = sided.replicas; placed = sided.placed; apart = sided.apart }
+stored_kept cell clean kept sided = record { clients_up = clean.clients; replicas_up = clean.replicas; kept = kept; clients = sided.clients; replicas = sided.replicas; placed = sided.placed; apart = sided.apart; alone = clean.alone }
 
 -- ---- one actor
 
@@ -54,6 +57,49 @@ module _ {E : Type 0} where
   goes_recovered None header actor joins e = cc
   goes_recovered (Some given) header actor joins e = record { clean = λ up. refl; keeps = λ other is. is }
 
+-- ---- decisions
+
+in_both : (first rest : List ReplicaEntry) (entry : ReplicaEntry) → In entry (first ++ rest) → In entry first ⊎ In entry rest
+in_both [] rest entry i = inr i
+in_both (x ∷ first) rest entry (inl same) = inl (inl same)
+in_both (x ∷ first) rest entry (inr i) = elim (in_both first rest entry i) [ inl a ↦ inl (inr a) | inr b ↦ inr b ]
+
+in_left : (first rest : List ReplicaEntry) (entry : ReplicaEntry) → In entry first → In entry (first ++ rest)
+in_left [] rest entry i = absurd i
+in_left (x ∷ first) rest entry (inl same) = inl same
+in_left (x ∷ first) rest entry (inr i) = inr (in_left first rest entry i)
+
+-- all that would be found of the actor, with its failed entry, are decisions
+abbrev pub DecidesAlone : Actor ReplicaEntry → Type 0
+DecidesAlone actor = (entry : ReplicaEntry) → In entry (found true actor) → IsDecision entry
+
+alone_before : (actor : Actor ReplicaEntry) → DecidesAlone actor → (entry : ReplicaEntry) → In entry actor.history → IsDecision entry
+alone_before actor alone entry i = alone entry (by actor.failed refl)
+  where
+    by : (o : Option ReplicaEntry) → actor.failed ≡ o → In entry (found true actor)
+    by None e = subst (λ (f : Option ReplicaEntry). In entry (found true (record actor { failed = f }))) (sym e) i
+    by (Some f) e = subst (λ (g : Option ReplicaEntry). In entry (found true (record actor { failed = g }))) (sym e) (in_left actor.history (f ∷ []) entry i)
+
+alone_with : (history : List ReplicaEntry) (entry : ReplicaEntry) → IsDecision entry → ((other : ReplicaEntry) → In other history → IsDecision other) → (other : ReplicaEntry) → In other (history ++ entry ∷ []) → IsDecision other
+alone_with history entry is before other i = elim (in_both history (entry ∷ []) other i) [
+  | inl a ↦ before other a
+  | inr b ↦ (elim b [ inl same ↦ subst IsDecision (sym same) is | inr nothing ↦ absurd nothing ])
+]
+
+pub alone_grown : (actor : Actor ReplicaEntry) (entry : ReplicaEntry) → IsDecision entry → actor.failed ≡ None → DecidesAlone actor → DecidesAlone (grown_actor entry actor)
+alone_grown actor entry is clean alone =
+    subst (λ (f : Option ReplicaEntry). DecidesAlone (record (grown_actor entry actor) { failed = f })) (sym clean) (alone_with actor.history entry is (alone_before actor alone))
+
+pub alone_fallen : (actor : Actor ReplicaEntry) (entry : ReplicaEntry) → IsDecision entry → DecidesAlone actor → DecidesAlone (fallen entry actor)
+alone_fallen actor entry is alone = alone_with actor.history entry is (alone_before actor alone)
+
+pub alone_crashed : (actor : Actor ReplicaEntry) → DecidesAlone actor → DecidesAlone (crashed actor)
+alone_crashed actor alone = alone
+
+pub alone_recovered : (actor : Actor ReplicaEntry) (joins : Bool) → DecidesAlone actor → DecidesAlone (recovered joins actor)
+alone_recovered actor true alone = alone
+alone_recovered actor false alone = alone_before actor alone
+
 -- ---- the sides
 
 client_goes : (client : ℕ) (o : Option ℕ) (old new : Actor ClientEntry) (side : Side) → (o ≡ None → new ≡ old) → ((header : Header) → IsGiven side.given header old → IsGiven side.given header new)
@@ -76,12 +122,15 @@ module _ (cell : StoredCell) (clean : AreClean cell.made.acted) (sided : AreSide
   clean_client client actor goes = record {
     clients = λ c. elim (c == client) as (λ b. (cond b actor (cell.made.acted.clients c)).up ≡ true → (cond b actor (cell.made.acted.clients c)).failed ≡ None) [ true ↦ goes | false ↦ clean.clients c ];
     replicas = clean.replicas;
+    alone = clean.alone;
   }
 
-  pub clean_replica : (server volume : ℕ) (actor : Actor ReplicaEntry) → (actor.up ≡ true → actor.failed ≡ None) → AreClean (with_replica cell.made.acted server volume actor)
-  clean_replica server volume actor goes = record {
+  pub clean_replica : (server volume : ℕ) (actor : Actor ReplicaEntry) → (actor.up ≡ true → actor.failed ≡ None) → ((entry : ReplicaEntry) → In entry (found true actor) → IsDecision entry)
+      → AreClean (with_replica cell.made.acted server volume actor)
+  clean_replica server volume actor goes alone = record {
     clients = clean.clients;
     replicas = λ s v. elim ((s == server) && (v == volume)) as (λ b. (cond b actor (cell.made.acted.replicas s v)).up ≡ true → (cond b actor (cell.made.acted.replicas s v)).failed ≡ None) [ true ↦ goes | false ↦ clean.replicas s v ];
+    alone = λ s v. elim ((s == server) && (v == volume)) as (λ b. (entry : ReplicaEntry) → In entry (found true (cond b actor (cell.made.acted.replicas s v))) → IsDecision entry) [ true ↦ alone | false ↦ clean.alone s v ];
   }
 
   -- a client that was made is another

@@ -15,7 +15,7 @@ use Rattle.coda_stored.specs.Kept.{whole, IsStoredKept}
 use Rattle.coda_stored.specs.Lines.{Stop, EndsBy}
 use Rattle.coda_stored.proofs.Acting.{UpClient, UpReplica, IsActed}
 use Rattle.coda_stored.proofs.Entering.{IsBy, AreBy, by_parts}
-use Rattle.coda_stored.proofs.Sides.{AreClean, AreSided, clean_in, sided_in, stored_kept, goes_grown, goes_fallen, clean_client, clean_replica, sided_client, sided_replica}
+use Rattle.coda_stored.proofs.Sides.{AreClean, AreSided, clean_in, sided_in, stored_kept, goes_grown, goes_fallen, alone_grown, alone_fallen, clean_client, clean_replica, sided_client, sided_replica}
 use Rattle.coda_stored.proofs.Wholes.{relinked, kept_relinked, kept_grown, whole_grown_client, whole_grown_replica, whole_failed_client, whole_failed_replica}
 
 -- ---- who is up stays up
@@ -38,7 +38,7 @@ up_replica_after cell (Ticked seconds) server volume by up = up
 up_replica_after cell (LinkSet c s strength) server volume by up = up
 up_replica_after cell (Entered (AtClient c entry)) server volume by up = up
 up_replica_after cell (Entered (AtReplica s v entry)) server volume by up =
-    (elim ((server == s) && (volume == v)) as (λ b. (cond b (grown_actor entry (cell.acted.replicas s v)) (cell.acted.replicas server volume)).up ≡ true) [ true ↦ by.0 | false ↦ up.0 ], up.1)
+    (elim ((server == s) && (volume == v)) as (λ b. (cond b (grown_actor entry (cell.acted.replicas s v)) (cell.acted.replicas server volume)).up ≡ true) [ true ↦ by.0.0 | false ↦ up.0 ], up.1)
 up_replica_after cell (Posted sent) server volume by up = up
 up_replica_after cell (Lost message) server volume by up = up
 
@@ -49,7 +49,7 @@ by_more C D R S f g (ClientMade client blocks ∷ events) are = absurd are.0
 by_more C D R S f g (Ticked seconds ∷ events) are = (tt, by_more C D R S f g events are.1)
 by_more C D R S f g (LinkSet client server strength ∷ events) are = (tt, by_more C D R S f g events are.1)
 by_more C D R S f g (Entered (AtClient client entry) ∷ events) are = (f client are.0, by_more C D R S f g events are.1)
-by_more C D R S f g (Entered (AtReplica server volume entry) ∷ events) are = (g server volume are.0, by_more C D R S f g events are.1)
+by_more C D R S f g (Entered (AtReplica server volume entry) ∷ events) are = ((g server volume are.0.0, are.0.1), by_more C D R S f g events are.1)
 by_more C D R S f g (Posted sent ∷ events) are = (tt, by_more C D R S f g events are.1)
 by_more C D R S f g (Lost message ∷ events) are = (tt, by_more C D R S f g events are.1)
 
@@ -65,8 +65,9 @@ clean_after cell (Ticked seconds) clean sided by = clean
 clean_after cell (LinkSet c s strength) clean sided by = clean
 clean_after cell (Entered (AtClient client entry)) clean sided by = clean_client cell clean sided client (grown_actor entry (cell.made.acted.clients client)) (clean.clients client)
 clean_after cell (Entered (AtReplica server volume entry)) clean sided by = clean_replica cell clean sided server volume (grown_actor entry (cell.made.acted.replicas server volume)) (clean.replicas server volume)
-clean_after cell (Posted sent) clean sided by = record { clients = clean.clients; replicas = clean.replicas }
-clean_after cell (Lost message) clean sided by = record { clients = clean.clients; replicas = clean.replicas }
+        (alone_grown (cell.made.acted.replicas server volume) entry by.1 (clean.replicas server volume by.0.0) (clean.alone server volume))
+clean_after cell (Posted sent) clean sided by = record { clients = clean.clients; replicas = clean.replicas; alone = clean.alone }
+clean_after cell (Lost message) clean sided by = record { clients = clean.clients; replicas = clean.replicas; alone = clean.alone }
 
 sided_after : (cell : StoredCell) (event : Event) → AreClean cell.made.acted → AreSided cell → IsBy (UpClient cell.made) (UpReplica cell.made) event → AreSided (after cell event)
 sided_after cell (VolumeMade v s) clean sided by = absurd by
@@ -76,7 +77,7 @@ sided_after cell (LinkSet c s strength) clean sided by = record { clients = side
 sided_after cell (Entered (AtClient client entry)) clean sided by =
     sided_client cell clean sided client by.1.0 (grown_actor entry (cell.made.acted.clients client)) by.1.1 (goes_grown (cell.clients client).given (cell.made.acted.clients client) entry by.0 (clean.clients client))
 sided_after cell (Entered (AtReplica server volume entry)) clean sided by =
-    sided_replica cell clean sided server volume (grown_actor entry (cell.made.acted.replicas server volume)) by.1 (goes_grown (cell.replicas volume).given (cell.made.acted.replicas server volume) entry by.0 (clean.replicas server volume))
+    sided_replica cell clean sided server volume (grown_actor entry (cell.made.acted.replicas server volume)) by.0.1 (goes_grown (cell.replicas volume).given (cell.made.acted.replicas server volume) entry by.0.0 (clean.replicas server volume))
 sided_after cell (Posted sent) clean sided by = record { clients = sided.clients; replicas = sided.replicas; placed = sided.placed; apart = sided.apart }
 sided_after cell (Lost message) clean sided by = record { clients = sided.clients; replicas = sided.replicas; placed = sided.placed; apart = sided.apart }
 
@@ -86,7 +87,7 @@ whole_after cell joins (ClientMade c blocks) clean by = refl
 whole_after cell joins (Ticked seconds) clean by = refl
 whole_after cell joins (LinkSet c s strength) clean by = refl
 whole_after cell joins (Entered (AtClient client entry)) clean by = whole_grown_client cell.made joins client entry (clean.clients client by.0)
-whole_after cell joins (Entered (AtReplica server volume entry)) clean by = whole_grown_replica cell.made joins server volume entry (clean.replicas server volume by.0)
+whole_after cell joins (Entered (AtReplica server volume entry)) clean by = whole_grown_replica cell.made joins server volume entry (clean.replicas server volume by.0.0)
 whole_after cell joins (Posted sent) clean by = refl
 whole_after cell joins (Lost message) clean by = refl
 
@@ -112,18 +113,19 @@ behind_all cell (event ∷ events) clean sided are =
 
 -- ---- a failed append
 
-clean_failed : (cell : StoredCell) (append : Append) → AreClean cell.made.acted → AreSided cell → AreClean (failed cell append).made.acted
-clean_failed cell (AtClient client entry) clean sided = clean_client cell clean sided client (fallen entry (cell.made.acted.clients client)) (λ up. cc)
-clean_failed cell (AtReplica server volume entry) clean sided = clean_replica cell clean sided server volume (fallen entry (cell.made.acted.replicas server volume)) (λ up. cc)
+clean_failed : (cell : StoredCell) (append : Append) → AreClean cell.made.acted → AreSided cell → IsBy (UpClient cell.made) (UpReplica cell.made) (Entered append) → AreClean (failed cell append).made.acted
+clean_failed cell (AtClient client entry) clean sided by = clean_client cell clean sided client (fallen entry (cell.made.acted.clients client)) (λ up. cc)
+clean_failed cell (AtReplica server volume entry) clean sided by =
+    clean_replica cell clean sided server volume (fallen entry (cell.made.acted.replicas server volume)) (λ up. cc) (alone_fallen (cell.made.acted.replicas server volume) entry by.1 (clean.alone server volume))
 
 sided_failed : (cell : StoredCell) (append : Append) → AreClean cell.made.acted → AreSided cell → IsBy (UpClient cell.made) (UpReplica cell.made) (Entered append) → AreSided (failed cell append)
 sided_failed cell (AtClient client entry) clean sided by = sided_client cell clean sided client by.1.0 (fallen entry (cell.made.acted.clients client)) by.1.1 (goes_fallen (cell.clients client).given (cell.made.acted.clients client) entry by.0)
-sided_failed cell (AtReplica server volume entry) clean sided by = sided_replica cell clean sided server volume (fallen entry (cell.made.acted.replicas server volume)) by.1 (goes_fallen (cell.replicas volume).given (cell.made.acted.replicas server volume) entry by.0)
+sided_failed cell (AtReplica server volume entry) clean sided by = sided_replica cell clean sided server volume (fallen entry (cell.made.acted.replicas server volume)) by.0.1 (goes_fallen (cell.replicas volume).given (cell.made.acted.replicas server volume) entry by.0.0)
 
 whole_failed : (cell : StoredCell) (joins : Joins) (append : Append) → AreClean cell.made.acted → IsBy (UpClient cell.made) (UpReplica cell.made) (Entered append)
     → (whole (failed cell append).made joins ≡ grown (whole cell.made joins) (Entered append)) ⊎ (whole (failed cell append).made joins ≡ whole cell.made joins)
 whole_failed cell joins (AtClient client entry) clean by = whole_failed_client cell.made joins client entry (clean.clients client by.0)
-whole_failed cell joins (AtReplica server volume entry) clean by = whole_failed_replica cell.made joins server volume entry (clean.replicas server volume by.0)
+whole_failed cell joins (AtReplica server volume entry) clean by = whole_failed_replica cell.made joins server volume entry (clean.replicas server volume by.0.0)
 
 -- ---- how events end
 
@@ -150,7 +152,7 @@ module _ (old : StoredCell) (kept : IsStoredKept old) (said : Line) (own : Reply
       let mid = after_all old stop.done in
       let by = (by_parts (UpClient old.made) (UpReplica old.made) stop.done (Entered stop.next ∷ stop.rest) (subst (AreBy (UpClient old.made) (UpReplica old.made)) stop.is acted.by)).1.0 in
       let up = behind.ups (Entered stop.next) by in
-      stored_kept (failed mid stop.next) (clean_failed mid stop.next behind.clean behind.sided) (found_kept behind up) (sided_failed mid stop.next behind.clean behind.sided up)
+      stored_kept (failed mid stop.next) (clean_failed mid stop.next behind.clean behind.sided up) (found_kept behind up) (sided_failed mid stop.next behind.clean behind.sided up)
     where
       more_is : events ≡ (stop.done ++ Entered stop.next ∷ []) ++ stop.rest
       more_is = stop.is ∙ sym (append_assoc stop.done (Entered stop.next ∷ []) stop.rest)

@@ -1,0 +1,10 @@
+pub mod Blank
+pub mod Shown
+pub mod Closing
+pub mod ClientSites
+pub mod Theres
+pub mod Becomings
+pub mod Clocks
+pub mod Calls
+pub mod Slots
+pub mod ReplicaSites

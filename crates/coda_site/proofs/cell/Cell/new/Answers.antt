@@ -1,0 +1,20 @@
+use Rattle.std.proofs.Common.{rules, ◌≡◌, ℕ, Bool, true, false, [], Some, None, refl, sym, ap}
+use Rattle.std.specs.Option.{option_map}
+use Rattle.coda_stored.specs.Cells.{unmade}
+use Rattle.coda_cell.specs.Cells.{IsNetwork}
+use Rattle.coda_site.specs.Sites.{place_in, is_client_disk, is_replica_disk}
+use Rattle.coda_site.specs.declared.site.Place.{Place}
+use Rattle.coda_site.proofs.Blank.{at_entry}
+use Rattle.coda_site.proofs.cell.Cell.new.Goals as goal
+
+pub returns-clause-stands : goal.returns-clause-stands
+returns-clause-stands g c = λ blank. record {
+  clock = refl;
+  servers = sym c.new.ensures.items;
+  homes = λ volume. search rules;
+  places = λ volume. search rules;
+  areas = refl;
+  clients = c.unmade-clients.ensures.fits is_client_disk (λ number. unmade) (λ number in_crew. c.requires number) (at_entry _ is_client_disk _ blank);
+  replicas = (λ number. unmade, record { placed = λ volume server none. search rules; others = λ number other. refl }, c.unmade-replicas.ensures.fits is_replica_disk (λ number. unmade) (λ number in_crew. c.requires number) (at_entry _ is_replica_disk _ blank));
+  net = search rules;
+}

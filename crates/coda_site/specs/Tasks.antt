@@ -1,0 +1,75 @@
+-- What a client does that is asked for something on a volume.
+use Rattle.std.specs.Prelude.{◌≡◌, ℕ, ◌&&◌, if◌then◌else◌, List, [], Option, Some, None, Result}
+use Rattle.std.specs.BTreeMap.{BTreeMap}
+use Rattle.coda_disk.specs.Told.{Told}
+use Rattle.coda_journal.specs.declared.header.Header.{Header}
+use Rattle.coda_plain.specs.Cell.{ClientEntry}
+use Rattle.coda_tree.specs.Volume.{Nodes}
+use Rattle.coda_actors.specs.declared.slot.Slot.{Slot}
+use Rattle.coda_actors.specs.declared.slot.Slot.TheVariants.{Vacant, Spare, Stopped, Started}
+use Rattle.coda_crew.specs.Crews.{slot_at}
+use Rattle.coda_net.specs.Pool.{Pool}
+use Rattle.coda_replica.specs.declared.replica.Replica.{Replica}
+use Rattle.coda_script.specs.declared.line.Strength.{Strength}
+use Rattle.coda_script.specs.declared.line.Strength.TheVariants.{Strong, Weak, Down}
+use Rattle.coda_script.specs.declared.reply.Reply.{Reply}
+use Rattle.coda_venus.specs.Standing.{IsUp}
+use Rattle.coda_venus.specs.declared.refused.Refused.{Refused as VenusRefused}
+use Rattle.coda_venus.specs.declared.venus.Venus.{Venus}
+use Rattle.coda_cell.specs.Asking.{Answer}
+use Rattle.coda_cell.specs.Cells.{linked_in}
+use Rattle.coda_cell.specs.Made.{client_of, state_of}
+use Rattle.coda_cell.specs.State.{ClientState, Event}
+use Rattle.coda_cell.specs.Steps.{Naming, ByClient, on_volume}
+use Rattle.coda_matching.specs.Clients.{journal_by, IsClientHistory, Ends}
+use Rattle.coda_serving.specs.Serving.{AreSpelledOffers}
+use Rattle.coda_stored.specs.Cells.{StoredCell}
+use Rattle.coda_stored.specs.Lines.{all_there, client_down, met_by, EndsBy, Becoming, UnlessDown}
+use Rattle.coda_site.specs.declared.site.Place.{Place}
+
+-- ---- what is asked of a client
+
+-- what a client answers, by what it can fetch and by what it has
+abbrev pub Request : Type 0
+Request = Option Nodes → ClientState → Answer
+
+-- A client on a volume, both of which may be missing, answers a request, up to an entry for which its disk has no room or at which it fails.
+pub record Answers (cell : StoredCell) (client volume : ℕ) (request : Request) (reply : Reply) (new : StoredCell) : Type 0 where
+  pub own : Reply
+  pub events : List Event
+  pub does : Naming (on_volume (met_by cell volume) client volume) (ByClient (met_by cell volume) client volume request) own events
+  pub ends : EndsBy cell events own reply new
+
+-- the same, unless the client is down
+abbrev pub Asks : StoredCell → ℕ → ℕ → Request → Becoming
+Asks cell client volume request =
+    UnlessDown (all_there (on_volume (state_of cell.made) client volume) && client_down cell client) cell (λ reply outside new. (outside ≡ []) × Answers cell client volume request reply new)
+
+-- ---- what a client can fetch, by the site
+
+-- the nodes of a replica that is up
+abbrev pub nodes_in : {D : Type 0} → Slot (Replica D) D → Option Nodes
+nodes_in Vacant = None
+nodes_in (Spare disk) = None
+nodes_in (Stopped header disk) = None
+nodes_in (Started header replica) = if replica.down then None else Some replica.decider.tree.nodes
+
+-- what comes over a link
+abbrev pub carried : {A : Type 0} → Strength → Option A → Option A
+carried Strong offers = offers
+carried Weak offers = offers
+carried Down offers = None
+
+-- what a client can fetch of a volume that was made here
+abbrev pub offered_at : {D : Type 0} → Pool → BTreeMap ℕ (Slot (Replica D) D) → ℕ → Option Place → Option Nodes
+offered_at net replicas client None = None
+offered_at net replicas client (Some p) = carried (linked_in net client p.server) (nodes_in (slot_at replicas p.disk))
+
+-- ---- how a client's call ends
+
+-- The client of a number was up, and was called with a request: it is in its slot still, and the call ended so by its history.
+abbrev pub CallEnds : {D B : Type 0} → (D → Told) → ℕ → Option Nodes → Request → BTreeMap ℕ (Slot (Venus D) D) → BTreeMap ℕ (Slot (Venus D) D) → (Reply → B → Type 0) → Result B VenusRefused → Type 0
+CallEnds {D = D} told number offers request old new IsAs result =
+    (header : Header) (venus : Venus D) → slot_at old number ≡ Started header venus → (left : Venus D) × (slot_at new number ≡ Started header left)
+    × ((history : List ClientEntry) → IsUp told header venus (journal_by history) → IsClientHistory header history → AreSpelledOffers offers
+    → let answer = request offers (client_of header.number history header.cache) in Ends told header history answer.entries answer.said IsAs left result)
