@@ -14,12 +14,7 @@ use Rattle.coda_cell.specs.State.{ClientVolume, ReplicaState, CellState, Event, 
 use Rattle.coda_cell.specs.Messages.{over, posting, going_by, sends_of, sends, ruled_in, chunk_comes, taken_in, answer_comes}
 use Rattle.coda_cell.specs.Sending.{Freezing, freezing, Ruling, ruling_of, Taking, taking, deeds_at, entries_at, decides, answered_to, ruled_on, drained_of, drain}
 use Rattle.coda_cell.specs.declared.refused.Refused.{Refused}
-<<<<<<< HEAD
 use Rattle.coda_matching.specs.Replicas.{IsDecision}
-use Rattle.coda_stored.specs.Kept.{whole}
-use Rattle.coda_stored.proofs.Wholes.{whole_grown_client, whole_grown_replica}
-=======
->>>>>>> 1e1760b037de7923be0be962507e2d9070e711d4
 
 -- it makes no actor, and where it is an entry, it is one of these clients or replicas, which decide alone
 abbrev pub IsBy : (ℕ → Type 0) → (ℕ → ℕ → Type 0) → Event → Type 0
