@@ -97,11 +97,12 @@ module _ (old new mid : StoredCell) (t : Task) (client : ℕ) (reply : Reply) wh
   next_entry : (cell : StoredCell) (entry : ClientEntry) → IsNextAppend cell (AtClient client entry) → IsNextEntry old cell t client entry
   next_entry cell entry n = record { own = n.0; events = n.1; does = n.2; stop = n.3.0; next = n.3.1; behind = n.3.2 }
 
-  no_room : (next : Append) → IsOf client (Entered next) → IsNextAppend mid next → Lacks mid next → reply ≡ refused_full → new ≡ mid → DiskCause old new t client reply
+  no_room : (next : Append) → IsOf client (Entered next) → IsNextAppend mid next → Lacks mid next → reply ≡ refused_full → new ≡ mid
+      → DiskCause old new t client reply
   no_room (AtClient c entry) by n lacks is same = HasNoRoom entry is
       (next_entry new entry (subst (λ cell. IsNextAppend cell (AtClient client entry)) (sym same) (subst (λ k. IsNextAppend mid (AtClient k entry)) by n)))
       (subst (λ cell. Lacks cell (AtClient client entry)) (sym same) (subst (λ k. Lacks mid (AtClient k entry)) by lacks))
-  no_room (AtReplica server volume entry) by n lacks is same = absurd by
+  no_room (AtReplica server volume entry) by n lacks is same = absurd by.0
 
   -- the client at which an append failed
   failed_at : (entry : ClientEntry) → new ≡ failed mid (AtClient client entry) → new.made.acted.clients client ≡ fallen entry (mid.made.acted.clients client)
@@ -109,12 +110,13 @@ module _ (old new mid : StoredCell) (t : Task) (client : ℕ) (reply : Reply) wh
       ap (λ (cell : StoredCell). cell.made.acted.clients client) e
       ∙ ap (λ b. cond b (fallen entry (mid.made.acted.clients client)) (mid.made.acted.clients client)) (eq-eqb client client refl)
 
-  has_failed : (next : Append) → IsOf client (Entered next) → IsNextAppend mid next → reply ≡ refused_fault → new ≡ failed mid next → DiskCause old new t client reply
+  has_failed : (next : Append) → IsOf client (Entered next) → IsNextAppend mid next → reply ≡ refused_fault → new ≡ failed mid next
+      → DiskCause old new t client reply
   has_failed (AtClient c entry) by n is same =
       let fell = failed_at entry (subst (λ k. new ≡ failed mid (AtClient k entry)) by same) in
       HasFailed entry mid is (next_entry mid entry (subst (λ k. IsNextAppend mid (AtClient k entry)) by n))
       (ap (λ (a : Actor ClientEntry). a.failed) fell) (ap (λ (a : Actor ClientEntry). a.up) fell)
-  has_failed (AtReplica server volume entry) by n is same = absurd by
+  has_failed (AtReplica server volume entry) by n is same = absurd by.0
 
 -- the entry at which events stopped that are of a client
 stopped_of : (client : ℕ) (events : List Event) (stop : Stop events) → AreOf client events → IsOf client (Entered stop.next)
@@ -136,7 +138,8 @@ module _ (old new : StoredCell) (kept : IsStoredKept old) (t : Task) (client vol
       (task_is cell reply events (lines_keep_cells cell (line.Task t) reply events (met_kept old links kept) tt does).shown t client volume does named))
 
   -- what the task does where disks have room
-  plainly : (at : IsMet old (line.Task t)) (own : Reply) (events : List Event) → Does (state_of (met old at.links)) (line.Task t) own events → Does (meets old (line.Task t)) (line.Task t) own events
+  plainly : (at : IsMet old (line.Task t)) (own : Reply) (events : List Event) → Does (state_of (met old at.links)) (line.Task t) own events
+      → Does (meets old (line.Task t)) (line.Task t) own events
   plainly at own events does = subst (λ s. Does s (line.Task t) own events) (sym at.is) does
 
   whose : (at : IsMet old (line.Task t)) (own : Reply) (events : List Event) (stop : Stop events) → Does (state_of (met old at.links)) (line.Task t) own events

@@ -242,9 +242,10 @@ pub record IsNextEntry (old mid : StoredCell) (t : Task) (client : ℕ) (entry :
 -- append of that failed, and the client is down from there on.
 pub data DiskCause (old new : StoredCell) (t : Task) (client : ℕ) (reply : Reply) : Type 0 where
   IsDown : reply ≡ refused_down → client_down old client ≡ true → new ≡ old → DiskCause old new t client reply
-  HasNoRoom : (entry : ClientEntry) → reply ≡ refused_full → IsNextEntry old new t client entry → Lacks new (AtClient client entry) → DiskCause old new t client reply
-  HasFailed : (entry : ClientEntry) (mid : StoredCell) → reply ≡ refused_fault → IsNextEntry old mid t client entry → (new.made.acted.clients client).failed ≡ Some entry
-      → (new.made.acted.clients client).up ≡ false → DiskCause old new t client reply
+  HasNoRoom : (entry : ClientEntry) → reply ≡ refused_full → IsNextEntry old new t client entry → Lacks new (AtClient client entry)
+      → DiskCause old new t client reply
+  HasFailed : (entry : ClientEntry) (mid : StoredCell) → reply ≡ refused_fault → IsNextEntry old mid t client entry
+      → (new.made.acted.clients client).failed ≡ Some entry → (new.made.acted.clients client).up ≡ false → DiskCause old new t client reply
 
 -- Whatever lines ran, an operation, a read or a listing is refused only for a cause that holds.
 abbrev pub RefusalsHaveCauses : Type 0
