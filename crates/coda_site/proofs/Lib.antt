@@ -7,3 +7,5 @@ pub mod Slots
 pub mod ReplicaSites
 pub mod Stages
 pub mod Drained
+pub mod Holders
+pub mod Drainings
