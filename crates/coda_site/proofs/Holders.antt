@@ -91,3 +91,10 @@ pub cut_is : (x : Strength) → not (is_cut x) ≡ false → x ≡ Down
 cut_is Strong e = (let no : true ≡ false = e in cc)
 cut_is Weak e = (let no : true ≡ false = e in cc)
 cut_is Down e = refl
+
+pub a_place : {D : Type 0} (site : Site D) (client volume server : ℕ) → first_missing (names_in site client volume server) ≡ None → (place : Place) × (place_in site volume ≡ Some place)
+a_place site client volume server all = by (place_in site volume) refl
+  where
+    by : (o : Option Place) → place_in site volume ≡ o → (place : Place) × (place_in site volume ≡ Some place)
+    by None e = absurd (no_place site client volume server all e)
+    by (Some place) e = (place, e)

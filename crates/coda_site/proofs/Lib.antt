@@ -9,3 +9,5 @@ pub mod Stages
 pub mod Drained
 pub mod Holders
 pub mod Drainings
+pub mod Posted
+pub mod SentChunks
