@@ -419,8 +419,8 @@ module _ (old new : StoredCell) (kept : IsStoredKept old) (t : Task) (number : �
   ended : (reply : Reply) → reply ≡ Done number object → Ends old (line.Task t) reply new → IsLeft new
   ended reply done (WasDown down is same) = absurd (never_down number object (sym done ∙ is))
   ended reply done (DidAll links events does shows) = all_done links events (subst (λ r. Does (state_of (met old links)) (line.Task t) r events) done does) shows
-  ended reply done (LackedRoom links own events stop does shows is lacks same) = absurd (never_full number object (sym done ∙ is))
-  ended reply done (HadFault links own events stop does shows is same) = absurd (never_failed number object (sym done ∙ is))
+  ended reply done (LackedRoom at own events stop does shows is lacks same) = absurd (never_full number object (sym done ∙ is))
+  ended reply done (HadFault at own events stop does shows is same) = absurd (never_failed number object (sym done ∙ is))
 
 pub operations_are_performed : OperationsArePerformed
 operations_are_performed ls report outside cell run t number object answered new happens =

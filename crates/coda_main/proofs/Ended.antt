@@ -298,8 +298,8 @@ module _ (old new : StoredCell) (kept : IsStoredKept old) (said : Line) (all : A
   ended_there : (reply : Reply) → Ends old said reply new → AllThere new.made new.made.waiting
   ended_there reply (WasDown down is same) = subst (λ (c : StoredCell). AllThere c.made c.made.waiting) (sym same) all
   ended_there reply (DidAll links events does shows) = fronts_there links events (met_fine links reply events does) shows
-  ended_there reply (LackedRoom links own events stop does shows is lacks same) = stopped_there links own events stop does shows
-  ended_there reply (HadFault links own events stop does shows is same) = stopped_there links own events stop does shows
+  ended_there reply (LackedRoom at own events stop does shows is lacks same) = stopped_there at.links own events stop does shows
+  ended_there reply (HadFault at own events stop does shows is same) = stopped_there at.links own events stop does shows
 
   acting_there : (made : MadeCell) (acted : PlainCell) → AllThere made made.waiting → new.made ≡ acting made acted → AllThere new.made new.made.waiting
   acting_there made acted there is = subst (λ (c : MadeCell). AllThere c c.waiting) (sym is) (all_stay made (acting made acted) (λ sent h. h) made.waiting there)

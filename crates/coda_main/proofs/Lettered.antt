@@ -404,8 +404,8 @@ module _ (old new : StoredCell) (kept : IsStoredKept old) (said : Line) where
   ended : (reply : Reply) → Ends old said reply new → Tells reply
   ended reply (WasDown down is same) = refusal_told reply names.Down is (ap (λ (c : StoredCell). c.made.waiting) same)
   ended reply (DidAll links events does shows) = all_told reply links events does shows
-  ended reply (LackedRoom links own events stop does shows is lacks same) = refusal_told reply names.JournalFull is (stopped links own events stop does shows)
-  ended reply (HadFault links own events stop does shows is same) = refusal_told reply names.DiskFault is (stopped links own events stop does shows)
+  ended reply (LackedRoom at own events stop does shows is lacks same) = refusal_told reply names.JournalFull is (stopped at.links own events stop does shows)
+  ended reply (HadFault at own events stop does shows is same) = refusal_told reply names.DiskFault is (stopped at.links own events stop does shows)
 
   came : (reply : Reply) → ComesTo old said reply new → Tells reply
   came reply (Acted ends) = ended reply ends

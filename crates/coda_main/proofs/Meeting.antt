@@ -219,11 +219,11 @@ pub data Ends (old : StoredCell) (said : Line) (reply : Reply) (new : StoredCell
   WasDown : is_down_for old said ≡ true → reply ≡ refused_down → new ≡ old → Ends old said reply new
   DidAll : (links : ℕ → ℕ → Strength) (events : List Event) → Does (state_of (met old links)) said reply events
       → ShowsAs (grown_all (met old links) events) new.made → Ends old said reply new
-  LackedRoom : (links : ℕ → ℕ → Strength) (own : Reply) (events : List Event) (stop : Stop events) → Does (state_of (met old links)) said own events
-      → ShowsAs (grown_all (met old links) stop.done) new.made
+  LackedRoom : (at : IsMet old said) (own : Reply) (events : List Event) (stop : Stop events) → Does (state_of (met old at.links)) said own events
+      → ShowsAs (grown_all (met old at.links) stop.done) new.made
       → reply ≡ refused_full → Lacks (after_all old stop.done) stop.next → new ≡ after_all old stop.done → Ends old said reply new
-  HadFault : (links : ℕ → ℕ → Strength) (own : Reply) (events : List Event) (stop : Stop events) → Does (state_of (met old links)) said own events
-      → ShowsAs (grown_all (met old links) stop.done) new.made
+  HadFault : (at : IsMet old said) (own : Reply) (events : List Event) (stop : Stop events) → Does (state_of (met old at.links)) said own events
+      → ShowsAs (grown_all (met old at.links) stop.done) new.made
       → reply ≡ refused_fault → new ≡ failed (after_all old stop.done) stop.next → Ends old said reply new
 
 acts_end : (old : StoredCell) (said : Line) (reply : Reply) (new : StoredCell) → Acts old said reply new → Ends old said reply new
@@ -238,9 +238,9 @@ acts_end old said reply new acts = by acts.ends
     by : EndsBy old acts.events acts.own reply new → Ends old said reply new
     by (inl all) = DidAll links acts.events (subst (λ r. Does (state_of (met old links)) said r acts.events) (sym all.1) does)
         (subst (λ (c : StoredCell). ShowsAs (grown_all (met old links) acts.events) c.made) (sym all.2) (met_after old links acts.events))
-    by (inr (inl full)) = LackedRoom links acts.own acts.events full.0 does
+    by (inr (inl full)) = LackedRoom (is_met old said) acts.own acts.events full.0 does
         (subst (λ (c : StoredCell). ShowsAs (grown_all (met old links) full.0.done) c.made) (sym full.4) (met_after old links full.0.done)) full.3 full.2 full.4
-    by (inr (inr fault)) = HadFault links acts.own acts.events fault.0 does
+    by (inr (inr fault)) = HadFault (is_met old said) acts.own acts.events fault.0 does
         (subst (λ (c : StoredCell). ShowsAs (grown_all (met old links) fault.0.done) c.made) (sym fault.3)
         (failed_shows (grown_all (met old links) fault.0.done) (after_all old fault.0.done) fault.0.next (met_after old links fault.0.done))) fault.2 fault.3
 

@@ -207,8 +207,8 @@ module _ (old new : StoredCell) (kept : IsStoredKept old) (t : Task) (kind : Nod
       → WasShown t (state_of old.made).clients (state_of new.made).clients (state_of old.made).replicas kind
   ended reply is (WasDown down answered same) = never reply refused_down is refl answered
   ended reply is (DidAll links events does shows) = all_shown reply links events is does shows
-  ended reply is (LackedRoom links own events stop does shows answered lacks same) = never reply refused_full is refl answered
-  ended reply is (HadFault links own events stop does shows answered same) = never reply refused_fault is refl answered
+  ended reply is (LackedRoom at own events stop does shows answered lacks same) = never reply refused_full is refl answered
+  ended reply is (HadFault at own events stop does shows answered same) = never reply refused_fault is refl answered
 
 pub what_is_shown_is_there : WhatIsShownIsThere
 what_is_shown_is_there ls report outside cell run t reply answered new kind happens is =

@@ -208,8 +208,8 @@ module _ (old new : StoredCell) (said : Line) (isnt : is_show said ≡ false) (r
   ended_whole : Ends old said reply new → IsWhole reply
   ended_whole (WasDown down is same) = subst IsWhole (sym is) tt
   ended_whole (DidAll links events does shows) = does_whole (state_of (met old links)) reply events said isnt does
-  ended_whole (LackedRoom links own events stop does shows is lacks same) = subst IsWhole (sym is) tt
-  ended_whole (HadFault links own events stop does shows is same) = subst IsWhole (sym is) tt
+  ended_whole (LackedRoom at own events stop does shows is lacks same) = subst IsWhole (sym is) tt
+  ended_whole (HadFault at own events stop does shows is same) = subst IsWhole (sym is) tt
 
   came_whole : ComesTo old said reply new → IsWhole reply
   came_whole (Acted ends) = ended_whole ends

@@ -2,6 +2,7 @@
 use Rattle.std.proofs.Common.{◌≡◌, ℕ, ◌&&◌, true, cond, List, Option, Some, None, refl, sym, ap, subst, ◌∙◌, inl, inr, ◌⊎◌}
 use Rattle.std.proofs.lemmas.Bool.{and_parts, eq-eqb}
 use Rattle.coda_tree.specs.Volume.{Nodes}
+use Rattle.coda_plain.specs.Cell.{ClientEntry, Actor}
 use Rattle.coda_plain.specs.Moves.{Append, AtClient, AtReplica, fallen}
 use Rattle.coda_script.specs.declared.line.Strength.{Strength}
 use Rattle.coda_script.specs.declared.line.Line.TheVariants as line
@@ -16,11 +17,11 @@ use Rattle.coda_cell.specs.Steps.{Unless, first_missing, on_volume, offers_of, B
 use Rattle.coda_cell.proofs.KeptLines.{lines_keep_cells}
 use Rattle.coda_stored.specs.Cells.{StoredCell, after_all, failed}
 use Rattle.coda_stored.specs.Kept.{IsStoredKept}
-use Rattle.coda_stored.specs.Lines.{Stop, client_down, task_down, all_there, refused_full, refused_fault}
+use Rattle.coda_stored.specs.Lines.{meets, Stop, client_down, task_down, all_there, refused_full, refused_fault}
 use Rattle.coda_stored.specs.Room.{Lacks}
 use Rattle.coda_stored.proofs.Entering.{IsBy, AreBy, by_parts, by_entries}
-use Rattle.coda_main.specs.Causes.{named_by, IsAnswered, DiskCause, IsDown, HasNoRoom, HasFailed, RefusalsHaveCauses}
-use Rattle.coda_main.proofs.Meeting.{met, met_kept, ShowsAs, clients_as, Ends, WasDown, DidAll, LackedRoom, HadFault, line_ends}
+use Rattle.coda_main.specs.Causes.{named_by, IsAnswered, IsNextEntry, DiskCause, IsDown, HasNoRoom, HasFailed, RefusalsHaveCauses}
+use Rattle.coda_main.proofs.Meeting.{met, met_kept, IsMet, ShowsAs, clients_as, Ends, WasDown, DidAll, LackedRoom, HadFault, line_ends}
 use Rattle.coda_main.proofs.Refused.{at_named, task_is}
 use Rattle.coda_main.proofs.Running.{always_kept}
 
@@ -87,21 +88,35 @@ module _ (old : StoredCell) where
 
 -- ---- entries that aren't entered
 
-module _ (old new mid : StoredCell) (client : ℕ) (reply : Reply) where
-  no_room : (next : Append) → IsOf client (Entered next) → Lacks mid next → reply ≡ refused_full → new ≡ mid → DiskCause old new client reply
-  no_room (AtClient c entry) by lacks is same =
-      HasNoRoom entry is (subst (λ cell. Lacks cell (AtClient client entry)) (sym same) (subst (λ k. Lacks mid (AtClient k entry)) by lacks))
-  no_room (AtReplica server volume entry) by lacks is same = absurd by
+module _ (old new mid : StoredCell) (t : Task) (client : ℕ) (reply : Reply) where
+  -- the entry that was to be entered
+  abbrev IsNextAppend : StoredCell → Append → Type 0
+  IsNextAppend cell next =
+      (own : Reply) × (events : List Event) × Does (meets old (line.Task t)) (line.Task t) own events × ((stop : Stop events) × (stop.next ≡ next) × (cell ≡ after_all old stop.done))
 
-  has_failed : (next : Append) → IsOf client (Entered next) → reply ≡ refused_fault → new ≡ failed mid next → DiskCause old new client reply
-  has_failed (AtClient c entry) by is same = subst (λ k. new ≡ failed mid (AtClient k entry) → DiskCause old new client reply) (sym by) here same
-    where
-      here : new ≡ failed mid (AtClient client entry) → DiskCause old new client reply
-      here e =
-          let itself = eq-eqb client client refl in
-          let is_there = ap (λ b. cond b (fallen entry (mid.made.acted.clients client)) (mid.made.acted.clients client)) itself in
-          HasFailed entry is (ap (λ (cell : StoredCell). (cell.made.acted.clients client).failed) e ∙ ap (λ a. a.failed) is_there) (ap (λ (cell : StoredCell). (cell.made.acted.clients client).up) e ∙ ap (λ a. a.up) is_there)
-  has_failed (AtReplica server volume entry) by is same = absurd by
+  next_entry : (cell : StoredCell) (entry : ClientEntry) → IsNextAppend cell (AtClient client entry) → IsNextEntry old cell t client entry
+  next_entry cell entry n = record { own = n.0; events = n.1; does = n.2; stop = n.3.0; next = n.3.1; behind = n.3.2 }
+
+  no_room : (next : Append) → IsOf client (Entered next) → IsNextAppend mid next → Lacks mid next → reply ≡ refused_full → new ≡ mid
+      → DiskCause old new t client reply
+  no_room (AtClient c entry) by n lacks is same = HasNoRoom entry is
+      (next_entry new entry (subst (λ cell. IsNextAppend cell (AtClient client entry)) (sym same) (subst (λ k. IsNextAppend mid (AtClient k entry)) by n)))
+      (subst (λ cell. Lacks cell (AtClient client entry)) (sym same) (subst (λ k. Lacks mid (AtClient k entry)) by lacks))
+  no_room (AtReplica server volume entry) by n lacks is same = absurd by.0
+
+  -- the client at which an append failed
+  failed_at : (entry : ClientEntry) → new ≡ failed mid (AtClient client entry) → new.made.acted.clients client ≡ fallen entry (mid.made.acted.clients client)
+  failed_at entry e =
+      ap (λ (cell : StoredCell). cell.made.acted.clients client) e
+      ∙ ap (λ b. cond b (fallen entry (mid.made.acted.clients client)) (mid.made.acted.clients client)) (eq-eqb client client refl)
+
+  has_failed : (next : Append) → IsOf client (Entered next) → IsNextAppend mid next → reply ≡ refused_fault → new ≡ failed mid next
+      → DiskCause old new t client reply
+  has_failed (AtClient c entry) by n is same =
+      let fell = failed_at entry (subst (λ k. new ≡ failed mid (AtClient k entry)) by same) in
+      HasFailed entry mid is (next_entry mid entry (subst (λ k. IsNextAppend mid (AtClient k entry)) by n))
+      (ap (λ (a : Actor ClientEntry). a.failed) fell) (ap (λ (a : Actor ClientEntry). a.up) fell)
+  has_failed (AtReplica server volume entry) by n is same = absurd by.0
 
 -- the entry at which events stopped that are of a client
 stopped_of : (client : ℕ) (events : List Event) (stop : Stop events) → AreOf client events → IsOf client (Entered stop.next)
@@ -113,7 +128,7 @@ module _ (old new : StoredCell) (kept : IsStoredKept old) (t : Task) (client vol
   abbrev Is : Reply → Type 0
   Is reply =
       IsAnswered t client volume (first_missing (on_volume (state_of old.made) client volume)) (state_of new.made).clients reply
-      ⊎ DiskCause old new client reply
+      ⊎ DiskCause old new t client reply
 
   answered : (reply : Reply) (links : ℕ → ℕ → Strength) (events : List Event) → Does (state_of (met old links)) (line.Task t) reply events
       → ShowsAs (grown_all (met old links) events) new.made → Is reply
@@ -122,22 +137,30 @@ module _ (old new : StoredCell) (kept : IsStoredKept old) (t : Task) (client vol
       inl (subst (λ clients. IsAnswered t client volume (first_missing (on_volume (state_of old.made) client volume)) clients reply) (clients_as (grown_all cell events) new.made shows)
       (task_is cell reply events (lines_keep_cells cell (line.Task t) reply events (met_kept old links kept) tt does).shown t client volume does named))
 
-  full : (reply own : Reply) (links : ℕ → ℕ → Strength) (events : List Event) (stop : Stop events) → Does (state_of (met old links)) (line.Task t) own events
-      → reply ≡ refused_full → Lacks (after_all old stop.done) stop.next
-      → new ≡ after_all old stop.done → Is reply
-  full reply own links events stop does is lacks same =
-      inr (no_room old new (after_all old stop.done) client reply stop.next (stopped_of client events stop (task_of (state_of (met old links)) own events t client volume does named)) lacks is same)
+  -- what the task does where disks have room
+  plainly : (at : IsMet old (line.Task t)) (own : Reply) (events : List Event) → Does (state_of (met old at.links)) (line.Task t) own events
+      → Does (meets old (line.Task t)) (line.Task t) own events
+  plainly at own events does = subst (λ s. Does s (line.Task t) own events) (sym at.is) does
 
-  fault : (reply own : Reply) (links : ℕ → ℕ → Strength) (events : List Event) (stop : Stop events)
-      → Does (state_of (met old links)) (line.Task t) own events → reply ≡ refused_fault → new ≡ failed (after_all old stop.done) stop.next → Is reply
-  fault reply own links events stop does is same =
-      inr (has_failed old new (after_all old stop.done) client reply stop.next (stopped_of client events stop (task_of (state_of (met old links)) own events t client volume does named)) is same)
+  whose : (at : IsMet old (line.Task t)) (own : Reply) (events : List Event) (stop : Stop events) → Does (state_of (met old at.links)) (line.Task t) own events
+      → IsOf client (Entered stop.next)
+  whose at own events stop does = stopped_of client events stop (task_of (state_of (met old at.links)) own events t client volume does named)
+
+  full : (reply own : Reply) (at : IsMet old (line.Task t)) (events : List Event) (stop : Stop events) → Does (state_of (met old at.links)) (line.Task t) own events
+      → reply ≡ refused_full → Lacks (after_all old stop.done) stop.next → new ≡ after_all old stop.done → Is reply
+  full reply own at events stop does is lacks same =
+      inr (no_room old new (after_all old stop.done) t client reply stop.next (whose at own events stop does) (own, events, plainly at own events does, (stop, refl, refl)) lacks is same)
+
+  fault : (reply own : Reply) (at : IsMet old (line.Task t)) (events : List Event) (stop : Stop events) → Does (state_of (met old at.links)) (line.Task t) own events
+      → reply ≡ refused_fault → new ≡ failed (after_all old stop.done) stop.next → Is reply
+  fault reply own at events stop does is same =
+      inr (has_failed old new (after_all old stop.done) t client reply stop.next (whose at own events stop does) (own, events, plainly at own events does, (stop, refl, refl)) is same)
 
   ended : (reply : Reply) → Ends old (line.Task t) reply new → Is reply
   ended reply (WasDown down is same) = inr (IsDown is (down_for old t client volume named down) same)
   ended reply (DidAll links events does shows) = answered reply links events does shows
-  ended reply (LackedRoom links own events stop does shows is lacks same) = full reply own links events stop does is lacks same
-  ended reply (HadFault links own events stop does shows is same) = fault reply own links events stop does is same
+  ended reply (LackedRoom at own events stop does shows is lacks same) = full reply own at events stop does is lacks same
+  ended reply (HadFault at own events stop does shows is same) = fault reply own at events stop does is same
 
 pub refusals_have_causes : RefusalsHaveCauses
 refusals_have_causes ls report outside cell run t reply answers new client volume happens named =

@@ -90,8 +90,8 @@ module _ (old new : StoredCell) (kept : IsStoredKept old) (client volume server 
       let left = lines_keep_cells cell drains (Drained number (Decided verdict)) events (met_kept old links kept) tt does in
       let behind = ap (λ (s : CellState). s.clients client) (sym left.shown) ∙ ap (λ clients. clients client) (clients_as (grown_all cell events) new.made shows) ∙ is in
       thaws client volume number verdict (state_of cell) (unwrap_or window 600) (first_missing (on_holder (state_of cell) client volume server)) events c does behind
-  ended (LackedRoom links own events stop does shows answered lacks same) is = cc
-  ended (HadFault links own events stop does shows answered same) is = cc
+  ended (LackedRoom at own events stop does shows answered lacks same) is = cc
+  ended (HadFault at own events stop does shows answered same) is = cc
 
 pub verdicts_thaw : VerdictsThaw
 verdicts_thaw ls report outside cell run client volume server window number verdict answered new c happens is =

@@ -1,14 +1,13 @@
 -- The texts of replies in a cell.
 use Rattle.std.specs.Prelude.{ℕ, List, [], Option, Some, None}
 use Rattle.coda_tree.specs.Volume.{Tree}
-use Rattle.coda_cml.specs.State.{LogState}
 use Rattle.coda_script.specs.declared.reply.Reply.{Reply}
 use Rattle.coda_script.specs.declared.reply.Reply.TheVariants.{ShowVolume, ShowLog}
 use Rattle.coda_report.specs.Texts.{reply_text}
 use Rattle.coda_report.specs.Volumes.{volume_text}
 use Rattle.coda_report.specs.LogTexts.{log_text}
-use Rattle.coda_cell.specs.State.{new_volume, log_of, CellState}
-use Rattle.coda_cell.specs.Cells.{volume_at, log_at}
+use Rattle.coda_cell.specs.State.{new_volume, log_of, ClientState, CellState}
+use Rattle.coda_cell.specs.Cells.{volume_at}
 
 -- the volume that a server has
 abbrev pub shown_volume : ℕ → Option Tree → List ℕ

@@ -22,8 +22,8 @@ pub fn one_status()
     ensures { OneStatus LineGives LineRefused nothing_stored nothing_stored }
 {}
 
-/// A script within the limits whose lines are silent, or in the grammar and built, can run to its end from whatever
-/// cell: each of its lines has a reply.
+/// A script within the limits whose lines are silent, or in the grammar and built, and crash nobody, can run to its end
+/// from whatever cell that lines may leave: each of its lines has a reply, whoever is down and whatever disk fails.
 pub fn scripts_in_the_grammar_are_clean()
     ensures { ScriptsInGrammarAreClean }
 {}
@@ -138,8 +138,10 @@ pub fn what_is_shown_is_there()
 
 /// Whatever lines ran, an operation, a read or a listing is done, or it is refused for a cause that holds, over
 /// what the client held and fetched: names that lead nowhere, since a directory doesn't bind one, an object isn't a
-/// directory or isn't held; what stands at the path isn't what the operation needs; the name is taken; the log or
-/// the journal is full; or an actor that it names isn't there.
+/// directory or isn't held; what stands at the path isn't what the operation needs; the name is taken; the log is
+/// full, or the client accepted as many operations as it may; an actor that it names isn't there; or the disk of its
+/// client is the cause, since the client is down, its journal has no room for the next entry, or the append of that
+/// failed.
 pub fn refusals_have_causes()
     ensures { RefusalsHaveCauses }
 {}

@@ -8,3 +8,9 @@ pub mod Clocks
 pub mod Calls
 pub mod Slots
 pub mod ReplicaSites
+pub mod Stages
+pub mod Drained
+pub mod Holders
+pub mod Drainings
+pub mod Posted
+pub mod SentChunks

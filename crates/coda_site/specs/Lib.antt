@@ -2,5 +2,5 @@ pub mod Sites
 pub mod Steps
 pub mod Cells
 pub mod Tasks
-pub mod Calls
+pub mod Chunks
 pub mod Drains

@@ -14,7 +14,7 @@ use Rattle.coda_stored.specs.Cells.{Side, StoredCell, replica_header, moved}
 use Rattle.coda_stored.specs.Kept.{IsGiven, IsClientSide, IsReplicaSide, IsStoredKept}
 use Rattle.coda_stored.specs.Lines.{Becoming, Unless, with_client_side, with_replica_side, CrashesClient, CrashesReplica, recovered_side, IsRefused, RecoversClient, RecoversReplica}
 use Rattle.coda_stored.proofs.Acting.{holder_home}
-use Rattle.coda_stored.proofs.Sides.{AreClean, AreSided, clean_in, sided_in, stored_kept, goes_crashed, goes_recovered, alone_crashed, alone_recovered, clean_client, clean_replica, sided_client, sided_replica}
+use Rattle.coda_stored.proofs.Sides.{clean_in, sided_in, stored_kept, goes_crashed, goes_recovered, alone_crashed, alone_recovered, clean_client, clean_replica, sided_client, sided_replica}
 use Rattle.coda_stored.proofs.Wholes.{whole_crashed_client, whole_crashed_replica, client_joins, replica_joins, whole_recovered_client, whole_recovered_replica}
 
 -- ---- actors that lines name are there

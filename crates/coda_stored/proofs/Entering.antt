@@ -15,8 +15,6 @@ use Rattle.coda_cell.specs.Messages.{over, posting, going_by, sends_of, sends, r
 use Rattle.coda_cell.specs.Sending.{Freezing, freezing, Ruling, ruling_of, Taking, taking, deeds_at, entries_at, decides, answered_to, ruled_on, drained_of, drain}
 use Rattle.coda_cell.specs.declared.refused.Refused.{Refused}
 use Rattle.coda_matching.specs.Replicas.{IsDecision}
-use Rattle.coda_stored.specs.Kept.{whole}
-use Rattle.coda_stored.proofs.Wholes.{whole_grown_client, whole_grown_replica}
 
 -- it makes no actor, and where it is an entry, it is one of these clients or replicas, which decide alone
 abbrev pub IsBy : (ℕ → Type 0) → (ℕ → ℕ → Type 0) → Event → Type 0

@@ -13,7 +13,7 @@ use Rattle.coda_stored.specs.Cells.{Side, StoredCell, client_header, replica_hea
 use Rattle.coda_stored.specs.Kept.{whole, IsGiven, IsArea, IsClientSide, IsReplicaSide, IsStoredKept}
 use Rattle.coda_stored.specs.Lines.{Opens, no_volume, no_client, with_volume, with_client as with_client_made, MakesVolume, MakesClient}
 use Rattle.coda_stored.proofs.Disks.{unless_kept}
-use Rattle.coda_stored.proofs.Sides.{AreClean, AreSided, clean_in, sided_in, stored_kept, acting, clean_client, clean_replica, alone_crashed}
+use Rattle.coda_stored.proofs.Sides.{AreSided, clean_in, sided_in, stored_kept, acting, clean_client, clean_replica, alone_crashed}
 use Rattle.coda_stored.proofs.Wholes.{whole_crashed_client, whole_crashed_replica}
 
 -- ---- small steps
