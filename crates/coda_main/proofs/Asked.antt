@@ -36,27 +36,24 @@ use Rattle.coda_cell.specs.Held.{held_after_fetches, Fetch}
 use Rattle.coda_cell.specs.Looking.{resolve, entries_of, is_fetched}
 use Rattle.coda_cell.specs.Accepting.{Accepted, Sight, sight_of, store_at, setattr_at, accept}
 use Rattle.coda_cell.specs.State.{pending, ClientVolume, ClientState, client_after_all, ReplicaState, CellState, Event, after_all, at_client}
-use Rattle.coda_cell.specs.Made.{MadeCell, state_of, grown_all}
+use Rattle.coda_cell.specs.Made.{MadeCell, nothing_made, state_of, grown_all}
 use Rattle.coda_cell.specs.Refusing.{refusal}
 use Rattle.coda_cell.specs.Runs.{IsKept}
 use Rattle.coda_cell.specs.Sending.{Freezing, freezing, Ruling, ruling, Taking, taking, answered_to, ruled_on, drained_of, drain}
-use Rattle.coda_cell.specs.Steps.{Doing, Unless, first_missing, on_volume, on_holder, offers_of, reply_to, ByClient, ByBoth, bytes_of, DoesTask, Does}
+use Rattle.coda_cell.specs.Steps.{Doing, Unless, first_missing, on_volume, on_holder, offers_of, reply_to, ByClient, ByBoth, bytes_of, DoesTask}
 use Rattle.coda_cell.proofs.Accepted.{MayMove, Relies, found_then, accepted_relies}
 use Rattle.coda_cell.proofs.AfterOperations.{newly_bound, still_bound, bound_before, IsBoundBy}
 use Rattle.coda_cell.proofs.Events.{after_client}
 use Rattle.coda_cell.proofs.Families.{put_here}
 use Rattle.coda_cell.proofs.Fetches.{client_after_both, client_after_fetches, keeps_look_ups}
 use Rattle.coda_cell.proofs.Offered.{fetched_is_offered}
+use Rattle.coda_cell.proofs.KeptCells.{first_kept}
 use Rattle.coda_cell.proofs.KeptLines.{lines_keep_cells}
-use Rattle.coda_stored.specs.Cells.{StoredCell}
-use Rattle.coda_stored.specs.Kept.{IsStoredKept}
-use Rattle.coda_stored.specs.Lines.{refused_down, refused_full, refused_fault}
 use Rattle.coda_main.specs.Performed.{HasNoOther, IsNew, IsStored, IsSet, IsGone, IsMoved, OthersStay, content_of, DoesAsked, IsPerformed, WasPerformed, OperationsArePerformed}
 use Rattle.coda_main.proofs.Performed.{leads, creation_made, made_new, store_at_stored, stored_so, setattr_changed, changed_so, IsNoDir, accept_removed, accept_rmdir_removed, removed_so, accept_renamed, apart_names, rename_leaves, replaced_so}
 use Rattle.coda_main.proofs.Served.{Keeps, keeps_look, has_fetched, put_off}
 use Rattle.coda_main.proofs.Unchanged.{others_stay}
-use Rattle.coda_main.proofs.Running.{always_kept}
-use Rattle.coda_main.proofs.Meeting.{met, met_kept, ShowsAs, clients_as, Ends, WasDown, DidAll, LackedRoom, HadFault, line_ends}
+use Rattle.coda_main.proofs.Running.{runs_moved}
 
 -- ---- what each operation leaves
 
@@ -390,38 +387,7 @@ module _ (cell : MadeCell) (kept : IsKept cell) (number : ℕ) (object : Fid) wh
   task_was (task.Refresh client volume server) events left does = absurd does
   task_was (task.Giveup client volume) events left does = absurd does
 
--- ---- a cell on disks
-
-abbrev done : ℕ → Fid → Reply
-done number object = Done number object
-
-never_down : (number : ℕ) (object : Fid) → done number object ≡ refused_down → ⊥
-never_down number object e = cc
-
-never_full : (number : ℕ) (object : Fid) → done number object ≡ refused_full → ⊥
-never_full number object e = cc
-
-never_failed : (number : ℕ) (object : Fid) → done number object ≡ refused_fault → ⊥
-never_failed number object e = cc
-
-module _ (old new : StoredCell) (kept : IsStoredKept old) (t : Task) (number : ℕ) (object : Fid) where
-  abbrev IsLeft : StoredCell → Type 0
-  IsLeft cell = WasPerformed t (state_of old.made).clients (state_of cell.made).clients (state_of old.made).replicas old.made.clock number object
-
-  all_done : (links : ℕ → ℕ → Strength) (events : List Event) → Does (state_of (met old links)) (line.Task t) (Done number object) events
-      → ShowsAs (grown_all (met old links) events) new.made → IsLeft new
-  all_done links events does shows =
-      let cell = met old links in
-      let found = met_kept old links kept in
-      subst (λ clients. WasPerformed t (state_of old.made).clients clients (state_of old.made).replicas old.made.clock number object) (clients_as (grown_all cell events) new.made shows)
-      (task_was cell found number object t events (lines_keep_cells cell (line.Task t) (Done number object) events found tt does).shown does)
-
-  ended : (reply : Reply) → reply ≡ Done number object → Ends old (line.Task t) reply new → IsLeft new
-  ended reply done (WasDown down is same) = absurd (never_down number object (sym done ∙ is))
-  ended reply done (DidAll links events does shows) = all_done links events (subst (λ r. Does (state_of (met old links)) (line.Task t) r events) done does) shows
-  ended reply done (LackedRoom at own events stop does shows is lacks same) = absurd (never_full number object (sym done ∙ is))
-  ended reply done (HadFault at own events stop does shows is same) = absurd (never_failed number object (sym done ∙ is))
-
 pub operations_are_performed : OperationsArePerformed
-operations_are_performed ls report outside cell run t number object answered new happens =
-    ended cell new (always_kept ls report outside cell run) t number object (Done number object) refl (line_ends cell (line.Task t) (Done number object) answered new happens)
+operations_are_performed ls report outside cell run t number object events does =
+    let kept = (runs_moved nothing_made cell ls report outside first_kept run).kept in
+    task_was cell kept number object t events (lines_keep_cells cell (line.Task t) (Done number object) events kept tt does).shown does

@@ -7,7 +7,7 @@ use Rattle.coda_engine.specs.Run.{Runs}
 use Rattle.coda_record.specs.declared.answer.Answer.{Answer}
 use Rattle.coda_tree.specs.Volume.{Nodes}
 use Rattle.coda_letters.specs.Sent.{Sent, ChunkSent, AnswerSent, client_of, server_of, Waiting, sent_at, without, lost_by, number_of}
-use Rattle.coda_plain.specs.Cell.{ClientEntry, Did, PlainCell}
+use Rattle.coda_plain.specs.Cell.{ClientEntry, Did}
 use Rattle.coda_plain.specs.Decisions.{ReplicaEntry}
 use Rattle.coda_plain.specs.Moves.{AtReplica}
 use Rattle.coda_script.specs.declared.line.Strength.{Strength}
@@ -19,24 +19,18 @@ use Rattle.coda_script.specs.declared.line.Line.TheVariants as line
 use Rattle.coda_script.specs.declared.reply.Reply.{Reply}
 use Rattle.coda_cell.specs.Asking.{Answer as ClientAnswer}
 use Rattle.coda_cell.specs.State.{put, new_replica, ClientVolume, ClientState, ReplicaState, Event, VolumeMade, ClientMade, Ticked, LinkSet, Entered, Posted, Lost, at_client}
-use Rattle.coda_cell.specs.Made.{MadeCell, client_of as made_client, replica_of, state_of, grown, grown_all}
+use Rattle.coda_cell.specs.Made.{MadeCell, nothing_made, client_of as made_client, replica_of, state_of, grown, grown_all}
 use Rattle.coda_cell.specs.Messages.{over, posting, going_by, sends_of, ruled_in, taken_in}
 use Rattle.coda_cell.specs.Sending.{Freezing, freezing, Ruling, ruling, Taking, taking, deeds_at, entries_at, answered_to, ruled_on, drained_of, drain}
 use Rattle.coda_cell.specs.Runs.{IsKept}
 use Rattle.coda_cell.specs.Steps.{Doing, Unless, Named, first_missing, on_volume, on_holder, client_named, volume_named, server_named, holder_named, no_room, no_volume, no_client, ByClient, ByBoth, BySend, ByRuling, ByTaking, DoesTask, Comes, link_down, Delivers, Loses, Does}
 use Rattle.coda_cell.specs.declared.refused.Refused.{Refused}
 use Rattle.coda_cell.proofs.Histories.{server_stays}
-use Rattle.coda_cell.proofs.KeptCells.{client_there}
+use Rattle.coda_cell.proofs.KeptCells.{client_there, first_kept}
 use Rattle.coda_cell.proofs.KeptLines.{homed}
-use Rattle.coda_stored.specs.Cells.{StoredCell, nothing_stored}
-use Rattle.coda_stored.specs.Kept.{IsStoredKept}
-use Rattle.coda_stored.specs.Lines.{Stop}
-use Rattle.coda_stored.proofs.Keeping.{stored_cells_are_kept}
-use Rattle.coda_main.specs.Runs.{LineGives}
+use Rattle.coda_main.specs.PlainRun.{LineGives}
 use Rattle.coda_main.specs.Lettered.{volume_of, LettersHaveEnds}
-use Rattle.coda_main.proofs.Coming.{acting, Leaves, Actors, OneVolume, OneClient, ComesTo, Acted, Aside, line_comes}
-use Rattle.coda_main.proofs.Meeting.{met, met_kept, ShowsAs, Ends, WasDown, DidAll, LackedRoom, HadFault}
-use Rattle.coda_main.proofs.Running.{gives_kept}
+use Rattle.coda_main.proofs.Running.{gives_moved}
 
 -- ---- the ends of letters
 
@@ -265,68 +259,17 @@ module _ (cell : MadeCell) (kept : IsKept cell) where
   line_fine (line.Lose message) reply events there does = loses_fine message (sent_at message cell.waiting) reply events does
   line_fine _ reply events there does = absurd does
 
--- ---- a cell on disks
-
--- the ends that are there in one cell are there in another that shows the same
-there_as : (a b : MadeCell) → a.sizes ≡ b.sizes → a.homes ≡ b.homes → (sent : Sent) → IsThere a sent → IsThere b sent
-there_as a b sizes homes sent there =
-    ((there.0.0, sym (ap (λ (f : ℕ → Option ℕ). f (client_of sent)) sizes) ∙ there.0.1), sym (ap (λ (f : ℕ → Option ℕ). f (volume_of sent)) homes) ∙ there.1)
-
-all_as : (a b : MadeCell) → ShowsAs a b → AllThere a a.waiting → AllThere b b.waiting
-all_as a b shows all = subst (AllThere b) shows.waiting (all_stay a b (there_as a b shows.sizes shows.homes) a.waiting all)
-
-front_fine : (cell : MadeCell) (first rest : List Event) → AreFine cell (first ++ rest) → AreFine cell first
-front_fine cell [] rest fine = tt
-front_fine cell (event ∷ first) rest fine = (fine.0, front_fine (grown cell event) first rest fine.1)
-
-module _ (old new : StoredCell) (kept : IsStoredKept old) (said : Line) (all : AllThere old.made old.made.waiting) where
-  met_there : (links : ℕ → ℕ → Strength) → AllThere (met old links) (met old links).waiting
-  met_there links = all_stay old.made (met old links) (λ sent there. there) old.made.waiting all
-
-  met_fine : (links : ℕ → ℕ → Strength) (own : Reply) (events : List Event) → Does (state_of (met old links)) said own events → AreFine (met old links) events
-  met_fine links own events does = line_fine (met old links) (met_kept old links kept) said own events (met_there links) does
-
-  fronts_there : (links : ℕ → ℕ → Strength) (done : List Event) → AreFine (met old links) done → ShowsAs (grown_all (met old links) done) new.made
-      → AllThere new.made new.made.waiting
-  fronts_there links done fine shows = all_as (grown_all (met old links) done) new.made shows (each (met old links) done fine (met_there links))
-
-  stopped_there : (links : ℕ → ℕ → Strength) (own : Reply) (events : List Event) (stop : Stop events) → Does (state_of (met old links)) said own events
-      → ShowsAs (grown_all (met old links) stop.done) new.made → AllThere new.made new.made.waiting
-  stopped_there links own events stop does shows =
-      fronts_there links stop.done (front_fine (met old links) stop.done (Entered stop.next ∷ stop.rest) (subst (AreFine (met old links)) stop.is (met_fine links own events does))) shows
-
-  ended_there : (reply : Reply) → Ends old said reply new → AllThere new.made new.made.waiting
-  ended_there reply (WasDown down is same) = subst (λ (c : StoredCell). AllThere c.made c.made.waiting) (sym same) all
-  ended_there reply (DidAll links events does shows) = fronts_there links events (met_fine links reply events does) shows
-  ended_there reply (LackedRoom at own events stop does shows is lacks same) = stopped_there at.links own events stop does shows
-  ended_there reply (HadFault at own events stop does shows is same) = stopped_there at.links own events stop does shows
-
-  acting_there : (made : MadeCell) (acted : PlainCell) → AllThere made made.waiting → new.made ≡ acting made acted → AllThere new.made new.made.waiting
-  acting_there made acted there is = subst (λ (c : MadeCell). AllThere c c.waiting) (sym is) (all_stay made (acting made acted) (λ sent h. h) made.waiting there)
-
-  leaves_there : Leaves old.made new.made → AllThere new.made new.made.waiting
-  leaves_there (Actors acted is) = acting_there old.made acted all is
-  leaves_there (OneVolume volume server acted none is) =
-      acting_there (grown old.made (VolumeMade volume server)) acted (one old.made (VolumeMade volume server) none all) is
-  leaves_there (OneClient client blocks acted none is) =
-      acting_there (grown old.made (ClientMade client blocks)) acted (one old.made (ClientMade client blocks) none all) is
-
-  came_there : (reply : Reply) → ComesTo old said reply new → AllThere new.made new.made.waiting
-  came_there reply (Acted ends) = ended_there reply ends
-  came_there reply (Aside isnt whole leaves) = leaves_there leaves
-
 -- ---- runs
 
-gives_there : (old new : StoredCell) (bytes text : List ℕ) (outside : List (List ℕ)) → IsStoredKept old → AllThere old.made old.made.waiting
-    → LineGives old bytes text outside new → AllThere new.made new.made.waiting
-gives_there old new bytes text outside kept all (inl silent) = subst (λ (c : StoredCell). AllThere c.made c.made.waiting) (sym silent.3) all
-gives_there old new bytes text outside kept all (inr x) = came_there old new kept x.said all x.reply (line_comes old x.reply outside new x.said x.happens)
+gives_there : (old new : MadeCell) (bytes text : List ℕ) (outside : List (List ℕ)) → IsKept old → AllThere old old.waiting → LineGives old bytes text outside new → AllThere new new.waiting
+gives_there old new bytes text outside kept all (o, inl silent) = subst (λ cell. AllThere cell cell.waiting) (sym silent.2) all
+gives_there old new bytes text outside kept all (o, inr x) = subst (λ cell. AllThere cell cell.waiting) (sym x.step.grows) (each old x.step.events (line_fine old kept x.said x.reply x.step.events all x.step.does) all)
 
-runs_there : (old new : StoredCell) (ls : List (List ℕ)) (report : List ℕ) (outside : List (List ℕ)) → IsStoredKept old → AllThere old.made old.made.waiting
-    → Runs LineGives old ls report outside new → AllThere new.made new.made.waiting
-runs_there old new [] report outside kept all run = subst (λ (c : StoredCell). AllThere c.made c.made.waiting) (sym run.2) all
+runs_there : (old new : MadeCell) (ls : List (List ℕ)) (report : List ℕ) (outside : List (List ℕ)) → IsKept old → AllThere old old.waiting → Runs LineGives old ls report outside new → AllThere new new.waiting
+runs_there old new [] report outside kept all run = subst (λ cell. AllThere cell cell.waiting) (sym run.2) all
 runs_there old new (l ∷ more) report outside kept all run =
-    runs_there run.0 new more run.2 run.4 (gives_kept old run.0 l run.1 run.3 kept run.5) (gives_there old run.0 l run.1 run.3 kept all run.5) run.6
+    let first = gives_moved old run.0 l run.1 run.3 kept run.5 in
+    runs_there run.0 new more run.2 run.4 first.kept (gives_there old run.0 l run.1 run.3 kept all run.5) run.6
 
 -- ---- the actors that a letter names
 
@@ -346,6 +289,4 @@ named cell sent there =
     (ap (λ o. option_map_or (λ (r : ReplicaState). r.server == server) (option_map replica o) false) there.1 ∙ eq-eqb (replica server).server server (server_stays (new_replica server volume) (cell.acted.replicas server volume).history))
 
 pub letters_have_ends : LettersHaveEnds
-letters_have_ends ls report outside cell run number sent is =
-    let there = runs_there nothing_stored cell ls report outside stored_cells_are_kept.first tt run in
-    named cell.made sent (there_at cell.made number cell.made.waiting sent there is)
+letters_have_ends ls report outside cell run number sent is = named cell sent (there_at cell number cell.waiting sent (runs_there nothing_made cell ls report outside first_kept tt run) is)

@@ -22,32 +22,24 @@ use Rattle.coda_plain.proofs.Soundness.{none_joins}
 use Rattle.coda_script.specs.declared.line.Line.{Line}
 use Rattle.coda_script.specs.declared.line.Line.TheVariants as line
 use Rattle.coda_script.specs.declared.reply.Reply.{Reply}
-use Rattle.coda_script.specs.declared.refusal.Refusal.{Refusal}
-use Rattle.coda_script.specs.declared.refusal.Refusal.TheVariants as names
-use Rattle.coda_script.specs.declared.reply.Arg.{Arg}
 use Rattle.coda_script.specs.declared.reply.Reply.TheVariants as replies
-use Rattle.coda_script.specs.declared.line.Strength.{Strength}
 use Rattle.coda_cell.specs.State.{CellState, Event, Entered, after, after_all, at_client}
 use Rattle.coda_cell.specs.Sending.{Freezing, freezing, Ruling, ruling, Taking, taking, deeds_at, entries_at, reply_answer}
-use Rattle.coda_cell.specs.Made.{MadeCell, state_of, grown_all, plain_answer}
+use Rattle.coda_cell.specs.Made.{MadeCell, nothing_made, state_of, grown_all, plain_answer}
 use Rattle.coda_cell.specs.Messages.{over, posting, going_by, sends_of, ruled_in, reply_taken, taken_in}
 use Rattle.coda_cell.specs.Refusing.{refusal}
 use Rattle.coda_cell.specs.Runs.{IsKept, AreNumbered, MakesNumbered}
-use Rattle.coda_cell.specs.Steps.{reply_to, Doing, Unless, first_missing, on_volume, on_holder, client_named, server_named, holder_named, no_volume, no_client, BySend, ByRuling, ByTaking, Comes, link_down, Delivers, Loses, Does}
+use Rattle.coda_cell.specs.Steps.{reply_to, Unless, first_missing, on_volume, on_holder, client_named, server_named, holder_named, no_volume, no_client, BySend, ByRuling, ByTaking, Comes, link_down, Delivers, Loses, Does}
 use Rattle.coda_cell.specs.declared.refused.Refused.{Refused}
 use Rattle.coda_cell.specs.declared.refused.Refused.TheVariants as refused
 use Rattle.coda_cell.proofs.CarriedLetters.{posting_after}
+use Rattle.coda_cell.proofs.KeptCells.{first_kept}
 use Rattle.coda_cell.proofs.KeptLetters.{IsWaiting, waits}
 use Rattle.coda_cell.proofs.KeptLines.{lines_keep_cells}
 use Rattle.coda_cell.proofs.Moving.{after_both}
-use Rattle.coda_stored.specs.Cells.{StoredCell}
-use Rattle.coda_stored.specs.Kept.{whole, IsStoredKept}
-use Rattle.coda_stored.specs.Lines.{Stop}
 use Rattle.coda_main.specs.Lettered.{answer_with, answer_told, WaitsUnder, WentAs, SendTells, CameFor, DeliveryTells, LossTells, TellsLetters, RepliesNameLetters, IsSo, LettersSayWhatIsSo}
-use Rattle.coda_main.proofs.Coming.{leaves_letters, touches_letters, ComesTo, Acted, Aside, line_comes}
-use Rattle.coda_main.proofs.Meeting.{met, met_kept, ShowsAs, Ends, WasDown, DidAll, LackedRoom, HadFault}
-use Rattle.coda_main.proofs.Running.{always_kept}
-use Rattle.coda_main.proofs.Unlettered.{entries_stay, stopped_entries, task_entries, line_first}
+use Rattle.coda_main.proofs.Running.{runs_moved}
+use Rattle.coda_main.proofs.Unlettered.{none_stays, unless_stays, task_stays}
 
 -- ---- letters by their numbers
 
@@ -340,10 +332,6 @@ module _ (s : CellState) (numbered : AreNumbered 0 s.posted s.waiting) where
       (subst (λ es. LossTells message (replies.Lost message) s.waiting (behind_of es)) (sym does.1)
       (refl, record { sent = sent; waited = is; gone = lost_at 0 s.posted s.waiting message numbered; others = others_wait s.waiting message }))
 
-unless_stays : (cell : MadeCell) (o : Option Refused) (own : Doing) (reply : Reply) (events : List Event) → (own reply events → (grown_all cell events).waiting ≡ cell.waiting) → Unless o own reply events → (grown_all cell events).waiting ≡ cell.waiting
-unless_stays cell (Some why) own reply events rest does = ap (λ es. (grown_all cell es).waiting) does.1
-unless_stays cell None own reply events rest does = rest does
-
 -- the letters that wait behind a line, as the histories leave them
 behind : (cell : MadeCell) (said : Line) (reply : Reply) (events : List Event) → IsKept cell → MakesNumbered said → Does (state_of cell) said reply events → (after_all (state_of cell) events).waiting ≡ (grown_all cell events).waiting
 behind cell said reply events kept made does = ap (λ (c : CellState). c.waiting) (sym (lines_keep_cells cell said reply events kept made does).shown)
@@ -363,57 +351,13 @@ tells cell (line.Client client blocks area) reply events kept does = unless_stay
 tells cell (line.Link client server strength) reply events kept does =
     unless_stays cell (first_missing (client_named (state_of cell) client ∷ server_named (state_of cell) server ∷ [])) _ reply events (λ did. ap (λ es. (grown_all cell es).waiting) did.1) does
 tells cell (line.Tick seconds) reply events kept does = ap (λ es. (grown_all cell es).waiting) does.1
-tells cell (line.Task t) reply events kept does = entries_stay cell events (task_entries (state_of cell) reply events t does)
-tells cell (line.ShowVolume server volume) reply events kept does = unless_stays cell (first_missing (holder_named (state_of cell) server volume ∷ [])) _ reply events (λ did. ap (λ es. (grown_all cell es).waiting) did.1) does
-tells cell (line.ShowLog client volume) reply events kept does = unless_stays cell (first_missing (on_volume (state_of cell) client volume)) _ reply events (λ did. ap (λ es. (grown_all cell es).waiting) did.1) does
+tells cell (line.Task t) reply events kept does = task_stays cell t reply events does
+tells cell (line.ShowVolume server volume) reply events kept does = unless_stays cell (first_missing (holder_named (state_of cell) server volume ∷ [])) _ reply events (λ did. none_stays cell events did.1) does
+tells cell (line.ShowLog client volume) reply events kept does = unless_stays cell (first_missing (on_volume (state_of cell) client volume)) _ reply events (λ did. none_stays cell events did.1) does
 tells cell _ reply events kept does = absurd does
 
--- ---- a cell on disks
-
--- a line that isn't one of the three, or whose reply is a refusal, and that leaves the letters as they are
-untouched : (said : Line) (reply : Reply) (old new : Waiting) → touches_letters said ≡ false → new ≡ old → TellsLetters said reply old new
-untouched (line.Send client volume server window) reply old new isnt same = absurd (false≢true (sym isnt))
-untouched (line.Deliver message) reply old new isnt same = absurd (false≢true (sym isnt))
-untouched (line.Lose message) reply old new isnt same = absurd (false≢true (sym isnt))
-untouched _ reply old new isnt same = same
-
-refused_so : (said : Line) (name : Refusal) (args : List Arg) (old new : Waiting) → new ≡ old → TellsLetters said (replies.Refused name args) old new
-refused_so (line.Send client volume server window) name args old new same = same
-refused_so (line.Deliver message) name args old new same = same
-refused_so (line.Lose message) name args old new same = same
-refused_so _ name args old new same = same
-
-module _ (old new : StoredCell) (kept : IsStoredKept old) (said : Line) where
-  abbrev Tells : Reply → Type 0
-  Tells reply = TellsLetters said reply old.made.waiting new.made.waiting
-
-  -- a line that is stopped at an entry posted nothing before it
-  stopped : (links : ℕ → ℕ → Strength) (own : Reply) (events : List Event) (stop : Stop events) → Does (state_of (met old links)) said own events
-      → ShowsAs (grown_all (met old links) stop.done) new.made → new.made.waiting ≡ old.made.waiting
-  stopped links own events stop does shows =
-      sym shows.waiting ∙ entries_stay (met old links) stop.done (stopped_entries events (line_first (state_of (met old links)) own events said does) stop)
-
-  all_told : (reply : Reply) (links : ℕ → ℕ → Strength) (events : List Event) → Does (state_of (met old links)) said reply events
-      → ShowsAs (grown_all (met old links) events) new.made → Tells reply
-  all_told reply links events does shows =
-      subst (TellsLetters said reply old.made.waiting) shows.waiting (tells (met old links) said reply events (met_kept old links kept) does)
-
-  refusal_told : (reply : Reply) (name : Refusal) → reply ≡ replies.Refused name [] → new.made.waiting ≡ old.made.waiting → Tells reply
-  refusal_told reply name is same = subst Tells (sym is) (refused_so said name [] old.made.waiting new.made.waiting same)
-
-  ended : (reply : Reply) → Ends old said reply new → Tells reply
-  ended reply (WasDown down is same) = refusal_told reply names.Down is (ap (λ (c : StoredCell). c.made.waiting) same)
-  ended reply (DidAll links events does shows) = all_told reply links events does shows
-  ended reply (LackedRoom at own events stop does shows is lacks same) = refusal_told reply names.JournalFull is (stopped at.links own events stop does shows)
-  ended reply (HadFault at own events stop does shows is same) = refusal_told reply names.DiskFault is (stopped at.links own events stop does shows)
-
-  came : (reply : Reply) → ComesTo old said reply new → Tells reply
-  came reply (Acted ends) = ended reply ends
-  came reply (Aside none whole leaves) = untouched said reply old.made.waiting new.made.waiting none (leaves_letters old.made new.made leaves)
-
 pub replies_name_letters : RepliesNameLetters
-replies_name_letters ls report outside cell run said reply answered new happens =
-    came cell new (always_kept ls report outside cell run) said reply (line_comes cell reply answered new said happens)
+replies_name_letters ls report outside cell run said reply events does = tells cell said reply events (runs_moved nothing_made cell ls report outside first_kept run).kept does
 
 -- ---- what letters say
 
@@ -434,6 +378,5 @@ is_so cell (AnswerSent server client volume number answer) kept there = λ verdi
 
 pub letters_say_what_is_so : LettersSayWhatIsSo
 letters_say_what_is_so ls report outside cell run message sent is =
-    let found = whole cell.made none_joins in
-    let kept = (always_kept ls report outside cell run).kept none_joins in
-    is_so found sent kept (waits found.acted message cell.made.waiting sent kept.letters.pooled is)
+    let kept = (runs_moved nothing_made cell ls report outside first_kept run).kept in
+    is_so cell sent kept (waits cell.acted message cell.waiting sent kept.letters.pooled is)

@@ -23,6 +23,7 @@ use Rattle.coda_plain.specs.Cell.{ClientEntry, Did}
 use Rattle.coda_plain.specs.Deeds.{Operated}
 use Rattle.coda_script.specs.declared.line.Content.{Content}
 use Rattle.coda_script.specs.declared.line.Content.TheVariants.{Text, Fill}
+use Rattle.coda_script.specs.declared.line.Line.TheVariants as line
 use Rattle.coda_script.specs.declared.line.Task.{Task}
 use Rattle.coda_script.specs.declared.line.Task.TheVariants as task
 use Rattle.coda_script.specs.declared.reply.Reply.{Reply}
@@ -36,16 +37,19 @@ use Rattle.coda_cell.specs.Looking.{resolve, look_along, entries_of, is_fetched}
 use Rattle.coda_cell.specs.Accepting.{Accepted, sight_of, accept}
 use Rattle.coda_cell.specs.Refusing.{refusal}
 use Rattle.coda_cell.specs.State.{ClientVolume, ClientState, client_after_all, CellState, Event, after_all, at_client}
-use Rattle.coda_cell.specs.Made.{MadeCell, state_of, grown_all}
+use Rattle.coda_cell.specs.Made.{MadeCell, nothing_made, state_of, grown_all}
 use Rattle.coda_cell.specs.Steps.{Unless, first_missing, on_volume, offers_of, reply_to, ByClient, bytes_of, DoesTask}
 use Rattle.coda_cell.proofs.Events.{after_client}
 use Rattle.coda_cell.proofs.Families.{put_here}
 use Rattle.coda_cell.proofs.Fetches.{client_after_fetches}
+use Rattle.coda_cell.proofs.KeptCells.{first_kept}
+use Rattle.coda_cell.proofs.KeptLines.{lines_keep_cells}
 use Rattle.coda_main.specs.Performed.{content_of}
 use Rattle.coda_main.specs.Shown.{shown_by}
-use Rattle.coda_main.specs.Causes.{OnTheWay, StandsAs, IsNoDir, CreationCause, StoreCause, RemoveCause, RmdirCause, RenameCause, IsLogFull, IsFull, LogIsFull, JournalIsFull, named_by, IsAnswered}
+use Rattle.coda_main.specs.Causes.{OnTheWay, StandsAs, IsNoDir, CreationCause, StoreCause, RemoveCause, RmdirCause, RenameCause, IsLogFull, IsFull, LogIsFull, JournalIsFull, named_by, IsAnswered, RefusalsHaveCauses}
 use Rattle.coda_main.proofs.Causes.{way_cause, unheld_at, stands_as, creation_cause, store_cause, setattr_cause, remove_cause, rmdir_cause, rename_cause}
 use Rattle.coda_main.proofs.Performed.{leads}
+use Rattle.coda_main.proofs.Running.{runs_moved}
 
 -- ---- what an answer to an operation is
 
@@ -108,16 +112,16 @@ IsAnsweredBy CauseOf client missing clients reply =
     ⊎ ((why : Refused) × (reply ≡ refusal why) × HasCause CauseOf client clients why)
 
 -- the client and the volume that a line names
-pub at_named : (c v client volume : ℕ) (P : ℕ → ℕ → Type 0) → (let named : ℕ × ℕ = (c, v) in Some named ≡ Some (client, volume)) → P c v → P client volume
+at_named : (c v client volume : ℕ) (P : ℕ → ℕ → Type 0) → (let named : ℕ × ℕ = (c, v) in Some named ≡ Some (client, volume)) → P c v → P client volume
 at_named c v client volume P named p =
     let both : (c, v) ≡ (client, volume) = cc in
     subst (λ (x : ℕ × ℕ). P x.0 x.1) both p
 
 module _ (cell : MadeCell) (reply : Reply) (events : List Event) (left : state_of (grown_all cell events) ≡ after_all (state_of cell) events) where
-  abbrev pub s : CellState
+  abbrev s : CellState
   s = state_of cell
 
-  abbrev pub behind : ℕ → Option ClientState
+  abbrev behind : ℕ → Option ClientState
   behind = (state_of (grown_all cell events)).clients
 
   -- the client behind what it added to its history
@@ -206,7 +210,7 @@ module _ (cell : MadeCell) (reply : Reply) (events : List Event) (left : state_o
 
   -- ---- each line
 
-  abbrev pub Is : Task → ℕ → ℕ → Type 0
+  abbrev Is : Task → ℕ → ℕ → Type 0
   Is t client volume = IsAnswered t client volume (first_missing (on_volume s client volume)) behind reply
 
   never_big : (length : ℕ) {A : Type 0} → (let o : Option ℕ = None in o ≡ Some length) → A
@@ -265,7 +269,7 @@ module _ (cell : MadeCell) (reply : Reply) (events : List Event) (left : state_o
   stores_so (Text text) = refl
   stores_so (Fill length byte) = refl
 
-  pub task_is : (t : Task) (client volume : ℕ) → DoesTask s t reply events → named_by t ≡ Some (client, volume) → Is t client volume
+  task_is : (t : Task) (client volume : ℕ) → DoesTask s t reply events → named_by t ≡ Some (client, volume) → Is t client volume
   task_is (task.Create c v path mode owner) client volume does named =
       at_named c v client volume (Is (task.Create c v path mode owner)) named (created c v (Create path (unwrap_or mode 420) (unwrap_or owner 0)) path refl (λ cs why h. create_cause cs v path (unwrap_or mode 420) (unwrap_or owner 0) why h) does)
   task_is (task.Mkdir c v path mode owner) client volume does named =
@@ -307,3 +311,8 @@ module _ (cell : MadeCell) (reply : Reply) (events : List Event) (left : state_o
   task_is (task.Hardlink c v from to) client volume does named = cc
   task_is (task.Refresh c v server) client volume does named = cc
   task_is (task.Giveup c v) client volume does named = cc
+
+pub refusals_have_causes : RefusalsHaveCauses
+refusals_have_causes ls report outside cell run t reply events client volume does named =
+    let kept = (runs_moved nothing_made cell ls report outside first_kept run).kept in
+    task_is cell reply events (lines_keep_cells cell (line.Task t) reply events kept tt does).shown t client volume does named

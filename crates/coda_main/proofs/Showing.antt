@@ -1,6 +1,6 @@
 -- The cell of the code shows plain cells.
 use Rattle.coda_engine.proofs.Simulation.{Simulates}
-use Rattle.coda_main.specs.Runs.{LineGives, LineRefused}
+use Rattle.coda_main.specs.PlainRun.{LineGives, LineRefused}
 use Rattle.coda_main.specs.Shows.{Shows, CellGives, CellRefuses}
 
 pub cells_shown : Simulates Shows LineGives LineRefused CellGives CellRefuses

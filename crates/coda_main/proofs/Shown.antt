@@ -1,5 +1,5 @@
 -- What is read or listed stands at the path.
-use Rattle.std.proofs.Common.{◌≡◌, ℕ, ◌+◌, Bool, true, false, cond, List, [], ◌∷◌, ◌++◌, Option, Some, None, Result, Ok, Err, refl, sym, ap, subst, ◌∙◌}
+use Rattle.std.proofs.Common.{◌≡◌, ℕ, ◌+◌, Bool, true, false, cond, List, [], ◌∷◌, ◌++◌, Option, Some, None, Result, Ok, Err, refl, sym, ap, ◌∙◌}
 use Rattle.std.specs.FinMap as map
 use Rattle.std.specs.Option.{unwrap_or}
 use Rattle.coda_fid.specs.Fid.{root_of}
@@ -28,21 +28,18 @@ use Rattle.coda_cell.specs.Held.{held_after_fetches, Fetch}
 use Rattle.coda_cell.specs.Looking.{resolve, look_along, entries_of, is_fetched}
 use Rattle.coda_cell.specs.Accepting.{Accepted, sight_of, accept}
 use Rattle.coda_cell.specs.State.{ClientVolume, ClientState, client_after_all, ReplicaState, CellState, Event, after_all}
-use Rattle.coda_cell.specs.Made.{MadeCell, state_of, grown_all}
+use Rattle.coda_cell.specs.Made.{MadeCell, nothing_made, state_of, grown_all}
 use Rattle.coda_cell.specs.Sending.{Freezing, freezing, Ruling, ruling, Taking, taking, answered_to, ruled_on, drained_of, drain}
-use Rattle.coda_cell.specs.Steps.{Doing, Unless, first_missing, on_volume, on_holder, offers_of, reply_to, ByClient, ByBoth, Operates, DoesTask, Does}
+use Rattle.coda_cell.specs.Steps.{Doing, Unless, first_missing, on_volume, on_holder, offers_of, reply_to, ByClient, ByBoth, Operates, DoesTask}
 use Rattle.coda_cell.proofs.Events.{after_client}
 use Rattle.coda_cell.proofs.Families.{put_here}
 use Rattle.coda_cell.proofs.Fetches.{client_after_fetches, keeps_along}
 use Rattle.coda_cell.proofs.Offered.{fetched_along_is_offered}
+use Rattle.coda_cell.proofs.KeptCells.{first_kept}
 use Rattle.coda_cell.proofs.KeptLines.{lines_keep_cells}
-use Rattle.coda_stored.specs.Cells.{StoredCell}
-use Rattle.coda_stored.specs.Kept.{IsStoredKept}
-use Rattle.coda_stored.specs.Lines.{refused_down, refused_full, refused_fault}
 use Rattle.coda_main.specs.Shown.{Looks, shown_by, WasShown, WhatIsShownIsThere}
 use Rattle.coda_main.proofs.Performed.{leads}
-use Rattle.coda_main.proofs.Running.{always_kept}
-use Rattle.coda_main.proofs.Meeting.{met, met_kept, ShowsAs, clients_as, Ends, WasDown, DidAll, LackedRoom, HadFault, line_ends}
+use Rattle.coda_main.proofs.Running.{runs_moved}
 use Rattle.coda_main.proofs.Served.{Keeps, keeps_look, has_fetched, put_off}
 
 abbrev IsShownBy : NodeKind → Said → Type 0
@@ -187,29 +184,7 @@ module _ (cell : MadeCell) (reply : Reply) (kind : NodeKind) (is : shown_by repl
   task_was (task.Refresh client volume server) events left does = absurd does
   task_was (task.Giveup client volume) events left does = absurd does
 
--- ---- a cell on disks
-
-module _ (old new : StoredCell) (kept : IsStoredKept old) (t : Task) (kind : NodeKind) where
-  all_shown : (reply : Reply) (links : ℕ → ℕ → Strength) (events : List Event) → shown_by reply ≡ Some kind
-      → Does (state_of (met old links)) (line.Task t) reply events → ShowsAs (grown_all (met old links) events) new.made
-      → WasShown t (state_of old.made).clients (state_of new.made).clients (state_of old.made).replicas kind
-  all_shown reply links events is does shows =
-      let cell = met old links in
-      let found = met_kept old links kept in
-      subst (λ clients. WasShown t (state_of old.made).clients clients (state_of old.made).replicas kind) (clients_as (grown_all cell events) new.made shows)
-      (task_was cell reply kind is t events (lines_keep_cells cell (line.Task t) reply events found tt does).shown does)
-
-  -- a refusal shows nothing
-  never : {A : Type 0} (reply other : Reply) → shown_by reply ≡ Some kind → shown_by other ≡ None → reply ≡ other → A
-  never reply other is none same = (let no : None ≡ Some kind = sym none ∙ ap shown_by (sym same) ∙ is in cc)
-
-  ended : (reply : Reply) → shown_by reply ≡ Some kind → Ends old (line.Task t) reply new
-      → WasShown t (state_of old.made).clients (state_of new.made).clients (state_of old.made).replicas kind
-  ended reply is (WasDown down answered same) = never reply refused_down is refl answered
-  ended reply is (DidAll links events does shows) = all_shown reply links events is does shows
-  ended reply is (LackedRoom at own events stop does shows answered lacks same) = never reply refused_full is refl answered
-  ended reply is (HadFault at own events stop does shows answered same) = never reply refused_fault is refl answered
-
 pub what_is_shown_is_there : WhatIsShownIsThere
-what_is_shown_is_there ls report outside cell run t reply answered new kind happens is =
-    ended cell new (always_kept ls report outside cell run) t kind reply is (line_ends cell (line.Task t) reply answered new happens)
+what_is_shown_is_there ls report outside cell run t reply events kind does is =
+    let kept = (runs_moved nothing_made cell ls report outside first_kept run).kept in
+    task_was cell reply kind is t events (lines_keep_cells cell (line.Task t) reply events kept tt does).shown does

@@ -9,25 +9,22 @@ use Rattle.coda_record.specs.declared.answer.Answer.TheVariants.{Applied, Confli
 use Rattle.coda_script.specs.declared.line.Strength.{Strength}
 use Rattle.coda_script.specs.declared.line.Strength.TheVariants.{Strong, Weak, Down}
 use Rattle.coda_script.specs.declared.line.Task.TheVariants as task
-use Rattle.coda_script.specs.declared.line.Line.{Line}
 use Rattle.coda_script.specs.declared.line.Line.TheVariants as line
 use Rattle.coda_script.specs.declared.reply.Answer.TheVariants.{Decided}
 use Rattle.coda_script.specs.declared.reply.Reply.{Reply}
 use Rattle.coda_script.specs.declared.reply.Reply.TheVariants.{Drained}
 use Rattle.coda_cell.specs.State.{ClientVolume, ClientState, ReplicaState, CellState, Event, after_all}
 use Rattle.coda_cell.specs.Code.{with_volume}
-use Rattle.coda_cell.specs.Made.{state_of, grown_all}
+use Rattle.coda_cell.specs.Made.{nothing_made, state_of}
 use Rattle.coda_cell.specs.Sending.{Freezing, freezing, Ruling, ruling, Taking, taken, taken_unless, taking, Outcome, reply_answer, answered_to, ruled_on, drained_of, drain}
 use Rattle.coda_cell.specs.Steps.{Unless, first_missing, on_holder, reply_to, ByBoth}
 use Rattle.coda_cell.specs.declared.refused.Refused.{Refused}
 use Rattle.coda_cell.proofs.Events.{drain_left}
 use Rattle.coda_cell.proofs.Families.{put_here}
+use Rattle.coda_cell.proofs.KeptCells.{first_kept}
 use Rattle.coda_cell.proofs.KeptLines.{lines_keep_cells}
-use Rattle.coda_stored.specs.Cells.{StoredCell}
-use Rattle.coda_stored.specs.Kept.{IsStoredKept}
 use Rattle.coda_main.specs.Thawed.{VerdictsThaw}
-use Rattle.coda_main.proofs.Running.{always_kept}
-use Rattle.coda_main.proofs.Meeting.{met, met_kept, clients_as, Ends, WasDown, DidAll, LackedRoom, HadFault, line_ends}
+use Rattle.coda_main.proofs.Running.{runs_moved}
 
 -- ---- what a drain comes to
 
@@ -77,23 +74,9 @@ module _ (client volume number : ℕ) (verdict : Verdict) where
       let same : c ≡ made = cc in
       ap (λ (x : ClientState). (x.volumes volume).frozen) same ∙ ap (λ (v : ClientVolume). v.frozen) (put_here did.client.volumes volume outcome.volume) ∙ drain_thaws strength s.clock window (did.client.volumes volume) did.replica did.answered
 
--- ---- a cell on disks
-
-module _ (old new : StoredCell) (kept : IsStoredKept old) (client volume server : ℕ) (window : Option ℕ) (number : ℕ) (verdict : Verdict) (c : ClientState) where
-  abbrev drains : Line
-  drains = line.Task (task.Drain client volume server window)
-
-  ended : Ends old drains (Drained number (Decided verdict)) new → (state_of new.made).clients client ≡ Some c → (c.volumes volume).frozen ≡ None
-  ended (WasDown down answered same) is = cc
-  ended (DidAll links events does shows) is =
-      let cell = met old links in
-      let left = lines_keep_cells cell drains (Drained number (Decided verdict)) events (met_kept old links kept) tt does in
-      let behind = ap (λ (s : CellState). s.clients client) (sym left.shown) ∙ ap (λ clients. clients client) (clients_as (grown_all cell events) new.made shows) ∙ is in
-      thaws client volume number verdict (state_of cell) (unwrap_or window 600) (first_missing (on_holder (state_of cell) client volume server)) events c does behind
-  ended (LackedRoom at own events stop does shows answered lacks same) is = cc
-  ended (HadFault at own events stop does shows answered same) is = cc
-
 pub verdicts_thaw : VerdictsThaw
-verdicts_thaw ls report outside cell run client volume server window number verdict answered new c happens is =
-    ended cell new (always_kept ls report outside cell run) client volume server window number verdict c
-    (line_ends cell (line.Task (task.Drain client volume server window)) (Drained number (Decided verdict)) answered new happens) is
+verdicts_thaw ls report outside cell run client volume server window number verdict events c does is =
+    let kept = (runs_moved nothing_made cell ls report outside first_kept run).kept in
+    let left = lines_keep_cells cell (line.Task (task.Drain client volume server window)) (Drained number (Decided verdict)) events kept tt does in
+    let behind = ap (λ (s : CellState). s.clients client) (sym left.shown) ∙ is in
+    thaws client volume number verdict (state_of cell) (unwrap_or window 600) (first_missing (on_holder (state_of cell) client volume server)) events c does behind

@@ -1,258 +1,83 @@
--- Which events of a line are entries: of a task all are, and of any line they come first.
-use Rattle.std.proofs.Common.{◌≡◌, ℕ, List, [], ◌∷◌, ◌++◌, map, take, Option, Some, None, Result, Ok, Err, refl, sym, subst, ◌∙◌}
+-- Lines that leave the letters as they are.
+use Rattle.std.proofs.Common.{◌≡◌, ℕ, List, [], ◌∷◌, ◌++◌, map, Option, Some, None, Result, Ok, Err, refl, sym, ap, subst, ◌∙◌}
 use Rattle.std.specs.Option.{unwrap_or}
-use Rattle.coda_record.specs.declared.answer.Answer.{Answer}
 use Rattle.coda_tree.specs.Volume.{Nodes}
-use Rattle.coda_letters.specs.Sent.{Sent, ChunkSent, AnswerSent, client_of, server_of, Waiting, sent_at, lost_by, number_of}
 use Rattle.coda_plain.specs.Cell.{ClientEntry, Did}
 use Rattle.coda_plain.specs.Decisions.{ReplicaEntry}
-use Rattle.coda_plain.specs.Moves.{Append}
+use Rattle.coda_plain.specs.Moves.{AtReplica}
 use Rattle.coda_script.specs.declared.line.Strength.{Strength}
 use Rattle.coda_script.specs.declared.line.Strength.TheVariants.{Strong, Weak, Down}
 use Rattle.coda_script.specs.declared.line.Task.{Task}
 use Rattle.coda_script.specs.declared.line.Task.TheVariants as task
-use Rattle.coda_script.specs.declared.line.Line.{Line}
-use Rattle.coda_script.specs.declared.line.Line.TheVariants as line
 use Rattle.coda_script.specs.declared.reply.Reply.{Reply}
 use Rattle.coda_cell.specs.Asking.{Answer as ClientAnswer}
-use Rattle.coda_cell.specs.State.{ClientVolume, ClientState, ReplicaState, CellState, Event, VolumeMade, ClientMade, Ticked, LinkSet, Entered, Posted, Lost, at_client}
-use Rattle.coda_cell.specs.Made.{MadeCell, grown, grown_all}
-use Rattle.coda_cell.specs.Messages.{over, posting, going_by, sends_of, ruled_in, taken_in}
+use Rattle.coda_cell.specs.State.{ClientVolume, ClientState, ReplicaState, Event, Entered, at_client}
+use Rattle.coda_cell.specs.Made.{MadeCell, state_of, grown, grown_all}
 use Rattle.coda_cell.specs.Sending.{Freezing, freezing, Ruling, ruling, Taking, taking, deeds_at, entries_at, answered_to, ruled_on, drained_of, drain}
-use Rattle.coda_cell.specs.Steps.{Doing, Unless, first_missing, on_volume, on_holder, client_named, server_named, holder_named, no_volume, no_client, offers_of, ByClient, ByBoth, BySend, ByRuling, ByTaking, DoesTask, Comes, link_down, Delivers, Loses, Does}
+use Rattle.coda_cell.specs.Steps.{Doing, Unless, first_missing, on_volume, on_holder, offers_of, ByClient, ByBoth, DoesTask}
 use Rattle.coda_cell.specs.declared.refused.Refused.{Refused}
-use Rattle.coda_stored.specs.Lines.{Stop}
+use Rattle.coda_cell.proofs.Moving.{grown_both}
 
--- ---- events
+-- what waits behind these events is what waited before them
+abbrev pub Stays : MadeCell → List Event → Type 0
+Stays cell events = (grown_all cell events).waiting ≡ cell.waiting
 
-abbrev IsEntry : Event → Type 0
-IsEntry (Entered append) = Unit {0}
-IsEntry _ = ⊥
+pub none_stays : (cell : MadeCell) (events : List Event) → events ≡ [] → Stays cell events
+none_stays cell events none = ap (λ es. (grown_all cell es).waiting) none
 
-abbrev IsNoEntry : Event → Type 0
-IsNoEntry (Entered append) = ⊥
-IsNoEntry _ = Unit {0}
+client_stays : (cell : MadeCell) (client : ℕ) (entries : List ClientEntry) → Stays cell (map (at_client client) entries)
+client_stays cell client [] = refl
+client_stays cell client (entry ∷ entries) = client_stays (grown cell (at_client client entry)) client entries
 
-abbrev pub AreEntries : List Event → Type 0
-AreEntries [] = Unit {0}
-AreEntries (event ∷ events) = IsEntry event × AreEntries events
+replica_stays : (cell : MadeCell) (server volume : ℕ) (entries : List ReplicaEntry) → Stays cell (entries_at server volume entries)
+replica_stays cell server volume [] = refl
+replica_stays cell server volume (entry ∷ entries) = replica_stays (grown cell (Entered (AtReplica server volume entry))) server volume entries
 
-abbrev pub AreNoEntries : List Event → Type 0
-AreNoEntries [] = Unit {0}
-AreNoEntries (event ∷ events) = IsNoEntry event × AreNoEntries events
+both_stay : (cell : MadeCell) (first rest : List Event) → Stays cell first → Stays (grown_all cell first) rest → Stays cell (first ++ rest)
+both_stay cell first rest f r = ap (λ (c : MadeCell). c.waiting) (grown_both cell first rest) ∙ (r ∙ f)
 
--- entries come first, and other events behind them
-abbrev pub ComeFirst : List Event → Type 0
-ComeFirst [] = Unit {0}
-ComeFirst (Entered append ∷ events) = ComeFirst events
-ComeFirst (VolumeMade volume server ∷ events) = AreNoEntries events
-ComeFirst (ClientMade client blocks ∷ events) = AreNoEntries events
-ComeFirst (Ticked seconds ∷ events) = AreNoEntries events
-ComeFirst (LinkSet client server strength ∷ events) = AreNoEntries events
-ComeFirst (Posted sent ∷ events) = AreNoEntries events
-ComeFirst (Lost message ∷ events) = AreNoEntries events
+module _ (cell : MadeCell) where
+  pub unless_stays : (o : Option Refused) (own : Doing) (reply : Reply) (events : List Event) → (own reply events → Stays cell events) → Unless o own reply events → Stays cell events
+  unless_stays (Some why) own reply events rest does = none_stays cell events does.1
+  unless_stays None own reply events rest does = rest does
 
--- what waits behind entries is what waited before them
-pub entries_stay : (cell : MadeCell) (events : List Event) → AreEntries events → (grown_all cell events).waiting ≡ cell.waiting
-entries_stay cell [] are = refl
-entries_stay cell (Entered append ∷ events) are = entries_stay (grown cell (Entered append)) events are.1 ∙ same append
-  where
-    same : (append : Append) → (grown cell (Entered append)).waiting ≡ cell.waiting
-    same append = refl
-entries_stay cell (VolumeMade volume server ∷ events) are = absurd are.0
-entries_stay cell (ClientMade client blocks ∷ events) are = absurd are.0
-entries_stay cell (Ticked seconds ∷ events) are = absurd are.0
-entries_stay cell (LinkSet client server strength ∷ events) are = absurd are.0
-entries_stay cell (Posted sent ∷ events) are = absurd are.0
-entries_stay cell (Lost message ∷ events) are = absurd are.0
+  asked_stays : (o : Option Refused) (client volume : ℕ) (ask : Option Nodes → ClientState → ClientAnswer) (reply : Reply) (events : List Event) → Unless o (ByClient (state_of cell) client volume ask) reply events → Stays cell events
+  asked_stays o client volume ask reply events does = unless_stays o (ByClient (state_of cell) client volume ask) reply events (λ did. subst (Stays cell) (sym did.happened) (client_stays cell client (ask (offers_of (state_of cell) client volume) did.client).entries)) does
 
-both_entries : (first rest : List Event) → AreEntries first → AreEntries rest → AreEntries (first ++ rest)
-both_entries [] rest f r = r
-both_entries (event ∷ first) rest f r = (f.0, both_entries first rest f.1 r)
+  answered_stays : (client volume : ℕ) (f : Freezing) (ruled : Ruling) (o : Result Taking Refused) → Stays cell (answered_to client volume f ruled o).events
+  answered_stays client volume f ruled (Err why) =
+      both_stay cell (deeds_at client volume f.deeds) (entries_at ruled.replica.server volume ruled.entries) (client_stays cell client (map (Did volume) f.deeds)) (replica_stays _ ruled.replica.server volume ruled.entries)
+  answered_stays client volume f ruled (Ok took) =
+      both_stay cell (deeds_at client volume f.deeds) (entries_at ruled.replica.server volume ruled.entries ++ deeds_at client volume took.deeds) (client_stays cell client (map (Did volume) f.deeds))
+      (both_stay _ (entries_at ruled.replica.server volume ruled.entries) (deeds_at client volume took.deeds) (replica_stays _ ruled.replica.server volume ruled.entries) (client_stays _ client (map (Did volume) took.deeds)))
 
-others_first : (events : List Event) → AreNoEntries events → ComeFirst events
-others_first [] are = tt
-others_first (Entered append ∷ events) are = absurd are.0
-others_first (VolumeMade volume server ∷ events) are = are.1
-others_first (ClientMade client blocks ∷ events) are = are.1
-others_first (Ticked seconds ∷ events) are = are.1
-others_first (LinkSet client server strength ∷ events) are = are.1
-others_first (Posted sent ∷ events) are = are.1
-others_first (Lost message ∷ events) are = are.1
+  ruled_stays : (client volume : ℕ) (f : Freezing) (r : ReplicaState) (o : Result Ruling Refused) → Stays cell (ruled_on client volume f r o).events
+  ruled_stays client volume f r (Err why) = client_stays cell client (map (Did volume) f.deeds)
+  ruled_stays client volume f r (Ok ruled) = answered_stays client volume f ruled (taking f.number ruled.answer f.volume)
 
-entries_first : (first rest : List Event) → AreEntries first → ComeFirst rest → ComeFirst (first ++ rest)
-entries_first [] rest f r = r
-entries_first (Entered append ∷ first) rest f r = entries_first first rest f.1 r
-entries_first (VolumeMade volume server ∷ first) rest f r = absurd f.0
-entries_first (ClientMade client blocks ∷ first) rest f r = absurd f.0
-entries_first (Ticked seconds ∷ first) rest f r = absurd f.0
-entries_first (LinkSet client server strength ∷ first) rest f r = absurd f.0
-entries_first (Posted sent ∷ first) rest f r = absurd f.0
-entries_first (Lost message ∷ first) rest f r = absurd f.0
+  drained_stays : (client volume : ℕ) (v : ClientVolume) (r : ReplicaState) (o : Result Freezing Refused) → Stays cell (drained_of client volume v r o).events
+  drained_stays client volume v r (Err why) = refl
+  drained_stays client volume v r (Ok f) = ruled_stays client volume f r (ruling client f.number f.span r)
 
-no_entry : (done rest : List Event) (next : Append) → AreNoEntries (done ++ Entered next ∷ rest) → ⊥
-no_entry [] rest next are = are.0
-no_entry (event ∷ done) rest next are = no_entry done rest next are.1
+  drain_stays : (strength : Strength) (now window client volume : ℕ) (v : ClientVolume) (r : ReplicaState) → Stays cell (drain strength now window client volume v r).events
+  drain_stays Strong now window client volume v r = drained_stays client volume v r (freezing now window r.server v)
+  drain_stays Weak now window client volume v r = drained_stays client volume v r (freezing now window r.server v)
+  drain_stays Down now window client volume v r = refl
 
--- all that is before an entry are entries
-before_entry : (done rest : List Event) (next : Append) → ComeFirst (done ++ Entered next ∷ rest) → AreEntries done
-before_entry [] rest next come = tt
-before_entry (Entered append ∷ done) rest next come = (tt, before_entry done rest next come)
-before_entry (VolumeMade volume server ∷ done) rest next come = absurd (no_entry done rest next come)
-before_entry (ClientMade client blocks ∷ done) rest next come = absurd (no_entry done rest next come)
-before_entry (Ticked seconds ∷ done) rest next come = absurd (no_entry done rest next come)
-before_entry (LinkSet client server strength ∷ done) rest next come = absurd (no_entry done rest next come)
-before_entry (Posted sent ∷ done) rest next come = absurd (no_entry done rest next come)
-before_entry (Lost message ∷ done) rest next come = absurd (no_entry done rest next come)
-
--- so where events stop at an entry, those are done
-pub stopped_entries : (events : List Event) → ComeFirst events → (stop : Stop events) → AreEntries stop.done
-stopped_entries events come stop = before_entry stop.done stop.rest stop.next (subst ComeFirst stop.is come)
-
--- ---- of clients and replicas
-
-client_entries : (client : ℕ) (entries : List ClientEntry) → AreEntries (map (at_client client) entries)
-client_entries client [] = tt
-client_entries client (entry ∷ entries) = (tt, client_entries client entries)
-
-replica_entries : (server volume : ℕ) (entries : List ReplicaEntry) → AreEntries (entries_at server volume entries)
-replica_entries server volume [] = tt
-replica_entries server volume (entry ∷ entries) = (tt, replica_entries server volume entries)
-
-are_first : (events : List Event) → AreEntries events → ComeFirst events
-are_first [] are = tt
-are_first (Entered append ∷ events) are = are_first events are.1
-are_first (VolumeMade volume server ∷ events) are = absurd are.0
-are_first (ClientMade client blocks ∷ events) are = absurd are.0
-are_first (Ticked seconds ∷ events) are = absurd are.0
-are_first (LinkSet client server strength ∷ events) are = absurd are.0
-are_first (Posted sent ∷ events) are = absurd are.0
-are_first (Lost message ∷ events) are = absurd are.0
-
--- ---- tasks
-
-module _ (s : CellState) (reply : Reply) (events : List Event) where
-  unless_entries : (o : Option Refused) (own : Doing) → (own reply events → AreEntries events) → Unless o own reply events → AreEntries events
-  unless_entries (Some why) own rest does = subst AreEntries (sym does.1) tt
-  unless_entries None own rest does = rest does
-
-  asked_entries : (o : Option Refused) (client volume : ℕ) (ask : Option Nodes → ClientState → ClientAnswer)
-      → Unless o (ByClient s client volume ask) reply events → AreEntries events
-  asked_entries o client volume ask does =
-      unless_entries o (ByClient s client volume ask) (λ did. subst AreEntries (sym did.happened) (client_entries client (ask (offers_of s client volume) did.client).entries)) does
-
-answered_entries : (client volume : ℕ) (f : Freezing) (ruled : Ruling) (o : Result Taking Refused) → AreEntries (answered_to client volume f ruled o).events
-answered_entries client volume f ruled (Err why) =
-    both_entries (deeds_at client volume f.deeds) (entries_at ruled.replica.server volume ruled.entries) (client_entries client (map (Did volume) f.deeds)) (replica_entries ruled.replica.server volume ruled.entries)
-answered_entries client volume f ruled (Ok took) =
-    both_entries (deeds_at client volume f.deeds) (entries_at ruled.replica.server volume ruled.entries ++ deeds_at client volume took.deeds) (client_entries client (map (Did volume) f.deeds))
-    (both_entries (entries_at ruled.replica.server volume ruled.entries) (deeds_at client volume took.deeds) (replica_entries ruled.replica.server volume ruled.entries) (client_entries client (map (Did volume) took.deeds)))
-
-ruled_entries : (client volume : ℕ) (f : Freezing) (r : ReplicaState) (o : Result Ruling Refused) → AreEntries (ruled_on client volume f r o).events
-ruled_entries client volume f r (Err why) = client_entries client (map (Did volume) f.deeds)
-ruled_entries client volume f r (Ok ruled) = answered_entries client volume f ruled (taking f.number ruled.answer f.volume)
-
-drained_entries : (client volume : ℕ) (v : ClientVolume) (r : ReplicaState) (o : Result Freezing Refused) → AreEntries (drained_of client volume v r o).events
-drained_entries client volume v r (Err why) = tt
-drained_entries client volume v r (Ok f) = ruled_entries client volume f r (ruling client f.number f.span r)
-
-drain_entries : (strength : Strength) (now window client volume : ℕ) (v : ClientVolume) (r : ReplicaState)
-    → AreEntries (drain strength now window client volume v r).events
-drain_entries Strong now window client volume v r = drained_entries client volume v r (freezing now window r.server v)
-drain_entries Weak now window client volume v r = drained_entries client volume v r (freezing now window r.server v)
-drain_entries Down now window client volume v r = tt
-
-pub task_entries : (s : CellState) (reply : Reply) (events : List Event) (t : Task) → DoesTask s t reply events → AreEntries events
-task_entries s reply events (task.Create client volume path mode owner) does =
-    asked_entries s reply events (first_missing (on_volume s client volume)) client volume _ does
-task_entries s reply events (task.Mkdir client volume path mode owner) does =
-    asked_entries s reply events (first_missing (on_volume s client volume)) client volume _ does
-task_entries s reply events (task.Symlink client volume path target) does =
-    asked_entries s reply events (first_missing (on_volume s client volume)) client volume _ does
-task_entries s reply events (task.Store client volume path content) does =
-    asked_entries s reply events (first_missing (on_volume s client volume)) client volume _ does
-task_entries s reply events (task.Setattr client volume path attrs) does =
-    asked_entries s reply events (first_missing (on_volume s client volume)) client volume _ does
-task_entries s reply events (task.Remove client volume path) does = asked_entries s reply events (first_missing (on_volume s client volume)) client volume _ does
-task_entries s reply events (task.Rmdir client volume path) does = asked_entries s reply events (first_missing (on_volume s client volume)) client volume _ does
-task_entries s reply events (task.Rename client volume from to) does = asked_entries s reply events (first_missing (on_volume s client volume)) client volume _ does
-task_entries s reply events (task.Read client volume path) does = asked_entries s reply events (first_missing (on_volume s client volume)) client volume _ does
-task_entries s reply events (task.List client volume path) does = asked_entries s reply events (first_missing (on_volume s client volume)) client volume _ does
-task_entries s reply events (task.Drain client volume server window) does =
-    unless_entries s reply events (first_missing (on_holder s client volume server)) (ByBoth s client volume (unwrap_or window 600))
-    (λ did. subst AreEntries (sym did.happened) (drain_entries (s.links client did.replica.server) s.clock (unwrap_or window 600) client volume (did.client.volumes volume) did.replica)) does
-task_entries s reply events (task.Hardlink client volume from to) does = absurd does
-task_entries s reply events (task.Refresh client volume server) does = absurd does
-task_entries s reply events (task.Giveup client volume) does = absurd does
-
--- ---- letters
-
-lost_others : (going : Waiting) (sent : Sent) → AreNoEntries (map (λ l. Lost l.0) going ++ Posted sent ∷ [])
-lost_others [] sent = (tt, tt)
-lost_others (l ∷ going) sent = (tt, lost_others going sent)
-
-posting_first : (sent : Sent) (waiting : Waiting) → ComeFirst (posting sent waiting)
-posting_first sent waiting = others_first (posting sent waiting) (lost_others (take (lost_by sent waiting) waiting) sent)
-
-module _ (s : CellState) where
-  going_first : (sent : Sent) (o : Option ℕ) → ComeFirst (going_by o sent s).events
-  going_first sent None = posting_first sent s.waiting
-  going_first sent (Some message) = tt
-
-  sends_first : (client volume server : ℕ) (o : Result Freezing Refused) → ComeFirst (sends_of s client volume server o).events
-  sends_first client volume server (Err why) = tt
-  sends_first client volume server (Ok f) =
-      let sent = ChunkSent client server volume f.number f.span in
-      entries_first (deeds_at client volume f.deeds) (going_by (number_of sent s.waiting) sent s).events (client_entries client (map (Did volume) f.deeds)) (going_first sent (number_of sent s.waiting))
-
-  rulings_first : (client server volume number : ℕ) (o : Result Ruling Refused) → ComeFirst (ruled_in s client server volume number o).events
-  rulings_first client server volume number (Err why) = tt
-  rulings_first client server volume number (Ok ruled) =
-      let sent = AnswerSent server client volume number ruled.answer in
-      entries_first (entries_at server volume ruled.entries) (posting sent s.waiting) (replica_entries server volume ruled.entries) (posting_first sent s.waiting)
-
-  takings_first : (client volume number : ℕ) (answer : Answer) (o : Result Taking Refused) → ComeFirst (taken_in client volume number answer o).events
-  takings_first client volume number answer (Err why) = tt
-  takings_first client volume number answer (Ok took) = are_first (deeds_at client volume took.deeds) (client_entries client (map (Did volume) took.deeds))
-
-  -- ---- each line
-
-  module _ (reply : Reply) (events : List Event) where
-    none_first : events ≡ [] → ComeFirst events
-    none_first none = subst ComeFirst (sym none) tt
-
-    unless_first : (o : Option Refused) (own : Doing) → (own reply events → ComeFirst events) → Unless o own reply events → ComeFirst events
-    unless_first (Some why) own rest does = none_first does.1
-    unless_first None own rest does = rest does
-
-    comes_first : (sent : Sent) → Comes s sent reply events → ComeFirst events
-    comes_first (ChunkSent client server volume number span) does =
-        unless_first (first_missing (on_holder s client volume server)) (ByRuling s client server volume number span)
-        (λ did. subst ComeFirst (sym did.happened) (rulings_first client server volume number (ruling client number span did.replica))) does
-    comes_first (AnswerSent server client volume number answer) does =
-        unless_first (first_missing (on_holder s client volume server)) (ByTaking s client volume number answer)
-        (λ did. subst ComeFirst (sym did.happened) (takings_first client volume number answer (taking number answer (did.client.volumes volume)))) does
-
-    delivers_first : (message : ℕ) (o : Option Sent) → Delivers s message o reply events → ComeFirst events
-    delivers_first message None does = none_first does.1
-    delivers_first message (Some sent) does = unless_first (link_down (s.links (client_of sent) (server_of sent))) (Comes s sent) (comes_first sent) does
-
-    loses_first : (message : ℕ) (o : Option Sent) → Loses message o reply events → ComeFirst events
-    loses_first message None does = none_first does.1
-    loses_first message (Some sent) does = subst ComeFirst (sym does.1) tt
-
-    pub line_first : (said : Line) → Does s said reply events → ComeFirst events
-    line_first (line.Volume volume servers area) does = unless_first (no_volume s volume) _ (λ did. subst ComeFirst (sym did.1) tt) does
-    line_first (line.Client client blocks area) does = unless_first (no_client s client) _ (λ did. subst ComeFirst (sym did.1) tt) does
-    line_first (line.Link client server strength) does =
-        unless_first (first_missing (client_named s client ∷ server_named s server ∷ [])) _ (λ did. subst ComeFirst (sym did.1) tt) does
-    line_first (line.Tick seconds) does = subst ComeFirst (sym does.1) tt
-    line_first (line.Task t) does = are_first events (task_entries s reply events t does)
-    line_first (line.ShowVolume server volume) does = unless_first (first_missing (holder_named s server volume ∷ [])) _ (λ did. none_first did.1) does
-    line_first (line.ShowLog client volume) does = unless_first (first_missing (on_volume s client volume)) _ (λ did. none_first did.1) does
-    line_first (line.Send client volume server window) does =
-        unless_first (first_missing (on_holder s client volume server)) (BySend s client volume server (unwrap_or window 600))
-        (λ did. subst ComeFirst (sym did.happened) (sends_first client volume server (over (s.links client server) (freezing s.clock (unwrap_or window 600) server (did.client.volumes volume))))) does
-    line_first (line.Deliver message) does = delivers_first message (sent_at message s.waiting) does
-    line_first (line.Lose message) does = loses_first message (sent_at message s.waiting) does
-    line_first _ does = absurd does
+  pub task_stays : (t : Task) (reply : Reply) (events : List Event) → DoesTask (state_of cell) t reply events → Stays cell events
+  task_stays (task.Create client volume path mode owner) reply events does = asked_stays (first_missing (on_volume (state_of cell) client volume)) client volume _ reply events does
+  task_stays (task.Mkdir client volume path mode owner) reply events does = asked_stays (first_missing (on_volume (state_of cell) client volume)) client volume _ reply events does
+  task_stays (task.Symlink client volume path target) reply events does = asked_stays (first_missing (on_volume (state_of cell) client volume)) client volume _ reply events does
+  task_stays (task.Store client volume path content) reply events does = asked_stays (first_missing (on_volume (state_of cell) client volume)) client volume _ reply events does
+  task_stays (task.Setattr client volume path attrs) reply events does = asked_stays (first_missing (on_volume (state_of cell) client volume)) client volume _ reply events does
+  task_stays (task.Remove client volume path) reply events does = asked_stays (first_missing (on_volume (state_of cell) client volume)) client volume _ reply events does
+  task_stays (task.Rmdir client volume path) reply events does = asked_stays (first_missing (on_volume (state_of cell) client volume)) client volume _ reply events does
+  task_stays (task.Rename client volume from to) reply events does = asked_stays (first_missing (on_volume (state_of cell) client volume)) client volume _ reply events does
+  task_stays (task.Read client volume path) reply events does = asked_stays (first_missing (on_volume (state_of cell) client volume)) client volume _ reply events does
+  task_stays (task.List client volume path) reply events does = asked_stays (first_missing (on_volume (state_of cell) client volume)) client volume _ reply events does
+  task_stays (task.Drain client volume server window) reply events does =
+      unless_stays (first_missing (on_holder (state_of cell) client volume server)) (ByBoth (state_of cell) client volume (unwrap_or window 600)) reply events
+      (λ did. subst (Stays cell) (sym did.happened) (drain_stays (cell.links client did.replica.server) cell.clock (unwrap_or window 600) client volume (did.client.volumes volume) did.replica)) does
+  task_stays (task.Hardlink client volume from to) reply events does = absurd does
+  task_stays (task.Refresh client volume server) reply events does = absurd does
+  task_stays (task.Giveup client volume) reply events does = absurd does

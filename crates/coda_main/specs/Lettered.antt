@@ -18,10 +18,9 @@ use Rattle.coda_script.specs.declared.reply.Undecided.{Undecided}
 use Rattle.coda_script.specs.declared.reply.Undecided.TheVariants as undecided
 use Rattle.coda_script.specs.declared.reply.Reply.{Reply}
 use Rattle.coda_script.specs.declared.reply.Reply.TheVariants.{Sent as ChunkWent, Delivered, Settled, StillFrozen, Lost}
-use Rattle.coda_cell.specs.Made.{MadeCell, state_of}
-use Rattle.coda_cell.specs.Steps.{first_missing, on_holder}
-use Rattle.coda_stored.specs.Cells.{StoredCell}
-use Rattle.coda_stored.specs.Lines.{Happens}
+use Rattle.coda_cell.specs.State.{Event}
+use Rattle.coda_cell.specs.Made.{MadeCell, state_of, grown_all}
+use Rattle.coda_cell.specs.Steps.{first_missing, on_holder, Does}
 use Rattle.coda_main.specs.Headline.{Always}
 
 -- ---- what a reply tells
@@ -106,7 +105,7 @@ TellsLetters _ reply old new = new ≡ old
 
 -- Whatever lines ran, a reply that names a letter names one in which what it tells of waits.
 abbrev pub RepliesNameLetters : Type 0
-RepliesNameLetters = Always (λ cell. (said : Line) (reply : Reply) (outside : List (List ℕ)) (new : StoredCell) → Happens cell said reply outside new → TellsLetters said reply cell.made.waiting new.made.waiting)
+RepliesNameLetters = Always (λ cell. (said : Line) (reply : Reply) (events : List Event) → Does (state_of cell) said reply events → TellsLetters said reply cell.waiting (grown_all cell events).waiting)
 
 -- ---- what a letter says
 
@@ -118,7 +117,7 @@ IsSo cell (AnswerSent server client volume number answer) = (verdict : Verdict) 
 
 -- Whatever lines ran, what a letter says that waits is so, however long it waited and whatever else was lost or came twice.
 abbrev pub LettersSayWhatIsSo : Type 0
-LettersSayWhatIsSo = Always (λ cell. (message : ℕ) (sent : Sent) → sent_at message cell.made.waiting ≡ Some sent → IsSo cell.made sent)
+LettersSayWhatIsSo = Always (λ cell. (message : ℕ) (sent : Sent) → sent_at message cell.waiting ≡ Some sent → IsSo cell sent)
 
 -- ---- the ends of a letter
 
@@ -130,4 +129,4 @@ volume_of (AnswerSent server client volume number answer) = volume
 -- Whatever lines ran, the client, the volume and the server of a letter that waits are there, so that none is refused for an actor that
 -- isn't.
 abbrev pub LettersHaveEnds : Type 0
-LettersHaveEnds = Always (λ cell. (number : ℕ) (sent : Sent) → sent_at number cell.made.waiting ≡ Some sent → first_missing (on_holder (state_of cell.made) (client_of sent) (volume_of sent) (server_of sent)) ≡ None)
+LettersHaveEnds = Always (λ cell. (number : ℕ) (sent : Sent) → sent_at number cell.waiting ≡ Some sent → first_missing (on_holder (state_of cell) (client_of sent) (volume_of sent) (server_of sent)) ≡ None)

@@ -1,9 +1,8 @@
 pub mod Words
 pub mod Texts
-pub mod Runs
+pub mod PlainRun
 pub mod Shows
 pub mod Headline
-pub mod Reported
 pub mod Complete
 pub mod Cached
 pub mod Lettered

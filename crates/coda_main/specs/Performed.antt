@@ -18,10 +18,9 @@ use Rattle.coda_script.specs.declared.line.Line.TheVariants as line
 use Rattle.coda_script.specs.declared.line.Task.{Task}
 use Rattle.coda_script.specs.declared.line.Task.TheVariants as task
 use Rattle.coda_script.specs.declared.reply.Reply.TheVariants.{Done}
-use Rattle.coda_cell.specs.State.{pending, ClientState, ReplicaState}
-use Rattle.coda_cell.specs.Made.{state_of}
-use Rattle.coda_stored.specs.Cells.{StoredCell}
-use Rattle.coda_stored.specs.Lines.{Happens}
+use Rattle.coda_cell.specs.State.{pending, ClientState, ReplicaState, Event}
+use Rattle.coda_cell.specs.Made.{state_of, grown_all}
+use Rattle.coda_cell.specs.Steps.{Does}
 use Rattle.coda_main.specs.Headline.{Always}
 
 -- ---- where paths lead
@@ -191,5 +190,5 @@ pub record WasPerformed (t : Task) (clients behind : ℕ → Option ClientState)
 -- Whatever lines ran, an operation that is answered as done did what its line asked, left all else as it was, and is kept.
 abbrev pub OperationsArePerformed : Type 0
 OperationsArePerformed =
-    Always (λ cell. (t : Task) (number : ℕ) (object : Fid) (outside : List (List ℕ)) (new : StoredCell) → Happens cell (line.Task t) (Done number object) outside new
-    → WasPerformed t (state_of cell.made).clients (state_of new.made).clients (state_of cell.made).replicas cell.made.clock number object)
+    Always (λ cell. (t : Task) (number : ℕ) (object : Fid) (events : List Event) → Does (state_of cell) (line.Task t) (Done number object) events
+    → WasPerformed t (state_of cell).clients (state_of (grown_all cell events)).clients (state_of cell).replicas cell.clock number object)

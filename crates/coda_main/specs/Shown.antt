@@ -13,10 +13,9 @@ use Rattle.coda_script.specs.declared.line.Task.TheVariants as task
 use Rattle.coda_script.specs.declared.reply.Readable.TheVariants.{File as FileOf, Link as LinkTo}
 use Rattle.coda_script.specs.declared.reply.Reply.{Reply}
 use Rattle.coda_script.specs.declared.reply.Reply.TheVariants.{Read, Listed}
-use Rattle.coda_cell.specs.State.{ClientState, ReplicaState}
-use Rattle.coda_cell.specs.Made.{state_of}
-use Rattle.coda_stored.specs.Cells.{StoredCell}
-use Rattle.coda_stored.specs.Lines.{Happens}
+use Rattle.coda_cell.specs.State.{ClientState, ReplicaState, Event}
+use Rattle.coda_cell.specs.Made.{state_of, grown_all}
+use Rattle.coda_cell.specs.Steps.{Does}
 use Rattle.coda_main.specs.Headline.{Always}
 use Rattle.coda_main.specs.Performed.{Leads, HasFetched}
 
@@ -55,5 +54,5 @@ pub record WasShown (t : Task) (clients behind : ℕ → Option ClientState) (re
 -- Whatever lines ran, what a reply shows of a file, a link or a directory is in the object that the line's path leads to.
 abbrev pub WhatIsShownIsThere : Type 0
 WhatIsShownIsThere =
-    Always (λ cell. (t : Task) (reply : Reply) (outside : List (List ℕ)) (new : StoredCell) (kind : NodeKind) → Happens cell (line.Task t) reply outside new → shown_by reply ≡ Some kind
-    → WasShown t (state_of cell.made).clients (state_of new.made).clients (state_of cell.made).replicas kind)
+    Always (λ cell. (t : Task) (reply : Reply) (events : List Event) (kind : NodeKind) → Does (state_of cell) (line.Task t) reply events → shown_by reply ≡ Some kind
+    → WasShown t (state_of cell).clients (state_of (grown_all cell events)).clients (state_of cell).replicas kind)

@@ -1,29 +1,29 @@
 // What follows from the answers of a run, and what all runs have in common.
 ghost use Rattle.coda_engine.specs.Exact.{CleanScriptsRun, OneStatus};
-ghost use Rattle.coda_stored.specs.Cells.{nothing_stored};
+ghost use Rattle.coda_cell.specs.Made.{nothing_made};
 ghost use Rattle.coda_main.specs.Cached.{CachedIsHeld};
 ghost use Rattle.coda_main.specs.Causes.{RefusalsHaveCauses};
 ghost use Rattle.coda_main.specs.Complete.{ScriptsInGrammarAreClean};
-ghost use Rattle.coda_main.specs.Headline.{ScriptsRun, ChunksAreDecidedOnce, CertifiedChunksAreApplied, ConflictsNameASentRecord, OperationsAreKept, SettlementsAreDecided, LogsArePending, AcknowledgedEntriesStay, ClientsComeBack, ReplicasComeBack};
+ghost use Rattle.coda_main.specs.Headline.{ScriptsRun, ChunksAreDecidedOnce, CertifiedChunksAreApplied, ConflictsNameASentRecord, OperationsAreKept, SettlementsAreDecided, LogsArePending};
 ghost use Rattle.coda_main.specs.Lettered.{RepliesNameLetters, LettersSayWhatIsSo, LettersHaveEnds};
 ghost use Rattle.coda_main.specs.Performed.{OperationsArePerformed};
-ghost use Rattle.coda_main.specs.Runs.{LineGives, LineRefused};
+ghost use Rattle.coda_main.specs.PlainRun.{LineGives, LineRefused};
 ghost use Rattle.coda_main.specs.Shown.{WhatIsShownIsThere};
 ghost use Rattle.coda_main.specs.Thawed.{VerdictsThaw};
 
 /// A script that the cell can run from its first line to its last, within the limits, never ends as one with a bad
 /// line or as one that is too long.
 pub fn clean_scripts_run()
-    ensures { CleanScriptsRun LineGives LineRefused nothing_stored nothing_stored }
+    ensures { CleanScriptsRun LineGives LineRefused nothing_made nothing_made }
 {}
 
 /// A script has one status, however it is cut into pieces, but for faults and want of memory.
 pub fn one_status()
-    ensures { OneStatus LineGives LineRefused nothing_stored nothing_stored }
+    ensures { OneStatus LineGives LineRefused nothing_made nothing_made }
 {}
 
-/// A script within the limits whose lines are silent, or in the grammar and built, and crash nobody, can run to its end
-/// from whatever cell that lines may leave: each of its lines has a reply, whoever is down and whatever disk fails.
+/// A script within the limits whose lines are silent, or in the grammar and built, can run to its end from whatever
+/// cell: each of its lines has a reply.
 pub fn scripts_in_the_grammar_are_clean()
     ensures { ScriptsInGrammarAreClean }
 {}
@@ -69,25 +69,6 @@ pub fn settlements_are_decided()
 /// applied.
 pub fn logs_are_pending()
     ensures { LogsArePending }
-{}
-
-/// Whatever lines follow, crashes and disks that fail or fill up among them, no entry that a client or a server
-/// acknowledged is lost: its history begins with what it was (Kistler and Satyanarayanan 1992: the log of a client
-/// that isn't connected outlives its crashes).
-pub fn acknowledged_entries_stay()
-    ensures { AcknowledgedEntriesStay }
-{}
-
-/// Whatever lines ran, a client that is recovered has the log from before its crash, or that one with the one
-/// operation whose append failed, and the reply counts its entries.
-pub fn clients_come_back()
-    ensures { ClientsComeBack }
-{}
-
-/// Whatever lines ran, a server's replica of a volume that is recovered has the entries from before its crash, or
-/// those and the one whose append failed, so that a verdict that was answered is kept; and the reply counts them.
-pub fn replicas_come_back()
-    ensures { ReplicasComeBack }
 {}
 
 /// A reply to a read or a listing says `cached` exactly where the client held the object before the line.
@@ -138,10 +119,8 @@ pub fn what_is_shown_is_there()
 
 /// Whatever lines ran, an operation, a read or a listing is done, or it is refused for a cause that holds, over
 /// what the client held and fetched: names that lead nowhere, since a directory doesn't bind one, an object isn't a
-/// directory or isn't held; what stands at the path isn't what the operation needs; the name is taken; the log is
-/// full, or the client accepted as many operations as it may; an actor that it names isn't there; or the disk of its
-/// client is the cause, since the client is down, its journal has no room for the next entry, or the append of that
-/// failed.
+/// directory or isn't held; what stands at the path isn't what the operation needs; the name is taken; the log or
+/// the journal is full; or an actor that it names isn't there.
 pub fn refusals_have_causes()
     ensures { RefusalsHaveCauses }
 {}

@@ -1,21 +1,14 @@
 // The texts of replies, in the cell that a line left.
-ghost use Rattle.std.specs.Prelude.{◌≡◌, [], false, Some, IfOk};
-ghost use Rattle.coda_cell.specs.Cells.{volume_at};
-ghost use Rattle.coda_cell.specs.Made.{state_of};
-ghost use Rattle.coda_cell.specs.State.{ClientState};
-ghost use Rattle.coda_stored.specs.Cells.{StoredCell};
-ghost use Rattle.coda_stored.specs.Kept.{IsStoredKept};
-ghost use Rattle.coda_stored.specs.Lines.{client_down, replica_down};
-ghost use Rattle.coda_site.specs.Sites.{IsSite};
-ghost use Rattle.coda_main.specs.Shows.{CanShow};
+ghost use Rattle.std.specs.Prelude.{◌≡◌, [], IfOk};
+ghost use Rattle.coda_cell.specs.State.{CellState};
+ghost use Rattle.coda_cell.specs.Cells.{IsCell, volume_at, log_at};
 ghost use Rattle.coda_main.specs.Texts.{shown_volume, shown_log, text_of};
 
+use coda_cell::Cell;
 use coda_cml::Log;
-use coda_disk::Bay;
 use coda_fid::Bytes;
 use coda_report::{log_text, reply_text, volume_text};
 use coda_script::Reply;
-use coda_site::Cell;
 use std::alloc::{AllocError, Global};
 
 fn no_text(alloc: Global) -> Bytes
@@ -25,9 +18,8 @@ fn no_text(alloc: Global) -> Bytes
 }
 
 // The volume that a server has.
-fn volume_shown<B: Bay>(alloc: Global, cell: &Cell<B>, server: u8, volume: u32) -> Result<Bytes, AllocError>
-    ensures { IfOk result (λ text. (plain : StoredCell) → IsStoredKept plain → IsSite B.D.told (B.out cell.now.bay) (B.has cell.now.bay) plain cell.now.site
-        → replica_down plain volume ≡ false → text ≡ shown_volume server (volume_at ((state_of plain.made).replicas volume) server)) }
+fn volume_shown(alloc: Global, cell: &Cell, server: u8, volume: u32) -> Result<Bytes, AllocError>
+    ensures { IfOk result (λ text. (s : CellState) → IsCell s cell.now → text ≡ shown_volume server (volume_at (s.replicas volume) server)) }
 {
     match cell.volume(server, volume) {
         Some(tree) => volume_text(alloc, tree, server),
@@ -36,10 +28,8 @@ fn volume_shown<B: Bay>(alloc: Global, cell: &Cell<B>, server: u8, volume: u32) 
 }
 
 // The log that a client has of a volume.
-fn log_shown<B: Bay>(alloc: Global, cell: &Cell<B>, client: u8, volume: u32) -> Result<Bytes, AllocError>
-    ensures { IfOk result (λ text. (plain : StoredCell) → IsStoredKept plain → IsSite B.D.told (B.out cell.now.bay) (B.has cell.now.bay) plain cell.now.site
-        → client_down plain client ≡ false → (c : ClientState) → (state_of plain.made).clients client ≡ Some c
-        → text ≡ shown_log ((state_of plain.made).clients client) volume) }
+fn log_shown(alloc: Global, cell: &Cell, client: u8, volume: u32) -> Result<Bytes, AllocError>
+    ensures { IfOk result (λ text. (s : CellState) → IsCell s cell.now → text ≡ shown_log (log_at (s.clients client) volume)) }
 {
     match cell.log(client, volume) {
         Some(log) => log_text(alloc, log),
@@ -48,9 +38,8 @@ fn log_shown<B: Bay>(alloc: Global, cell: &Cell<B>, client: u8, volume: u32) -> 
 }
 
 /// The text of a reply in the cell that the line left.
-pub fn text_of<B: Bay>(alloc: Global, cell: &Cell<B>, reply: &Reply) -> Result<Bytes, AllocError>
-    ensures { IfOk result (λ text. (plain : StoredCell) → IsStoredKept plain → IsSite B.D.told (B.out cell.now.bay) (B.has cell.now.bay) plain cell.now.site
-        → CanShow plain reply.now → text ≡ text_of (state_of plain.made) reply.now) }
+pub fn text_of(alloc: Global, cell: &Cell, reply: &Reply) -> Result<Bytes, AllocError>
+    ensures { IfOk result (λ text. (s : CellState) → IsCell s cell.now → text ≡ text_of s reply.now) }
 {
     match reply {
         Reply::ShowVolume { server, volume } => volume_shown(alloc, cell, *server, *volume),

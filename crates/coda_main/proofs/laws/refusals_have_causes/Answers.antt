@@ -1,4 +1,4 @@
-use Rattle.coda_main.proofs.Stopped.{refusals_have_causes}
+use Rattle.coda_main.proofs.Refused.{refusals_have_causes}
 use Rattle.coda_main.proofs.laws.refusals_have_causes.Goals as goal
 
 pub returns : goal.returns

@@ -3,7 +3,7 @@ use Rattle.std.specs.String.{string_bytes}
 use Rattle.coda_engine.specs.Run.{Reports}
 use Rattle.coda_engine.specs.declared.status.Status.{Status}
 use Rattle.coda_cell.specs.Made.{nothing_made}
-use Rattle.coda_main.specs.Runs.{LineGives, LineRefused}
+use Rattle.coda_main.specs.PlainRun.{LineGives, LineRefused}
 use Rattle.coda_main.specs.Words.{IsRun}
 use Rattle.coda_main.proofs.top.coda.Goals as goal
 

@@ -1,7 +1,7 @@
 use Rattle.std.proofs.Common.{rules, ◌≡◌, ℕ, true, List, [], Result, Ok, Err, sym, subst}
 use Rattle.std.specs.Prelude.{IfOk, Some, None}
 use Rattle.coda_cell.specs.Made.{MadeCell}
-use Rattle.coda_main.specs.Runs.{LineGives}
+use Rattle.coda_main.specs.PlainRun.{LineGives}
 use Rattle.coda_main.specs.Shows.{Shows}
 use Rattle.coda_cell.specs.Steps.{is_built}
 use Rattle.coda_script.specs.Lines.{line_of}

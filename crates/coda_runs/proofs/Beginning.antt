@@ -5,8 +5,8 @@ use Rattle.coda_plain.specs.Logs.{BeginsWith}
 use Rattle.coda_stored.specs.Cells.{StoredCell}
 use Rattle.coda_stored.specs.Laws.{Begins}
 use Rattle.coda_stored.proofs.Remaining.{entries_stay}
-use Rattle.coda_main.specs.Runs.{LineGives}
-use Rattle.coda_main.specs.Headline.{AcknowledgedEntriesStay}
+use Rattle.coda_runs.specs.Runs.{LineGives}
+use Rattle.coda_runs.specs.Headline.{AcknowledgedEntriesStay}
 
 begins_same : (cell : StoredCell) → Begins cell cell
 begins_same cell = record { clients = λ client. ([], sym (append-nil _)); replicas = λ server volume. ([], sym (append-nil _)) }

@@ -20,10 +20,10 @@ use Rattle.coda_stored.specs.Kept.{IsStoredKept}
 use Rattle.coda_stored.specs.Lines.{meets, Stop, client_down, task_down, all_there, refused_full, refused_fault}
 use Rattle.coda_stored.specs.Room.{Lacks}
 use Rattle.coda_stored.proofs.Entering.{IsBy, AreBy, by_parts, by_entries}
-use Rattle.coda_main.specs.Causes.{named_by, IsAnswered, IsNextEntry, DiskCause, IsDown, HasNoRoom, HasFailed, RefusalsHaveCauses}
-use Rattle.coda_main.proofs.Meeting.{met, met_kept, IsMet, ShowsAs, clients_as, Ends, WasDown, DidAll, LackedRoom, HadFault, line_ends}
-use Rattle.coda_main.proofs.Refused.{at_named, task_is}
-use Rattle.coda_main.proofs.Running.{always_kept}
+use Rattle.coda_runs.specs.Causes.{named_by, IsAnswered, IsNextEntry, DiskCause, IsDown, HasNoRoom, HasFailed, RefusalsHaveCauses}
+use Rattle.coda_runs.proofs.Meeting.{met, met_kept, IsMet, ShowsAs, clients_as, Ends, WasDown, DidAll, LackedRoom, HadFault, line_ends}
+use Rattle.coda_runs.proofs.Refused.{at_named, task_is}
+use Rattle.coda_runs.proofs.Running.{always_kept}
 
 -- ---- who enters what happens
 

@@ -8,7 +8,7 @@ use Rattle.coda_script.specs.Lines.{line_of}
 use Rattle.coda_cell.specs.Made.{state_of}
 use Rattle.coda_stored.specs.Cells.{StoredCell}
 use Rattle.coda_stored.specs.Lines.{is_built, Happens}
-use Rattle.coda_main.specs.Texts.{text_of}
+use Rattle.coda_runs.specs.Texts.{text_of}
 
 -- From old, the cell may run this line, with the text of its reply; the bay answers these images, and it is new then.
 pub record Replies (old : StoredCell) (bytes text : List ℕ) (outside : List (List ℕ)) (new : StoredCell) : Type 0 where

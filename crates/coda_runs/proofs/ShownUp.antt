@@ -41,9 +41,9 @@ use Rattle.coda_stored.specs.Cells.{StoredCell}
 use Rattle.coda_stored.specs.Kept.{IsStoredKept}
 use Rattle.coda_stored.specs.Lines.{client_down, replica_down, is_down_for, EndsBy, UnlessDown, Happens, refused_down, refused_full, refused_fault}
 use Rattle.coda_stored.proofs.Stopping.{nothing_ends}
-use Rattle.coda_main.specs.Shows.{CanShow}
-use Rattle.coda_main.proofs.Coming.{ComesTo, Acted, Aside, line_comes}
-use Rattle.coda_main.proofs.Meeting.{met, ActsUp, Ends, WasDown, DidAll, LackedRoom, HadFault}
+use Rattle.coda_runs.specs.Shows.{CanShow}
+use Rattle.coda_runs.proofs.Coming.{ComesTo, Acted, Aside, line_comes}
+use Rattle.coda_runs.proofs.Meeting.{met, ActsUp, Ends, WasDown, DidAll, LackedRoom, HadFault}
 
 -- ---- what is said that shows no volume and no log
 

@@ -16,7 +16,7 @@ use Rattle.coda_cell.specs.Steps.{client_named, holder_named, first_missing, no_
 use Rattle.coda_cell.specs.declared.refused.Refused.{Refused as Refusal}
 use Rattle.coda_stored.specs.Cells.{StoredCell, client_header, replica_header}
 use Rattle.coda_stored.specs.Lines.{is_down_for, Becoming, Unless, UnlessDown, Opens, no_volume, no_client, with_volume, with_client, area_of, IsRefused, CrashesClient, CrashesReplica, RecoversClient, RecoversReplica, Stays, Happens, refused_down, refused_fault}
-use Rattle.coda_main.proofs.Meeting.{Ends, line_ends}
+use Rattle.coda_runs.proofs.Meeting.{Ends, line_ends}
 
 -- a cell whose histories are others
 abbrev pub acting : MadeCell → PlainCell → MadeCell

@@ -1,0 +1,439 @@
+-- Replies name the letters in which chunks and answers wait, and letters say what is so.
+use Rattle.std.proofs.Common.{◌≡◌, ◌≢◌, ℕ, zero, suc, ◌+◌, ◌≤◌, ◌<◌, Bool, true, false, ◌&&◌, cond, nat_eq, List, [], ◌∷◌, ◌++◌, map, drop, Option, Some, None, Result, Ok, Err, refl, sym, ap, subst, ◌∙◌, inl, inr, arith}
+use Rattle.std.specs.Prelude.{◌==◌}
+use Rattle.std.specs.Cmp.Lexicographic.{pointwise, bytes_decides}
+use Rattle.std.specs.Option.{unwrap_or}
+use Rattle.std.proofs.lemmas.Bool.{cases_Bool, eqb-true, eq-eqb, ne_eqb, false≢true}
+use Rattle.coda_fid.specs.declared.op.Record.{Record}
+use Rattle.coda_record.specs.declared.answer.Answer.{Answer}
+use Rattle.coda_record.specs.declared.answer.Answer.TheVariants as answers
+use Rattle.coda_net.specs.declared.letter.Letter.{Letter}
+use Rattle.coda_net.specs.Pool.{is_sent}
+use Rattle.coda_letters.specs.Sent.{Sent, ChunkSent, AnswerSent, client_of, server_of, bytes_of, letter_of, Waiting, sent_at, without, lost_by, with_sent, number_of}
+use Rattle.coda_certify.specs.declared.verdict.Verdict.{Verdict}
+use Rattle.coda_certify.specs.declared.verdict.Verdict.TheVariants as verdicts
+use Rattle.coda_plain.specs.Cell.{ClientEntry, Did, Ruled, AnswerSent as PlainAnswer}
+use Rattle.coda_plain.specs.Decisions.{ReplicaEntry}
+use Rattle.coda_plain.specs.Deeds.{chunks_of, span_of}
+use Rattle.coda_plain.specs.Histories.{In}
+use Rattle.coda_plain.specs.Moves.{AtReplica, done_on}
+use Rattle.coda_plain.proofs.Chunking.{numbered as chunks_are_numbered}
+use Rattle.coda_plain.proofs.Soundness.{none_joins}
+use Rattle.coda_script.specs.declared.line.Line.{Line}
+use Rattle.coda_script.specs.declared.line.Line.TheVariants as line
+use Rattle.coda_script.specs.declared.reply.Reply.{Reply}
+use Rattle.coda_script.specs.declared.refusal.Refusal.{Refusal}
+use Rattle.coda_script.specs.declared.refusal.Refusal.TheVariants as names
+use Rattle.coda_script.specs.declared.reply.Arg.{Arg}
+use Rattle.coda_script.specs.declared.reply.Reply.TheVariants as replies
+use Rattle.coda_script.specs.declared.line.Strength.{Strength}
+use Rattle.coda_cell.specs.State.{CellState, Event, Entered, after, after_all, at_client}
+use Rattle.coda_cell.specs.Sending.{Freezing, freezing, Ruling, ruling, Taking, taking, deeds_at, entries_at, reply_answer}
+use Rattle.coda_cell.specs.Made.{MadeCell, state_of, grown_all, plain_answer}
+use Rattle.coda_cell.specs.Messages.{over, posting, going_by, sends_of, ruled_in, reply_taken, taken_in}
+use Rattle.coda_cell.specs.Refusing.{refusal}
+use Rattle.coda_cell.specs.Runs.{IsKept, AreNumbered, MakesNumbered}
+use Rattle.coda_cell.specs.Steps.{reply_to, Doing, Unless, first_missing, on_volume, on_holder, client_named, server_named, holder_named, no_volume, no_client, BySend, ByRuling, ByTaking, Comes, link_down, Delivers, Loses, Does}
+use Rattle.coda_cell.specs.declared.refused.Refused.{Refused}
+use Rattle.coda_cell.specs.declared.refused.Refused.TheVariants as refused
+use Rattle.coda_cell.proofs.CarriedLetters.{posting_after}
+use Rattle.coda_cell.proofs.KeptLetters.{IsWaiting, waits}
+use Rattle.coda_cell.proofs.KeptLines.{lines_keep_cells}
+use Rattle.coda_cell.proofs.Moving.{after_both}
+use Rattle.coda_stored.specs.Cells.{StoredCell}
+use Rattle.coda_stored.specs.Kept.{whole, IsStoredKept}
+use Rattle.coda_stored.specs.Lines.{Stop}
+use Rattle.coda_runs.specs.Lettered.{answer_with, answer_told, WaitsUnder, WentAs, SendTells, CameFor, DeliveryTells, LossTells, TellsLetters, RepliesNameLetters, IsSo, LettersSayWhatIsSo}
+use Rattle.coda_runs.proofs.Coming.{leaves_letters, touches_letters, ComesTo, Acted, Aside, line_comes}
+use Rattle.coda_runs.proofs.Meeting.{met, met_kept, ShowsAs, Ends, WasDown, DidAll, LackedRoom, HadFault}
+use Rattle.coda_runs.proofs.Running.{always_kept}
+use Rattle.coda_runs.proofs.Unlettered.{entries_stay, stopped_entries, task_entries, line_first}
+
+-- ---- letters by their numbers
+
+abbrev some : {A : Type 0} → A → Option A
+some x = Some x
+
+abbrev none : {A : Type 0} → Option A
+none = None
+
+at_first : (l : ℕ × Sent) (waiting : Waiting) (number : ℕ) → number ≡ l.0 → sent_at number (l ∷ waiting) ≡ Some l.1
+at_first l waiting number e = rw (eq-eqb number l.0 e) refl
+
+at_later : (l : ℕ × Sent) (waiting : Waiting) (number : ℕ) → (number ≡ l.0 → ⊥) → sent_at number (l ∷ waiting) ≡ sent_at number waiting
+at_later l waiting number ne = rw (ne_eqb number l.0 ne) refl
+
+abbrev AreUpTo : ℕ → Waiting → Type 0
+AreUpTo last [] = Unit {0}
+AreUpTo last (l ∷ waiting) = (l.0 ≤ last) × AreUpTo last waiting
+
+up_to : (before last : ℕ) (waiting : Waiting) → AreNumbered before last waiting → AreUpTo last waiting
+up_to before last [] numbered = tt
+up_to before last (l ∷ waiting) numbered = (numbered.1, up_to l.0 last waiting numbered.2)
+
+drop_up_to : (last count : ℕ) (waiting : Waiting) → AreUpTo last waiting → AreUpTo last (drop count waiting)
+drop_up_to last zero waiting all = all
+drop_up_to last (suc count) [] all = tt
+drop_up_to last (suc count) (l ∷ waiting) all = drop_up_to last count waiting all.1
+
+new_at : (last : ℕ) (waiting : Waiting) (sent : Sent) → AreUpTo last waiting → sent_at (last + 1) (waiting ++ (last + 1, sent) ∷ []) ≡ Some sent
+new_at last [] sent all = at_first (last + 1, sent) [] (last + 1) refl
+new_at last (l ∷ waiting) sent all = at_later l (waiting ++ (last + 1, sent) ∷ []) (last + 1) (λ same. omega (arith, same, all.0)) ∙ new_at last waiting sent all.1
+
+posted_at : (last : ℕ) (waiting : Waiting) (sent : Sent) → AreNumbered 0 last waiting → WaitsUnder (with_sent (last + 1) sent waiting) (last + 1) sent
+posted_at last waiting sent numbered = record { waits = sent; at = new_at last (drop (lost_by sent waiting) waiting) sent (drop_up_to last (lost_by sent waiting) waiting (up_to 0 last waiting numbered)); same = refl }
+
+none_above : (before last : ℕ) (waiting : Waiting) → AreNumbered before last waiting → (number : ℕ) → number ≤ before → sent_at number waiting ≡ None
+none_above before last [] numbered number low = refl
+none_above before last (l ∷ waiting) numbered number low = (let above = numbered.0 in at_later l waiting number (λ same. omega (arith, same, above, low)) ∙ none_above l.0 last waiting numbered.2 number (omega (arith, above, low)))
+
+lost_at : (before last : ℕ) (waiting : Waiting) (number : ℕ) → AreNumbered before last waiting → sent_at number (without number waiting) ≡ None
+lost_at before last [] number numbered = refl
+lost_at before last (l ∷ waiting) number numbered = elim (cases_Bool (nat_eq number l.0)) [
+  | inl that ↦
+      let low : number ≤ l.0 = omega (arith, eqb-true number l.0 that) in
+      ap (λ b. sent_at number (cond b waiting (l ∷ without number waiting))) that ∙ none_above l.0 last waiting numbered.2 number low
+  | inr other ↦
+      ap (λ b. sent_at number (cond b waiting (l ∷ without number waiting))) other ∙ (ap (λ b. cond b (some l.1) (sent_at number (without number waiting))) other ∙ lost_at l.0 last waiting number numbered.2)
+]
+
+-- ---- the letter that says it already
+
+both_true : (a b : Bool) → (a && b) ≡ true → (a ≡ true) × (b ≡ true)
+both_true true b e = (refl, e)
+both_true false b e = cc
+
+-- a letter to the server with these bytes
+sent_so : (client server volume number : ℕ) (span : List Record) (l : Letter) → (let sent = ChunkSent client server volume number span in l.lossy ≡ true → is_sent client server (bytes_of sent) l ≡ true → l ≡ letter_of sent)
+sent_so client server volume number span l lossy e =
+    let bytes = bytes_of (ChunkSent client server volume number span) in
+    let a = both_true l.to_server ((client == l.client) && ((server == l.server) && pointwise nat_eq l.bytes bytes)) e in
+    let b = both_true (client == l.client) ((server == l.server) && pointwise nat_eq l.bytes bytes) a.1 in
+    let c = both_true (server == l.server) (pointwise nat_eq l.bytes bytes) b.1 in
+    let client_is = sym (eqb-true client l.client b.0) in
+    let server_is = sym (eqb-true server l.server c.0) in
+    let bytes_are = (bytes_decides l.bytes bytes).0 c.1 in
+    (λ i. record { client = client_is i; server = server_is i; to_server = a.0 i; lossy = lossy i; bytes = bytes_are i })
+
+is_some : (x y : ℕ) → (let o : Option ℕ = Some x in o ≡ Some y) → x ≡ y
+is_some x y e = cc
+
+found_at : (before last : ℕ) (waiting : Waiting) → AreNumbered before last waiting → (client server volume number : ℕ) (span : List Record) (message : ℕ)
+    → (let sent = ChunkSent client server volume number span in number_of sent waiting ≡ Some message → (before < message) × WaitsUnder waiting message sent)
+found_at before last [] numbered client server volume number span message e = cc
+found_at before last (l ∷ waiting) numbered client server volume number span message e =
+    let sent = ChunkSent client server volume number span in
+    elim (cases_Bool (is_sent client server (bytes_of sent) (letter_of l.1))) [
+      | inl that ↦
+          let is = is_some message l.0 (sym e ∙ ap (λ b. cond b (Some l.0) (number_of sent waiting)) that) in
+          let above = numbered.0 in
+          (omega (arith, above, is), record { waits = l.1; at = at_first l waiting message is; same = sent_so client server volume number span (letter_of l.1) refl that })
+      | inr other ↦
+          let rest = found_at l.0 last waiting numbered.2 client server volume number span message (sym (ap (λ b. cond b (Some l.0) (number_of sent waiting)) other) ∙ e) in
+          let above = numbered.0 in
+          let higher = rest.0 in
+          (omega (arith, above, higher), record { waits = rest.1.waits; at = at_later l waiting message (λ same. omega (arith, same, higher)) ∙ rest.1.at; same = rest.1.same })
+    ]
+
+no_some : {A : Type 0} (o : Option A) (x : A) → o ≡ None → o ≡ Some x → ⊥
+no_some o x none some = cc
+
+-- a letter that waits has a number above those before it
+above : (before last : ℕ) (waiting : Waiting) → AreNumbered before last waiting → (number : ℕ) (sent : Sent) → sent_at number waiting ≡ Some sent → before < number
+above before last [] numbered number sent e = cc
+above before last (l ∷ waiting) numbered number sent e = elim (nat_eq number l.0) as (λ b. nat_eq number l.0 ≡ b → cond b (Some l.1) (sent_at number waiting) ≡ Some sent → before < number) [
+  | true ↦ λ that is. (let first = numbered.0 in let same = eqb-true number l.0 that in omega (arith, first, same))
+  | false ↦ λ other is. (let first = numbered.0 in let more = above l.0 last waiting numbered.2 number sent is in omega (arith, first, more))
+] refl e
+
+-- the first letter has the least number
+first_is_least : (before last : ℕ) (l : ℕ × Sent) (waiting : Waiting) → AreNumbered before last (l ∷ waiting) → (number : ℕ) (sent : Sent) → sent_at number (l ∷ waiting) ≡ Some sent → l.0 ≤ number
+first_is_least before last l waiting numbered number sent e = elim (nat_eq number l.0) as (λ b. nat_eq number l.0 ≡ b → cond b (Some l.1) (sent_at number waiting) ≡ Some sent → l.0 ≤ number) [
+  | true ↦ λ that is. (let same = eqb-true number l.0 that in omega (arith, same))
+  | false ↦ λ other is. (let more = above l.0 last waiting numbered.2 number sent is in omega (arith, more))
+] refl e
+
+-- a chunk's letter is found by its own ends and bytes
+itself : (client server volume number : ℕ) (span : List Record) (l : Letter) → (let sent = ChunkSent client server volume number span in l ≡ letter_of sent → is_sent client server (bytes_of sent) l ≡ true)
+itself client server volume number span l e =
+    let sent = ChunkSent client server volume number span in
+    ap (is_sent client server (bytes_of sent)) e ∙ rw (eq-eqb client client refl, eq-eqb server server refl, (bytes_decides (bytes_of sent) (bytes_of sent)).1 refl) refl
+
+-- a letter that says the chunk is found, and its number is at most that of any letter which says it
+pub record IsFound (waiting : Waiting) (sent : Sent) (most : ℕ) : Type 0 where
+  pub message : ℕ
+  pub is : number_of sent waiting ≡ Some message
+  pub least : message ≤ most
+
+finds : (before last : ℕ) (waiting : Waiting) → AreNumbered before last waiting → (client server volume number : ℕ) (span : List Record) (most : ℕ)
+    → (let sent = ChunkSent client server volume number span in WaitsUnder waiting most sent → IsFound waiting sent most)
+finds before last [] numbered client server volume number span most w = absurd (no_some (none {A = Sent}) w.waits refl w.at)
+finds before last (l ∷ waiting) numbered client server volume number span most w =
+    let sent = ChunkSent client server volume number span in
+    elim (cases_Bool (is_sent client server (bytes_of sent) (letter_of l.1))) [
+      | inl that ↦ record {
+        message = l.0;
+        is = ap (λ b. cond b (Some l.0) (number_of sent waiting)) that;
+        least = first_is_least before last l waiting numbered most w.waits w.at;
+      }
+      | inr other ↦
+          let later : most ≡ l.0 → ⊥ = λ same. (
+          let both : some l.1 ≡ some w.waits = sym (at_first l waiting most same) ∙ w.at in
+          let is : l.1 ≡ w.waits = cc in
+          false≢true (sym other ∙ itself client server volume number span (letter_of l.1) (ap letter_of is ∙ w.same))
+          ) in
+          let rest = finds l.0 last waiting numbered.2 client server volume number span most (record { waits = w.waits; at = sym (at_later l waiting most later) ∙ w.at; same = w.same }) in
+          record { message = rest.message; is = ap (λ b. cond b (Some l.0) (number_of sent waiting)) other ∙ rest.is; least = rest.least }
+    ]
+
+-- ---- a letter that is lost
+
+others_wait : (waiting : Waiting) (message other : ℕ) → other ≢ message → sent_at other (without message waiting) ≡ sent_at other waiting
+others_wait [] message other ne = refl
+others_wait (l ∷ waiting) message other ne = elim (cases_Bool (nat_eq message l.0)) [
+  | inl that ↦ ap (λ b. sent_at other (cond b waiting (l ∷ without message waiting))) that ∙ sym (at_later l waiting other (λ same. ne (same ∙ sym (eqb-true message l.0 that))))
+  | inr not ↦ ap (λ b. sent_at other (cond b waiting (l ∷ without message waiting))) not ∙ ap (λ o. cond (nat_eq other l.0) (some l.1) o) (others_wait waiting message other ne)
+]
+
+-- ---- what happens before a letter is posted
+
+abbrev IsAsBefore : CellState → CellState → Type 0
+IsAsBefore s t = (t.waiting ≡ s.waiting) × (t.posted ≡ s.posted)
+
+deeds_leave : (s : CellState) (client : ℕ) (entries : List ClientEntry) → IsAsBefore s (after_all s (map (at_client client) entries))
+deeds_leave s client [] = (refl, refl)
+deeds_leave s client (entry ∷ entries) = deeds_leave (after s (at_client client entry)) client entries
+
+entries_leave : (s : CellState) (server volume : ℕ) (entries : List ReplicaEntry) → IsAsBefore s (after_all s (entries_at server volume entries))
+entries_leave s server volume [] = (refl, refl)
+entries_leave s server volume (entry ∷ entries) = entries_leave (after s (Entered (AtReplica server volume entry))) server volume entries
+
+-- what waits once a letter was posted
+posting_leaves : (s t : CellState) (sent : Sent) → IsAsBefore s t → (after_all t (posting sent s.waiting)).waiting ≡ with_sent (s.posted + 1) sent s.waiting
+posting_leaves s t sent even =
+    ap (λ w. (after_all t (posting sent w)).waiting) (sym even.0) ∙ (ap (λ (c : CellState). c.waiting) (posting_after t sent) ∙ (λ i. with_sent (even.1 i + 1) sent (even.0 i)))
+
+posted_stay : (s : CellState) (first : List Event) (sent : Sent) → IsAsBefore s (after_all s first) → (after_all s (first ++ posting sent s.waiting)).waiting ≡ with_sent (s.posted + 1) sent s.waiting
+posted_stay s first sent even = ap (λ (c : CellState). c.waiting) (after_both s first (posting sent s.waiting)) ∙ posting_leaves s (after_all s first) sent even
+
+posted_behind : (s : CellState) (first : List Event) (sent : Sent) → IsAsBefore s (after_all s first) → AreNumbered 0 s.posted s.waiting → WaitsUnder (after_all s (first ++ posting sent s.waiting)).waiting (s.posted + 1) sent
+posted_behind s first sent even numbered = subst (λ w. WaitsUnder w (s.posted + 1) sent) (sym (posted_stay s first sent even)) (posted_at s.posted s.waiting sent numbered)
+
+none_stay : (s : CellState) (first : List Event) → IsAsBefore s (after_all s first) → (after_all s (first ++ [])).waiting ≡ s.waiting
+none_stay s first even = ap (λ (c : CellState). c.waiting) (after_both s first []) ∙ even.0
+
+-- ---- lines
+
+-- what the reply to a delivered chunk tells is the answer
+told_back : (answer : Answer) → answer_told (reply_answer answer) ≡ answer
+told_back answers.Applied = refl
+told_back (answers.Conflict refused why) = refl
+told_back (answers.Behind last) = refl
+told_back (answers.Old last) = refl
+
+module _ (s : CellState) (numbered : AreNumbered 0 s.posted s.waiting) where
+  abbrev behind_of : List Event → Waiting
+  behind_of events = (after_all s events).waiting
+
+  nothing_stays : (events : List Event) → events ≡ [] → behind_of events ≡ s.waiting
+  nothing_stays events none = ap behind_of none
+
+  went : (first : List Event) (client server volume number : ℕ) (span : List Record) (o : Option ℕ) → (let sent = ChunkSent client server volume number span in IsAsBefore s (after_all s first) → number_of sent s.waiting ≡ o
+      → WentAs client volume server number (going_by o sent s).message s.waiting (behind_of (first ++ (going_by o sent s).events)))
+  went first client server volume number span (Some message) even is =
+      let sent = ChunkSent client server volume number span in record {
+        span = span;
+        goes = subst (λ w. WaitsUnder w message sent) (sym (none_stay s first even)) (found_at 0 s.posted s.waiting numbered client server volume number span message is).1;
+        once = λ before w. (
+            let found = finds 0 s.posted s.waiting numbered client server volume number span before w in
+            let same = is_some message found.message (sym is ∙ found.is) in
+            let least = found.least in
+            (none_stay s first even, omega (arith, same, least))
+            );
+      }
+  went first client server volume number span None even is = record {
+    span = span;
+    goes = posted_behind s first (ChunkSent client server volume number span) even numbered;
+    once = λ before w. (
+        let found = finds 0 s.posted s.waiting numbered client server volume number span before w in
+        absurd (no_some (number_of (ChunkSent client server volume number span) s.waiting) found.message is found.is)
+        );
+  }
+
+  sends_tell : (client volume server : ℕ) (o : Result Freezing Refused) → SendTells client volume server (reply_to (sends_of s client volume server o).said) s.waiting (behind_of (sends_of s client volume server o).events)
+  sends_tell client volume server (Err why) = refl
+  sends_tell client volume server (Ok f) =
+      let sent = ChunkSent client server volume f.number f.span in
+      went (deeds_at client volume f.deeds) client server volume f.number f.span (number_of sent s.waiting) (deeds_leave s client (map (Did volume) f.deeds)) refl
+
+  send_tells : (client volume server window : ℕ) (o : Option Refused) (reply : Reply) (events : List Event) → Unless o (BySend s client volume server window) reply events → SendTells client volume server reply s.waiting (behind_of events)
+  send_tells client volume server window (Some why) reply events does = subst (λ r. SendTells client volume server r s.waiting (behind_of events)) (sym does.0) (nothing_stays events does.1)
+  send_tells client volume server window None reply events did =
+      let frozen = over (s.links client server) (freezing s.clock window server (did.client.volumes volume)) in
+      subst (λ r. SendTells client volume server r s.waiting (behind_of events)) (sym did.answered)
+      (subst (λ es. SendTells client volume server (reply_to (sends_of s client volume server frozen).said) s.waiting (behind_of es)) (sym did.happened) (sends_tell client volume server frozen))
+
+  rulings_tell : (client server volume number message : ℕ) (span : List Record) (o : Result Ruling Refused) → sent_at message s.waiting ≡ Some (ChunkSent client server volume number span)
+      → DeliveryTells message (reply_to (ruled_in s client server volume number o).said) s.waiting (behind_of (ruled_in s client server volume number o).events)
+  rulings_tell client server volume number message span (Err why) came = refl
+  rulings_tell client server volume number message span (Ok ruled) came =
+      let sent = AnswerSent server client volume number ruled.answer in
+      let even = entries_leave s server volume ruled.entries in
+      subst (CameFor s.waiting (behind_of (entries_at server volume ruled.entries ++ posting sent s.waiting)) message number (s.posted + 1)) (sym (told_back ruled.answer))
+      (record {
+        client = client;
+        server = server;
+        volume = volume;
+        span = span;
+        came = came;
+        goes = posted_behind s (entries_at server volume ruled.entries) sent even numbered;
+        stays = posted_stay s (entries_at server volume ruled.entries) sent even;
+      })
+
+  brought : (client server volume number message : ℕ) (answer : Answer) (new : Waiting) → sent_at message s.waiting ≡ Some (AnswerSent server client volume number answer) → new ≡ s.waiting → DeliveryTells message (reply_taken number answer) s.waiting new
+  brought client server volume number message answers.Applied new came stays = record { client = client; server = server; volume = volume; came = came; stays = stays }
+  brought client server volume number message (answers.Conflict refused why) new came stays = record { client = client; server = server; volume = volume; came = came; stays = stays }
+  brought client server volume number message (answers.Behind last) new came stays = record { client = client; server = server; volume = volume; came = came; stays = stays }
+  brought client server volume number message (answers.Old last) new came stays = record { client = client; server = server; volume = volume; came = came; stays = stays }
+
+  takings_tell : (client server volume number message : ℕ) (answer : Answer) (o : Result Taking Refused) → sent_at message s.waiting ≡ Some (AnswerSent server client volume number answer)
+      → DeliveryTells message (reply_to (taken_in client volume number answer o).said) s.waiting (behind_of (taken_in client volume number answer o).events)
+  takings_tell client server volume number message answer (Err why) came = refl
+  takings_tell client server volume number message answer (Ok took) came =
+      brought client server volume number message answer (behind_of (deeds_at client volume took.deeds)) came (deeds_leave s client (map (Did volume) took.deeds)).0
+
+  refused_tells : (message : ℕ) (why : Refused) (reply : Reply) (events : List Event) → (reply ≡ refusal why) × (events ≡ []) → DeliveryTells message reply s.waiting (behind_of events)
+  refused_tells message why reply events does = subst (λ r. DeliveryTells message r s.waiting (behind_of events)) (sym does.0) (nothing_stays events does.1)
+
+  chunk_tells : (client server volume number message : ℕ) (span : List Record) (o : Option Refused) (reply : Reply) (events : List Event) → sent_at message s.waiting ≡ Some (ChunkSent client server volume number span)
+      → Unless o (ByRuling s client server volume number span) reply events → DeliveryTells message reply s.waiting (behind_of events)
+  chunk_tells client server volume number message span (Some why) reply events came does = refused_tells message why reply events does
+  chunk_tells client server volume number message span None reply events came did =
+      let ruled = ruling client number span did.replica in
+      subst (λ r. DeliveryTells message r s.waiting (behind_of events)) (sym did.answered)
+      (subst (λ es. DeliveryTells message (reply_to (ruled_in s client server volume number ruled).said) s.waiting (behind_of es)) (sym did.happened) (rulings_tell client server volume number message span ruled came))
+
+  answer_tells : (client server volume number message : ℕ) (answer : Answer) (o : Option Refused) (reply : Reply) (events : List Event) → sent_at message s.waiting ≡ Some (AnswerSent server client volume number answer)
+      → Unless o (ByTaking s client volume number answer) reply events → DeliveryTells message reply s.waiting (behind_of events)
+  answer_tells client server volume number message answer (Some why) reply events came does = refused_tells message why reply events does
+  answer_tells client server volume number message answer None reply events came did =
+      let took = taking number answer (did.client.volumes volume) in
+      subst (λ r. DeliveryTells message r s.waiting (behind_of events)) (sym did.answered)
+      (subst (λ es. DeliveryTells message (reply_to (taken_in client volume number answer took).said) s.waiting (behind_of es)) (sym did.happened) (takings_tell client server volume number message answer took came))
+
+  comes_tell : (message : ℕ) (sent : Sent) (reply : Reply) (events : List Event) → sent_at message s.waiting ≡ Some sent → Comes s sent reply events → DeliveryTells message reply s.waiting (behind_of events)
+  comes_tell message (ChunkSent client server volume number span) reply events came does = chunk_tells client server volume number message span (first_missing (on_holder s client volume server)) reply events came does
+  comes_tell message (AnswerSent server client volume number answer) reply events came does = answer_tells client server volume number message answer (first_missing (on_holder s client volume server)) reply events came does
+
+  linked_tell : (message : ℕ) (sent : Sent) (o : Option Refused) (reply : Reply) (events : List Event) → sent_at message s.waiting ≡ Some sent → Unless o (Comes s sent) reply events → DeliveryTells message reply s.waiting (behind_of events)
+  linked_tell message sent (Some why) reply events came does = refused_tells message why reply events does
+  linked_tell message sent None reply events came does = comes_tell message sent reply events came does
+
+  delivery_tells : (message : ℕ) (o : Option Sent) (reply : Reply) (events : List Event) → sent_at message s.waiting ≡ o → Delivers s message o reply events → DeliveryTells message reply s.waiting (behind_of events)
+  delivery_tells message None reply events is does = refused_tells message (refused.NoMessage message) reply events does
+  delivery_tells message (Some sent) reply events is does = linked_tell message sent (link_down (s.links (client_of sent) (server_of sent))) reply events is does
+
+  loss_tells : (message : ℕ) (o : Option Sent) (reply : Reply) (events : List Event) → sent_at message s.waiting ≡ o → Loses message o reply events → LossTells message reply s.waiting (behind_of events)
+  loss_tells message None reply events is does = subst (λ r. LossTells message r s.waiting (behind_of events)) (sym does.0) (nothing_stays events does.1)
+  loss_tells message (Some sent) reply events is does =
+      subst (λ r. LossTells message r s.waiting (behind_of events)) (sym does.0)
+      (subst (λ es. LossTells message (replies.Lost message) s.waiting (behind_of es)) (sym does.1)
+      (refl, record { sent = sent; waited = is; gone = lost_at 0 s.posted s.waiting message numbered; others = others_wait s.waiting message }))
+
+unless_stays : (cell : MadeCell) (o : Option Refused) (own : Doing) (reply : Reply) (events : List Event) → (own reply events → (grown_all cell events).waiting ≡ cell.waiting) → Unless o own reply events → (grown_all cell events).waiting ≡ cell.waiting
+unless_stays cell (Some why) own reply events rest does = ap (λ es. (grown_all cell es).waiting) does.1
+unless_stays cell None own reply events rest does = rest does
+
+-- the letters that wait behind a line, as the histories leave them
+behind : (cell : MadeCell) (said : Line) (reply : Reply) (events : List Event) → IsKept cell → MakesNumbered said → Does (state_of cell) said reply events → (after_all (state_of cell) events).waiting ≡ (grown_all cell events).waiting
+behind cell said reply events kept made does = ap (λ (c : CellState). c.waiting) (sym (lines_keep_cells cell said reply events kept made does).shown)
+
+tells : (cell : MadeCell) (said : Line) (reply : Reply) (events : List Event) → IsKept cell → Does (state_of cell) said reply events → TellsLetters said reply cell.waiting (grown_all cell events).waiting
+tells cell (line.Send client volume server window) reply events kept does =
+    subst (SendTells client volume server reply cell.waiting) (behind cell (line.Send client volume server window) reply events kept tt does)
+    (send_tells (state_of cell) kept.letters.numbered client volume server (unwrap_or window 600) (first_missing (on_holder (state_of cell) client volume server)) reply events does)
+tells cell (line.Deliver message) reply events kept does =
+    subst (DeliveryTells message reply cell.waiting) (behind cell (line.Deliver message) reply events kept tt does)
+    (delivery_tells (state_of cell) kept.letters.numbered message (sent_at message cell.waiting) reply events refl does)
+tells cell (line.Lose message) reply events kept does =
+    subst (LossTells message reply cell.waiting) (behind cell (line.Lose message) reply events kept tt does)
+    (loss_tells (state_of cell) kept.letters.numbered message (sent_at message cell.waiting) reply events refl does)
+tells cell (line.Volume volume servers area) reply events kept does = unless_stays cell (no_volume (state_of cell) volume) _ reply events (λ did. ap (λ es. (grown_all cell es).waiting) did.1) does
+tells cell (line.Client client blocks area) reply events kept does = unless_stays cell (no_client (state_of cell) client) _ reply events (λ did. ap (λ es. (grown_all cell es).waiting) did.1) does
+tells cell (line.Link client server strength) reply events kept does =
+    unless_stays cell (first_missing (client_named (state_of cell) client ∷ server_named (state_of cell) server ∷ [])) _ reply events (λ did. ap (λ es. (grown_all cell es).waiting) did.1) does
+tells cell (line.Tick seconds) reply events kept does = ap (λ es. (grown_all cell es).waiting) does.1
+tells cell (line.Task t) reply events kept does = entries_stay cell events (task_entries (state_of cell) reply events t does)
+tells cell (line.ShowVolume server volume) reply events kept does = unless_stays cell (first_missing (holder_named (state_of cell) server volume ∷ [])) _ reply events (λ did. ap (λ es. (grown_all cell es).waiting) did.1) does
+tells cell (line.ShowLog client volume) reply events kept does = unless_stays cell (first_missing (on_volume (state_of cell) client volume)) _ reply events (λ did. ap (λ es. (grown_all cell es).waiting) did.1) does
+tells cell _ reply events kept does = absurd does
+
+-- ---- a cell on disks
+
+-- a line that isn't one of the three, or whose reply is a refusal, and that leaves the letters as they are
+untouched : (said : Line) (reply : Reply) (old new : Waiting) → touches_letters said ≡ false → new ≡ old → TellsLetters said reply old new
+untouched (line.Send client volume server window) reply old new isnt same = absurd (false≢true (sym isnt))
+untouched (line.Deliver message) reply old new isnt same = absurd (false≢true (sym isnt))
+untouched (line.Lose message) reply old new isnt same = absurd (false≢true (sym isnt))
+untouched _ reply old new isnt same = same
+
+refused_so : (said : Line) (name : Refusal) (args : List Arg) (old new : Waiting) → new ≡ old → TellsLetters said (replies.Refused name args) old new
+refused_so (line.Send client volume server window) name args old new same = same
+refused_so (line.Deliver message) name args old new same = same
+refused_so (line.Lose message) name args old new same = same
+refused_so _ name args old new same = same
+
+module _ (old new : StoredCell) (kept : IsStoredKept old) (said : Line) where
+  abbrev Tells : Reply → Type 0
+  Tells reply = TellsLetters said reply old.made.waiting new.made.waiting
+
+  -- a line that is stopped at an entry posted nothing before it
+  stopped : (links : ℕ → ℕ → Strength) (own : Reply) (events : List Event) (stop : Stop events) → Does (state_of (met old links)) said own events
+      → ShowsAs (grown_all (met old links) stop.done) new.made → new.made.waiting ≡ old.made.waiting
+  stopped links own events stop does shows =
+      sym shows.waiting ∙ entries_stay (met old links) stop.done (stopped_entries events (line_first (state_of (met old links)) own events said does) stop)
+
+  all_told : (reply : Reply) (links : ℕ → ℕ → Strength) (events : List Event) → Does (state_of (met old links)) said reply events
+      → ShowsAs (grown_all (met old links) events) new.made → Tells reply
+  all_told reply links events does shows =
+      subst (TellsLetters said reply old.made.waiting) shows.waiting (tells (met old links) said reply events (met_kept old links kept) does)
+
+  refusal_told : (reply : Reply) (name : Refusal) → reply ≡ replies.Refused name [] → new.made.waiting ≡ old.made.waiting → Tells reply
+  refusal_told reply name is same = subst Tells (sym is) (refused_so said name [] old.made.waiting new.made.waiting same)
+
+  ended : (reply : Reply) → Ends old said reply new → Tells reply
+  ended reply (WasDown down is same) = refusal_told reply names.Down is (ap (λ (c : StoredCell). c.made.waiting) same)
+  ended reply (DidAll links events does shows) = all_told reply links events does shows
+  ended reply (LackedRoom at own events stop does shows is lacks same) = refusal_told reply names.JournalFull is (stopped at.links own events stop does shows)
+  ended reply (HadFault at own events stop does shows is same) = refusal_told reply names.DiskFault is (stopped at.links own events stop does shows)
+
+  came : (reply : Reply) → ComesTo old said reply new → Tells reply
+  came reply (Acted ends) = ended reply ends
+  came reply (Aside none whole leaves) = untouched said reply old.made.waiting new.made.waiting none (leaves_letters old.made new.made leaves)
+
+pub replies_name_letters : RepliesNameLetters
+replies_name_letters ls report outside cell run said reply answered new happens =
+    came cell new (always_kept ls report outside cell run) said reply (line_comes cell reply answered new said happens)
+
+-- ---- what letters say
+
+verdict_is : (verdict : Verdict) → plain_answer (answer_with verdict) ≡ Ruled verdict
+verdict_is verdicts.Applied = refl
+verdict_is (verdicts.Conflict refused why) = refl
+
+is_so : (cell : MadeCell) (sent : Sent) → IsKept cell → IsWaiting cell.acted sent → IsSo cell sent
+is_so cell (ChunkSent client server volume number span) kept there =
+    let agree = kept.sound.agree none_joins in
+    let deeds = done_on cell.acted client volume in
+    let froze = agree.sent there.message client server volume number there.there in
+    let own : span_of deeds number ≡ froze.0 = (chunks_are_numbered deeds (agree.lawful client volume)).own (record { number = number; home = server; span = froze.0 }) froze.1 in
+    subst (λ recs. In (record { number = number; home = server; span = recs }) (chunks_of deeds)) (sym (there.said ∙ own)) froze.1
+is_so cell (AnswerSent server client volume number answer) kept there = λ verdict is.
+    let agree = kept.sound.agree none_joins in
+    agree.answered there.message server client volume number verdict (there.there ∙ ap (λ a. some (PlainAnswer server client volume number a)) (ap plain_answer is ∙ verdict_is verdict))
+
+pub letters_say_what_is_so : LettersSayWhatIsSo
+letters_say_what_is_so ls report outside cell run message sent is =
+    let found = whole cell.made none_joins in
+    let kept = (always_kept ls report outside cell run).kept none_joins in
+    is_so found sent kept (waits found.acted message cell.made.waiting sent kept.letters.pooled is)

@@ -1,0 +1,133 @@
+-- What replies tell of letters, and what letters say.
+use Rattle.std.specs.Prelude.{◌≡◌, ◌≢◌, ◌≤◌, ℕ, List, Some, None}
+use Rattle.coda_fid.specs.declared.op.Record.{Record}
+use Rattle.coda_certify.specs.declared.verdict.Verdict.{Verdict}
+use Rattle.coda_certify.specs.declared.verdict.Verdict.TheVariants as verdicts
+use Rattle.coda_record.specs.declared.answer.Answer.{Answer}
+use Rattle.coda_record.specs.declared.answer.Answer.TheVariants.{Applied, Conflict, Behind, Old}
+use Rattle.coda_letters.specs.Sent.{Sent, ChunkSent, AnswerSent, client_of, server_of, Waiting, letter_of, sent_at, with_sent}
+use Rattle.coda_plain.specs.Deeds.{chunks_of}
+use Rattle.coda_plain.specs.Histories.{In}
+use Rattle.coda_plain.specs.Moves.{done_on}
+use Rattle.coda_plain.specs.Sound.{IsDecided}
+use Rattle.coda_script.specs.declared.line.Line.{Line}
+use Rattle.coda_script.specs.declared.line.Line.TheVariants as line
+use Rattle.coda_script.specs.declared.reply.Answer.{Answer as ReplyAnswer}
+use Rattle.coda_script.specs.declared.reply.Answer.TheVariants as replied
+use Rattle.coda_script.specs.declared.reply.Undecided.{Undecided}
+use Rattle.coda_script.specs.declared.reply.Undecided.TheVariants as undecided
+use Rattle.coda_script.specs.declared.reply.Reply.{Reply}
+use Rattle.coda_script.specs.declared.reply.Reply.TheVariants.{Sent as ChunkWent, Delivered, Settled, StillFrozen, Lost}
+use Rattle.coda_cell.specs.Made.{MadeCell, state_of}
+use Rattle.coda_cell.specs.Steps.{first_missing, on_holder}
+use Rattle.coda_stored.specs.Cells.{StoredCell}
+use Rattle.coda_stored.specs.Lines.{Happens}
+use Rattle.coda_runs.specs.Headline.{Always}
+
+-- ---- what a reply tells
+
+-- the answer that is a verdict
+abbrev pub answer_with : Verdict → Answer
+answer_with verdicts.Applied = Applied
+answer_with (verdicts.Conflict refused why) = Conflict refused why
+
+-- the answer to a chunk, as its delivery is replied to
+abbrev pub answer_told : ReplyAnswer → Answer
+answer_told (replied.Decided verdict) = answer_with verdict
+answer_told (replied.Behind last) = Behind last
+answer_told (replied.Old last) = Old last
+
+-- the answer that leaves a chunk frozen, as its delivery is replied to
+abbrev pub undecided_told : Undecided → Answer
+undecided_told (undecided.Behind last) = Behind last
+undecided_told (undecided.Old last) = Old last
+
+-- under a number a letter waits that is letter for letter the one of this: its ends and its bytes are the same
+pub record WaitsUnder (waiting : Waiting) (number : ℕ) (sent : Sent) : Type 0 where
+  pub waits : Sent
+  pub at : sent_at number waiting ≡ Some waits
+  pub same : letter_of waits ≡ letter_of sent
+
+-- A chunk of the client waits under the number that is named. Where a letter waited that is letter for letter this one, no letter is added
+-- or lost, and none such has a smaller number.
+pub record WentAs (client volume server number message : ℕ) (old new : Waiting) : Type 0 where
+  pub span : List Record
+  pub goes : WaitsUnder new message (ChunkSent client server volume number span)
+  pub once : (before : ℕ) → WaitsUnder old before (ChunkSent client server volume number span) → (new ≡ old) × (message ≤ before)
+
+abbrev pub SendTells : ℕ → ℕ → ℕ → Reply → Waiting → Waiting → Type 0
+SendTells client volume server (ChunkWent message number) old new = WentAs client volume server number message old new
+SendTells client volume server _ old new = new ≡ old
+
+-- A chunk came, from whom and for which volume; the answer that is told goes back to its client in a new letter, under the number that is
+-- named. The letter that came is not taken away by that.
+pub record CameFor (old new : Waiting) (message number answered : ℕ) (answer : Answer) : Type 0 where
+  pub client : ℕ
+  pub server : ℕ
+  pub volume : ℕ
+  pub span : List Record
+  pub came : sent_at message old ≡ Some (ChunkSent client server volume number span)
+  pub goes : WaitsUnder new answered (AnswerSent server client volume number answer)
+  pub stays : new ≡ with_sent answered (AnswerSent server client volume number answer) old
+
+-- the answer that is told came, and all that waited waits on
+pub record Brought (old new : Waiting) (message number : ℕ) (answer : Answer) : Type 0 where
+  pub client : ℕ
+  pub server : ℕ
+  pub volume : ℕ
+  pub came : sent_at message old ≡ Some (AnswerSent server client volume number answer)
+  pub stays : new ≡ old
+
+-- The letter that was delivered said the chunk or the answer of which the reply tells; the answer to a chunk waits under the number that
+-- the reply names.
+abbrev pub DeliveryTells : ℕ → Reply → Waiting → Waiting → Type 0
+DeliveryTells message (Delivered number answer answered) old new = CameFor old new message number answered (answer_told answer)
+DeliveryTells message (Settled number verdict) old new = Brought old new message number (answer_with verdict)
+DeliveryTells message (StillFrozen number why) old new = Brought old new message number (undecided_told why)
+DeliveryTells message _ old new = new ≡ old
+
+-- the letter of this number waited and waits no more, and all others are as they were
+pub record WasLost (message : ℕ) (old new : Waiting) : Type 0 where
+  pub sent : Sent
+  pub waited : sent_at message old ≡ Some sent
+  pub gone : sent_at message new ≡ None
+  pub others : (other : ℕ) → other ≢ message → sent_at other new ≡ sent_at other old
+
+abbrev pub LossTells : ℕ → Reply → Waiting → Waiting → Type 0
+LossTells message (Lost number) old new = (number ≡ message) × WasLost message old new
+LossTells message _ old new = new ≡ old
+
+-- what the reply to a line tells of letters, by those that waited before it and those behind it; no line but these three touches them
+abbrev pub TellsLetters : Line → Reply → Waiting → Waiting → Type 0
+TellsLetters (line.Send client volume server window) reply old new = SendTells client volume server reply old new
+TellsLetters (line.Deliver message) reply old new = DeliveryTells message reply old new
+TellsLetters (line.Lose message) reply old new = LossTells message reply old new
+TellsLetters _ reply old new = new ≡ old
+
+-- Whatever lines ran, a reply that names a letter names one in which what it tells of waits.
+abbrev pub RepliesNameLetters : Type 0
+RepliesNameLetters = Always (λ cell. (said : Line) (reply : Reply) (outside : List (List ℕ)) (new : StoredCell) → Happens cell said reply outside new → TellsLetters said reply cell.made.waiting new.made.waiting)
+
+-- ---- what a letter says
+
+-- A chunk on its way is one that its client froze for this server, of the operations that it froze; and a verdict on its way back is that
+-- of a decision.
+abbrev pub IsSo : MadeCell → Sent → Type 0
+IsSo cell (ChunkSent client server volume number span) = In (record { number = number; home = server; span = span }) (chunks_of (done_on cell.acted client volume))
+IsSo cell (AnswerSent server client volume number answer) = (verdict : Verdict) → answer ≡ answer_with verdict → IsDecided (λ s w. (cell.acted.replicas s w).history) volume client number verdict
+
+-- Whatever lines ran, what a letter says that waits is so, however long it waited and whatever else was lost or came twice.
+abbrev pub LettersSayWhatIsSo : Type 0
+LettersSayWhatIsSo = Always (λ cell. (message : ℕ) (sent : Sent) → sent_at message cell.made.waiting ≡ Some sent → IsSo cell.made sent)
+
+-- ---- the ends of a letter
+
+-- the volume of which a letter is
+abbrev pub volume_of : Sent → ℕ
+volume_of (ChunkSent client server volume number span) = volume
+volume_of (AnswerSent server client volume number answer) = volume
+
+-- Whatever lines ran, the client, the volume and the server of a letter that waits are there, so that none is refused for an actor that
+-- isn't.
+abbrev pub LettersHaveEnds : Type 0
+LettersHaveEnds = Always (λ cell. (number : ℕ) (sent : Sent) → sent_at number cell.made.waiting ≡ Some sent → first_missing (on_holder (state_of cell.made) (client_of sent) (volume_of sent) (server_of sent)) ≡ None)

@@ -1,0 +1,10 @@
+pub mod Texts
+pub mod Runs
+pub mod Headline
+pub mod Shows
+pub mod Complete
+pub mod Lettered
+pub mod Thawed
+pub mod Performed
+pub mod Shown
+pub mod Causes

@@ -1,0 +1,59 @@
+-- That what a line reads or lists is what stands at its path.
+use Rattle.std.specs.Prelude.{◌≡◌, ◌≢◌, ℕ, List, Option, Some, None}
+use Rattle.std.specs.FinMap as map
+use Rattle.coda_fid.specs.Fid.{root_of}
+use Rattle.coda_fid.specs.declared.fid.Fid.{Fid}
+use Rattle.coda_tree.specs.declared.node.Node.{Node}
+use Rattle.coda_tree.specs.declared.node.NodeKind.{NodeKind}
+use Rattle.coda_tree.specs.declared.node.NodeKind.TheVariants.{File, Link, Dir}
+use Rattle.coda_tree.specs.Bindings.{Name}
+use Rattle.coda_script.specs.declared.line.Line.TheVariants as line
+use Rattle.coda_script.specs.declared.line.Task.{Task}
+use Rattle.coda_script.specs.declared.line.Task.TheVariants as task
+use Rattle.coda_script.specs.declared.reply.Readable.TheVariants.{File as FileOf, Link as LinkTo}
+use Rattle.coda_script.specs.declared.reply.Reply.{Reply}
+use Rattle.coda_script.specs.declared.reply.Reply.TheVariants.{Read, Listed}
+use Rattle.coda_cell.specs.State.{ClientState, ReplicaState}
+use Rattle.coda_cell.specs.Made.{state_of}
+use Rattle.coda_stored.specs.Cells.{StoredCell}
+use Rattle.coda_stored.specs.Lines.{Happens}
+use Rattle.coda_runs.specs.Headline.{Always}
+use Rattle.coda_runs.specs.Performed.{Leads, HasFetched}
+
+-- whose path a line shows
+abbrev pub Looks : Task → ℕ → ℕ → List Name → Type 0
+Looks (task.Read client volume path) c v names = (client ≡ c) × (volume ≡ v) × (path ≡ names)
+Looks (task.List client volume path) c v names = (client ≡ c) × (volume ≡ v) × (path ≡ names)
+Looks _ c v names = ⊥
+
+-- the file, link or directory of which a reply shows what is in it
+abbrev pub shown_by : Reply → Option NodeKind
+shown_by (Read fetched (FileOf content)) = Some (File content)
+shown_by (Read fetched (LinkTo target)) = Some (Link target)
+shown_by (Listed fetched entries) = Some (Dir entries)
+shown_by _ = None
+
+-- the client's path leads, over what the client holds and fetched, to an object that is as it is shown; its logs and other clients stay
+pub record WasShown (t : Task) (clients behind : ℕ → Option ClientState) (replicas : ℕ → Option ReplicaState) (kind : NodeKind) : Type 0 where
+  pub client : ℕ
+  pub volume : ℕ
+  pub path : List Name
+  pub looks : Looks t client volume path
+  pub old : ClientState
+  pub new : ClientState
+  pub was : clients client ≡ Some old
+  pub is : behind client ≡ Some new
+  pub others : (other : ℕ) → other ≢ client → behind other ≡ clients other
+  pub logs : new.volumes ≡ old.volumes
+  pub fetched : HasFetched replicas volume old.held.nodes new.held.nodes
+  pub object : Fid
+  pub leads : Leads new.held.nodes (root_of volume) path object
+  pub node : Node
+  pub stands : map.get new.held.nodes object ≡ Some node
+  pub kind_is : node.kind ≡ kind
+
+-- Whatever lines ran, what a reply shows of a file, a link or a directory is in the object that the line's path leads to.
+abbrev pub WhatIsShownIsThere : Type 0
+WhatIsShownIsThere =
+    Always (λ cell. (t : Task) (reply : Reply) (outside : List (List ℕ)) (new : StoredCell) (kind : NodeKind) → Happens cell (line.Task t) reply outside new → shown_by reply ≡ Some kind
+    → WasShown t (state_of cell.made).clients (state_of new.made).clients (state_of cell.made).replicas kind)
