@@ -3,7 +3,7 @@ use Rattle.std.proofs.Common.{◌≡◌, ℕ, ◌+◌, ◌≤◌, ◌<◌, ◌^�
 use Rattle.coda_cancel.specs.Cancel.{fold}
 use Rattle.coda_engine.specs.declared.status.Kind.TheVariants.{Mode}
 use Rattle.coda_engine.specs.declared.status.Status.{Status}
-use Rattle.coda_engine.specs.declared.status.Status.TheVariants.{Done, Usage, Script, SourceFault, SinkFault, TooLong, Memory}
+use Rattle.coda_engine.specs.declared.status.Status.TheVariants.{Done, Usage, Script, SourceFault, SinkFault, TooLong, BayFault, Memory}
 use Rattle.coda_engine.specs.Run.{Runs, Ran, BrokeOff, Answers, Reports, is_at_end}
 use Rattle.coda_script.specs.declared.line.Line.{Line}
 use Rattle.coda_script.specs.declared.line.Line.TheVariants as line
@@ -188,6 +188,7 @@ answered new all read written outside (Script line column kind) a = (new, a, ran
 answered new all read written outside TooLong a = (new, a, ran_moved new false read a.0 a.1 written outside a.2)
 answered new all read written outside SourceFault a = (new, a, ran_moved new false read a.0 a.1 written outside a.2)
 answered new all read written outside SinkFault a = (new, a, broke_moved new all read a.0 a.1 written outside a.2)
+answered new all read written outside BayFault a = (a.0, a, ran_moved a.0 all read a.1.0 a.1.1 a.1.2 outside a.1.3)
 answered new all read written outside Memory a = (a.0, a, ran_moved a.0 all read a.1.0 a.1.1 a.1.2 outside a.1.3)
 answered new all read written outside Usage a = absurd a
 

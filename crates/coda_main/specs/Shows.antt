@@ -2,7 +2,7 @@
 use Rattle.std.specs.Prelude.{◌≡◌, ◌≤◌, ℕ, ⊤, ◌⊎◌, nat_lt, List, Err, if◌then◌else◌}
 use Rattle.coda_engine.specs.declared.status.Kind.{Kind}
 use Rattle.coda_engine.specs.declared.machine.LineStop.{LineStop}
-use Rattle.coda_engine.specs.declared.machine.LineStop.TheVariants.{Refused, Memory as OutOfMemory}
+use Rattle.coda_engine.specs.declared.machine.LineStop.TheVariants.{Refused, Bay, Memory as OutOfMemory}
 use Rattle.coda_script.specs.declared.fault.LineFault.{LineFault}
 use Rattle.coda_script.specs.declared.fault.LineFault.TheVariants.{BadLine, Memory}
 use Rattle.coda_script.specs.declared.line.Line.{Line}
@@ -48,6 +48,7 @@ stop_at Memory = OutOfMemory
 -- how bytes stop that say no line, or none that is built: as the cell refuses them, or for want of memory
 abbrev pub StopsSo : List ℕ → LineStop → Type 0
 StopsSo bytes (Refused fault) = (line_of bytes ≡ Err (fault.column, fault.kind)) ⊎ IsUnbuilt bytes fault.column fault.kind
+StopsSo bytes Bay = ⊥
 StopsSo bytes OutOfMemory = ⊤
 
 -- From a state a line was carried out, and its reply's text is that in each state which the cell then shows.

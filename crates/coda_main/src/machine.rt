@@ -98,7 +98,15 @@ impl Machine for CellMachine {
 
     ghost refuses = { CellRefuses };
 
+    ghost faults = { λ machine. 0 };
+
     ghost ready = { MayRun };
+
+    ghost follows = { λ a b. Unit {0} };
+
+    ghost same = { λ a. tt };
+
+    ghost then = { λ a b c f g. tt };
 
     fn run(&mut self, alloc: Global, line: &[u8]) -> Result<Vec<u8>, LineStop> {
         match built_line(alloc, line) {
