@@ -86,7 +86,7 @@ pub record IsClientUp {D : Type 0} (told : D → Told) (out : ℕ → Bool) (cel
 abbrev pub plain_clients : StoredCell → ℕ → PlainActor Payload
 plain_clients cell n = plain_client (cell.made.acted.clients n) (cell.clients n)
 
-started_up : {D : Type 0} (told : D → Told) (slot : Slot (Venus D) D) → is_up (client_form told) slot ≡ true → (header : Header) × (venus : Venus D) × (slot ≡ Started header venus) × (venus.down ≡ false)
+pub started_up : {D : Type 0} (told : D → Told) (slot : Slot (Venus D) D) → is_up (client_form told) slot ≡ true → (header : Header) × (venus : Venus D) × (slot ≡ Started header venus) × (venus.down ≡ false)
 started_up told Vacant up = absurd (false≢true up)
 started_up told (Spare disk) up = absurd (false≢true up)
 started_up told (Stopped header disk) up = absurd (false≢true up)
@@ -207,7 +207,7 @@ fits_both cell (event ∷ front) back fits more = (fits.0, fits_both (after cell
 -- ---- room
 
 -- what a disk reads as has room in its area, with a gate behind it
-reads_fit : (header : Header) (image : List ℕ) (payloads : List (List ℕ)) → Reads header image payloads → length (blocks w32 payloads) + 1 ≤ area_bytes header
+pub reads_fit : (header : Header) (image : List ℕ) (payloads : List (List ℕ)) → Reads header image payloads → length (blocks w32 payloads) + 1 ≤ area_bytes header
 reads_fit header image payloads reads =
     let held = reads.entries in
     let long = length-take (area_bytes header) (drop (start_of header image) image) in

@@ -5,3 +5,5 @@ pub mod Clocks
 pub mod Calls
 pub mod Slots
 pub mod ReplicaSites
+pub mod SpelledOffers
+pub mod Offers

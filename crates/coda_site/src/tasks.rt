@@ -151,7 +151,7 @@ fn perform<B: Bay>(
 ) -> Result<Reply, CellFault>
     requires ready { IsReady B.D.told (B.out _bay.now) site.old }
     requires volume { HasSpelling a_volume volume }
-    requires ask { IsAskSpelled (asked ask.entry) }
+    requires ask { IsAskSpelled (asked ask) }
     ensures ready { IsReady B.D.told (B.out _bay.now) site.new }
     ensures does { (cell : StoredCell) → IsStoredKept cell → IsSite B.D.told (B.out _bay.now) (B.has _bay.now) cell site.old
         → IfOk result (λ reply. Becomes B.D.told (B.out _bay.now) (B.has _bay.now) (Asks cell client volume (λ o c. operate_answer o c cell.made.clock volume (asked_as (asked ask.entry)))) reply (B.answered _bay.now) (B.answered _bay.now) site.new) }
