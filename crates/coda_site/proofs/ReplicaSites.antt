@@ -78,13 +78,31 @@ module _ {D : Type 0} (told : D → Told) (volume server : ℕ) (side : Side) (a
   pub grown_up : (old new : Replica D) (entries : List ReplicaEntry) → IsReplicaUp told volume server side actor header old → IsUp told header new (journal_at header.number (actor.history ++ entries))
       → IsReplicaHistory header (actor.history ++ entries) → IsReplicaUp told volume server side (longer entries actor) header new
   grown_up old new entries is stands lawful = record {
-    number = is.number; home = is.home; asked = is.asked; given = is.given; left = is.left; up = is.up; failed = is.failed; owner = is.owner; stands = stands; lawful = lawful;
+    number = is.number;
+    home = is.home;
+    asked = is.asked;
+    given = is.given;
+    left = is.left;
+    up = is.up;
+    failed = is.failed;
+    owner = is.owner;
+    stands = stands;
+    lawful = lawful;
   }
 
   -- it has the entries that it had
   pub same_up : (old new : Replica D) → IsReplicaUp told volume server side actor header old → IsUp told header new (journal_at header.number actor.history) → IsReplicaUp told volume server side actor header new
   same_up old new is stands = record {
-    number = is.number; home = is.home; asked = is.asked; given = is.given; left = is.left; up = is.up; failed = is.failed; owner = is.owner; stands = stands; lawful = is.lawful;
+    number = is.number;
+    home = is.home;
+    asked = is.asked;
+    given = is.given;
+    left = is.left;
+    up = is.up;
+    failed = is.failed;
+    owner = is.owner;
+    stands = stands;
+    lawful = is.lawful;
   }
 
   -- the append of an entry failed
@@ -159,27 +177,30 @@ module _ {D : Type 0} (told : D → Told) (out : ℕ → Bool) (has : ℕ → To
         let own = header_is s.header life.0 in
         let clean = kept.replicas_up place.server volume life.1 in
         let stands : IsUp told s.header s.actor (journal_at s.header.number actor_there.history) = subst (λ (n : ℕ). IsUp told s.header s.actor (journal_at n actor_there.history)) (sym own.0) s.fits.up in
-        let ruled : AreDecisions volume actor_there.history = ((kept.kept none_joins).sound.agree none_joins).ruled place.server volume in
-        (s.header, s.actor, record {
-          slot = s.is;
-          lent = s.lent;
-          up = record {
-            number = own.0;
-            home = own.1;
-            asked = life.0;
-            given = s.fits.given;
-            left = s.fits.left;
-            up = life.1;
-            failed = clean;
-            owner = s.fits.asked;
-            stands = stands;
-            lawful = record {
-              journal = stands.lawful;
-              decisions = subst (λ (n : ℕ). AreDecisions n actor_there.history) (sym own.0) ruled;
-              alone = λ entry i. kept.alone place.server volume entry (subst (λ (o : Option ReplicaEntry). In entry (joined_to actor_there.history true o)) (sym clean) i);
+        let ruled : AreDecisions volume actor_there.history = ((kept.kept none_joins).sound.agree none_joins).ruled place.server volume in (
+          s.header,
+          s.actor,
+          record {
+            slot = s.is;
+            lent = s.lent;
+            up = record {
+              number = own.0;
+              home = own.1;
+              asked = life.0;
+              given = s.fits.given;
+              left = s.fits.left;
+              up = life.1;
+              failed = clean;
+              owner = s.fits.asked;
+              stands = stands;
+              lawful = record {
+                journal = stands.lawful;
+                decisions = subst (λ (n : ℕ). AreDecisions n actor_there.history) (sym own.0) ruled;
+                alone = λ entry i. kept.alone place.server volume entry (subst (λ (o : Option ReplicaEntry). In entry (joined_to actor_there.history true o)) (sym clean) i);
+              };
             };
-          };
-        })
+          },
+        )
 
     runs : (header : Header) (replica : Replica D) (plain : PlainActor KeptEntry) → FitsUp (replica_form told) header replica plain → replica.down ≡ false
     runs header replica plain fits = fits.up.up
@@ -304,15 +325,15 @@ module _ {D : Type 0} (told : D → Told) (out : ℕ → Bool) (has : ℕ → To
     placed_at : (v s : ℕ) → cell.made.homes v ≡ Some s → plain (cell.places v) ≡ plain_replica v ((with_ruler cell place.server volume actor).made.acted.replicas s v) (cell.replicas v)
     placed_at v s made = elim (cases_eq v volume) [
       | inl same ↦ (
-        let home_of : Some s ≡ Some place.server = sym made ∙ ap cell.made.homes same ∙ home in
-        let server_is : s ≡ place.server = cc in
-        ap plain (ap cell.places same ∙ here) ∙ plain_here
-        ∙ ap (λ (a : Actor ReplicaEntry). plain_replica volume a (cell.replicas volume)) (sym (ruler_here cell place.server volume actor))
-        ∙ (λ i. plain_replica (sym same i) ((with_ruler cell place.server volume actor).made.acted.replicas (sym server_is i) (sym same i)) (cell.replicas (sym same i))))
+          let home_of : Some s ≡ Some place.server = sym made ∙ ap cell.made.homes same ∙ home in
+          let server_is : s ≡ place.server = cc in
+          ap plain (ap cell.places same ∙ here) ∙ plain_here
+          ∙ ap (λ (a : Actor ReplicaEntry). plain_replica volume a (cell.replicas volume)) (sym (ruler_here cell place.server volume actor))
+          ∙ (λ i. plain_replica (sym same i) ((with_ruler cell place.server volume actor).made.acted.replicas (sym server_is i) (sym same i)) (cell.replicas (sym same i))))
       | inr other ↦ (
-        let off : cell.places v ≢ place.disk = (λ same. other (sym (apart v s made (here ∙ sym same)))) in
-        plain_else (cell.places v) off ∙ is.replicas.1.placed v s made
-        ∙ ap (λ (b : Bool). plain_replica v (cond b actor (cell.made.acted.replicas s v)) (cell.replicas v)) (sym (and_right (s == place.server) (v == volume) (ne_eqb v volume other))))
+          let off : cell.places v ≢ place.disk = (λ same. other (sym (apart v s made (here ∙ sym same)))) in
+          plain_else (cell.places v) off ∙ is.replicas.1.placed v s made
+          ∙ ap (λ (b : Bool). plain_replica v (cond b actor (cell.made.acted.replicas s v)) (cell.replicas v)) (sym (and_right (s == place.server) (v == volume) (ne_eqb v volume other))))
     ]
 
     others_at : (number : ℕ) → ((v s : ℕ) → cell.made.homes v ≡ Some s → cell.places v ≢ number) → plain number ≡ unmade
@@ -349,7 +370,7 @@ module _ {D : Type 0} (told : D → Told) (out : ℕ → Bool) (has : ℕ → To
         let actor = longer entries (cell.made.acted.replicas place.server volume) in
         subst (λ (c : StoredCell). IsSite told out has c (with_replicas site slots)) (sym (decided_left cell place.server volume entries))
         (ruler_site actor (held actor (inl (up_fits told volume place.server (cell.replicas volume) actor header new
-            (grown_up told volume place.server (cell.replicas volume) (cell.made.acted.replicas place.server volume) header old new entries up stands lawful)))))
+        (grown_up told volume place.server (cell.replicas volume) (cell.made.acted.replicas place.server volume) header old new entries up stands lawful)))))
 
     -- nothing was added
     pub still_site : IsUp told header new (journal_at header.number (cell.made.acted.replicas place.server volume).history) → IsSite told out has cell (with_replicas site slots)

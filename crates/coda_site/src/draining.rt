@@ -1,116 +1,106 @@
 // A client sends what is pending of a volume to a replica, which decides it, and takes its answer.
+ghost use Rattle.std.specs.Prelude.{◌≡◌, ◌≢◌, ◌∷◌, ◌&&◌, not, [], true, IfOk, IfErr, Some};
+ghost use Rattle.coda_record.specs.Spelling.{HasSpelling};
+ghost use Rattle.coda_record.specs.Table.{client as a_client, server as a_server, volume as a_volume};
+ghost use Rattle.coda_script.specs.Ranges.{InRange};
+ghost use Rattle.coda_script.specs.declared.line.Line.TheVariants as line;
+ghost use Rattle.coda_script.specs.declared.line.Task.TheVariants as task;
+ghost use Rattle.coda_actors.specs.Clients.{client_form};
+ghost use Rattle.coda_actors.specs.Replicas.{replica_form};
+ghost use Rattle.coda_actors.specs.Slots.{is_up};
+ghost use Rattle.coda_crew.specs.Crews.{slot_at};
+ghost use Rattle.coda_cell.specs.Cells.{linked_in};
+ghost use Rattle.coda_stored.specs.Cells.{StoredCell};
+ghost use Rattle.coda_stored.specs.Kept.{IsStoredKept};
+ghost use Rattle.coda_stored.specs.Lines.{Happens, is_cut};
+ghost use Rattle.coda_site.specs.Drains.{Acted};
+ghost use Rattle.coda_site.specs.Sites.{IsSite, IsReady, place_in};
+ghost use Rattle.coda_site.specs.Steps.{Becomes};
+ghost use Rattle.coda_site.specs.declared.site.Place.{Place as APlace};
+
+use crate::calls::{Until, chunk_at, freeze_at, rule_at, take_at};
 use crate::fault::CellFault;
 use crate::links::strength;
 use crate::replies::{no_such_actor, refuse, refused, reply_answer, unruled};
 use crate::site::Site;
-use coda_actors::Slot;
-use coda_crew::{is_up, put, take as take_slot};
-use coda_disk::{Bay, Disk};
-use coda_record::Answer;
-use coda_replica::{Replica, ReplicaFault};
+use coda_crew::is_up;
+use coda_disk::Bay;
+use coda_net::Net;
 use coda_script::{Refusal, Reply, Strength};
-use coda_sending::{chunk_for, freeze_for, rule, take};
-use coda_venus::{Refused, Venus};
-use std::alloc::Global;
-use std::collections::BTreeMap;
+use coda_sending::can_be_posted;
 
-/// How far a log is to be sent: what is at least so old at a time, both in seconds.
-#[derive(Clone, Copy, Debug)]
-pub struct Until {
-    /// The time.
-    pub now: u64,
-    /// The age.
-    pub window: u64,
-}
-
-/// Why a chunk wasn't settled.
-pub enum Undrained {
-    /// By its client.
-    Client(Refused),
-    /// By the replica.
-    Replica(ReplicaFault),
-}
-
-// A client and a replica that are up: the client's chunk for the replica goes, is ruled on, and the client takes the answer.
-fn drained<D: Disk + Drop>(
-    until: Until,
-    client: u8,
-    volume: u32,
-    venus: &mut Venus<D>,
-    replica: &mut Replica<D>,
-) -> Result<(u64, Answer), Undrained> {
-    let chunk = match freeze_for(venus, until.now, until.window, volume, replica.server()) {
-        Ok(chunk) => chunk,
-        Err(why) => return Err(Undrained::Client(why)),
-    };
-    let answer = match rule(replica, client, chunk, chunk_for(venus, volume)) {
-        Ok(answer) => answer,
-        Err(why) => return Err(Undrained::Replica(why)),
-    };
-    match take(venus, volume, chunk, &answer) {
-        Ok(()) => Ok((chunk, answer)),
-        Err(why) => Err(Undrained::Client(why)),
+/// Whether the link between a client and a server carries something.
+pub fn is_linked(net: &Net, client: u8, server: u8) -> bool
+    ensures { result ≡ not (is_cut (linked_in net.now client server)) }
+{
+    match strength(net, client, server) {
+        Strength::Strong => true,
+        Strength::Weak => true,
+        Strength::Down => false,
     }
 }
 
-// The same of a client and a replica in their slots, which are up.
-fn drain_between<D: Disk + Drop>(
-    until: Until,
+// Whether a client and a replica are up.
+fn are_up<B: Bay>(site: &Site<B::D>, client: u8, disk: u32) -> bool
+    ensures { result ≡ (is_up (client_form B.D.told) (slot_at site.now.clients client) && is_up (replica_form B.D.told) (slot_at site.now.replicas disk)) }
+{
+    is_up(&site.clients, u32::from(client)) && is_up(&site.replicas, disk)
+}
+
+// The same of a client and a replica that are up, over a link that is up.
+fn drain_up<B: Bay>(
+    _bay: &B,
+    site: &mut Site<B::D>,
     client: u8,
     volume: u32,
-    clients: &mut BTreeMap<u32, Slot<Venus<D>, D>>,
-    replicas: &mut BTreeMap<u32, Slot<Replica<D>, D>>,
+    server: u8,
     disk: u32,
-) -> Result<(u64, Answer), Undrained> {
-    let number = u32::from(client);
-    match (take_slot(clients, number), take_slot(replicas, disk)) {
-        (
-            Slot::Started {
-                header,
-                actor: mut venus,
-            },
-            Slot::Started {
-                header: asked,
-                actor: mut replica,
-            },
-        ) => {
-            let said = drained(until, client, volume, &mut venus, &mut replica);
-            put(
-                clients,
-                number,
-                Slot::Started {
-                    header,
-                    actor: venus,
-                },
-            );
-            put(
-                replicas,
-                disk,
-                Slot::Started {
-                    header: asked,
-                    actor: replica,
-                },
-            );
-            said
-        }
-        _ => unreachable!(),
+    window: u64,
+) -> Result<Reply, CellFault>
+    requires ready { IsReady B.D.told (B.out _bay.now) site.old }
+    requires client_up { is_up (client_form B.D.told) (slot_at site.old.clients client) ≡ true }
+    requires replica_up { is_up (replica_form B.D.told) (slot_at site.old.replicas disk) ≡ true }
+    requires client { HasSpelling a_client client }
+    requires volume { HasSpelling a_volume volume }
+    requires server { HasSpelling a_server server }
+    ensures ready { IsReady B.D.told (B.out _bay.now) site.new }
+    ensures does { (cell : StoredCell) (place : APlace) → IsStoredKept cell → IsSite B.D.told (B.out _bay.now) (B.has _bay.now) cell site.old
+        → place_in site.old volume ≡ Some place → place.disk ≡ disk → place.server ≡ server → not (is_cut (linked_in site.old.net client server)) ≡ true
+        → IfOk result (λ reply. Acted B.D.told (B.out _bay.now) (B.has _bay.now) cell (line.Task (task.Drain client volume server (Some window))) reply site.new) }
+    ensures memory { IfErr result (λ why. why ≡ CellFault.Memory) }
+{
+    let until = Until {
+        now: site.clock,
+        window,
+    };
+    let chunk = match freeze_at(until, client, volume, server, &mut site.clients) {
+        Ok(chunk) => chunk,
+        Err(why) => return refused(site.alloc, why),
+    };
+    let recs = chunk_at(&site.clients, client, volume);
+    let answer = match rule_at(&mut site.replicas, disk, client, chunk, recs) {
+        Ok(answer) => answer,
+        Err(why) => return unruled(site.alloc, why),
+    };
+    // What a replica answers can be posted, and kept.
+    if !can_be_posted(&answer) {
+        return Err(CellFault::Memory);
     }
-}
-
-// The reply to a drain.
-fn said_of(alloc: Global, said: Result<(u64, Answer), Undrained>) -> Result<Reply, CellFault> {
-    match said {
-        Ok((chunk, answer)) => Ok(Reply::Drained {
+    match take_at(&mut site.clients, client, volume, chunk, &answer) {
+        Ok(()) => Ok(Reply::Drained {
             chunk,
             answer: reply_answer(answer),
         }),
-        Err(Undrained::Client(why)) => refused(alloc, why),
-        Err(Undrained::Replica(why)) => unruled(alloc, why),
+        Err(why) => refused(site.alloc, why),
     }
 }
 
 /// Sends what is pending of a client's volume to the server that holds it, unless one of the three isn't there, the client or the replica
 /// is down, or the link.
+///
+/// # Errors
+///
+/// `Memory` alone.
 pub fn drain<B: Bay>(
     _bay: &B,
     site: &mut Site<B::D>,
@@ -118,32 +108,26 @@ pub fn drain<B: Bay>(
     volume: u32,
     server: u8,
     window: u64,
-) -> Result<Reply, CellFault> {
+) -> Result<Reply, CellFault>
+    requires ready { IsReady B.D.told (B.out _bay.now) site.old }
+    requires range { InRange (line.Task (task.Drain client volume server (Some window))) }
+    ensures ready { IsReady B.D.told (B.out _bay.now) site.new }
+    ensures does { (cell : StoredCell) → IsStoredKept cell → IsSite B.D.told (B.out _bay.now) (B.has _bay.now) cell site.old
+        → IfOk result (λ reply. Becomes B.D.told (B.out _bay.now) (B.has _bay.now) (Happens cell (line.Task (task.Drain client volume server (Some window))))
+        reply (B.answered _bay.now) (B.answered _bay.now) site.new) }
+    ensures memory { IfErr result (λ why. why ≡ CellFault.Memory) }
+{
     if let Some(number) = site.missing_holder(client, volume, server) {
         return Ok(no_such_actor(site.alloc, number)?);
     }
     let Some(place) = site.place(volume) else {
         unreachable!()
     };
-    if !is_up(&site.clients, u32::from(client)) || !is_up(&site.replicas, place.disk) {
+    if !are_up::<B>(site, client, place.disk) {
         return Ok(refuse(site.alloc, Refusal::Down));
     }
-    match strength(&site.net, client, server) {
-        Strength::Strong => {}
-        Strength::Weak => {}
-        Strength::Down => return Ok(refuse(site.alloc, Refusal::LinkDown)),
+    if !is_linked(&site.net, client, server) {
+        return Ok(refuse(site.alloc, Refusal::LinkDown));
     }
-    let until = Until {
-        now: site.clock,
-        window,
-    };
-    let said = drain_between(
-        until,
-        client,
-        volume,
-        &mut site.clients,
-        &mut site.replicas,
-        place.disk,
-    );
-    said_of(site.alloc, said)
+    drain_up(_bay, site, client, volume, server, place.disk, window)
 }

@@ -2,6 +2,7 @@
 //! way, and what each line of a script does.
 #![tactic(auto)]
 
+mod calls;
 mod cell;
 mod draining;
 mod failing;

@@ -1,70 +1,139 @@
 // Letters between clients and replicas: a client sends a chunk, and what was sent is delivered or lost.
-use crate::draining::Until;
+ghost use Rattle.std.specs.Prelude.{◌≡◌, ◌<◌, ◌^◌, ◌≢◌, ◌∷◌, [], ◌++◌, List, not, true, IfOk, IfErr, Some};
+ghost use Rattle.coda_fid.specs.declared.op.Record.{Record as ARecord};
+ghost use Rattle.coda_record.specs.Form.{four};
+ghost use Rattle.coda_record.specs.Spelling.{HasSpelling};
+ghost use Rattle.coda_record.specs.Table.{client as a_client, server as a_server, volume as a_volume};
+ghost use Rattle.coda_wire.specs.Table.{message as a_message};
+ghost use Rattle.coda_wire.specs.declared.message.Message.TheVariants.{Chunk, Verdict};
+ghost use Rattle.coda_letters.specs.Sent.{ChunkSent, AnswerSent};
+ghost use Rattle.coda_letters.specs.declared.fault.LetterFault.TheVariants as letter_faults;
+ghost use Rattle.coda_plain.specs.Decisions.{sent_of};
+ghost use Rattle.coda_script.specs.Ranges.{InRange};
+ghost use Rattle.coda_script.specs.declared.line.Line.TheVariants as line;
+ghost use Rattle.coda_actors.specs.Clients.{client_form};
+ghost use Rattle.coda_actors.specs.Replicas.{replica_form};
+ghost use Rattle.coda_actors.specs.Slots.{is_up};
+ghost use Rattle.coda_crew.specs.Crews.{slot_at};
+ghost use Rattle.coda_cell.specs.Cells.{linked_in};
+ghost use Rattle.coda_cell.specs.Letters.{letter_refused_as};
+ghost use Rattle.coda_cell.specs.Refusing.{refusal};
+ghost use Rattle.coda_stored.specs.Cells.{StoredCell};
+ghost use Rattle.coda_stored.specs.Kept.{IsStoredKept};
+ghost use Rattle.coda_stored.specs.Lines.{Happens, is_cut};
+ghost use Rattle.coda_site.specs.Calls.{IsRunning, IsShown};
+ghost use Rattle.coda_site.specs.Drains.{Acted, Came, CameTo, PostsChunk};
+ghost use Rattle.coda_site.specs.Sites.{IsSite, IsReady, place_in};
+ghost use Rattle.coda_site.specs.Steps.{Becomes};
+ghost use Rattle.coda_site.specs.declared.site.Place.{Place as APlace};
+
+use crate::calls::{Until, chunk_at, freeze_at, rule_at, take_at};
+use crate::draining::is_linked;
 use crate::fault::CellFault;
-use crate::links::strength;
 use crate::replies::{
     no_such_actor, refuse, refuse_number, refused, reply_answer, reply_taken, unruled,
 };
 use crate::site::Site;
 use coda_actors::Slot;
-use coda_crew::{is_up, put, take as take_slot};
+use coda_crew::is_up;
 use coda_disk::{Bay, Disk};
 use coda_fid::Record;
-use coda_letters::{LetterFault, deliver as read_letter, lose as lose_letter, post_answer, send_chunk};
+use coda_letters::{
+    LetterFault, deliver as read_letter, lose as lose_letter, post_answer, send_chunk,
+};
 use coda_net::Net;
 use coda_record::Answer;
-use coda_replica::{Replica, ReplicaFault};
-use coda_script::{Refusal, Reply, Strength};
-use coda_sending::{can_be_posted, chunk_for, freeze_for, rule, take};
-use coda_venus::{Refused, Venus};
+use coda_script::{Refusal, Reply};
+use coda_sending::can_be_posted;
+use coda_venus::Venus;
 use coda_wire::Message;
 use std::alloc::Global;
 use std::collections::BTreeMap;
 
+/// The greatest number of a chunk.
+const GREATEST_CHUNK: u64 = 4_294_967_295;
+
 // ---- a client sends
 
-// Sends the chunk of a client that is frozen for a server, or that is frozen now, over a link that is up: the numbers of the letter and of
-// the chunk.
-fn send_from<D: Disk + Drop>(
+// Posts the chunk of a client that is up, over a link that is up, where it has a number that can be told: the number of its letter.
+fn post_chunk<D: Disk>(
     alloc: Global,
     net: &mut Net,
-    until: Until,
+    clients: &BTreeMap<u32, Slot<Venus<D>, D>>,
     client: u8,
     volume: u32,
     server: u8,
-    venus: &mut Venus<D>,
-) -> Result<(u64, u64), Refused> {
-    let chunk = freeze_for(venus, until.now, until.window, volume, server)?;
-    let recs = chunk_for(venus, volume);
+    chunk: u64,
+) -> Result<u64, CellFault>
+    requires up { is_up (client_form D.told) (slot_at clients.now client) ≡ true }
+    requires runs { IsRunning D.told client clients.now }
+    requires client { HasSpelling a_client client }
+    requires volume { HasSpelling a_volume volume }
+    requires server { HasSpelling a_server server }
+    requires few { net.old.posted < 2 ^ 63 }
+    ensures posts { IfOk result (λ message. PostsChunk D.told client volume server chunk clients.now net.old net.new message) }
+    ensures links { net.new.links ≡ net.old.links }
+    ensures memory { IfErr result (λ why. why ≡ CellFault.Memory) }
+{
+    let recs = chunk_at(clients, client, volume);
+    if chunk == 0 || chunk > GREATEST_CHUNK {
+        return Err(CellFault::Memory);
+    }
     match send_chunk(alloc, net, client, server, volume, chunk, recs) {
-        Ok(message) => Ok((message, chunk)),
+        Ok(message) => Ok(message),
         // The link is up.
-        Err(_) => Err(Refused::Memory),
+        Err(_) => Err(CellFault::Memory),
     }
 }
 
-// The same of a client in its slot, which is up.
-fn send_at<D: Disk + Drop>(
-    alloc: Global,
-    net: &mut Net,
-    until: Until,
+// Sends what a client that is up has of a volume, over a link that is up.
+fn send_up<B: Bay>(
+    _bay: &B,
+    site: &mut Site<B::D>,
     client: u8,
     volume: u32,
     server: u8,
-    clients: &mut BTreeMap<u32, Slot<Venus<D>, D>>,
-) -> Result<(u64, u64), Refused> {
-    let number = u32::from(client);
-    match take_slot(clients, number) {
-        Slot::Started { header, mut actor } => {
-            let said = send_from(alloc, net, until, client, volume, server, &mut actor);
-            put(clients, number, Slot::Started { header, actor });
-            said
+    window: u64,
+) -> Result<Reply, CellFault>
+    requires ready { IsReady B.D.told (B.out _bay.now) site.old }
+    requires shown { IsShown B.D.told (B.out _bay.now) (B.has _bay.now) site.old }
+    requires up { is_up (client_form B.D.told) (slot_at site.old.clients client) ≡ true }
+    requires client { HasSpelling a_client client }
+    requires volume { HasSpelling a_volume volume }
+    requires server { HasSpelling a_server server }
+    requires few { site.old.net.posted < 2 ^ 63 }
+    ensures ready { IsReady B.D.told (B.out _bay.now) site.new }
+    ensures does { (cell : StoredCell) (place : APlace) → IsStoredKept cell → IsSite B.D.told (B.out _bay.now) (B.has _bay.now) cell site.old
+        → place_in site.old volume ≡ Some place → place.server ≡ server → not (is_cut (linked_in site.old.net client server)) ≡ true
+        → IfOk result (λ reply. Acted B.D.told (B.out _bay.now) (B.has _bay.now) cell (line.Send client volume server (Some window)) reply site.new) }
+    ensures memory { IfErr result (λ why. why ≡ CellFault.Memory) }
+{
+    let until = Until {
+        now: site.clock,
+        window,
+    };
+    match freeze_at(until, client, volume, server, &mut site.clients) {
+        Ok(chunk) => {
+            let message = post_chunk(
+                site.alloc,
+                &mut site.net,
+                &site.clients,
+                client,
+                volume,
+                server,
+                chunk,
+            )?;
+            Ok(Reply::Sent { message, chunk })
         }
-        _ => unreachable!(),
+        Err(why) => refused(site.alloc, why),
     }
 }
 
 /// Sends what a client has of a volume to the server that holds it, unless one of the three isn't there, the client is down, or the link.
+///
+/// # Errors
+///
+/// `Memory` alone.
 pub fn send<B: Bay>(
     _bay: &B,
     site: &mut Site<B::D>,
@@ -72,77 +141,53 @@ pub fn send<B: Bay>(
     volume: u32,
     server: u8,
     window: u64,
-) -> Result<Reply, CellFault> {
+) -> Result<Reply, CellFault>
+    requires ready { IsReady B.D.told (B.out _bay.now) site.old }
+    requires shown { IsShown B.D.told (B.out _bay.now) (B.has _bay.now) site.old }
+    requires range { InRange (line.Send client volume server (Some window)) }
+    requires few { site.old.net.posted < 2 ^ 63 }
+    ensures ready { IsReady B.D.told (B.out _bay.now) site.new }
+    ensures does { (cell : StoredCell) → IsStoredKept cell → IsSite B.D.told (B.out _bay.now) (B.has _bay.now) cell site.old
+        → IfOk result (λ reply. Becomes B.D.told (B.out _bay.now) (B.has _bay.now) (Happens cell (line.Send client volume server (Some window)))
+        reply (B.answered _bay.now) (B.answered _bay.now) site.new) }
+    ensures memory { IfErr result (λ why. why ≡ CellFault.Memory) }
+{
     if let Some(number) = site.missing_holder(client, volume, server) {
         return Ok(no_such_actor(site.alloc, number)?);
     }
     if !is_up(&site.clients, u32::from(client)) {
         return Ok(refuse(site.alloc, Refusal::Down));
     }
-    match strength(&site.net, client, server) {
-        Strength::Strong => {}
-        Strength::Weak => {}
-        Strength::Down => return Ok(refuse(site.alloc, Refusal::LinkDown)),
+    if !is_linked(&site.net, client, server) {
+        return Ok(refuse(site.alloc, Refusal::LinkDown));
     }
-    let until = Until {
-        now: site.clock,
-        window,
-    };
-    let alloc = site.alloc;
-    match send_at(
-        alloc,
-        &mut site.net,
-        until,
-        client,
-        volume,
-        server,
-        &mut site.clients,
-    ) {
-        Ok((message, chunk)) => Ok(Reply::Sent { message, chunk }),
-        Err(why) => refused(alloc, why),
-    }
+    send_up(_bay, site, client, volume, server, window)
 }
 
 // ---- a chunk is delivered
 
-// Has a replica rule on a client's chunk, where it is up.
-fn rule_at<D: Disk + Drop>(
-    replicas: &mut BTreeMap<u32, Slot<Replica<D>, D>>,
-    disk: u32,
-    client: u8,
-    number: u64,
-    recs: &[Record],
-) -> Result<Answer, ReplicaFault> {
-    match take_slot(replicas, disk) {
-        Slot::Started { header, mut actor } => {
-            let said = rule(&mut actor, client, number, recs);
-            put(replicas, disk, Slot::Started { header, actor });
-            said
-        }
-        _ => unreachable!(),
-    }
-}
-
-// A client's chunk comes to the replica of its volume, whose answer goes out in a letter.
-fn chunk_comes<B: Bay>(
+// A client's chunk comes to a replica that is up, whose answer goes out in a letter, over a link that is up.
+fn rule_up<B: Bay>(
     _bay: &B,
     site: &mut Site<B::D>,
     client: u8,
     server: u8,
     volume: u32,
+    disk: u32,
     number: u64,
     recs: &[Record],
-) -> Result<Reply, CellFault> {
-    if let Some(number) = site.missing_holder(client, volume, server) {
-        return Ok(no_such_actor(site.alloc, number)?);
-    }
-    let Some(place) = site.place(volume) else {
-        unreachable!()
-    };
-    if !is_up(&site.replicas, place.disk) {
-        return Ok(refuse(site.alloc, Refusal::Down));
-    }
-    let answer = match rule_at(&mut site.replicas, place.disk, client, number, recs) {
+) -> Result<Reply, CellFault>
+    requires ready { IsReady B.D.told (B.out _bay.now) site.old }
+    requires up { is_up (replica_form B.D.told) (slot_at site.old.replicas disk) ≡ true }
+    requires spelled { HasSpelling a_message (Chunk client server volume number recs.now) }
+    requires few { site.old.net.posted < 2 ^ 63 }
+    ensures ready { IsReady B.D.told (B.out _bay.now) site.new }
+    ensures does { (cell : StoredCell) (place : APlace) (span : List ARecord) → IsStoredKept cell → IsSite B.D.told (B.out _bay.now) (B.has _bay.now) cell site.old
+        → place_in site.old volume ≡ Some place → place.disk ≡ disk → place.server ≡ server → recs.now ≡ sent_of span
+        → IfOk result (λ reply. Came B.D.told (B.out _bay.now) (B.has _bay.now) cell (ChunkSent client server volume number span) reply site.new) }
+    ensures memory { IfErr result (λ why. why ≡ CellFault.Memory) }
+{
+    let answer = match rule_at(&mut site.replicas, disk, client, number, recs) {
         Ok(answer) => answer,
         Err(why) => return unruled(site.alloc, why),
     };
@@ -169,24 +214,64 @@ fn chunk_comes<B: Bay>(
     }
 }
 
-// ---- an answer is delivered
-
-// Has a client take the answer to a chunk, where it is up.
-fn take_at<D: Disk + Drop>(
-    clients: &mut BTreeMap<u32, Slot<Venus<D>, D>>,
+// A client's chunk comes to the replica of its volume, whose answer goes out in a letter.
+fn chunk_comes<B: Bay>(
+    _bay: &B,
+    site: &mut Site<B::D>,
     client: u8,
+    server: u8,
     volume: u32,
     number: u64,
-    answer: &Answer,
-) -> Result<(), Refused> {
-    let disk = u32::from(client);
-    match take_slot(clients, disk) {
-        Slot::Started { header, mut actor } => {
-            let said = take(&mut actor, volume, number, answer);
-            put(clients, disk, Slot::Started { header, actor });
-            said
-        }
-        _ => unreachable!(),
+    recs: &[Record],
+) -> Result<Reply, CellFault>
+    requires ready { IsReady B.D.told (B.out _bay.now) site.old }
+    requires spelled { HasSpelling a_message (Chunk client server volume number recs.now) }
+    requires few { site.old.net.posted < 2 ^ 63 }
+    ensures ready { IsReady B.D.told (B.out _bay.now) site.new }
+    ensures does { (cell : StoredCell) (span : List ARecord) → IsStoredKept cell → IsSite B.D.told (B.out _bay.now) (B.has _bay.now) cell site.old → recs.now ≡ sent_of span
+        → IfOk result (λ reply. Becomes B.D.told (B.out _bay.now) (B.has _bay.now) (CameTo cell (ChunkSent client server volume number span))
+        reply (B.answered _bay.now) (B.answered _bay.now) site.new) }
+    ensures memory { IfErr result (λ why. why ≡ CellFault.Memory) }
+{
+    if let Some(number) = site.missing_holder(client, volume, server) {
+        return Ok(no_such_actor(site.alloc, number)?);
+    }
+    let Some(place) = site.place(volume) else {
+        unreachable!()
+    };
+    if !is_up(&site.replicas, place.disk) {
+        return Ok(refuse(site.alloc, Refusal::Down));
+    }
+    rule_up(_bay, site, client, server, volume, place.disk, number, recs)
+}
+
+// ---- an answer is delivered
+
+// The answer to a chunk comes to its client, which is up.
+fn take_up<B: Bay>(
+    _bay: &B,
+    site: &mut Site<B::D>,
+    client: u8,
+    server: u8,
+    volume: u32,
+    number: u64,
+    answer: Answer,
+) -> Result<Reply, CellFault>
+    requires ready { IsReady B.D.told (B.out _bay.now) site.old }
+    requires up { is_up (client_form B.D.told) (slot_at site.old.clients client) ≡ true }
+    requires spelled { HasSpelling a_message (Verdict server client volume number answer) }
+    ensures ready { IsReady B.D.told (B.out _bay.now) site.new }
+    ensures does { (cell : StoredCell) (place : APlace) → IsStoredKept cell → IsSite B.D.told (B.out _bay.now) (B.has _bay.now) cell site.old
+        → place_in site.old volume ≡ Some place → place.server ≡ server
+        → IfOk result (λ reply. Came B.D.told (B.out _bay.now) (B.has _bay.now) cell (AnswerSent server client volume number answer) reply site.new) }
+    ensures memory { IfErr result (λ why. why ≡ CellFault.Memory) }
+{
+    if !can_be_posted(&answer) {
+        return Err(CellFault::Memory);
+    }
+    match take_at(&mut site.clients, client, volume, number, &answer) {
+        Ok(()) => Ok(reply_taken(number, answer)),
+        Err(why) => refused(site.alloc, why),
     }
 }
 
@@ -199,21 +284,29 @@ fn answer_comes<B: Bay>(
     volume: u32,
     number: u64,
     answer: Answer,
-) -> Result<Reply, CellFault> {
+) -> Result<Reply, CellFault>
+    requires ready { IsReady B.D.told (B.out _bay.now) site.old }
+    requires spelled { HasSpelling a_message (Verdict server client volume number answer) }
+    ensures ready { IsReady B.D.told (B.out _bay.now) site.new }
+    ensures does { (cell : StoredCell) → IsStoredKept cell → IsSite B.D.told (B.out _bay.now) (B.has _bay.now) cell site.old
+        → IfOk result (λ reply. Becomes B.D.told (B.out _bay.now) (B.has _bay.now) (CameTo cell (AnswerSent server client volume number answer))
+        reply (B.answered _bay.now) (B.answered _bay.now) site.new) }
+    ensures memory { IfErr result (λ why. why ≡ CellFault.Memory) }
+{
     if let Some(number) = site.missing_holder(client, volume, server) {
         return Ok(no_such_actor(site.alloc, number)?);
     }
     if !is_up(&site.clients, u32::from(client)) {
         return Ok(refuse(site.alloc, Refusal::Down));
     }
-    match take_at(&mut site.clients, client, volume, number, &answer) {
-        Ok(()) => Ok(reply_taken(number, answer)),
-        Err(why) => refused(site.alloc, why),
-    }
+    take_up(_bay, site, client, server, volume, number, answer)
 }
 
 // Why a letter isn't delivered or lost, as a reply.
-fn undelivered(alloc: Global, why: LetterFault) -> Result<Reply, CellFault> {
+fn undelivered(alloc: Global, why: LetterFault) -> Result<Reply, CellFault>
+    ensures said { IfOk result (λ reply. (why ≢ letter_faults.Memory) × (reply ≡ refusal (letter_refused_as why))) }
+    ensures memory { IfErr result (λ why. why ≡ CellFault.Memory) }
+{
     match why {
         LetterFault::NoMessage(number) => Ok(refuse_number(alloc, Refusal::NoMessage, number)?),
         LetterFault::LinkDown => Ok(refuse(alloc, Refusal::LinkDown)),
@@ -223,11 +316,20 @@ fn undelivered(alloc: Global, why: LetterFault) -> Result<Reply, CellFault> {
 }
 
 /// Delivers a letter, which waits on and may be delivered again.
-pub fn deliver<B: Bay>(
-    bay: &B,
-    site: &mut Site<B::D>,
-    message: u64,
-) -> Result<Reply, CellFault> {
+///
+/// # Errors
+///
+/// `Memory` alone.
+pub fn deliver<B: Bay>(bay: &B, site: &mut Site<B::D>, message: u64) -> Result<Reply, CellFault>
+    requires ready { IsReady B.D.told (B.out bay.now) site.old }
+    requires shown { IsShown B.D.told (B.out bay.now) (B.has bay.now) site.old }
+    requires few { site.old.net.posted < 2 ^ 63 }
+    ensures ready { IsReady B.D.told (B.out bay.now) site.new }
+    ensures does { (cell : StoredCell) → IsStoredKept cell → IsSite B.D.told (B.out bay.now) (B.has bay.now) cell site.old
+        → IfOk result (λ reply. Becomes B.D.told (B.out bay.now) (B.has bay.now) (Happens cell (line.Deliver message))
+        reply (B.answered bay.now) (B.answered bay.now) site.new) }
+    ensures memory { IfErr result (λ why. why ≡ CellFault.Memory) }
+{
     match read_letter(site.alloc, &site.net, message) {
         Ok(
             Message::Chunk {
@@ -252,7 +354,18 @@ pub fn deliver<B: Bay>(
 }
 
 /// Loses a letter.
-pub fn lose<B: Bay>(_bay: &B, site: &mut Site<B::D>, message: u64) -> Result<Reply, CellFault> {
+///
+/// # Errors
+///
+/// `Memory` alone.
+pub fn lose<B: Bay>(_bay: &B, site: &mut Site<B::D>, message: u64) -> Result<Reply, CellFault>
+    requires ready { IsReady B.D.told (B.out _bay.now) site.old }
+    ensures ready { IsReady B.D.told (B.out _bay.now) site.new }
+    ensures does { (cell : StoredCell) → IsStoredKept cell → IsSite B.D.told (B.out _bay.now) (B.has _bay.now) cell site.old
+        → IfOk result (λ reply. Becomes B.D.told (B.out _bay.now) (B.has _bay.now) (Happens cell (line.Lose message))
+        reply (B.answered _bay.now) (B.answered _bay.now) site.new) }
+    ensures memory { IfErr result (λ why. why ≡ CellFault.Memory) }
+{
     match lose_letter(&mut site.net, message) {
         Ok(()) => Ok(Reply::Lost { message }),
         Err(why) => undelivered(site.alloc, why),
