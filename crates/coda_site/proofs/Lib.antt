@@ -7,3 +7,5 @@ pub mod Slots
 pub mod ReplicaSites
 pub mod SpelledOffers
 pub mod Offers
+pub mod Stages
+pub mod Drained

@@ -20,7 +20,7 @@ use Rattle.coda_cell.specs.Steps.{Doing, Comes, on_holder}
 use Rattle.coda_matching.specs.Clients.{journal_by, IsClientHistory}
 use Rattle.coda_stored.specs.Cells.{StoredCell}
 use Rattle.coda_stored.specs.Lines.{Acts, EndsBy, Becoming, UnlessDown, all_there, client_down, replica_down}
-use Rattle.coda_site.specs.Calls.{volume_by}
+use Rattle.coda_site.specs.Chunks.{volume_by}
 use Rattle.coda_site.specs.Sites.{IsSite}
 use Rattle.coda_site.specs.declared.site.Site.{Site}
 

@@ -1,5 +1,5 @@
 pub mod Sites
 pub mod Steps
 pub mod Tasks
-pub mod Calls
+pub mod Chunks
 pub mod Drains

@@ -18,7 +18,7 @@ ghost use Rattle.coda_site.specs.Sites.{IsSite, IsReady, place_in};
 ghost use Rattle.coda_site.specs.Steps.{Becomes};
 ghost use Rattle.coda_site.specs.declared.site.Place.{Place as APlace};
 
-use crate::calls::{Until, chunk_at, freeze_at, rule_at, take_at};
+use crate::chunks::{Until, chunk_at, freeze_at, rule_at, take_at};
 use crate::fault::CellFault;
 use crate::links::strength;
 use crate::replies::{no_such_actor, refuse, refused, reply_answer, unruled};

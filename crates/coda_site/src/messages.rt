@@ -21,13 +21,13 @@ ghost use Rattle.coda_cell.specs.Refusing.{refusal};
 ghost use Rattle.coda_stored.specs.Cells.{StoredCell};
 ghost use Rattle.coda_stored.specs.Kept.{IsStoredKept};
 ghost use Rattle.coda_stored.specs.Lines.{Happens, is_cut};
-ghost use Rattle.coda_site.specs.Calls.{IsRunning, IsShown};
+ghost use Rattle.coda_site.specs.Chunks.{IsRunning, IsShown};
 ghost use Rattle.coda_site.specs.Drains.{Acted, Came, CameTo, PostsChunk};
 ghost use Rattle.coda_site.specs.Sites.{IsSite, IsReady, place_in};
 ghost use Rattle.coda_site.specs.Steps.{Becomes};
 ghost use Rattle.coda_site.specs.declared.site.Place.{Place as APlace};
 
-use crate::calls::{Until, chunk_at, freeze_at, rule_at, take_at};
+use crate::chunks::{Until, chunk_at, freeze_at, rule_at, take_at};
 use crate::draining::is_linked;
 use crate::fault::CellFault;
 use crate::replies::{

@@ -18,7 +18,7 @@ ghost use Rattle.coda_cell.specs.Sending.{freezing, ruling, taking};
 ghost use Rattle.coda_matching.specs.Clients.{journal_by, IsClientHistory};
 ghost use Rattle.coda_matching.specs.Replicas.{RulingEnds};
 ghost use Rattle.coda_sending.specs.Ending.{FreezingEnds, TakingEnds, verdict_in};
-ghost use Rattle.coda_site.specs.Calls.{volume_by, replica_by, ClientEnds, ReplicaEnds, IsRunning};
+ghost use Rattle.coda_site.specs.Chunks.{volume_by, replica_by, ClientEnds, ReplicaEnds, IsRunning};
 
 use coda_actors::Slot;
 use coda_crew::{get, put, take as take_slot};
