@@ -43,6 +43,11 @@ same_header h k a b e = cc
 pub same_actor : {A D : Type 0} (h k : Header) (a b : A) → (let started : Header → A → Slot A D = λ x y. Started x y in started h a ≡ started k b) → a ≡ b
 same_actor h k a b e = cc
 
+-- a client that was found up by its number is up
+pub found_up_at : {D : Type 0} (told : D → Told) (slots : BTreeMap ℕ (Slot (Venus D) D)) (client found number : ℕ) (up : Bool) → up ≡ is_up (client_form told) (slot_at slots found) → found ≡ client → number ≡ client → up ≡ true
+    → is_up (client_form told) (slot_at slots number) ≡ true
+found_up_at told slots client found number up tells same other on = ap (λ (m : ℕ). is_up (client_form told) (slot_at slots m)) (other ∙ sym same) ∙ sym tells ∙ on
+
 -- ---- how a client that is asked answers
 
 module _ {D B : Type 0} (told : D → Told) (out : ℕ → Bool) (site : Site D) (slots : BTreeMap ℕ (Slot (Venus D) D)) (number : ℕ) (offers : Option Nodes) (request : Request) (IsAs : Reply → B → Type 0) (result : Result B VenusRefused)

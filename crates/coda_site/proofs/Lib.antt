@@ -9,3 +9,4 @@ pub mod SpelledOffers
 pub mod Offers
 pub mod Stages
 pub mod Drained
+pub mod Carrying

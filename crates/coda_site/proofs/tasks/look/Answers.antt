@@ -12,7 +12,7 @@ use Rattle.coda_site.specs.Sites.{client_at, volume_at}
 use Rattle.coda_site.specs.Steps.{Becomes}
 use Rattle.coda_site.specs.Tasks.{Asks}
 use Rattle.coda_site.proofs.Becomings.{missing_none, RepliesTo}
-use Rattle.coda_site.proofs.Calls.{call_ready, asked_becomes, refused_so, missing_asked, down_asked}
+use Rattle.coda_site.proofs.Calls.{found_up_at, call_ready, asked_becomes, refused_so, missing_asked, down_asked}
 use Rattle.coda_site.proofs.ClientSites.{with_clients}
 use Rattle.coda_site.proofs.tasks.look.Goals as goal
 
@@ -42,7 +42,7 @@ returns-in-Ok-clause-does g c = λ cell kept is.
     let has = g.B.Bay.has c.args._bay.now in
     let site = c.args.site.now in
     let there = missing_none c.missing.result (client_at site c.args.client ∷ volume_at site c.args.volume ∷ []) c.in_default.is c.missing.ensures.missing in
-    let up = sym (c.is_up.ensures ∙ ap (λ (m : ℕ). is_up (client_form told) (slot_at site.clients m)) (c.from.ensures ∙ sym c.from-2.ensures)) ∙ c.if-not-is_up.false in
+    let up = found_up_at told site.clients c.args.client c.from.result c.from-2.result c.is_up.result c.is_up.ensures c.from.ensures c.from-2.ensures c.if-not-is_up.false in
     asked_becomes told out has cell kept site is c.args.client c.args.volume c.from-2.result c.missing.ensures.disk there c.from-2.ensures up c.show_at.new.clients c.show_at.ensures.slots
     (nodes_offered c.offers_of-offers.result) c.offers_of-offers.ensures (λ o x. show_answer c.args.what o x c.args.volume c.args.path.now) (λ (r : Seen × Bool). reply_of r.1 r.0.node.kind) c.show_at.result c.show_at.ensures.ends c.shown.result (g.B.Bay.answered c.args._bay.now)
     (subst (λ r. RepliesTo (λ (r : Seen × Bool). reply_of r.1 r.0.node.kind) r c.shown.result) (sym c.in-Ok.is) c.shown.ensures)
@@ -51,7 +51,7 @@ pub returns-in-Err-clause-ready : goal.returns-in-Err-clause-ready
 returns-in-Err-clause-ready g c =
     let told = g.B.D.Disk.told in
     let site = c.args.site.now in
-    let up = sym (c.is_up.ensures ∙ ap (λ (m : ℕ). is_up (client_form told) (slot_at site.clients m)) (c.from.ensures ∙ sym c.from-2.ensures)) ∙ c.if-not-is_up.false in
+    let up = found_up_at told site.clients c.args.client c.from.result c.from-2.result c.is_up.result c.is_up.ensures c.from.ensures c.from-2.ensures c.if-not-is_up.false in
     call_ready told (g.B.Bay.out c.args._bay.now) site c.show_at.new.clients c.from-2.result (nodes_offered c.offers_of-offers.result) (λ o x. show_answer c.args.what o x c.args.volume c.args.path.now) IsShown c.show_at.result up c.show_at.ensures.slots c.show_at.ensures.ends c.requires.ready
 
 pub returns-in-Err-clause-does : goal.returns-in-Err-clause-does
@@ -61,7 +61,7 @@ returns-in-Err-clause-does g c = λ cell kept is.
     let has = g.B.Bay.has c.args._bay.now in
     let site = c.args.site.now in
     let there = missing_none c.missing.result (client_at site c.args.client ∷ volume_at site c.args.volume ∷ []) c.in_default.is c.missing.ensures.missing in
-    let up = sym (c.is_up.ensures ∙ ap (λ (m : ℕ). is_up (client_form told) (slot_at site.clients m)) (c.from.ensures ∙ sym c.from-2.ensures)) ∙ c.if-not-is_up.false in
+    let up = found_up_at told site.clients c.args.client c.from.result c.from-2.result c.is_up.result c.is_up.ensures c.from.ensures c.from-2.ensures c.if-not-is_up.false in
     let answered = g.B.Bay.answered c.args._bay.now in
     IfOk-weaker c.refused.result (λ said. RepliesTo (λ (r : Seen × Bool). reply_of r.1 r.0.node.kind) (Err c.in-Err.why) said) (λ said. Becomes told out has (Asks cell c.args.client c.args.volume (λ o x. show_answer c.args.what o x c.args.volume c.args.path.now)) said answered answered (with_clients site c.show_at.new.clients))
     (λ said replies. asked_becomes told out has cell kept site is c.args.client c.args.volume c.from-2.result c.missing.ensures.disk there c.from-2.ensures up c.show_at.new.clients c.show_at.ensures.slots
