@@ -29,7 +29,7 @@ use Rattle.coda_venus.specs.declared.venus.Venus.{Venus}
 use Rattle.coda_cell.specs.Cells.{linked_in}
 use Rattle.coda_cell.specs.Made.{client_of, state_of}
 use Rattle.coda_cell.specs.Refusing.{refusal}
-use Rattle.coda_cell.specs.Sending.{Freezing, freezing, Ruling, ruling, Taking, taking, Outcome, deeds_at, entries_at, reply_answer, answered_to, ruled_on, drained_of, drained, drain}
+use Rattle.coda_cell.specs.Sending.{Freezing, freezing, Ruling, ruling, Taking, taking, Outcome, deeds_at, entries_at, reply_answer, answered_to, ruled_on, drained_of, drained, drain, stays}
 use Rattle.coda_cell.specs.State.{ClientVolume, ReplicaState, CellState, Event, at_client, new_replica, replica_after_all}
 use Rattle.coda_cell.specs.Steps.{Named, client_named, volume_named, holder_named, on_holder, first_missing, reply_to, ByBoth}
 use Rattle.coda_cell.specs.declared.refused.Refused.{Refused}
@@ -140,7 +140,7 @@ over_link Strong now window client volume v r up = refl
 over_link Weak now window client volume v r up = refl
 over_link Down now window client volume v r up = absurd (false≢true up)
 
-module _ {D : Type 0} (told : D → Told) (out : ℕ → Bool) (has : ℕ → Told) (seen : (d : D) → (told d).honest → (told d).may_leave (told d).seen) (cell : StoredCell) (site : Site D) (is : IsSite told out has cell site) (client volume server : ℕ)
+module _ {D : Type 0} (told : D → Told) (out : ℕ → Bool) (has : ℕ → Told) (cell : StoredCell) (site : Site D) (is : IsSite told out has cell site) (client volume server : ℕ)
     (place : Place) (at : place_in site volume ≡ Some place) (home : place.server ≡ server) (ch : Header) (venus : Venus D) (up : IsClientUp told out cell site.clients client ch venus) where
   -- what the client has, and what the replica is
   abbrev pub h : List ClientEntry
@@ -166,9 +166,29 @@ module _ {D : Type 0} (told : D → Told) (out : ℕ → Bool) (has : ℕ → To
         (ap is_some up.shown) (ap is_some shown_replica)
         (ap (λ (o : Option ReplicaState). option_map_or (λ (x : ReplicaState). x.server == server) o false) shown_replica ∙ eq-eqb r.server server server_is)
 
+    -- nothing is drained over a link that carries nothing
+    pub cut_drains : (window : ℕ) (reply : Reply) → linked_in site.net client server ≡ Down → reply ≡ refusal refused.LinkDown → Acted told out has cell (line.Task (task.Drain client volume server (Some window))) reply site
+    cut_drains window reply cut replied =
+        let whole : drain (cell.made.links client r.server) cell.made.clock window client volume v r ≡ stays refused.LinkDown v r =
+        ap (λ (s : ℕ). drain (cell.made.links client s) cell.made.clock window client volume v r) server_is
+        ∙ ap (λ (x : Strength). drain x cell.made.clock window client volume v r) (is.net.links_are client server ∙ cut) in
+        (cell, record {
+          own = refusal refused.LinkDown;
+          events = [];
+          does = named_there (on_holder (state_of cell.made) client volume server) (ByBoth (state_of cell.made) client volume window) (refusal refused.LinkDown) [] all_named (record {
+            client = client_of ch.number h ch.cache;
+            replica = r;
+            client_there = up.shown;
+            replica_there = shown_replica;
+            answered = ap (λ (o : Outcome). reply_to o.said) (sym whole);
+            happened = ap (λ (o : Outcome). o.events) (sym whole);
+          });
+          ends = inl (tt, replied, refl);
+        }, is)
+
     -- ---- a drain, by what each stage was to be
 
-    module _ (window : ℕ) where
+    module _ (seen : (d : D) → (told d).honest → (told d).may_leave (told d).seen) (window : ℕ) where
       abbrev pub wanted : Result Freezing Refused
       wanted = freezing site.clock window server v
 

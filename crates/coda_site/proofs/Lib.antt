@@ -10,3 +10,7 @@ pub mod Offers
 pub mod Stages
 pub mod Drained
 pub mod Carrying
+pub mod Holders
+pub mod Drainings
+pub mod Posted
+pub mod SentChunks

@@ -58,6 +58,7 @@ pub fn freeze_at<D: Disk + Drop>(
         FreezingEnds D.told header history volume (freezing until.now until.window server (volume_by header history volume)) left result) }
     ensures others { KeepsOtherSlots client clients.old clients.new }
     ensures up { OnOk result (is_up (client_form D.told) (slot_at clients.new client) ≡ true) }
+    ensures seen { (disk : D) → (D.told disk).honest → (D.told disk).may_leave (D.told disk).seen }
 {
     let number = u32::from(client);
     match take_slot(clients, number) {
@@ -135,6 +136,7 @@ pub fn take_at<D: Disk + Drop>(
     ensures ends { ClientEnds D.told client clients.old clients.new (λ header history left.
         TakingEnds D.told header history volume (taking number answer.now (volume_by header history volume)) left result) }
     ensures others { KeepsOtherSlots client clients.old clients.new }
+    ensures seen { (disk : D) → (D.told disk).honest → (D.told disk).may_leave (D.told disk).seen }
 {
     let disk = u32::from(client);
     match take_slot(clients, disk) {

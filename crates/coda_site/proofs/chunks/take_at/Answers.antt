@@ -13,3 +13,6 @@ returns-clause-ends g c = λ header venus slot.
       ap (slot_at c.put.new.slots) (sym c.from-disk.ensures) ∙ c.put.ensures.here ∙ ap (λ h. Started h c.take-said.new.venus) (same_header c.in-Started.header header c.in-Started.actor venus same),
       λ history up is. c.take-said.ensures.ends header history (subst (λ v. IsUp g.D.Disk.told header v (journal_by history)) (sym (same_actor c.in-Started.header header c.in-Started.actor venus same)) up) is,
     )
+
+pub returns-clause-seen : goal.returns-clause-seen
+returns-clause-seen g c = g.met.D.Disk.seen_now
