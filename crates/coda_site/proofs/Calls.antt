@@ -85,14 +85,16 @@ module _ {D B : Type 0} (told : D → Told) (out : ℕ → Bool) (has : ℕ → 
       (e.3 history own.up own.lawful (subst AreSpelledOffers (sym offers_are) o.1)) in
       let leaves_so = leaves told out has cell site slots client header u.1 left is own others_here e.1 answer.entries answer.said (λ (a : Reply) (b : B). a ≡ f b) result e.2 ended in
       let b = ends_by told out has cell client answer.entries answer.said f (with_clients site slots) result reply leaves_so replies in
-      up_becomes told out has cell names (client_down cell client) (λ reply outside new. (outside ≡ []) × Answers cell client volume request reply new) reply answered (with_clients site slots) all off b.0
-      (refl, record {
-        own = reply_to answer.said;
-        events = map (at_client client) answer.entries;
-        does = named_there (on_volume (met_by cell volume) client volume) (ByClient (met_by cell volume) client volume request) (reply_to answer.said) (map (at_client client) answer.entries) all
-            (record { client = c; there = own.shown; answered = refl; happened = refl });
-        ends = b.1;
-      }) b.2
+      up_becomes told out has cell names (client_down cell client) (λ reply outside new. (outside ≡ []) × Answers cell client volume request reply new) reply answered (with_clients site slots) all off b.0 (
+        refl,
+        record {
+          own = reply_to answer.said;
+          events = map (at_client client) answer.entries;
+          does = named_there (on_volume (met_by cell volume) client volume) (ByClient (met_by cell volume) client volume request) (reply_to answer.said) (map (at_client client) answer.entries) all
+              (record { client = c; there = own.shown; answered = refl; happened = refl });
+          ends = b.1;
+        },
+      ) b.2
 
 -- what is replied to a refusal
 pub refused_so : {B : Type 0} (f : B → Reply) (why : VenusRefused) (result : Result Reply CellFault) → ((why ≢ reason.Down) → (why ≢ reason.DiskFault) → IfOk result (λ said. said ≡ refusal (refused_as why))) → (why ≡ reason.DiskFault → IfOk result (λ said. said ≡ refused_fault))
@@ -108,13 +110,15 @@ module _ {D : Type 0} (told : D → Told) (out : ℕ → Bool) (has : ℕ → To
   missing_asked result number ensures found said =
       let names = on_volume (state_of cell.made) client volume in
       let missing : first_missing names ≡ Some (refused.NoSuchActor number) = ap first_missing (on_volume_at told out has cell kept site is client volume here) ∙ missing_some result (client_at site client ∷ volume_at site volume ∷ []) number found ensures in
-      missing_becomes told out has cell names (client_down cell client) (λ reply outside new. (outside ≡ []) × Answers cell client volume request reply new) reply answered site (refused.NoSuchActor number) missing
-      (refl, record {
-        own = reply;
-        events = [];
-        does = named_missing (on_volume (met_by cell volume) client volume) (refused.NoSuchActor number) (ByClient (met_by cell volume) client volume request) reply missing said;
-        ends = inl (tt, refl, refl);
-      }) is
+      missing_becomes told out has cell names (client_down cell client) (λ reply outside new. (outside ≡ []) × Answers cell client volume request reply new) reply answered site (refused.NoSuchActor number) missing (
+        refl,
+        record {
+          own = reply;
+          events = [];
+          does = named_missing (on_volume (met_by cell volume) client volume) (refused.NoSuchActor number) (ByClient (met_by cell volume) client volume request) reply missing said;
+          ends = inl (tt, refl, refl);
+        },
+      ) is
 
   pub down_asked : (number : ℕ) (up : Bool) → first_missing (client_at site client ∷ volume_at site volume ∷ []) ≡ None → number ≡ client → up ≡ is_up (client_form told) (slot_at site.clients number) → up ≡ false → reply ≡ refused_down
       → Becomes told out has (Asks cell client volume request) reply answered answered site

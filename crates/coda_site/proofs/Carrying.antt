@@ -1,5 +1,5 @@
 -- What a client is asked is what its task says.
-use Rattle.std.proofs.Common.{◌≡◌, ℕ, ◌<◌, ◌≤◌, Bool, true, false, ◌&&◌, List, [], Option, Some, None, Result, IfOk, refl, sym, ap, subst, ◌∙◌, arith}
+use Rattle.std.proofs.Common.{◌≡◌, ℕ, ◌<◌, ◌≤◌, Bool, true, false, ◌&&◌, List, [], Option, Some, None, Result, IfOk, sym, subst, arith}
 use Rattle.std.specs.Prelude.{IfSome}
 use Rattle.std.specs.Option.{unwrap_or}
 use Rattle.std.proofs.lemmas.Result.{IfOk-weaker}
@@ -90,14 +90,17 @@ drained_as told out has cell answered site client volume server window given now
     (IfOk-weaker result (λ reply. Becomes told out has (Happens cell (line.Task (task.Drain client volume server (Some given)))) reply answered answered site)
     (λ reply. Becomes told out has (Happens cell (line.Task (task.Drain client volume server window))) reply answered answered site)
     (λ reply b. becomes_as told out has (Happens cell (line.Task (task.Drain client volume server (Some given)))) (Happens cell (line.Task (task.Drain client volume server window))) reply answered answered site
-        (λ outside left h. one (task_down cell (task.Drain client volume server window)) reply outside left h) b) drains)
+    (λ outside left h. one (task_down cell (task.Drain client volume server window)) reply outside left h) b) drains)
   where
     one : (b : Bool) (reply : Reply) (outside : List (List ℕ)) (left : StoredCell) → UnlessDown b cell (λ r o n. (o ≡ []) × Acts cell (line.Task (task.Drain client volume server (Some given))) r n) reply outside left
         → UnlessDown b cell (λ r o n. (o ≡ []) × Acts cell (line.Task (task.Drain client volume server window)) r n) reply outside left
     one true reply outside left h = h
-    one false reply outside left h = (h.0, record {
-      own = h.1.own;
-      events = h.1.events;
-      does = subst (λ (w : ℕ). DoesTask (state_of cell.made) (task.Drain client volume server (Some w)) h.1.own h.1.events) same h.1.does;
-      ends = h.1.ends;
-    })
+    one false reply outside left h = (
+      h.0,
+      record {
+        own = h.1.own;
+        events = h.1.events;
+        does = subst (λ (w : ℕ). DoesTask (state_of cell.made) (task.Drain client volume server (Some w)) h.1.own h.1.events) same h.1.does;
+        ends = h.1.ends;
+      },
+    )

@@ -4,26 +4,18 @@ use Rattle.std.proofs.lemmas.Bool.{false≢true, cases_Bool}
 use Rattle.std.specs.Prelude.{not}
 use Rattle.std.specs.Option.{option_map, option_and_then}
 use Rattle.coda_disk.specs.Told.{Told}
-use Rattle.coda_fid.specs.declared.fid.Fid.{Fid}
 use Rattle.coda_tree.specs.Volume.{Nodes}
-use Rattle.coda_tree.specs.declared.node.Node.{Node}
-use Rattle.coda_actors.specs.Fits.{Fits}
-use Rattle.coda_actors.specs.Plain.{PlainActor}
 use Rattle.coda_actors.specs.Replicas.{replica_form}
 use Rattle.coda_actors.specs.Slots.{is_up}
 use Rattle.coda_actors.specs.declared.slot.Slot.{Slot}
 use Rattle.coda_actors.specs.declared.slot.Slot.TheVariants.{Vacant, Spare, Stopped, Started}
 use Rattle.coda_crew.specs.Crews.{slot_at}
-use Rattle.coda_record.specs.declared.entry.ReplicaEntry.{ReplicaEntry as KeptEntry}
-use Rattle.coda_replica.specs.History.{state_of as kept_state_of}
 use Rattle.coda_replica.specs.declared.replica.Replica.{Replica}
 use Rattle.coda_script.specs.declared.line.Strength.{Strength}
 use Rattle.coda_script.specs.declared.line.Strength.TheVariants.{Strong, Weak, Down}
-use Rattle.coda_asking.specs.Fetching.{offered}
-use Rattle.coda_asking.specs.Spelling.{can_be_spelled}
 use Rattle.coda_cell.specs.Cells.{linked_in}
 use Rattle.coda_cell.specs.Code.{replica_state}
-use Rattle.coda_cell.specs.Made.{replica_of, state_of}
+use Rattle.coda_cell.specs.Made.{replica_of}
 use Rattle.coda_cell.specs.State.{ReplicaState, new_replica, replica_after_all}
 use Rattle.coda_cell.specs.Steps.{reached, offers_of}
 use Rattle.coda_cell.proofs.Histories.{server_stays}
@@ -32,12 +24,12 @@ use Rattle.coda_matching.proofs.Replicas.{journals_leave_replicas}
 use Rattle.coda_serving.specs.Serving.{AreSpelledOffers}
 use Rattle.coda_stored.specs.Cells.{StoredCell}
 use Rattle.coda_stored.specs.Kept.{IsStoredKept}
-use Rattle.coda_stored.specs.Lines.{replica_down, links_to, met_by}
+use Rattle.coda_stored.specs.Lines.{links_to, met_by}
 use Rattle.coda_site.specs.Sites.{place_in, IsSite}
 use Rattle.coda_site.specs.Tasks.{nodes_in, carried, offered_at}
 use Rattle.coda_site.specs.declared.site.Site.{Site}
 use Rattle.coda_site.specs.declared.site.Place.{Place}
-use Rattle.coda_site.proofs.ReplicaSites.{there, replica_is, home_is}
+use Rattle.coda_site.proofs.ReplicaSites.{there, replica_is}
 use Rattle.coda_site.proofs.SpelledOffers.{replica_spelled}
 use Rattle.coda_site.proofs.Theres.{replica_down_at}
 
@@ -105,9 +97,9 @@ module _ {D : Type 0} (told : D → Told) (out : ℕ → Bool) (has : ℕ → To
         let nodes : replica.decider.tree.nodes ≡ r.tree.nodes = ap (λ (x : ReplicaState). x.tree.nodes) state in
         let off = replica_down_at told out has cell kept site is volume p at ∙ ap not up in (
           ap (carried (linked_in site.net client p.server)) (held ∙ ap (λ (m : Nodes). Some m) nodes) ∙ carried_reached (linked_in site.net client p.server) r ∙ ap (λ (s : Strength). reached s r) linked_at
-          ∙ ap (λ (b : Bool). reached (cond b Down (cell.made.links client p.server)) r) (sym off) ∙ sym reached_at,
+              ∙ ap (λ (b : Bool). reached (cond b Down (cell.made.links client p.server)) r) (sym off) ∙ sym reached_at,
           spelled_carried (linked_in site.net client p.server) (nodes_in (slot_at site.replicas p.disk))
-          (subst AreSpelledOffers (sym held) (replica_spelled told header replica (journal_at header.number history) own.stands)),
+              (subst AreSpelledOffers (sym held) (replica_spelled told header replica (journal_at header.number history) own.stands)),
         )
 
     both : (carried (linked_in site.net client p.server) (nodes_in (slot_at site.replicas p.disk)) ≡ offers_of (met_by cell volume) client volume) × AreSpelledOffers (carried (linked_in site.net client p.server) (nodes_in (slot_at site.replicas p.disk)))

@@ -1,5 +1,5 @@
 -- Each object of a replica that is up can be spelled, since the records that its journal keeps can be.
-use Rattle.std.proofs.Common.{◌≡◌, ◌≢◌, ℕ, ◌+◌, ◌-◌, ◌<◌, ◌≤◌, Bool, true, false, cond, List, [], ◌∷◌, ◌++◌, length, get_or, Option, Some, None, Ok, Err, slice_get, option_map, refl, sym, ap, subst, ◌∙◌, inl, inr, ◌⊎◌, arith}
+use Rattle.std.proofs.Common.{◌≡◌, ℕ, ◌+◌, ◌-◌, ◌<◌, ◌≤◌, Bool, true, false, cond, List, [], ◌∷◌, ◌++◌, length, get_or, Option, Some, None, Ok, Err, option_map, refl, sym, ap, subst, ◌∙◌, inl, inr, arith}
 use Rattle.std.specs.Prelude.{IfSome, ◌&&◌, nat_lt}
 use Rattle.std.specs.List.{flat_map}
 use Rattle.std.specs.Int.{w32}
@@ -8,7 +8,7 @@ use Rattle.std.proofs.lemmas.Cmp.{nat_list_cmp_total, tied_itself}
 use Rattle.std.proofs.lemmas.Bool.{ltb-true}
 use Rattle.std.proofs.lemmas.List.{length-append}
 use Rattle.std.proofs.lemmas.Map.Lookups.{exact_bytes}
-use Rattle.std.proofs.lemmas.Option.{get_or_from_slice_get, slice_get_within}
+use Rattle.std.proofs.lemmas.Option.{get_or_from_slice_get}
 use Rattle.coda_fid.specs.Fid.{root_of}
 use Rattle.coda_fid.specs.Name.{name_cmp}
 use Rattle.coda_fid.specs.declared.fid.Fid.{Fid}
@@ -16,7 +16,6 @@ use Rattle.coda_fid.specs.declared.fid.Sid.{Sid}
 use Rattle.coda_fid.specs.declared.op.Attrs.{Attrs}
 use Rattle.coda_fid.specs.declared.op.Op.{Op}
 use Rattle.coda_fid.specs.declared.op.Op.TheVariants.{Create, Mkdir, Symlink, Store, Setattr, Remove, Rmdir, Rename}
-use Rattle.coda_fid.specs.declared.op.Over.{Over}
 use Rattle.coda_fid.specs.declared.op.Record.{Record}
 use Rattle.coda_fid.proofs.Fids.{fids_total, exact_fids}
 use Rattle.coda_disk.specs.Told.{Told}
@@ -37,20 +36,20 @@ use Rattle.coda_certify.specs.Replay.{effects, sid_of, applied, Replayed, unless
 use Rattle.coda_certify.specs.Verdicts.{nodes_left}
 use Rattle.coda_plain.proofs.Lists.{along}
 use Rattle.coda_record.specs.Entries.{held_piece}
-use Rattle.coda_record.specs.Form.{one, two, four, eight, number_bytes}
-use Rattle.coda_record.specs.Parts.{u8, u16, u32, u64, where_holds}
+use Rattle.coda_record.specs.Form.{four, eight}
+use Rattle.coda_record.specs.Parts.{u8, u64, where_holds}
 use Rattle.coda_record.specs.Spelling.{HasSpelling}
 use Rattle.coda_record.specs.Table as table
 use Rattle.coda_record.specs.Entries as entries
 use Rattle.coda_record.specs.declared.entry.ReplicaEntry.{ReplicaEntry}
 use Rattle.coda_record.specs.declared.entry.ReplicaEntry.TheVariants.{Decide}
 use Rattle.coda_record.proofs.PartsAgree.{first_true, second_true}
-use Rattle.coda_record.proofs.Spans.{number_span, spans, together_span, records_span}
+use Rattle.coda_record.proofs.Spans.{number_span, together_span, records_span}
 use Rattle.coda_replica.specs.History.{payload_of, payloads_of, state_after, state_of, MayFollow, IsHistory}
 use Rattle.coda_replica.specs.State.{ReplicaState}
 use Rattle.coda_replica.specs.Standing.{IsUp}
 use Rattle.coda_replica.specs.declared.replica.Replica.{Replica}
-use Rattle.coda_replica.proofs.Growing.{payloads_push, state_push, entry_parts, one_byte}
+use Rattle.coda_replica.proofs.Growing.{state_push, entry_parts, one_byte}
 use Rattle.coda_replica.proofs.Reading.{blocks_push, blocks_append}
 use Rattle.coda_spelling.specs.Spelled.{IsSpelled, AreAllSpelled}
 use Rattle.coda_spelling.proofs.SpelledParts.{is_within, setattr_parts, rename_parts, store_parts}
@@ -292,9 +291,9 @@ attrs_by (Some m) (Some o) None s = (let a = more_small m 65536 (nat_lt o 429496
 attrs_by (Some m) None (Some t) s = (let a = more_small m 65536 (nat_lt t 18446744073709551616 && true) s in (a.0, tt, one_small t 18446744073709551616 a.1))
 attrs_by None (Some o) (Some t) s = (let a = more_small o 4294967296 (nat_lt t 18446744073709551616 && true) s in (tt, a.0, one_small t 18446744073709551616 a.1))
 attrs_by (Some m) (Some o) (Some t) s = (
-  let a = more_small m 65536 (nat_lt o 4294967296 && (nat_lt t 18446744073709551616 && true)) s in
-  let b = more_small o 4294967296 (nat_lt t 18446744073709551616 && true) a.1 in
-  (a.0, b.0, one_small t 18446744073709551616 b.1))
+    let a = more_small m 65536 (nat_lt o 4294967296 && (nat_lt t 18446744073709551616 && true)) s in
+    let b = more_small o 4294967296 (nat_lt t 18446744073709551616 && true) a.1 in
+    (a.0, b.0, one_small t 18446744073709551616 b.1))
 
 attrs_small : (a : Attrs) → HasSpelling table.attrs a → AreSmall a.mode a.owner a.mtime
 unfolding table.attrs

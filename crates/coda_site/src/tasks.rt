@@ -86,7 +86,8 @@ fn operate_at<D: Disk + Drop>(
     requires volume { HasSpelling a_volume volume }
     requires ask { IsAskSpelled (asked ask.now) }
     ensures slots { KeepsOtherSlots number clients.old clients.new }
-    ensures ends { CallEnds D.told number (nodes_offered offers.entry) (λ o c. operate_answer o c now volume (asked_as (asked ask.now))) clients.old clients.new IsDone result }
+    ensures ends { CallEnds D.told number (nodes_offered offers.entry)
+        (λ o c. operate_answer o c now volume (asked_as (asked ask.now))) clients.old clients.new IsDone result }
 {
     match take(clients, number) {
         Slot::Started { header, mut actor } => {
@@ -110,7 +111,8 @@ fn show_at<D: Disk + Drop>(
 ) -> Result<(Seen, bool), Refused>
     requires up { is_up (client_form D.told) (slot_at clients.old number) ≡ true }
     ensures slots { KeepsOtherSlots number clients.old clients.new }
-    ensures ends { CallEnds D.told number (nodes_offered offers.entry) (λ o c. show_answer what o c volume path.now) clients.old clients.new IsShown result }
+    ensures ends { CallEnds D.told number (nodes_offered offers.entry)
+        (λ o c. show_answer what o c volume path.now) clients.old clients.new IsShown result }
 {
     match take(clients, number) {
         Slot::Started { header, mut actor } => {
@@ -151,8 +153,11 @@ fn perform<B: Bay>(
     requires volume { HasSpelling a_volume volume }
     requires ask { IsAskSpelled (asked ask) }
     ensures ready { IsReady B.D.told (B.out _bay.now) site.new }
-    ensures does { (cell : StoredCell) → IsStoredKept cell → IsSite B.D.told (B.out _bay.now) (B.has _bay.now) cell site.old
-        → IfOk result (λ reply. Becomes B.D.told (B.out _bay.now) (B.has _bay.now) (Asks cell client volume (λ o c. operate_answer o c cell.made.clock volume (asked_as (asked ask.entry)))) reply (B.answered _bay.now) (B.answered _bay.now) site.new) }
+    ensures does { (cell : StoredCell) → IsStoredKept cell
+        → IsSite B.D.told (B.out _bay.now) (B.has _bay.now) cell site.old
+        → IfOk result (λ reply. Becomes B.D.told (B.out _bay.now) (B.has _bay.now)
+        (Asks cell client volume (λ o c. operate_answer o c cell.made.clock volume (asked_as (asked ask.entry))))
+        reply (B.answered _bay.now) (B.answered _bay.now) site.new) }
     ensures memory { IfErr result (λ why. why ≡ CellFault.Memory) }
 {
     if let Some(number) = site.missing(client, volume) {
@@ -190,8 +195,11 @@ fn look<B: Bay>(
 ) -> Result<Reply, CellFault>
     requires ready { IsReady B.D.told (B.out _bay.now) site.old }
     ensures ready { IsReady B.D.told (B.out _bay.now) site.new }
-    ensures does { (cell : StoredCell) → IsStoredKept cell → IsSite B.D.told (B.out _bay.now) (B.has _bay.now) cell site.old
-        → IfOk result (λ reply. Becomes B.D.told (B.out _bay.now) (B.has _bay.now) (Asks cell client volume (λ o c. show_answer what o c volume path.now)) reply (B.answered _bay.now) (B.answered _bay.now) site.new) }
+    ensures does { (cell : StoredCell) → IsStoredKept cell
+        → IsSite B.D.told (B.out _bay.now) (B.has _bay.now) cell site.old
+        → IfOk result (λ reply. Becomes B.D.told (B.out _bay.now) (B.has _bay.now)
+        (Asks cell client volume (λ o c. show_answer what o c volume path.now))
+        reply (B.answered _bay.now) (B.answered _bay.now) site.new) }
     ensures memory { IfErr result (λ why. why ≡ CellFault.Memory) }
 {
     if let Some(number) = site.missing(client, volume) {
@@ -236,8 +244,12 @@ fn store<B: Bay>(
     requires ready { IsReady B.D.told (B.out bay.now) site.old }
     requires volume { HasSpelling a_volume volume }
     ensures ready { IsReady B.D.told (B.out bay.now) site.new }
-    ensures does { (cell : StoredCell) → IsStoredKept cell → IsSite B.D.told (B.out bay.now) (B.has bay.now) cell site.old
-        → IfOk result (λ reply. Becomes B.D.told (B.out bay.now) (B.has bay.now) (Asks cell client volume (λ o c. operate_answer o c cell.made.clock volume (Store path.now (bytes_of content.now)))) reply (B.answered bay.now) (B.answered bay.now) site.new) }
+    ensures does { (cell : StoredCell) → IsStoredKept cell
+        → IsSite B.D.told (B.out bay.now) (B.has bay.now) cell site.old
+        → IfOk result (λ reply. Becomes B.D.told (B.out bay.now) (B.has bay.now)
+        (Asks cell client volume
+        (λ o c. operate_answer o c cell.made.clock volume (Store path.now (bytes_of content.now))))
+        reply (B.answered bay.now) (B.answered bay.now) site.new) }
     ensures memory { IfErr result (λ why. why ≡ CellFault.Memory) }
 {
     match content {
@@ -255,8 +267,10 @@ fn make<B: Bay>(bay: &B, site: &mut Site<B::D>, task: &Task) -> Result<Reply, Ce
     requires made { is_making task.now ≡ true }
     requires range { TaskInRange task.now }
     ensures ready { IsReady B.D.told (B.out bay.now) site.new }
-    ensures does { (cell : StoredCell) → IsStoredKept cell → IsSite B.D.told (B.out bay.now) (B.has bay.now) cell site.old
-        → IfOk result (λ reply. Becomes B.D.told (B.out bay.now) (B.has bay.now) (Happens cell (line.Task task.now)) reply (B.answered bay.now) (B.answered bay.now) site.new) }
+    ensures does { (cell : StoredCell) → IsStoredKept cell
+        → IsSite B.D.told (B.out bay.now) (B.has bay.now) cell site.old
+        → IfOk result (λ reply. Becomes B.D.told (B.out bay.now) (B.has bay.now) (Happens cell (line.Task task.now))
+        reply (B.answered bay.now) (B.answered bay.now) site.new) }
     ensures memory { IfErr result (λ why. why ≡ CellFault.Memory) }
 {
     match task {
@@ -268,7 +282,13 @@ fn make<B: Bay>(bay: &B, site: &mut Site<B::D>, task: &Task) -> Result<Reply, Ce
             owner,
         } => {
             let (mode, owner) = (mode.unwrap_or(FILE_MODE), owner.unwrap_or(0));
-            perform(bay, site, *client, *volume, Ask::Create { path, mode, owner })
+            perform(
+                bay,
+                site,
+                *client,
+                *volume,
+                Ask::Create { path, mode, owner },
+            )
         }
         Task::Mkdir {
             client,
@@ -278,7 +298,13 @@ fn make<B: Bay>(bay: &B, site: &mut Site<B::D>, task: &Task) -> Result<Reply, Ce
             owner,
         } => {
             let (mode, owner) = (mode.unwrap_or(DIRECTORY_MODE), owner.unwrap_or(0));
-            perform(bay, site, *client, *volume, Ask::Mkdir { path, mode, owner })
+            perform(
+                bay,
+                site,
+                *client,
+                *volume,
+                Ask::Mkdir { path, mode, owner },
+            )
         }
         Task::Symlink {
             client,
@@ -296,8 +322,10 @@ fn change<B: Bay>(bay: &B, site: &mut Site<B::D>, task: &Task) -> Result<Reply, 
     requires changed { is_changing task.now ≡ true }
     requires range { TaskInRange task.now }
     ensures ready { IsReady B.D.told (B.out bay.now) site.new }
-    ensures does { (cell : StoredCell) → IsStoredKept cell → IsSite B.D.told (B.out bay.now) (B.has bay.now) cell site.old
-        → IfOk result (λ reply. Becomes B.D.told (B.out bay.now) (B.has bay.now) (Happens cell (line.Task task.now)) reply (B.answered bay.now) (B.answered bay.now) site.new) }
+    ensures does { (cell : StoredCell) → IsStoredKept cell
+        → IsSite B.D.told (B.out bay.now) (B.has bay.now) cell site.old
+        → IfOk result (λ reply. Becomes B.D.told (B.out bay.now) (B.has bay.now) (Happens cell (line.Task task.now))
+        reply (B.answered bay.now) (B.answered bay.now) site.new) }
     ensures memory { IfErr result (λ why. why ≡ CellFault.Memory) }
 {
     match task {
@@ -335,17 +363,15 @@ fn change<B: Bay>(bay: &B, site: &mut Site<B::D>, task: &Task) -> Result<Reply, 
 /// # Errors
 ///
 /// `Memory` alone.
-pub fn carry_out<B: Bay>(
-    bay: &B,
-    site: &mut Site<B::D>,
-    task: &Task,
-) -> Result<Reply, CellFault>
+pub fn carry_out<B: Bay>(bay: &B, site: &mut Site<B::D>, task: &Task) -> Result<Reply, CellFault>
     requires ready { IsReady B.D.told (B.out bay.now) site.old }
     requires built { is_built_task task.now ≡ true }
     requires range { TaskInRange task.now }
     ensures ready { IsReady B.D.told (B.out bay.now) site.new }
-    ensures does { (cell : StoredCell) → IsStoredKept cell → IsSite B.D.told (B.out bay.now) (B.has bay.now) cell site.old
-        → IfOk result (λ reply. Becomes B.D.told (B.out bay.now) (B.has bay.now) (Happens cell (line.Task task.now)) reply (B.answered bay.now) (B.answered bay.now) site.new) }
+    ensures does { (cell : StoredCell) → IsStoredKept cell
+        → IsSite B.D.told (B.out bay.now) (B.has bay.now) cell site.old
+        → IfOk result (λ reply. Becomes B.D.told (B.out bay.now) (B.has bay.now) (Happens cell (line.Task task.now))
+        reply (B.answered bay.now) (B.answered bay.now) site.new) }
     ensures memory { IfErr result (λ why. why ≡ CellFault.Memory) }
 {
     match task {

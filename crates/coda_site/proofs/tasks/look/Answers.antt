@@ -1,12 +1,9 @@
-use Rattle.std.proofs.Common.{◌≡◌, ℕ, Ok, Err, IfOk, refl, sym, ap, subst, ◌∙◌}
+use Rattle.std.proofs.Common.{Err, sym, subst}
 use Rattle.std.specs.Prelude.{[], ◌∷◌}
 use Rattle.std.proofs.lemmas.Result.{IfOk-weaker}
 use Rattle.std.specs.Prelude.{Bool}
 use Rattle.coda_venus.specs.declared.seen.Seen.{Seen}
 use Rattle.coda_serving.specs.Serving.{show_answer, reply_of, IsShown}
-use Rattle.coda_actors.specs.Clients.{client_form}
-use Rattle.coda_actors.specs.Slots.{is_up}
-use Rattle.coda_crew.specs.Crews.{slot_at}
 use Rattle.coda_asking.specs.Fetching.{nodes_offered}
 use Rattle.coda_site.specs.Sites.{client_at, volume_at}
 use Rattle.coda_site.specs.Steps.{Becomes}
@@ -65,6 +62,6 @@ returns-in-Err-clause-does g c = λ cell kept is.
     let answered = g.B.Bay.answered c.args._bay.now in
     IfOk-weaker c.refused.result (λ said. RepliesTo (λ (r : Seen × Bool). reply_of r.1 r.0.node.kind) (Err c.in-Err.why) said) (λ said. Becomes told out has (Asks cell c.args.client c.args.volume (λ o x. show_answer c.args.what o x c.args.volume c.args.path.now)) said answered answered (with_clients site c.show_at.new.clients))
     (λ said replies. asked_becomes told out has cell kept site is c.args.client c.args.volume c.from-2.result c.missing.ensures.disk there c.from-2.ensures up c.show_at.new.clients c.show_at.ensures.slots
-        (nodes_offered c.offers_of-offers.result) c.offers_of-offers.ensures (λ o x. show_answer c.args.what o x c.args.volume c.args.path.now) (λ (r : Seen × Bool). reply_of r.1 r.0.node.kind) c.show_at.result c.show_at.ensures.ends said answered
-        (subst (λ r. RepliesTo (λ (r : Seen × Bool). reply_of r.1 r.0.node.kind) r said) (sym c.in-Err.is) replies))
+    (nodes_offered c.offers_of-offers.result) c.offers_of-offers.ensures (λ o x. show_answer c.args.what o x c.args.volume c.args.path.now) (λ (r : Seen × Bool). reply_of r.1 r.0.node.kind) c.show_at.result c.show_at.ensures.ends said answered
+    (subst (λ r. RepliesTo (λ (r : Seen × Bool). reply_of r.1 r.0.node.kind) r said) (sym c.in-Err.is) replies))
     (refused_so (λ (r : Seen × Bool). reply_of r.1 r.0.node.kind) c.in-Err.why c.refused.result c.refused.ensures.own c.refused.ensures.fault c.refused.ensures.memory)

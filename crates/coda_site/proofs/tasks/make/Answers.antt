@@ -1,4 +1,4 @@
-use Rattle.std.proofs.Common.{refl, ◌∙◌}
+use Rattle.std.proofs.Common.{refl}
 use Rattle.std.specs.Option.{unwrap_or}
 use Rattle.coda_script.specs.declared.line.Task.TheVariants as task
 use Rattle.coda_cell.specs.Ask.{Create, Mkdir, Symlink}

@@ -1,15 +1,12 @@
-use Rattle.std.proofs.Common.{◌≡◌, ℕ, Ok, Err, IfOk, refl, sym, ap, subst, ◌∙◌}
+use Rattle.std.proofs.Common.{ℕ, Err, refl, sym, subst}
 use Rattle.std.specs.Prelude.{[], ◌∷◌}
 use Rattle.std.proofs.lemmas.Result.{IfOk-weaker}
-use Rattle.coda_actors.specs.Clients.{client_form}
 use Rattle.coda_venus.specs.Ask.{asked}
 use Rattle.coda_venus.specs.declared.done.Done.{Done}
 use Rattle.coda_script.specs.declared.reply.Reply.TheVariants as reply
 use Rattle.coda_cell.specs.Asking.{operate}
 use Rattle.coda_serving.specs.Serving.{asked_as, IsDone}
 use Rattle.coda_asking.specs.Fetching.{nodes_offered}
-use Rattle.coda_actors.specs.Slots.{is_up}
-use Rattle.coda_crew.specs.Crews.{slot_at}
 use Rattle.coda_site.specs.Sites.{client_at, volume_at}
 use Rattle.coda_site.specs.Steps.{Becomes}
 use Rattle.coda_site.specs.Tasks.{Asks, CallEnds}
@@ -67,6 +64,6 @@ returns-in-Err-clause-does g c = λ cell kept is.
     let answered = g.B.Bay.answered c.args._bay.now in
     IfOk-weaker c.refused.result (λ said. RepliesTo (λ (d : Done). reply.Done d.number d.fid) (Err c.in-Err.why) said) (λ said. Becomes told out has (Asks cell c.args.client c.args.volume (λ o x. operate o x cell.made.clock c.args.volume (asked_as (asked c.args.ask)))) said answered answered (with_clients site c.operate_at.new.clients))
     (λ said replies. asked_becomes told out has cell kept site is c.args.client c.args.volume c.from-2.result c.missing.ensures.disk there c.from-2.ensures up c.operate_at.new.clients c.operate_at.ensures.slots
-        (nodes_offered c.offers_of-offers.result) c.offers_of-offers.ensures (λ o x. operate o x cell.made.clock c.args.volume (asked_as (asked c.args.ask))) (λ (d : Done). reply.Done d.number d.fid) c.operate_at.result (subst (λ (t : ℕ). CallEnds told c.from-2.result (nodes_offered c.offers_of-offers.result) (λ o x. operate o x t c.args.volume (asked_as (asked c.args.ask))) site.clients c.operate_at.new.clients IsDone c.operate_at.result) (sym is.clock) c.operate_at.ensures.ends) said answered
-        (subst (λ r. RepliesTo (λ (d : Done). reply.Done d.number d.fid) r said) (sym c.in-Err.is) replies))
+    (nodes_offered c.offers_of-offers.result) c.offers_of-offers.ensures (λ o x. operate o x cell.made.clock c.args.volume (asked_as (asked c.args.ask))) (λ (d : Done). reply.Done d.number d.fid) c.operate_at.result (subst (λ (t : ℕ). CallEnds told c.from-2.result (nodes_offered c.offers_of-offers.result) (λ o x. operate o x t c.args.volume (asked_as (asked c.args.ask))) site.clients c.operate_at.new.clients IsDone c.operate_at.result) (sym is.clock) c.operate_at.ensures.ends) said answered
+    (subst (λ r. RepliesTo (λ (d : Done). reply.Done d.number d.fid) r said) (sym c.in-Err.is) replies))
     (refused_so (λ (d : Done). reply.Done d.number d.fid) c.in-Err.why c.refused.result c.refused.ensures.own c.refused.ensures.fault c.refused.ensures.memory)
