@@ -11,3 +11,4 @@ pub mod Holders
 pub mod Drainings
 pub mod Posted
 pub mod SentChunks
+pub mod Delivered

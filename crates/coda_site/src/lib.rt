@@ -2,8 +2,8 @@
 //! way, and what each line of a script does.
 #![tactic(auto)]
 
-mod calls;
 mod cell;
+mod chunks;
 mod draining;
 mod failing;
 mod fault;
