@@ -1,5 +1,5 @@
 -- What a line leaves of a site: by who is missing and who is down, and by how a client's call ended.
-use Rattle.std.proofs.Common.{◌≡◌, ◌⊎◌, inl, inr, ℕ, Bool, true, false, ◌&&◌, List, [], ◌∷◌, ◌++◌, append-nil, map, Option, Some, None, Result, Ok, Err, refl, sym, ap, subst, ◌∙◌}
+use Rattle.std.proofs.Common.{◌≡◌, inl, inr, ℕ, Bool, true, false, ◌&&◌, List, [], ◌∷◌, append-nil, map, Option, Some, None, Result, Ok, Err, refl, sym, ap, subst, ◌∙◌}
 use Rattle.std.proofs.lemmas.List.{map-append}
 use Rattle.std.specs.Prelude.{not, is_some}
 use Rattle.std.specs.Option.{option_map}
@@ -11,7 +11,7 @@ use Rattle.coda_script.specs.declared.reply.Reply.{Reply}
 use Rattle.coda_venus.specs.declared.refused.Refused.{Refused as VenusRefused}
 use Rattle.coda_venus.specs.declared.refused.Refused.TheVariants as reason
 use Rattle.coda_cell.specs.Refusing.{refusal}
-use Rattle.coda_cell.specs.State.{Event, Entered, at_client}
+use Rattle.coda_cell.specs.State.{Event, at_client}
 use Rattle.coda_cell.specs.Steps.{Does, Named, Doing, Naming, Unless, first_missing, reply_to}
 use Rattle.coda_cell.specs.declared.refused.Refused.{Refused}
 use Rattle.coda_cell.specs.declared.refused.Refused.TheVariants as refused

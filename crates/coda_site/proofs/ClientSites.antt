@@ -1,41 +1,41 @@
 -- The client that is up in a site: what the cell has of it, and the cell that its entries leave.
-use Rattle.std.proofs.Common.{◌≡◌, ◌≢◌, ◌⊎◌, inl, inr, ℕ, ◌+◌, ◌<◌, ◌≤◌, ◌==◌, Bool, true, false, cond, List, [], ◌∷◌, ◌++◌, append-nil, map, drop, length, Option, Some, None, Result, Ok, Err, refl, sym, ap, subst, ◌∙◌, arith}
+use Rattle.std.proofs.Common.{◌≡◌, ◌≢◌, ◌⊎◌, inl, inr, ℕ, ◌+◌, ◌≤◌, ◌==◌, Bool, true, false, cond, List, [], ◌∷◌, ◌++◌, append-nil, map, drop, length, Option, Some, None, Result, Ok, Err, refl, sym, ap, subst, ◌∙◌, arith}
 use Rattle.std.proofs.lemmas.Bool.{cases_eq, false≢true, eqb-true}
 use Rattle.std.proofs.lemmas.Bool.Decides.{nat_tests}
 use Rattle.std.proofs.lemmas.List.{append_assoc, map-append, length-append, length-take}
-use Rattle.std.specs.Prelude.{not, nat_lt, is_some, ◌&&◌}
+use Rattle.std.specs.Prelude.{not}
 use Rattle.std.specs.Option.{option_map}
 use Rattle.std.specs.Int.{w32}
 use Rattle.std.specs.BTreeMap.{BTreeMap}
 use Rattle.coda_disk.specs.Told.{Told}
-use Rattle.coda_journal.specs.Entries.{blocks, framed, body}
+use Rattle.coda_journal.specs.Entries.{blocks, body}
 use Rattle.coda_journal.specs.Header.{area_bytes}
-use Rattle.coda_journal.specs.Image.{Reads, ReadsAs, IsUnmade, area_of, start_of}
+use Rattle.coda_journal.specs.Image.{Reads, ReadsAs, area_of, start_of}
 use Rattle.coda_journal.specs.declared.header.Header.{Header}
 use Rattle.coda_actors.specs.Clients.{client_form}
 use Rattle.coda_actors.specs.Fits.{StandsFor as ActorStands, Echoes, Fits, FitsDown, FitsUp, AsksOwn}
 use Rattle.coda_actors.specs.Form.{IsAsked}
-use Rattle.coda_actors.specs.Plain.{Life, Unmade, Down, Up, PlainActor}
-use Rattle.coda_actors.specs.Slots.{is_made, is_up}
+use Rattle.coda_actors.specs.Plain.{Unmade, Down, Up, PlainActor}
+use Rattle.coda_actors.specs.Slots.{is_up}
 use Rattle.coda_actors.specs.declared.slot.Slot.{Slot}
 use Rattle.coda_actors.specs.declared.slot.Slot.TheVariants.{Vacant, Spare, Stopped, Started}
-use Rattle.coda_crew.specs.Crews.{slot_at, KeepsOtherSlots, FitsAll, OutAt, OutAll, OwnAll}
-use Rattle.coda_plain.specs.Cell.{ClientEntry, Actor, PlainCell}
+use Rattle.coda_crew.specs.Crews.{slot_at, KeepsOtherSlots, FitsAll, OutAt}
+use Rattle.coda_plain.specs.Cell.{ClientEntry, Actor}
 use Rattle.coda_plain.specs.Moves.{AtClient, with_client, fallen}
 use Rattle.coda_plain.proofs.Soundness.{none_joins}
-use Rattle.coda_replica.proofs.Reading.{blocks_push, blocks_append}
+use Rattle.coda_replica.proofs.Reading.{blocks_append}
 use Rattle.coda_venus.specs.History.{Payload, payload_of, payloads_of}
 use Rattle.coda_venus.specs.Standing.{IsUp, StandsFor}
 use Rattle.coda_venus.specs.declared.refused.Refused.{Refused as VenusRefused}
 use Rattle.coda_venus.specs.declared.refused.Refused.TheVariants as reason
 use Rattle.coda_venus.specs.declared.venus.Venus.{Venus}
 use Rattle.coda_cell.specs.State.{Event, at_client}
-use Rattle.coda_cell.specs.Made.{MadeCell, client_of, state_of}
+use Rattle.coda_cell.specs.Made.{client_of, state_of}
 use Rattle.coda_cell.specs.declared.refused.Refused.{Refused}
 use Rattle.coda_cell.specs.declared.refused.Refused.TheVariants as refused
 use Rattle.coda_cell.proofs.KeptCells.{lawful}
 use Rattle.coda_matching.specs.Clients.{journal_by, payload_by, IsClientHistory, Cut, LacksRoom, refused_as, Ends}
-use Rattle.coda_stored.specs.Cells.{Side, no_side, StoredCell, life_of, plain_client, client_header, after, after_all, failed}
+use Rattle.coda_stored.specs.Cells.{Side, StoredCell, life_of, plain_client, client_header, after, after_all, failed}
 use Rattle.coda_stored.specs.Kept.{IsStoredKept, IsClientSide, whole}
 use Rattle.coda_stored.specs.Room.{Lacks, LacksUnder, Fits as FitsEvents}
 use Rattle.coda_site.specs.Sites.{is_client_disk, IsSite, IsReady}
@@ -86,7 +86,7 @@ pub record IsClientUp {D : Type 0} (told : D → Told) (out : ℕ → Bool) (cel
 abbrev pub plain_clients : StoredCell → ℕ → PlainActor Payload
 plain_clients cell n = plain_client (cell.made.acted.clients n) (cell.clients n)
 
-started_up : {D : Type 0} (told : D → Told) (slot : Slot (Venus D) D) → is_up (client_form told) slot ≡ true → (header : Header) × (venus : Venus D) × (slot ≡ Started header venus) × (venus.down ≡ false)
+pub started_up : {D : Type 0} (told : D → Told) (slot : Slot (Venus D) D) → is_up (client_form told) slot ≡ true → (header : Header) × (venus : Venus D) × (slot ≡ Started header venus) × (venus.down ≡ false)
 started_up told Vacant up = absurd (false≢true up)
 started_up told (Spare disk) up = absurd (false≢true up)
 started_up told (Stopped header disk) up = absurd (false≢true up)
@@ -112,23 +112,23 @@ module _ {D : Type 0} (told : D → Told) (out : ℕ → Bool) (has : ℕ → To
       let f : Fits (client_form told) told (out n) (has n) (Started header venus) (plain_clients cell n) = subst (λ (s : Slot (Venus D) D). Fits (client_form told) told (out n) (has n) s (plain_clients cell n)) slot (fits n here) in
       elim f.1 [
         | inl up ↦ (
-          let life = up_asks (cell.clients n).asked (cell.made.acted.clients n).up header up.life in
-          let size = sized n (cell.made.sizes n) (cell.made.acted.clients n) (cell.clients n) header (kept.clients n) life.0 in
-          record {
-            slot = slot;
-            lent = f.0;
-            up = up.up;
-            lawful = lawful_deeds n header venus up.up;
-            number = size.1;
-            size = size.0;
-            shown = ap (option_map (client_of n (cell.made.acted.clients n).history)) size.0 ∙ ap (λ (m : ℕ). Some (client_of m (cell.made.acted.clients n).history header.cache)) (sym size.1);
-            header_asked = up.asked;
-            asked = life.0;
-            given = up.given;
-            left = up.left;
-            is_up = life.1;
-            none_failed = none_mapped payload_by (cell.made.acted.clients n).failed up.failed;
-          })
+            let life = up_asks (cell.clients n).asked (cell.made.acted.clients n).up header up.life in
+            let size = sized n (cell.made.sizes n) (cell.made.acted.clients n) (cell.clients n) header (kept.clients n) life.0 in
+            record {
+              slot = slot;
+              lent = f.0;
+              up = up.up;
+              lawful = lawful_deeds n header venus up.up;
+              number = size.1;
+              size = size.0;
+              shown = ap (option_map (client_of n (cell.made.acted.clients n).history)) size.0 ∙ ap (λ (m : ℕ). Some (client_of m (cell.made.acted.clients n).history header.cache)) (sym size.1);
+              header_asked = up.asked;
+              asked = life.0;
+              given = up.given;
+              left = up.left;
+              is_up = life.1;
+              none_failed = none_mapped payload_by (cell.made.acted.clients n).failed up.failed;
+            })
         | inr down ↦ absurd (false≢true (sym runs ∙ down.0))
       ]
 
@@ -207,7 +207,7 @@ fits_both cell (event ∷ front) back fits more = (fits.0, fits_both (after cell
 -- ---- room
 
 -- what a disk reads as has room in its area, with a gate behind it
-reads_fit : (header : Header) (image : List ℕ) (payloads : List (List ℕ)) → Reads header image payloads → length (blocks w32 payloads) + 1 ≤ area_bytes header
+pub reads_fit : (header : Header) (image : List ℕ) (payloads : List (List ℕ)) → Reads header image payloads → length (blocks w32 payloads) + 1 ≤ area_bytes header
 reads_fit header image payloads reads =
     let held = reads.entries in
     let long = length-take (area_bytes header) (drop (start_of header image) image) in
@@ -253,16 +253,16 @@ read_room header image history next (inl (inl none)) = inl none.1
 read_room header image history next (inl (inr reads)) = inr (reads_fit header image (payloads_of (journal_by history)) reads)
 read_room header image history next (inr (inl none)) = (let long = length-append (payloads_of (journal_by history)) (payload_of (payload_by next) ∷ []) in let zero = ap length none.1 in absurd (omega (arith, long, zero)))
 read_room header image history next (inr (inr reads)) = (
-  let fit = reads_fit header image (payloads_of (journal_by history) ++ payload_of (payload_by next) ∷ []) reads in
-  let split = blocks_append (payloads_of (journal_by history)) (payload_of (payload_by next) ∷ []) in
-  inr (omega (arith, fit, split)))
+    let fit = reads_fit header image (payloads_of (journal_by history) ++ payload_of (payload_by next) ∷ []) reads in
+    let split = blocks_append (payloads_of (journal_by history)) (payload_of (payload_by next) ∷ []) in
+    inr (omega (arith, fit, split)))
 
 none_done : (cell : StoredCell) (n : ℕ) (history done : List ClientEntry) → payloads_of (journal_by (history ++ done)) ≡ [] → FitsEvents cell (map (at_client n) done)
 none_done cell n history [] none = tt
 none_done cell n history (entry ∷ done) none = (
-  let long = length-append (payloads_of (journal_by history)) (payload_of (payload_by entry) ∷ payloads_of (journal_by done)) in
-  let zero = ap length (sym (payloads_both history (entry ∷ done)) ∙ none) in
-  absurd (omega (arith, long, zero)))
+    let long = length-append (payloads_of (journal_by history)) (payload_of (payload_by entry) ∷ payloads_of (journal_by done)) in
+    let zero = ap length (sym (payloads_both history (entry ∷ done)) ∙ none) in
+    absurd (omega (arith, long, zero)))
 
 -- a disk at which an entry failed had room for those before it
 stood_fits : (told : Told) (cell : StoredCell) (n : ℕ) (header : Header) (done : List ClientEntry) (next : ClientEntry) → (told.honest → told.may_leave told.seen) → (cell.clients n).asked ≡ Some header

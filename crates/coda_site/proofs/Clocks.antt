@@ -1,5 +1,5 @@
 -- A site at a later time, and one with another link.
-use Rattle.std.proofs.Common.{◌≡◌, ℕ, ◌==◌, ◌&&◌, Bool, true, false, cond, refl, sym, ap, ◌∙◌}
+use Rattle.std.proofs.Common.{◌≡◌, ℕ, ◌==◌, ◌&&◌, Bool, cond, sym, ap, ◌∙◌}
 use Rattle.coda_disk.specs.Told.{Told}
 use Rattle.coda_net.specs.Pool.{Pool}
 use Rattle.coda_script.specs.declared.line.Strength.{Strength}

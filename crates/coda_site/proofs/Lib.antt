@@ -5,8 +5,11 @@ pub mod Clocks
 pub mod Calls
 pub mod Slots
 pub mod ReplicaSites
+pub mod SpelledOffers
+pub mod Offers
 pub mod Stages
 pub mod Drained
+pub mod Carrying
 pub mod Holders
 pub mod Drainings
 pub mod Posted

@@ -2,7 +2,7 @@
 use Rattle.std.proofs.Common.{◌≡◌, ◌≢◌, ℕ, ◌==◌, ◌<◌, Bool, true, false, cond, List, [], ◌∷◌, Option, Some, None, refl, sym, ap, subst, ◌∙◌, inl, inr, arith}
 use Rattle.std.proofs.lemmas.Bool.{false≢true}
 use Rattle.std.proofs.lemmas.Bool.Decides.{nat_tests}
-use Rattle.std.specs.Prelude.{not, nat_lt, nat_le, is_some, ◌&&◌, ◌≤◌}
+use Rattle.std.specs.Prelude.{not, is_some, ◌&&◌}
 use Rattle.std.specs.Option.{option_map, option_map_or, IfSome}
 use Rattle.std.specs.List.{list_any}
 use Rattle.coda_disk.specs.Told.{Told}
@@ -25,10 +25,10 @@ use Rattle.coda_cell.specs.State.{ReplicaState, new_replica}
 use Rattle.coda_cell.specs.Steps.{Named, client_named, volume_named, server_named, holder_named, on_volume, on_holder, first_missing}
 use Rattle.coda_cell.specs.declared.refused.Refused.TheVariants.{NoSuchActor}
 use Rattle.coda_cell.proofs.Histories.{server_stays}
-use Rattle.coda_stored.specs.Cells.{Side, no_side, StoredCell, life_of, plain_client, plain_replica}
+use Rattle.coda_stored.specs.Cells.{Side, StoredCell, life_of, plain_client, plain_replica}
 use Rattle.coda_stored.specs.Kept.{IsStoredKept, IsClientSide, IsReplicaSide}
 use Rattle.coda_stored.specs.Lines.{client_down, replica_down}
-use Rattle.coda_site.specs.Sites.{is_client_disk, is_replica_disk, place_in, IsSite, IsReady, client_at, volume_at, server_at, holder_at}
+use Rattle.coda_site.specs.Sites.{is_client_disk, is_replica_disk, place_in, IsSite, client_at, volume_at, server_at, holder_at}
 use Rattle.coda_site.specs.declared.site.Site.{Site}
 use Rattle.coda_site.specs.declared.site.Place.{Place}
 

@@ -1,5 +1,5 @@
 -- What a client does that is asked for something on a volume.
-use Rattle.std.specs.Prelude.{◌≡◌, ℕ, ◌&&◌, if◌then◌else◌, List, [], Option, Some, None, Result}
+use Rattle.std.specs.Prelude.{◌≡◌, ℕ, Bool, true, false, ◌&&◌, if◌then◌else◌, List, [], Option, Some, None, Result}
 use Rattle.std.specs.BTreeMap.{BTreeMap}
 use Rattle.coda_disk.specs.Told.{Told}
 use Rattle.coda_journal.specs.declared.header.Header.{Header}
@@ -12,6 +12,8 @@ use Rattle.coda_net.specs.Pool.{Pool}
 use Rattle.coda_replica.specs.declared.replica.Replica.{Replica}
 use Rattle.coda_script.specs.declared.line.Strength.{Strength}
 use Rattle.coda_script.specs.declared.line.Strength.TheVariants.{Strong, Weak, Down}
+use Rattle.coda_script.specs.declared.line.Task.{Task}
+use Rattle.coda_script.specs.declared.line.Task.TheVariants as task
 use Rattle.coda_script.specs.declared.reply.Reply.{Reply}
 use Rattle.coda_venus.specs.Standing.{IsUp}
 use Rattle.coda_venus.specs.declared.refused.Refused.{Refused as VenusRefused}
@@ -26,6 +28,23 @@ use Rattle.coda_serving.specs.Serving.{AreSpelledOffers}
 use Rattle.coda_stored.specs.Cells.{StoredCell}
 use Rattle.coda_stored.specs.Lines.{all_there, client_down, met_by, EndsBy, Becoming, UnlessDown}
 use Rattle.coda_site.specs.declared.site.Place.{Place}
+
+-- ---- kinds of tasks
+
+-- tasks that make an object
+abbrev pub is_making : Task → Bool
+is_making (task.Create client volume path mode owner) = true
+is_making (task.Mkdir client volume path mode owner) = true
+is_making (task.Symlink client volume path target) = true
+is_making _ = false
+
+-- tasks that change an object, remove or move it
+abbrev pub is_changing : Task → Bool
+is_changing (task.Setattr client volume path attrs) = true
+is_changing (task.Remove client volume path) = true
+is_changing (task.Rmdir client volume path) = true
+is_changing (task.Rename client volume from to) = true
+is_changing _ = false
 
 -- ---- what is asked of a client
 
@@ -67,9 +86,11 @@ offered_at net replicas client (Some p) = carried (linked_in net client p.server
 
 -- ---- how a client's call ends
 
--- The client of a number was up, and was called with a request: it is in its slot still, and the call ended so by its history.
+-- The client of a number was up, and was called with a request: it is in its slot still, and the call ended so by its history. A crash may leave its
+-- disk as it is read.
 abbrev pub CallEnds : {D B : Type 0} → (D → Told) → ℕ → Option Nodes → Request → BTreeMap ℕ (Slot (Venus D) D) → BTreeMap ℕ (Slot (Venus D) D) → (Reply → B → Type 0) → Result B VenusRefused → Type 0
 CallEnds {D = D} told number offers request old new IsAs result =
     (header : Header) (venus : Venus D) → slot_at old number ≡ Started header venus → (left : Venus D) × (slot_at new number ≡ Started header left)
+    × ((told left.journal.disk).honest → (told left.journal.disk).may_leave (told left.journal.disk).seen)
     × ((history : List ClientEntry) → IsUp told header venus (journal_by history) → IsClientHistory header history → AreSpelledOffers offers
     → let answer = request offers (client_of header.number history header.cache) in Ends told header history answer.entries answer.said IsAs left result)

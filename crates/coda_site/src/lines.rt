@@ -90,8 +90,11 @@ fn set_link<B: Bay>(
 ) -> Result<Reply, CellFault>
     requires ready { IsReady B.D.told (B.out _bay.now) site.old }
     ensures ready { IsReady B.D.told (B.out _bay.now) site.new }
-    ensures does { (cell : StoredCell) → IsStoredKept cell → IsSite B.D.told (B.out _bay.now) (B.has _bay.now) cell site.old
-        → IfOk result (λ reply. Becomes B.D.told (B.out _bay.now) (B.has _bay.now) (Happens cell (line.Link client server strength)) reply (B.answered _bay.now) (B.answered _bay.now) site.new) }
+    ensures does { (cell : StoredCell) → IsStoredKept cell
+        → IsSite B.D.told (B.out _bay.now) (B.has _bay.now) cell site.old
+        → IfOk result (λ reply. Becomes B.D.told (B.out _bay.now) (B.has _bay.now)
+        (Happens cell (line.Link client server strength))
+        reply (B.answered _bay.now) (B.answered _bay.now) site.new) }
     ensures memory { IfErr result (λ why. why ≡ CellFault.Memory) }
 {
     if let Some(number) = site.missing_end(client, server) {
@@ -110,8 +113,10 @@ fn set_link<B: Bay>(
 fn tick<B: Bay>(_bay: &B, site: &mut Site<B::D>, seconds: u32) -> Reply
     requires ready { IsReady B.D.told (B.out _bay.now) site.old }
     ensures ready { IsReady B.D.told (B.out _bay.now) site.new }
-    ensures does { (cell : StoredCell) → IsStoredKept cell → IsSite B.D.told (B.out _bay.now) (B.has _bay.now) cell site.old
-        → (Becomes B.D.told (B.out _bay.now) (B.has _bay.now) (Happens cell (line.Tick seconds)) result (B.answered _bay.now) (B.answered _bay.now) site.new) }
+    ensures does { (cell : StoredCell) → IsStoredKept cell
+        → IsSite B.D.told (B.out _bay.now) (B.has _bay.now) cell site.old
+        → Becomes B.D.told (B.out _bay.now) (B.has _bay.now) (Happens cell (line.Tick seconds))
+        result (B.answered _bay.now) (B.answered _bay.now) site.new }
 {
     site.clock = site.clock.saturating_add(u64::from(seconds));
     Reply::Accepted
@@ -125,8 +130,11 @@ fn show_volume<B: Bay>(
     volume: u32,
 ) -> Result<Reply, CellFault>
     requires ready { IsReady B.D.told (B.out _bay.now) site.now }
-    ensures does { (cell : StoredCell) → IsStoredKept cell → IsSite B.D.told (B.out _bay.now) (B.has _bay.now) cell site.now
-        → IfOk result (λ reply. Becomes B.D.told (B.out _bay.now) (B.has _bay.now) (Happens cell (line.ShowVolume server volume)) reply (B.answered _bay.now) (B.answered _bay.now) site.now) }
+    ensures does { (cell : StoredCell) → IsStoredKept cell
+        → IsSite B.D.told (B.out _bay.now) (B.has _bay.now) cell site.now
+        → IfOk result (λ reply. Becomes B.D.told (B.out _bay.now) (B.has _bay.now)
+        (Happens cell (line.ShowVolume server volume))
+        reply (B.answered _bay.now) (B.answered _bay.now) site.now) }
     ensures memory { IfErr result (λ why. why ≡ CellFault.Memory) }
 {
     match site.place(volume) {
@@ -148,8 +156,11 @@ fn show_log<B: Bay>(
     volume: u32,
 ) -> Result<Reply, CellFault>
     requires ready { IsReady B.D.told (B.out _bay.now) site.now }
-    ensures does { (cell : StoredCell) → IsStoredKept cell → IsSite B.D.told (B.out _bay.now) (B.has _bay.now) cell site.now
-        → IfOk result (λ reply. Becomes B.D.told (B.out _bay.now) (B.has _bay.now) (Happens cell (line.ShowLog client volume)) reply (B.answered _bay.now) (B.answered _bay.now) site.now) }
+    ensures does { (cell : StoredCell) → IsStoredKept cell
+        → IsSite B.D.told (B.out _bay.now) (B.has _bay.now) cell site.now
+        → IfOk result (λ reply. Becomes B.D.told (B.out _bay.now) (B.has _bay.now)
+        (Happens cell (line.ShowLog client volume))
+        reply (B.answered _bay.now) (B.answered _bay.now) site.now) }
     ensures memory { IfErr result (λ why. why ≡ CellFault.Memory) }
 {
     if let Some(number) = site.missing(client, volume) {
@@ -183,11 +194,7 @@ fn fail<B: Bay>(bay: &mut B, site: &mut Site<B::D>, line: &Line) -> Result<Reply
 }
 
 /// Carries out a line that is built, and answers its reply.
-pub fn step<B: Bay>(
-    bay: &mut B,
-    site: &mut Site<B::D>,
-    line: &Line,
-) -> Result<Reply, CellFault> {
+pub fn step<B: Bay>(bay: &mut B, site: &mut Site<B::D>, line: &Line) -> Result<Reply, CellFault> {
     match line {
         Line::Volume {
             volume,

@@ -36,7 +36,8 @@ pub fn set_strength(
     server: u8,
     strength: Strength,
 ) -> Result<(), NetFault>
-    ensures links { OnOk result ((c s : ℕ) → linked_in net.new c s ≡ linked (linked_in net.old) client server strength c s) }
+    ensures links { OnOk result ((c s : ℕ)
+        → linked_in net.new c s ≡ linked (linked_in net.old) client server strength c s) }
     ensures letters { net.new.letters ≡ net.old.letters }
     ensures posted { net.new.posted ≡ net.old.posted }
 {

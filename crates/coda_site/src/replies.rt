@@ -79,7 +79,8 @@ pub fn no_such_actor(alloc: Global, number: u32) -> Result<Reply, AllocError>
 ///
 /// `Memory` where the client had none, or there is none for the reply.
 pub fn refused(alloc: Global, why: Refused) -> Result<Reply, CellFault>
-    ensures own { why ≢ Refused.Down → why ≢ Refused.DiskFault → IfOk result (λ said. said ≡ refusal (refused_as why)) }
+    ensures own { why ≢ Refused.Down → why ≢ Refused.DiskFault
+        → IfOk result (λ said. said ≡ refusal (refused_as why)) }
     ensures down { why ≡ Refused.Down → IfOk result (λ said. said ≡ refused_down) }
     ensures fault { why ≡ Refused.DiskFault → IfOk result (λ said. said ≡ refused_fault) }
     ensures memory { why ≡ Refused.Memory → result ≡ Err CellFault.Memory }

@@ -2,7 +2,6 @@
 ghost use Rattle.std.specs.Prelude.{◌≡◌, ℕ, true, Some, replicate, IfOk, IfErr};
 ghost use Rattle.std.specs.BTreeMap.{get as get_in};
 ghost use Rattle.std.specs.Ordering.{nat_cmp};
-ghost use Rattle.coda_fid.specs.Name.{AreNames};
 ghost use Rattle.coda_actors.specs.Clients.{client_form};
 ghost use Rattle.coda_actors.specs.Slots.{is_up};
 ghost use Rattle.coda_crew.specs.Crews.{slot_at, KeepsOtherSlots};
@@ -10,7 +9,6 @@ ghost use Rattle.coda_record.specs.Spelling.{HasSpelling};
 ghost use Rattle.coda_record.specs.Table.{volume as a_volume};
 ghost use Rattle.coda_script.specs.Ranges.{TaskInRange};
 ghost use Rattle.coda_script.specs.declared.line.Line.TheVariants as line;
-ghost use Rattle.coda_script.specs.declared.line.Task.TheVariants as task;
 ghost use Rattle.coda_venus.specs.Ask.{asked, IsAskSpelled};
 ghost use Rattle.coda_asking.specs.Fetching.{nodes_offered};
 ghost use Rattle.coda_cell.specs.Ask.{Store};
@@ -22,7 +20,7 @@ ghost use Rattle.coda_stored.specs.Kept.{IsStoredKept};
 ghost use Rattle.coda_stored.specs.Lines.{Happens};
 ghost use Rattle.coda_site.specs.Sites.{IsSite, IsReady};
 ghost use Rattle.coda_site.specs.Steps.{Becomes};
-ghost use Rattle.coda_site.specs.Tasks.{Asks, CallEnds, offered_at};
+ghost use Rattle.coda_site.specs.Tasks.{is_making, is_changing, Asks, CallEnds, offered_at};
 
 use crate::draining::drain;
 use crate::fault::CellFault;
@@ -88,7 +86,8 @@ fn operate_at<D: Disk + Drop>(
     requires volume { HasSpelling a_volume volume }
     requires ask { IsAskSpelled (asked ask.now) }
     ensures slots { KeepsOtherSlots number clients.old clients.new }
-    ensures ends { CallEnds D.told number (nodes_offered offers.entry) (λ o c. operate_answer o c now volume (asked_as (asked ask.now))) clients.old clients.new IsDone result }
+    ensures ends { CallEnds D.told number (nodes_offered offers.entry)
+        (λ o c. operate_answer o c now volume (asked_as (asked ask.now))) clients.old clients.new IsDone result }
 {
     match take(clients, number) {
         Slot::Started { header, mut actor } => {
@@ -112,7 +111,8 @@ fn show_at<D: Disk + Drop>(
 ) -> Result<(Seen, bool), Refused>
     requires up { is_up (client_form D.told) (slot_at clients.old number) ≡ true }
     ensures slots { KeepsOtherSlots number clients.old clients.new }
-    ensures ends { CallEnds D.told number (nodes_offered offers.entry) (λ o c. show_answer what o c volume path.now) clients.old clients.new IsShown result }
+    ensures ends { CallEnds D.told number (nodes_offered offers.entry)
+        (λ o c. show_answer what o c volume path.now) clients.old clients.new IsShown result }
 {
     match take(clients, number) {
         Slot::Started { header, mut actor } => {
@@ -151,10 +151,13 @@ fn perform<B: Bay>(
 ) -> Result<Reply, CellFault>
     requires ready { IsReady B.D.told (B.out _bay.now) site.old }
     requires volume { HasSpelling a_volume volume }
-    requires ask { IsAskSpelled (asked ask.entry) }
+    requires ask { IsAskSpelled (asked ask) }
     ensures ready { IsReady B.D.told (B.out _bay.now) site.new }
-    ensures does { (cell : StoredCell) → IsStoredKept cell → IsSite B.D.told (B.out _bay.now) (B.has _bay.now) cell site.old
-        → IfOk result (λ reply. Becomes B.D.told (B.out _bay.now) (B.has _bay.now) (Asks cell client volume (λ o c. operate_answer o c cell.made.clock volume (asked_as (asked ask.entry)))) reply (B.answered _bay.now) (B.answered _bay.now) site.new) }
+    ensures does { (cell : StoredCell) → IsStoredKept cell
+        → IsSite B.D.told (B.out _bay.now) (B.has _bay.now) cell site.old
+        → IfOk result (λ reply. Becomes B.D.told (B.out _bay.now) (B.has _bay.now)
+        (Asks cell client volume (λ o c. operate_answer o c cell.made.clock volume (asked_as (asked ask.entry))))
+        reply (B.answered _bay.now) (B.answered _bay.now) site.new) }
     ensures memory { IfErr result (λ why. why ≡ CellFault.Memory) }
 {
     if let Some(number) = site.missing(client, volume) {
@@ -192,8 +195,11 @@ fn look<B: Bay>(
 ) -> Result<Reply, CellFault>
     requires ready { IsReady B.D.told (B.out _bay.now) site.old }
     ensures ready { IsReady B.D.told (B.out _bay.now) site.new }
-    ensures does { (cell : StoredCell) → IsStoredKept cell → IsSite B.D.told (B.out _bay.now) (B.has _bay.now) cell site.old
-        → IfOk result (λ reply. Becomes B.D.told (B.out _bay.now) (B.has _bay.now) (Asks cell client volume (λ o c. show_answer what o c volume path.now)) reply (B.answered _bay.now) (B.answered _bay.now) site.new) }
+    ensures does { (cell : StoredCell) → IsStoredKept cell
+        → IsSite B.D.told (B.out _bay.now) (B.has _bay.now) cell site.old
+        → IfOk result (λ reply. Becomes B.D.told (B.out _bay.now) (B.has _bay.now)
+        (Asks cell client volume (λ o c. show_answer what o c volume path.now))
+        reply (B.answered _bay.now) (B.answered _bay.now) site.new) }
     ensures memory { IfErr result (λ why. why ≡ CellFault.Memory) }
 {
     if let Some(number) = site.missing(client, volume) {
@@ -238,8 +244,12 @@ fn store<B: Bay>(
     requires ready { IsReady B.D.told (B.out bay.now) site.old }
     requires volume { HasSpelling a_volume volume }
     ensures ready { IsReady B.D.told (B.out bay.now) site.new }
-    ensures does { (cell : StoredCell) → IsStoredKept cell → IsSite B.D.told (B.out bay.now) (B.has bay.now) cell site.old
-        → IfOk result (λ reply. Becomes B.D.told (B.out bay.now) (B.has bay.now) (Asks cell client volume (λ o c. operate_answer o c cell.made.clock volume (Store path.now (bytes_of content.now)))) reply (B.answered bay.now) (B.answered bay.now) site.new) }
+    ensures does { (cell : StoredCell) → IsStoredKept cell
+        → IsSite B.D.told (B.out bay.now) (B.has bay.now) cell site.old
+        → IfOk result (λ reply. Becomes B.D.told (B.out bay.now) (B.has bay.now)
+        (Asks cell client volume
+        (λ o c. operate_answer o c cell.made.clock volume (Store path.now (bytes_of content.now))))
+        reply (B.answered bay.now) (B.answered bay.now) site.new) }
     ensures memory { IfErr result (λ why. why ≡ CellFault.Memory) }
 {
     match content {
@@ -251,21 +261,19 @@ fn store<B: Bay>(
     }
 }
 
-/// Carries out what a client is to do.
-pub fn carry_out<B: Bay>(
-    bay: &B,
-    site: &mut Site<B::D>,
-    task: &Task,
-) -> Result<Reply, CellFault>
+// Has a client make an object.
+fn make<B: Bay>(bay: &B, site: &mut Site<B::D>, task: &Task) -> Result<Reply, CellFault>
     requires ready { IsReady B.D.told (B.out bay.now) site.old }
-    requires built { is_built_task task.now ≡ true }
+    requires made { is_making task.now ≡ true }
     requires range { TaskInRange task.now }
     ensures ready { IsReady B.D.told (B.out bay.now) site.new }
-    ensures does { (cell : StoredCell) → IsStoredKept cell → IsSite B.D.told (B.out bay.now) (B.has bay.now) cell site.old
-        → IfOk result (λ reply. Becomes B.D.told (B.out bay.now) (B.has bay.now) (Happens cell (line.Task task.now)) reply (B.answered bay.now) (B.answered bay.now) site.new) }
+    ensures does { (cell : StoredCell) → IsStoredKept cell
+        → IsSite B.D.told (B.out bay.now) (B.has bay.now) cell site.old
+        → IfOk result (λ reply. Becomes B.D.told (B.out bay.now) (B.has bay.now) (Happens cell (line.Task task.now))
+        reply (B.answered bay.now) (B.answered bay.now) site.new) }
     ensures memory { IfErr result (λ why. why ≡ CellFault.Memory) }
 {
-    let (client, volume, ask) = match task {
+    match task {
         Task::Create {
             client,
             volume,
@@ -274,7 +282,13 @@ pub fn carry_out<B: Bay>(
             owner,
         } => {
             let (mode, owner) = (mode.unwrap_or(FILE_MODE), owner.unwrap_or(0));
-            (*client, *volume, Ask::Create { path, mode, owner })
+            perform(
+                bay,
+                site,
+                *client,
+                *volume,
+                Ask::Create { path, mode, owner },
+            )
         }
         Task::Mkdir {
             client,
@@ -284,59 +298,102 @@ pub fn carry_out<B: Bay>(
             owner,
         } => {
             let (mode, owner) = (mode.unwrap_or(DIRECTORY_MODE), owner.unwrap_or(0));
-            (*client, *volume, Ask::Mkdir { path, mode, owner })
+            perform(
+                bay,
+                site,
+                *client,
+                *volume,
+                Ask::Mkdir { path, mode, owner },
+            )
         }
         Task::Symlink {
             client,
             volume,
             path,
             target,
-        } => (*client, *volume, Ask::Symlink { path, target }),
-        Task::Store {
-            client,
-            volume,
-            path,
-            content,
-        } => return store(bay, site, *client, *volume, path, content),
+        } => perform(bay, site, *client, *volume, Ask::Symlink { path, target }),
+        _ => unreachable!(),
+    }
+}
+
+// Has a client change, remove or move an object.
+fn change<B: Bay>(bay: &B, site: &mut Site<B::D>, task: &Task) -> Result<Reply, CellFault>
+    requires ready { IsReady B.D.told (B.out bay.now) site.old }
+    requires changed { is_changing task.now ≡ true }
+    requires range { TaskInRange task.now }
+    ensures ready { IsReady B.D.told (B.out bay.now) site.new }
+    ensures does { (cell : StoredCell) → IsStoredKept cell
+        → IsSite B.D.told (B.out bay.now) (B.has bay.now) cell site.old
+        → IfOk result (λ reply. Becomes B.D.told (B.out bay.now) (B.has bay.now) (Happens cell (line.Task task.now))
+        reply (B.answered bay.now) (B.answered bay.now) site.new) }
+    ensures memory { IfErr result (λ why. why ≡ CellFault.Memory) }
+{
+    match task {
         Task::Setattr {
             client,
             volume,
             path,
             attrs,
-        } => (
-            *client,
-            *volume,
-            Ask::Setattr {
-                path,
-                attrs: *attrs,
-            },
-        ),
+        } => {
+            let attrs = *attrs;
+            perform(bay, site, *client, *volume, Ask::Setattr { path, attrs })
+        }
         Task::Remove {
             client,
             volume,
             path,
-        } => (*client, *volume, Ask::Remove { path }),
+        } => perform(bay, site, *client, *volume, Ask::Remove { path }),
         Task::Rmdir {
             client,
             volume,
             path,
-        } => (*client, *volume, Ask::Rmdir { path }),
+        } => perform(bay, site, *client, *volume, Ask::Rmdir { path }),
         Task::Rename {
             client,
             volume,
             from,
             to,
-        } => (*client, *volume, Ask::Rename { from, to }),
+        } => perform(bay, site, *client, *volume, Ask::Rename { from, to }),
+        _ => unreachable!(),
+    }
+}
+
+/// Carries out what a client is to do.
+///
+/// # Errors
+///
+/// `Memory` alone.
+pub fn carry_out<B: Bay>(bay: &B, site: &mut Site<B::D>, task: &Task) -> Result<Reply, CellFault>
+    requires ready { IsReady B.D.told (B.out bay.now) site.old }
+    requires built { is_built_task task.now ≡ true }
+    requires range { TaskInRange task.now }
+    ensures ready { IsReady B.D.told (B.out bay.now) site.new }
+    ensures does { (cell : StoredCell) → IsStoredKept cell
+        → IsSite B.D.told (B.out bay.now) (B.has bay.now) cell site.old
+        → IfOk result (λ reply. Becomes B.D.told (B.out bay.now) (B.has bay.now) (Happens cell (line.Task task.now))
+        reply (B.answered bay.now) (B.answered bay.now) site.new) }
+    ensures memory { IfErr result (λ why. why ≡ CellFault.Memory) }
+{
+    match task {
+        Task::Create { .. } => make(bay, site, task),
+        Task::Mkdir { .. } => make(bay, site, task),
+        Task::Symlink { .. } => make(bay, site, task),
+        Task::Store {
+            client,
+            volume,
+            path,
+            content,
+        } => store(bay, site, *client, *volume, path, content),
         Task::Read {
             client,
             volume,
             path,
-        } => return look(bay, site, *client, *volume, Showing::Content, path),
+        } => look(bay, site, *client, *volume, Showing::Content, path),
         Task::List {
             client,
             volume,
             path,
-        } => return look(bay, site, *client, *volume, Showing::Names, path),
+        } => look(bay, site, *client, *volume, Showing::Names, path),
         Task::Drain {
             client,
             volume,
@@ -344,11 +401,8 @@ pub fn carry_out<B: Bay>(
             window,
         } => {
             let window = window.unwrap_or(AGING_WINDOW);
-            return drain(bay, site, *client, *volume, *server, window);
+            drain(bay, site, *client, *volume, *server, window)
         }
-        Task::Hardlink { .. } => unreachable!(),
-        Task::Refresh { .. } => unreachable!(),
-        Task::Giveup { .. } => unreachable!(),
-    };
-    perform(bay, site, client, volume, ask)
+        _ => change(bay, site, task),
+    }
 }

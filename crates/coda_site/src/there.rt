@@ -45,7 +45,8 @@ impl<D> Site<D> {
 
     /// The number of the first of a client and a volume that isn't there.
     pub fn missing(&self, client: u8, volume: u32) -> Option<u32>
-        ensures missing { option_map refused.NoSuchActor result ≡ first_missing (client_at self.now client ∷ volume_at self.now volume ∷ []) }
+        ensures missing { option_map refused.NoSuchActor result
+            ≡ first_missing (client_at self.now client ∷ volume_at self.now volume ∷ []) }
         ensures disk { is_client_disk client ≡ true }
     {
         if !self.has_client(client) {
@@ -59,7 +60,9 @@ impl<D> Site<D> {
 
     /// The number of the first of a client, a volume and its server that isn't there.
     pub fn missing_holder(&self, client: u8, volume: u32, server: u8) -> Option<u32>
-        ensures missing { option_map refused.NoSuchActor result ≡ first_missing (client_at self.now client ∷ volume_at self.now volume ∷ holder_at self.now server volume ∷ []) }
+        ensures missing { option_map refused.NoSuchActor result
+            ≡ first_missing (client_at self.now client ∷ volume_at self.now volume
+            ∷ holder_at self.now server volume ∷ []) }
         ensures disk { is_client_disk client ≡ true }
     {
         if !self.has_client(client) {
@@ -76,7 +79,8 @@ impl<D> Site<D> {
 
     /// The number of the first of a client and a server that isn't there.
     pub fn missing_end(&self, client: u8, server: u8) -> Option<u32>
-        ensures missing { option_map refused.NoSuchActor result ≡ first_missing (client_at self.now client ∷ server_at self.now server ∷ []) }
+        ensures missing { option_map refused.NoSuchActor result
+            ≡ first_missing (client_at self.now client ∷ server_at self.now server ∷ []) }
         ensures disk { is_client_disk client ≡ true }
     {
         if !self.has_client(client) {

@@ -11,5 +11,6 @@ returns-clause-ends g c = λ header venus slot.
     let left = c.operate-said.new.venus in (
       left,
       c.put.ensures.here ∙ ap (λ h. Started h left) (same_header c.in-Started.header header c.in-Started.actor venus same),
+      g.met.D.Disk.seen_now left.journal.disk,
       λ history up lawful spelled. c.operate-said.ensures.ends header history (subst (λ v. IsUp g.D.Disk.told header v (journal_by history)) (sym (same_actor c.in-Started.header header c.in-Started.actor venus same)) up) lawful spelled,
     )
