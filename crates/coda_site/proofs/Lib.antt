@@ -17,3 +17,4 @@ pub mod Holders
 pub mod Drainings
 pub mod Posted
 pub mod SentChunks
+pub mod Delivered

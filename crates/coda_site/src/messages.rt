@@ -1,5 +1,5 @@
 // Letters between clients and replicas: a client sends a chunk, and what was sent is delivered or lost.
-ghost use Rattle.std.specs.Prelude.{◌≡◌, ◌<◌, ◌^◌, ◌≢◌, ◌∷◌, [], ◌++◌, List, not, true, IfOk, IfErr, Some};
+ghost use Rattle.std.specs.Prelude.{◌≡◌, ◌<◌, ◌^◌, ◌≢◌, ◌∷◌, [], ◌++◌, List, not, true, IfOk, IfErr, Some, None};
 ghost use Rattle.coda_fid.specs.declared.op.Record.{Record as ARecord};
 ghost use Rattle.coda_record.specs.Form.{four};
 ghost use Rattle.coda_record.specs.Spelling.{HasSpelling};
@@ -17,7 +17,9 @@ ghost use Rattle.coda_actors.specs.Slots.{is_up};
 ghost use Rattle.coda_crew.specs.Crews.{slot_at};
 ghost use Rattle.coda_cell.specs.Cells.{linked_in};
 ghost use Rattle.coda_cell.specs.Letters.{letter_refused_as};
+ghost use Rattle.coda_cell.specs.Made.{state_of};
 ghost use Rattle.coda_cell.specs.Refusing.{refusal};
+ghost use Rattle.coda_cell.specs.Steps.{first_missing, on_holder};
 ghost use Rattle.coda_stored.specs.Cells.{StoredCell};
 ghost use Rattle.coda_stored.specs.Kept.{IsStoredKept};
 ghost use Rattle.coda_stored.specs.Lines.{Happens, is_cut};
@@ -183,8 +185,8 @@ fn rule_up<B: Bay>(
     requires few { site.old.net.posted < 2 ^ 63 }
     ensures ready { IsReady B.D.told (B.out _bay.now) site.new }
     ensures does { (cell : StoredCell) (place : APlace) (span : List ARecord) → IsStoredKept cell → IsSite B.D.told (B.out _bay.now) (B.has _bay.now) cell site.old
-        → place_in site.old volume ≡ Some place → place.disk ≡ disk → place.server ≡ server → recs.now ≡ sent_of span
-        → IfOk result (λ reply. Came B.D.told (B.out _bay.now) (B.has _bay.now) cell (ChunkSent client server volume number span) reply site.new) }
+        → place_in site.old volume ≡ Some place → place.disk ≡ disk → place.server ≡ server → first_missing (on_holder (state_of cell.made) client volume server) ≡ None
+        → recs.now ≡ sent_of span → IfOk result (λ reply. Came B.D.told (B.out _bay.now) (B.has _bay.now) cell (ChunkSent client server volume number span) reply site.new) }
     ensures memory { IfErr result (λ why. why ≡ CellFault.Memory) }
 {
     let answer = match rule_at(&mut site.replicas, disk, client, number, recs) {
@@ -261,8 +263,8 @@ fn take_up<B: Bay>(
     requires up { is_up (client_form B.D.told) (slot_at site.old.clients client) ≡ true }
     requires spelled { HasSpelling a_message (Verdict server client volume number answer) }
     ensures ready { IsReady B.D.told (B.out _bay.now) site.new }
-    ensures does { (cell : StoredCell) (place : APlace) → IsStoredKept cell → IsSite B.D.told (B.out _bay.now) (B.has _bay.now) cell site.old
-        → place_in site.old volume ≡ Some place → place.server ≡ server
+    ensures does { (cell : StoredCell) → IsStoredKept cell → IsSite B.D.told (B.out _bay.now) (B.has _bay.now) cell site.old
+        → first_missing (on_holder (state_of cell.made) client volume server) ≡ None
         → IfOk result (λ reply. Came B.D.told (B.out _bay.now) (B.has _bay.now) cell (AnswerSent server client volume number answer) reply site.new) }
     ensures memory { IfErr result (λ why. why ≡ CellFault.Memory) }
 {
