@@ -138,25 +138,30 @@ module _ {D : Type 0} (told : D → Told) (out : ℕ → Bool) (has : ℕ → To
   outcome o = ruled_in s client server volume number o
 
   ruled_by : (after : Site D) (reply : Reply) → EndsAt told out has cell (outcome wanted).events (reply_to (outcome wanted).said) reply after → Came told out has cell (ChunkSent client server volume number span) reply after
-  ruled_by after reply (left, ends, stands) = (left, record {
-    own = reply_to (outcome wanted).said;
-    events = (outcome wanted).events;
-    does = named_there (on_holder s client volume server) (ByRuling s client server volume number span) (reply_to (outcome wanted).said) (outcome wanted).events named (record {
-      replica = state;
-      there = shown_by told out has cell site is volume place at r.0 r.1 r.2;
-      answered = refl;
-      happened = refl;
-    });
-    ends = ends;
-  }, stands)
+  ruled_by after reply (left, ends, stands) = (
+    left,
+    record {
+      own = reply_to (outcome wanted).said;
+      events = (outcome wanted).events;
+      does = named_there (on_holder s client volume server) (ByRuling s client server volume number span) (reply_to (outcome wanted).said) (outcome wanted).events named (record {
+        replica = state;
+        there = shown_by told out has cell site is volume place at r.0 r.1 r.2;
+        answered = refl;
+        happened = refl;
+      });
+      ends = ends;
+    },
+    stands,
+  )
 
   rule_first : (o : Result Ruling Refused) → IsRuledFirst place.server volume o (outcome o).events (reply_to (outcome o).said)
   rule_first (Err why) = record { goes = λ ruled e. cc; stays = λ w e. ((let same : why ≡ w = cc in ap refusal same), refl) }
   rule_first (Ok ruled) = record {
     goes = λ other e.
-        let same : ruled ≡ other = cc in
-        (posting (AnswerSent server client volume number ruled.answer) s.waiting,
-        (λ i. entries_at (sym home i) volume (same i).entries ++ posting (AnswerSent server client volume number ruled.answer) s.waiting));
+        let same : ruled ≡ other = cc in (
+          posting (AnswerSent server client volume number ruled.answer) s.waiting,
+          (λ i. entries_at (sym home i) volume (same i).entries ++ posting (AnswerSent server client volume number ruled.answer) s.waiting),
+        );
     stays = λ w e. cc;
   }
 
@@ -245,17 +250,21 @@ module _ {D : Type 0} (told : D → Told) (out : ℕ → Bool) (has : ℕ → To
   ending o = taken_in client volume number answer o
 
   taken_by : (after : Site D) (reply : Reply) → EndsAt told out has cell (ending wanted_taking).events (reply_to (ending wanted_taking).said) reply after → Came told out has cell (AnswerSent server client volume number answer) reply after
-  taken_by after reply (left, ends, stands) = (left, record {
-    own = reply_to (ending wanted_taking).said;
-    events = (ending wanted_taking).events;
-    does = named_there (on_holder (state_of cell.made) client volume server) (ByTaking (state_of cell.made) client volume number answer) (reply_to (ending wanted_taking).said) (ending wanted_taking).events named (record {
-      client = client_of c.0.number h c.0.cache;
-      there = c.2.shown;
-      answered = refl;
-      happened = refl;
-    });
-    ends = ends;
-  }, stands)
+  taken_by after reply (left, ends, stands) = (
+    left,
+    record {
+      own = reply_to (ending wanted_taking).said;
+      events = (ending wanted_taking).events;
+      does = named_there (on_holder (state_of cell.made) client volume server) (ByTaking (state_of cell.made) client volume number answer) (reply_to (ending wanted_taking).said) (ending wanted_taking).events named (record {
+        client = client_of c.0.number h c.0.cache;
+        there = c.2.shown;
+        answered = refl;
+        happened = refl;
+      });
+      ends = ends;
+    },
+    stands,
+  )
 
   take_first : (o : Result Taking Refused) → IsFirst client (entries_on volume (deeds_by o)) (nothing_said o) (ending o).events (reply_to (ending o).said)
   take_first (Err why) = record { more = []; is = refl; stays = λ w e. ((let same : why ≡ w = cc in ap refusal same), refl) }
@@ -380,13 +389,16 @@ module _ {D : Type 0} (told : D → Told) (out : ℕ → Bool) (has : ℕ → To
       becomes_as told out has (CameTo cell sent) (Happens cell (line.Deliver number)) reply answered answered after (λ outside left.
       unless_as (taker_down cell sent) (receiver_down cell (sent_at number cell.made.waiting)) cell (λ reply outside new. (outside ≡ []) × ActsBy (Comes at_first sent) cell reply new) (λ reply outside new. (outside ≡ []) × Acts cell (line.Deliver number) reply new) reply outside left
       (sym (ap (receiver_down cell) waits ∙ by_link cell sent ∙ ap (λ (x : Strength). not (is_cut x) && taker_down cell sent) (linked sent) ∙ ap (λ (x : Bool). not x && taker_down cell sent) on.1))
-      (λ does. (does.0, record {
-        own = does.1.own;
-        events = does.1.events;
-        does = subst (λ (o : Option Sent). Delivers at_first number o does.1.own does.1.events) (sym waits)
-            (subst (λ (o : Option Refused). Unless o (Comes at_first sent) does.1.own does.1.events) (sym (ap link_down (linked sent) ∙ on.0)) does.1.does);
-        ends = does.1.ends;
-      }))) b
+      (λ does. (
+        does.0,
+        record {
+          own = does.1.own;
+          events = does.1.events;
+          does = subst (λ (o : Option Sent). Delivers at_first number o does.1.own does.1.events) (sym waits)
+              (subst (λ (o : Option Refused). Unless o (Comes at_first sent) does.1.own does.1.events) (sym (ap link_down (linked sent) ∙ on.0)) does.1.does);
+          ends = does.1.ends;
+        },
+      ))) b
 
   -- a chunk came
   pub chunk_delivered : (client server volume chunk : ℕ) (recs : List Record) → LettersDeliver cell.made.waiting site.net number (Ok (Chunk client server volume chunk recs)) → (reply : Reply) (after : Site D)

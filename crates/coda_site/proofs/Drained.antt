@@ -114,10 +114,11 @@ module _ (client volume : ℕ) (r : ReplicaState) where
   rule_first server f (Err why) home = record { goes = λ ruled e. cc; stays = λ w e. ((let same : why ≡ w = cc in ap refusal same), refl) }
   rule_first server f (Ok ruled) home = record {
     goes = λ other e.
-        let same : ruled ≡ other = cc in
-        ((answered_events f ruled (taking f.number ruled.answer f.volume)).0,
-        ap (λ (s : ℕ). entries_at s volume ruled.entries ++ (answered_events f ruled (taking f.number ruled.answer f.volume)).0) (home ruled refl)
-        ∙ ap (λ (x : Ruling). entries_at server volume x.entries ++ (answered_events f ruled (taking f.number ruled.answer f.volume)).0) same);
+        let same : ruled ≡ other = cc in (
+          (answered_events f ruled (taking f.number ruled.answer f.volume)).0,
+          ap (λ (s : ℕ). entries_at s volume ruled.entries ++ (answered_events f ruled (taking f.number ruled.answer f.volume)).0) (home ruled refl)
+              ∙ ap (λ (x : Ruling). entries_at server volume x.entries ++ (answered_events f ruled (taking f.number ruled.answer f.volume)).0) same,
+        );
     stays = λ w e. cc;
   }
 
@@ -171,20 +172,23 @@ module _ {D : Type 0} (told : D → Told) (out : ℕ → Bool) (has : ℕ → To
     cut_drains window reply cut replied =
         let whole : drain (cell.made.links client r.server) cell.made.clock window client volume v r ≡ stays refused.LinkDown v r =
         ap (λ (s : ℕ). drain (cell.made.links client s) cell.made.clock window client volume v r) server_is
-        ∙ ap (λ (x : Strength). drain x cell.made.clock window client volume v r) (is.net.links_are client server ∙ cut) in
-        (cell, record {
-          own = refusal refused.LinkDown;
-          events = [];
-          does = named_there (on_holder (state_of cell.made) client volume server) (ByBoth (state_of cell.made) client volume window) (refusal refused.LinkDown) [] all_named (record {
-            client = client_of ch.number h ch.cache;
-            replica = r;
-            client_there = up.shown;
-            replica_there = shown_replica;
-            answered = ap (λ (o : Outcome). reply_to o.said) (sym whole);
-            happened = ap (λ (o : Outcome). o.events) (sym whole);
-          });
-          ends = inl (tt, replied, refl);
-        }, is)
+        ∙ ap (λ (x : Strength). drain x cell.made.clock window client volume v r) (is.net.links_are client server ∙ cut) in (
+          cell,
+          record {
+            own = refusal refused.LinkDown;
+            events = [];
+            does = named_there (on_holder (state_of cell.made) client volume server) (ByBoth (state_of cell.made) client volume window) (refusal refused.LinkDown) [] all_named (record {
+              client = client_of ch.number h ch.cache;
+              replica = r;
+              client_there = up.shown;
+              replica_there = shown_replica;
+              answered = ap (λ (o : Outcome). reply_to o.said) (sym whole);
+              happened = ap (λ (o : Outcome). o.events) (sym whole);
+            });
+            ends = inl (tt, replied, refl);
+          },
+          is,
+        )
 
     -- ---- a drain, by what each stage was to be
 
@@ -203,20 +207,23 @@ module _ {D : Type 0} (told : D → Told) (out : ℕ → Bool) (has : ℕ → To
           ap (λ (s : ℕ). drain (cell.made.links client s) cell.made.clock window client volume v r) server_is
           ∙ ap (λ (x : Strength). drain x cell.made.clock window client volume v r) (is.net.links_are client server)
           ∙ over_link (linked_in site.net client server) cell.made.clock window client volume v r link
-          ∙ (λ i. drained_of client volume v r (freezing (is.clock i) window (server_is i) v)) in
-          (left, record {
-            own = reply_to outcome.said;
-            events = outcome.events;
-            does = named_there (on_holder (state_of cell.made) client volume server) (ByBoth (state_of cell.made) client volume window) (reply_to outcome.said) outcome.events all_named (record {
-              client = client_of ch.number h ch.cache;
-              replica = r;
-              client_there = up.shown;
-              replica_there = shown_replica;
-              answered = ap (λ (o : Outcome). reply_to o.said) (sym whole);
-              happened = ap (λ (o : Outcome). o.events) (sym whole);
-            });
-            ends = ends;
-          }, stands)
+          ∙ (λ i. drained_of client volume v r (freezing (is.clock i) window (server_is i) v)) in (
+            left,
+            record {
+              own = reply_to outcome.said;
+              events = outcome.events;
+              does = named_there (on_holder (state_of cell.made) client volume server) (ByBoth (state_of cell.made) client volume window) (reply_to outcome.said) outcome.events all_named (record {
+                client = client_of ch.number h ch.cache;
+                replica = r;
+                client_there = up.shown;
+                replica_there = shown_replica;
+                answered = ap (λ (o : Outcome). reply_to o.said) (sym whole);
+                happened = ap (λ (o : Outcome). o.events) (sym whole);
+              });
+              ends = ends;
+            },
+            stands,
+          )
 
       -- ---- the freeze
 

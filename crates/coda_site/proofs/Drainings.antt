@@ -103,9 +103,11 @@ module _ {D : Type 0} (told : D → Told) (out : ℕ → Bool) (has : ℕ → To
       module _ (result : Result Answer ReplicaFault) (rules : ReplicaEnds told disk site.replicas replicas (AsRuled result)) where
         w : (left : Replica D) × (slot_at replicas place.disk ≡ Started r.0 left) × RulingEnds told r.0 g (ruling client froze.f.number froze.f.span (replica_by r.0 g)) left result
         w =
-            let x = rules r.0 r.1 (ap (slot_at site.replicas) (sym disk_is) ∙ r.2.slot) in
-            (x.0, ap (slot_at replicas) disk_is ∙ x.1,
-            subst (λ (n : ℕ). RulingEnds told r.0 g (ruling client n froze.f.span (replica_by r.0 g)) x.0 result) (sym froze.number) (x.2 g r.2.up.stands r.2.up.lawful froze.f.span sent))
+            let x = rules r.0 r.1 (ap (slot_at site.replicas) (sym disk_is) ∙ r.2.slot) in (
+              x.0,
+              ap (slot_at replicas) disk_is ∙ x.1,
+              subst (λ (n : ℕ). RulingEnds told r.0 g (ruling client n froze.f.span (replica_by r.0 g)) x.0 result) (sym froze.number) (x.2 g r.2.up.stands r.2.up.lawful froze.f.span sent),
+            )
 
       pub drain_unruled : (why : ReplicaFault) → ReplicaEnds told disk site.replicas replicas (AsRuled (Err why)) → (reply : Reply) → UnruledReply why reply
           → Acted told out has cell (line.Task (task.Drain client volume server (Some window))) reply (with_replicas (with_clients site clients) replicas)

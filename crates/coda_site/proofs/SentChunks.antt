@@ -103,35 +103,41 @@ module _ {D : Type 0} (told : D → Told) (out : ℕ → Bool) (has : ℕ → To
   is_sent link after reply (left, ends, stands) =
       let whole : sends s client volume server window v ≡ outcome =
       ap (sends_of s client volume server) (ap (λ (x : Strength). over x (freezing cell.made.clock window server v)) (is.net.links_are client server)
-      ∙ over_link (linked_in site.net client server) (freezing cell.made.clock window server v) link ∙ ap (λ (now : ℕ). freezing now window server v) is.clock) in
-      (left, record {
-        own = reply_to outcome.said;
-        events = outcome.events;
-        does = named_there (on_holder s client volume server) (BySend s client volume server window) (reply_to outcome.said) outcome.events all_named (record {
-          client = client_of ch.number h ch.cache;
-          there = up.shown;
-          answered = ap (λ (o : Ending). reply_to o.said) (sym whole);
-          happened = ap (λ (o : Ending). o.events) (sym whole);
-        });
-        ends = ends;
-      }, stands)
+      ∙ over_link (linked_in site.net client server) (freezing cell.made.clock window server v) link ∙ ap (λ (now : ℕ). freezing now window server v) is.clock) in (
+        left,
+        record {
+          own = reply_to outcome.said;
+          events = outcome.events;
+          does = named_there (on_holder s client volume server) (BySend s client volume server window) (reply_to outcome.said) outcome.events all_named (record {
+            client = client_of ch.number h ch.cache;
+            there = up.shown;
+            answered = ap (λ (o : Ending). reply_to o.said) (sym whole);
+            happened = ap (λ (o : Ending). o.events) (sym whole);
+          });
+          ends = ends;
+        },
+        stands,
+      )
 
   -- nothing is sent over a link that carries nothing
   pub cut_sent : linked_in site.net client server ≡ Down → (reply : Reply) → reply ≡ refusal refused.LinkDown → Acted told out has cell (line.Send client volume server (Some window)) reply site
   cut_sent cut reply replied =
       let whole : sends s client volume server window v ≡ sends_of s client volume server (Err refused.LinkDown) =
-      ap (sends_of s client volume server) (ap (λ (x : Strength). over x (freezing cell.made.clock window server v)) (is.net.links_are client server ∙ cut)) in
-      (cell, record {
-        own = refusal refused.LinkDown;
-        events = [];
-        does = named_there (on_holder s client volume server) (BySend s client volume server window) (refusal refused.LinkDown) [] all_named (record {
-          client = client_of ch.number h ch.cache;
-          there = up.shown;
-          answered = ap (λ (o : Ending). reply_to o.said) (sym whole);
-          happened = ap (λ (o : Ending). o.events) (sym whole);
-        });
-        ends = inl (tt, replied, refl);
-      }, is)
+      ap (sends_of s client volume server) (ap (λ (x : Strength). over x (freezing cell.made.clock window server v)) (is.net.links_are client server ∙ cut)) in (
+        cell,
+        record {
+          own = refusal refused.LinkDown;
+          events = [];
+          does = named_there (on_holder s client volume server) (BySend s client volume server window) (refusal refused.LinkDown) [] all_named (record {
+            client = client_of ch.number h ch.cache;
+            there = up.shown;
+            answered = ap (λ (o : Ending). reply_to o.said) (sym whole);
+            happened = ap (λ (o : Ending). o.events) (sym whole);
+          });
+          ends = inl (tt, replied, refl);
+        },
+        is,
+      )
 
   module _ (seen : (d : D) → (told d).honest → (told d).may_leave (told d).seen) (clients : BTreeMap ℕ (Slot (Venus D) D)) (others : KeepsOtherSlots client site.clients clients) (frozen : Venus D) (put : slot_at clients client ≡ Started ch frozen) where
     -- the freeze was refused
@@ -184,12 +190,14 @@ module _ {D : Type 0} (told : D → Told) (out : ℕ → Bool) (has : ℕ → To
     pub chunk_sent : EndsAt told out has cell outcome.events (reply_to outcome.said) (replies.Sent message chunk) (with_net (with_clients site clients) net)
     chunk_sent =
         let reply_is : replies.Sent message chunk ≡ reply_to own.said = (λ i. replies.Sent ((gone.2 ∙ ap (λ (g : Going). g.message) same) i) (sym froze.number i)) in
-        let left = after_all cell1 (going sent (state_of cell1.made)).events in
-        (left, subst (λ (o : Result Freezing Refused). EndsBy cell (sends_of s client volume server o).events (reply_to (sends_of s client volume server o).said) (replies.Sent message chunk) left) (sym froze.is)
-            (ends_behind cell (map (at_client client) entries) (going sent s).events (reply_to own.said) (replies.Sent message chunk) left fits1
-            (subst (λ (c : StoredCell). EndsBy c (going sent s).events (reply_to own.said) (replies.Sent message chunk) left) (sym (entries_left cell client entries))
-            (subst (λ (g : Going). EndsBy cell1 g.events (reply_to own.said) (replies.Sent message chunk) left) same (inl (gone.0, reply_is, refl))))),
-        gone.1)
+        let left = after_all cell1 (going sent (state_of cell1.made)).events in (
+          left,
+          subst (λ (o : Result Freezing Refused). EndsBy cell (sends_of s client volume server o).events (reply_to (sends_of s client volume server o).said) (replies.Sent message chunk) left) (sym froze.is)
+              (ends_behind cell (map (at_client client) entries) (going sent s).events (reply_to own.said) (replies.Sent message chunk) left fits1
+              (subst (λ (c : StoredCell). EndsBy c (going sent s).events (reply_to own.said) (replies.Sent message chunk) left) (sym (entries_left cell client entries))
+              (subst (λ (g : Going). EndsBy cell1 g.events (reply_to own.said) (replies.Sent message chunk) left) same (inl (gone.0, reply_is, refl))))),
+          gone.1,
+        )
 
 -- ---- by the calls
 

@@ -229,19 +229,29 @@ module _ {D : Type 0} (told : D → Told) (out : ℕ → Bool) (has : ℕ → To
   pub replica_refused : (events : List Event) (own : Reply) → IsRuledFirst place.server volume wanted events own → (why : ReplicaFault) (reply : Reply) → RulingEnds told header history wanted new (Err why) → UnruledReply why reply
       → EndsAt told out has cell events own reply (with_replicas site slots)
   replica_refused events own first fault.JournalFull reply (inl none, stands) replied =
-      let stays = first.stays refused.JournalFull none in
-      (cell, inl (subst (FitsEvents cell) (sym stays.1) tt, replied ∙ sym stays.0, ap (after_all cell) (sym stays.1)),
-      still_site told out has cell site is volume place at apart slots kept_slots header old new lent up put stands)
+      let stays = first.stays refused.JournalFull none in (
+        cell,
+        inl (subst (FitsEvents cell) (sym stays.1) tt, replied ∙ sym stays.0, ap (after_all cell) (sym stays.1)),
+        still_site told out has cell site is volume place at apart slots kept_slots header old new lent up put stands,
+      )
   replica_refused events own first fault.JournalFull reply (inr (ruled, ruled_is, adds, lacks), stands) replied =
-      let goes = first.goes ruled ruled_is in
-      (cell, inr (inl (record { done = []; next = AtReplica place.server volume adds.entry; rest = goes.0; is = goes.1 ∙ ap (λ (l : List ReplicaEntry). entries_at place.server volume l ++ goes.0) adds.adds }, tt,
-          lacks_there cell volume place.server header up.number up.asked adds.entry adds.kept adds.is lacks, replied, refl)),
-      still_site told out has cell site is volume place at apart slots kept_slots header old new lent up put stands)
+      let goes = first.goes ruled ruled_is in (
+        cell,
+        inr (inl (
+          record { done = []; next = AtReplica place.server volume adds.entry; rest = goes.0; is = goes.1 ∙ ap (λ (l : List ReplicaEntry). entries_at place.server volume l ++ goes.0) adds.adds },
+          tt,
+          lacks_there cell volume place.server header up.number up.asked adds.entry adds.kept adds.is lacks,
+          replied,
+          refl,
+        )),
+        still_site told out has cell site is volume place at apart slots kept_slots header old new lent up put stands,
+      )
   replica_refused events own first fault.DiskFault reply (ruled, ruled_is, adds, down, stands) replied =
-      let goes = first.goes ruled ruled_is in
-      (failed cell (AtReplica place.server volume adds.entry),
-      inr (inr (record { done = []; next = AtReplica place.server volume adds.entry; rest = goes.0; is = goes.1 ∙ ap (λ (l : List ReplicaEntry). entries_at place.server volume l ++ goes.0) adds.adds }, tt, replied, refl)),
-      stopped_site told out has cell site is volume place at apart slots kept_slots header old new lent up put adds.entry adds.kept adds.is down stands)
+      let goes = first.goes ruled ruled_is in (
+        failed cell (AtReplica place.server volume adds.entry),
+        inr (inr (record { done = []; next = AtReplica place.server volume adds.entry; rest = goes.0; is = goes.1 ∙ ap (λ (l : List ReplicaEntry). entries_at place.server volume l ++ goes.0) adds.adds }, tt, replied, refl)),
+        stopped_site told out has cell site is volume place at apart slots kept_slots header old new lent up put adds.entry adds.kept adds.is down stands,
+      )
   replica_refused events own first fault.Memory reply ends replied = absurd replied
   replica_refused events own first fault.Down reply ends replied = absurd ends
   replica_refused events own first fault.NotFound reply ends replied = absurd ends
