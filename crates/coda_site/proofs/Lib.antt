@@ -14,3 +14,5 @@ pub mod Holders
 pub mod Drainings
 pub mod Posted
 pub mod SentChunks
+pub mod ClientLines
+pub mod ReplicaLines

@@ -2,7 +2,7 @@
 //! way, and what each line of a script does.
 #![tactic(auto)]
 
-mod calls;
+mod chunks;
 mod cell;
 mod draining;
 mod failing;
