@@ -1,5 +1,5 @@
 -- Lines that crash replicas, recover them, or let their disks fail.
-use Rattle.std.proofs.Common.{◌≡◌, ◌≢◌, ◌⊎◌, inl, inr, ℕ, ◌==◌, ◌&&◌, ◌+◌, Bool, true, false, cond, List, [], ◌∷◌, ◌++◌, append-nil, map, length, Option, Some, None, IfSome, IfOk, Result, Ok, Err, refl, sym, ap, subst, ◌∙◌, arith}
+use Rattle.std.proofs.Common.{suc, ◌≡◌, ◌≢◌, ◌⊎◌, inl, inr, ℕ, ◌==◌, ◌&&◌, ◌+◌, ◌*◌, ◌<◌, Bool, true, false, cond, List, [], ◌∷◌, ◌++◌, append-nil, map, length, Option, Some, None, IfSome, IfOk, Result, Ok, Err, refl, sym, ap, subst, ◌∙◌, arith}
 use Rattle.std.proofs.lemmas.Bool.{cases_eq, ne_eqb, eq-eqb, and_right}
 use Rattle.std.proofs.lemmas.List.{map-append, length-map}
 use Rattle.std.specs.Prelude.{not}
@@ -17,7 +17,7 @@ use Rattle.coda_actors.specs.Slots.{is_made}
 use Rattle.coda_actors.specs.declared.slot.Mounting.{Mounting}
 use Rattle.coda_actors.specs.declared.slot.Mounting.TheVariants.{Entries, Foreign, DiskFault, Memory}
 use Rattle.coda_actors.specs.declared.slot.Slot.{Slot}
-use Rattle.coda_crew.specs.Crews.{slot_at, FitsAll, OutAll, OwnAll, Takes, LeavesBe}
+use Rattle.coda_crew.specs.Crews.{slot_at, KeepsOtherSlots, FitsAll, OutAt, OutAll, OwnAll, Takes, LeavesBe}
 use Rattle.coda_crew.proofs.Lifts.{left_fits}
 use Rattle.coda_plain.specs.Cell.{Actor, found, joined_to}
 use Rattle.coda_plain.specs.Decisions.{ReplicaEntry, Decided, Resolved}
@@ -47,6 +47,10 @@ use Rattle.coda_site.specs.declared.site.Place.{Place}
 use Rattle.coda_site.proofs.ClientLines.{names_there, asked_by, never_foreign}
 use Rattle.coda_site.proofs.ReplicaSites.{with_ruler, with_replicas, ruler_here, home_is, place_is, of_replicas, apart_in}
 
+-- a bay that nothing was done to
+pub as_is : (of out : ℕ → Bool) (has : ℕ → Told) → LeavesBe of out out has has
+as_is of out has k is = (refl, λ honest. (honest, λ image may. may))
+
 -- ---- journals of replicas
 
 -- each decision is kept as one entry
@@ -59,7 +63,7 @@ kept_long : (volume : ℕ) (past history : List ReplicaEntry) → ((entry : Repl
 kept_long volume past [] alone = refl
 kept_long volume past (entry ∷ history) alone =
     let one = one_kept volume past entry (alone entry (inl refl)) in
-    ap (λ (l : List KeptEntry). length (l ++ histories.told (entry_at volume) (past ++ entry ∷ []) history)) one.1 ∙ ap (λ (n : ℕ). 1 + n) (kept_long volume (past ++ entry ∷ []) history (λ e i. alone e (inr i)))
+    ap (λ (l : List KeptEntry). length (l ++ histories.told (entry_at volume) (past ++ entry ∷ []) history)) one.1 ∙ ap suc (kept_long volume (past ++ entry ∷ []) history (λ e i. alone e (inr i)))
 
 -- the history that a mounting finds, with the failed entry or without it
 found_at : (header : Header) (volume : ℕ) (given : Option Header) (actor : Actor ReplicaEntry) (new : PlainDisk KeptEntry) → Joins header (record { header = given; history = journal_at volume actor.history; failed = failed_at volume actor }) new
@@ -85,6 +89,7 @@ joined_in actor true entry alone i = alone entry i
 joined_in actor false entry alone i = alone entry (by actor.failed i)
   where
     right : (l : List ReplicaEntry) (e : ReplicaEntry) → In entry l → In entry (l ++ e ∷ [])
+    right [] e none = absurd none
     right (x ∷ l) e (inl same) = inl same
     right (x ∷ l) e (inr more) = inr (right l e more)
 
@@ -284,15 +289,18 @@ module _ {D : Type 0} (told : D → Told) (out out1 : ℕ → Bool) (has has1 : 
 
 -- ---- a site with other replicas, whatever it stands for
 
-pub replicas_ready : {D : Type 0} (told : D → Told) (out : ℕ → Bool) (site : Site D) (slots : BTreeMap ℕ (Slot (Replica D) D)) → IsReady told out site → OutAll is_replica_disk out slots → OwnAll (replica_form told) slots
-    → ((k : ℕ) → is_made (slot_at slots k) ≡ true → is_made (slot_at site.replicas k) ≡ true) → IsReady told out (with_replicas site slots)
-replicas_ready told out site slots ready outs owns made = record {
-  clients = ready.clients;
+pub replicas_ready : {D : Type 0} (told : D → Told) (out out1 : ℕ → Bool) (site : Site D) (slots : BTreeMap ℕ (Slot (Replica D) D)) (disk : ℕ) → IsReady told out site → ((k : ℕ) → out1 k ≡ out k) → OutAll is_replica_disk out1 slots → OwnAll (replica_form told) slots
+    → KeepsOtherSlots disk site.replicas slots → is_made (slot_at site.replicas disk) ≡ true → IsReady told out1 (with_replicas site slots)
+replicas_ready told out out1 site slots disk ready numbers outs owns others was = record {
+  clients = λ k. subst (λ (b : Bool). OutAt (is_client_disk k) b (slot_at site.clients k)) (sym (numbers k)) (ready.clients k);
   replicas = outs;
   clients_own = ready.clients_own;
   replicas_own = owns;
   few = ready.few;
   places = ready.places;
-  made = λ k is. ready.made k (made k is);
+  made = λ k is. elim (cases_eq k disk) [
+    | inl same ↦ subst (λ (m : ℕ). m < 256 + 8 * length site.servers.items) (sym same) (ready.made disk was)
+    | inr other ↦ ready.made k (ap is_made (sym (others k other)) ∙ is)
+  ];
   areas = ready.areas;
 }

@@ -13,7 +13,7 @@ use crate::fault::CellFault;
 use crate::replies::{no_such_actor, refuse, refuse_number};
 use crate::site::Site;
 use coda_actors::Mounting;
-use coda_crew::{arm, crash, is_up, recover};
+use coda_crew::{arm, crash, is_made, is_up, recover};
 use coda_disk::Bay;
 use coda_script::{Refusal, Reply};
 use std::alloc::Global;
@@ -73,6 +73,9 @@ pub fn crash_replica<B: Bay>(
 {
     match site.place(volume) {
         Some(place) if place.server == server => {
+            if !is_made(&site.replicas, place.disk) {
+                return Ok(no_such_actor(site.alloc, u32::from(server))?);
+            }
             crash(bay, &mut site.replicas, place.disk, choice)?;
             Ok(Reply::Crashed)
         }
@@ -116,6 +119,9 @@ pub fn recover_replica<B: Bay>(
 {
     match site.place(volume) {
         Some(place) if place.server == server => {
+            if !is_made(&site.replicas, place.disk) {
+                return Ok(no_such_actor(site.alloc, u32::from(server))?);
+            }
             let mounting = recover(site.alloc, _bay, &mut site.replicas, place.disk);
             recovered(site.alloc, mounting)
         }
