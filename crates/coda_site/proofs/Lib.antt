@@ -16,3 +16,4 @@ pub mod Posted
 pub mod SentChunks
 pub mod ClientLines
 pub mod ReplicaLines
+pub mod MakingLines

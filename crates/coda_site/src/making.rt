@@ -1,4 +1,8 @@
 // Lines that make actors.
+ghost use Rattle.std.specs.Prelude.{◌≡◌, ◌≢◌, ◌≤◌, IfOk, Err};
+ghost use Rattle.coda_stored.specs.Cells.{client_header, replica_header};
+ghost use Rattle.coda_site.specs.Makings.{SaysOpened};
+
 use crate::fault::CellFault;
 use crate::replies::{opened, refuse, refuse_number};
 use crate::site::{Place, Site};
@@ -19,7 +23,9 @@ const MOST_AREAS: u32 = 512;
 const MOST_VOLUMES: usize = 64;
 
 // The header that a client's line asks for.
-fn client_header(client: u8, blocks: u32, area: u8) -> Header {
+fn client_header(client: u8, blocks: u32, area: u8) -> Header
+    ensures { result ≡ client_header client blocks area }
+{
     Header {
         kind: Kind::Client,
         number: u32::from(client),
@@ -31,7 +37,11 @@ fn client_header(client: u8, blocks: u32, area: u8) -> Header {
 }
 
 // The header that the line of a volume on one server asks for.
-fn replica_header(volume: u32, server: u8, area: u8) -> Header {
+fn replica_header(volume: u32, server: u8, area: u8) -> Header
+    requires first { 1 ≤ server }
+    requires last { server ≤ 8 }
+    ensures { result ≡ replica_header volume server area }
+{
     Header {
         kind: Kind::Replica,
         number: volume,
@@ -43,7 +53,10 @@ fn replica_header(volume: u32, server: u8, area: u8) -> Header {
 }
 
 // The reply to a mounting, by how it ended.
-fn mounted(alloc: Global, mounting: Mounting) -> Result<Reply, CellFault> {
+fn mounted(alloc: Global, mounting: Mounting) -> Result<Reply, CellFault>
+    ensures says { IfOk result (λ said. SaysOpened mounting said) }
+    ensures only { result ≢ Err CellFault.Bay }
+{
     match mounting {
         Mounting::Entries(count) => Ok(opened(alloc, count)?),
         Mounting::DiskFault => Ok(refuse(alloc, Refusal::DiskFault)),
