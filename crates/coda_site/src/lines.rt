@@ -1,5 +1,7 @@
 // What a line of a script does in a cell.
-ghost use Rattle.std.specs.Prelude.{◌≡◌, ℕ, IfOk, IfErr};
+ghost use Rattle.std.specs.Prelude.{◌≡◌, ◌≢◌, ◌≤◌, ℕ, true, IfOk, IfErr, Err};
+ghost use Rattle.coda_io.specs.Faults.{Rose};
+ghost use Rattle.coda_site.specs.Makings.{is_disk_line};
 ghost use Rattle.coda_script.specs.declared.line.Line.TheVariants as line;
 ghost use Rattle.coda_cell.specs.Steps.{is_built_task, is_plain, alone};
 ghost use Rattle.coda_stored.specs.Cells.{StoredCell};
@@ -162,7 +164,17 @@ fn show_log<B: Bay>(
 }
 
 // Lines of disks.
-fn fail<B: Bay>(bay: &mut B, site: &mut Site<B::D>, line: &Line) -> Result<Reply, CellFault> {
+fn fail<B: Bay>(bay: &mut B, site: &mut Site<B::D>, line: &Line) -> Result<Reply, CellFault>
+    requires disk { is_disk_line line.now ≡ true }
+    requires ready { IsReady B.D.told (B.out bay.old) site.old }
+    ensures ready { result ≢ Err CellFault.Bay → IsReady B.D.told (B.out bay.new) site.new }
+    ensures does { (cell : StoredCell) → IsStoredKept cell → IsSite B.D.told (B.out bay.old) (B.has bay.old) cell site.old
+        → IfOk result (λ reply. Becomes B.D.told (B.out bay.new) (B.has bay.new) (Happens cell line.now) reply (B.answered bay.old) (B.answered bay.new) site.new) }
+    ensures net { site.new.net ≡ site.old.net }
+    ensures later { B.faults bay.old ≤ B.faults bay.new }
+    ensures bay_cause { result ≡ Err CellFault.Bay → Rose (B.faults bay.old) (B.faults bay.new) }
+    ensures follows { B.follows bay.old bay.new }
+{
     match line {
         Line::CrashClient { client, choice } => crash_client(bay, site, *client, *choice),
         Line::CrashReplica {
