@@ -18,3 +18,6 @@ pub mod Drainings
 pub mod Posted
 pub mod SentChunks
 pub mod Delivered
+pub mod ClientLines
+pub mod ReplicaLines
+pub mod MakingLines

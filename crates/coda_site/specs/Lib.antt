@@ -4,3 +4,4 @@ pub mod Cells
 pub mod Tasks
 pub mod Chunks
 pub mod Drains
+pub mod Makings

@@ -1,25 +1,19 @@
 // A cell: a site, and the bay that has its disks.
-ghost use Rattle.std.specs.Prelude.{◌≡◌, ◌<◌, ◌≤◌, ◌+◌, ◌^◌, ℕ, true, false, Err, Some, IfOk, MatchOption};
-ghost use Rattle.coda_io.specs.Faults.{Rose};
-ghost use Rattle.coda_script.specs.Ranges.{InRange};
+ghost use Rattle.std.specs.Prelude.{◌≡◌, ℕ, false, Some, MatchOption};
 ghost use Rattle.coda_cell.specs.Cells.{volume_at};
 ghost use Rattle.coda_cell.specs.Made.{state_of};
 ghost use Rattle.coda_cell.specs.State.{ClientState, log_of, new_volume};
 ghost use Rattle.coda_stored.specs.Cells.{StoredCell, nothing_stored};
 ghost use Rattle.coda_stored.specs.Kept.{IsStoredKept};
-ghost use Rattle.coda_stored.specs.Lines.{is_built, client_down, replica_down, Happens};
+ghost use Rattle.coda_stored.specs.Lines.{client_down, replica_down};
 ghost use Rattle.coda_site.specs.Sites.{IsSite, IsReady};
-ghost use Rattle.coda_site.specs.Steps.{Becomes};
 ghost use Rattle.coda_site.specs.Cells.{AreBlank, AreOnDisks};
 
-use crate::fault::CellFault;
-use crate::lines::step;
 use crate::site::Site;
 use coda_cml::Log;
 use coda_crew::{get, give_back, unmade};
 use coda_disk::Bay;
 use coda_net::Net;
-use coda_script::{Line, Reply};
 use coda_tree::Volume;
 use std::alloc::Global;
 use std::collections::BTreeMap;
@@ -57,27 +51,6 @@ impl<B: Bay> Cell<B> {
                 net: Net::new(alloc),
             },
         }
-    }
-
-    /// Carries out a line that is built, and answers its reply. Every other refusal than those below is a reply.
-    ///
-    /// # Errors
-    ///
-    /// `Memory` where there was none, and `Bay` where the bay refused a disk or a crash; both end a run.
-    pub fn step(&mut self, line: &Line) -> Result<Reply, CellFault>
-        requires built { is_built line.now ≡ true }
-        requires range { InRange line.now }
-        requires few { self.old.site.net.posted < 2 ^ 63 }
-        requires ready { IsReady B.D.told (B.out self.old.bay) self.old.site }
-        ensures ready { IsReady B.D.told (B.out self.new.bay) self.new.site }
-        ensures does { (cell : StoredCell) → IsStoredKept cell → IsSite B.D.told (B.out self.old.bay) (B.has self.old.bay) cell self.old.site
-            → IfOk result (λ reply. Becomes B.D.told (B.out self.new.bay) (B.has self.new.bay) (Happens cell line.now) reply (B.answered self.old.bay) (B.answered self.new.bay) self.new.site) }
-        ensures posted { self.new.site.net.posted ≤ self.old.site.net.posted + 1 }
-        ensures later { B.faults self.old.bay ≤ B.faults self.new.bay }
-        ensures bay_cause { result ≡ Err CellFault.Bay → Rose (B.faults self.old.bay) (B.faults self.new.bay) }
-        ensures follows { B.follows self.old.bay self.new.bay }
-    {
-        step(&mut self.bay, &mut self.site, line)
     }
 
     /// Gives every disk back, and answers the bay. It takes no memory.

@@ -1,15 +1,28 @@
 // Lines that crash actors, recover them, or let their disks fail.
+ghost use Rattle.std.specs.Prelude.{◌≡◌, ◌≢◌, ◌≤◌, IfOk, Err};
+ghost use Rattle.coda_io.specs.Faults.{Rose};
+ghost use Rattle.coda_script.specs.declared.line.Line.TheVariants as line;
+ghost use Rattle.coda_stored.specs.Cells.{StoredCell};
+ghost use Rattle.coda_stored.specs.Kept.{IsStoredKept};
+ghost use Rattle.coda_stored.specs.Lines.{Happens};
+ghost use Rattle.coda_site.specs.Makings.{SaysRecovered};
+ghost use Rattle.coda_site.specs.Sites.{IsSite, IsReady};
+ghost use Rattle.coda_site.specs.Steps.{Becomes};
+
 use crate::fault::CellFault;
 use crate::replies::{no_such_actor, refuse, refuse_number};
 use crate::site::Site;
 use coda_actors::Mounting;
-use coda_crew::{arm, crash, is_up, recover};
+use coda_crew::{arm, crash, is_made, is_up, recover};
 use coda_disk::Bay;
 use coda_script::{Refusal, Reply};
 use std::alloc::Global;
 
 // The reply to a recovery, by how its mounting ended.
-fn recovered(alloc: Global, mounting: Mounting) -> Result<Reply, CellFault> {
+fn recovered(alloc: Global, mounting: Mounting) -> Result<Reply, CellFault>
+    ensures says { IfOk result (λ said. SaysRecovered mounting said) }
+    ensures only { result ≢ Err CellFault.Bay }
+{
     match mounting {
         Mounting::Entries(entries) => Ok(Reply::Recovered { entries }),
         Mounting::DiskFault => Ok(refuse(alloc, Refusal::DiskFault)),
@@ -24,7 +37,16 @@ pub fn crash_client<B: Bay>(
     site: &mut Site<B::D>,
     client: u8,
     choice: u64,
-) -> Result<Reply, CellFault> {
+) -> Result<Reply, CellFault>
+    requires ready { IsReady B.D.told (B.out bay.old) site.old }
+    ensures ready { result ≢ Err CellFault.Bay → IsReady B.D.told (B.out bay.new) site.new }
+    ensures does { (cell : StoredCell) → IsStoredKept cell → IsSite B.D.told (B.out bay.old) (B.has bay.old) cell site.old
+        → IfOk result (λ reply. Becomes B.D.told (B.out bay.new) (B.has bay.new) (Happens cell (line.CrashClient client choice)) reply (B.answered bay.old) (B.answered bay.new) site.new) }
+    ensures net { site.new.net ≡ site.old.net }
+    ensures later { B.faults bay.old ≤ B.faults bay.new }
+    ensures bay_cause { result ≡ Err CellFault.Bay → Rose (B.faults bay.old) (B.faults bay.new) }
+    ensures follows { B.follows bay.old bay.new }
+{
     if !site.has_client(client) {
         return Ok(no_such_actor(site.alloc, u32::from(client))?);
     }
@@ -39,9 +61,21 @@ pub fn crash_replica<B: Bay>(
     server: u8,
     volume: u32,
     choice: u64,
-) -> Result<Reply, CellFault> {
+) -> Result<Reply, CellFault>
+    requires ready { IsReady B.D.told (B.out bay.old) site.old }
+    ensures ready { result ≢ Err CellFault.Bay → IsReady B.D.told (B.out bay.new) site.new }
+    ensures does { (cell : StoredCell) → IsStoredKept cell → IsSite B.D.told (B.out bay.old) (B.has bay.old) cell site.old
+        → IfOk result (λ reply. Becomes B.D.told (B.out bay.new) (B.has bay.new) (Happens cell (line.CrashReplica server volume choice)) reply (B.answered bay.old) (B.answered bay.new) site.new) }
+    ensures net { site.new.net ≡ site.old.net }
+    ensures later { B.faults bay.old ≤ B.faults bay.new }
+    ensures bay_cause { result ≡ Err CellFault.Bay → Rose (B.faults bay.old) (B.faults bay.new) }
+    ensures follows { B.follows bay.old bay.new }
+{
     match site.place(volume) {
         Some(place) if place.server == server => {
+            if !is_made(&site.replicas, place.disk) {
+                return Ok(no_such_actor(site.alloc, u32::from(server))?);
+            }
             crash(bay, &mut site.replicas, place.disk, choice)?;
             Ok(Reply::Crashed)
         }
@@ -51,27 +85,44 @@ pub fn crash_replica<B: Bay>(
 
 /// Recovers a client from its disk.
 pub fn recover_client<B: Bay>(
-    bay: &B,
+    _bay: &B,
     site: &mut Site<B::D>,
     client: u8,
-) -> Result<Reply, CellFault> {
+) -> Result<Reply, CellFault>
+    requires ready { IsReady B.D.told (B.out _bay.now) site.old }
+    ensures ready { IsReady B.D.told (B.out _bay.now) site.new }
+    ensures does { (cell : StoredCell) → IsStoredKept cell → IsSite B.D.told (B.out _bay.now) (B.has _bay.now) cell site.old
+        → IfOk result (λ reply. Becomes B.D.told (B.out _bay.now) (B.has _bay.now) (Happens cell (line.RecoverClient client)) reply (B.answered _bay.now) (B.answered _bay.now) site.new) }
+    ensures net { site.new.net ≡ site.old.net }
+    ensures only { result ≢ Err CellFault.Bay }
+{
     if !site.has_client(client) {
         return Ok(no_such_actor(site.alloc, u32::from(client))?);
     }
-    let mounting = recover(site.alloc, bay, &mut site.clients, u32::from(client));
+    let mounting = recover(site.alloc, _bay, &mut site.clients, u32::from(client));
     recovered(site.alloc, mounting)
 }
 
 /// Recovers a server's replica of a volume from its disk.
 pub fn recover_replica<B: Bay>(
-    bay: &B,
+    _bay: &B,
     site: &mut Site<B::D>,
     server: u8,
     volume: u32,
-) -> Result<Reply, CellFault> {
+) -> Result<Reply, CellFault>
+    requires ready { IsReady B.D.told (B.out _bay.now) site.old }
+    ensures ready { IsReady B.D.told (B.out _bay.now) site.new }
+    ensures does { (cell : StoredCell) → IsStoredKept cell → IsSite B.D.told (B.out _bay.now) (B.has _bay.now) cell site.old
+        → IfOk result (λ reply. Becomes B.D.told (B.out _bay.now) (B.has _bay.now) (Happens cell (line.RecoverReplica server volume)) reply (B.answered _bay.now) (B.answered _bay.now) site.new) }
+    ensures net { site.new.net ≡ site.old.net }
+    ensures only { result ≢ Err CellFault.Bay }
+{
     match site.place(volume) {
         Some(place) if place.server == server => {
-            let mounting = recover(site.alloc, bay, &mut site.replicas, place.disk);
+            if !is_made(&site.replicas, place.disk) {
+                return Ok(no_such_actor(site.alloc, u32::from(server))?);
+            }
+            let mounting = recover(site.alloc, _bay, &mut site.replicas, place.disk);
             recovered(site.alloc, mounting)
         }
         _ => Ok(no_such_actor(site.alloc, u32::from(server))?),
@@ -80,35 +131,49 @@ pub fn recover_replica<B: Bay>(
 
 /// Lets so many further calls of a client's disk through; the next one and all after it fail until a crash.
 pub fn arm_client<B: Bay>(
-    bay: &B,
+    _bay: &B,
     site: &mut Site<B::D>,
     client: u8,
     passes: u64,
-) -> Result<Reply, CellFault> {
+) -> Result<Reply, CellFault>
+    requires ready { IsReady B.D.told (B.out _bay.now) site.old }
+    ensures ready { IsReady B.D.told (B.out _bay.now) site.new }
+    ensures does { (cell : StoredCell) → IsStoredKept cell → IsSite B.D.told (B.out _bay.now) (B.has _bay.now) cell site.old
+        → IfOk result (λ reply. Becomes B.D.told (B.out _bay.now) (B.has _bay.now) (Happens cell (line.ArmClient client passes)) reply (B.answered _bay.now) (B.answered _bay.now) site.new) }
+    ensures net { site.new.net ≡ site.old.net }
+    ensures only { result ≢ Err CellFault.Bay }
+{
     if !site.has_client(client) {
         return Ok(no_such_actor(site.alloc, u32::from(client))?);
     }
     if !is_up(&site.clients, u32::from(client)) {
         return Ok(refuse(site.alloc, Refusal::Down));
     }
-    arm(bay, &mut site.clients, u32::from(client), passes);
+    arm(_bay, &mut site.clients, u32::from(client), passes);
     Ok(Reply::Accepted)
 }
 
 /// The same of the disk of a server's replica of a volume.
 pub fn arm_replica<B: Bay>(
-    bay: &B,
+    _bay: &B,
     site: &mut Site<B::D>,
     server: u8,
     volume: u32,
     passes: u64,
-) -> Result<Reply, CellFault> {
+) -> Result<Reply, CellFault>
+    requires ready { IsReady B.D.told (B.out _bay.now) site.old }
+    ensures ready { IsReady B.D.told (B.out _bay.now) site.new }
+    ensures does { (cell : StoredCell) → IsStoredKept cell → IsSite B.D.told (B.out _bay.now) (B.has _bay.now) cell site.old
+        → IfOk result (λ reply. Becomes B.D.told (B.out _bay.now) (B.has _bay.now) (Happens cell (line.ArmReplica server volume passes)) reply (B.answered _bay.now) (B.answered _bay.now) site.new) }
+    ensures net { site.new.net ≡ site.old.net }
+    ensures only { result ≢ Err CellFault.Bay }
+{
     match site.place(volume) {
         Some(place) if place.server == server => {
             if !is_up(&site.replicas, place.disk) {
                 return Ok(refuse(site.alloc, Refusal::Down));
             }
-            arm(bay, &mut site.replicas, place.disk, passes);
+            arm(_bay, &mut site.replicas, place.disk, passes);
             Ok(Reply::Accepted)
         }
         _ => Ok(no_such_actor(site.alloc, u32::from(server))?),

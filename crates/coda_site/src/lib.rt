@@ -1,5 +1,5 @@
-//! A Coda cell in one process, on the disks of a bay: clients and replicas in their slots, the links between them and the letters on their
-//! way, and what each line of a script does.
+//! What the lines of a script do to a Coda cell in one process, on the disks of a bay: clients and replicas in their slots, the links between
+//! them and the letters on their way.
 #![tactic(auto)]
 
 mod cell;
@@ -9,7 +9,6 @@ mod failing;
 mod fault;
 mod lines;
 mod links;
-mod making;
 mod messages;
 mod replies;
 mod site;
@@ -18,5 +17,7 @@ mod there;
 
 pub use cell::Cell;
 pub use fault::CellFault;
-pub use lines::is_built;
+pub use lines::{fail, is_built, set_link, show_log, show_volume, tick};
+pub use messages::{deliver, lose, send};
 pub use site::{Place, Site};
+pub use tasks::carry_out;

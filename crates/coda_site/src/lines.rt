@@ -1,7 +1,9 @@
 // What a line of a script does in a cell.
-ghost use Rattle.std.specs.Prelude.{◌≡◌, ℕ, IfOk, IfErr};
+ghost use Rattle.std.specs.Prelude.{◌≡◌, ◌≢◌, ◌≤◌, ℕ, true, IfOk, IfErr, Err};
+ghost use Rattle.coda_io.specs.Faults.{Rose};
+ghost use Rattle.coda_site.specs.Makings.{is_disk_line};
 ghost use Rattle.coda_script.specs.declared.line.Line.TheVariants as line;
-ghost use Rattle.coda_cell.specs.Steps.{is_built_task, is_plain, alone};
+ghost use Rattle.coda_cell.specs.Steps.{is_built_task, is_plain};
 ghost use Rattle.coda_stored.specs.Cells.{StoredCell};
 ghost use Rattle.coda_stored.specs.Kept.{IsStoredKept};
 ghost use Rattle.coda_stored.specs.Lines.{is_built, Happens};
@@ -13,11 +15,8 @@ use crate::failing::{
 };
 use crate::fault::CellFault;
 use crate::links::set_strength;
-use crate::making::{make_client, make_volume};
-use crate::messages::{deliver, lose, send};
 use crate::replies::{no_such_actor, refuse};
 use crate::site::Site;
-use crate::tasks::{AGING_WINDOW, carry_out};
 use coda_crew::is_up;
 use coda_disk::Bay;
 use coda_script::{Line, Refusal, Reply, Strength, Task};
@@ -70,18 +69,8 @@ pub fn is_built(line: &Line) -> bool
     }
 }
 
-// The server of a volume that is on one alone.
-fn alone(servers: &[u8]) -> u8
-    ensures { result ≡ alone servers.now }
-{
-    match servers {
-        [] => 0,
-        [server, ..] => *server,
-    }
-}
-
-// Sets a link.
-fn set_link<B: Bay>(
+/// Sets a link, where the client and the server are there, and the client is up.
+pub fn set_link<B: Bay>(
     _bay: &B,
     site: &mut Site<B::D>,
     client: u8,
@@ -109,8 +98,8 @@ fn set_link<B: Bay>(
     }
 }
 
-// Lets time pass.
-fn tick<B: Bay>(_bay: &B, site: &mut Site<B::D>, seconds: u32) -> Reply
+/// Lets time pass.
+pub fn tick<B: Bay>(_bay: &B, site: &mut Site<B::D>, seconds: u32) -> Reply
     requires ready { IsReady B.D.told (B.out _bay.now) site.old }
     ensures ready { IsReady B.D.told (B.out _bay.now) site.new }
     ensures does { (cell : StoredCell) → IsStoredKept cell
@@ -122,8 +111,8 @@ fn tick<B: Bay>(_bay: &B, site: &mut Site<B::D>, seconds: u32) -> Reply
     Reply::Accepted
 }
 
-// Names a volume to be shown, where its server has it and is up.
-fn show_volume<B: Bay>(
+/// Names a volume to be shown, where its server has it and is up.
+pub fn show_volume<B: Bay>(
     _bay: &B,
     site: &Site<B::D>,
     server: u8,
@@ -148,8 +137,8 @@ fn show_volume<B: Bay>(
     }
 }
 
-// Names a log to be shown, where the client and the volume are there, and the client is up.
-fn show_log<B: Bay>(
+/// Names a log to be shown, where the client and the volume are there, and the client is up.
+pub fn show_log<B: Bay>(
     _bay: &B,
     site: &Site<B::D>,
     client: u8,
@@ -172,8 +161,22 @@ fn show_log<B: Bay>(
     Ok(Reply::ShowLog { client, volume })
 }
 
-// Lines of disks.
-fn fail<B: Bay>(bay: &mut B, site: &mut Site<B::D>, line: &Line) -> Result<Reply, CellFault> {
+/// Carries out a line that crashes an actor, recovers it or lets its disk fail.
+///
+/// # Errors
+///
+/// `Memory`, and `Bay` where the bay refused a crash.
+pub fn fail<B: Bay>(bay: &mut B, site: &mut Site<B::D>, line: &Line) -> Result<Reply, CellFault>
+    requires disk { is_disk_line line.now ≡ true }
+    requires ready { IsReady B.D.told (B.out bay.old) site.old }
+    ensures ready { result ≢ Err CellFault.Bay → IsReady B.D.told (B.out bay.new) site.new }
+    ensures does { (cell : StoredCell) → IsStoredKept cell → IsSite B.D.told (B.out bay.old) (B.has bay.old) cell site.old
+        → IfOk result (λ reply. Becomes B.D.told (B.out bay.new) (B.has bay.new) (Happens cell line.now) reply (B.answered bay.old) (B.answered bay.new) site.new) }
+    ensures net { site.new.net ≡ site.old.net }
+    ensures later { B.faults bay.old ≤ B.faults bay.new }
+    ensures bay_cause { result ≡ Err CellFault.Bay → Rose (B.faults bay.old) (B.faults bay.new) }
+    ensures follows { B.follows bay.old bay.new }
+{
     match line {
         Line::CrashClient { client, choice } => crash_client(bay, site, *client, *choice),
         Line::CrashReplica {
@@ -190,42 +193,5 @@ fn fail<B: Bay>(bay: &mut B, site: &mut Site<B::D>, line: &Line) -> Result<Reply
             passes,
         } => arm_replica(bay, site, *server, *volume, *passes),
         _ => unreachable!(),
-    }
-}
-
-/// Carries out a line that is built, and answers its reply.
-pub fn step<B: Bay>(bay: &mut B, site: &mut Site<B::D>, line: &Line) -> Result<Reply, CellFault> {
-    match line {
-        Line::Volume {
-            volume,
-            servers,
-            area,
-        } => make_volume(bay, site, *volume, alone(servers.servers()), *area),
-        Line::Client {
-            client,
-            blocks,
-            area,
-        } => make_client(bay, site, *client, *blocks, *area),
-        Line::Link {
-            client,
-            server,
-            strength,
-        } => set_link(bay, site, *client, *server, *strength),
-        Line::Tick { seconds } => Ok(tick(bay, site, *seconds)),
-        Line::Task(task) => carry_out(bay, site, task),
-        Line::ShowVolume { server, volume } => show_volume(bay, site, *server, *volume),
-        Line::ShowLog { client, volume } => show_log(bay, site, *client, *volume),
-        Line::Send {
-            client,
-            volume,
-            server,
-            window,
-        } => {
-            let window = window.unwrap_or(AGING_WINDOW);
-            send(bay, site, *client, *volume, *server, window)
-        }
-        Line::Deliver { message } => deliver(bay, site, *message),
-        Line::Lose { message } => lose(bay, site, *message),
-        _ => fail(bay, site, line),
     }
 }

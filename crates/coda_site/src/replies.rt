@@ -145,14 +145,6 @@ pub fn reply_taken(chunk: u64, answer: Answer) -> Reply
     Reply::StillFrozen { chunk, why }
 }
 
-/// The reply that an actor was made, on a disk with so many entries. Fails for want of memory alone.
-pub fn opened(alloc: Global, entries: u64) -> Result<Reply, AllocError>
-    ensures { IfOk result (λ said. said ≡ reply.Opened (entries ∷ [])) }
-{
-    let numbers = vec![in alloc; entries]?;
-    Ok(Reply::Opened(Numbers::from_vec(numbers)))
-}
-
 /// Why a replica doesn't answer a chunk, as a line is refused for it.
 ///
 /// # Errors

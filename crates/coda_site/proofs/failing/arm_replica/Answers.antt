@@ -1,0 +1,73 @@
+use Rattle.std.proofs.Common.{◌≡◌, Some, [], ◌∷◌, refl, sym, ap, subst, ◌∙◌}
+use Rattle.std.specs.Prelude.{not}
+use Rattle.std.proofs.lemmas.Bool.{false≢true}
+use Rattle.coda_script.specs.declared.line.Line.TheVariants as line
+use Rattle.coda_script.specs.declared.reply.Reply.TheVariants.{Accepted, Crashed}
+use Rattle.coda_cell.specs.Made.{state_of}
+use Rattle.coda_cell.specs.Refusing.{refusal}
+use Rattle.coda_cell.specs.Steps.{holder_named, first_missing}
+use Rattle.coda_cell.specs.declared.refused.Refused.TheVariants.{NoSuchActor}
+use Rattle.coda_stored.specs.Lines.{replica_down, Stays, CrashesReplica, RecoversReplica, DoesUp, Happens}
+use Rattle.std.specs.Prelude.{IfOk}
+use Rattle.coda_site.specs.Sites.{is_client_disk, is_replica_disk}
+use Rattle.coda_site.specs.Steps.{Becomes}
+use Rattle.coda_site.proofs.Becomings.{missing_becomes, down_becomes, up_becomes}
+use Rattle.coda_site.proofs.ClientLines.{names_there, names_missing, stays_becomes, all_be}
+use Rattle.coda_site.proofs.ReplicaSites.{with_replicas, of_replicas}
+use Rattle.coda_site.proofs.ReplicaLines.{as_is, replicas_ready, crash_replica_becomes, recover_replica_returns, arm_replica_site}
+use Rattle.coda_site.proofs.Theres.{holder_at_place, made_elsewhere, not_made, replica_down_at, replica_made}
+use Rattle.coda_site.proofs.failing.arm_replica.Goals.{in_default-via-in-Some+else-place-server, in_default-via-in_default}
+use Rattle.coda_site.proofs.failing.arm_replica.Goals as goal
+
+pub returns-in_ok-no_such_actor-in_default-clause-does : goal.returns-in_ok-no_such_actor-in_default-clause-does
+returns-in_ok-no_such_actor-in_default-clause-does g c = λ cell kept is.
+    let told = g.B.D.Disk.told in
+    let out = g.B.Bay.out c.args._bay.now in
+    let has = g.B.Bay.has c.args._bay.now in
+    let site = c.args.site.now in
+    let server = c.args.server in
+    let volume = c.args.volume in
+    let names = holder_named (state_of cell.made) server volume ∷ [] in
+    let reply = c.in_ok-no_such_actor-in_default.field-0 in
+    let missing : first_missing names ≡ Some (NoSuchActor server) = elim c.in_default.branch [
+      | in_default-via-in-Some+else-place-server w ↦ made_elsewhere told out has cell kept site is server volume w.in-Some.place (sym c.place.ensures ∙ w.in-Some.is) w.if-place-server.false
+      | in_default-via-in_default w ↦ not_made told out has cell kept site is server volume (sym c.place.ensures ∙ w.in_default.is)
+    ] in
+    let said = c.in_ok-no_such_actor-in_default.ensures ∙ ap (λ n. refusal (NoSuchActor n)) c.from.ensures in
+    missing_becomes told out has cell names (replica_down cell volume) (DoesUp cell (line.ArmReplica server volume c.args.passes)) reply (g.B.Bay.answered c.args._bay.now) site (NoSuchActor server) missing
+    (names_missing cell names (NoSuchActor server) (Stays cell Accepted) reply missing said) is
+
+pub returns-then-not-is_up-clause-does : goal.returns-then-not-is_up-clause-does
+returns-then-not-is_up-clause-does g c = λ cell kept is.
+    let told = g.B.D.Disk.told in
+    let out = g.B.Bay.out c.args._bay.now in
+    let has = g.B.Bay.has c.args._bay.now in
+    let site = c.args.site.now in
+    let server = c.args.server in
+    let volume = c.args.volume in
+    let place = c.in-Some.place in
+    let placed = sym c.place.ensures ∙ c.in-Some.is in
+    let same = c.if-place-server.true in
+    let names = holder_named (state_of cell.made) server volume ∷ [] in
+    down_becomes told out has cell names (replica_down cell volume) (DoesUp cell (line.ArmReplica server volume c.args.passes)) c.refuse.result (g.B.Bay.answered c.args._bay.now) site
+    (holder_at_place told out has cell kept site is server volume place placed same)
+    (replica_down_at told out has cell kept site is volume place placed ∙ ap not (sym c.is_up.ensures ∙ c.if-not-is_up.true)) c.refuse.ensures is
+
+pub returns-else-not-is_up-clause-does : goal.returns-else-not-is_up-clause-does
+returns-else-not-is_up-clause-does g c = λ cell kept is.
+    let told = g.B.D.Disk.told in
+    let out = g.B.Bay.out c.args._bay.now in
+    let has = g.B.Bay.has c.args._bay.now in
+    let site = c.args.site.now in
+    let server = c.args.server in
+    let volume = c.args.volume in
+    let place = c.in-Some.place in
+    let placed = sym c.place.ensures ∙ c.in-Some.is in
+    let same = c.if-place-server.true in
+    let names = holder_named (state_of cell.made) server volume ∷ [] in
+    let takes = c.arm.ensures.step is_replica_disk is.replicas.0 is.replicas.2 (of_replicas told out has cell site is volume place placed kept) in
+    let be = as_is is_client_disk out has in
+    let there = holder_at_place told out has cell kept site is server volume place placed same in
+    up_becomes told out has cell names (replica_down cell volume) (DoesUp cell (line.ArmReplica server volume c.args.passes)) Accepted (g.B.Bay.answered c.args._bay.now) (with_replicas site c.arm.new.slots) there
+    (replica_down_at told out has cell kept site is volume place placed ∙ ap not (sym c.is_up.ensures ∙ c.if-not-is_up.false)) cell
+    (names_there cell names (Stays cell Accepted) Accepted [] cell there (refl, refl, refl)) (arm_replica_site told out out has has cell kept site is volume place placed c.arm.new.slots be takes)
