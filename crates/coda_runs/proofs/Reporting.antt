@@ -1,10 +1,10 @@
 -- What the report of a run tells of cells on disks.
-use Rattle.std.proofs.Common.{◌≡◌, ◌≢◌, ℕ, Bool, true, false, List, [], ◌∷◌, ◌++◌, Option, refl, sym, ap, ◌∙◌, subst}
+use Rattle.std.proofs.Common.{◌≡◌, ◌≢◌, ℕ, Bool, false, List, [], ◌∷◌, ◌++◌, refl, sym, ap, ◌∙◌}
 use Rattle.std.proofs.lemmas.List.{append_assoc, append-nil}
 use Rattle.coda_engine.specs.declared.status.Status.{Status}
 use Rattle.coda_engine.specs.declared.status.Status.TheVariants.{Done, Usage, Script, SourceFault, SinkFault, TooLong, BayFault, Memory}
-use Rattle.coda_engine.specs.Run.{Runs, Ran, BrokeOff, Answers, Reports, is_at_end}
-use Rattle.coda_stored.specs.Cells.{StoredCell, nothing_stored}
+use Rattle.coda_engine.specs.Run.{Runs, Ran, BrokeOff, Answers, is_at_end}
+use Rattle.coda_stored.specs.Cells.{StoredCell}
 use Rattle.coda_stored.specs.Kept.{IsStoredKept}
 use Rattle.coda_runs.specs.Headline.{HasRun}
 use Rattle.coda_runs.specs.Runs.{LineGives, LineRefused}

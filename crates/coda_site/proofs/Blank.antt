@@ -1,6 +1,5 @@
 -- Disks on which no actor was ever made stand for the cell in which nothing was made.
-use Rattle.std.proofs.Common.{◌≡◌, ◌<◌, ℕ, Bool, true, false, List, [], Some, None, refl, sym, ap, ◌∙◌}
-use Rattle.std.specs.BTreeMap.{BTreeMap}
+use Rattle.std.proofs.Common.{ℕ, Bool, refl}
 use Rattle.coda_disk.specs.Told.{Told}
 use Rattle.coda_actors.specs.Fits.{StandsFor}
 use Rattle.coda_actors.specs.Form.{Form}

@@ -1,6 +1,6 @@
 -- Lines that crash clients, recover them, or let their disks fail.
-use Rattle.std.proofs.Common.{◌≡◌, ◌≢◌, ◌⊎◌, inl, inr, ℕ, ◌==◌, Bool, true, false, cond, List, [], ◌∷◌, ◌++◌, append-nil, map, length, Option, Some, None, IfSome, IfOk, Result, Ok, Err, refl, sym, ap, subst, ◌∙◌, arith}
-use Rattle.std.proofs.lemmas.Bool.{cases_eq, false≢true, eqb-true, eq-eqb, ne_eqb}
+use Rattle.std.proofs.Common.{◌≡◌, ◌≢◌, inl, inr, ℕ, ◌==◌, Bool, true, false, cond, List, [], ◌∷◌, ◌++◌, append-nil, map, length, Option, Some, None, IfSome, IfOk, Result, Ok, Err, refl, sym, ap, subst, ◌∙◌}
+use Rattle.std.proofs.lemmas.Bool.{cases_eq, eq-eqb, ne_eqb}
 use Rattle.std.proofs.lemmas.List.{map-append, length-map}
 use Rattle.std.specs.Prelude.{not, get_or}
 use Rattle.std.specs.Option.{option_map}
@@ -12,7 +12,7 @@ use Rattle.coda_journal.specs.Image.{ReadsAs}
 use Rattle.coda_journal.specs.declared.header.Header.{Header}
 use Rattle.coda_actors.specs.Clients.{client_form}
 use Rattle.coda_actors.specs.Fits.{Fits}
-use Rattle.coda_actors.specs.Plain.{PlainDisk, PlainActor, Life, Unmade, Down, Up, Asks, Step, Mounts, HasOther, Joins, Tries, IsReadFrom, MayHave as MayHaveAs, recovered_as, left_after}
+use Rattle.coda_actors.specs.Plain.{PlainDisk, PlainActor, Down, Up, Asks, Step, HasOther, Joins, MayHave as MayHaveAs}
 use Rattle.coda_actors.specs.Plain.{Crashes as CrashDeed, Recovers as RecoverDeed, Arms}
 use Rattle.coda_actors.specs.Slots.{is_up}
 use Rattle.coda_actors.specs.declared.slot.Mounting.{Mounting}
@@ -23,9 +23,8 @@ use Rattle.coda_crew.proofs.Lifts.{left_fits, no_more}
 use Rattle.coda_plain.specs.Cell.{ClientEntry, Actor, joined_to}
 use Rattle.coda_plain.specs.Moves.{TheClient, Crashes, Recovers, crashed, recovered}
 use Rattle.coda_script.specs.declared.reply.Reply.{Reply}
-use Rattle.coda_script.specs.declared.reply.Reply.TheVariants.{Accepted, Crashed, Recovered}
+use Rattle.coda_script.specs.declared.reply.Reply.TheVariants.{Crashed, Recovered}
 use Rattle.coda_script.specs.declared.line.Line.TheVariants as line
-use Rattle.coda_replica.specs.declared.replica.Replica.{Replica}
 use Rattle.coda_actors.specs.Replicas.{replica_form}
 use Rattle.coda_venus.specs.History.{Payload, payload_of, payloads_of}
 use Rattle.coda_venus.specs.declared.venus.Venus.{Venus}
@@ -38,7 +37,7 @@ use Rattle.coda_cell.specs.declared.refused.Refused.TheVariants.{NoSuchActor}
 use Rattle.coda_matching.specs.Clients.{journal_by, payload_by}
 use Rattle.coda_stored.specs.Cells.{Side, StoredCell, life_of, plain_client, client_header, moved}
 use Rattle.coda_stored.specs.Kept.{IsStoredKept, IsClientSide, IsGiven}
-use Rattle.coda_stored.specs.Lines.{client_down, MayHave, client_payloads, with_client_side, recovered_side, refused_fault, Becoming, Naming, Unless, Stays, CrashesClient, RecoversClient, IsRefused, Happens}
+use Rattle.coda_stored.specs.Lines.{client_down, MayHave, client_payloads, with_client_side, recovered_side, refused_fault, Becoming, Naming, Unless, CrashesClient, RecoversClient, Happens}
 use Rattle.coda_site.specs.Makings.{SaysRecovered}
 use Rattle.coda_site.specs.Sites.{is_client_disk, is_replica_disk, IsSite, IsReady, client_at}
 use Rattle.coda_site.specs.Steps.{Becomes}

@@ -1,10 +1,10 @@
 -- Disks that are given back, one crew after the other.
-use Rattle.std.proofs.Common.{◌≡◌, ◌<◌, ◌≤◌, ◌⊎◌, ℕ, Bool, true, false, List, refl, sym, ap, ◌∙◌, subst, inl, inr, arith}
+use Rattle.std.proofs.Common.{◌≡◌, ◌⊎◌, ℕ, Bool, true, false, List, refl, sym, ◌∙◌, subst, inl, inr, arith}
 use Rattle.std.proofs.lemmas.Bool.Decides.{nat_tests}
-use Rattle.std.specs.Prelude.{nat_lt, nat_le}
+use Rattle.std.specs.Prelude.{nat_le}
 use Rattle.std.specs.BTreeMap.{BTreeMap}
 use Rattle.coda_disk.specs.Told.{Told}
-use Rattle.coda_actors.specs.Fits.{Fits, OutFits, FitsUnmade}
+use Rattle.coda_actors.specs.Fits.{Fits, OutFits}
 use Rattle.coda_actors.specs.Form.{Form}
 use Rattle.coda_actors.specs.Plain.{PlainActor}
 use Rattle.coda_actors.specs.declared.slot.Slot.{Slot}

@@ -1,5 +1,5 @@
 -- What letters that come, and letters that are lost, leave of a site.
-use Rattle.std.proofs.Common.{◌≡◌, ◌≢◌, ℕ, ◌+◌, ◌==◌, Bool, true, false, cond, ◌&&◌, not, List, [], ◌∷◌, ◌++◌, append-nil, map, Option, Some, None, is_some, option_map, Result, Ok, Err, refl, sym, ap, subst, ◌∙◌, inl, inr}
+use Rattle.std.proofs.Common.{◌≡◌, ◌≢◌, ℕ, Bool, true, false, cond, ◌&&◌, not, List, [], ◌∷◌, ◌++◌, append-nil, map, Option, Some, None, option_map, Result, Ok, Err, refl, sym, ap, subst, ◌∙◌, inl, inr}
 use Rattle.std.specs.Prelude.{⊤, nat_eq}
 use Rattle.std.specs.BTreeMap.{BTreeMap}
 use Rattle.coda_disk.specs.Told.{Told}
@@ -15,10 +15,8 @@ use Rattle.coda_record.proofs.PartsAgree.{first_true, second_true}
 use Rattle.coda_wire.specs.Table.{message}
 use Rattle.coda_wire.specs.declared.message.Message.{Message}
 use Rattle.coda_wire.specs.declared.message.Message.TheVariants.{Chunk, Verdict}
-use Rattle.coda_script.specs.declared.line.Line.{Line}
 use Rattle.coda_script.specs.declared.line.Line.TheVariants as line
 use Rattle.coda_script.specs.declared.line.Strength.{Strength}
-use Rattle.coda_script.specs.declared.line.Strength.TheVariants.{Strong, Weak, Down}
 use Rattle.coda_script.specs.declared.reply.Answer.{Answer as ReplyAnswer}
 use Rattle.coda_script.specs.declared.reply.Reply.{Reply}
 use Rattle.coda_script.specs.declared.reply.Reply.TheVariants as replies
@@ -32,7 +30,7 @@ use Rattle.coda_actors.specs.declared.slot.Slot.TheVariants.{Started}
 use Rattle.coda_crew.specs.Crews.{slot_at, KeepsOtherSlots}
 use Rattle.coda_net.specs.Pool.{Pool, is_down, link_of}
 use Rattle.coda_letters.specs.Calls.{IsPosted, DeliversTo, Delivers as LettersDeliver, LosesTo, Loses as LettersLose}
-use Rattle.coda_letters.specs.Sent.{Sent, ChunkSent, AnswerSent, message_of, client_of as sent_client, server_of as sent_server, Waiting, AreLetters, CanBeSaid, CanBeSent, sent_at, without}
+use Rattle.coda_letters.specs.Sent.{Sent, ChunkSent, AnswerSent, message_of, client_of as sent_client, server_of as sent_server, Waiting, AreLetters, CanBeSaid, CanBeSent, sent_at}
 use Rattle.coda_letters.specs.declared.fault.LetterFault.{LetterFault}
 use Rattle.coda_letters.specs.declared.fault.LetterFault.TheVariants as letter
 use Rattle.coda_replica.specs.declared.fault.ReplicaFault.{ReplicaFault}
@@ -40,19 +38,18 @@ use Rattle.coda_replica.specs.declared.replica.Replica.{Replica}
 use Rattle.coda_venus.specs.Standing.{IsUp}
 use Rattle.coda_venus.specs.declared.refused.Refused.{Refused as VenusRefused}
 use Rattle.coda_venus.specs.declared.venus.Venus.{Venus}
-use Rattle.coda_cell.specs.Cells.{strength_of, linked_in}
+use Rattle.coda_cell.specs.Cells.{strength_of}
 use Rattle.coda_cell.specs.Letters.{letter_refused_as}
 use Rattle.coda_cell.specs.Made.{client_of, state_of}
 use Rattle.coda_cell.specs.Messages.{Ending, posting, ruled_in, reply_taken, taken_in}
 use Rattle.coda_cell.specs.Refusing.{refusal}
 use Rattle.coda_cell.specs.Sending.{Ruling, ruling, Taking, taking, deeds_at, entries_at, reply_answer}
-use Rattle.coda_cell.specs.State.{ClientVolume, ReplicaState, CellState, Event, at_client, Lost, new_replica, replica_after_all}
+use Rattle.coda_cell.specs.State.{ReplicaState, CellState, Event, at_client, Lost, new_replica, replica_after_all}
 use Rattle.coda_cell.specs.Steps.{Doing, Named, on_holder, first_missing, link_down, reply_to, Unless, Naming, ByRuling, ByTaking, Comes, Delivers, Loses}
 use Rattle.coda_cell.specs.declared.refused.Refused.{Refused}
 use Rattle.coda_cell.specs.declared.refused.Refused.TheVariants as refused
 use Rattle.coda_cell.proofs.Delivering.{Came as LetterCame, came, chunk_of, answer_of}
-use Rattle.coda_cell.proofs.Events.{ruling_left}
-use Rattle.coda_matching.specs.Clients.{journal_by, IsClientHistory}
+use Rattle.coda_matching.specs.Clients.{journal_by}
 use Rattle.coda_matching.specs.Replicas.{RulingEnds}
 use Rattle.coda_sending.specs.Ending.{entries_on, deeds_by, nothing_said, TakingEnds}
 use Rattle.coda_stored.specs.Cells.{StoredCell, after, after_all}
@@ -70,7 +67,7 @@ use Rattle.coda_site.proofs.ClientSites.{IsClientUp, up_at, with_clients, entere
 use Rattle.coda_site.proofs.ReplicaSites.{IsReplicaThere, replica_is, there, home_is, apart_in, IsApart, with_decided, decided_left, with_replicas}
 use Rattle.coda_site.proofs.Stages.{ends_behind, EndsAt, IsFirst, client_refused, IsRuledFirst, UnruledReply, ruled_fits, ruled_left, replica_refused}
 use Rattle.coda_site.proofs.Drained as exchange
-use Rattle.coda_site.proofs.Holders.{names_in, missing_named, client_down_by, replica_down_by, server_at_place}
+use Rattle.coda_site.proofs.Holders.{names_in, missing_named, client_down_by, replica_down_by}
 use Rattle.coda_site.proofs.Posted.{with_net, posted_site, posted_number, posting_fits, lost_site, unlost_site}
 
 -- what a replica that is up is

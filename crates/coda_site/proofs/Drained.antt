@@ -1,16 +1,14 @@
 -- What a drain leaves of a site: the client's freeze, the replica's ruling, and the taking of its answer.
-use Rattle.std.proofs.Common.{◌≡◌, ◌≢◌, ℕ, ◌==◌, Bool, true, false, cond, not, List, [], ◌∷◌, ◌++◌, append-nil, map, Option, Some, None, is_some, Result, Ok, Err, refl, sym, ap, subst, ◌∙◌, inl, inr}
+use Rattle.std.proofs.Common.{◌≡◌, ℕ, ◌==◌, Bool, true, false, cond, not, List, [], ◌∷◌, ◌++◌, append-nil, map, Option, Some, None, is_some, Result, Ok, Err, refl, sym, ap, subst, ◌∙◌, inl}
 use Rattle.std.specs.Prelude.{⊤}
 use Rattle.std.specs.Option.{option_map_or}
 use Rattle.std.specs.BTreeMap.{BTreeMap}
 use Rattle.std.proofs.lemmas.Bool.{false≢true, eq-eqb}
-use Rattle.std.proofs.lemmas.List.{append_assoc}
 use Rattle.coda_disk.specs.Told.{Told}
 use Rattle.coda_fid.specs.declared.op.Record.{Record}
 use Rattle.coda_journal.specs.declared.header.Header.{Header}
-use Rattle.coda_plain.specs.Cell.{ClientEntry, Did, Actor}
-use Rattle.coda_plain.specs.Decisions.{ReplicaEntry, sent_of}
-use Rattle.coda_record.specs.declared.answer.Answer.{Answer}
+use Rattle.coda_plain.specs.Cell.{ClientEntry, Actor}
+use Rattle.coda_plain.specs.Decisions.{sent_of}
 use Rattle.coda_script.specs.declared.line.Line.TheVariants as line
 use Rattle.coda_script.specs.declared.line.Strength.{Strength}
 use Rattle.coda_script.specs.declared.line.Strength.TheVariants.{Strong, Weak, Down}
@@ -30,28 +28,27 @@ use Rattle.coda_cell.specs.Cells.{linked_in}
 use Rattle.coda_cell.specs.Made.{client_of, state_of}
 use Rattle.coda_cell.specs.Refusing.{refusal}
 use Rattle.coda_cell.specs.Sending.{Freezing, freezing, Ruling, ruling, Taking, taking, Outcome, deeds_at, entries_at, reply_answer, answered_to, ruled_on, drained_of, drained, drain, stays}
-use Rattle.coda_cell.specs.State.{ClientVolume, ReplicaState, CellState, Event, at_client, new_replica, replica_after_all}
+use Rattle.coda_cell.specs.State.{ClientVolume, ReplicaState, Event, at_client, new_replica, replica_after_all}
 use Rattle.coda_cell.specs.Steps.{Named, client_named, volume_named, holder_named, on_holder, first_missing, reply_to, ByBoth}
 use Rattle.coda_cell.specs.declared.refused.Refused.{Refused}
 use Rattle.coda_cell.specs.declared.refused.Refused.TheVariants as refused
 use Rattle.coda_cell.proofs.Events.{ruling_left}
 use Rattle.coda_cell.proofs.Histories.{server_stays}
-use Rattle.coda_matching.specs.Clients.{journal_by, IsClientHistory, Ends}
+use Rattle.coda_matching.specs.Clients.{journal_by, IsClientHistory}
 use Rattle.coda_matching.specs.Replicas.{journal_at, RulingEnds}
 use Rattle.coda_sending.specs.Ending.{entries_on, deeds_for, number_said, FreezingEnds, deeds_by, nothing_said, TakingEnds}
 use Rattle.coda_sending.proofs.Kept.{GoesOn, frozen_so}
 use Rattle.coda_stored.specs.Cells.{StoredCell, after_all}
-use Rattle.coda_stored.specs.Kept.{IsStoredKept}
 use Rattle.coda_stored.specs.Lines.{is_cut, refused_full, EndsBy}
 use Rattle.coda_stored.specs.Room.{Fits as FitsEvents}
-use Rattle.coda_site.specs.Chunks.{volume_by, replica_by, ClientEnds, ReplicaEnds}
+use Rattle.coda_site.specs.Chunks.{volume_by, replica_by}
 use Rattle.coda_site.specs.Drains.{Acted}
 use Rattle.coda_site.specs.Sites.{place_in, IsSite}
 use Rattle.coda_site.specs.declared.site.Place.{Place}
 use Rattle.coda_site.specs.declared.site.Site.{Site}
 use Rattle.coda_site.proofs.Becomings.{RepliesTo, named_there}
 use Rattle.coda_site.proofs.ClientSites.{IsClientUp, entries_left, history_left, with_entries, with_clients, entered, entries_fit, leaves}
-use Rattle.coda_site.proofs.ReplicaSites.{IsReplicaUp, IsReplicaThere, replica_is, IsApart, with_decided, decided_left, with_replicas}
+use Rattle.coda_site.proofs.ReplicaSites.{IsReplicaThere, replica_is, IsApart, with_replicas}
 use Rattle.coda_site.proofs.Stages.{ends_behind, EndsAt, IsFirst, client_refused, up_on, up_beside, clients_still, IsRuledFirst, UnruledReply, ruled_fits, ruled_left, replica_refused}
 
 -- ---- who is there

@@ -1,16 +1,14 @@
 -- Lines and letters that name a client, a volume and its server: who is there, and who is up.
-use Rattle.std.proofs.Common.{◌≡◌, ◌≢◌, ℕ, ◌==◌, Bool, true, false, ◌&&◌, ◌||◌, not, List, [], ◌∷◌, ◌++◌, Option, Some, None, is_some, option_map, refl, sym, ap, subst, ◌∙◌}
+use Rattle.std.proofs.Common.{◌≡◌, ℕ, ◌==◌, Bool, true, false, ◌&&◌, ◌||◌, not, List, [], ◌∷◌, Option, Some, None, is_some, option_map, refl, sym, ap, ◌∙◌}
 use Rattle.std.specs.Option.{option_map_or}
 use Rattle.std.proofs.lemmas.Bool.{false≢true, eqb-true}
 use Rattle.coda_disk.specs.Told.{Told}
 use Rattle.coda_script.specs.declared.line.Strength.{Strength}
 use Rattle.coda_script.specs.declared.line.Strength.TheVariants.{Strong, Weak, Down}
-use Rattle.coda_script.specs.declared.reply.Reply.{Reply}
 use Rattle.coda_actors.specs.Clients.{client_form}
 use Rattle.coda_actors.specs.Replicas.{replica_form}
 use Rattle.coda_actors.specs.Slots.{is_made, is_up}
 use Rattle.coda_crew.specs.Crews.{slot_at}
-use Rattle.coda_cell.specs.Cells.{linked_in}
 use Rattle.coda_cell.specs.Made.{state_of}
 use Rattle.coda_cell.specs.Steps.{Named, on_holder, first_missing}
 use Rattle.coda_cell.specs.declared.refused.Refused.TheVariants as refused

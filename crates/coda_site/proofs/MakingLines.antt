@@ -1,5 +1,5 @@
 -- Lines that make actors.
-use Rattle.std.proofs.Common.{◌≡◌, ◌≢◌, inl, inr, ℕ, ◌+◌, Bool, true, false, List, [], ◌∷◌, append-nil, length, Option, Some, None, refl, sym, ap, subst, ◌∙◌}
+use Rattle.std.proofs.Common.{◌≡◌, ◌≢◌, inl, inr, ℕ, ◌+◌, Bool, List, [], ◌∷◌, append-nil, length, Option, Some, None, refl, sym, ap, subst, ◌∙◌}
 use Rattle.std.proofs.lemmas.Bool.{cases_eq}
 use Rattle.std.specs.BTreeMap.{BTreeMap}
 use Rattle.coda_disk.specs.Told.{Told}
@@ -10,16 +10,16 @@ use Rattle.coda_actors.specs.declared.slot.Mounting.{Mounting}
 use Rattle.coda_actors.specs.declared.slot.Mounting.TheVariants.{Entries, Foreign, DiskFault, Memory}
 use Rattle.coda_actors.specs.declared.slot.Slot.{Slot}
 use Rattle.coda_crew.specs.Crews.{FitsAll, Takes, LeavesBe}
-use Rattle.coda_plain.specs.Cell.{ClientEntry, Actor, new_actor}
+use Rattle.coda_plain.specs.Cell.{ClientEntry, Actor}
 use Rattle.coda_plain.specs.Moves.{TheClient, Crashes, crashed}
 use Rattle.coda_script.specs.declared.reply.Reply.{Reply}
 use Rattle.coda_script.specs.declared.reply.Reply.TheVariants.{Opened}
 use Rattle.coda_venus.specs.History.{Payload}
 use Rattle.coda_venus.specs.declared.venus.Venus.{Venus}
 use Rattle.coda_cell.specs.State.{put}
-use Rattle.coda_stored.specs.Cells.{Side, no_side, StoredCell, plain_client, client_header, unmade, moved}
+use Rattle.coda_stored.specs.Cells.{Side, StoredCell, plain_client, client_header, unmade, moved}
 use Rattle.coda_stored.specs.Kept.{IsStoredKept, IsClientSide}
-use Rattle.coda_stored.specs.Lines.{refused_fault, IsTried, Opens, with_client}
+use Rattle.coda_stored.specs.Lines.{IsTried, Opens, with_client}
 use Rattle.coda_site.specs.Makings.{SaysOpened}
 use Rattle.coda_site.specs.Sites.{is_client_disk, is_replica_disk, IsSite}
 use Rattle.coda_site.specs.Steps.{Becomes}

@@ -1,6 +1,5 @@
 -- What letters that are posted and lost leave of a site.
-use Rattle.std.proofs.Common.{◌≡◌, ℕ, ◌+◌, Bool, List, [], ◌∷◌, ◌++◌, map, take, Option, Some, None, Result, Ok, Err, refl, sym, ap, subst, ◌∙◌}
-use Rattle.std.specs.Prelude.{⊤}
+use Rattle.std.proofs.Common.{◌≡◌, ℕ, ◌+◌, Bool, List, [], ◌∷◌, ◌++◌, map, take, Option, Some, None, refl, sym, subst, ◌∙◌}
 use Rattle.coda_disk.specs.Told.{Told}
 use Rattle.coda_net.specs.Pool.{Pool}
 use Rattle.coda_letters.specs.Sent.{Sent, Waiting, AreLetters, lost_by, number_of, without, with_sent}

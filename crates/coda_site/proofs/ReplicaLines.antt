@@ -1,8 +1,6 @@
 -- Lines that crash replicas, recover them, or let their disks fail.
-use Rattle.std.proofs.Common.{suc, ◌≡◌, ◌≢◌, ◌⊎◌, inl, inr, ℕ, ◌==◌, ◌&&◌, ◌+◌, ◌*◌, ◌<◌, Bool, true, false, cond, List, [], ◌∷◌, ◌++◌, append-nil, map, length, Option, Some, None, IfSome, IfOk, Result, Ok, Err, refl, sym, ap, subst, ◌∙◌, arith}
+use Rattle.std.proofs.Common.{suc, ◌≡◌, ◌≢◌, inl, inr, ℕ, ◌==◌, ◌&&◌, ◌+◌, ◌*◌, ◌<◌, Bool, true, false, cond, List, [], ◌∷◌, ◌++◌, append-nil, length, Option, Some, None, IfSome, IfOk, Result, Ok, Err, refl, sym, ap, subst, ◌∙◌}
 use Rattle.std.proofs.lemmas.Bool.{cases_eq, ne_eqb, eq-eqb, and_right}
-use Rattle.std.proofs.lemmas.List.{map-append, length-map}
-use Rattle.std.specs.Prelude.{not}
 use Rattle.std.specs.Option.{option_map}
 use Rattle.std.specs.BTreeMap.{BTreeMap}
 use Rattle.coda_disk.specs.Told.{Told}
@@ -10,7 +8,7 @@ use Rattle.coda_journal.specs.Image.{ReadsAs}
 use Rattle.coda_journal.specs.declared.header.Header.{Header}
 use Rattle.coda_actors.specs.Clients.{client_form}
 use Rattle.coda_actors.specs.Fits.{Fits}
-use Rattle.coda_actors.specs.Plain.{PlainDisk, PlainActor, Step, Joins, Tries, MayHave as MayHaveAs}
+use Rattle.coda_actors.specs.Plain.{PlainDisk, PlainActor, Step, Joins, MayHave as MayHaveAs}
 use Rattle.coda_actors.specs.Plain.{Crashes as CrashDeed, Recovers as RecoverDeed, Arms}
 use Rattle.coda_actors.specs.Replicas.{replica_form}
 use Rattle.coda_actors.specs.Slots.{is_made}
@@ -30,22 +28,22 @@ use Rattle.coda_replica.specs.History.{payload_of, payloads_of}
 use Rattle.coda_replica.specs.declared.replica.Replica.{Replica}
 use Rattle.coda_script.specs.declared.line.Line.TheVariants as line
 use Rattle.coda_script.specs.declared.reply.Reply.{Reply}
-use Rattle.coda_script.specs.declared.reply.Reply.TheVariants.{Accepted, Crashed, Recovered}
+use Rattle.coda_script.specs.declared.reply.Reply.TheVariants.{Crashed, Recovered}
 use Rattle.coda_cell.specs.Made.{state_of}
 use Rattle.coda_cell.specs.State.{put}
-use Rattle.coda_cell.specs.Steps.{Named, holder_named, first_missing}
+use Rattle.coda_cell.specs.Steps.{holder_named, first_missing}
 use Rattle.coda_matching.specs.Replicas.{entry_at, journal_at, IsDecision}
 use Rattle.coda_stored.specs.Cells.{Side, StoredCell, life_of, first_in, failed_at, plain_client, plain_replica, replica_header, unmade, moved}
 use Rattle.coda_stored.specs.Kept.{IsStoredKept, IsReplicaSide}
 use Rattle.coda_stored.specs.Lines.{MayHave, replica_payloads, with_replica_side, recovered_side, refused_fault, CrashesReplica, RecoversReplica, Happens}
 use Rattle.coda_site.specs.Makings.{SaysRecovered}
-use Rattle.coda_site.specs.Sites.{is_client_disk, is_replica_disk, place_in, AreReplicas, IsSite, IsReady}
+use Rattle.coda_site.specs.Sites.{is_client_disk, is_replica_disk, place_in, IsSite, IsReady}
 use Rattle.coda_site.specs.Steps.{Becomes}
 use Rattle.coda_site.specs.declared.fault.CellFault.{CellFault}
 use Rattle.coda_site.specs.declared.site.Site.{Site}
 use Rattle.coda_site.specs.declared.site.Place.{Place}
 use Rattle.coda_site.proofs.ClientLines.{names_there, asked_by, never_foreign}
-use Rattle.coda_site.proofs.ReplicaSites.{with_ruler, with_replicas, ruler_here, home_is, place_is, of_replicas, apart_in}
+use Rattle.coda_site.proofs.ReplicaSites.{with_ruler, with_replicas, ruler_here, home_is, place_is, apart_in}
 
 -- a bay that nothing was done to
 pub as_is : (of out : ℕ → Bool) (has : ℕ → Told) → LeavesBe of out out has has

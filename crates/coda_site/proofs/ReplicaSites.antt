@@ -1,27 +1,26 @@
 -- The replica that is up in its slot, and what a site stands for once that replica went on.
-use Rattle.std.proofs.Common.{◌≡◌, ◌≢◌, ◌⊎◌, ◌<◌, ◌≤◌, ℕ, ◌+◌, ◌*◌, ◌-◌, ◌==◌, ◌&&◌, Bool, true, false, cond, List, [], ◌∷◌, ◌++◌, append-nil, map, length, Option, Some, None, option_map, IfSome, Result, Ok, Err, refl, sym, ap, ◌∙◌, subst, inl, inr, arith}
-use Rattle.std.specs.Prelude.{nat_le, not}
+use Rattle.std.proofs.Common.{◌≡◌, ◌≢◌, ℕ, ◌+◌, ◌*◌, ◌-◌, ◌==◌, ◌&&◌, Bool, true, false, cond, List, [], ◌∷◌, ◌++◌, append-nil, length, Option, Some, None, option_map, IfSome, refl, sym, ap, ◌∙◌, subst, inl, inr, arith}
+use Rattle.std.specs.Prelude.{not}
 use Rattle.std.specs.BTreeMap.{BTreeMap}
 use Rattle.std.specs.Int.{w32}
 use Rattle.std.specs.Option.{option_and_then, option_map_or}
-use Rattle.std.proofs.lemmas.Bool.{false≢true, eqb-true, eq-eqb, ne_eqb, le-leb, cases_eq, cases_Bool, and_parts, and_right}
-use Rattle.std.proofs.lemmas.List.{append_assoc, map-append, length-append, length-take}
+use Rattle.std.proofs.lemmas.Bool.{eqb-true, eq-eqb, ne_eqb, le-leb, cases_eq, cases_Bool, and_parts, and_right}
+use Rattle.std.proofs.lemmas.List.{append_assoc, map-append, length-append}
 use Rattle.coda_disk.specs.Told.{Told}
-use Rattle.coda_journal.specs.Entries.{blocks, framed, body}
-use Rattle.coda_journal.specs.Header.{area_bytes}
+use Rattle.coda_journal.specs.Entries.{blocks, body}
 use Rattle.coda_journal.specs.declared.header.Header.{Header}
 use Rattle.coda_actors.specs.Form.{IsAsked}
-use Rattle.coda_actors.specs.Plain.{PlainActor, PlainDisk, Down, Up}
+use Rattle.coda_actors.specs.Plain.{PlainActor, PlainDisk}
 use Rattle.coda_actors.specs.Fits.{StandsFor as ActorStands, Echoes, FitsUp, FitsDown, FitsHeld, Fits}
 use Rattle.coda_actors.specs.Replicas.{replica_form}
-use Rattle.coda_actors.specs.Slots.{is_made, is_up}
+use Rattle.coda_actors.specs.Slots.{is_up}
 use Rattle.coda_actors.specs.declared.slot.Slot.{Slot}
 use Rattle.coda_actors.specs.declared.slot.Slot.TheVariants.{Started}
-use Rattle.coda_crew.specs.Crews.{slot_at, KeepsOtherSlots, FitsAll}
-use Rattle.coda_plain.specs.Cell.{Actor, Joins, found, joined_to}
+use Rattle.coda_crew.specs.Crews.{slot_at, KeepsOtherSlots}
+use Rattle.coda_plain.specs.Cell.{Actor, joined_to}
 use Rattle.coda_plain.specs.Decisions.{ReplicaEntry, AreDecisions}
 use Rattle.coda_plain.specs.Histories.{In}
-use Rattle.coda_plain.specs.Moves.{AtReplica, with_replica, grown, fallen}
+use Rattle.coda_plain.specs.Moves.{AtReplica, with_replica, fallen}
 use Rattle.coda_plain.proofs.Lists.{told_push}
 use Rattle.coda_plain.proofs.Soundness.{none_joins}
 use Rattle.coda_record.specs.declared.entry.ReplicaEntry.{ReplicaEntry as KeptEntry}
@@ -31,16 +30,16 @@ use Rattle.coda_replica.specs.Standing.{IsUp, StandsFor}
 use Rattle.coda_replica.specs.declared.replica.Replica.{Replica}
 use Rattle.coda_cell.specs.Made.{replica_of, state_of}
 use Rattle.coda_cell.specs.Sending.{entries_at}
-use Rattle.coda_cell.specs.State.{Event, new_replica, replica_after_all}
-use Rattle.coda_matching.specs.Replicas.{entry_at, journal_at, IsReplicaHistory, LacksRoom, Adds}
-use Rattle.coda_stored.specs.Cells.{Side, StoredCell, life_of, first_in, plain_replica, replica_header, unmade, failed_at, after, after_all, failed}
-use Rattle.coda_stored.specs.Kept.{IsReplicaSide, IsStoredKept, whole}
+use Rattle.coda_cell.specs.State.{new_replica, replica_after_all}
+use Rattle.coda_matching.specs.Replicas.{entry_at, journal_at, IsReplicaHistory, LacksRoom}
+use Rattle.coda_stored.specs.Cells.{Side, StoredCell, life_of, first_in, plain_replica, replica_header, unmade, failed_at, after_all, failed}
+use Rattle.coda_stored.specs.Kept.{IsReplicaSide, IsStoredKept}
 use Rattle.coda_stored.specs.Lines.{replica_down}
 use Rattle.coda_stored.specs.Room.{Lacks, LacksFor, Fits as FitsEvents}
-use Rattle.coda_site.specs.Sites.{is_replica_disk, place_in, AreReplicas, IsSite}
+use Rattle.coda_site.specs.Sites.{is_replica_disk, place_in, IsSite}
 use Rattle.coda_site.specs.declared.site.Site.{Site}
 use Rattle.coda_site.specs.declared.site.Place.{Place}
-use Rattle.coda_site.proofs.Slots.{life_up, IsStarted, started, not_started, reads_fit}
+use Rattle.coda_site.proofs.Slots.{life_up, started, not_started, reads_fit}
 
 -- ---- a replica that is up
 

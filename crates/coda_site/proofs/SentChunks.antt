@@ -1,5 +1,5 @@
 -- What a client that sends a chunk leaves of a site.
-use Rattle.std.proofs.Common.{◌≡◌, ◌≢◌, ◌≤◌, ℕ, zero, suc, arith, ◌+◌, ◌==◌, Bool, true, false, ◌&&◌, not, List, [], ◌∷◌, ◌++◌, append-nil, map, Option, Some, None, is_some, option_map, Result, Ok, Err, refl, sym, ap, subst, ◌∙◌, inl, inr}
+use Rattle.std.proofs.Common.{◌≡◌, ◌≤◌, ℕ, zero, suc, arith, ◌+◌, ◌==◌, Bool, true, false, not, List, [], ◌++◌, append-nil, map, Option, Some, None, is_some, option_map, Result, Ok, Err, refl, sym, ap, subst, ◌∙◌, inl}
 use Rattle.std.specs.Option.{option_map_or}
 use Rattle.std.specs.BTreeMap.{BTreeMap}
 use Rattle.std.proofs.lemmas.Bool.{false≢true, eq-eqb}
@@ -9,7 +9,7 @@ use Rattle.coda_record.specs.Spelling.{HasSpelling}
 use Rattle.coda_record.specs.Table as table
 use Rattle.coda_spelling.proofs.SpelledParts.{within}
 use Rattle.coda_journal.specs.declared.header.Header.{Header}
-use Rattle.coda_plain.specs.Cell.{ClientEntry, Actor}
+use Rattle.coda_plain.specs.Cell.{ClientEntry}
 use Rattle.coda_script.specs.declared.line.Line.TheVariants as line
 use Rattle.coda_script.specs.declared.line.Strength.{Strength}
 use Rattle.coda_script.specs.declared.line.Strength.TheVariants.{Strong, Weak, Down}
@@ -30,8 +30,8 @@ use Rattle.coda_cell.specs.Cells.{linked_in}
 use Rattle.coda_cell.specs.Made.{client_of, state_of}
 use Rattle.coda_cell.specs.Messages.{Ending, over, posting, going_by, going, Going, sends_of, sends}
 use Rattle.coda_cell.specs.Refusing.{refusal}
-use Rattle.coda_cell.specs.Sending.{Freezing, freezing, deeds_at}
-use Rattle.coda_cell.specs.State.{ClientVolume, ReplicaState, CellState, Event, at_client, new_replica, replica_after_all}
+use Rattle.coda_cell.specs.Sending.{Freezing, freezing}
+use Rattle.coda_cell.specs.State.{ClientVolume, ReplicaState, CellState, at_client, new_replica, replica_after_all}
 use Rattle.coda_cell.specs.Steps.{Named, client_named, volume_named, holder_named, on_holder, first_missing, reply_to, BySend}
 use Rattle.coda_cell.specs.declared.refused.Refused.{Refused}
 use Rattle.coda_cell.specs.declared.refused.Refused.TheVariants as refused

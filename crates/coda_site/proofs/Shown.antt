@@ -1,10 +1,9 @@
 -- What is shown of a site is what the cell has that it stands for.
-use Rattle.std.proofs.Common.{◌≡◌, ◌≢◌, ℕ, ◌==◌, Bor, Bool, true, false, cond, Option, Some, None, refl, sym, ap, ◌∙◌, subst}
+use Rattle.std.proofs.Common.{◌≡◌, ◌≢◌, ℕ, ◌==◌, Bor, Bool, true, false, cond, Option, Some, None, sym, ap, ◌∙◌, subst}
 use Rattle.std.specs.Prelude.{not, MatchOption}
 use Rattle.std.specs.Option.{option_map}
 use Rattle.std.proofs.lemmas.Bool.{false≢true, eq-eqb, ne_eqb}
 use Rattle.coda_disk.specs.Told.{Told}
-use Rattle.coda_tree.specs.Volume.{Tree}
 use Rattle.coda_actors.specs.Replicas.{replica_form}
 use Rattle.coda_cml.specs.State.{LogState}
 use Rattle.coda_journal.specs.declared.header.Header.{Header}
@@ -15,7 +14,6 @@ use Rattle.coda_venus.specs.History.{state_of as venus_state}
 use Rattle.coda_venus.specs.State.{ClientVolume as VenusVolume, ClientState as VenusState, new_volume as venus_new_volume}
 use Rattle.coda_venus.specs.declared.venus.Venus.{Venus}
 use Rattle.coda_actors.specs.Slots.{is_up}
-use Rattle.coda_actors.specs.declared.slot.Slot.{Slot}
 use Rattle.coda_actors.specs.declared.slot.Slot.TheVariants.{Started}
 use Rattle.coda_crew.specs.Crews.{slot_at}
 use Rattle.coda_matching.proofs.Replicas.{journals_leave_replicas}

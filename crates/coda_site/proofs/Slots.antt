@@ -1,5 +1,5 @@
 -- Slots that stand for plain actors which are up.
-use Rattle.std.proofs.Common.{◌≡◌, ◌≢◌, ◌≤◌, ℕ, ◌+◌, List, ◌∷◌, ◌++◌, length, drop, arith, Bool, true, false, Option, Some, None, refl, sym, ap, ◌∙◌, subst, inl, inr}
+use Rattle.std.proofs.Common.{◌≡◌, ◌≢◌, ◌≤◌, ℕ, ◌+◌, List, ◌∷◌, ◌++◌, length, drop, arith, Bool, true, false, Option, Some, None, refl, sym, ap, ◌∙◌, inl, inr}
 use Rattle.std.specs.Prelude.{not}
 use Rattle.std.specs.Int.{w32}
 use Rattle.std.proofs.lemmas.Bool.{false≢true}
@@ -10,9 +10,9 @@ use Rattle.coda_journal.specs.Header.{area_bytes}
 use Rattle.coda_journal.specs.Image.{Reads, area_of, start_of}
 use Rattle.coda_journal.specs.declared.header.Header.{Header}
 use Rattle.coda_actors.specs.Form.{Form}
-use Rattle.coda_actors.specs.Plain.{PlainActor, Life, Unmade, Down, Up}
-use Rattle.coda_actors.specs.Fits.{FitsUnmade, FitsDown, FitsUp, Fits}
-use Rattle.coda_actors.specs.Slots.{is_made, is_up}
+use Rattle.coda_actors.specs.Plain.{PlainActor, Unmade, Down, Up}
+use Rattle.coda_actors.specs.Fits.{FitsUp, Fits}
+use Rattle.coda_actors.specs.Slots.{is_up}
 use Rattle.coda_actors.specs.declared.slot.Slot.{Slot}
 use Rattle.coda_actors.specs.declared.slot.Slot.TheVariants.{Vacant, Spare, Stopped, Started}
 use Rattle.coda_stored.specs.Cells.{life_of}

@@ -1,5 +1,5 @@
 -- What a line leaves of a site in which several actors take part: stage by stage.
-use Rattle.std.proofs.Common.{◌≡◌, ◌≢◌, ◌⊎◌, inl, inr, ℕ, Bool, true, false, not, List, [], ◌∷◌, ◌++◌, append-nil, map, Option, Some, None, option_map, Result, Ok, Err, refl, sym, ap, subst, ◌∙◌}
+use Rattle.std.proofs.Common.{◌≡◌, ◌≢◌, ◌⊎◌, inl, inr, ℕ, Bool, true, false, List, [], ◌∷◌, ◌++◌, append-nil, map, Some, None, option_map, Result, Ok, Err, refl, sym, ap, subst, ◌∙◌}
 use Rattle.std.specs.Prelude.{nat_lt, IfOk}
 use Rattle.std.specs.BTreeMap.{BTreeMap}
 use Rattle.std.proofs.lemmas.Bool.{false≢true, cases_eq}
@@ -10,7 +10,6 @@ use Rattle.coda_journal.specs.declared.header.Header.{Header}
 use Rattle.coda_plain.specs.Cell.{ClientEntry, Actor}
 use Rattle.coda_plain.specs.Decisions.{ReplicaEntry, Decided}
 use Rattle.coda_plain.specs.Moves.{AtClient, AtReplica}
-use Rattle.coda_record.specs.declared.answer.Answer.{Answer}
 use Rattle.coda_script.specs.declared.reply.Reply.{Reply}
 use Rattle.coda_actors.specs.Clients.{client_form}
 use Rattle.coda_actors.specs.Fits.{AsksOwn}
@@ -29,14 +28,14 @@ use Rattle.coda_venus.specs.Standing.{IsUp}
 use Rattle.coda_venus.specs.declared.refused.Refused.{Refused as VenusRefused}
 use Rattle.coda_venus.specs.declared.refused.Refused.TheVariants as reason
 use Rattle.coda_venus.specs.declared.venus.Venus.{Venus}
-use Rattle.coda_cell.specs.Made.{client_of, state_of}
+use Rattle.coda_cell.specs.Made.{client_of}
 use Rattle.coda_cell.specs.Refusing.{refusal}
 use Rattle.coda_cell.specs.Sending.{Ruling, decides, ruling_of, ruling, entries_at}
 use Rattle.coda_cell.specs.State.{Event, ReplicaState, at_client}
 use Rattle.coda_cell.specs.declared.refused.Refused.{Refused}
 use Rattle.coda_cell.specs.declared.refused.Refused.TheVariants as refused
 use Rattle.coda_matching.specs.Clients.{journal_by, IsClientHistory, Cut, refused_as}
-use Rattle.coda_matching.specs.Replicas.{entry_at, journal_at, IsReplicaHistory, RulingEnds}
+use Rattle.coda_matching.specs.Replicas.{journal_at, RulingEnds}
 use Rattle.coda_sending.proofs.Kept.{ruled_so}
 use Rattle.coda_stored.specs.Cells.{StoredCell, after_all, failed}
 use Rattle.coda_stored.specs.Lines.{refused_full, refused_fault, Stop, EndsBy}
@@ -48,8 +47,8 @@ use Rattle.coda_site.specs.declared.fault.CellFault.TheVariants as cell_fault
 use Rattle.coda_site.specs.declared.site.Place.{Place}
 use Rattle.coda_site.specs.declared.site.Site.{Site}
 use Rattle.coda_site.proofs.Becomings.{RepliesTo, refused_replies}
-use Rattle.coda_site.proofs.ClientSites.{IsClientUp, Leaves, entries_left, history_left, after_both, fits_both, with_entries, with_clients, still_ready}
-use Rattle.coda_site.proofs.ReplicaSites.{IsReplicaUp, IsReplicaThere, IsApart, with_decided, decided_left, with_replicas, ruled_site, still_site, stopped_site, lacks_there, fits_one}
+use Rattle.coda_site.proofs.ClientSites.{IsClientUp, Leaves, entries_left, history_left, after_both, fits_both, with_clients, still_ready}
+use Rattle.coda_site.proofs.ReplicaSites.{IsReplicaUp, IsApart, decided_left, with_replicas, ruled_site, still_site, stopped_site, lacks_there, fits_one}
 
 -- ---- one stage behind another
 

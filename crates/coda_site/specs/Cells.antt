@@ -1,9 +1,8 @@
 -- The disks that a cell begins with, and those that it leaves.
-use Rattle.std.specs.Prelude.{◌<◌, ℕ, List}
+use Rattle.std.specs.Prelude.{ℕ, List}
 use Rattle.coda_disk.specs.Told.{Told}
 use Rattle.coda_journal.specs.Image.{IsUnmade}
 use Rattle.coda_actors.specs.Clients.{client_form}
-use Rattle.coda_actors.specs.Fits.{StandsFor}
 use Rattle.coda_actors.specs.Plain.{PlainActor}
 use Rattle.coda_actors.specs.Replicas.{replica_form}
 use Rattle.coda_crew.specs.Crews.{StandsAll}

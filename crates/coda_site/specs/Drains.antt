@@ -1,5 +1,5 @@
 -- What a drain, a chunk that is sent and a letter that came leave of a site.
-use Rattle.std.specs.Prelude.{◌≡◌, ℕ, Bool, List, [], ◌&&◌, Some}
+use Rattle.std.specs.Prelude.{◌≡◌, ℕ, Bool, List, [], ◌&&◌}
 use Rattle.std.specs.BTreeMap.{BTreeMap}
 use Rattle.coda_disk.specs.Told.{Told}
 use Rattle.coda_journal.specs.declared.header.Header.{Header}

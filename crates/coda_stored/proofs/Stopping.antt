@@ -65,7 +65,7 @@ clean_after cell (Ticked seconds) clean sided by = clean
 clean_after cell (LinkSet c s strength) clean sided by = clean
 clean_after cell (Entered (AtClient client entry)) clean sided by = clean_client cell clean sided client (grown_actor entry (cell.made.acted.clients client)) (clean.clients client)
 clean_after cell (Entered (AtReplica server volume entry)) clean sided by = clean_replica cell clean sided server volume (grown_actor entry (cell.made.acted.replicas server volume)) (clean.replicas server volume)
-        (alone_grown (cell.made.acted.replicas server volume) entry by.1 (clean.replicas server volume by.0.0) (clean.alone server volume))
+    (alone_grown (cell.made.acted.replicas server volume) entry by.1 (clean.replicas server volume by.0.0) (clean.alone server volume))
 clean_after cell (Posted sent) clean sided by = record { clients = clean.clients; replicas = clean.replicas; alone = clean.alone }
 clean_after cell (Lost message) clean sided by = record { clients = clean.clients; replicas = clean.replicas; alone = clean.alone }
 

@@ -3,17 +3,17 @@ use Rattle.std.specs.Prelude.{not}
 use Rattle.coda_script.specs.declared.line.Line.TheVariants as line
 use Rattle.coda_script.specs.declared.reply.Reply.TheVariants.{Accepted}
 use Rattle.coda_actors.specs.Clients.{client_form}
-use Rattle.coda_actors.specs.Plain.{Crashes, Recovers, Arms}
+use Rattle.coda_actors.specs.Plain.{Arms}
 use Rattle.coda_crew.specs.Crews.{Takes}
 use Rattle.coda_cell.specs.Made.{state_of}
 use Rattle.coda_cell.specs.Refusing.{refusal}
 use Rattle.coda_cell.specs.Steps.{client_named}
 use Rattle.coda_cell.specs.declared.refused.Refused.TheVariants.{NoSuchActor}
-use Rattle.coda_stored.specs.Lines.{client_down, Stays, CrashesClient, RecoversClient, DoesUp, Happens}
+use Rattle.coda_stored.specs.Lines.{client_down, Stays, DoesUp}
 use Rattle.coda_site.specs.Sites.{is_client_disk}
 use Rattle.coda_site.proofs.Becomings.{missing_becomes, down_becomes, up_becomes}
 use Rattle.coda_site.proofs.ClientSites.{plain_clients, with_clients}
-use Rattle.coda_site.proofs.ClientLines.{names_there, names_missing, stays_becomes, client_is_there, client_is_missing, client_is_down, all_be, crash_client_becomes, recover_client_becomes, arm_client_site}
+use Rattle.coda_site.proofs.ClientLines.{names_there, names_missing, client_is_there, client_is_missing, client_is_down, arm_client_site}
 use Rattle.coda_site.proofs.failing.arm_client.Goals as goal
 
 pub returns-then-not-has_client-clause-does : goal.returns-then-not-has_client-clause-does

@@ -1,21 +1,17 @@
 use Rattle.std.proofs.Common.{◌≡◌, Some, [], ◌∷◌, refl, sym, ap, subst, ◌∙◌}
-use Rattle.std.specs.Prelude.{not}
-use Rattle.std.proofs.lemmas.Bool.{false≢true}
 use Rattle.coda_script.specs.declared.line.Line.TheVariants as line
-use Rattle.coda_script.specs.declared.reply.Reply.TheVariants.{Accepted, Crashed}
 use Rattle.coda_cell.specs.Made.{state_of}
 use Rattle.coda_cell.specs.Refusing.{refusal}
 use Rattle.coda_cell.specs.Steps.{holder_named, first_missing}
 use Rattle.coda_cell.specs.declared.refused.Refused.TheVariants.{NoSuchActor}
-use Rattle.coda_stored.specs.Lines.{replica_down, Stays, CrashesReplica, RecoversReplica, DoesUp, Happens}
+use Rattle.coda_stored.specs.Lines.{RecoversReplica, Happens}
 use Rattle.std.specs.Prelude.{IfOk}
 use Rattle.coda_site.specs.Sites.{is_client_disk, is_replica_disk}
 use Rattle.coda_site.specs.Steps.{Becomes}
-use Rattle.coda_site.proofs.Becomings.{missing_becomes, down_becomes, up_becomes}
-use Rattle.coda_site.proofs.ClientLines.{names_there, names_missing, stays_becomes, all_be}
+use Rattle.coda_site.proofs.ClientLines.{names_missing, stays_becomes}
 use Rattle.coda_site.proofs.ReplicaSites.{with_replicas, of_replicas}
-use Rattle.coda_site.proofs.ReplicaLines.{as_is, replicas_ready, crash_replica_becomes, recover_replica_returns, arm_replica_site}
-use Rattle.coda_site.proofs.Theres.{holder_at_place, made_elsewhere, not_made, replica_down_at, replica_made}
+use Rattle.coda_site.proofs.ReplicaLines.{as_is, replicas_ready, recover_replica_returns}
+use Rattle.coda_site.proofs.Theres.{holder_at_place, made_elsewhere, not_made}
 use Rattle.coda_site.proofs.failing.recover_replica.Goals.{in_default-via-in-Some+else-place-server, in_default-via-in_default}
 use Rattle.coda_site.proofs.failing.recover_replica.Goals as goal
 

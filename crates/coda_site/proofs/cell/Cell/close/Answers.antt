@@ -1,4 +1,4 @@
-use Rattle.std.proofs.Common.{◌≡◌, ℕ, Bool, true, false, ◌∙◌, inl, inr}
+use Rattle.std.proofs.Common.{ℕ, ◌∙◌, inl, inr}
 use Rattle.coda_actors.specs.Clients.{client_form}
 use Rattle.coda_actors.specs.Plain.{PlainActor}
 use Rattle.coda_actors.specs.Replicas.{replica_form}

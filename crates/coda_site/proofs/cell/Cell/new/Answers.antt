@@ -1,9 +1,6 @@
-use Rattle.std.proofs.Common.{rules, ◌≡◌, ℕ, Bool, true, false, [], Some, None, refl, sym, ap}
-use Rattle.std.specs.Option.{option_map}
+use Rattle.std.proofs.Common.{rules, refl, sym}
 use Rattle.coda_stored.specs.Cells.{unmade}
-use Rattle.coda_cell.specs.Cells.{IsNetwork}
-use Rattle.coda_site.specs.Sites.{place_in, is_client_disk, is_replica_disk}
-use Rattle.coda_site.specs.declared.site.Place.{Place}
+use Rattle.coda_site.specs.Sites.{is_client_disk, is_replica_disk}
 use Rattle.coda_site.proofs.Blank.{at_entry}
 use Rattle.coda_site.proofs.cell.Cell.new.Goals as goal
 

@@ -1,5 +1,4 @@
-use Rattle.std.proofs.Common.{rules, ◌≡◌, ◌≢◌, Some, false, sym, ap, ◌∙◌}
-use Rattle.coda_crew.specs.Crews.{slot_at}
+use Rattle.std.proofs.Common.{rules, ◌≡◌, ◌≢◌, Some, sym, ap, ◌∙◌}
 use Rattle.coda_site.specs.Sites.{place_in}
 use Rattle.coda_site.proofs.Shown.{elsewhere_shown, up_shown}
 use Rattle.coda_site.proofs.cell.Cell.volume.Goals as goal
