@@ -1,6 +1,6 @@
 -- What is shown of a site is what the cell has that it stands for.
 use Rattle.std.proofs.Common.{◌≡◌, ◌≢◌, ℕ, ◌==◌, Bor, Bool, true, false, cond, Option, Some, None, sym, ap, ◌∙◌, subst}
-use Rattle.std.specs.Prelude.{not, MatchOption}
+use Rattle.std.specs.Prelude.{not, is_some, ◌&&◌, MatchOption}
 use Rattle.std.specs.Option.{option_map}
 use Rattle.std.proofs.lemmas.Bool.{false≢true, eq-eqb, ne_eqb}
 use Rattle.coda_disk.specs.Told.{Told}
@@ -25,7 +25,7 @@ use Rattle.coda_cell.specs.State.{ClientVolume, ClientState, ReplicaState, log_o
 use Rattle.coda_cell.proofs.Histories.{server_stays}
 use Rattle.coda_stored.specs.Cells.{StoredCell}
 use Rattle.coda_stored.specs.Kept.{IsStoredKept}
-use Rattle.coda_stored.specs.Lines.{replica_down}
+use Rattle.coda_stored.specs.Lines.{client_down, replica_down}
 use Rattle.coda_site.specs.Sites.{is_client_disk, place_in, IsSite}
 use Rattle.coda_site.specs.declared.site.Site.{Site}
 use Rattle.coda_site.specs.declared.site.Place.{Place}
@@ -68,6 +68,10 @@ module _ {D : Type 0} (told : D → Told) (out : ℕ → Bool) (has : ℕ → To
     pub not_shown : replica_down cell volume ≡ false → is_up (replica_form told) (slot_at site.replicas place.disk) ≡ false → ⊥
     not_shown runs off = false≢true (sym runs ∙ down_is told out has cell site is volume place at kept ∙ ap not off)
 
+    -- one that is up in its slot isn't
+    pub replica_runs : (header : Header) (replica : Replica D) → slot_at site.replicas place.disk ≡ Started header replica → replica.down ≡ false → replica_down cell volume ≡ false
+    replica_runs header replica slot runs = down_is told out has cell site is volume place at kept ∙ ap not (ap (is_up (replica_form told)) slot ∙ ap not runs)
+
 -- ---- logs
 
 -- what a client's disk has of a volume, where it has anything, is what the cell has
@@ -91,3 +95,10 @@ log_shown told out has cell kept site is client volume header venus c r here slo
     let same = some_client (client_of header.number history header.cache) c (sym up.shown ∙ there) in
     subst (λ (x : ClientState). MatchOption r (log_of (x.volumes volume) ≡ log_of new_volume) (λ log. log.now ≡ log_of (x.volumes volume))) same
     (log_so r v (d.volumes volume) (one.volumes volume).log (told_so d up.up.state))
+
+-- a client that is up in its slot isn't down
+pub client_runs : {D : Type 0} (told : D → Told) (out : ℕ → Bool) (has : ℕ → Told) (cell : StoredCell) (kept : IsStoredKept cell) (site : Site D) → IsSite told out has cell site
+    → (client : ℕ) (header : Header) (venus : Venus D) → is_client_disk client ≡ true → slot_at site.clients client ≡ Started header venus → venus.down ≡ false → client_down cell client ≡ false
+client_runs told out has cell kept site is client header venus here slot runs =
+    let up = up_from told out has cell kept site.clients client header venus is.clients here slot runs in
+    λ i. is_some (up.size i) && not (up.is_up i)

@@ -1,5 +1,5 @@
 // A cell: a site, and the bay that has its disks.
-ghost use Rattle.std.specs.Prelude.{◌≡◌, ℕ, false, Some, MatchOption};
+ghost use Rattle.std.specs.Prelude.{◌≡◌, ℕ, true, false, Some, None, MatchOption};
 ghost use Rattle.coda_cell.specs.Cells.{volume_at};
 ghost use Rattle.coda_cell.specs.Made.{state_of};
 ghost use Rattle.coda_cell.specs.State.{ClientState, log_of, new_volume};
@@ -70,7 +70,9 @@ impl<B: Bay> Cell<B> {
 
     /// The volume that a server has; `None` where it has none of this number, or is down.
     pub fn volume(&self, server: u8, volume: u32) -> Option<&Volume>
-        ensures { (cell : StoredCell) → IsStoredKept cell → IsSite B.D.told (B.out self.now.bay) (B.has self.now.bay) cell self.now.site
+        ensures down { (cell : StoredCell) → IsStoredKept cell → IsSite B.D.told (B.out self.now.bay) (B.has self.now.bay) cell self.now.site
+            → replica_down cell volume ≡ true → result ≡ None }
+        ensures shown { (cell : StoredCell) → IsStoredKept cell → IsSite B.D.told (B.out self.now.bay) (B.has self.now.bay) cell self.now.site
             → replica_down cell volume ≡ false
             → MatchOption result (volume_at ((state_of cell.made).replicas volume) server ≡ None) (λ tree. volume_at ((state_of cell.made).replicas volume) server ≡ Some tree.now) }
     {
@@ -86,7 +88,9 @@ impl<B: Bay> Cell<B> {
 
     /// A client's log of a volume; `None` where the client isn't there or is down, or never had a log of the volume.
     pub fn log(&self, client: u8, volume: u32) -> Option<&Log>
-        ensures { (cell : StoredCell) → IsStoredKept cell → IsSite B.D.told (B.out self.now.bay) (B.has self.now.bay) cell self.now.site
+        ensures down { (cell : StoredCell) → IsStoredKept cell → IsSite B.D.told (B.out self.now.bay) (B.has self.now.bay) cell self.now.site
+            → client_down cell client ≡ true → result ≡ None }
+        ensures shown { (cell : StoredCell) → IsStoredKept cell → IsSite B.D.told (B.out self.now.bay) (B.has self.now.bay) cell self.now.site
             → client_down cell client ≡ false → (c : ClientState) → (state_of cell.made).clients client ≡ Some c
             → MatchOption result (log_of (c.volumes volume) ≡ log_of new_volume) (λ log. log.now ≡ log_of (c.volumes volume)) }
     {
