@@ -1,4 +1,4 @@
-// The reading of a script, byte by byte.
+// The reading of a script: what stands before a newline at once, and else byte by byte.
 ghost use Rattle.std.specs.Prelude.{◌≡◌, ◌≤◌, ℕ, ◌+◌, List, length, take, IfErr, OnOk, Err};
 ghost use Rattle.coda_engine.specs.Lines.{HasNoNewline};
 ghost use Rattle.std.specs.Str.Lines.{strip_carriage_return};
