@@ -15,7 +15,7 @@ pub struct BayFault;
 /// Disks by their numbers, with a count of the bay's own faults, and the sums of the faults and of the `arm` calls of the
 /// disks that came back or crashed.
 pub trait Bay {
-    type D: Disk + Send + Drop;
+    type D: Disk + Drop;
 
     // Whether the disk of a number is out: it was taken, and not given back since.
     ghost out: { Self → ℕ → Bool };
