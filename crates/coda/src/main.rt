@@ -6,6 +6,7 @@ ghost use Rattle.std.specs.Vec.Iter.{into_iter_items};
 ghost use Rattle.std.specs.Process.{exit_status};
 ghost use Rattle.coda_engine.specs.Status.{code_of};
 
+use coda_disk::FileBay;
 use coda_io::{StdSink, StdSource};
 use coda_main::{Status, coda};
 use std::alloc::{AllocError, Global};
@@ -51,7 +52,8 @@ fn main(rt: HostRuntime) -> ExitCode {
         Ok(words) => {
             let mut source = StdSource::new(rt.reader());
             let mut sink = StdSink::new(io::writer(&rt));
-            coda(alloc, &words, &mut source, &mut sink)
+            let mut bay = FileBay::new(alloc, &rt);
+            coda(alloc, &words, &mut source, &mut sink, &mut bay)
         }
         Err(status) => status,
     };

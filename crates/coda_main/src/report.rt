@@ -1,14 +1,12 @@
 // The texts of replies, in the cell that a line left.
-ghost use Rattle.std.specs.Prelude.{◌≡◌, [], IfOk};
-ghost use Rattle.coda_cell.specs.State.{CellState};
-ghost use Rattle.coda_cell.specs.Cells.{IsCell, volume_at, log_at};
-ghost use Rattle.coda_main.specs.Texts.{shown_volume, shown_log, text_of};
+ghost use Rattle.std.specs.Prelude.{◌≡◌, []};
 
-use coda_cell::Cell;
 use coda_cml::Log;
+use coda_disk::Bay;
 use coda_fid::Bytes;
 use coda_report::{log_text, reply_text, volume_text};
 use coda_script::Reply;
+use coda_site::Cell;
 use std::alloc::{AllocError, Global};
 
 fn no_text(alloc: Global) -> Bytes
@@ -18,9 +16,12 @@ fn no_text(alloc: Global) -> Bytes
 }
 
 // The volume that a server has.
-fn volume_shown(alloc: Global, cell: &Cell, server: u8, volume: u32) -> Result<Bytes, AllocError>
-    ensures { IfOk result (λ text. (s : CellState) → IsCell s cell.now → text ≡ shown_volume server (volume_at (s.replicas volume) server)) }
-{
+fn volume_shown<B: Bay>(
+    alloc: Global,
+    cell: &Cell<B>,
+    server: u8,
+    volume: u32,
+) -> Result<Bytes, AllocError> {
     match cell.volume(server, volume) {
         Some(tree) => volume_text(alloc, tree, server),
         None => Ok(no_text(alloc)),
@@ -28,9 +29,12 @@ fn volume_shown(alloc: Global, cell: &Cell, server: u8, volume: u32) -> Result<B
 }
 
 // The log that a client has of a volume.
-fn log_shown(alloc: Global, cell: &Cell, client: u8, volume: u32) -> Result<Bytes, AllocError>
-    ensures { IfOk result (λ text. (s : CellState) → IsCell s cell.now → text ≡ shown_log (log_at (s.clients client) volume)) }
-{
+fn log_shown<B: Bay>(
+    alloc: Global,
+    cell: &Cell<B>,
+    client: u8,
+    volume: u32,
+) -> Result<Bytes, AllocError> {
     match cell.log(client, volume) {
         Some(log) => log_text(alloc, log),
         None => log_text(alloc, &Log::new(alloc)),
@@ -38,9 +42,7 @@ fn log_shown(alloc: Global, cell: &Cell, client: u8, volume: u32) -> Result<Byte
 }
 
 /// The text of a reply in the cell that the line left.
-pub fn text_of(alloc: Global, cell: &Cell, reply: &Reply) -> Result<Bytes, AllocError>
-    ensures { IfOk result (λ text. (s : CellState) → IsCell s cell.now → text ≡ text_of s reply.now) }
-{
+pub fn text_of<B: Bay>(alloc: Global, cell: &Cell<B>, reply: &Reply) -> Result<Bytes, AllocError> {
     match reply {
         Reply::ShowVolume { server, volume } => volume_shown(alloc, cell, *server, *volume),
         Reply::ShowLog { client, volume } => log_shown(alloc, cell, *client, *volume),

@@ -3,13 +3,16 @@ use Rattle.std.specs.Prelude.{◌≡◌, ◌≢◌, ◌<◌, ◌≤◌, ◌+◌,
 use Rattle.std.specs.Option.{option_map, option_map_or}
 use Rattle.std.specs.List.{list_any}
 use Rattle.std.specs.BTreeMap as tree
+use Rattle.std.specs.BTreeMap.{BTreeMap}
 use Rattle.std.specs.Ordering.{nat_cmp}
 use Rattle.coda_disk.specs.Told.{Told}
 use Rattle.coda_actors.specs.Clients.{client_form}
 use Rattle.coda_actors.specs.Plain.{PlainActor}
 use Rattle.coda_actors.specs.Replicas.{replica_form}
 use Rattle.coda_actors.specs.Slots.{is_made}
-use Rattle.coda_crew.specs.Crews.{slot_at, FitsAll, OutAll, OwnAll}
+use Rattle.coda_actors.specs.declared.slot.Slot.{Slot}
+use Rattle.coda_actors.specs.declared.slot.Slot.TheVariants.{Vacant}
+use Rattle.coda_crew.specs.Crews.{slot_at, FitsAll, OutAll, OwnAll, IsOutIfHeld}
 use Rattle.coda_record.specs.declared.entry.ReplicaEntry.{ReplicaEntry as KeptEntry}
 use Rattle.coda_cell.specs.Cells.{IsNetwork}
 use Rattle.coda_cell.specs.Steps.{Named}
@@ -61,6 +64,21 @@ pub record IsReady {D : Type 0} (told : D → Told) (out : ℕ → Bool) (site :
   pub places : (volume : ℕ) → IfSome (place_in site volume) (λ p. (256 ≤ p.disk) × (p.disk < 256 + 8 * length site.servers.items) × (1 ≤ p.server) × (p.server ≤ 8))
   pub made : (number : ℕ) → is_made (slot_at site.replicas number) ≡ true → number < 256 + 8 * length site.servers.items
   pub areas : site.areas ≤ 512
+
+-- ---- what can be given back
+
+-- a disk that a slot of the crew has is out, and no other number has a slot
+abbrev pub HeldAt : {A D : Type 0} → Bool → Bool → Slot A D → Type 0
+HeldAt true out slot = IsOutIfHeld out slot
+HeldAt false out slot = slot ≡ Vacant
+
+abbrev pub HeldAll : {A D : Type 0} → (ℕ → Bool) → (ℕ → Bool) → BTreeMap ℕ (Slot A D) → Type 0
+HeldAll of out slots = (k : ℕ) → HeldAt (of k) (out k) (slot_at slots k)
+
+-- Each disk that a slot has is out. A number may be out though no slot has its disk: the bay refused its crash, and the disk is lost.
+pub record IsClosable {D : Type 0} (out : ℕ → Bool) (site : Site D) : Type 0 where
+  pub clients : HeldAll is_client_disk out site.clients
+  pub replicas : HeldAll is_replica_disk out site.replicas
 
 -- ---- the actors that a line names, by the site
 

@@ -1,22 +1,42 @@
 // A cell: a site, and the bay that has its disks.
-ghost use Rattle.std.specs.Prelude.{◌≡◌, ℕ, true, false, Some, None, MatchOption};
+ghost use Rattle.std.specs.Prelude.{◌≡◌, ◌≢◌, ◌≤◌, ◌<◌, ◌+◌, ◌^◌, ℕ, true, false, Some, None, MatchOption, IfOk, Err};
+ghost use Rattle.coda_io.specs.Faults.{Rose};
+ghost use Rattle.coda_script.specs.Ranges.{InRange};
+ghost use Rattle.coda_cell.specs.Steps.{alone};
 ghost use Rattle.coda_cell.specs.Cells.{volume_at};
 ghost use Rattle.coda_cell.specs.Made.{state_of};
 ghost use Rattle.coda_cell.specs.State.{ClientState, log_of, new_volume};
 ghost use Rattle.coda_stored.specs.Cells.{StoredCell, nothing_stored};
 ghost use Rattle.coda_stored.specs.Kept.{IsStoredKept};
-ghost use Rattle.coda_stored.specs.Lines.{client_down, replica_down};
-ghost use Rattle.coda_site.specs.Sites.{IsSite, IsReady};
+ghost use Rattle.coda_stored.specs.Lines.{is_built, Happens, client_down, replica_down};
+ghost use Rattle.coda_site.specs.Sites.{IsSite, IsReady, IsClosable};
+ghost use Rattle.coda_site.specs.Steps.{Becomes};
 ghost use Rattle.coda_site.specs.Cells.{AreBlank, AreOnDisks};
 
+use crate::fault::CellFault;
+use crate::lines::{fail, set_link, show_log, show_volume, tick};
+use crate::making::{AREA, make_client, make_volume};
+use crate::messages::{deliver, lose, send};
 use crate::site::Site;
+use crate::tasks::{AGING_WINDOW, carry_out};
 use coda_cml::Log;
 use coda_crew::{get, give_back, unmade};
 use coda_disk::Bay;
 use coda_net::Net;
+use coda_script::{Line, Reply};
 use coda_tree::Volume;
 use std::alloc::Global;
 use std::collections::BTreeMap;
+
+// The server of a volume that is on one alone.
+fn alone(servers: &[u8]) -> u8
+    ensures { result ≡ alone servers.now }
+{
+    match servers {
+        [] => 0,
+        [server, ..] => *server,
+    }
+}
 
 /// A Coda cell on the disks of a bay.
 #[derive(Drop)]
@@ -33,6 +53,7 @@ impl<B: Bay> Cell<B> {
         requires { (number : ℕ) → B.out bay number ≡ false }
         ensures bay { result.bay ≡ bay }
         ensures ready { IsReady B.D.told (B.out result.bay) result.site }
+        ensures closable { IsClosable (B.out result.bay) result.site }
         ensures posted { result.site.net.posted ≡ 0 }
         ensures stands { AreBlank (B.has result.bay) → IsSite B.D.told (B.out result.bay) (B.has result.bay) nothing_stored result.site }
     {
@@ -53,11 +74,66 @@ impl<B: Bay> Cell<B> {
         }
     }
 
+    /// Carries out a line that is built, and answers its reply.
+    ///
+    /// # Errors
+    ///
+    /// `Memory`, and `Bay` where the bay refused a disk, or a crash.
+    pub fn step(&mut self, line: &Line) -> Result<Reply, CellFault>
+        requires built { is_built line.now ≡ true }
+        requires range { InRange line.now }
+        requires ready { IsReady B.D.told (B.out self.old.bay) self.old.site }
+        requires few { self.old.site.net.posted < 2 ^ 63 }
+        ensures ready { result ≢ Err CellFault.Bay → IsReady B.D.told (B.out self.new.bay) self.new.site }
+        ensures closable { IsClosable (B.out self.new.bay) self.new.site }
+        ensures does { (cell : StoredCell) → IsStoredKept cell → IsSite B.D.told (B.out self.old.bay) (B.has self.old.bay) cell self.old.site
+            → IfOk result (λ reply. Becomes B.D.told (B.out self.new.bay) (B.has self.new.bay) (Happens cell line.now) reply (B.answered self.old.bay) (B.answered self.new.bay) self.new.site) }
+        ensures posted { self.new.site.net.posted ≤ self.old.site.net.posted + 1 }
+        ensures later { B.faults self.old.bay ≤ B.faults self.new.bay }
+        ensures bay_cause { result ≡ Err CellFault.Bay → Rose (B.faults self.old.bay) (B.faults self.new.bay) }
+        ensures follows { B.follows self.old.bay self.new.bay }
+    {
+        let (bay, site) = (&mut self.bay, &mut self.site);
+        match line {
+            Line::Volume {
+                volume,
+                servers,
+                area,
+            } => make_volume(bay, site, *volume, alone(servers.servers()), area.unwrap_or(AREA)),
+            Line::Client {
+                client,
+                blocks,
+                area,
+            } => make_client(bay, site, *client, *blocks, area.unwrap_or(AREA)),
+            Line::Link {
+                client,
+                server,
+                strength,
+            } => set_link(bay, site, *client, *server, *strength),
+            Line::Tick { seconds } => Ok(tick(bay, site, *seconds)),
+            Line::Task(task) => carry_out(bay, site, task),
+            Line::ShowVolume { server, volume } => show_volume(bay, site, *server, *volume),
+            Line::ShowLog { client, volume } => show_log(bay, site, *client, *volume),
+            Line::Send {
+                client,
+                volume,
+                server,
+                window,
+            } => {
+                let window = window.unwrap_or(AGING_WINDOW);
+                send(bay, site, *client, *volume, *server, window)
+            }
+            Line::Deliver { message } => deliver(bay, site, *message),
+            Line::Lose { message } => lose(bay, site, *message),
+            _ => fail(bay, site, line),
+        }
+    }
+
     /// Gives every disk back, and answers the bay. It takes no memory.
     pub fn close(self) -> B
-        requires { IsReady B.D.told (B.out self.bay) self.site }
-        ensures out { (number : ℕ) → B.out result number ≡ false }
-        ensures stands { (cell : StoredCell) → IsSite B.D.told (B.out self.bay) (B.has self.bay) cell self.site → AreOnDisks B.D.told (B.has result) cell }
+        requires { IsClosable (B.out self.bay) self.site }
+        ensures out { IsReady B.D.told (B.out self.bay) self.site → (number : ℕ) → B.out result number ≡ false }
+        ensures stands { (cell : StoredCell) → IsReady B.D.told (B.out self.bay) self.site → IsSite B.D.told (B.out self.bay) (B.has self.bay) cell self.site → AreOnDisks B.D.told (B.has result) cell }
         ensures answered { B.answered result ≡ B.answered self.bay }
         ensures faults { B.faults result ≡ B.faults self.bay }
         ensures follows { B.follows self.bay result }

@@ -9,6 +9,7 @@ mod failing;
 mod fault;
 mod lines;
 mod links;
+mod making;
 mod messages;
 mod replies;
 mod site;
