@@ -79,7 +79,7 @@ pub fn make_client<B: Bay>(
     area: u8,
 ) -> Result<Reply, CellFault> {
     if site.has_client(client) {
-        return Ok(refuse(site.alloc, Refusal::Exists));
+        return Ok(refuse(site.alloc, Refusal::AlreadyThere));
     }
     if site.areas + u32::from(area) > MOST_AREAS {
         return Ok(refuse(site.alloc, Refusal::CellFull));
@@ -126,7 +126,7 @@ pub fn make_volume<B: Bay>(
     area: u8,
 ) -> Result<Reply, CellFault> {
     if site.places.contains_key(&volume) {
-        return Ok(refuse(site.alloc, Refusal::Exists));
+        return Ok(refuse(site.alloc, Refusal::AlreadyThere));
     }
     if site.servers.len() >= MOST_VOLUMES || site.areas + u32::from(area) > MOST_AREAS {
         return Ok(refuse(site.alloc, Refusal::CellFull));
