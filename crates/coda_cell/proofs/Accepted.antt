@@ -1,5 +1,5 @@
 -- What an accepted operation may rely on.
-use Rattle.std.proofs.Common.{◌≡◌, ◌≢◌, ℕ, ◌<◌, ◌==◌, ◌||◌, ◌&&◌, not, Bool, true, false, cond, List, [], ◌∷◌, Option, Some, None, is_some, option_map, Result, Ok, Err, refl, sym, ap, subst, ◌∙◌, inl, inr, ◌⊎◌, arith}
+use Rattle.std.proofs.Common.{◌≡◌, ◌≢◌, ℕ, ◌<◌, ◌==◌, ◌||◌, ◌&&◌, not, Bool, true, false, cond, List, [], ◌∷◌, Option, Some, None, is_some, option_map, Result, Ok, Err, refl, sym, ap, subst, ◌∙◌, arith}
 use Rattle.std.specs.FinMap as map
 use Rattle.std.proofs.lemmas.Bool.{eqb-true, false≢true}
 use Rattle.std.specs.FinMap.{FinMap}
@@ -18,10 +18,9 @@ use Rattle.coda_tree.specs.declared.node.NodeKind.{NodeKind}
 use Rattle.coda_tree.specs.declared.node.NodeKind.TheVariants.{File, Link, Dir}
 use Rattle.coda_tree.specs.Bindings.{Name}
 use Rattle.coda_tree.specs.Volume.{Nodes, bindings, child, child_of, has, IsDir, IsDirNode, IsDirAt}
-use Rattle.coda_certify.specs.Replay.{MayCreate, MayRemove, MayRename, MayApply}
-use Rattle.coda_plain.specs.Deeds.{created_by}
-use Rattle.coda_cell.specs.declared.refused.Refused.{Refused}
-use Rattle.coda_cell.specs.declared.refused.Refused.TheVariants.{Exists, IsDir as IsADirectory, Loop, JournalFull}
+use Rattle.coda_certify.specs.Replay.{MayCreate, MayRemove, MayRename}
+use Rattle.coda_cell.specs.Refused.{Refused}
+use Rattle.coda_cell.specs.Refused.{Exists, IsDir as IsADirectory, Loop, JournalFull}
 use Rattle.coda_cell.specs.Ask.{Asked, Create, Mkdir, Symlink, Store, Setattr, Remove, Rmdir, Rename, Ending, ending}
 use Rattle.coda_cell.specs.Held.{is_below, some_below}
 use Rattle.coda_cell.specs.Looking.{then_find, held, found, step_in, step_from, resolve}
@@ -56,26 +55,6 @@ Relies s volume (RemoveOp dir name fid pre) = MayRemove s.held.nodes dir name fi
 Relies s volume (RmdirOp dir name fid pre) = MayRemove s.held.nodes dir name fid × (has s.held.nodes fid ≡ true)
 Relies s volume (RenameOp from_dir from to_dir to fid over) = MayMove s.held.nodes from_dir from to_dir to fid over
 
-pub relies_may_apply : (s : Sight) (volume : ℕ) (op : Op) → Relies s volume op → MayApply s.held.nodes op
-relies_may_apply s volume (CreateOp dir name fid mode owner) r = r.place
-relies_may_apply s volume (MkdirOp dir name fid mode owner) r = r.place
-relies_may_apply s volume (SymlinkOp dir name fid target mode owner) r = r.place
-relies_may_apply s volume (StoreOp fid pre content) r = tt
-relies_may_apply s volume (SetattrOp fid pre attrs) r = tt
-relies_may_apply s volume (RemoveOp dir name fid pre) r = r.0.dir_there
-relies_may_apply s volume (RmdirOp dir name fid pre) r = r.0.dir_there
-relies_may_apply s volume (RenameOp from_dir from to_dir to fid over) r = r.places
-
-pub relies_few : (s : Sight) (volume : ℕ) (op : Op) → Relies s volume op → (s.creations < 4294967295) ⊎ (created_by op ≡ 0)
-relies_few s volume (CreateOp dir name fid mode owner) r = inl r.few
-relies_few s volume (MkdirOp dir name fid mode owner) r = inl r.few
-relies_few s volume (SymlinkOp dir name fid target mode owner) r = inl r.few
-relies_few s volume (StoreOp fid pre content) r = inr refl
-relies_few s volume (SetattrOp fid pre attrs) r = inr refl
-relies_few s volume (RemoveOp dir name fid pre) r = inr refl
-relies_few s volume (RmdirOp dir name fid pre) r = inr refl
-relies_few s volume (RenameOp from_dir from to_dir to fid over) r = inr refl
-
 pub ok_is : {A : Type 0} (x y : A) → (let ok : A → Result A Refused = λ z. Ok z in ok x ≡ ok y) → x ≡ y
 ok_is x y h = cc
 
@@ -87,8 +66,6 @@ found_then (Ok y) next x h = (y, refl, h)
 -- what was not refused at the root
 pub not_at_root : (s : Sight) (volume : ℕ) (refusal : Refused) (op : Op) → at_root s volume refusal ≡ Ok op → ⊥
 not_at_root s volume refusal op h = let r = found_then (held (map.get s.held.nodes (root_of volume)) (root_of volume)) (λ _. Err refusal) op h in cc
-
--- ---- creations
 
 none_of : {A : Type 0} (o : Option A) → is_some o ≡ false → o ≡ None
 none_of None h = refl
@@ -130,8 +107,6 @@ creation_is s volume (Some e) make op to h =
     let n = new_fid_is s volume d.0 u.2 in
     subst (Relies s volume) (ap (λ (p : Fid × Fid). make p.0 e.1 p.1) same ∙ ok_is (make a.0.0 e.1 a.0.1) op a.2)
     (to b.0 e.1 d.0 (record { place = record { dir_there = u.0; name_free = u.1; fid_free = n.1 }; next = n.2; few = n.0 }))
-
--- ---- operations on an object
 
 pub held_is : (o : Option Node) (fid there : Fid) → held o fid ≡ Ok there → (fid ≡ there) × (is_some o ≡ true)
 held_is None fid there h = cc
@@ -226,8 +201,6 @@ rmdir_at_is : (s : Sight) (volume : ℕ) (e : List Name × Name) (at : Fid × Fi
 rmdir_at_is s volume e at None op is n h = cc
 rmdir_at_is s volume e at (Some node) op is n h = rmdir_is s volume e at node node.kind node.sid op is n refl h
 
--- ---- renames
-
 held_bound_is : (m : Nodes) (o b : Option Fid) → held_bound m o ≡ Ok b → o ≡ b
 held_bound_is m None b h = ok_is None b h
 held_bound_is m (Some fid) b h = held_some m (map.get m fid) fid b h
@@ -318,8 +291,6 @@ rename_is s volume from_dir from fid (Some e) op h from_there bound there =
 pub root_stays : (s : Sight) (volume : ℕ) (to : Ending) (op : Op) → rename_root s volume to ≡ Ok op → ⊥
 root_stays s volume None op h = not_at_root s volume Loop op h
 root_stays s volume (Some e) op h = let a = found_then (place s.held.nodes volume e) (λ p. Err Loop) op h in cc
-
--- ---- every kind
 
 relies_remove : (s : Sight) (volume : ℕ) (e : Ending) (op : Op) → accept_remove s volume e ≡ Ok op → Relies s volume op
 relies_remove s volume None op h = absurd (not_at_root s volume IsADirectory op h)

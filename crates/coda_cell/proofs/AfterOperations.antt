@@ -28,8 +28,6 @@ use Rattle.coda_cell.specs.Accepting.{Sight}
 use Rattle.coda_cell.proofs.Accepted.{MayMove, Relies}
 use Rattle.coda_cell.proofs.Fetches.{some_fid, child_fetched}
 
--- ---- one edit
-
 -- a write leaves what is bound
 written_binds : (patch : Patch) (sid : Sid) (o : Option Node) (n : Name) → child_of (option_map (written patch sid) o) n ≡ child_of o n
 written_binds patch sid None n = refl
@@ -60,8 +58,6 @@ still_there m gone d kid n apart was = ap (λ o. child_of o n) (gone_else fids_t
 -- the new object isn't there when it is put
 none_put : (m : Nodes) (dir : Fid) (name : Name) (fid : Fid) → IsDirAt m dir → map.get m fid ≡ None → map.get (bound m dir name fid) fid ≡ None
 none_put m dir name fid is free = off_changed m dir (λ node. bind_in node name fid) fid (λ same. dir_not_free m dir fid is free (sym same)) ∙ free
-
--- ---- what stays bound
 
 -- what is bound isn't where nothing is bound
 not_free : (m : Nodes) (d dir kid : Fid) (n name : Name) → child m d n ≡ Some kid → child m dir name ≡ None → (d ≡ dir) × (n ≡ name) → ⊥
@@ -111,8 +107,6 @@ pub still_bound : (s : Sight) (volume client : ℕ) (rec : Record) (dir : Fid) (
 unfolding applied
 still_bound s volume client rec dir name kid relies was stays = still_by s volume rec.time (sid_of client rec) rec.op dir name kid relies was stays
 
--- ---- what is bound anew
-
 -- whether an operation binds the object at the name of the directory
 abbrev pub IsBoundBy : Op → Fid → Name → Fid → Type 0
 IsBoundBy (Create dir name fid mode owner) d n f = (d ≡ dir) × (n ≡ name) × (f ≡ fid)
@@ -159,8 +153,6 @@ anew_by s volume time sid (Rename from_dir from to_dir to fid over) d n f r at =
 pub newly_bound : (s : Sight) (volume client : ℕ) (rec : Record) (dir : Fid) (name : Name) (kid : Fid) → Relies s volume rec.op → IsBoundBy rec.op dir name kid → child (applied s.held.nodes client rec) dir name ≡ Some kid
 unfolding applied
 newly_bound s volume client rec dir name kid relies at = anew_by s volume rec.time (sid_of client rec) rec.op dir name kid relies at
-
--- ---- the parents
 
 -- the parents with that of an object that the operation binds
 parents_put : (s : Sight) (volume client : ℕ) (rec : Record) (parents : Parents) (dir : Fid) (name : Name) (fid : Fid) → Relies s volume rec.op → AreBound s.held → IsBoundBy rec.op dir name fid
@@ -220,8 +212,6 @@ bound_after s volume client number time (Rename from_dir from to_dir to fid over
 
 pub bound_operation : (s : Sight) (volume client : ℕ) (rec : Record) → Relies s volume rec.op → AreBound s.held → AreBound (held_after_operation s.held client rec)
 bound_operation s volume client rec relies bound = bound_after s volume client rec.number rec.time rec.op relies bound
-
--- ---- what was bound before
 
 -- what an edit leaves bound was bound, or is what it binds
 was_bound : (m : Nodes) (dir : Fid) (name : Name) (fid d : Fid) (n : Name) (f : Fid) → child (bound m dir name fid) d n ≡ Some f → (child m d n ≡ Some f) ⊎ ((d ≡ dir) × (n ≡ name) × (f ≡ fid))
@@ -294,8 +284,6 @@ was_by m time sid (Rename from_dir from to_dir to fid over) d n f is = was_renam
 pub bound_before : (m : Nodes) (client : ℕ) (rec : Record) (dir : Fid) (name : Name) (kid : Fid) → child (applied m client rec) dir name ≡ Some kid → (child m dir name ≡ Some kid) ⊎ IsBoundBy rec.op dir name kid
 unfolding applied
 bound_before m client rec dir name kid is = was_by m rec.time (sid_of client rec) rec.op dir name kid is
-
--- ---- what was there before
 
 pub there_put : (m : Nodes) (fid : Fid) (node : Node) (f : Fid) → has (map.insert m fid node) f ≡ true → (has m f ≡ true) ⊎ (f ≡ fid)
 there_put m fid node f is = elim (fid_cases f fid) [

@@ -18,9 +18,7 @@ use Rattle.coda_cell.specs.Messages.{Ending, over, Going, going_by, sends_of}
 use Rattle.coda_cell.specs.Sending.{Freezing, freezing, deeds_at}
 use Rattle.coda_cell.specs.State.{ClientState, ReplicaState, CellState, Event, at_client}
 use Rattle.coda_cell.specs.Steps.{client_named, volume_named, holder_named, server_named, on_volume, on_holder, first_missing, no_room, no_volume, no_client, Doing, Unless, Naming, reached, offers_of, reply_to, ByClient, ByBoth, BySend, ByRuling, ByTaking, bytes_of, Operates, DoesTask, Comes, link_down, Delivers, Does}
-use Rattle.coda_cell.specs.declared.refused.Refused.{Refused}
-
--- ---- who takes part
+use Rattle.coda_cell.specs.Refused.{Refused}
 
 -- the client and the volume that a task is for
 abbrev pub for_task : Task → ℕ × ℕ
@@ -81,22 +79,6 @@ pub record AreAlike (s t : CellState) (said : Line) : Type 0 where
   pub client : (client : ℕ) → client_in said s.waiting ≡ Some client → s.clients client ≡ t.clients client
   pub replica : (volume : ℕ) → replica_in said s.waiting ≡ Some volume → s.replicas volume ≡ t.replicas volume
 
--- they are so both ways
-pub alike_back : (s t : CellState) (said : Line) → AreAlike s t said → AreAlike t s said
-alike_back s t said alike = record {
-  clock = sym alike.clock;
-  servers = sym alike.servers;
-  links = sym alike.links;
-  waiting = sym alike.waiting;
-  posted = sym alike.posted;
-  there = λ client. sym (alike.there client);
-  homes = λ volume. sym (alike.homes volume);
-  client = λ client is. sym (alike.client client (ap (client_in said) alike.waiting ∙ is));
-  replica = λ volume is. sym (alike.replica volume (ap (replica_in said) alike.waiting ∙ is));
-}
-
--- ---- who is there
-
 home_some : (r : Option ReplicaState) → is_some r ≡ is_some (home_of r)
 home_some None = refl
 home_some (Some r) = refl
@@ -139,8 +121,6 @@ module _ (t : CellState) (replicas : ℕ → Option ReplicaState) (clients : ℕ
   on_holder_same : (client volume server : ℕ) → first_missing (on_holder s client volume server) ≡ first_missing (on_holder t client volume server)
   on_holder_same client volume server = λ i. first_missing (client_same client i ∷ volume_same volume i ∷ holder_same server volume i ∷ [])
 
-  -- ---- what who takes part does
-
   by_client : (client volume : ℕ) (ask : Option Nodes → ClientState → Answer) → clients client ≡ t.clients client → replicas volume ≡ t.replicas volume → ByClient s client volume ask reply events → ByClient t client volume ask reply events
   by_client client volume ask here home did =
       let offers : offers_of s client volume ≡ offers_of t client volume = ap (option_and_then (λ (r : ReplicaState). reached (t.links client r.server) r)) home in
@@ -182,8 +162,6 @@ module _ (t : CellState) (replicas : ℕ → Option ReplicaState) (clients : ℕ
   by_taking : (client volume chunk : ℕ) (answer : RecordAnswer) → clients client ≡ t.clients client → ByTaking s client volume chunk answer reply events → ByTaking t client volume chunk answer reply events
   by_taking client volume chunk answer here did = record { client = did.client; there = sym here ∙ did.there; answered = did.answered; happened = did.happened }
 
-  -- ---- tasks
-
   asked_same : (client volume : ℕ) (ask : Option Nodes → ClientState → Answer) → clients client ≡ t.clients client → replicas volume ≡ t.replicas volume
       → Naming (on_volume s client volume) (ByClient s client volume ask) reply events → Naming (on_volume t client volume) (ByClient t client volume ask) reply events
   asked_same client volume ask here home does =
@@ -210,8 +188,6 @@ module _ (t : CellState) (replicas : ℕ → Option ReplicaState) (clients : ℕ
   task_same (task.Refresh client volume server) here home does = absurd does
   task_same (task.Giveup client volume) here home does = absurd does
 
-  -- ---- letters
-
   comes_same : (sent : Sent) → ((client : ℕ) → client_to (Some sent) ≡ Some client → clients client ≡ t.clients client) → ((volume : ℕ) → replica_to (Some sent) ≡ Some volume → replicas volume ≡ t.replicas volume)
       → Comes s sent reply events → Comes t sent reply events
   comes_same (ChunkSent client server volume number span) here home does =
@@ -227,8 +203,6 @@ module _ (t : CellState) (replicas : ℕ → Option ReplicaState) (clients : ℕ
   delivers_same message (Some sent) here home does =
       let down = link_down (t.links (client_of sent) (server_of sent)) in
       unless_same down down (Comes s sent) (Comes t sent) reply events refl (comes_same sent here home) does
-
-  -- ---- lines
 
   line_same : (said : Line) → ((client : ℕ) → client_in said t.waiting ≡ Some client → clients client ≡ t.clients client) → ((volume : ℕ) → replica_in said t.waiting ≡ Some volume → replicas volume ≡ t.replicas volume)
       → Does s said reply events → Does t said reply events

@@ -41,11 +41,9 @@ use Rattle.coda_cell.specs.Ask.{Asked, Create, Mkdir, Symlink, Store, Setattr, R
 use Rattle.coda_cell.specs.Held.{Held, Parents, below_within, is_below as is_held_below, held_after_operation, some_below}
 use Rattle.coda_cell.specs.Looking.{then_find, held, resolve}
 use Rattle.coda_cell.specs.Accepting.{Accepted, Sight, new_place, accept_creation, store_in, store_at, setattr_at, remove_in, remove_at, rmdir_of, rmdir_in, rmdir_at, spot, place, is_dir_kind, is_dir_at, with_version, replaced_by, move_to, rename_to, rename_root, accept_rename, accept_remove, accept_rmdir, accept}
-use Rattle.coda_cell.specs.declared.refused.Refused.TheVariants as refused
+use Rattle.coda_cell.specs.Refused as refused
 use Rattle.coda_cell.specs.Alone.{IsWhole, AcceptedOperationsCertify, AreAccepted, no_more, one_more, ClientsAloneMeetNoConflict}
 use Rattle.coda_cell.proofs.Accepted.{Relies, accepted_relies, ok_is, found_then, not_at_root, unless_is, or_none, place_is, root_stays, IsSpot, spot_is}
-
--- ---- checks that find nothing
 
 sid_same : (a : Sid) → same_sid a a ≡ true
 sid_same a = let c : (a.client == a.client) ≡ true = grind (arith, nat_tests) in let n : (a.number == a.number) ≡ true = grind (arith, nat_tests) in (λ i. c i && n i)
@@ -83,8 +81,6 @@ FindNothing m (check ∷ more) = (reason_of m check ≡ None) × FindNothing m m
 fine : (m : Nodes) (cs : List Check) → FindNothing m cs → first_reason m cs ≡ None
 fine m [] none = refl
 fine m (check ∷ more) none = ap (λ o. o otherwise first_reason m more) none.0 ∙ fine m more none.1
-
--- ---- going up by parents
 
 -- how many directories are above
 abbrev height : {c : Child} {g f : Fid} → IsBelow c g f → ℕ
@@ -170,8 +166,6 @@ module _ {root : Fid} (m : Nodes) (v : IsVolume root m) (parents : Parents) (are
         absurd (false≢true (sym none ∙ found_up g f b (map.len parents) (omega (arith, low, few)))))
     | inr e ↦ e
   ]
-
--- ---- each kind of operation
 
 module _ (s : Sight) (volume : ℕ) (whole : IsWhole volume s.held) where
   abbrev nodes : Nodes
@@ -293,8 +287,6 @@ module _ (s : Sight) (volume : ℕ) (whole : IsWhole volume s.held) where
       by None is x = cc
       by (Some node) is x = within node node.kind is refl x
 
-  -- ---- renames
-
   same_kinds : (kind : NodeKind) → is_dir kind ≡ is_dir_kind kind
   same_kinds (File content) = refl
   same_kinds (Link target) = refl
@@ -397,8 +389,6 @@ module _ (s : Sight) (volume : ℕ) (whole : IsWhole volume s.held) where
           let d = or_none (is_dir_at (map.get nodes fid)) (is_dir_at (map.get nodes old)) n.1 in
           subst (λ o. first_reason nodes (checks o) ≡ None) (ok_is (RenameOp from_dir from p.0 to fid r.0) op r.2) (over_there old (map.get nodes old) r.0 at refl n.0 d.0 d.1 u.1)
 
-  -- ---- every kind
-
   creates_fine : (op : Op) (dir : Fid) (name : Name) (fid : Fid) → checks op ≡ creation_checks dir name fid → MayCreate nodes dir name fid → certify nodes op ≡ None
   unfolding certify
   creates_fine op dir name fid are may = ap (first_reason nodes) are ∙ creation_fine dir name fid may
@@ -446,8 +436,6 @@ module _ (s : Sight) (volume : ℕ) (whole : IsWhole volume s.held) where
 
 pub accepted_operations_certify : AcceptedOperationsCertify
 accepted_operations_certify s volume ask op whole h = accepted_certifies s volume whole ask op h
-
--- ---- a run
 
 -- a run of operations that are accepted in turn is applied to what was held
 replays : (volume client : ℕ) (h : Held) (run : List Record) → AreAccepted volume client h run → (left : Nodes) × (replay h.nodes client run ≡ Ok left)

@@ -20,8 +20,8 @@ use Rattle.coda_cell.specs.Asking.{Said}
 use Rattle.coda_cell.specs.State.{ClientVolume, ClientState, ReplicaState}
 use Rattle.coda_cell.specs.Sending.{Freezing, frozen_now, frozen_unless, freezing_of, freezing, Ruling, decides, ruling_of, ruling, taken, taken_unless, taking, reply_answer, Outcome, answered_to, ruled_on, drained_of, drained}
 use Rattle.coda_cell.specs.Runs.{decided_as, DrainsAreDecided}
-use Rattle.coda_cell.specs.declared.refused.Refused.{Refused}
-use Rattle.coda_cell.specs.declared.refused.Refused.TheVariants as refused
+use Rattle.coda_cell.specs.Refused.{Refused}
+use Rattle.coda_cell.specs.Refused as refused
 use Rattle.coda_cell.proofs.Histories.{volumes_are, shown, thawed_are, lasts_are}
 use Rattle.coda_cell.proofs.KeptCells.{lawful, client_there}
 use Rattle.coda_cell.proofs.KeptLines.{replica_there}

@@ -16,11 +16,3 @@ put_same f k x is q =
 
 pub put_put : {A : Type 0} (f : ℕ → A) (k : ℕ) (x y : A) (q : ℕ) → put (put f k x) k y q ≡ put f k y q
 put_put f k x y q = elim (q == k) as (λ b. cond b y (cond b x (f q)) ≡ cond b y (f q)) [ true ↦ refl | false ↦ refl ]
-
--- two families that go together do so with members that do
-pub put_both : {A B : Type 0} (Goes : A → B → Type 0) (f : ℕ → A) (g : ℕ → B) (k : ℕ) (x : A) (y : B) → ((q : ℕ) → Goes (f q) (g q)) → Goes x y → (q : ℕ) → Goes (put f k x q) (put g k y q)
-put_both Goes f g k x y all here q = elim (q == k) as (λ b. Goes (cond b x (f q)) (cond b y (g q))) [ true ↦ here | false ↦ all q ]
-
--- what is seen of a family with one member changed
-pub seen_put : {A B : Type 0} (see : A → B) (f : ℕ → A) (k : ℕ) (x : A) (q : ℕ) → see (put f k x q) ≡ put (λ n. see (f n)) k (see x) q
-seen_put see f k x q = elim (q == k) as (λ b. see (cond b x (f q)) ≡ cond b (see x) (see (f q))) [ true ↦ refl | false ↦ refl ]

@@ -10,7 +10,7 @@ use Rattle.coda_tree.specs.Volume.{Nodes, child, child_of, parent_of}
 use Rattle.coda_tree.proofs.Order.{fid_cases, get_here, get_else}
 use Rattle.coda_tree.proofs.Parents.{parent_sound}
 use Rattle.coda_plain.specs.Cell.{ClientEntry}
-use Rattle.coda_cell.specs.declared.refused.Refused.{Refused}
+use Rattle.coda_cell.specs.Refused.{Refused}
 use Rattle.coda_cell.specs.Ask.{Asked, Create, Mkdir, Symlink, Store, Setattr, Remove, Rmdir, Rename, front_of, ending}
 use Rattle.coda_cell.specs.Held.{Held, Fetch, AreBound, held_after_fetch, held_after_fetches}
 use Rattle.coda_cell.specs.Looking.{step_from, resolve, offered, fetch_of, look, looked, look_on, look_along, entries_of}
@@ -30,8 +30,6 @@ held_after_both h (fetch ∷ first) then_ = held_after_both (held_after_fetch h 
 pub client_after_fetches : (c : ClientState) (fetches : List Fetch) → client_after_all c (entries_of fetches) ≡ behind_fetches c fetches
 client_after_fetches c [] = refl
 client_after_fetches c (fetch ∷ fetches) = client_after_fetches (record c { held = held_after_fetch c.held fetch.fid fetch.parent fetch.node }) fetches
-
--- ---- what look-ups keep
 
 -- what each look-up keeps, those along names keep, and those of an ask
 module _ (Kept : Held → Type 0) (offers : Option Nodes) (keeps : (h : Held) (fid : Fid) → Kept h → Kept (looked offers h fid)) where
@@ -63,8 +61,6 @@ module _ (Kept : Held → Type 0) (offers : Option Nodes) (keeps : (h : Held) (f
   keeps_look_ups h volume (Remove path) kept = keeps_along h (root_of volume) path kept
   keeps_look_ups h volume (Rmdir path) kept = keeps_along h (root_of volume) path kept
   keeps_look_ups h volume (Rename from to) kept = keeps_rename h volume from to kept
-
--- ---- each fetch is a look-up
 
 -- each fetch is what the look-up of its object comes to, over what those before it left
 abbrev pub AreLookUps : Option Nodes → Held → List Fetch → Type 0
@@ -114,8 +110,6 @@ module _ (offers : Option Nodes) where
   ask_looks_up h volume (Rmdir path) = along_looks_up h (root_of volume) path
   ask_looks_up h volume (Rename from to) = rename_looks_up h volume from to
 
--- ---- the parents of what is fetched
-
 pub some_fid : (x y : Fid) → Some x ≡ Some y → x ≡ y
 some_fid x y e = cc
 
@@ -148,21 +142,3 @@ bound_look offers h fid bound = by (map.get h.nodes fid) (offered offers fid) re
     by (Some node) offer e = bound
     by None (Some node) e = bound_fetch h fid (parent_of h.nodes fid) node e refl bound
     by None None e = bound
-
--- what look-ups leave is bound by its parents
-pub bound_look_ups : (offers : Option Nodes) (h : Held) (volume : ℕ) (ask : Asked) → AreBound h → AreBound (held_after_fetches h (look_ups offers h volume ask))
-bound_look_ups offers h volume ask bound = keeps_look_ups AreBound offers (bound_look offers) h volume ask bound
-
--- the look-ups of both paths of a rename
-pub renamed : (offers : Option Nodes) (old mid new : Held) (volume : ℕ) (from to first second third : List Name) (root fid : Fid) → root ≡ root_of volume → first ≡ from → second ≡ from → third ≡ to
-    → mid ≡ held_after_fetches old (look_along offers old root first) → resolve mid.nodes root second ≡ Ok fid → new ≡ held_after_fetches mid (look_along offers mid root third)
-    → new ≡ held_after_fetches old (rename_look_ups offers old volume from to)
-renamed offers old mid new volume from to first second third root fid at_root a b d left led right =
-    let top = root_of volume in
-    let fetches = look_along offers old top from in
-    let after = held_after_fetches old fetches in
-    let next : Fid → List Fetch = λ f. look_along offers after top to in
-    let mid_is : mid ≡ after = left ∙ (λ i. held_after_fetches old (look_along offers old (at_root i) (a i))) in
-    let led' : resolve after.nodes top from ≡ Ok fid = sym (λ i. resolve (mid_is i).nodes (at_root i) (b i)) ∙ led in
-    right ∙ (λ i. held_after_fetches (mid_is i) (look_along offers (mid_is i) (at_root i) (d i))) ∙ sym (held_after_both old fetches (next fid))
-    ∙ ap (λ o. held_after_fetches old (fetches ++ look_on o next)) (sym led')

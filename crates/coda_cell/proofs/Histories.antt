@@ -21,8 +21,6 @@ use Rattle.coda_plain.proofs.Ranges.{both_parts, above_rising}
 use Rattle.coda_cell.specs.State.{put, ClientVolume, new_volume, volume_after, pending, ClientState, new_client, client_after, client_after_all, ReplicaState, new_replica, replica_after, replica_after_all}
 use Rattle.coda_cell.specs.Made.{client_of}
 
--- ---- one entry more
-
 pub client_push : (c : ClientState) (entries : List ClientEntry) (entry : ClientEntry) → client_after_all c (entries ++ entry ∷ []) ≡ client_after (client_after_all c entries) entry
 client_push c [] entry = refl
 client_push c (first ∷ entries) entry = client_push (client_after c first) entries entry
@@ -43,8 +41,6 @@ pub server_stays : (r : ReplicaState) (entries : List ReplicaEntry) → (replica
 server_stays r [] = refl
 server_stays r (entry ∷ entries) = server_stays (replica_after r entry) entries ∙ server_after r entry
 
--- ---- a replica's nodes
-
 nodes_after : (r : ReplicaState) (kept : Kept) (entry : ReplicaEntry) → r.tree.nodes ≡ kept.nodes → (replica_after r entry).tree.nodes ≡ (kept_after kept entry).nodes
 nodes_after r kept (Decided client number span) same = λ i. nodes_left (same i) (decision (same i) client span)
 nodes_after r kept (Resolved nodes lasts) same = refl
@@ -57,8 +53,6 @@ nodes_after_all r kept (entry ∷ entries) same = nodes_after_all (replica_after
 pub nodes_are : (server volume : ℕ) (entries : List ReplicaEntry) → (replica_after_all (new_replica server volume) entries).tree.nodes ≡ nodes_of volume entries
 nodes_are server volume entries = nodes_after_all (new_replica server volume) (record { nodes = (fresh volume).nodes; lasts = no_lasts }) entries refl
 
--- ---- a replica's last decisions
-
 lasts_after : (r : ReplicaState) (kept : Kept) (entry : ReplicaEntry) → r.tree.nodes ≡ kept.nodes → ((client : ℕ) → r.lasts client ≡ kept.lasts client) → (client : ℕ) → (replica_after r entry).lasts client ≡ (kept_after kept entry).lasts client
 lasts_after r kept (Decided client number span) same lasts q = λ i. with_last (λ c. lasts c i) client (record { number = number; verdict = verdict_of (decision (same i) client span) }) q
 lasts_after r kept (Resolved nodes lasts) same before q = refl
@@ -70,8 +64,6 @@ lasts_after_all r kept (entry ∷ entries) same lasts = lasts_after_all (replica
 -- what a replica keeps of the last chunk of a client is what its history leaves
 pub lasts_are : (server volume : ℕ) (entries : List ReplicaEntry) (client : ℕ) → (replica_after_all (new_replica server volume) entries).lasts client ≡ last_of volume entries client
 lasts_are server volume entries = lasts_after_all (new_replica server volume) (record { nodes = (fresh volume).nodes; lasts = no_lasts }) entries refl (λ client. refl)
-
--- ---- a client's volumes
 
 -- what deeds leave of a volume
 abbrev pub volume_of : List Deed → ClientVolume
@@ -100,8 +92,6 @@ volumes_after_all c (entry ∷ entries) volume =
 -- what a client has of a volume is what its deeds there leave
 pub volumes_are : (client blocks : ℕ) (entries : List ClientEntry) (volume : ℕ) → (client_of client entries blocks).volumes volume ≡ volume_of (deeds_of volume entries)
 volumes_are client blocks entries volume = volumes_after_all (new_client client blocks) entries volume
-
--- ---- what deeds leave of a volume, by the course of the volume
 
 -- the frozen chunk, where there is one
 abbrev pub frozen_by : Course → Option Frozen

@@ -19,8 +19,6 @@ use Rattle.coda_cell.specs.Runs.{IsKept, IsLeft, CellsAreKept}
 use Rattle.coda_cell.proofs.Histories.{volumes_are, pending_are}
 use Rattle.coda_cell.proofs.Grown.{volume_grown, client_made}
 
--- ---- what is pending
-
 module _ (cell : MadeCell) (kept : IsKept cell) where
   pub lawful : (client volume : ℕ) → AreLawful (done_on cell.acted client volume)
   lawful client volume = (kept.sound.agree none_joins).lawful client volume
@@ -50,8 +48,6 @@ module _ (cell : MadeCell) (kept : IsKept cell) where
   pub orderly : AreOrderly (state_of cell)
   orderly client c is = let there = client_there client c is in subst IsOrderly there.2 (orderly_client client there.0 there.1)
 
--- ---- nothing was made
-
 pub first_kept : IsKept nothing_made
 first_kept = record {
   sound = runs_are_sound [] empty_cell refl;
@@ -63,8 +59,6 @@ first_kept = record {
 
 pub cells_are_kept : CellsAreKept
 cells_are_kept = record { first = first_kept; orderly = orderly }
-
--- ---- an actor is made
 
 -- a client that did nothing holds nothing
 nothing_holding : (cell : PlainCell) (client blocks : ℕ) (history : List ClientEntry) → history ≡ [] → IsHolding cell (client_of client history blocks)
@@ -127,8 +121,6 @@ client_left cell client blocks kept none some = record {
       | true ↦ λ same f. nothing_holding cell.acted c b (cell.acted.clients c).history (ap (λ n. (cell.acted.clients n).history) (eqb-true c client same) ∙ kept.made.clients client none)
       | false ↦ λ other f. kept.holding c b f
     ] refl e
-
--- ---- no history changes
 
 pub ticked_left : (cell : MadeCell) (seconds : ℕ) → IsKept cell → IsLeft cell (Ticked seconds ∷ [])
 ticked_left cell seconds kept = record {

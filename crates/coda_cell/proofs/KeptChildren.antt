@@ -29,8 +29,6 @@ use Rattle.coda_cell.proofs.Accepted.{Relies}
 use Rattle.coda_cell.proofs.Fetches.{child_fetched}
 use Rattle.coda_cell.proofs.AfterOperations.{IsBoundBy, still_bound, newly_bound}
 
--- ---- tests over runs
-
 -- one of two runs passes
 any_parts : (test : Op → Bool) (front back : List Record) → any_record test (front ++ back) ≡ true → (any_record test front ≡ true) ⊎ (any_record test back ≡ true)
 any_parts test front back h = or_cases (any_record test front) (any_record test back) (sym (any-append test front back) ∙ h)
@@ -47,8 +45,6 @@ any_last test rec h = elim (or_cases (test rec.op) false h) [ inl is ↦ is | in
 
 any_one : (test : Op → Bool) (rec : Record) → test rec.op ≡ true → any_record test (rec ∷ []) ≡ true
 any_one test rec h = or_left (test rec.op) false h
-
--- ---- operations
 
 -- where a creation binds its child
 made_at : (op : Op) (dir kid : Fid) → makes_in dir kid op ≡ true → (name : Name) × IsBoundBy op dir name kid
@@ -82,8 +78,6 @@ kept_children_beside s volume client rec run kept relies others = λ dir kid mad
   | inr at ↦ inr (at.0, still_bound s volume client rec dir at.0 kid relies at.1 (others dir kid made))
 ]
 
--- ---- fetches
-
 pub kept_children_look : (offers : Option Nodes) (run : List Record) (h : Held) (fid : Fid) → AreChildrenKept h.nodes run → AreChildrenKept (looked offers h fid).nodes run
 kept_children_look offers run h fid kept = by (map.get h.nodes fid) (offered offers fid) refl
   where
@@ -94,8 +88,6 @@ kept_children_look offers run h fid kept = by (map.get h.nodes fid) (offered off
       | inl left ↦ inl left
       | inr at ↦ inr (at.0, child_fetched h.nodes fid dir kid node at.0 e at.1)
     ]
-
--- ---- removals
 
 -- of an object that binds nothing the run took what it created there
 left_empty : (m : Nodes) (run : List Record) (dir : Fid) → AreChildrenKept m run → ((name : Name) → child m dir name ≡ None) → ChildrenLeft dir run
@@ -114,8 +106,6 @@ removes_empty s volume (SetattrOp fid pre attrs) run kept r = tt
 removes_empty s volume (RemoveOp dir name fid pre) run kept r = left_empty s.held.nodes run fid kept r.0.leaf
 removes_empty s volume (RmdirOp dir name fid pre) run kept r = left_empty s.held.nodes run fid kept r.0.leaf
 removes_empty s volume (RenameOp from_dir from to_dir to fid over) run kept r = tt
-
--- ---- the rest of a run
 
 -- an operation mentions what it takes from where it is bound
 pub unbinds_mentions : (op : Op) (f : Fid) → unbinds f op ≡ true → mentioning f op ≡ true

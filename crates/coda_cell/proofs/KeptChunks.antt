@@ -36,16 +36,14 @@ use Rattle.coda_cell.specs.Kept.{AreChildrenKept}
 use Rattle.coda_cell.specs.Made.{MadeCell, client_of, replica_of, grown, grown_all}
 use Rattle.coda_cell.specs.Sending.{Freezing, frozen_now, frozen_unless, freezing_of, freezing, Ruling, decides, ruling_of, ruling, Taking, taken, taken_unless, taking, deeds_at, entries_at, answered_to, ruled_on}
 use Rattle.coda_cell.specs.Runs.{IsKept, IsLeft}
-use Rattle.coda_cell.specs.declared.refused.Refused.{Refused}
-use Rattle.coda_cell.specs.declared.refused.Refused.TheVariants as refused
+use Rattle.coda_cell.specs.Refused.{Refused}
+use Rattle.coda_cell.specs.Refused as refused
 use Rattle.coda_cell.proofs.Events.{ruling_left}
 use Rattle.coda_cell.proofs.Histories.{volume_of, volumes_are, shown, thawed_are, nodes_are, lasts_are, server_stays}
 use Rattle.coda_cell.proofs.KeptCells.{lawful, steady, pending_is}
 use Rattle.coda_cell.proofs.KeptChildren.{children_of_rest}
 use Rattle.coda_cell.proofs.KeptDeeds.{deeds_here, deed_left, decision_left}
 use Rattle.coda_cell.proofs.Moving.{HasMore, has_more, AreLeft, are_left_one, are_left_both, kept_behind}
-
--- ---- where a chunk ends
 
 last_between : (m n k : ℕ) (rs : List Record) → AreAbove m rs → AreUpTo n rs → last_in rs ≡ Some k → (m < k) × (k ≤ n)
 last_between m n k [] above up e = cc
@@ -72,8 +70,6 @@ may_freeze deeds number last law thawed next goes =
     let ends = last_between done (course_of deeds).operations last (records_upto last (pending_of deeds)) (above_in_front done last (pending_of deeds) (above_up done (full_of deeds)))
     (up_in_front (course_of deeds).operations last (pending_of deeds) (up_behind (course_of deeds).operations done (full_of deeds) o.most)) goes.last in
     record { thawed = thawed; next = next; pending = ends.0; there = ends.1; ends = goes.cut }
-
--- ---- what is pending behind a freeze and behind a settlement
 
 module _ (cell : MadeCell) (number blocks : ℕ) (kept : IsKept cell) (there : cell.sizes number ≡ Some blocks) (volume : ℕ) where
   abbrev holder : ClientState
@@ -109,8 +105,6 @@ module _ (cell : MadeCell) (number blocks : ℕ) (kept : IsKept cell) (there : c
       (λ i. records_above (course_push past (Settled chunk verdict) i).done (full_push past (Settled chunk verdict) i)) ∙ ap (records_above (done_by verdict (course_of past))) (append-nil (full_of past)) in
       subst (AreChildrenKept holder.held.nodes) (sym is) (left_by verdict cut frozen)
 
-  -- ---- each entry by itself
-
   module _ (server : ℕ) (homed : cell.homes volume ≡ Some server) where
     -- a client freezes a chunk
     pub freeze_left : (chunk home last : ℕ) → MayFreeze past chunk last → IsLeft cell (at_client number (Did volume (Froze chunk home last)) ∷ [])
@@ -119,8 +113,6 @@ module _ (cell : MadeCell) (number blocks : ℕ) (kept : IsKept cell) (there : c
     -- a client settles its frozen chunk by a verdict that it is told of, by a letter or at once
     pub settlement_left : (chunk : ℕ) (verdict : Verdict) → MaySettle past chunk → IsToldOf cell.acted number volume chunk verdict → IsLeft cell (at_client number (Did volume (Settled chunk verdict)) ∷ [])
     settlement_left chunk verdict may told = deed_left cell number blocks kept there volume server homed (Settled chunk verdict) may told (λ h n. refl) (behind_settlement chunk verdict may.cut may.frozen)
-
--- ---- a chunk goes
 
 -- A chunk went for a server: what its client did for it might happen and keeps the cell, it is frozen then, and its operations are those of
 -- the chunk of this number.
@@ -236,8 +228,6 @@ module _ (cell : MadeCell) (number blocks : ℕ) (kept : IsKept cell) (there : c
       by None none e = here none (freeze_refusal None now window (segments_of log.back)) refl e
       by (Some chunk) some e = held chunk some (chunk.home == server) refl e
 
--- ---- a replica rules on it
-
 -- the answer to a chunk, where it is a verdict, is one that the server keeps
 abbrev pub KeepsAnswer : PlainCell → ℕ → ℕ → ℕ → ℕ → Answer → Type 0
 KeepsAnswer cell c server volume number Applied = IsKeptBy cell c server volume number verdict.Applied
@@ -309,8 +299,6 @@ module _ (cell : MadeCell) (kept : IsKept cell) (volume server : ℕ) (homed : c
           let same : tells ≡ ruled = cc in
           subst (IsRuled cell client server volume number) same (record { left = kept; clients = refl; sizes = refl; homes = refl; keeps = keeps_told })
 
--- ---- the client takes the answer
-
 -- a client is told of a verdict, where the answer is one
 abbrev pub IsToldAnswer : PlainCell → ℕ → ℕ → ℕ → Answer → Type 0
 IsToldAnswer cell c volume number Applied = IsToldOf cell c volume number verdict.Applied
@@ -341,8 +329,6 @@ module _ (cell : MadeCell) (number blocks : ℕ) (kept : IsKept cell) (there : c
       by : (o : Option SettleFault) → taken_unless o chunk answer v ≡ Ok took → AreLeft cell (deeds_at number volume took.deeds)
       by (Some why) e = cc
       by None e = (let same : taken chunk answer v ≡ took = cc in subst (λ (t : Taking). AreLeft cell (deeds_at number volume t.deeds)) same (taken_left v answer told))
-
--- ---- all three in turn
 
 module _ (cell : MadeCell) (number blocks : ℕ) (kept : IsKept cell) (there : cell.sizes number ≡ Some blocks) (volume server : ℕ) (homed : cell.homes volume ≡ Some server) (f : Freezing) (g : IsGone cell number server volume f) where
   abbrev second : MadeCell

@@ -41,13 +41,9 @@ use Rattle.coda_cell.proofs.KeptChildren.{unbinds_mentions, kept_children_operat
 use Rattle.coda_cell.proofs.LettersOn.{letters_on}
 use Rattle.coda_cell.proofs.Moving.{HasMore, has_more, shown_more, done_here, done_elsewhere, done_same, made_stays, up_all}
 
--- ---- what a client holds, while others go on
-
 -- what it holds stays in order while histories go on
 pub holding_on : (moves : List Move) (old new : PlainCell) (c : ClientState) → Moved old moves new → IsHolding old c → IsHolding new c
 holding_on moves old new c moved h = record { bound = h.bound; within = h.within; made = λ fid is. made_stays moves old new moved fid.vnode fid.volume fid (h.made fid is); kept = h.kept }
-
--- ---- fetches
 
 -- a replica that is up has the node
 pub record IsReplicated (cell : PlainCell) (fetch : Fetch) : Type 0 where
@@ -121,8 +117,6 @@ module _ (cell : MadeCell) (number blocks : ℕ) (kept : IsKept cell) (there : c
 
     pub fetches_left : IsLeft cell (map (at_client number) (entries_of fetches))
     fetches_left = record { moved = moved; kept = record { sound = runs_sound (moves_of events) cell.acted new.acted kept.sound moved; up = up_all cell events kept.up; made = made; holding = holding; letters = letters_on (moves_of events) cell new kept.sound moved kept.letters more.waiting more.pool more.posted }; shown = shown_more cell number entries }
-
--- ---- an operation
 
 module _ (cell : MadeCell) (number blocks : ℕ) (kept : IsKept cell) (there : cell.sizes number ≡ Some blocks) (volume home : ℕ) (homed : cell.homes volume ≡ Some home) (time : ℕ) (ask : Asked) (op : Op)
     (accepted : accept (sight_of (the_client cell number blocks kept there) volume) volume ask ≡ Ok op) where
@@ -222,8 +216,6 @@ module _ (cell : MadeCell) (number blocks : ℕ) (kept : IsKept cell) (there : c
     volumes = by_place (λ c w ds. cell.homes w ≡ None → ds ≡ []) (λ e. let no : Some home ≡ None = sym homed ∙ e in cc) kept.made.volumes;
     replicas = kept.made.replicas;
   }
-
-  -- ---- what the client holds
 
   made_before : (fid : Fid) → IsMade fid.volume (done_on cell.acted fid.vnode fid.volume) fid → IsMade fid.volume (done_on next.acted fid.vnode fid.volume) fid
   made_before fid made = made_stays (Does (AtClient number entry) ∷ []) cell.acted next.acted operation_moved fid.vnode fid.volume fid made

@@ -21,8 +21,6 @@ use Rattle.coda_cell.proofs.KeptClients.{holding_on}
 use Rattle.coda_cell.proofs.LettersOn.{letters_on}
 use Rattle.coda_cell.proofs.Moving.{HasMore, has_more, shown_more, done_here, done_elsewhere, done_same, up_all}
 
--- ---- a deed that changes nothing of what its client holds
-
 module _ (cell : MadeCell) (number blocks : ℕ) (kept : IsKept cell) (there : cell.sizes number ≡ Some blocks) (volume server : ℕ) (homed : cell.homes volume ≡ Some server) (deed : Deed)
     (may : MayDo (done_on cell.acted number volume) deed) (backed : IsBacked cell.acted number volume deed) (quiet : (h : Held) (n : ℕ) → held_after_deed h n deed ≡ h)
     (children : AreChildrenKept (client_of number (cell.acted.clients number).history blocks).held.nodes (pending_of (done_on cell.acted number volume ++ deed ∷ []))) where
@@ -75,8 +73,6 @@ module _ (cell : MadeCell) (number blocks : ℕ) (kept : IsKept cell) (there : c
     replicas = kept.made.replicas;
   }
 
-  -- ---- what the client holds
-
   children_before : (w : ℕ) → AreChildrenKept client.held.nodes (pending_of (done_on cell.acted number w))
   children_before w = subst (AreChildrenKept client.held.nodes) (pending_is cell kept number blocks w) ((kept.holding number blocks there).kept w)
 
@@ -126,8 +122,6 @@ module _ (cell : MadeCell) (number blocks : ℕ) (kept : IsKept cell) (there : c
     kept = record { sound = runs_sound moves cell.acted next.acted kept.sound moved; up = up_all cell (at_client number entry ∷ []) kept.up; made = made; holding = all_holding; letters = letters_on moves cell next kept.sound moved kept.letters refl refl refl };
     shown = shown_more cell number (entry ∷ []);
   }
-
--- ---- a decision
 
 -- the volume's server decides the next chunk of a client, which was sent to it
 module _ (cell : MadeCell) (kept : IsKept cell) (volume server : ℕ) (homed : cell.homes volume ≡ Some server) (client number : ℕ) (span : List Record) (next_is : number ≡ (last_of volume (cell.acted.replicas server volume).history client).number + 1)

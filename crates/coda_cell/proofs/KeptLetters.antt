@@ -23,13 +23,11 @@ use Rattle.coda_cell.specs.Refusing.{settle_refused_as}
 use Rattle.coda_cell.specs.Sending.{Freezing, freezing, Ruling, ruling, Taking, taken_unless, taking, deeds_at, entries_at}
 use Rattle.coda_cell.specs.Messages.{over, posting, going_by, sends_of, sends, ruled_in, taken_in}
 use Rattle.coda_cell.specs.Runs.{IsKept, IsLeft, AreNumbered, IsSaid, ArePooled}
-use Rattle.coda_cell.specs.declared.refused.Refused.{Refused}
+use Rattle.coda_cell.specs.Refused.{Refused}
 use Rattle.coda_cell.proofs.Histories.{volumes_are, shown, frozen_by}
 use Rattle.coda_cell.proofs.KeptCells.{lawful}
 use Rattle.coda_cell.proofs.KeptChunks.{KeepsAnswer, IsToldAnswer, IsGone, gone, ruled_left, taking_left}
 use Rattle.coda_cell.proofs.Moving.{AreLeft, are_left_one, are_left_both, kept_behind}
-
--- ---- a letter is posted
 
 numbered_more : (before last : ℕ) (waiting : Waiting) (sent : Sent) → before ≤ last → AreNumbered before last waiting → AreNumbered before (last + 1) (waiting ++ (last + 1, sent) ∷ [])
 numbered_more before last [] sent low are = (omega (arith, low), omega arith, tt)
@@ -69,8 +67,6 @@ posted_left cell sent kept may said = record {
   };
   shown = refl;
 }
-
--- ---- a letter is lost
 
 module _ (cell : PlainCell) (message : ℕ) where
   abbrev lost : PlainCell
@@ -126,8 +122,6 @@ lost_left cell message kept = record {
   shown = refl;
 }
 
--- ---- letters are lost for one that is posted
-
 may_post_on : (cell : PlainCell) (message : ℕ) (letter : Letter) → MayPost cell letter → MayPost (after_move cell (Loses message)) letter
 may_post_on cell message (PlainChunk client server volume number) may = record { up = may.up; cut = may.cut; frozen = may.frozen; home = may.home; last = may.last }
 may_post_on cell message (PlainAnswer server client volume number (Ruled verdict)) may = record { up = may.up; some = may.some; last = may.last }
@@ -142,8 +136,6 @@ put_out_left (l ∷ going) cell sent kept may said =
 
 pub posting_left : (cell : MadeCell) (sent : Sent) (waiting : Waiting) → IsKept cell → MayPost cell.acted (plain_letter sent) → IsSaid cell.acted sent → AreLeft cell (posting sent waiting)
 posting_left cell sent waiting kept may said = put_out_left (take (lost_by sent waiting) waiting) cell sent kept may said
-
--- ---- a client sends a chunk
 
 module _ (cell : MadeCell) (s : CellState) (number blocks : ℕ) (kept : IsKept cell) (there : cell.sizes number ≡ Some blocks) (volume server : ℕ) (homed : cell.homes volume ≡ Some server) (now window : ℕ) where
   abbrev sender : ClientState
@@ -173,8 +165,6 @@ sends_left cell s number blocks kept there volume server homed window = by (s.li
     by Weak = up
     by Down = kept
 
--- ---- a letter that waits
-
 -- what a letter says of those that wait is in the pool, and is so
 pub record IsWaiting (cell : PlainCell) (sent : Sent) : Type 0 where
   pub message : ℕ
@@ -188,8 +178,6 @@ waits cell message (l ∷ waiting) sent are e = by (nat_eq message l.0) e (waits
     by : (b : Bool) → cond b (Some l.1) (sent_at message waiting) ≡ Some sent → (sent_at message waiting ≡ Some sent → IsWaiting cell sent) → IsWaiting cell sent
     by true e rest = (let same : l.1 ≡ sent = cc in subst (IsWaiting cell) same (record { message = l.0; there = are.0; said = are.1 }))
     by false e rest = rest e
-
--- ---- a chunk is delivered
 
 -- an answer may be posted that is kept
 may_answer : (cell : PlainCell) (client server volume number : ℕ) (answer : Answer) → KeepsAnswer cell client server volume number answer → MayPost cell (plain_letter (AnswerSent server client volume number answer))
@@ -206,8 +194,6 @@ chunk_comes_left cell s kept volume server homed client number span is (Ok ruled
     let sent = AnswerSent server client volume number ruled.answer in
     are_left_both cell (entries_at server volume ruled.entries) (posting sent s.waiting) r.left
     (posting_left (grown_all cell (entries_at server volume ruled.entries)) sent s.waiting (kept_behind cell (entries_at server volume ruled.entries) r.left) (may_answer (grown_all cell (entries_at server volume ruled.entries)).acted client server volume number ruled.answer r.keeps) tt)
-
--- ---- an answer is delivered
 
 -- a chunk whose answer is taken may be settled
 settles : (o : Option Cut) (course : Course) (number : ℕ) → course.cut ≡ o → settle_refusal (option_map (λ (cut : Cut). let frozen : Frozen = record { number = course.chunks; home = cut.home } in frozen) o) number ≡ None → (cut : Cut) × (course.cut ≡ Some cut) × (number ≡ course.chunks)

@@ -37,8 +37,8 @@ use Rattle.coda_cell.specs.Messages.{sends, chunk_comes, answer_comes}
 use Rattle.coda_cell.specs.Steps.{first_missing, on_volume, on_holder, client_named, volume_named, server_named, holder_named, no_volume, no_client, no_room, Doing, Unless, reached, offers_of, ByClient, ByBoth, BySend, ByRuling, ByTaking, bytes_of, Operates, DoesTask, Comes, link_down, Delivers, Loses, alone, Does}
 use Rattle.coda_cell.specs.Sending.{Freezing, freezing, ruling, taking, drained_of, drained, drain}
 use Rattle.coda_cell.specs.Runs.{IsKept, IsLeft, MakesNumbered, LinesKeepCells, LinesKeepFronts}
-use Rattle.coda_cell.specs.declared.refused.Refused.{Refused}
-use Rattle.coda_cell.specs.declared.refused.Refused.TheVariants as refused
+use Rattle.coda_cell.specs.Refused.{Refused}
+use Rattle.coda_cell.specs.Refused as refused
 use Rattle.coda_cell.proofs.Events.{are_there, all_there}
 use Rattle.coda_cell.proofs.Fetches.{AreLookUps, along_looks_up, ask_looks_up, bound_look, client_after_both, client_after_fetches}
 use Rattle.coda_cell.proofs.Histories.{nodes_are, server_stays}
@@ -50,8 +50,6 @@ use Rattle.coda_cell.proofs.KeptLetters.{IsWaiting, waits, lost_left, sends_left
 use Rattle.coda_cell.proofs.Moving.{has_more, AreLeft, are_left_one, are_left_both, kept_behind, front_left, all_left}
 use Rattle.coda_cell.proofs.Offered.{offered_look, held_look}
 use Rattle.coda_cell.proofs.Within.{within_look}
-
--- ---- what is offered
 
 reached_is : (strength : Strength) (r : ReplicaState) (nodes : Nodes) → reached strength r ≡ Some nodes → r.tree.nodes ≡ nodes
 reached_is Strong r nodes e = cc
@@ -89,8 +87,6 @@ module _ (cell : MadeCell) (kept : IsKept cell) where
       let r = offered_are cell number volume nodes e in
       let made = (kept.sound.agree none_joins).held r.server volume fid (subst (λ m. has m fid ≡ true) (sym r.are) is) in
       subst (λ v. IsMade v (done_on cell.acted fid.vnode v) fid) (sym made.0) made
-
--- ---- look-ups
 
 -- what fetches keep that a look-up comes to
 record AreKeeping (offers : Option Nodes) (h : Held) (fetches : List Fetch) : Type 0 where
@@ -212,8 +208,6 @@ module _ (cell : MadeCell) (number blocks : ℕ) (kept : IsKept cell) (there : c
     unfolding operate
     operate_left = unless_left (too_big ask)
 
--- ---- sending
-
 module _ (cell : MadeCell) (number blocks : ℕ) (kept : IsKept cell) (there : cell.sizes number ≡ Some blocks) (volume server : ℕ) (homed : cell.homes volume ≡ Some server) (now window : ℕ) where
   abbrev sender : ClientState
   sender = client_of number (cell.acted.clients number).history blocks
@@ -236,8 +230,6 @@ module _ (cell : MadeCell) (number blocks : ℕ) (kept : IsKept cell) (there : c
   drain_left Strong = home_left
   drain_left Weak = home_left
   drain_left Down = kept
-
--- ---- lines
 
 module _ (cell : MadeCell) (kept : IsKept cell) where
   nothing_left : (events : List Event) → events ≡ [] → AreLeft cell events

@@ -15,8 +15,6 @@ use Rattle.coda_plain.proofs.Soundness.{none_joins}
 use Rattle.coda_cell.specs.Made.{MadeCell}
 use Rattle.coda_cell.specs.Runs.{IsKept}
 
--- ---- a client's last chunk
-
 -- it froze none, or the last one is among those that it froze
 abbrev HasLast : List Deed → Type 0
 HasLast deeds = ((course_of deeds).chunks ≡ 0) ⊎ ((c : Chunk) × In c (chunks_of deeds) × (c.number ≡ (course_of deeds).chunks))
@@ -35,8 +33,6 @@ last_push deeds Gaveup has may = last_stays deeds Gaveup has (ap (λ c. c.chunks
 
 has_last : (deeds : List Deed) → AreLawful deeds → HasLast deeds
 has_last deeds law = along MayDo HasLast last_push deeds (inl refl) law
-
--- ---- a replica's last numbers
 
 -- no decision has a number above the last one of its client
 abbrev IsReached : ℕ → List ReplicaEntry → Type 0
@@ -60,8 +56,6 @@ reached_push volume es e is may d i =
 
 pub reached : (volume : ℕ) (es : List ReplicaEntry) → AreDecisions volume es → (d : Decision) → In d (decisions_of volume es) → d.number ≤ (last_of volume es d.client).number
 reached volume es law = along (MayDecide volume) (IsReached volume) (reached_push volume) es (λ d i. absurd i) law
-
--- ---- both
 
 module _ (cell : MadeCell) (kept : IsKept cell) (client volume server : ℕ) (homed : cell.homes volume ≡ Some server) where
   -- a chunk that was decided was decided here

@@ -1,5 +1,5 @@
 -- Letters that wait stay what they are, whatever actors do.
-use Rattle.std.proofs.Common.{◌≡◌, ℕ, ◌≤◌, List, [], ◌∷◌, ◌++◌, append_assoc, append-nil, Some, refl, sym, ap, ◌∙◌, subst}
+use Rattle.std.proofs.Common.{◌≡◌, ℕ, List, [], ◌∷◌, ◌++◌, append_assoc, append-nil, Some, sym, ap, ◌∙◌, subst}
 use Rattle.coda_plain.specs.Histories.{In}
 use Rattle.coda_plain.specs.Deeds.{Deed, Chunk, chunk_at, chunks_of, span_of, AreLawful}
 use Rattle.coda_plain.specs.Cell.{deeds_of, PlainCell}

@@ -13,8 +13,6 @@ use Rattle.coda_cell.specs.Made.{MadeCell, state_of, grown, grown_all, move_of, 
 use Rattle.coda_cell.specs.Runs.{AreUp, IsKept, IsLeft}
 use Rattle.coda_cell.proofs.Grown.{client_grown}
 
--- ---- events and others behind them
-
 pub grown_both : (cell : MadeCell) (first rest : List Event) → grown_all cell (first ++ rest) ≡ grown_all (grown_all cell first) rest
 grown_both cell [] rest = refl
 grown_both cell (event ∷ first) rest = grown_both (grown cell event) first rest
@@ -44,8 +42,6 @@ left_both cell first rest a b = record {
 pub left_none : (cell : MadeCell) → IsKept cell → IsLeft cell []
 left_none cell kept = record { moved = refl; kept = kept; shown = refl }
 
--- ---- events in turn
-
 -- each of events in turn might happen in the cell that those before it left, and keeps it
 abbrev pub AreLeft : MadeCell → List Event → Type 0
 AreLeft cell [] = IsKept cell
@@ -72,8 +68,6 @@ front_left cell (event ∷ done) rest kept are = left_both cell (event ∷ []) d
 pub all_left : (cell : MadeCell) (events : List Event) → IsKept cell → AreLeft cell events → IsLeft cell events
 all_left cell events kept are = front_left cell events [] kept (subst (AreLeft cell) (sym (append-nil events)) are)
 
--- ---- actors stay up
-
 up_after : (cell : PlainCell) (append : Append) → AreUp cell → AreUp (after_move cell (Does append))
 up_after cell (AtClient client entry) up = record {
   clients = λ c. elim (c == client) as (λ b. (cond b (grown_actor entry (cell.clients client)) (cell.clients c)).up ≡ true) [ true ↦ up.clients client | false ↦ up.clients c ];
@@ -97,8 +91,6 @@ pub up_all : (cell : MadeCell) (events : List Event) → AreUp cell.acted → Ar
 up_all cell [] up = up
 up_all cell (event ∷ events) up = up_all (grown cell event) events (up_grown cell event up)
 
--- ---- what was made stays made
-
 pub deeds_both : (volume : ℕ) (first rest : List ClientEntry) → deeds_of volume (first ++ rest) ≡ deeds_of volume first ++ deeds_of volume rest
 deeds_both volume [] rest = refl
 deeds_both volume (entry ∷ first) rest = ap (λ l. deed_on volume entry ++ l) (deeds_both volume first rest) ∙ sym (append_assoc (deed_on volume entry) (deeds_of volume first) (deeds_of volume rest))
@@ -112,8 +104,6 @@ made_stays moves old new moved client volume fid made =
     let begins : BeginsWith (new.clients client).history (old.clients client).history = clients_run moves old new moved client in
     subst (λ ds. IsMade volume ds fid) (sym (ap (deeds_of volume) begins.1 ∙ deeds_both volume (old.clients client).history begins.0))
     (made_more_all volume (done_on old client volume) (deeds_of volume begins.0) fid made)
-
--- ---- entries of one client
 
 -- a cell in which one client has these entries more
 pub record HasMore (old new : MadeCell) (number : ℕ) (entries : List ClientEntry) : Type 0 where

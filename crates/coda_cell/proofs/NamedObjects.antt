@@ -19,15 +19,13 @@ use Rattle.coda_tree.specs.Bindings.{Name}
 use Rattle.coda_tree.specs.Volume.{Nodes, has, IsDirNode}
 use Rattle.coda_cancel.specs.Dropping.{mentioning, creates}
 use Rattle.coda_cancel.proofs.Keys.{fid_true}
-use Rattle.coda_cell.specs.declared.refused.Refused.TheVariants.{Exists, IsDir as IsADirectory, Loop}
+use Rattle.coda_cell.specs.Refused.{Exists, IsDir as IsADirectory, Loop}
 use Rattle.coda_cell.specs.Ask.{Asked, Create, Mkdir, Symlink, Store, Setattr, Remove, Rmdir, Rename, Ending, ending}
 use Rattle.coda_cell.specs.Held.{is_below, some_below}
 use Rattle.coda_cell.specs.Looking.{then_find, held, step_from, resolve}
 use Rattle.coda_cell.specs.Accepting.{Sight, next_fid, new_under, new_place, accept_creation, store_in, store_at, setattr_at, remove_in, remove_at, rmdir_of, rmdir_in, rmdir_at, bound_at, spot, place, replaced_by, move_to, rename_to, rename_root, accept_rename, accept_remove, accept_rmdir, accept}
 use Rattle.coda_cell.specs.Kept.{AreWithin}
 use Rattle.coda_cell.proofs.Accepted.{Relies, accepted_relies, ok_is, found_then, not_at_root, held_is, step_is, spot_is, unless_below, root_stays}
-
--- ---- where paths lead
 
 -- within its volume
 pub resolve_within : (m : Nodes) → AreWithin m → (at : Fid) (names : List Name) (fid : Fid) → resolve m at names ≡ Ok fid → fid.volume ≡ at.volume
@@ -152,8 +150,6 @@ accepted_led s volume (Remove path) op within h = led_by_remove s volume (ending
 accepted_led s volume (Rmdir path) op within h = led_by_rmdir s volume (ending path) op within h
 accepted_led s volume (Rename from to) op within h = led_by_rename s volume (ending from) (ending to) op within h
 
--- ---- what is named
-
 -- an object that an operation may name: of the volume, and held, or the next one that the client creates there
 abbrev pub IsNamed : Sight → ℕ → Op → Fid → Type 0
 IsNamed s volume op fid = (fid.volume ≡ volume) × ((has s.held.nodes fid ≡ true) ⊎ ((creates fid op ≡ true) × (fid ≡ next_fid s volume)))
@@ -199,8 +195,6 @@ named_by s volume (RenameOp from_dir from to_dir to it over) within r led fid h 
 pub accepted_names : (s : Sight) (volume : ℕ) (ask : Asked) (op : Op) → AreWithin s.held.nodes → accept s volume ask ≡ Ok op → (fid : Fid) → mentioning fid op ≡ true
     → (fid.volume ≡ volume) × ((has s.held.nodes fid ≡ true) ⊎ ((creates fid op ≡ true) × (fid ≡ next_fid s volume)))
 accepted_names s volume ask op within accepted = named_by s volume op within (accepted_relies s volume ask op accepted) (accepted_led s volume ask op within accepted)
-
--- ---- what is created
 
 pub creates_next : (s : Sight) (volume : ℕ) (op : Op) → Relies s volume op → (fid : Fid) → creates fid op ≡ true → fid ≡ next_fid s volume
 creates_next s volume (CreateOp dir name new mode owner) r fid h = sym (fid_true new fid h) ∙ r.next

@@ -9,7 +9,7 @@ use Rattle.coda_tree.specs.Bindings.{Name}
 use Rattle.coda_tree.specs.Volume.{Nodes, has, parent_of}
 use Rattle.coda_plain.specs.Histories.{In}
 use Rattle.coda_plain.proofs.Lists.{in_parts}
-use Rattle.coda_cell.specs.declared.refused.Refused.{Refused}
+use Rattle.coda_cell.specs.Refused.{Refused}
 use Rattle.coda_cell.specs.Ask.{Asked, Create, Mkdir, Symlink, Store, Setattr, Remove, Rmdir, Rename, front_of, ending}
 use Rattle.coda_cell.specs.Held.{Held, Fetch, held_after_fetches}
 use Rattle.coda_cell.specs.Looking.{step_from, resolve, offered, fetch_of, look, looked, look_on, look_along}
@@ -27,8 +27,6 @@ IsOffered offers fid = (nodes : Nodes) × (offers ≡ Some nodes) × (has nodes 
 pub offered_is : (offers : Option Nodes) (fid : Fid) (node : Node) → offered offers fid ≡ Some node → IsOfferedAt offers fid node
 offered_is None fid node h = absurd (none-some node h)
 offered_is (Some nodes) fid node h = (nodes, refl, h)
-
--- ---- what is fetched
 
 pub offered_look : (offers : Option Nodes) (h : Held) (fid : Fid) (fetch : Fetch) → In fetch (look offers h fid) → IsOfferedAt offers fetch.fid fetch.node
 offered_look offers h fid fetch i = by (map.get h.nodes fid) (offered offers fid) refl i
@@ -78,8 +76,6 @@ fetched_is_offered offers h volume (Setattr path attrs) fetch i = fetched_along_
 fetched_is_offered offers h volume (Remove path) fetch i = fetched_along_is_offered offers h (root_of volume) path fetch i
 fetched_is_offered offers h volume (Rmdir path) fetch i = fetched_along_is_offered offers h (root_of volume) path fetch i
 fetched_is_offered offers h volume (Rename from to) fetch i = offered_rename offers h volume from to fetch i
-
--- ---- what is held
 
 -- if an object is held, it was held before, or is offered
 abbrev pub WasHeld : Option Nodes → Held → Fid → Held → Type 0

@@ -33,10 +33,8 @@ use Rattle.coda_cell.specs.Messages.{over, sends_of}
 use Rattle.coda_cell.specs.Steps.{Named, first_missing, on_holder, Doing, Unless, Naming, reply_to, ByBoth, BySend, Comes, link_down as no_way, Delivers, Loses, DoesTask, Does}
 use Rattle.coda_cell.specs.Sending.{freezing, drain}
 use Rattle.coda_cell.specs.Orders.{named_in, named_by, AreThere, RefusalsComeInOrder}
-use Rattle.coda_cell.specs.declared.refused.Refused.{Refused}
-use Rattle.coda_cell.specs.declared.refused.Refused.TheVariants as refused
-
--- ---- actors
+use Rattle.coda_cell.specs.Refused.{Refused}
+use Rattle.coda_cell.specs.Refused as refused
 
 first_of : (front back : List Named) (n : Named) → AreThere front → n.there ≡ false → first_missing (front ++ n ∷ back) ≡ Some (refused.NoSuchActor n.number)
 first_of [] back n all away = ap (λ b. if b then first_missing back else Some (refused.NoSuchActor n.number)) away
@@ -86,8 +84,6 @@ module _ (s : CellState) (reply : Reply) (events : List Event) (front back : Lis
   line_missing (line.Lose message) does e = absurd (none_named front back n e)
   line_missing _ does e = absurd does
 
--- ---- links
-
 module _ (s : CellState) (client volume server : ℕ) (window : Option ℕ) (reply : Reply) (events : List Event) where
   link_down : Does s (line.Task (task.Drain client volume server window)) reply events → AreThere (named_in s (task.Drain client volume server window)) → s.links client server ≡ Down
       → (reply ≡ refusal refused.LinkDown) × (events ≡ [])
@@ -109,8 +105,6 @@ module _ (s : CellState) (client volume server : ℕ) (window : Option ℕ) (rep
         own.happened ∙ (λ i. (sends_of s client volume server (over (down i) frozen)).events),
       )
 
--- ---- letters
-
 module _ (s : CellState) (message : ℕ) (reply : Reply) (events : List Event) where
   letter_missed : sent_at message s.waiting ≡ None → Does s (line.Deliver message) reply events ⊎ Does s (line.Lose message) reply events → (reply ≡ refusal (refused.NoMessage message)) × (events ≡ [])
   letter_missed none (inl does) = subst (λ o. Delivers s message o reply events) none does
@@ -118,8 +112,6 @@ module _ (s : CellState) (message : ℕ) (reply : Reply) (events : List Event) w
 
   letter_stopped : (sent : Sent) → sent_at message s.waiting ≡ Some sent → s.links (client_of sent) (server_of sent) ≡ Down → Does s (line.Deliver message) reply events → (reply ≡ refusal refused.LinkDown) × (events ≡ [])
   letter_stopped sent some down does = subst (λ strength. Unless (no_way strength) (Comes s sent) reply events) down (subst (λ o. Delivers s message o reply events) some does)
-
--- ---- a log that is full
 
 -- it isn't refused for a log that is full
 abbrev IsElse : {A : Type 0} → Result A Refused → Type 0

@@ -21,7 +21,7 @@ use Rattle.coda_record.specs.Parts.{u16, u32}
 use Rattle.coda_record.specs.Spelling.{HasSpelling}
 use Rattle.coda_record.specs.Table as table
 use Rattle.coda_record.proofs.PartsAgree.{first_true, second_true}
-use Rattle.coda_cell.specs.declared.refused.Refused.TheVariants.{Exists, IsDir as IsADirectory, Loop}
+use Rattle.coda_cell.specs.Refused.{Exists, IsDir as IsADirectory, Loop}
 use Rattle.coda_cell.specs.Ask.{Asked, Create, Mkdir, Symlink, Store, Setattr, Remove, Rmdir, Rename, Ending, ending}
 use Rattle.coda_cell.specs.Held.{is_below, some_below}
 use Rattle.coda_cell.specs.Looking.{then_find, held, step_from, resolve}
@@ -40,8 +40,6 @@ IsAskSpelled (Setattr path attrs) = HasSpelling table.attrs attrs
 IsAskSpelled (Remove path) = AreNames path
 IsAskSpelled (Rmdir path) = AreNames path
 IsAskSpelled (Rename from to) = AreNames from × AreNames to
-
--- ---- the last name of a path
 
 -- it can be spelled, where there is one
 abbrev IsEndSpelled : Ending → Type 0
@@ -85,8 +83,6 @@ module _ (s : Sight) (volume : ℕ) (volumed : volume < 4294967296) (numbered : 
       let u = new_under_is s volume (map.get s.held.nodes b.0) b.0 e.1 d.0 d.1 in
       subst IsOpSpelled (ap (λ (p : Fid × Fid). make p.0 e.1 p.1) same ∙ ok_is (make a.0.0 e.1 a.0.1) op a.2)
       (to b.0 e.1 d.0 (leads (root_of volume) e.0 b.0 root_spelled b.1) named (next_spelled d.0 (new_fid_is s volume d.0 u.2)))
-
-  -- ---- operations on an object that is held
 
   stored : (kind : NodeKind) (fid : Fid) (pre : Sid) (content : List ℕ) (op : Op) → HasSpelling table.fid fid → HasSpelling table.sid pre → HasSpelling (table.content four) content → store_in kind fid pre content ≡ Ok op → IsOpSpelled op
   stored (File old) fid pre content op f v c h = subst IsOpSpelled (ok_is (StoreOp fid pre content) op h) (store_spelled fid pre content f v c)
@@ -140,8 +136,6 @@ module _ (s : Sight) (volume : ℕ) (volumed : volume < 4294967296) (numbered : 
       let a = found_then (spot s.held.nodes volume e) (λ at. rmdir_at s (map.get s.held.nodes at.1) at.0 e.1 at.1) op h in
       let at = at_spot e a.0 a.1 in
       rmdir_there (map.get s.held.nodes a.0.1) a.0.0 e.1 a.0.1 op refl at.0 named at.1 a.2
-
-  -- ---- renames
 
   version_spelled : (o : Option Node) (old : Fid) (over : Option Over) → map.get s.held.nodes old ≡ o → HasSpelling table.fid old → with_version o old ≡ Ok over → IsOverSpelled over
   version_spelled None old over at f h = cc

@@ -37,8 +37,6 @@ use Rattle.coda_cell.proofs.SpelledDecisions.{after_decision, room_decided, verd
 use Rattle.coda_spelling.proofs.SpelledNodes.{after_operation, after_fetch, fresh_spelled}
 use Rattle.coda_spelling.proofs.SpelledVerdicts.{fresh_room}
 
--- ---- chunks
-
 in_chunk : (number : ℕ) (chunks : List Chunk) (rec : Record) → In rec (span_in number chunks) → (c : Chunk) × In c chunks × In rec c.span
 in_chunk number [] rec i = absurd i
 in_chunk number (chunk ∷ chunks) rec i = elim (chunk.number == number) as (λ b. In rec (cond b chunk.span (span_in number chunks)) → (c : Chunk) × In c (chunk ∷ chunks) × In rec c.span) [
@@ -88,8 +86,6 @@ span_rising number (chunk ∷ chunks) each = elim (chunk.number == number) as (�
 pub chunk_spelled : (deeds : List Deed) (number : ℕ) → AreLawful deeds → ((rec : Record) → In rec (full_of deeds) → IsSpelled rec) → HasSpelling (table.records four) (fold (span_of deeds number))
 chunk_spelled deeds number law each = sent_spelled (span_of deeds number) (span_rising number (chunks_of deeds) (spans_rising deeds law)) (span_all deeds number law each)
 
--- ---- deeds
-
 -- what can be spelled of a deed, of the client with this number
 abbrev pub IsDeedSpelled : ℕ → Deed → Type 0
 IsDeedSpelled client (Operated rec) = HasSpelling u8 client × IsSpelled rec
@@ -119,8 +115,6 @@ deed_spelled client deeds deed are is = (
   (λ rec i. elim (in_parts rec (full_of deeds) (operation_in deed) (subst (In rec) (full_push deeds deed) i)) [ inl old ↦ are.0 rec old | inr new ↦ operation_spelled client deed rec is new ]),
   count_spelled client deeds deed are.1 is,
 )
-
--- ---- entries of a client
 
 abbrev pub IsEntrySpelled : ℕ → ClientEntry → Type 0
 IsEntrySpelled client (Fetched fid parent node) = Unit {0}
@@ -169,8 +163,6 @@ at_client_spelled cell client entry did may is = record { operations = λ c v. (
       | false ↦ λ other. did.held c blocks
     ] refl
 
--- ---- entries of a replica
-
 abbrev pub IsDecisionSpelled : ReplicaEntry → Type 0
 IsDecisionSpelled (Decided client number span) = HasSpelling u8 client
 IsDecisionSpelled (Resolved nodes lasts) = IsReplicaSpelled (record { nodes = nodes; lasts = lasts })
@@ -212,8 +204,6 @@ at_replica_spelled cell server volume entry sound did may is = record {
     | inr off ↦ subst (λ b. IsReplicaSpelled (kept_of v (cond b (grown_actor entry (cell.replicas server volume)) (cell.replicas s v)).history)) (sym off) (did.replicas s v)
   ];
 }
-
--- ---- moves
 
 abbrev pub IsAppendSpelled : Append → Type 0
 IsAppendSpelled (AtClient client entry) = IsEntrySpelled client entry

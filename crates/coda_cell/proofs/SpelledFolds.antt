@@ -30,8 +30,6 @@ both_spelled : (front back : List Record) → AreAllSpelled front → AreAllSpel
 both_spelled [] back f b = b
 both_spelled (rec ∷ front) back f b = (f.0, both_spelled front back f.1 b)
 
--- ---- versions that are handed on
-
 -- each version that is owed can be spelled
 abbrev IsSolvent : Debt → Type 0
 IsSolvent owed = (fid : Fid) (s : Sid) → owed fid ≡ Some s → HasSpelling table.sid s
@@ -99,8 +97,6 @@ pays owed (Some over) solvent = λ fid s e. elim (same_fid fid over.fid) as (λ 
   | false ↦ λ f. solvent fid s f
 ] e
 
--- ---- what is left
-
 kept_spelled : (dropped : Op → Bool) (owed : Debt) (recs : List Record) → IsSolvent owed → AreAllSpelled recs → AreAllSpelled (kept dropped owed recs)
 kept_spelled dropped owed [] solvent is = tt
 kept_spelled dropped owed (rec ∷ recs) solvent is =
@@ -137,8 +133,6 @@ added_spelled recs (rec ∷ run) are is = added_spelled (add recs rec) run (add_
 -- what cancellation leaves of a run
 pub fold_spelled : (run : List Record) → AreAllSpelled run → AreAllSpelled (fold run)
 fold_spelled run is = added_spelled [] run tt is
-
--- ---- records whose numbers rise
 
 -- as many as there are numbers for them
 few_above : (before : ℕ) (recs : List Record) → before ≤ 4294967295 → AreAbove before recs → IsRising recs → AreAllSpelled recs → before + length recs ≤ 4294967295

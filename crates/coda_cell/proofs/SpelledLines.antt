@@ -54,8 +54,8 @@ use Rattle.coda_cell.specs.Sending.{Freezing, frozen_now, frozen_unless, freezin
 use Rattle.coda_cell.specs.Runs.{IsKept, IsLeft, MakesNumbered}
 use Rattle.coda_spelling.specs.Spelled.{IsSpelled, AreSpelled}
 use Rattle.coda_cell.specs.Spelled.{CanBeSpelled, LinesKeepSpellings, MessagesCanBeSpelled}
-use Rattle.coda_cell.specs.declared.refused.Refused.{Refused}
-use Rattle.coda_cell.specs.declared.refused.Refused.TheVariants as refused
+use Rattle.coda_cell.specs.Refused.{Refused}
+use Rattle.coda_cell.specs.Refused as refused
 use Rattle.coda_cell.proofs.Events.{all_there}
 use Rattle.coda_cell.proofs.Fetches.{keeps_look_ups}
 use Rattle.coda_cell.proofs.Histories.{number_stays}
@@ -66,8 +66,6 @@ use Rattle.coda_spelling.proofs.SpelledParts.{within, is_within, below, attrs_sp
 use Rattle.coda_cell.proofs.SpelledAsks.{IsAskSpelled, accepted_spelled}
 use Rattle.coda_cell.proofs.SpelledCells.{IsAppendSpelled, AreMovesSpelled, moves_spelled, nothing_spelled, chunk_spelled}
 use Rattle.coda_spelling.proofs.SpelledNodes.{after_fetch}
-
--- ---- events
 
 -- what can be spelled of an event
 abbrev pub IsEventSpelled : Event → Type 0
@@ -137,8 +135,6 @@ named_all : (cell : MadeCell) (events : List Event) → IsNamed cell → AreEven
 named_all cell [] named are = named
 named_all cell (event ∷ events) named are = named_all (grown cell event) events (named_after cell event named are.0) are.1
 
--- ---- look-ups
-
 look_spelled : (offers : Option Nodes) → ((nodes : Nodes) → offers ≡ Some nodes → AreSpelled nodes) → (h : Held) (fid : Fid) → AreSpelled h.nodes → AreSpelled (looked offers h fid).nodes
 look_spelled offers from h fid are = by (finite.get h.nodes fid) (offered offers fid) refl
   where
@@ -161,8 +157,6 @@ byte n is = first_true _ _ is
 
 small : (n : ℕ) → HasSpelling table.client n → n < 4294967296
 small n is = let most = (is_within 1 255 one n is).1 in omega (arith, most)
-
--- ---- operations
 
 module _ (cell : MadeCell) (kept : IsKept cell) (can : CanBeSpelled cell) (number blocks : ℕ) (there : cell.sizes number ≡ Some blocks) (volume : ℕ) (volumed : volume < 4294967296) where
   abbrev client : ClientState
@@ -218,8 +212,6 @@ module _ (cell : MadeCell) (kept : IsKept cell) (can : CanBeSpelled cell) (numbe
     operated_spelled : AreEventsSpelled (map (at_client number) (operate offers client cell.clock volume ask).entries)
     unfolding operate
     operated_spelled = unless_spelled (too_big ask) refl
-
--- ---- a chunk
 
 -- what is ruled can be spelled
 decided_spelled : (server volume client number : ℕ) (span : List Record) (r : ReplicaState) (ruled : Ruling) → HasSpelling u8 client → ruling client number span r ≡ Ok ruled → AreEventsSpelled (entries_at server volume ruled.entries)
@@ -298,8 +290,6 @@ module _ (cell : MadeCell) (can : CanBeSpelled cell) (number blocks : ℕ) (ther
   drain_spelled Weak = drained_spelled (freezing now window r.server v) refl
   drain_spelled Down = tt
 
--- ---- letters
-
 -- letters are of what can be said, so nothing of them is to be spelled
 put_out_spelled : (going : Waiting) (sent : Sent) → AreEventsSpelled (map (λ l. Lost l.0) going ++ Posted sent ∷ [])
 put_out_spelled [] sent = (tt, tt)
@@ -335,8 +325,6 @@ module _ (s : CellState) (client volume server : ℕ) where
   taken_in_spelled number answer v (Err why) e = tt
   taken_in_spelled number answer v (Ok took) e = took_spelled client volume number answer v took e
 
--- ---- what is asked
-
 mode_spelled : (mode : Option ℕ) (other : ℕ) → IfSome mode IsMode → other < 65536 → HasSpelling u16 (unwrap_or mode other)
 mode_spelled None other is fits = below two other fits
 mode_spelled (Some mode) other is fits = below two mode (omega (arith, is))
@@ -371,8 +359,6 @@ set_spelled attrs mode owner mtime some = attrs_spelled attrs (modes attrs.mode 
     times : (o : Option ℕ) → IfSome o IsNumber → IfSome o (λ m. m < 18446744073709551616)
     times None is = tt
     times (Some m) is = let most = is.1 in omega (arith, most)
-
--- ---- lines
 
 module _ (cell : MadeCell) (kept : IsKept cell) (can : CanBeSpelled cell) where
   nothing : (events : List Event) → events ≡ [] → AreEventsSpelled events

@@ -1,5 +1,5 @@
 -- Where acceptance misses nothing there is nothing to look up.
-use Rattle.std.proofs.Common.{◌≡◌, ℕ, false, List, [], ◌∷◌, ◌++◌, Option, Some, None, option_map, Result, Ok, Err, refl, sym, ap, ◌∙◌, subst, inl, inr}
+use Rattle.std.proofs.Common.{◌≡◌, ℕ, List, [], ◌∷◌, ◌++◌, Option, Some, None, option_map, Result, Ok, Err, refl, sym, ap, ◌∙◌, subst}
 use Rattle.std.specs.FinMap as map
 use Rattle.coda_fid.specs.Fid.{root_of}
 use Rattle.coda_fid.specs.declared.fid.Fid.{Fid}
@@ -9,18 +9,13 @@ use Rattle.coda_tree.specs.declared.node.NodeKind.{NodeKind}
 use Rattle.coda_tree.specs.declared.node.NodeKind.TheVariants.{File, Link, Dir}
 use Rattle.coda_tree.specs.Bindings.{Name}
 use Rattle.coda_tree.specs.Volume.{Nodes, parent_of}
-use Rattle.coda_cell.specs.Ask.{Asked, too_big, Create, Mkdir, Symlink, Store, Setattr, Remove, Rmdir, Rename, Ending, ending, front_of}
-use Rattle.coda_cell.specs.declared.venus.Venus.{Venus}
-use Rattle.coda_cell.specs.Held.{Held, AreBound, held_after_fetches}
-use Rattle.coda_cell.specs.State.{ClientState}
-use Rattle.coda_cell.specs.Refusing.{is_miss, OrMemory}
-use Rattle.coda_cell.specs.Code.{held_of, sight, IsClient, Gives}
+use Rattle.coda_cell.specs.Ask.{Asked, Create, Mkdir, Symlink, Store, Setattr, Remove, Rmdir, Rename, Ending, ending, front_of}
+use Rattle.coda_cell.specs.Held.{Held, held_after_fetches}
 use Rattle.coda_cell.specs.Looking.{then_find, held, found, step_in, step_from, resolve, offered, fetch_of, look, looked, look_on, look_along}
-use Rattle.coda_cell.specs.Accepting.{Accepted, Sight, new_place, held_bound, bound_in, at_root, accept_creation, store_at, setattr_at, remove_at, rmdir_at, spot, bound_at, place, move_to, rename_to, rename_root, accept_rename, accept_remove, accept_rmdir, accept}
-use Rattle.coda_cell.specs.Asking.{Said, rename_look_ups, look_ups, next_record, entered, operate}
-use Rattle.coda_cell.specs.declared.refused.Refused.{Refused}
-use Rattle.coda_cell.specs.declared.refused.Refused.TheVariants as refused
-use Rattle.coda_cell.proofs.Answers.{refused_gives, accepted_gives}
+use Rattle.coda_cell.specs.Accepting.{Sight, new_place, held_bound, bound_in, at_root, accept_creation, store_at, setattr_at, remove_at, rmdir_at, spot, bound_at, place, move_to, rename_to, rename_root, accept_rename, accept_remove, accept_rmdir, accept}
+use Rattle.coda_cell.specs.Asking.{rename_look_ups, look_ups}
+use Rattle.coda_cell.specs.Refused.{Refused}
+use Rattle.coda_cell.specs.Refused as refused
 
 -- no object is missing
 abbrev pub MissesNothing : {A : Type 0} → Result A Refused → Type 0
@@ -37,8 +32,6 @@ first_misses (Err _) next n = n
 -- and what comes then
 then_misses : {A B : Type 0} (r : Result A Refused) (next : A → Result B Refused) (x : A) → r ≡ Ok x → MissesNothing (then_find r next) → MissesNothing (next x)
 then_misses r next x is n = subst (λ o. MissesNothing (then_find o next)) is n
-
--- ---- look-ups along a path
 
 -- an object that is held isn't fetched
 no_look : (offers : Option Nodes) (h : Held) (fid : Fid) (node : Node) → map.get h.nodes fid ≡ Some node → look offers h fid ≡ []
@@ -148,8 +141,6 @@ place_misses m volume e n = subst MissesNothing (sym (resolve_push m (root_of vo
     by (Err why) x = first_misses {B = Fid × Option Fid} (let r : Result Fid Refused = Err why in r) (λ dir. then_find (bound_at m (map.get m dir) dir e.1) (λ b. Ok (dir, b))) x
     by (Ok dir) x = at (map.get m dir) dir (first_misses {B = Fid × Option Fid} (bound_at m (map.get m dir) dir e.1) (λ b. Ok (dir, b)) x)
 
--- ---- each ask
-
 module _ (offers : Option Nodes) (s : Sight) (volume : ℕ) where
   abbrev top : Fid
   top = root_of volume
@@ -226,53 +217,3 @@ module _ (offers : Option Nodes) (s : Sight) (volume : ℕ) where
   no_look_ups (Remove path) n = removal path (ending path) refl n
   no_look_ups (Rmdir path) n = removal_of_directory path (ending path) refl n
   no_look_ups (Rename from to) n = renaming from to (ending from) refl n
-
--- ---- what a client answers that looked nothing up
-
--- a refusal that is none for a missing object
-pub not_missing : (why : Refused) → is_miss why ≡ false → (let r : Accepted = Err why in MissesNothing r)
-not_missing (refused.Miss fid) e = cc
-not_missing refused.LogFull e = tt
-not_missing refused.NotFound e = tt
-not_missing refused.NotDir e = tt
-not_missing refused.Nothing e = tt
-not_missing (refused.Young age window) e = tt
-not_missing (refused.Frozen number home) e = tt
-not_missing (refused.NotFrozen number) e = tt
-not_missing (refused.WrongNumber kept number) e = tt
-not_missing (refused.NoMessage number) e = tt
-not_missing (refused.BadMessage at) e = tt
-not_missing refused.JournalFull e = tt
-not_missing refused.Exists e = tt
-not_missing refused.IsDir e = tt
-not_missing refused.NotEmpty e = tt
-not_missing refused.Loop e = tt
-not_missing (refused.TooBig length) e = tt
-not_missing refused.LinkDown e = tt
-not_missing (refused.NoSuchActor number) e = tt
-not_missing refused.AlreadyThere e = tt
-not_missing refused.CellFull e = tt
-not_missing refused.NotFile e = tt
-not_missing refused.Memory e = tt
-
-miss_or : {A : Type 0} (r : Result A Refused) (x : A) → Ok x ≡ r → MissesNothing r
-miss_or r x is = subst MissesNothing is tt
-
-module _ (offers : Option Nodes) (c : ClientState) (code : Venus) (time volume : ℕ) (ask : Asked) (short : too_big ask ≡ None) (is : IsClient c code) (bound : AreBound c.held) where
-  stays : MissesNothing (accept (sight code volume) volume ask) → held_of code ≡ held_after_fetches (held_of code) (look_ups offers (held_of code) volume ask)
-  stays n = ap (held_after_fetches (held_of code)) (sym (no_look_ups offers (sight code volume) volume ask n))
-
-  -- the operation is refused, and not for an object that is missing
-  pub refused_at_once : (why : Refused) → OrMemory (Err why) (accept (sight code volume) volume ask) → (let r : Accepted = Err why in MissesNothing r) → Gives (operate offers c time volume ask) c (Err why) code
-  refused_at_once why (inl memory) n = inl (ap Err (err_is why refused.Memory memory))
-    where
-      err_is : (x y : Refused) → (let err : Refused → Accepted = λ r. Err r in err x ≡ err y) → x ≡ y
-      err_is x y e = cc
-  refused_at_once why (inr is_refused) n = refused_gives offers c code code time volume ask short is (stays (subst MissesNothing is_refused n)) (refl, refl, refl) bound why (inr is_refused)
-
-  -- the operation is accepted
-  pub accepted_at_once : (op : Op) (said : Said) (new : Venus) → OrMemory (Ok op) (accept (sight code volume) volume ask)
-      → ((c' : ClientState) → IsClient c' code → Gives (entered [] (c'.volumes volume) volume op (next_record (c'.volumes volume) time op)) c' said new) → Gives (operate offers c time volume ask) c said new
-  accepted_at_once op said new (inl memory) enters = cc
-  accepted_at_once op said new (inr accepted) enters =
-      accepted_gives offers c code code time volume ask short is (stays (miss_or (accept (sight code volume) volume ask) op accepted)) (refl, refl, refl) bound op said new (inr accepted) enters

@@ -23,8 +23,6 @@ use Rattle.coda_cell.specs.Kept.{AreWithin}
 use Rattle.coda_cell.proofs.AfterOperations.{IsBoundBy, bound_before}
 use Rattle.coda_cell.proofs.Offered.{offered_is}
 
--- ---- operations
-
 -- the first of two that are named, and the second
 first_named : (a b d f : Fid) → d ≡ a → f ≡ b → ((same_fid a d || (same_fid b d || false)) ≡ true) × ((same_fid a f || (same_fid b f || false)) ≡ true)
 first_named a b d f first second =
@@ -51,8 +49,6 @@ within_operation m volume client rec within named = λ dir kid name is. elim (bo
   | inl was ↦ within dir kid name was
   | inr anew ↦ (let are = bound_is_named rec.op dir name kid anew in named kid are.1 ∙ sym (named dir are.0))
 ]
-
--- ---- fetches
 
 -- after a fetch of a node that binds objects of its volume alone
 pub within_fetch : (m : Nodes) (fid : Fid) (node : Node) → AreWithin m → ((name : Name) (kid : Fid) → map.get (bindings node.kind) name ≡ Some kid → kid.volume ≡ fid.volume) → AreWithin (map.insert m fid node)

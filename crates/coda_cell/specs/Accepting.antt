@@ -19,8 +19,8 @@ use Rattle.coda_cell.specs.Ask.{Asked, Create, Mkdir, Symlink, Store, Setattr, R
 use Rattle.coda_cell.specs.Held.{Held, is_below, some_below}
 use Rattle.coda_cell.specs.Looking.{then_find, held, step_from, resolve}
 use Rattle.coda_cell.specs.State.{ClientVolume, log_of, ClientState}
-use Rattle.coda_cell.specs.declared.refused.Refused.{Refused}
-use Rattle.coda_cell.specs.declared.refused.Refused.TheVariants.{NotDir, Exists, IsDir, NotEmpty, Loop, NotFile, Miss, JournalFull}
+use Rattle.coda_cell.specs.Refused.{Refused}
+use Rattle.coda_cell.specs.Refused.{NotDir, Exists, IsDir, NotEmpty, Loop, NotFile, Miss, JournalFull}
 
 -- What a client sees as it accepts an operation on a volume: its number, what it holds, how many objects it created there, and which
 -- objects a record of its log mentions.

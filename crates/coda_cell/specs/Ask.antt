@@ -6,8 +6,6 @@ use Rattle.coda_fid.specs.declared.op.Attrs.{Attrs}
 use Rattle.coda_fid.specs.declared.op.Op.{Op}
 use Rattle.coda_fid.specs.declared.op.Op.TheVariants as op
 use Rattle.coda_tree.specs.Bindings.{Name}
-use Rattle.coda_cell.specs.declared.ask.Ask.{Ask}
-use Rattle.coda_cell.specs.declared.ask.Ask.TheVariants as ask
 
 -- what a client is asked to do, by what is named
 pub data Asked : Type 0 where
@@ -19,17 +17,6 @@ pub data Asked : Type 0 where
   Remove : (path : List Name) → Asked
   Rmdir : (path : List Name) → Asked
   Rename : (from to : List Name) → Asked
-
--- the same as the code lends it
-abbrev pub asked : Ask → Asked
-asked (ask.Create path mode owner) = Create path.now mode owner
-asked (ask.Mkdir path mode owner) = Mkdir path.now mode owner
-asked (ask.Symlink path target) = Symlink path.now target.now
-asked (ask.Store path content) = Store path.now content.now
-asked (ask.Setattr path attrs) = Setattr path.now attrs
-asked (ask.Remove path) = Remove path.now
-asked (ask.Rmdir path) = Rmdir path.now
-asked (ask.Rename from to) = Rename from.now to.now
 
 -- a path, by its first names and its last one; the root's has none
 abbrev pub Ending : Type 0

@@ -22,8 +22,8 @@ use Rattle.coda_cell.specs.Held.{Held, Fetch, held_after_fetches}
 use Rattle.coda_cell.specs.Looking.{resolve, look_on, look_along, is_fetched, entries_of}
 use Rattle.coda_cell.specs.State.{ClientVolume, ClientState}
 use Rattle.coda_cell.specs.Accepting.{Accepted, sight_of, accept}
-use Rattle.coda_cell.specs.declared.refused.Refused.{Refused}
-use Rattle.coda_cell.specs.declared.refused.Refused.TheVariants.{NotDir, IsDir, Miss, TooBig, LogFull, JournalFull}
+use Rattle.coda_cell.specs.Refused.{Refused}
+use Rattle.coda_cell.specs.Refused.{NotDir, IsDir, Miss, TooBig, LogFull, JournalFull}
 
 -- a reply, or why there is none
 abbrev pub Said : Type 0

@@ -1,3 +1,4 @@
+pub mod Refused
 pub mod Ask
 pub mod Held
 pub mod Looking
@@ -10,11 +11,9 @@ pub mod Asking
 pub mod Sending
 pub mod Messages
 pub mod Steps
-pub mod Code
 pub mod Cells
 pub mod Runs
 pub mod Spelled
-pub mod Letters
 pub mod Laws
 pub mod Alone
 pub mod Orders

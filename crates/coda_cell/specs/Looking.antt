@@ -12,8 +12,8 @@ use Rattle.coda_tree.specs.Bindings.{Name}
 use Rattle.coda_tree.specs.Volume.{Nodes, parent_of}
 use Rattle.coda_plain.specs.Cell.{ClientEntry, Fetched}
 use Rattle.coda_cell.specs.Held.{Held, Fetch, held_after_fetches}
-use Rattle.coda_cell.specs.declared.refused.Refused.{Refused}
-use Rattle.coda_cell.specs.declared.refused.Refused.TheVariants.{NotFound, NotDir, Miss}
+use Rattle.coda_cell.specs.Refused.{Refused}
+use Rattle.coda_cell.specs.Refused.{NotFound, NotDir, Miss}
 
 -- ---- where names lead over the nodes that a client holds
 

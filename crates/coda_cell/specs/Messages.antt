@@ -1,5 +1,5 @@
 -- What a line comes to that sends, delivers or loses a letter.
-use Rattle.std.specs.Prelude.{◌≡◌, ℕ, ◌+◌, List, [], ◌∷◌, ◌++◌, map, take, Option, Some, None, Result, Ok, Err}
+use Rattle.std.specs.Prelude.{ℕ, ◌+◌, List, [], ◌∷◌, ◌++◌, map, take, Option, Some, None, Result, Ok, Err}
 use Rattle.coda_certify.specs.declared.verdict.Verdict.TheVariants as verdict
 use Rattle.coda_fid.specs.declared.op.Record.{Record}
 use Rattle.coda_record.specs.declared.answer.Answer.{Answer}
@@ -11,10 +11,10 @@ use Rattle.coda_script.specs.declared.reply.Reply.TheVariants as reply
 use Rattle.coda_script.specs.declared.reply.Undecided.TheVariants as undecided
 use Rattle.coda_letters.specs.Sent.{Sent, ChunkSent, AnswerSent, Waiting, lost_by, number_of}
 use Rattle.coda_cell.specs.Asking.{Said}
-use Rattle.coda_cell.specs.State.{ClientVolume, ClientState, ReplicaState, CellState, Event, Posted, Lost}
+use Rattle.coda_cell.specs.State.{ClientVolume, ReplicaState, CellState, Event, Posted, Lost}
 use Rattle.coda_cell.specs.Sending.{Freezing, freezing, Ruling, ruling, Taking, taking, deeds_at, entries_at, reply_answer}
-use Rattle.coda_cell.specs.declared.refused.Refused.{Refused}
-use Rattle.coda_cell.specs.declared.refused.Refused.TheVariants.{LinkDown}
+use Rattle.coda_cell.specs.Refused.{Refused}
+use Rattle.coda_cell.specs.Refused.{LinkDown}
 
 -- a reply or a refusal, and what happens
 pub record Ending : Type 0 where

@@ -15,7 +15,7 @@ use Rattle.coda_cell.specs.Asking.{look_ups, behind_fetches, operate}
 use Rattle.coda_cell.specs.Refusing.{refusal}
 use Rattle.coda_letters.specs.Sent.{Sent, client_of, server_of, sent_at}
 use Rattle.coda_cell.specs.Steps.{Named, client_named, volume_named, server_named, holder_named, on_volume, on_holder, Does}
-use Rattle.coda_cell.specs.declared.refused.Refused.TheVariants.{LogFull, LinkDown, NoSuchActor, NoMessage}
+use Rattle.coda_cell.specs.Refused.{LogFull, LinkDown, NoSuchActor, NoMessage}
 
 -- the actors that a task names, from left to right
 abbrev pub named_in : CellState → Task → List Named

@@ -4,14 +4,16 @@ use Rattle.coda_cml.specs.declared.fault.FreezeFault.{FreezeFault}
 use Rattle.coda_cml.specs.declared.fault.FreezeFault.TheVariants as freeze
 use Rattle.coda_cml.specs.declared.fault.SettleFault.{SettleFault}
 use Rattle.coda_cml.specs.declared.fault.SettleFault.TheVariants as settle
+use Rattle.coda_letters.specs.declared.fault.LetterFault.{LetterFault}
+use Rattle.coda_letters.specs.declared.fault.LetterFault.TheVariants as letter
 use Rattle.coda_script.specs.declared.refusal.Refusal.{Refusal}
 use Rattle.coda_script.specs.declared.refusal.Refusal.TheVariants as named
 use Rattle.coda_script.specs.declared.reply.Arg.{Arg}
 use Rattle.coda_script.specs.declared.reply.Arg.TheVariants.{Number, Object}
 use Rattle.coda_script.specs.declared.reply.Reply.{Reply}
 use Rattle.coda_script.specs.declared.reply.Reply.TheVariants as reply
-use Rattle.coda_cell.specs.declared.refused.Refused.{Refused}
-use Rattle.coda_cell.specs.declared.refused.Refused.TheVariants as refused
+use Rattle.coda_cell.specs.Refused.{Refused}
+use Rattle.coda_cell.specs.Refused as refused
 
 -- the refusal as it is numbered and named; want of memory has no number, and no line is answered so
 abbrev pub refusal_of : Refused → Refusal
@@ -90,3 +92,10 @@ is_miss _ = false
 -- an answer is this one, or there was no memory for it
 abbrev pub OrMemory : {A : Type 0} → Result A Refused → Result A Refused → Type 0
 OrMemory answer wanted = (answer ≡ Err refused.Memory) ⊎ (answer ≡ wanted)
+
+-- why a letter isn't delivered or lost, as a line is refused for it
+abbrev pub letter_refused_as : LetterFault → Refused
+letter_refused_as (letter.NoMessage number) = refused.NoMessage number
+letter_refused_as letter.LinkDown = refused.LinkDown
+letter_refused_as (letter.BadMessage at) = refused.BadMessage at
+letter_refused_as letter.Memory = refused.Memory

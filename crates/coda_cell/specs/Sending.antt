@@ -26,8 +26,8 @@ use Rattle.coda_plain.specs.Moves.{AtReplica}
 use Rattle.coda_cell.specs.Asking.{Said}
 use Rattle.coda_cell.specs.State.{ClientVolume, volume_after, ReplicaState, replica_after, Event, Entered, at_client}
 use Rattle.coda_cell.specs.Refusing.{refused_as, settle_refused_as}
-use Rattle.coda_cell.specs.declared.refused.Refused.{Refused}
-use Rattle.coda_cell.specs.declared.refused.Refused.TheVariants as refused
+use Rattle.coda_cell.specs.Refused.{Refused}
+use Rattle.coda_cell.specs.Refused as refused
 
 -- ---- a client freezes a chunk
 

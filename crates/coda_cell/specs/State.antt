@@ -16,6 +16,7 @@ use Rattle.coda_plain.specs.Decisions.{ReplicaEntry, Decided, Resolved, Last, wi
 use Rattle.coda_plain.specs.Cell.{ClientEntry, Fetched, Did}
 use Rattle.coda_plain.specs.Moves.{Append, AtClient, AtReplica}
 use Rattle.coda_letters.specs.Sent.{Sent, Waiting, without}
+use Rattle.coda_replica.specs.State.{ReplicaState as Replica, last_for}
 use Rattle.coda_cell.specs.Held.{Held, nothing_held, held_after}
 
 -- the same for each key, but this at one of them
@@ -184,3 +185,13 @@ after s (Lost message) = record s { waiting = without message s.waiting }
 abbrev pub after_all : CellState → List Event → CellState
 after_all s [] = s
 after_all s (event ∷ events) = after_all (after s event) events
+
+-- ---- states of others
+
+-- a client with something else of a volume
+abbrev pub with_volume : ClientState → ℕ → ClientVolume → ClientState
+with_volume c volume v = record c { volumes = put c.volumes volume v }
+
+-- what a replica is that keeps the last decisions as a finite map
+abbrev pub replica_state : Replica → ReplicaState
+replica_state r = record { server = r.server; tree = r.tree; lasts = λ client. last_for r client }

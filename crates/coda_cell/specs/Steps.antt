@@ -17,13 +17,13 @@ use Rattle.coda_cell.specs.Ask.{Asked, Create, Mkdir, Symlink, Store, Setattr, R
 use Rattle.coda_fid.specs.declared.op.Record.{Record}
 use Rattle.coda_record.specs.declared.answer.Answer.{Answer as RecordAnswer}
 use Rattle.coda_letters.specs.Sent.{Sent, ChunkSent, AnswerSent, client_of, server_of, sent_at}
-use Rattle.coda_cell.specs.State.{ClientVolume, ClientState, ReplicaState, CellState, Event, VolumeMade, ClientMade, Ticked, LinkSet, Lost as LetterLost, at_client}
+use Rattle.coda_cell.specs.State.{ClientState, ReplicaState, CellState, Event, VolumeMade, ClientMade, Ticked, LinkSet, Lost as LetterLost, at_client}
 use Rattle.coda_cell.specs.Refusing.{refusal}
 use Rattle.coda_cell.specs.Sending.{drain}
 use Rattle.coda_cell.specs.Messages.{sends, chunk_comes, answer_comes}
 use Rattle.coda_cell.specs.Asking.{Said, Answer, operate, read, list}
-use Rattle.coda_cell.specs.declared.refused.Refused.{Refused}
-use Rattle.coda_cell.specs.declared.refused.Refused.TheVariants.{NoSuchActor, AlreadyThere, CellFull, LinkDown, NoMessage}
+use Rattle.coda_cell.specs.Refused.{Refused}
+use Rattle.coda_cell.specs.Refused.{NoSuchActor, AlreadyThere, CellFull, LinkDown, NoMessage}
 
 -- ---- which lines are built
 

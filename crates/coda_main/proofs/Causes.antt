@@ -16,8 +16,8 @@ use Rattle.coda_tree.specs.declared.node.NodeKind.TheVariants.{File, Link, Dir}
 use Rattle.coda_tree.specs.Bindings.{Name}
 use Rattle.coda_tree.specs.Volume.{Nodes, bindings, child, child_of, has, IsDir, IsDirNode, IsDirAt}
 use Rattle.coda_cancel.proofs.Keys.{fid_true}
-use Rattle.coda_cell.specs.declared.refused.Refused.{Refused}
-use Rattle.coda_cell.specs.declared.refused.Refused.TheVariants as refused
+use Rattle.coda_cell.specs.Refused.{Refused}
+use Rattle.coda_cell.specs.Refused as refused
 use Rattle.coda_cell.specs.Ask.{Ending, ending}
 use Rattle.coda_cell.specs.Held.{is_below, some_below}
 use Rattle.coda_cell.specs.Looking.{then_find, held, found, step_in, step_from, resolve}

@@ -13,7 +13,7 @@ use Rattle.coda_tree.specs.declared.node.NodeKind.TheVariants.{File, Link, Dir}
 use Rattle.coda_tree.specs.Bindings.{Name}
 use Rattle.coda_tree.specs.Volume.{Nodes, has, parent_of}
 use Rattle.coda_tree.proofs.Order.{get_here, get_else}
-use Rattle.coda_cell.specs.declared.refused.Refused.{Refused}
+use Rattle.coda_cell.specs.Refused.{Refused}
 use Rattle.coda_cell.specs.State.{ClientState, client_after_all}
 use Rattle.coda_cell.specs.Held.{Held, Fetch, held_after_fetches}
 use Rattle.coda_cell.specs.Looking.{then_find, held, step_from, resolve, offered, fetch_of, look, looked, look_on, look_along, fids_of, is_fetched, entries_of}

@@ -13,8 +13,8 @@ use Rattle.coda_script.specs.declared.line.Line.{Line}
 use Rattle.coda_script.specs.declared.line.Line.TheVariants as line
 use Rattle.coda_script.specs.declared.reply.Reply.{Reply}
 use Rattle.coda_script.specs.declared.reply.Reply.TheVariants.{Opened, Accepted, Lost, ShowVolume, ShowLog}
-use Rattle.coda_cell.specs.declared.refused.Refused.{Refused}
-use Rattle.coda_cell.specs.declared.refused.Refused.TheVariants.{NoSuchActor, NoMessage}
+use Rattle.coda_cell.specs.Refused.{Refused}
+use Rattle.coda_cell.specs.Refused.{NoSuchActor, NoMessage}
 use Rattle.coda_cell.specs.Refusing.{refusal}
 use Rattle.coda_cell.specs.State.{ClientState, CellState, Event, VolumeMade, ClientMade, Ticked, LinkSet, Lost as LetterLost, at_client}
 use Rattle.coda_cell.specs.Asking.{Answer}

@@ -15,7 +15,7 @@ use Rattle.coda_cell.specs.State.{ClientVolume, ClientState, ReplicaState, Event
 use Rattle.coda_cell.specs.Made.{MadeCell, state_of, grown, grown_all}
 use Rattle.coda_cell.specs.Sending.{Freezing, freezing, Ruling, ruling, Taking, taking, deeds_at, entries_at, answered_to, ruled_on, drained_of, drain}
 use Rattle.coda_cell.specs.Steps.{Doing, Unless, first_missing, on_volume, on_holder, offers_of, ByClient, ByBoth, DoesTask}
-use Rattle.coda_cell.specs.declared.refused.Refused.{Refused}
+use Rattle.coda_cell.specs.Refused.{Refused}
 use Rattle.coda_cell.proofs.Moving.{grown_both}
 
 -- what waits behind these events is what waited before them

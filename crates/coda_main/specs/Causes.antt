@@ -22,8 +22,8 @@ use Rattle.coda_cell.specs.State.{ClientVolume, ClientState, Event}
 use Rattle.coda_cell.specs.Made.{state_of, grown_all}
 use Rattle.coda_cell.specs.Refusing.{refusal}
 use Rattle.coda_cell.specs.Steps.{Does, first_missing, on_volume}
-use Rattle.coda_cell.specs.declared.refused.Refused.{Refused}
-use Rattle.coda_cell.specs.declared.refused.Refused.TheVariants as refused
+use Rattle.coda_cell.specs.Refused.{Refused}
+use Rattle.coda_cell.specs.Refused as refused
 use Rattle.coda_main.specs.Headline.{Always}
 use Rattle.coda_main.specs.Performed.{Leads, End, content_of}
 use Rattle.coda_main.specs.Shown.{shown_by}

@@ -10,7 +10,7 @@ use Rattle.coda_plain.proofs.Lists.{left_push, told_push, follow_push, along, in
 use Rattle.coda_plain.proofs.Volumes.{volumes}
 use Rattle.coda_replica.specs.State.{ReplicaState as KeptState, new_replica as new_kept}
 use Rattle.coda_replica.specs.History.{state_of, state_after}
-use Rattle.coda_cell.specs.Code.{replica_state}
+use Rattle.coda_cell.specs.State.{replica_state}
 use Rattle.coda_cell.specs.State.{ReplicaState, new_replica, replica_after, replica_after_all}
 use Rattle.coda_cell.proofs.Drains.{decided_is, new_is}
 use Rattle.coda_cell.proofs.Histories.{replica_push, nodes_are}

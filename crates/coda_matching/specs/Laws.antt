@@ -5,7 +5,7 @@ use Rattle.coda_plain.specs.Cell.{ClientEntry}
 use Rattle.coda_plain.specs.Decisions.{ReplicaEntry}
 use Rattle.coda_venus.specs.History.{state_of}
 use Rattle.coda_replica.specs.History.{state_of as replica_state_of}
-use Rattle.coda_cell.specs.Code.{replica_state}
+use Rattle.coda_cell.specs.State.{replica_state}
 use Rattle.coda_cell.specs.Made.{client_of}
 use Rattle.coda_cell.specs.State.{new_replica, replica_after_all}
 use Rattle.coda_matching.specs.Clients.{IsClientHistory, journal_by, IsOneClient}

@@ -17,8 +17,8 @@ use Rattle.coda_replica.specs.declared.fault.ReplicaFault.{ReplicaFault}
 use Rattle.coda_replica.specs.declared.fault.ReplicaFault.TheVariants as fault
 use Rattle.coda_replica.specs.declared.replica.Replica.{Replica}
 use Rattle.coda_cell.specs.Sending.{Ruling}
-use Rattle.coda_cell.specs.declared.refused.Refused.{Refused}
-use Rattle.coda_cell.specs.declared.refused.Refused.TheVariants as refused
+use Rattle.coda_cell.specs.Refused.{Refused}
+use Rattle.coda_cell.specs.Refused as refused
 
 -- ---- what stands in a journal
 

@@ -13,7 +13,7 @@ use Rattle.coda_cell.specs.State.{VolumeMade, ClientMade}
 use Rattle.coda_cell.specs.Made.{MadeCell, state_of, grown}
 use Rattle.coda_cell.specs.Refusing.{refusal}
 use Rattle.coda_cell.specs.Steps.{client_named, holder_named, first_missing, no_room, alone}
-use Rattle.coda_cell.specs.declared.refused.Refused.{Refused as Refusal}
+use Rattle.coda_cell.specs.Refused.{Refused as Refusal}
 use Rattle.coda_stored.specs.Cells.{StoredCell, client_header, replica_header}
 use Rattle.coda_stored.specs.Lines.{is_down_for, Becoming, Unless, UnlessDown, Opens, no_volume, no_client, with_volume, with_client, area_of, IsRefused, CrashesClient, CrashesReplica, RecoversClient, RecoversReplica, Stays, Happens, refused_down, refused_fault}
 use Rattle.coda_runs.proofs.Meeting.{Ends, line_ends}

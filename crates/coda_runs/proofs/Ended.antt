@@ -24,7 +24,7 @@ use Rattle.coda_cell.specs.Messages.{over, posting, going_by, sends_of, ruled_in
 use Rattle.coda_cell.specs.Sending.{Freezing, freezing, Ruling, ruling, Taking, taking, deeds_at, entries_at, answered_to, ruled_on, drained_of, drain}
 use Rattle.coda_cell.specs.Runs.{IsKept}
 use Rattle.coda_cell.specs.Steps.{Doing, Unless, Named, first_missing, on_volume, on_holder, client_named, volume_named, server_named, holder_named, no_room, no_volume, no_client, ByClient, ByBoth, BySend, ByRuling, ByTaking, DoesTask, Comes, link_down, Delivers, Loses, Does}
-use Rattle.coda_cell.specs.declared.refused.Refused.{Refused}
+use Rattle.coda_cell.specs.Refused.{Refused}
 use Rattle.coda_cell.proofs.Histories.{server_stays}
 use Rattle.coda_cell.proofs.KeptCells.{client_there}
 use Rattle.coda_cell.proofs.KeptLines.{homed}

@@ -34,8 +34,8 @@ use Rattle.coda_cell.specs.Messages.{over, posting, going_by, sends_of, ruled_in
 use Rattle.coda_cell.specs.Refusing.{refusal}
 use Rattle.coda_cell.specs.Runs.{IsKept, AreNumbered, MakesNumbered}
 use Rattle.coda_cell.specs.Steps.{reply_to, Doing, Unless, first_missing, on_volume, on_holder, client_named, server_named, holder_named, no_volume, no_client, BySend, ByRuling, ByTaking, Comes, link_down, Delivers, Loses, Does}
-use Rattle.coda_cell.specs.declared.refused.Refused.{Refused}
-use Rattle.coda_cell.specs.declared.refused.Refused.TheVariants as refused
+use Rattle.coda_cell.specs.Refused.{Refused}
+use Rattle.coda_cell.specs.Refused as refused
 use Rattle.coda_cell.proofs.CarriedLetters.{posting_after}
 use Rattle.coda_cell.proofs.KeptLetters.{IsWaiting, waits}
 use Rattle.coda_cell.proofs.KeptLines.{lines_keep_cells}

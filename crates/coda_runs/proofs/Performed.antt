@@ -20,7 +20,7 @@ use Rattle.coda_tree.specs.Volume.{Nodes, child, child_of, IsDir, changed, bind_
 use Rattle.coda_tree.proofs.Order.{gone_here, gone_else}
 use Rattle.coda_tree.proofs.Changes.{has_changed, get_changed, bound_else, unbound_here}
 use Rattle.coda_certify.specs.Replay.{MayRemove, made, rename_effects, effects, applied}
-use Rattle.coda_cell.specs.declared.refused.Refused.TheVariants.{Exists, IsDir as IsADirectory, Loop}
+use Rattle.coda_cell.specs.Refused.{Exists, IsDir as IsADirectory, Loop}
 use Rattle.coda_cell.specs.Ask.{Ending, ending}
 use Rattle.coda_cell.specs.Held.{is_below, some_below}
 use Rattle.coda_cell.specs.Looking.{then_find, held, step_from, resolve}

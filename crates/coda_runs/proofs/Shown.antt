@@ -20,8 +20,8 @@ use Rattle.coda_script.specs.declared.line.Task.{Task}
 use Rattle.coda_script.specs.declared.line.Task.TheVariants as task
 use Rattle.coda_script.specs.declared.reply.Reply.{Reply}
 use Rattle.coda_script.specs.declared.reply.Reply.TheVariants.{Done}
-use Rattle.coda_cell.specs.declared.refused.Refused.{Refused}
-use Rattle.coda_cell.specs.declared.refused.Refused.TheVariants as refused
+use Rattle.coda_cell.specs.Refused.{Refused}
+use Rattle.coda_cell.specs.Refused as refused
 use Rattle.coda_cell.specs.Ask.{Asked, too_big, object_of}
 use Rattle.coda_cell.specs.Asking.{Said, read_in, list_in, shown_as, shown_at, show_object, look_ups, behind_fetches, answers, next_record, has_room, is_full, answer_to, operate_unless, operate}
 use Rattle.coda_cell.specs.Held.{held_after_fetches, Fetch}

@@ -9,7 +9,7 @@ use Rattle.coda_script.specs.declared.line.Line.TheVariants as line
 use Rattle.coda_script.specs.declared.line.Task.{Task}
 use Rattle.coda_script.specs.declared.line.Task.TheVariants as task
 use Rattle.coda_script.specs.declared.reply.Reply.{Reply}
-use Rattle.coda_cell.specs.declared.refused.Refused.{Refused}
+use Rattle.coda_cell.specs.Refused.{Refused}
 use Rattle.coda_cell.specs.Asking.{Answer}
 use Rattle.coda_cell.specs.State.{ClientState, CellState, Event, Entered}
 use Rattle.coda_cell.specs.Made.{state_of, grown_all}

@@ -22,8 +22,8 @@ use Rattle.coda_cell.specs.State.{ClientVolume, ClientState, Event}
 use Rattle.coda_cell.specs.Made.{state_of}
 use Rattle.coda_cell.specs.Refusing.{refusal}
 use Rattle.coda_cell.specs.Steps.{first_missing, on_volume, Does}
-use Rattle.coda_cell.specs.declared.refused.Refused.{Refused}
-use Rattle.coda_cell.specs.declared.refused.Refused.TheVariants as refused
+use Rattle.coda_cell.specs.Refused.{Refused}
+use Rattle.coda_cell.specs.Refused as refused
 use Rattle.coda_plain.specs.Cell.{ClientEntry}
 use Rattle.coda_plain.specs.Moves.{AtClient}
 use Rattle.coda_stored.specs.Cells.{StoredCell, after_all}

@@ -35,8 +35,8 @@ use Rattle.coda_cell.specs.Made.{client_of}
 use Rattle.coda_cell.specs.Refusing.{refused_as as line_refused_as, settle_refused_as}
 use Rattle.coda_cell.specs.Sending.{Freezing, frozen_now, frozen_unless, frozen_for, freezing_of, freezing, taken, taken_unless, taking}
 use Rattle.coda_cell.specs.State.{ClientVolume, log_of}
-use Rattle.coda_cell.specs.declared.refused.Refused.{Refused}
-use Rattle.coda_cell.specs.declared.refused.Refused.TheVariants as refused
+use Rattle.coda_cell.specs.Refused.{Refused}
+use Rattle.coda_cell.specs.Refused as refused
 use Rattle.coda_matching.specs.Clients.{entry_of, payload_by, journal_by, IsClientHistory, refused_as, Cut, LacksRoom, Ends}
 use Rattle.coda_matching.proofs.Histories.{journal_push, journals_leave_clients}
 use Rattle.coda_sending.specs.Ending.{entries_on, number_for, FreezingEnds, verdict_in, found_frozen, TakingEnds}

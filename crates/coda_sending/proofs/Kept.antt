@@ -30,8 +30,8 @@ use Rattle.coda_replica.specs.Answers.{is_next, told}
 use Rattle.coda_replica.specs.History.{IsHistory as IsReplicaJournal}
 use Rattle.coda_cell.specs.Sending.{Freezing, frozen_now, frozen_unless, freezing_of, freezing, Ruling, decides, ruling_of, ruling, Taking, taken, taken_unless, taking}
 use Rattle.coda_cell.specs.State.{ClientVolume, volume_after, ClientState, new_client, ReplicaState, new_replica, replica_after_all}
-use Rattle.coda_cell.specs.declared.refused.Refused.{Refused}
-use Rattle.coda_cell.specs.declared.refused.Refused.TheVariants as refused
+use Rattle.coda_cell.specs.Refused.{Refused}
+use Rattle.coda_cell.specs.Refused as refused
 use Rattle.coda_cell.proofs.Histories.{client_push, volume_of, volumes_are, shown, thawed_are, frozen_by, replica_push, lasts_are}
 use Rattle.coda_cell.proofs.KeptChunks.{may_freeze}
 use Rattle.coda_matching.specs.Clients.{journal_by, IsClientHistory}

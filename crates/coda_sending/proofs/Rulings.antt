@@ -25,10 +25,10 @@ use Rattle.coda_replica.specs.State.{ReplicaState as KeptState, last_for}
 use Rattle.coda_replica.specs.declared.fault.ReplicaFault.{ReplicaFault}
 use Rattle.coda_replica.specs.declared.fault.ReplicaFault.TheVariants as fault
 use Rattle.coda_replica.specs.declared.replica.Replica.{Replica}
-use Rattle.coda_cell.specs.Code.{replica_state}
+use Rattle.coda_cell.specs.State.{replica_state}
 use Rattle.coda_cell.specs.Sending.{Ruling, decides, ruling_of, ruling}
 use Rattle.coda_cell.specs.State.{ReplicaState, new_replica, replica_after_all}
-use Rattle.coda_cell.specs.declared.refused.Refused.TheVariants as refused
+use Rattle.coda_cell.specs.Refused as refused
 use Rattle.coda_cell.proofs.Histories.{nodes_are}
 use Rattle.coda_matching.specs.Replicas.{entry_at, journal_at, IsReplicaHistory, LacksRoom, Adds, RulingEnds}
 use Rattle.coda_matching.proofs.Replicas.{volume_left, journals_leave_replicas}

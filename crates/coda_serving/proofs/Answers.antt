@@ -23,7 +23,7 @@ use Rattle.coda_asking.specs.Laws.{after_payloads}
 use Rattle.coda_cell.specs.Asking.{Answer, answers}
 use Rattle.coda_cell.specs.Made.{client_of}
 use Rattle.coda_cell.specs.State.{ClientState, client_after, client_after_all}
-use Rattle.coda_cell.specs.declared.refused.Refused.TheVariants as refused
+use Rattle.coda_cell.specs.Refused as refused
 use Rattle.coda_matching.specs.Clients.{payload_by, journal_by, refused_as, LacksRoom, Ends}
 use Rattle.coda_serving.proofs.Pairs.{IsPair, parent_is, pair_fetched}
 

@@ -16,8 +16,8 @@ use Rattle.coda_cell.specs.Accepting.{Accepted, Sight, next_fid, is_used_up, unl
 use Rattle.coda_cell.specs.Ask.{Asked, Create, Mkdir, Symlink, Store, Setattr, Remove, Rmdir, Rename, Ending, ending, front_of}
 use Rattle.coda_cell.specs.Held.{is_below}
 use Rattle.coda_cell.specs.Looking.{then_find, held, found, step_in, step_from, resolve}
-use Rattle.coda_cell.specs.declared.refused.Refused.{Refused}
-use Rattle.coda_cell.specs.declared.refused.Refused.TheVariants.{Miss, JournalFull, Exists, Loop, IsDir}
+use Rattle.coda_cell.specs.Refused.{Refused}
+use Rattle.coda_cell.specs.Refused.{Miss, JournalFull, Exists, Loop, IsDir}
 use Rattle.coda_serving.proofs.Needed.{walk}
 use Rattle.coda_serving.proofs.Walks.{Misses, first_or_then, misses_then, seen_misses, comes_then, err_is, resolve_push, ended, not_ended, held_is, resolve_has}
 

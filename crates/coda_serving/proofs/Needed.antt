@@ -12,8 +12,8 @@ use Rattle.coda_cell.specs.Ask.{Asked, Create, Mkdir, Symlink, Store, Setattr, R
 use Rattle.coda_cell.specs.Asking.{rename_look_ups, look_ups}
 use Rattle.coda_cell.specs.Held.{Held, Fetch, held_after_fetch, held_after_fetches}
 use Rattle.coda_cell.specs.Looking.{then_find, step_from, resolve, offered, fetch_of, look, look_on, look_along}
-use Rattle.coda_cell.specs.declared.refused.Refused.{Refused}
-use Rattle.coda_cell.specs.declared.refused.Refused.TheVariants.{Miss}
+use Rattle.coda_cell.specs.Refused.{Refused}
+use Rattle.coda_cell.specs.Refused.{Miss}
 use Rattle.coda_cell.proofs.Unlooked.{MissesNothing, no_look_along}
 use Rattle.coda_serving.proofs.Walks.{Misses, Comes, first_or_then, held_misses, step_misses, missing_absent, missing_bound, still_held, leads_still}
 

@@ -30,7 +30,7 @@ use Rattle.coda_cell.specs.Held.{Fetch}
 use Rattle.coda_cell.specs.Looking.{entries_of}
 use Rattle.coda_cell.specs.Looking as cell_looking
 use Rattle.coda_cell.specs.State.{ClientVolume, ClientState, client_after}
-use Rattle.coda_cell.specs.declared.refused.Refused.TheVariants as refused
+use Rattle.coda_cell.specs.Refused as refused
 use Rattle.coda_cell.proofs.Unlooked.{MissesNothing, no_look_ups}
 use Rattle.coda_matching.specs.Clients.{IsOneVolume, refused_as, journal_by}
 use Rattle.coda_serving.specs.Serving.{asked_as, AreSpelledOffers, IsDone}

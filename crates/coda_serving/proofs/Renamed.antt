@@ -26,8 +26,8 @@ use Rattle.coda_cell.specs.Accepting as cell
 use Rattle.coda_cell.specs.Ask as cell_ask
 use Rattle.coda_cell.specs.Held as cell_held
 use Rattle.coda_cell.specs.Looking as cell_looking
-use Rattle.coda_cell.specs.declared.refused.Refused.{Refused}
-use Rattle.coda_cell.specs.declared.refused.Refused.TheVariants as refused
+use Rattle.coda_cell.specs.Refused.{Refused}
+use Rattle.coda_cell.specs.Refused as refused
 use Rattle.coda_matching.specs.Clients.{refused_as}
 use Rattle.coda_serving.specs.Serving.{asked_as}
 

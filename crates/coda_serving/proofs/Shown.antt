@@ -24,8 +24,8 @@ use Rattle.coda_cell.specs.Asking as cell_asking
 use Rattle.coda_cell.specs.Held.{Held, Fetch, held_after_fetches}
 use Rattle.coda_cell.specs.Looking.{resolve, look_along, fids_of, entries_of}
 use Rattle.coda_cell.specs.State.{ClientState, client_after}
-use Rattle.coda_cell.specs.declared.refused.Refused.{Refused}
-use Rattle.coda_cell.specs.declared.refused.Refused.TheVariants as refused
+use Rattle.coda_cell.specs.Refused.{Refused}
+use Rattle.coda_cell.specs.Refused as refused
 use Rattle.coda_cell.proofs.Unlooked.{MissesNothing, no_look_along}
 use Rattle.coda_matching.specs.Clients.{refused_as}
 use Rattle.coda_serving.specs.Serving.{AreSpelledOffers, IsShown, reply_of, show_answer}

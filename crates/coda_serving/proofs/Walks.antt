@@ -12,8 +12,8 @@ use Rattle.coda_tree.specs.declared.node.NodeKind.{NodeKind}
 use Rattle.coda_tree.specs.declared.node.NodeKind.TheVariants.{File, Link, Dir}
 use Rattle.coda_cell.specs.Ask.{Ending, ending}
 use Rattle.coda_cell.specs.Looking.{then_find, held, found, step_in, step_from, resolve}
-use Rattle.coda_cell.specs.declared.refused.Refused.{Refused}
-use Rattle.coda_cell.specs.declared.refused.Refused.TheVariants.{Miss}
+use Rattle.coda_cell.specs.Refused.{Refused}
+use Rattle.coda_cell.specs.Refused.{Miss}
 
 -- this object is missing
 abbrev pub Misses : {A : Type 0} → Result A Refused → Fid → Type 0

@@ -18,7 +18,7 @@ use Rattle.coda_asking.specs.Laws.{after_payloads}
 use Rattle.coda_cell.specs.Asking.{Answer}
 use Rattle.coda_cell.specs.Made.{client_of}
 use Rattle.coda_cell.specs.State.{new_client, client_after_all}
-use Rattle.coda_cell.specs.declared.refused.Refused.{Refused}
+use Rattle.coda_cell.specs.Refused.{Refused}
 use Rattle.coda_cell.proofs.Fetches.{client_after_both}
 use Rattle.coda_matching.specs.Clients.{IsClientHistory, payload_by, journal_by, refused_as, Cut, LacksRoom, Ends}
 use Rattle.coda_matching.proofs.Histories.{journals_leave_clients}

@@ -13,8 +13,8 @@ use Rattle.coda_venus.specs.declared.refused.Refused.TheVariants as reason
 use Rattle.coda_cell.specs.Refusing.{refusal}
 use Rattle.coda_cell.specs.State.{Event, at_client}
 use Rattle.coda_cell.specs.Steps.{Does, Named, Doing, Naming, Unless, first_missing, reply_to}
-use Rattle.coda_cell.specs.declared.refused.Refused.{Refused}
-use Rattle.coda_cell.specs.declared.refused.Refused.TheVariants as refused
+use Rattle.coda_cell.specs.Refused.{Refused}
+use Rattle.coda_cell.specs.Refused as refused
 use Rattle.coda_matching.specs.Clients.{Cut, refused_as}
 use Rattle.coda_stored.specs.Cells.{StoredCell, after, after_all}
 use Rattle.coda_stored.specs.Room.{FitsOne, Fits as FitsEvents}

@@ -19,7 +19,7 @@ use Rattle.coda_cell.specs.Made.{client_of, state_of}
 use Rattle.coda_cell.specs.Refusing.{refusal}
 use Rattle.coda_cell.specs.State.{at_client}
 use Rattle.coda_cell.specs.Steps.{ByClient, on_volume, first_missing, offers_of, reply_to}
-use Rattle.coda_cell.specs.declared.refused.Refused.TheVariants as refused
+use Rattle.coda_cell.specs.Refused as refused
 use Rattle.coda_matching.specs.Clients.{refused_as, Ends}
 use Rattle.coda_serving.specs.Serving.{AreSpelledOffers}
 use Rattle.coda_stored.specs.Cells.{StoredCell}

@@ -32,8 +32,8 @@ use Rattle.coda_cell.specs.Made.{state_of}
 use Rattle.coda_cell.specs.State.{put}
 use Rattle.coda_cell.specs.Steps.{Named, client_named, first_missing}
 use Rattle.coda_cell.specs.Refusing.{refusal}
-use Rattle.coda_cell.specs.declared.refused.Refused.{Refused}
-use Rattle.coda_cell.specs.declared.refused.Refused.TheVariants.{NoSuchActor}
+use Rattle.coda_cell.specs.Refused.{Refused}
+use Rattle.coda_cell.specs.Refused.{NoSuchActor}
 use Rattle.coda_matching.specs.Clients.{journal_by, payload_by}
 use Rattle.coda_stored.specs.Cells.{Side, StoredCell, life_of, plain_client, client_header, moved}
 use Rattle.coda_stored.specs.Kept.{IsStoredKept, IsClientSide, IsGiven}

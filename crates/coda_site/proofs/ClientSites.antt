@@ -31,8 +31,8 @@ use Rattle.coda_venus.specs.declared.refused.Refused.TheVariants as reason
 use Rattle.coda_venus.specs.declared.venus.Venus.{Venus}
 use Rattle.coda_cell.specs.State.{Event, at_client}
 use Rattle.coda_cell.specs.Made.{client_of, state_of}
-use Rattle.coda_cell.specs.declared.refused.Refused.{Refused}
-use Rattle.coda_cell.specs.declared.refused.Refused.TheVariants as refused
+use Rattle.coda_cell.specs.Refused.{Refused}
+use Rattle.coda_cell.specs.Refused as refused
 use Rattle.coda_cell.proofs.KeptCells.{lawful}
 use Rattle.coda_matching.specs.Clients.{journal_by, payload_by, IsClientHistory, Cut, LacksRoom, refused_as, Ends}
 use Rattle.coda_stored.specs.Cells.{Side, StoredCell, life_of, plain_client, client_header, after, after_all, failed}

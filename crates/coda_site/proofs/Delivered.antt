@@ -39,15 +39,15 @@ use Rattle.coda_venus.specs.Standing.{IsUp}
 use Rattle.coda_venus.specs.declared.refused.Refused.{Refused as VenusRefused}
 use Rattle.coda_venus.specs.declared.venus.Venus.{Venus}
 use Rattle.coda_cell.specs.Cells.{strength_of}
-use Rattle.coda_cell.specs.Letters.{letter_refused_as}
+use Rattle.coda_cell.specs.Refusing.{letter_refused_as}
 use Rattle.coda_cell.specs.Made.{client_of, state_of}
 use Rattle.coda_cell.specs.Messages.{Ending, posting, ruled_in, reply_taken, taken_in}
 use Rattle.coda_cell.specs.Refusing.{refusal}
 use Rattle.coda_cell.specs.Sending.{Ruling, ruling, Taking, taking, deeds_at, entries_at, reply_answer}
 use Rattle.coda_cell.specs.State.{ReplicaState, CellState, Event, at_client, Lost, new_replica, replica_after_all}
 use Rattle.coda_cell.specs.Steps.{Doing, Named, on_holder, first_missing, link_down, reply_to, Unless, Naming, ByRuling, ByTaking, Comes, Delivers, Loses}
-use Rattle.coda_cell.specs.declared.refused.Refused.{Refused}
-use Rattle.coda_cell.specs.declared.refused.Refused.TheVariants as refused
+use Rattle.coda_cell.specs.Refused.{Refused}
+use Rattle.coda_cell.specs.Refused as refused
 use Rattle.coda_cell.proofs.Delivering.{Came as LetterCame, came, chunk_of, answer_of}
 use Rattle.coda_matching.specs.Clients.{journal_by}
 use Rattle.coda_matching.specs.Replicas.{RulingEnds}

@@ -30,8 +30,8 @@ use Rattle.coda_cell.specs.Refusing.{refusal}
 use Rattle.coda_cell.specs.Sending.{Freezing, freezing, Ruling, ruling, Taking, taking, Outcome, deeds_at, entries_at, reply_answer, answered_to, ruled_on, drained_of, drained, drain, stays}
 use Rattle.coda_cell.specs.State.{ClientVolume, ReplicaState, Event, at_client, new_replica, replica_after_all}
 use Rattle.coda_cell.specs.Steps.{Named, client_named, volume_named, holder_named, on_holder, first_missing, reply_to, ByBoth}
-use Rattle.coda_cell.specs.declared.refused.Refused.{Refused}
-use Rattle.coda_cell.specs.declared.refused.Refused.TheVariants as refused
+use Rattle.coda_cell.specs.Refused.{Refused}
+use Rattle.coda_cell.specs.Refused as refused
 use Rattle.coda_cell.proofs.Events.{ruling_left}
 use Rattle.coda_cell.proofs.Histories.{server_stays}
 use Rattle.coda_matching.specs.Clients.{journal_by, IsClientHistory}

@@ -29,8 +29,8 @@ use Rattle.coda_cell.specs.Sending.{freezing, ruling, Taking, taking, reply_answ
 use Rattle.coda_cell.specs.Made.{state_of}
 use Rattle.coda_cell.specs.Refusing.{refusal}
 use Rattle.coda_cell.specs.Steps.{Named, on_holder, first_missing, ByBoth}
-use Rattle.coda_cell.specs.declared.refused.Refused.{Refused}
-use Rattle.coda_cell.specs.declared.refused.Refused.TheVariants as refused
+use Rattle.coda_cell.specs.Refused.{Refused}
+use Rattle.coda_cell.specs.Refused as refused
 use Rattle.coda_matching.specs.Clients.{journal_by, IsClientHistory}
 use Rattle.coda_matching.specs.Replicas.{RulingEnds}
 use Rattle.coda_sending.specs.Ending.{FreezingEnds, TakingEnds}

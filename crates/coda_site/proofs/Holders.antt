@@ -11,7 +11,7 @@ use Rattle.coda_actors.specs.Slots.{is_made, is_up}
 use Rattle.coda_crew.specs.Crews.{slot_at}
 use Rattle.coda_cell.specs.Made.{state_of}
 use Rattle.coda_cell.specs.Steps.{Named, on_holder, first_missing}
-use Rattle.coda_cell.specs.declared.refused.Refused.TheVariants as refused
+use Rattle.coda_cell.specs.Refused as refused
 use Rattle.coda_cell.proofs.Events.{all_there}
 use Rattle.coda_stored.specs.Cells.{StoredCell}
 use Rattle.coda_stored.specs.Kept.{IsStoredKept}

@@ -20,8 +20,8 @@ use Rattle.coda_script.specs.declared.reply.Reply.{Reply}
 use Rattle.coda_script.specs.Ranges.{IsBetween, AreServers}
 use Rattle.coda_cell.specs.Refusing.{refusal}
 use Rattle.coda_cell.specs.Steps.{alone}
-use Rattle.coda_cell.specs.declared.refused.Refused.{Refused}
-use Rattle.coda_cell.specs.declared.refused.Refused.TheVariants.{AlreadyThere, CellFull}
+use Rattle.coda_cell.specs.Refused.{Refused}
+use Rattle.coda_cell.specs.Refused.{AlreadyThere, CellFull}
 use Rattle.coda_stored.specs.Cells.{StoredCell, disk_number}
 use Rattle.coda_stored.specs.Lines.{Becoming, Unless, no_client, no_volume}
 use Rattle.coda_site.specs.Sites.{is_client_disk, is_replica_disk, place_in, IsReady}

@@ -14,7 +14,7 @@ use Rattle.coda_replica.specs.declared.replica.Replica.{Replica}
 use Rattle.coda_script.specs.declared.line.Strength.{Strength}
 use Rattle.coda_script.specs.declared.line.Strength.TheVariants.{Strong, Weak, Down}
 use Rattle.coda_cell.specs.Cells.{linked_in}
-use Rattle.coda_cell.specs.Code.{replica_state}
+use Rattle.coda_cell.specs.State.{replica_state}
 use Rattle.coda_cell.specs.Made.{replica_of}
 use Rattle.coda_cell.specs.State.{ReplicaState, new_replica, replica_after_all}
 use Rattle.coda_cell.specs.Steps.{reached, offers_of}

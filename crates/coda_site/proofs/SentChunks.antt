@@ -33,8 +33,8 @@ use Rattle.coda_cell.specs.Refusing.{refusal}
 use Rattle.coda_cell.specs.Sending.{Freezing, freezing}
 use Rattle.coda_cell.specs.State.{ClientVolume, ReplicaState, CellState, at_client, new_replica, replica_after_all}
 use Rattle.coda_cell.specs.Steps.{Named, client_named, volume_named, holder_named, on_holder, first_missing, reply_to, BySend}
-use Rattle.coda_cell.specs.declared.refused.Refused.{Refused}
-use Rattle.coda_cell.specs.declared.refused.Refused.TheVariants as refused
+use Rattle.coda_cell.specs.Refused.{Refused}
+use Rattle.coda_cell.specs.Refused as refused
 use Rattle.coda_cell.proofs.Histories.{server_stays}
 use Rattle.coda_matching.specs.Clients.{journal_by, IsClientHistory}
 use Rattle.coda_sending.specs.Ending.{entries_on, deeds_for, number_said, FreezingEnds}

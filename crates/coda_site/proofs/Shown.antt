@@ -19,7 +19,7 @@ use Rattle.coda_crew.specs.Crews.{slot_at}
 use Rattle.coda_matching.proofs.Replicas.{journals_leave_replicas}
 use Rattle.coda_replica.specs.declared.replica.Replica.{Replica}
 use Rattle.coda_cell.specs.Cells.{volume_at}
-use Rattle.coda_cell.specs.Code.{replica_state}
+use Rattle.coda_cell.specs.State.{replica_state}
 use Rattle.coda_cell.specs.Made.{client_of, replica_of, state_of}
 use Rattle.coda_cell.specs.State.{ClientVolume, ClientState, ReplicaState, log_of, new_volume, replica_after_all, new_replica}
 use Rattle.coda_cell.proofs.Histories.{server_stays}

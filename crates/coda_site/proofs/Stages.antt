@@ -32,8 +32,8 @@ use Rattle.coda_cell.specs.Made.{client_of}
 use Rattle.coda_cell.specs.Refusing.{refusal}
 use Rattle.coda_cell.specs.Sending.{Ruling, decides, ruling_of, ruling, entries_at}
 use Rattle.coda_cell.specs.State.{Event, ReplicaState, at_client}
-use Rattle.coda_cell.specs.declared.refused.Refused.{Refused}
-use Rattle.coda_cell.specs.declared.refused.Refused.TheVariants as refused
+use Rattle.coda_cell.specs.Refused.{Refused}
+use Rattle.coda_cell.specs.Refused as refused
 use Rattle.coda_matching.specs.Clients.{journal_by, IsClientHistory, Cut, refused_as}
 use Rattle.coda_matching.specs.Replicas.{journal_at, RulingEnds}
 use Rattle.coda_sending.proofs.Kept.{ruled_so}

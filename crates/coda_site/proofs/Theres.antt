@@ -23,7 +23,7 @@ use Rattle.coda_venus.specs.declared.venus.Venus.{Venus}
 use Rattle.coda_cell.specs.Made.{client_of, state_of, replica_of}
 use Rattle.coda_cell.specs.State.{ReplicaState, new_replica}
 use Rattle.coda_cell.specs.Steps.{Named, client_named, volume_named, server_named, holder_named, on_volume, on_holder, first_missing}
-use Rattle.coda_cell.specs.declared.refused.Refused.TheVariants.{NoSuchActor}
+use Rattle.coda_cell.specs.Refused.{NoSuchActor}
 use Rattle.coda_cell.proofs.Histories.{server_stays}
 use Rattle.coda_stored.specs.Cells.{Side, StoredCell, life_of, plain_client, plain_replica}
 use Rattle.coda_stored.specs.Kept.{IsStoredKept, IsClientSide, IsReplicaSide}

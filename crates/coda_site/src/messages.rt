@@ -17,7 +17,7 @@ ghost use Rattle.coda_actors.specs.Replicas.{replica_form};
 ghost use Rattle.coda_actors.specs.Slots.{is_up};
 ghost use Rattle.coda_crew.specs.Crews.{slot_at};
 ghost use Rattle.coda_cell.specs.Cells.{linked_in};
-ghost use Rattle.coda_cell.specs.Letters.{letter_refused_as};
+ghost use Rattle.coda_cell.specs.Refusing.{letter_refused_as};
 ghost use Rattle.coda_cell.specs.Made.{state_of};
 ghost use Rattle.coda_cell.specs.Refusing.{refusal};
 ghost use Rattle.coda_cell.specs.Steps.{first_missing, on_holder};

@@ -3,7 +3,7 @@ ghost use Rattle.std.specs.Prelude.{◌≡◌, ◌≢◌, ◌∷◌, [], IfOk, O
 ghost use Rattle.coda_cell.specs.Refusing.{refusal};
 ghost use Rattle.coda_cell.specs.Sending.{reply_answer};
 ghost use Rattle.coda_cell.specs.Messages.{reply_taken};
-ghost use Rattle.coda_cell.specs.declared.refused.Refused.TheVariants as refused;
+ghost use Rattle.coda_cell.specs.Refused as refused;
 ghost use Rattle.coda_matching.specs.Clients.{refused_as};
 ghost use Rattle.coda_stored.specs.Lines.{refused_down, refused_full, refused_fault};
 ghost use Rattle.coda_script.specs.declared.reply.Arg.{Arg as AnArg};

@@ -4,7 +4,7 @@ ghost use Rattle.std.specs.Option.{option_map};
 ghost use Rattle.coda_actors.specs.Slots.{is_made};
 ghost use Rattle.coda_crew.specs.Crews.{slot_at};
 ghost use Rattle.coda_cell.specs.Steps.{first_missing};
-ghost use Rattle.coda_cell.specs.declared.refused.Refused.TheVariants as refused;
+ghost use Rattle.coda_cell.specs.Refused as refused;
 ghost use Rattle.coda_site.specs.Sites.{is_client_disk, place_in, client_at, volume_at, server_at, holder_at};
 
 use crate::site::{Place, Site};

@@ -18,7 +18,7 @@ use Rattle.coda_cell.specs.Asking.{Answer, operate, read, list}
 use Rattle.coda_cell.specs.State.{ClientState, ReplicaState, new_replica, Event, at_client}
 use Rattle.coda_cell.specs.Made.{MadeCell, client_of, replica_of, state_of}
 use Rattle.coda_cell.specs.Steps.{Named, client_named, volume_named, server_named, holder_named, on_volume, on_holder, first_missing, Doing, Unless, reached, offers_of, reply_to, ByClient, ByBoth, BySend, ByRuling, ByTaking, bytes_of, Comes, link_down, Delivers, Loses, Does}
-use Rattle.coda_cell.specs.declared.refused.Refused.{Refused}
+use Rattle.coda_cell.specs.Refused.{Refused}
 use Rattle.coda_cell.proofs.AlikeStates.{client_to, replica_to, client_in, replica_in, home_of, AreAlike, does_alike}
 use Rattle.coda_cell.proofs.Events.{all_there as are_all_there}
 use Rattle.coda_cell.proofs.Histories.{server_stays}

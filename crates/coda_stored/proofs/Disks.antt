@@ -9,7 +9,7 @@ use Rattle.coda_plain.specs.Moves.{TheClient, TheReplica, Crashes, Recovers, cra
 use Rattle.coda_cell.specs.Made.{client_of, state_of}
 use Rattle.coda_cell.specs.Runs.{IsKept}
 use Rattle.coda_cell.specs.Steps.{Named, client_named, holder_named, first_missing}
-use Rattle.coda_cell.specs.declared.refused.Refused.{Refused}
+use Rattle.coda_cell.specs.Refused.{Refused}
 use Rattle.coda_stored.specs.Cells.{Side, StoredCell, replica_header, moved}
 use Rattle.coda_stored.specs.Kept.{IsGiven, IsClientSide, IsReplicaSide, IsStoredKept}
 use Rattle.coda_stored.specs.Lines.{Becoming, Unless, with_client_side, with_replica_side, CrashesClient, CrashesReplica, recovered_side, IsRefused, RecoversClient, RecoversReplica}

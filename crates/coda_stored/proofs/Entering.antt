@@ -13,7 +13,7 @@ use Rattle.coda_letters.specs.Sent.{Sent, ChunkSent, AnswerSent, Waiting, lost_b
 use Rattle.coda_cell.specs.State.{ClientVolume, ReplicaState, CellState, Event, VolumeMade, ClientMade, Ticked, LinkSet, Entered, Posted, Lost, at_client}
 use Rattle.coda_cell.specs.Messages.{over, posting, going_by, sends_of, sends, ruled_in, chunk_comes, taken_in, answer_comes}
 use Rattle.coda_cell.specs.Sending.{Freezing, freezing, Ruling, ruling_of, Taking, taking, deeds_at, entries_at, decides, answered_to, ruled_on, drained_of, drain}
-use Rattle.coda_cell.specs.declared.refused.Refused.{Refused}
+use Rattle.coda_cell.specs.Refused.{Refused}
 use Rattle.coda_matching.specs.Replicas.{IsDecision}
 
 -- it makes no actor, and where it is an entry, it is one of these clients or replicas, which decide alone

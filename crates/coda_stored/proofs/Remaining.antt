@@ -13,7 +13,7 @@ use Rattle.coda_plain.specs.Moves.{Append, AtClient, AtReplica, Who, TheClient, 
 use Rattle.coda_cell.specs.Made.{MadeCell, state_of}
 use Rattle.coda_cell.specs.State.{Event, VolumeMade, ClientMade, Ticked, LinkSet, Entered, Posted, Lost}
 use Rattle.coda_cell.specs.Steps.{client_named, holder_named, first_missing, alone}
-use Rattle.coda_cell.specs.declared.refused.Refused.{Refused}
+use Rattle.coda_cell.specs.Refused.{Refused}
 use Rattle.coda_stored.specs.Cells.{Side, StoredCell, client_header, replica_header, after, after_all, moved, failed}
 use Rattle.coda_stored.specs.Laws.{Begins, EntriesStay}
 use Rattle.coda_stored.specs.Lines.{is_down_for, EndsBy, Becoming, Unless, UnlessDown, Opens, no_volume, no_client, with_volume, with_client as with_client_made, area_of, IsRefused, CrashesClient, CrashesReplica, RecoversClient, RecoversReplica, Stays, DoesUp}

@@ -23,7 +23,7 @@ use Rattle.coda_venus.specs.History.{payload_of, payloads_of}
 use Rattle.coda_cell.specs.State.{put, CellState, Event, VolumeMade, ClientMade, Entered}
 use Rattle.coda_cell.specs.Made.{state_of}
 use Rattle.coda_cell.specs.Refusing.{refusal}
-use Rattle.coda_cell.specs.declared.refused.Refused.{Refused as Refusal}
+use Rattle.coda_cell.specs.Refused.{Refused as Refusal}
 use Rattle.coda_cell.specs.Steps.{Does, Named, client_named, server_named, holder_named, on_volume, on_holder, first_missing, no_room, is_alone, alone, is_plain, is_built_task}
 use Rattle.coda_matching.specs.Clients.{journal_by, payload_by}
 use Rattle.coda_matching.specs.Replicas.{journal_at}

@@ -8,7 +8,7 @@ use Rattle.coda_crew.specs.Crews.{Takes}
 use Rattle.coda_cell.specs.Made.{state_of}
 use Rattle.coda_cell.specs.Refusing.{refusal}
 use Rattle.coda_cell.specs.Steps.{client_named}
-use Rattle.coda_cell.specs.declared.refused.Refused.TheVariants.{NoSuchActor}
+use Rattle.coda_cell.specs.Refused.{NoSuchActor}
 use Rattle.coda_stored.specs.Lines.{client_down, Stays, DoesUp}
 use Rattle.coda_site.specs.Sites.{is_client_disk}
 use Rattle.coda_site.proofs.Becomings.{missing_becomes, down_becomes, up_becomes}

@@ -5,7 +5,7 @@ use Rattle.coda_script.specs.declared.reply.Reply.TheVariants.{Accepted}
 use Rattle.coda_cell.specs.Made.{state_of}
 use Rattle.coda_cell.specs.Refusing.{refusal}
 use Rattle.coda_cell.specs.Steps.{holder_named, first_missing}
-use Rattle.coda_cell.specs.declared.refused.Refused.TheVariants.{NoSuchActor}
+use Rattle.coda_cell.specs.Refused.{NoSuchActor}
 use Rattle.coda_stored.specs.Lines.{replica_down, Stays, DoesUp}
 use Rattle.coda_site.specs.Sites.{is_client_disk, is_replica_disk}
 use Rattle.coda_site.proofs.Becomings.{missing_becomes, down_becomes, up_becomes}

@@ -6,7 +6,7 @@ use Rattle.coda_crew.specs.Crews.{Takes}
 use Rattle.coda_cell.specs.Made.{state_of}
 use Rattle.coda_cell.specs.Refusing.{refusal}
 use Rattle.coda_cell.specs.Steps.{client_named}
-use Rattle.coda_cell.specs.declared.refused.Refused.TheVariants.{NoSuchActor}
+use Rattle.coda_cell.specs.Refused.{NoSuchActor}
 use Rattle.coda_stored.specs.Lines.{CrashesClient, Happens}
 use Rattle.coda_site.specs.Sites.{is_client_disk, is_replica_disk}
 use Rattle.coda_site.proofs.ClientSites.{plain_clients}

@@ -3,7 +3,7 @@ use Rattle.coda_script.specs.declared.line.Line.TheVariants as line
 use Rattle.coda_cell.specs.Made.{state_of}
 use Rattle.coda_cell.specs.Refusing.{refusal}
 use Rattle.coda_cell.specs.Steps.{holder_named, first_missing}
-use Rattle.coda_cell.specs.declared.refused.Refused.TheVariants.{NoSuchActor}
+use Rattle.coda_cell.specs.Refused.{NoSuchActor}
 use Rattle.coda_stored.specs.Lines.{RecoversReplica, Happens}
 use Rattle.std.specs.Prelude.{IfOk}
 use Rattle.coda_site.specs.Sites.{is_client_disk, is_replica_disk}

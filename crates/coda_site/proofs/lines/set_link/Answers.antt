@@ -5,7 +5,7 @@ use Rattle.coda_script.specs.declared.reply.Reply.TheVariants.{Accepted}
 use Rattle.coda_cell.specs.Made.{state_of}
 use Rattle.coda_cell.specs.State.{LinkSet}
 use Rattle.coda_cell.specs.Steps.{client_named, server_named, first_missing, Happens}
-use Rattle.coda_cell.specs.declared.refused.Refused.TheVariants.{NoSuchActor}
+use Rattle.coda_cell.specs.Refused.{NoSuchActor}
 use Rattle.coda_stored.specs.Cells.{after}
 use Rattle.coda_stored.specs.Lines.{client_down, DoesUp}
 use Rattle.coda_site.specs.Sites.{client_at, server_at}

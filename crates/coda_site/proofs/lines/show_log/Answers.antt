@@ -4,7 +4,7 @@ use Rattle.coda_script.specs.declared.line.Line.TheVariants as line
 use Rattle.coda_script.specs.declared.reply.Reply.TheVariants as reply
 use Rattle.coda_cell.specs.Made.{state_of}
 use Rattle.coda_cell.specs.Steps.{on_volume, first_missing, Says}
-use Rattle.coda_cell.specs.declared.refused.Refused.TheVariants.{NoSuchActor}
+use Rattle.coda_cell.specs.Refused.{NoSuchActor}
 use Rattle.coda_stored.specs.Lines.{client_down, DoesUp}
 use Rattle.coda_site.specs.Sites.{client_at, volume_at}
 use Rattle.coda_site.proofs.Becomings.{named_missing, named_there, missing_some, missing_none, missing_becomes, down_becomes, up_becomes, says}

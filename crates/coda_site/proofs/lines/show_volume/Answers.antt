@@ -5,7 +5,7 @@ use Rattle.coda_script.specs.declared.reply.Reply.TheVariants as reply
 use Rattle.coda_cell.specs.Made.{state_of}
 use Rattle.coda_cell.specs.Refusing.{refusal}
 use Rattle.coda_cell.specs.Steps.{holder_named, first_missing, Says}
-use Rattle.coda_cell.specs.declared.refused.Refused.TheVariants.{NoSuchActor}
+use Rattle.coda_cell.specs.Refused.{NoSuchActor}
 use Rattle.coda_stored.specs.Lines.{replica_down, DoesUp}
 use Rattle.coda_site.proofs.Becomings.{named_missing, named_there, missing_becomes, down_becomes, up_becomes, says}
 use Rattle.coda_site.proofs.Theres.{holder_at_place, made_elsewhere, not_made, replica_down_at}

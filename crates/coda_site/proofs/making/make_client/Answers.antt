@@ -8,7 +8,7 @@ use Rattle.coda_crew.specs.Crews.{slot_at, Takes}
 use Rattle.coda_crew.proofs.Lifts.{others_left}
 use Rattle.coda_plain.specs.Moves.{TheClient}
 use Rattle.coda_script.specs.declared.line.Line.TheVariants as line
-use Rattle.coda_cell.specs.declared.refused.Refused.TheVariants.{AlreadyThere, CellFull}
+use Rattle.coda_cell.specs.Refused.{AlreadyThere, CellFull}
 use Rattle.coda_stored.specs.Cells.{client_header}
 use Rattle.coda_stored.specs.Lines.{Happens, Opens, no_client, with_client}
 use Rattle.coda_site.specs.Sites.{is_client_disk, is_replica_disk, IsReady}

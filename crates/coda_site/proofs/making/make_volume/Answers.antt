@@ -9,7 +9,7 @@ use Rattle.coda_crew.specs.Crews.{slot_at, Takes, KeepsOtherSlots, FitsAll, OutA
 use Rattle.coda_crew.proofs.Lifts.{others_left}
 use Rattle.coda_plain.specs.Moves.{TheReplica}
 use Rattle.coda_script.specs.declared.reply.Reply.{Reply}
-use Rattle.coda_cell.specs.declared.refused.Refused.TheVariants.{AlreadyThere, CellFull}
+use Rattle.coda_cell.specs.Refused.{AlreadyThere, CellFull}
 use Rattle.coda_stored.specs.Cells.{replica_header, disk_number}
 use Rattle.coda_stored.specs.Lines.{MakesVolume, Opens, no_volume, with_volume}
 use Rattle.coda_site.specs.Makings.{SaysOpened}

@@ -1,4 +1,0 @@
-use Rattle.coda_cell.proofs.parents.ParentTable.+below_within.Given as goal
-
-abbrev pub decreases-below_within : goal.decreases-below_within
-decreases-below_within l = l.steps

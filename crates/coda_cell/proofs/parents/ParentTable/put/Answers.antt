@@ -1,8 +1,0 @@
-use Rattle.std.proofs.Common.{ap, ◌∙◌}
-use Rattle.std.specs.FinMap as map
-use Rattle.coda_tree.proofs.Keyed.{keyed_put}
-use Rattle.coda_cell.specs.Held.{Parents}
-use Rattle.coda_cell.proofs.parents.ParentTable.put.Goals as goal
-
-pub returns : goal.returns
-returns c = keyed_put c.self.inside.parents.entries c.insert.new.self.entries c.args.fid c.args.parent c.in_ok-insert.ensures.updates.0 ∙ ap (λ (m : Parents). map.insert m c.args.fid c.args.parent) c.self.view_is
