@@ -2,6 +2,7 @@
 #![tactic(auto)]
 
 mod laws;
+mod lent;
 mod machine;
 mod report;
 mod top;
