@@ -2,7 +2,7 @@
 use Rattle.coda_disk.specs.Told.{Told}
 use Rattle.coda_engine.proofs.Simulation.{Simulates}
 use Rattle.coda_runs.specs.Shows.{Recorded, RecordGives, RecordRefuses}
-use Rattle.coda_main.specs.Lines.{IsGoodLine, IsBadLine}
+use Rattle.coda_main.specs.Lines.{IsBadLine, AnyGives, AnyRefuses}
 use Rattle.coda_main.specs.Shows.{Moment, Shows, MayGoOn, CellGives}
 
 module _ {D M : Type 0} (told : D → Told) (at : M → Moment D) where
@@ -18,7 +18,7 @@ module _ {D M : Type 0} (told : D → Told) (at : M → Moment D) where
     refusal = λ p m line column kind goes_on refuses. tt;
   }
 
-  pub lines_good : Simulates (λ (p : Unit {0}) (m : M). Unit {0}) (λ p line text outside p'. IsGoodLine line text) (λ p line column kind. IsBadLine line column kind) (λ old line text outside new. CellGives told (at old) line text outside (at new)) (λ m line column kind. IsBadLine line column kind)
+  pub lines_good : Simulates (λ (p : Unit {0}) (m : M). Unit {0}) AnyGives AnyRefuses (λ old line text outside new. CellGives told (at old) line text outside (at new)) (λ m line column kind. IsBadLine line column kind)
   lines_good = record {
     step = λ p m m' line text outside shows ran. (p, ran.good, tt);
     refusal = λ p m line column kind shows refuses. refuses;

@@ -14,3 +14,10 @@ IsGoodLine bytes text = ((line_of bytes ≡ Ok None) × (text ≡ [])) ⊎ ((sai
 -- isn't built.
 abbrev pub IsBadLine : List ℕ → ℕ → Kind → Type 0
 IsBadLine bytes column kind = (line_of bytes ≡ Err (column, kind)) ⊎ IsUnbuilt bytes column kind
+
+-- what the lines of a script give and refuse, of which nothing else is known than the bytes: a machine without a state
+abbrev pub AnyGives : Unit {0} → List ℕ → List ℕ → List (List ℕ) → Unit {0} → Type 0
+AnyGives old bytes text outside new = IsGoodLine bytes text
+
+abbrev pub AnyRefuses : Unit {0} → List ℕ → ℕ → Kind → Type 0
+AnyRefuses old bytes column kind = IsBadLine bytes column kind

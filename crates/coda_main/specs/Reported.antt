@@ -8,12 +8,12 @@ use Rattle.coda_stored.specs.Cells.{StoredCell, nothing_stored}
 use Rattle.coda_site.specs.Cells.{AreOnDisks}
 use Rattle.coda_runs.specs.Headline.{HasRun}
 use Rattle.coda_runs.specs.Runs.{LineGives, LineRefused}
-use Rattle.coda_main.specs.Lines.{IsGoodLine, IsBadLine}
+use Rattle.coda_main.specs.Lines.{AnyGives, AnyRefuses}
 
 -- Whatever the disks hold, what was read and written fits the status: each line that ran is a good one, and a line that ended the run is a bad one.
 abbrev pub IsReportOfLines : Option (List ℕ) → Option (List ℕ) → Option (List ℕ) → Option (List ℕ) → Status → Type 0
 IsReportOfLines left_old left_new held_old held_new status =
-    (outside : List (List ℕ)) × Reports (λ (old : Unit {0}) bytes text answered (new : Unit {0}). IsGoodLine bytes text) (λ (old : Unit {0}) bytes column kind. IsBadLine bytes column kind) tt tt left_old left_new held_old held_new outside status
+    (outside : List (List ℕ)) × Reports AnyGives AnyRefuses tt tt left_old left_new held_old held_new outside status
 
 -- What was read and written is the report of a run from the cell in which nothing was made, over disks that hold nothing; the run keeps what is
 -- promised of runs. Unless memory was wanting or the bay at fault, the bay answered what the run had of it, and its disks stand for the cell that
