@@ -103,11 +103,6 @@ said_of number (l ∷ waiting) sent can e = by (nat_eq number l.0) e (said_of nu
     by true e rest = (let same : l.1 ≡ sent = cc in subst CanBeSent same can.0)
     by false e rest = rest e
 
--- so can what came
-pub came_spelled : (waiting : Waiting) (net : Pool) (number : ℕ) (m : Message) → AreLetters waiting net → LettersDeliver waiting net number (Ok m) → HasSpelling message m
-came_spelled waiting net number m letters delivers =
-    let c = came waiting net number m delivers in subst (HasSpelling message) c.says (said_of number waiting c.sent letters.said c.at)
-
 -- ---- a chunk comes to a replica
 
 module _ {D : Type 0} (told : D → Told) (out : ℕ → Bool) (has : ℕ → Told) (cell : StoredCell) (kept : IsStoredKept cell) (site : Site D) (is : IsSite told out has cell site) (client server volume disk number : ℕ) (replica_on : is_up (replica_form told) (slot_at site.replicas disk) ≡ true)

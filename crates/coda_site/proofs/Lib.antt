@@ -20,4 +20,6 @@ pub mod SentChunks
 pub mod Delivered
 pub mod ClientLines
 pub mod ReplicaLines
+pub mod Makes
 pub mod MakingLines
+pub mod VolumeLines

@@ -1,10 +1,11 @@
 -- Lines that make actors.
-use Rattle.std.proofs.Common.{◌≡◌, ◌≢◌, inl, inr, ℕ, ◌+◌, Bool, List, [], ◌∷◌, append-nil, length, Option, Some, None, refl, sym, ap, subst, ◌∙◌}
+use Rattle.std.proofs.Common.{◌≡◌, ◌≢◌, inl, inr, ℕ, ◌+◌, Bool, true, List, [], ◌∷◌, append-nil, length, Option, Some, None, refl, sym, ap, subst, ◌∙◌}
 use Rattle.std.proofs.lemmas.Bool.{cases_eq}
 use Rattle.std.specs.BTreeMap.{BTreeMap}
 use Rattle.coda_disk.specs.Told.{Told}
 use Rattle.coda_journal.specs.declared.header.Header.{Header}
 use Rattle.coda_actors.specs.Clients.{client_form}
+use Rattle.coda_actors.specs.Slots.{is_made, IsOpened}
 use Rattle.coda_actors.specs.Plain.{PlainDisk, PlainActor, Step, Joins, Opens as OpenDeed}
 use Rattle.coda_actors.specs.declared.slot.Mounting.{Mounting}
 use Rattle.coda_actors.specs.declared.slot.Mounting.TheVariants.{Entries, Foreign, DiskFault, Memory}
@@ -26,9 +27,10 @@ use Rattle.coda_site.specs.Steps.{Becomes}
 use Rattle.coda_site.specs.declared.site.Site.{Site}
 use Rattle.coda_site.proofs.ClientSites.{with_actor, with_clients, plain_clients}
 use Rattle.coda_site.proofs.ClientLines.{client_at_here, client_at_else, client_site}
+use Rattle.coda_site.proofs.Makes.{up_made}
 
 -- a disk that holds nothing has no entries once it is mounted
-none_found : {Entry : Type 0} (header : Header) (new : PlainDisk Entry) → Joins header (record { header = None; history = []; failed = None }) new → new ≡ record { header = Some header; history = []; failed = None }
+pub none_found : {Entry : Type 0} (header : Header) (new : PlainDisk Entry) → Joins header (record { header = None; history = []; failed = None }) new → new ≡ record { header = Some header; history = []; failed = None }
 none_found {Entry} header new j = elim j.history [
   | inl none ↦ (λ i. record { header = j.given i; history = none i; failed = j.failed i })
   | inr more ↦ (let entry : Entry = more.0 in let no : None ≡ Some entry = more.1 in cc)
@@ -125,3 +127,13 @@ module _ {D : Type 0} (told : D → Told) (out out1 : ℕ → Bool) (has has1 : 
       let step = subst (λ (p : PlainActor Payload). Step (client_form told) p (OpenDeed header (Foreign at)) (takes.0 n)) old_is takes.1.0 in
       absurd step.1.0
   opens_client Memory reply answered says takes = absurd says
+
+  -- unless the reply is for want of memory, a line made it
+  pub client_is_made : (mounting : Mounting) (reply : Reply) (slot : Slot (Venus D) D) → SaysOpened mounting reply → Takes (client_form told) told is_client_disk (plain_clients cell) n (OpenDeed header mounting) out1 has1 slots
+      → IsOpened (client_form told) mounting slot → is_made slot ≡ true
+  client_is_made (Entries count) reply slot says takes opened = up_made (client_form told) slot opened
+  client_is_made DiskFault reply slot says takes opened = opened.0
+  client_is_made (Foreign at) reply slot says takes opened =
+      let step = subst (λ (p : PlainActor Payload). Step (client_form told) p (OpenDeed header (Foreign at)) (takes.0 n)) old_is takes.1.0 in
+      absurd step.1.0
+  client_is_made Memory reply slot says takes opened = absurd says

@@ -1,6 +1,6 @@
 -- What a client that sends a chunk leaves of a site.
 use Rattle.std.proofs.Common.{◌≡◌, ◌≤◌, ℕ, zero, suc, arith, ◌+◌, ◌==◌, Bool, true, false, not, List, [], ◌++◌, append-nil, map, Option, Some, None, is_some, option_map, Result, Ok, Err, refl, sym, ap, subst, ◌∙◌, inl}
-use Rattle.std.specs.Option.{option_map_or}
+use Rattle.std.specs.Option.{option_map_or, unwrap_or}
 use Rattle.std.specs.BTreeMap.{BTreeMap}
 use Rattle.std.proofs.lemmas.Bool.{false≢true, eq-eqb}
 use Rattle.coda_disk.specs.Told.{Told}
@@ -41,9 +41,9 @@ use Rattle.coda_sending.specs.Ending.{entries_on, deeds_for, number_said, Freezi
 use Rattle.coda_sending.proofs.Kept.{GoesOn, frozen_so}
 use Rattle.coda_stored.specs.Cells.{StoredCell, after_all}
 use Rattle.coda_stored.specs.Kept.{IsStoredKept}
-use Rattle.coda_stored.specs.Lines.{is_cut, refused_down, refused_full, client_down, EndsBy, Becoming, Acts, Happens}
+use Rattle.coda_stored.specs.Lines.{is_cut, is_down_for, refused_down, refused_full, client_down, EndsBy, Becoming, Acts, UnlessDown, DoesUp, Happens}
 use Rattle.coda_stored.specs.Room.{Fits as FitsEvents}
-use Rattle.coda_site.specs.Chunks.{volume_by, ClientEnds, IsRunning}
+use Rattle.coda_site.specs.Chunks.{volume_by, ClientEnds}
 use Rattle.coda_site.specs.Drains.{Acted, PostsChunk}
 use Rattle.coda_site.specs.Sites.{is_client_disk, place_in, IsSite}
 use Rattle.coda_site.specs.Steps.{Becomes}
@@ -219,10 +219,6 @@ module _ {D : Type 0} (told : D → Told) (out : ℕ → Bool) (has : ℕ → To
       froze : IsFrozenAs told c.0 hist volume (freezing site.clock window server (volume_by c.0 hist volume)) e.0 chunk
       froze = frozen_as told c.0 hist volume (freezing site.clock window server (volume_by c.0 hist volume)) e.0 chunk (e.2 hist c.2.up c.2.lawful)
 
-      -- the client runs on
-      pub runs_on : IsRunning told client clients
-      runs_on = record { header = c.0; venus = e.0; slot = e.1; payloads = journal_by (hist ++ entries_on volume froze.f.deeds); up = froze.runs }
-
     module _ (place : Place) (at : place_in site volume ≡ Some place) (home : place.server ≡ server) where
       pub send_cut : not (is_cut (linked_in site.net client server)) ≡ false → (reply : Reply) → reply ≡ refusal refused.LinkDown → Acted told out has cell (line.Send client volume server (Some window)) reply site
       send_cut cut = cut_sent told out has cell site is client volume server window place at home c.0 c.1 c.2 (cut_is (linked_in site.net client server) cut)
@@ -270,3 +266,14 @@ module _ {D : Type 0} (told : D → Told) (out : ℕ → Bool) (has : ℕ → To
 pub number_told : (n : ℕ) → (n ≡ 0 → ⊥) → n ≤ 4294967295 → HasSpelling table.ordinal n
 number_told zero not most = absurd (not refl)
 number_told (suc n) not most = within 1 4294967295 eight (suc n) (omega arith) most (omega (arith, most))
+
+-- ---- windows
+
+module _ (cell : StoredCell) (client volume server : ℕ) (window : Option ℕ) (reply : Reply) (outside : List (List ℕ)) (left : StoredCell) where
+  windowed_by : (down : Bool) → UnlessDown down cell (DoesUp cell (line.Send client volume server (Some (unwrap_or window 600)))) reply outside left → UnlessDown down cell (DoesUp cell (line.Send client volume server window)) reply outside left
+  windowed_by true stays = stays
+  windowed_by false sent = (sent.0, record { own = sent.1.own; events = sent.1.events; does = sent.1.does; ends = sent.1.ends })
+
+  -- a line that names no window sends as one that names the one that is meant
+  pub windowed : (w : ℕ) → w ≡ unwrap_or window 600 → Happens cell (line.Send client volume server (Some w)) reply outside left → Happens cell (line.Send client volume server window) reply outside left
+  windowed w same sent = windowed_by (is_down_for cell (line.Send client volume server window)) (subst (λ (x : ℕ). Happens cell (line.Send client volume server (Some x)) reply outside left) same sent)

@@ -1,5 +1,5 @@
 -- What an actor that is up does in its slot for a chunk.
-use Rattle.std.specs.Prelude.{◌≡◌, ℕ, Bool, List}
+use Rattle.std.specs.Prelude.{◌≡◌, ℕ, List}
 use Rattle.std.specs.BTreeMap.{BTreeMap}
 use Rattle.coda_disk.specs.Told.{Told}
 use Rattle.coda_journal.specs.declared.header.Header.{Header}
@@ -10,17 +10,12 @@ use Rattle.coda_actors.specs.declared.slot.Slot.TheVariants.{Started}
 use Rattle.coda_crew.specs.Crews.{slot_at}
 use Rattle.coda_replica.specs.Standing.{IsUp as IsReplicaUp}
 use Rattle.coda_replica.specs.declared.replica.Replica.{Replica}
-use Rattle.coda_venus.specs.History.{Payload}
 use Rattle.coda_venus.specs.Standing.{IsUp}
 use Rattle.coda_venus.specs.declared.venus.Venus.{Venus}
 use Rattle.coda_cell.specs.Made.{client_of}
 use Rattle.coda_cell.specs.State.{ClientVolume, ReplicaState, new_replica, replica_after_all}
 use Rattle.coda_matching.specs.Clients.{journal_by, IsClientHistory}
 use Rattle.coda_matching.specs.Replicas.{journal_at, IsReplicaHistory}
-use Rattle.coda_stored.specs.Cells.{StoredCell}
-use Rattle.coda_stored.specs.Kept.{IsStoredKept}
-use Rattle.coda_site.specs.Sites.{IsSite}
-use Rattle.coda_site.specs.declared.site.Site.{Site}
 
 -- ---- by histories
 
@@ -43,19 +38,3 @@ abbrev pub ReplicaEnds : {D : Type 0} → (D → Told) → ℕ → BTreeMap ℕ 
 ReplicaEnds {D = D} told number old new Ends =
     (header : Header) (replica : Replica D) → slot_at old number ≡ Started header replica → (left : Replica D) × (slot_at new number ≡ Started header left)
     × ((history : List ReplicaEntry) → IsReplicaUp told header replica (journal_at header.number history) → IsReplicaHistory header history → Ends header history left)
-
--- the slot has a client that is up with some history
-pub record IsRunning {D : Type 0} (told : D → Told) (number : ℕ) (slots : BTreeMap ℕ (Slot (Venus D) D)) : Type 0 where
-  pub header : Header
-  pub venus : Venus D
-  pub slot : slot_at slots number ≡ Started header venus
-  pub payloads : List Payload
-  pub up : IsUp told header venus payloads
-
--- ---- what a line may rely on
-
--- the site stands for some cell that is kept
-pub record IsShown {D : Type 0} (told : D → Told) (out : ℕ → Bool) (has : ℕ → Told) (site : Site D) : Type 0 where
-  pub cell : StoredCell
-  pub kept : IsStoredKept cell
-  pub stands : IsSite told out has cell site

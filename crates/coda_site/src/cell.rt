@@ -99,7 +99,13 @@ impl<B: Bay> Cell<B> {
                 volume,
                 servers,
                 area,
-            } => make_volume(bay, site, *volume, alone(servers.servers()), area.unwrap_or(AREA)),
+            } => make_volume(
+                bay,
+                site,
+                *volume,
+                alone(servers.servers()),
+                area.unwrap_or(AREA),
+            ),
             Line::Client {
                 client,
                 blocks,

@@ -2,7 +2,6 @@
 ghost use Rattle.std.specs.Prelude.{◌≡◌, ◌≤◌, ℕ, List, true, OnOk, IfSome};
 ghost use Rattle.coda_fid.specs.declared.op.Record.{Record as ARecord};
 ghost use Rattle.coda_journal.specs.declared.header.Header.{Header as AskedHeader};
-ghost use Rattle.coda_cancel.specs.Weights.{total_weight};
 ghost use Rattle.coda_record.specs.Form.{four};
 ghost use Rattle.coda_record.specs.Spelling.{HasSpelling};
 ghost use Rattle.coda_record.specs.Table.{client as a_client, server as a_server, volume as a_volume};
@@ -18,7 +17,7 @@ ghost use Rattle.coda_cell.specs.Sending.{freezing, ruling, taking};
 ghost use Rattle.coda_matching.specs.Clients.{journal_by, IsClientHistory};
 ghost use Rattle.coda_matching.specs.Replicas.{RulingEnds};
 ghost use Rattle.coda_sending.specs.Ending.{FreezingEnds, TakingEnds, verdict_in};
-ghost use Rattle.coda_site.specs.Chunks.{volume_by, replica_by, ClientEnds, ReplicaEnds, IsRunning};
+ghost use Rattle.coda_site.specs.Chunks.{volume_by, replica_by, ClientEnds, ReplicaEnds};
 
 use coda_actors::Slot;
 use coda_crew::{get, put, take as take_slot};
@@ -81,7 +80,6 @@ pub fn chunk_at<D: Disk>(
     ensures records { (header : AskedHeader) (venus : Venus D) (history : List ClientEntry) → slot_at clients.now client ≡ Slot.Started header venus
         → IsUp D.told header venus (journal_by history) → IsClientHistory header history → result.now ≡ sent_of (volume_by header history volume).front }
     ensures sendable { HasSpelling (some_records four) result.now }
-    ensures light { IsRunning D.told client clients.now → total_weight result.now ≤ 16777216 }
 {
     match get(clients, u32::from(client)) {
         Some(venus) => chunk_for(venus, volume),

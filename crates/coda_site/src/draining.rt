@@ -67,6 +67,7 @@ fn drain_up<B: Bay>(
     ensures does { (cell : StoredCell) (place : APlace) → IsStoredKept cell → IsSite B.D.told (B.out _bay.now) (B.has _bay.now) cell site.old
         → place_in site.old volume ≡ Some place → place.disk ≡ disk → place.server ≡ server → not (is_cut (linked_in site.old.net client server)) ≡ true
         → IfOk result (λ reply. Acted B.D.told (B.out _bay.now) (B.has _bay.now) cell (line.Task (task.Drain client volume server (Some window))) reply site.new) }
+    ensures net { site.new.net ≡ site.old.net }
     ensures memory { IfErr result (λ why. why ≡ CellFault.Memory) }
 {
     let until = Until {
@@ -115,6 +116,7 @@ pub fn drain<B: Bay>(
     ensures does { (cell : StoredCell) → IsStoredKept cell → IsSite B.D.told (B.out _bay.now) (B.has _bay.now) cell site.old
         → IfOk result (λ reply. Becomes B.D.told (B.out _bay.now) (B.has _bay.now) (Happens cell (line.Task (task.Drain client volume server (Some window))))
         reply (B.answered _bay.now) (B.answered _bay.now) site.new) }
+    ensures net { site.new.net ≡ site.old.net }
     ensures memory { IfErr result (λ why. why ≡ CellFault.Memory) }
 {
     if let Some(number) = site.missing_holder(client, volume, server) {

@@ -7,7 +7,7 @@ ghost use Rattle.coda_cell.specs.Steps.{is_built_task, is_plain};
 ghost use Rattle.coda_stored.specs.Cells.{StoredCell};
 ghost use Rattle.coda_stored.specs.Kept.{IsStoredKept};
 ghost use Rattle.coda_stored.specs.Lines.{is_built, Happens};
-ghost use Rattle.coda_site.specs.Sites.{IsSite, IsReady};
+ghost use Rattle.coda_site.specs.Sites.{IsSite, IsReady, IsClosable};
 ghost use Rattle.coda_site.specs.Steps.{Becomes};
 
 use crate::failing::{
@@ -84,6 +84,7 @@ pub fn set_link<B: Bay>(
         → IfOk result (λ reply. Becomes B.D.told (B.out _bay.now) (B.has _bay.now)
         (Happens cell (line.Link client server strength))
         reply (B.answered _bay.now) (B.answered _bay.now) site.new) }
+    ensures posted { site.new.net.posted ≡ site.old.net.posted }
     ensures memory { IfErr result (λ why. why ≡ CellFault.Memory) }
 {
     if let Some(number) = site.missing_end(client, server) {
@@ -102,6 +103,7 @@ pub fn set_link<B: Bay>(
 pub fn tick<B: Bay>(_bay: &B, site: &mut Site<B::D>, seconds: u32) -> Reply
     requires ready { IsReady B.D.told (B.out _bay.now) site.old }
     ensures ready { IsReady B.D.told (B.out _bay.now) site.new }
+    ensures net { site.new.net ≡ site.old.net }
     ensures does { (cell : StoredCell) → IsStoredKept cell
         → IsSite B.D.told (B.out _bay.now) (B.has _bay.now) cell site.old
         → Becomes B.D.told (B.out _bay.now) (B.has _bay.now) (Happens cell (line.Tick seconds))
@@ -170,6 +172,7 @@ pub fn fail<B: Bay>(bay: &mut B, site: &mut Site<B::D>, line: &Line) -> Result<R
     requires disk { is_disk_line line.now ≡ true }
     requires ready { IsReady B.D.told (B.out bay.old) site.old }
     ensures ready { result ≢ Err CellFault.Bay → IsReady B.D.told (B.out bay.new) site.new }
+    ensures closable { IsClosable (B.out bay.new) site.new }
     ensures does { (cell : StoredCell) → IsStoredKept cell → IsSite B.D.told (B.out bay.old) (B.has bay.old) cell site.old
         → IfOk result (λ reply. Becomes B.D.told (B.out bay.new) (B.has bay.new) (Happens cell line.now) reply (B.answered bay.old) (B.answered bay.new) site.new) }
     ensures net { site.new.net ≡ site.old.net }

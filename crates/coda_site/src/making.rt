@@ -1,4 +1,18 @@
 // Lines that make actors.
+ghost use Rattle.std.specs.Prelude.{◌≡◌, ◌≢◌, ◌≤◌, ◌<◌, ◌∷◌, ◌++◌, [], ℕ, List, ◌==◌, if◌then◌else◌, Some, None, IfOk, OnOk, OnErr, Err};
+ghost use Rattle.coda_io.specs.Faults.{Rose};
+ghost use Rattle.coda_crew.specs.declared.fault.CrewFault.TheVariants as crew_faults;
+ghost use Rattle.coda_script.specs.Ranges.{InRange};
+ghost use Rattle.coda_script.specs.declared.line.Line.TheVariants as line;
+ghost use Rattle.coda_script.specs.declared.reply.Reply.TheVariants as reply;
+ghost use Rattle.coda_stored.specs.Cells.{StoredCell, client_header, replica_header, disk_number};
+ghost use Rattle.coda_stored.specs.Kept.{IsStoredKept};
+ghost use Rattle.coda_stored.specs.Lines.{Happens, MakesVolume};
+ghost use Rattle.coda_site.specs.Makings.{SaysOpened};
+ghost use Rattle.coda_site.specs.Sites.{IsSite, IsReady, place_in};
+ghost use Rattle.coda_site.specs.Steps.{Becomes};
+ghost use Rattle.coda_site.specs.declared.site.Place.{Place as APlace};
+
 use crate::fault::CellFault;
 use crate::replies::{refuse, refuse_number};
 use crate::site::{Place, Site};
@@ -19,7 +33,9 @@ const MOST_AREAS: u32 = 512;
 pub const AREA: u8 = 8;
 
 // The header that a client's line asks for.
-fn client_header(client: u8, blocks: u32, area: u8) -> Header {
+fn client_header(client: u8, blocks: u32, area: u8) -> Header
+    ensures { result ≡ client_header client blocks area }
+{
     Header {
         kind: Kind::Client,
         number: u32::from(client),
@@ -31,7 +47,10 @@ fn client_header(client: u8, blocks: u32, area: u8) -> Header {
 }
 
 // That of the replica of a volume, which is on this server alone.
-fn replica_header(volume: u32, server: u8, area: u8) -> Header {
+fn replica_header(volume: u32, server: u8, area: u8) -> Header
+    requires { (1 ≤ server) × (server ≤ 8) }
+    ensures { result ≡ replica_header volume server area }
+{
     Header {
         kind: Kind::Replica,
         number: volume,
@@ -42,14 +61,27 @@ fn replica_header(volume: u32, server: u8, area: u8) -> Header {
     }
 }
 
-// The reply that an actor's disk had so many entries.
-fn counted(alloc: Global, entries: u64) -> Result<Reply, AllocError> {
+// The number of the disk of a server's replica of the volume that is made after so many others.
+fn disk_number(before: usize, server: u8) -> u32
+    requires { (before < 64) × (1 ≤ server) × (server ≤ 8) }
+    ensures { result ≡ disk_number before server }
+{
+    256 + 8 * before as u32 + u32::from(server - 1)
+}
+
+// The reply that an actor's disk had so many entries. Fails for want of memory alone.
+fn counted(alloc: Global, entries: u64) -> Result<Reply, AllocError>
+    ensures { IfOk result (λ said. said ≡ reply.Opened (entries ∷ [])) }
+{
     let numbers = vec![in alloc; entries]?;
     Ok(Reply::Opened(Numbers::from_vec(numbers)))
 }
 
 // The reply to a line that made an actor, by how the mounting of its disk ended.
-fn opened(alloc: Global, mounting: Mounting) -> Result<Reply, CellFault> {
+fn opened(alloc: Global, mounting: Mounting) -> Result<Reply, CellFault>
+    ensures says { IfOk result (λ said. SaysOpened mounting said) }
+    ensures only { result ≢ Err CellFault.Bay }
+{
     match mounting {
         Mounting::Entries(entries) => Ok(counted(alloc, entries)?),
         Mounting::DiskFault => Ok(refuse(alloc, Refusal::DiskFault)),
@@ -59,7 +91,9 @@ fn opened(alloc: Global, mounting: Mounting) -> Result<Reply, CellFault> {
 }
 
 // Why an actor's slot wasn't opened.
-fn unopened(fault: CrewFault) -> CellFault {
+fn unopened(fault: CrewFault) -> CellFault
+    ensures { result ≡ CellFault.Bay → fault ≡ crew_faults.Bay }
+{
     match fault {
         CrewFault::Bay => CellFault::Bay,
         CrewFault::Memory => CellFault::Memory,
@@ -77,9 +111,19 @@ pub fn make_client<B: Bay>(
     client: u8,
     blocks: u32,
     area: u8,
-) -> Result<Reply, CellFault> {
+) -> Result<Reply, CellFault>
+    requires ready { IsReady B.D.told (B.out bay.old) site.old }
+    requires range { InRange (line.Client client blocks (Some area)) }
+    ensures ready { IsReady B.D.told (B.out bay.new) site.new }
+    ensures does { (cell : StoredCell) → IsStoredKept cell → IsSite B.D.told (B.out bay.old) (B.has bay.old) cell site.old
+        → IfOk result (λ said. Becomes B.D.told (B.out bay.new) (B.has bay.new) (Happens cell (line.Client client blocks (Some area))) said (B.answered bay.old) (B.answered bay.new) site.new) }
+    ensures net { site.new.net ≡ site.old.net }
+    ensures later { B.faults bay.old ≤ B.faults bay.new }
+    ensures bay_cause { result ≡ Err CellFault.Bay → Rose (B.faults bay.old) (B.faults bay.new) }
+    ensures follows { B.follows bay.old bay.new }
+{
     if site.has_client(client) {
-        return Ok(refuse(site.alloc, Refusal::Exists));
+        return Ok(refuse(site.alloc, Refusal::AlreadyThere));
     }
     if site.areas + u32::from(area) > MOST_AREAS {
         return Ok(refuse(site.alloc, Refusal::CellFull));
@@ -97,8 +141,15 @@ pub fn make_client<B: Bay>(
     }
 }
 
-// Notes where a volume is made.
-fn note<D>(site: &mut Site<D>, volume: u32, place: Place) -> Result<(), AllocError> {
+// Notes where a volume is made that isn't there. Fails for want of memory alone, and then notes nothing.
+fn note<D>(site: &mut Site<D>, volume: u32, place: Place) -> Result<(), AllocError>
+    requires { place_in site.old volume ≡ None }
+    ensures servers { OnOk result (site.new.servers.items ≡ site.old.servers.items ++ place.server ∷ []) }
+    ensures places { OnOk result ((k : ℕ) → place_in site.new k ≡ (if k == volume then Some place else place_in site.old k)) }
+    ensures servers_err { OnErr result (site.new.servers.items ≡ site.old.servers.items) }
+    ensures places_err { OnErr result ((k : ℕ) → place_in site.new k ≡ place_in site.old k) }
+    ensures others { site.new ≡ record site.old { servers = site.new.servers; places = site.new.places } }
+{
     site.servers.push(place.server)?;
     if site.places.insert(volume, place).is_err() {
         site.servers.pop();
@@ -108,7 +159,11 @@ fn note<D>(site: &mut Site<D>, volume: u32, place: Place) -> Result<(), AllocErr
 }
 
 // Takes back where the volume was noted that came last.
-fn forget<D>(site: &mut Site<D>, volume: u32) {
+fn forget<D>(site: &mut Site<D>, volume: u32)
+    ensures servers { (before : List ℕ) (server : ℕ) → site.old.servers.items ≡ before ++ server ∷ [] → site.new.servers.items ≡ before }
+    ensures places { (k : ℕ) → place_in site.new k ≡ (if k == volume then None else place_in site.old k) }
+    ensures others { site.new ≡ record site.old { servers = site.new.servers; places = site.new.places } }
+{
     site.places.remove(&volume);
     site.servers.pop();
 }
@@ -124,15 +179,27 @@ pub fn make_volume<B: Bay>(
     volume: u32,
     server: u8,
     area: u8,
-) -> Result<Reply, CellFault> {
+) -> Result<Reply, CellFault>
+    requires ready { IsReady B.D.told (B.out bay.old) site.old }
+    requires volume { 1 ≤ volume }
+    requires server { (1 ≤ server) × (server ≤ 8) }
+    requires area { (1 ≤ area) × (area ≤ 64) }
+    ensures ready { IsReady B.D.told (B.out bay.new) site.new }
+    ensures does { (cell : StoredCell) → IsStoredKept cell → IsSite B.D.told (B.out bay.old) (B.has bay.old) cell site.old
+        → IfOk result (λ said. Becomes B.D.told (B.out bay.new) (B.has bay.new) (MakesVolume cell volume server area) said (B.answered bay.old) (B.answered bay.new) site.new) }
+    ensures net { site.new.net ≡ site.old.net }
+    ensures later { B.faults bay.old ≤ B.faults bay.new }
+    ensures bay_cause { result ≡ Err CellFault.Bay → Rose (B.faults bay.old) (B.faults bay.new) }
+    ensures follows { B.follows bay.old bay.new }
+{
     if site.places.contains_key(&volume) {
-        return Ok(refuse(site.alloc, Refusal::Exists));
+        return Ok(refuse(site.alloc, Refusal::AlreadyThere));
     }
     if site.servers.len() >= MOST_VOLUMES || site.areas + u32::from(area) > MOST_AREAS {
         return Ok(refuse(site.alloc, Refusal::CellFull));
     }
     let header = replica_header(volume, server, area);
-    let disk = 256 + 8 * site.servers.len() as u32 + u32::from(server - 1);
+    let disk = disk_number(site.servers.len(), server);
     // The place is noted first: then no memory is wanted behind the mounting for where the replica is.
     note(site, volume, Place { server, disk })?;
     match open(site.alloc, bay, &mut site.replicas, disk, &header) {

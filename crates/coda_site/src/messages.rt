@@ -1,5 +1,6 @@
 // Letters between clients and replicas: a client sends a chunk, and what was sent is delivered or lost.
-ghost use Rattle.std.specs.Prelude.{◌≡◌, ◌<◌, ◌^◌, ◌≢◌, ◌∷◌, [], ◌++◌, List, not, true, IfOk, IfErr, Some, None};
+ghost use Rattle.std.specs.Prelude.{◌≡◌, ◌<◌, ◌≤◌, ◌+◌, ◌^◌, ◌≢◌, ◌∷◌, [], ◌++◌, List, not, nat_le, true, IfOk, IfErr, Some, None};
+ghost use Rattle.coda_cancel.specs.Weights.{total_weight};
 ghost use Rattle.coda_fid.specs.declared.op.Record.{Record as ARecord};
 ghost use Rattle.coda_record.specs.Form.{four};
 ghost use Rattle.coda_record.specs.Spelling.{HasSpelling};
@@ -23,7 +24,6 @@ ghost use Rattle.coda_cell.specs.Steps.{first_missing, on_holder};
 ghost use Rattle.coda_stored.specs.Cells.{StoredCell};
 ghost use Rattle.coda_stored.specs.Kept.{IsStoredKept};
 ghost use Rattle.coda_stored.specs.Lines.{Happens, is_cut};
-ghost use Rattle.coda_site.specs.Chunks.{IsRunning, IsShown};
 ghost use Rattle.coda_site.specs.Drains.{Acted, Came, CameTo, PostsChunk};
 ghost use Rattle.coda_site.specs.Sites.{IsSite, IsReady, place_in};
 ghost use Rattle.coda_site.specs.Steps.{Becomes};
@@ -55,9 +55,27 @@ use std::collections::BTreeMap;
 /// The greatest number of a chunk.
 const GREATEST_CHUNK: u64 = 4_294_967_295;
 
+/// What the records of a letter weigh at most: 16 MiB.
+const HEAVIEST: u64 = 16_777_216;
+
 // ---- a client sends
 
-// Posts the chunk of a client that is up, over a link that is up, where it has a number that can be told: the number of its letter.
+// Whether records weigh no more than those of a letter may.
+fn are_light(recs: &[Record]) -> bool
+    ensures { result ≡ nat_le (total_weight recs.now) 16777216 }
+{
+    let mut left = HEAVIEST;
+    for rec in recs {
+        match left.checked_sub(rec.weight()) {
+            Some(rest) => left = rest,
+            None => return false,
+        }
+    }
+    true
+}
+
+// Posts the chunk of a client that is up, over a link that is up: the number of its letter. A log that a history left has a number that can be told
+// for its chunk, and records that are light.
 fn post_chunk<D: Disk>(
     alloc: Global,
     net: &mut Net,
@@ -68,17 +86,17 @@ fn post_chunk<D: Disk>(
     chunk: u64,
 ) -> Result<u64, CellFault>
     requires up { is_up (client_form D.told) (slot_at clients.now client) ≡ true }
-    requires runs { IsRunning D.told client clients.now }
     requires client { HasSpelling a_client client }
     requires volume { HasSpelling a_volume volume }
     requires server { HasSpelling a_server server }
     requires few { net.old.posted < 2 ^ 63 }
     ensures posts { IfOk result (λ message. PostsChunk D.told client volume server chunk clients.now net.old net.new message) }
     ensures links { net.new.links ≡ net.old.links }
+    ensures posted { net.new.posted ≤ net.old.posted + 1 }
     ensures memory { IfErr result (λ why. why ≡ CellFault.Memory) }
 {
     let recs = chunk_at(clients, client, volume);
-    if chunk == 0 || chunk > GREATEST_CHUNK {
+    if chunk == 0 || chunk > GREATEST_CHUNK || !are_light(recs) {
         return Err(CellFault::Memory);
     }
     match send_chunk(alloc, net, client, server, volume, chunk, recs) {
@@ -98,7 +116,6 @@ fn send_up<B: Bay>(
     window: u64,
 ) -> Result<Reply, CellFault>
     requires ready { IsReady B.D.told (B.out _bay.now) site.old }
-    requires shown { IsShown B.D.told (B.out _bay.now) (B.has _bay.now) site.old }
     requires up { is_up (client_form B.D.told) (slot_at site.old.clients client) ≡ true }
     requires client { HasSpelling a_client client }
     requires volume { HasSpelling a_volume volume }
@@ -108,6 +125,7 @@ fn send_up<B: Bay>(
     ensures does { (cell : StoredCell) (place : APlace) → IsStoredKept cell → IsSite B.D.told (B.out _bay.now) (B.has _bay.now) cell site.old
         → place_in site.old volume ≡ Some place → place.server ≡ server → not (is_cut (linked_in site.old.net client server)) ≡ true
         → IfOk result (λ reply. Acted B.D.told (B.out _bay.now) (B.has _bay.now) cell (line.Send client volume server (Some window)) reply site.new) }
+    ensures posted { site.new.net.posted ≤ site.old.net.posted + 1 }
     ensures memory { IfErr result (λ why. why ≡ CellFault.Memory) }
 {
     let until = Until {
@@ -145,13 +163,13 @@ pub fn send<B: Bay>(
     window: u64,
 ) -> Result<Reply, CellFault>
     requires ready { IsReady B.D.told (B.out _bay.now) site.old }
-    requires shown { IsShown B.D.told (B.out _bay.now) (B.has _bay.now) site.old }
     requires range { InRange (line.Send client volume server (Some window)) }
     requires few { site.old.net.posted < 2 ^ 63 }
     ensures ready { IsReady B.D.told (B.out _bay.now) site.new }
     ensures does { (cell : StoredCell) → IsStoredKept cell → IsSite B.D.told (B.out _bay.now) (B.has _bay.now) cell site.old
         → IfOk result (λ reply. Becomes B.D.told (B.out _bay.now) (B.has _bay.now) (Happens cell (line.Send client volume server (Some window)))
         reply (B.answered _bay.now) (B.answered _bay.now) site.new) }
+    ensures posted { site.new.net.posted ≤ site.old.net.posted + 1 }
     ensures memory { IfErr result (λ why. why ≡ CellFault.Memory) }
 {
     if let Some(number) = site.missing_holder(client, volume, server) {
@@ -187,6 +205,7 @@ fn rule_up<B: Bay>(
     ensures does { (cell : StoredCell) (place : APlace) (span : List ARecord) → IsStoredKept cell → IsSite B.D.told (B.out _bay.now) (B.has _bay.now) cell site.old
         → place_in site.old volume ≡ Some place → place.disk ≡ disk → place.server ≡ server → first_missing (on_holder (state_of cell.made) client volume server) ≡ None
         → recs.now ≡ sent_of span → IfOk result (λ reply. Came B.D.told (B.out _bay.now) (B.has _bay.now) cell (ChunkSent client server volume number span) reply site.new) }
+    ensures posted { site.new.net.posted ≤ site.old.net.posted + 1 }
     ensures memory { IfErr result (λ why. why ≡ CellFault.Memory) }
 {
     let answer = match rule_at(&mut site.replicas, disk, client, number, recs) {
@@ -233,6 +252,7 @@ fn chunk_comes<B: Bay>(
     ensures does { (cell : StoredCell) (span : List ARecord) → IsStoredKept cell → IsSite B.D.told (B.out _bay.now) (B.has _bay.now) cell site.old → recs.now ≡ sent_of span
         → IfOk result (λ reply. Becomes B.D.told (B.out _bay.now) (B.has _bay.now) (CameTo cell (ChunkSent client server volume number span))
         reply (B.answered _bay.now) (B.answered _bay.now) site.new) }
+    ensures posted { site.new.net.posted ≤ site.old.net.posted + 1 }
     ensures memory { IfErr result (λ why. why ≡ CellFault.Memory) }
 {
     if let Some(number) = site.missing_holder(client, volume, server) {
@@ -266,6 +286,7 @@ fn take_up<B: Bay>(
     ensures does { (cell : StoredCell) → IsStoredKept cell → IsSite B.D.told (B.out _bay.now) (B.has _bay.now) cell site.old
         → first_missing (on_holder (state_of cell.made) client volume server) ≡ None
         → IfOk result (λ reply. Came B.D.told (B.out _bay.now) (B.has _bay.now) cell (AnswerSent server client volume number answer) reply site.new) }
+    ensures posted { site.new.net.posted ≤ site.old.net.posted + 1 }
     ensures memory { IfErr result (λ why. why ≡ CellFault.Memory) }
 {
     if !can_be_posted(&answer) {
@@ -293,6 +314,7 @@ fn answer_comes<B: Bay>(
     ensures does { (cell : StoredCell) → IsStoredKept cell → IsSite B.D.told (B.out _bay.now) (B.has _bay.now) cell site.old
         → IfOk result (λ reply. Becomes B.D.told (B.out _bay.now) (B.has _bay.now) (CameTo cell (AnswerSent server client volume number answer))
         reply (B.answered _bay.now) (B.answered _bay.now) site.new) }
+    ensures posted { site.new.net.posted ≤ site.old.net.posted + 1 }
     ensures memory { IfErr result (λ why. why ≡ CellFault.Memory) }
 {
     if let Some(number) = site.missing_holder(client, volume, server) {
@@ -324,12 +346,12 @@ fn undelivered(alloc: Global, why: LetterFault) -> Result<Reply, CellFault>
 /// `Memory` alone.
 pub fn deliver<B: Bay>(bay: &B, site: &mut Site<B::D>, message: u64) -> Result<Reply, CellFault>
     requires ready { IsReady B.D.told (B.out bay.now) site.old }
-    requires shown { IsShown B.D.told (B.out bay.now) (B.has bay.now) site.old }
     requires few { site.old.net.posted < 2 ^ 63 }
     ensures ready { IsReady B.D.told (B.out bay.now) site.new }
     ensures does { (cell : StoredCell) → IsStoredKept cell → IsSite B.D.told (B.out bay.now) (B.has bay.now) cell site.old
         → IfOk result (λ reply. Becomes B.D.told (B.out bay.now) (B.has bay.now) (Happens cell (line.Deliver message))
         reply (B.answered bay.now) (B.answered bay.now) site.new) }
+    ensures posted { site.new.net.posted ≤ site.old.net.posted + 1 }
     ensures memory { IfErr result (λ why. why ≡ CellFault.Memory) }
 {
     match read_letter(site.alloc, &site.net, message) {
@@ -366,6 +388,7 @@ pub fn lose<B: Bay>(_bay: &B, site: &mut Site<B::D>, message: u64) -> Result<Rep
     ensures does { (cell : StoredCell) → IsStoredKept cell → IsSite B.D.told (B.out _bay.now) (B.has _bay.now) cell site.old
         → IfOk result (λ reply. Becomes B.D.told (B.out _bay.now) (B.has _bay.now) (Happens cell (line.Lose message))
         reply (B.answered _bay.now) (B.answered _bay.now) site.new) }
+    ensures posted { site.new.net.posted ≡ site.old.net.posted }
     ensures memory { IfErr result (λ why. why ≡ CellFault.Memory) }
 {
     match lose_letter(&mut site.net, message) {

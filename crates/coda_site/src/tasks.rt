@@ -158,6 +158,7 @@ fn perform<B: Bay>(
         → IfOk result (λ reply. Becomes B.D.told (B.out _bay.now) (B.has _bay.now)
         (Asks cell client volume (λ o c. operate_answer o c cell.made.clock volume (asked_as (asked ask.entry))))
         reply (B.answered _bay.now) (B.answered _bay.now) site.new) }
+    ensures net { site.new.net ≡ site.old.net }
     ensures memory { IfErr result (λ why. why ≡ CellFault.Memory) }
 {
     if let Some(number) = site.missing(client, volume) {
@@ -200,6 +201,7 @@ fn look<B: Bay>(
         → IfOk result (λ reply. Becomes B.D.told (B.out _bay.now) (B.has _bay.now)
         (Asks cell client volume (λ o c. show_answer what o c volume path.now))
         reply (B.answered _bay.now) (B.answered _bay.now) site.new) }
+    ensures net { site.new.net ≡ site.old.net }
     ensures memory { IfErr result (λ why. why ≡ CellFault.Memory) }
 {
     if let Some(number) = site.missing(client, volume) {
@@ -250,6 +252,7 @@ fn store<B: Bay>(
         (Asks cell client volume
         (λ o c. operate_answer o c cell.made.clock volume (Store path.now (bytes_of content.now))))
         reply (B.answered bay.now) (B.answered bay.now) site.new) }
+    ensures net { site.new.net ≡ site.old.net }
     ensures memory { IfErr result (λ why. why ≡ CellFault.Memory) }
 {
     match content {
@@ -271,6 +274,7 @@ fn make<B: Bay>(bay: &B, site: &mut Site<B::D>, task: &Task) -> Result<Reply, Ce
         → IsSite B.D.told (B.out bay.now) (B.has bay.now) cell site.old
         → IfOk result (λ reply. Becomes B.D.told (B.out bay.now) (B.has bay.now) (Happens cell (line.Task task.now))
         reply (B.answered bay.now) (B.answered bay.now) site.new) }
+    ensures net { site.new.net ≡ site.old.net }
     ensures memory { IfErr result (λ why. why ≡ CellFault.Memory) }
 {
     match task {
@@ -326,6 +330,7 @@ fn change<B: Bay>(bay: &B, site: &mut Site<B::D>, task: &Task) -> Result<Reply, 
         → IsSite B.D.told (B.out bay.now) (B.has bay.now) cell site.old
         → IfOk result (λ reply. Becomes B.D.told (B.out bay.now) (B.has bay.now) (Happens cell (line.Task task.now))
         reply (B.answered bay.now) (B.answered bay.now) site.new) }
+    ensures net { site.new.net ≡ site.old.net }
     ensures memory { IfErr result (λ why. why ≡ CellFault.Memory) }
 {
     match task {
@@ -372,6 +377,7 @@ pub fn carry_out<B: Bay>(bay: &B, site: &mut Site<B::D>, task: &Task) -> Result<
         → IsSite B.D.told (B.out bay.now) (B.has bay.now) cell site.old
         → IfOk result (λ reply. Becomes B.D.told (B.out bay.now) (B.has bay.now) (Happens cell (line.Task task.now))
         reply (B.answered bay.now) (B.answered bay.now) site.new) }
+    ensures net { site.new.net ≡ site.old.net }
     ensures memory { IfErr result (λ why. why ≡ CellFault.Memory) }
 {
     match task {

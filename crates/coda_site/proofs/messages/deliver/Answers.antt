@@ -2,23 +2,18 @@ use Rattle.std.proofs.Common.{Ok, sym, subst, ◌∙◌}
 use Rattle.coda_letters.specs.Calls.{Delivers}
 use Rattle.coda_record.specs.Spelling.{HasSpelling}
 use Rattle.coda_wire.specs.Table.{message}
-use Rattle.coda_wire.specs.declared.message.Message.TheVariants.{Chunk, Verdict}
+use Rattle.coda_wire.specs.declared.message.Message.TheVariants.{Chunk}
 use Rattle.coda_site.proofs.Stages.{if_ok, said_ok}
-use Rattle.coda_site.proofs.Delivered.{came_spelled, chunk_delivered, answer_delivered, not_delivered}
+use Rattle.coda_site.proofs.Delivered.{chunk_delivered, answer_delivered, not_delivered}
 use Rattle.coda_site.proofs.messages.deliver.Goals as goal
 
 pub chunk_comes-requires-clause-spelled : goal.chunk_comes-requires-clause-spelled
-chunk_comes-requires-clause-spelled g c κs within =
-    let letters = c.requires.shown.stands.net.letters in
-    let waiting = c.requires.shown.cell.made.waiting in
+chunk_comes-requires-clause-spelled g c =
     subst (λ recs. HasSpelling message (Chunk c.in-Ok-Chunk.client c.in-Ok-Chunk.server c.in-Ok-Chunk.volume c.in-Ok-Chunk.number recs)) (sym c.records.ensures)
-    (came_spelled waiting c.args.site.now.net c.args.message (Chunk c.in-Ok-Chunk.client c.in-Ok-Chunk.server c.in-Ok-Chunk.volume c.in-Ok-Chunk.number c.in-Ok-Chunk.recs) letters (subst (λ m. Delivers waiting c.args.site.now.net c.args.message (Ok m)) c.in-Ok-Chunk.field-0-is (c.in-Ok-Chunk.ensures.delivers waiting letters)))
+    (subst (HasSpelling message) c.in-Ok-Chunk.field-0-is c.in-Ok-Chunk.ensures.spelled)
 
 pub answer_comes-requires-clause-spelled : goal.answer_comes-requires-clause-spelled
-answer_comes-requires-clause-spelled g c κs within =
-    let letters = c.requires.shown.stands.net.letters in
-    let waiting = c.requires.shown.cell.made.waiting in
-    came_spelled waiting c.args.site.now.net c.args.message (Verdict c.in-Ok-Verdict.server c.in-Ok-Verdict.client c.in-Ok-Verdict.volume c.in-Ok-Verdict.number c.in-Ok-Verdict.answer) letters (subst (λ m. Delivers waiting c.args.site.now.net c.args.message (Ok m)) c.in-Ok-Verdict.field-0-is (c.in-Ok-Verdict.ensures.delivers waiting letters))
+answer_comes-requires-clause-spelled g c = subst (HasSpelling message) c.in-Ok-Verdict.field-0-is c.in-Ok-Verdict.ensures.spelled
 
 pub returns-in-Ok-Chunk-clause-does : goal.returns-in-Ok-Chunk-clause-does
 returns-in-Ok-Chunk-clause-does g c = λ cell kept is. if_ok _ c.chunk_comes.result (λ reply e.

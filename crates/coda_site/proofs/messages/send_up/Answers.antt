@@ -4,13 +4,8 @@ use Rattle.coda_site.proofs.ClientSites.{with_clients}
 use Rattle.coda_site.proofs.Theres.{client_disk}
 use Rattle.coda_site.proofs.Stages.{client_ready, if_ok, refused_reply}
 use Rattle.coda_site.proofs.Posted.{net_ready}
-use Rattle.coda_site.proofs.SentChunks.{runs_on, send_unfrozen, send_done}
+use Rattle.coda_site.proofs.SentChunks.{send_unfrozen, send_done}
 use Rattle.coda_site.proofs.messages.send_up.Goals as goal
-
-pub post_chunk-requires-clause-runs : goal.post_chunk-requires-clause-runs
-post_chunk-requires-clause-runs g c =
-    runs_on g.B.D.Disk.told (g.B.Bay.out c.args._bay.now) (g.B.Bay.has c.args._bay.now) c.requires.shown.cell c.requires.shown.kept c.args.site.now c.requires.shown.stands c.args.client c.args.volume c.args.server c.args.window
-    (client_disk c.args.client c.ranges.client.fits) c.requires.up c.freeze_at.new.clients c.in-Ok.chunk c.in-Ok.ensures.ends
 
 pub returns-in_err-message-in-Ok-clause-ready : goal.returns-in_err-message-in-Ok-clause-ready
 returns-in_err-message-in-Ok-clause-ready g c =

@@ -5,7 +5,7 @@ use Rattle.coda_site.proofs.Carrying.{attrs_so, operated_task}
 use Rattle.coda_site.proofs.tasks.change.Goals as goal
 
 pub perform-requires-clause-ask : goal.perform-requires-clause-ask
-perform-requires-clause-ask g c κs in_scope = attrs_so c.args.task.now c.in-Setattr.client c.in-Setattr.volume c.in-Setattr.path c.in-Setattr.attrs c.in-Setattr.is c.requires.range
+perform-requires-clause-ask g c = attrs_so c.args.task.now c.in-Setattr.client c.in-Setattr.volume c.in-Setattr.path c.in-Setattr.attrs c.in-Setattr.is c.requires.range
 
 pub returns-in-Setattr-clause-does : goal.returns-in-Setattr-clause-does
 returns-in-Setattr-clause-does g c = λ cell kept is.

@@ -5,31 +5,31 @@ use Rattle.coda_actors.specs.Replicas.{replica_form}
 use Rattle.coda_stored.specs.Cells.{plain_client}
 use Rattle.coda_venus.specs.History.{Payload}
 use Rattle.coda_site.specs.Sites.{is_client_disk, is_replica_disk}
-use Rattle.coda_site.proofs.Closing.{side_of, client_alone, replica_alone, all_held, vacant, out_over, fits_over, stands_over}
+use Rattle.coda_site.proofs.Closing.{side_of, client_alone, replica_alone, all_held, held_vacant, held_over, vacant, out_over, fits_over, stands_over}
 use Rattle.coda_site.proofs.cell.Cell.close.Goals as goal
 
-pub give_back-requires-2-after_bounds : goal.give_back-requires-2-after_bounds
-give_back-requires-2-after_bounds g c = λ lifetimes bounds number.
+pub give_back-requires-2 : goal.give_back-requires-2
+give_back-requires-2 g c = λ number.
     let out0 = g.B.Bay.out c.args.self.bay in
     let out1 = g.B.Bay.out c.give_back.new.bay in
     let has0 = g.B.Bay.has c.args.self.bay in
     let has1 = g.B.Bay.has c.give_back.new.bay in
     let clients = c.args.self.site.clients in
     let replicas = c.args.self.site.replicas in
-    let ready = c.requires in
-    let be = c.give_back.ensures.others is_replica_disk (λ k own. vacant is_client_disk out0 clients ready.clients k (replica_alone k own)) in
-    all_held is_replica_disk out1 replicas (out_over is_replica_disk out0 out1 has0 has1 replicas be ready.replicas) number
+    let closes = c.requires in
+    let be = c.give_back.ensures.others is_replica_disk (λ k own. held_vacant is_client_disk out0 clients closes.clients k (replica_alone k own)) in
+    all_held is_replica_disk out1 replicas (held_over is_replica_disk out0 out1 has0 has1 replicas be closes.replicas) number
 
 pub returns-clause-out : goal.returns-clause-out
-returns-clause-out g c = λ number.
+returns-clause-out g c = λ ready number.
     let out0 = g.B.Bay.out c.args.self.bay in
     let out1 = g.B.Bay.out c.give_back.new.bay in
     let has0 = g.B.Bay.has c.args.self.bay in
     let has1 = g.B.Bay.has c.give_back.new.bay in
     let clients = c.args.self.site.clients in
     let replicas = c.args.self.site.replicas in
-    let ready = c.requires in
-    let be = c.give_back.ensures.others is_replica_disk (λ k own. vacant is_client_disk out0 clients ready.clients k (replica_alone k own)) in
+    let closes = c.requires in
+    let be = c.give_back.ensures.others is_replica_disk (λ k own. held_vacant is_client_disk out0 clients closes.clients k (replica_alone k own)) in
     let left = out_over is_replica_disk out0 out1 has0 has1 replicas be ready.replicas in
     let after = c.give_back-2.ensures.others is_client_disk (λ k own. vacant is_replica_disk out1 replicas left k (client_alone k own)) in
     elim (side_of number) [
@@ -38,7 +38,7 @@ returns-clause-out g c = λ number.
     ]
 
 pub returns-clause-stands : goal.returns-clause-stands
-returns-clause-stands g c = λ cell site.
+returns-clause-stands g c = λ cell ready site.
     let told = g.B.D.Disk.told in
     let out0 = g.B.Bay.out c.args.self.bay in
     let out1 = g.B.Bay.out c.give_back.new.bay in
@@ -46,8 +46,8 @@ returns-clause-stands g c = λ cell site.
     let has1 = g.B.Bay.has c.give_back.new.bay in
     let clients = c.args.self.site.clients in
     let replicas = c.args.self.site.replicas in
-    let ready = c.requires in
-    let be = c.give_back.ensures.others is_replica_disk (λ k own. vacant is_client_disk out0 clients ready.clients k (replica_alone k own)) in
+    let closes = c.requires in
+    let be = c.give_back.ensures.others is_replica_disk (λ k own. held_vacant is_client_disk out0 clients closes.clients k (replica_alone k own)) in
     let out2 = g.B.Bay.out c.give_back-2.new.bay in
     let has2 = g.B.Bay.has c.give_back-2.new.bay in
     let left = out_over is_replica_disk out0 out1 has0 has1 replicas be ready.replicas in

@@ -1,0 +1,178 @@
+use Rattle.std.proofs.Common.{◌≡◌, ◌+◌, ◌≤◌, ◌<◌, ◌==◌, ℕ, List, true, false, cond, length, Some, sym, ap, subst, ◌∙◌}
+use Rattle.std.proofs.lemmas.Bool.{false≢true}
+use Rattle.std.specs.Prelude.{nat_lt, nat_le, ◌||◌, is_some}
+use Rattle.coda_journal.specs.declared.header.Header.{Header}
+use Rattle.coda_actors.specs.Plain.{Opens as OpenDeed}
+use Rattle.coda_actors.specs.Replicas.{replica_form}
+use Rattle.coda_actors.specs.Slots.{is_made}
+use Rattle.coda_crew.specs.Crews.{slot_at, Takes, KeepsOtherSlots, FitsAll, OutAll, OwnAll}
+use Rattle.coda_crew.proofs.Lifts.{others_left}
+use Rattle.coda_plain.specs.Moves.{TheReplica}
+use Rattle.coda_script.specs.declared.reply.Reply.{Reply}
+use Rattle.coda_cell.specs.declared.refused.Refused.TheVariants.{AlreadyThere, CellFull}
+use Rattle.coda_stored.specs.Cells.{replica_header, disk_number}
+use Rattle.coda_stored.specs.Lines.{MakesVolume, Opens, no_volume, with_volume}
+use Rattle.coda_site.specs.Makings.{SaysOpened}
+use Rattle.coda_site.specs.Sites.{is_client_disk, is_replica_disk, place_in, IsReady}
+use Rattle.coda_site.specs.Steps.{Becomes}
+use Rattle.coda_site.specs.declared.site.Place.{Place}
+use Rattle.coda_site.proofs.Becomings.{becomes_as}
+use Rattle.coda_site.proofs.ClientLines.{stays_becomes}
+use Rattle.coda_site.proofs.Closing.{replica_alone, out_over}
+use Rattle.coda_site.proofs.Makes.{unless_none, unless_some, volume_already, volume_full, volume_fits, none_there, no_room_left, room_left, few_areas, many_volumes, full_of_areas, has_room, replica_number, volume_opened, volume_forgotten, forgotten_place, next_unmade}
+use Rattle.coda_site.proofs.Stages.{if_ok, said_ok}
+use Rattle.coda_site.proofs.VolumeLines.{some_home, IsNoted, opens_volume, replica_is_made}
+use Rattle.coda_site.proofs.making.make_volume.Goals.{then-is_made, else-is_made, then-len-ge-MOST_VOLUMES-via-then-len-ge-MOST_VOLUMES, then-len-ge-MOST_VOLUMES-via-else-len-ge-MOST_VOLUMES+then-site-from-gt-MOST_AREAS}
+use Rattle.coda_site.proofs.making.make_volume.Goals as goal
+
+pub returns-then-contains_key-clause-does : goal.returns-then-contains_key-clause-does
+returns-then-contains_key-clause-does g c = λ cell kept is.
+    let volume = c.args.volume in
+    let server = c.args.server in
+    let area = c.args.area in
+    let there : is_some (cell.made.homes volume) ≡ true = ap is_some (is.homes volume) ∙ some_home (place_in c.args.site.now volume) ∙ sym c.if-contains_key.ensures in
+    stays_becomes g.B.D.Disk.told (g.B.Bay.out c.args.bay.now) (g.B.Bay.has c.args.bay.now) cell (MakesVolume cell volume server area) c.refuse.result (g.B.Bay.answered c.args.bay.now) c.args.site.now
+    (unless_some cell (no_volume cell volume area) AlreadyThere (Opens cell (replica_header volume server area) (with_volume cell volume server area) (TheReplica server volume)) c.refuse.result (volume_already cell volume area there) c.refuse.ensures) is
+
+pub returns-then-len-ge-MOST_VOLUMES-clause-does : goal.returns-then-len-ge-MOST_VOLUMES-clause-does
+returns-then-len-ge-MOST_VOLUMES-clause-does g c = λ cell kept is.
+    let volume = c.args.volume in
+    let server = c.args.server in
+    let area = c.args.area in
+    let site = c.args.site.now in
+    let absent : is_some (cell.made.homes volume) ≡ false = ap is_some (is.homes volume) ∙ some_home (place_in site volume) ∙ sym c.if-contains_key.ensures in
+    let many : length cell.made.servers ≡ c.len.result = ap length is.servers ∙ sym site.servers.ok.0 ∙ sym c.len.ensures in
+    let full : (nat_le 64 (length cell.made.servers) || nat_lt 512 (cell.areas + area)) ≡ true = elim c.then-len-ge-MOST_VOLUMES.branch [
+      | then-len-ge-MOST_VOLUMES-via-then-len-ge-MOST_VOLUMES w ↦ many_volumes (length cell.made.servers) c.len.result (nat_lt 512 (cell.areas + area)) many w.if-len-ge-MOST_VOLUMES.true
+      | then-len-ge-MOST_VOLUMES-via-else-len-ge-MOST_VOLUMES+then-site-from-gt-MOST_AREAS w ↦ full_of_areas (nat_le 64 (length cell.made.servers)) (nat_lt 512 (cell.areas + area)) (no_room_left site.areas cell.areas area w.from.result is.areas w.from.ensures w.if-site-from-gt-MOST_AREAS.true)
+    ] in
+    stays_becomes g.B.D.Disk.told (g.B.Bay.out c.args.bay.now) (g.B.Bay.has c.args.bay.now) cell (MakesVolume cell volume server area) c.refuse-then-len-ge-MOST_VOLUMES.result (g.B.Bay.answered c.args.bay.now) site
+    (unless_some cell (no_volume cell volume area) CellFull (Opens cell (replica_header volume server area) (with_volume cell volume server area) (TheReplica server volume)) c.refuse-then-len-ge-MOST_VOLUMES.result (volume_full cell volume area absent full) c.refuse-then-len-ge-MOST_VOLUMES.ensures) is
+
+pub returns-after-is_made-clause-ready : goal.returns-after-is_made-clause-ready
+returns-after-is_made-clause-ready g c =
+    let told = g.B.D.Disk.told in
+    let out = g.B.Bay.out c.args.bay.now in
+    let has = g.B.Bay.has c.args.bay.now in
+    let out1 = g.B.Bay.out c.open.new.bay in
+    let has1 = g.B.Bay.has c.open.new.bay in
+    let site = c.args.site.now in
+    let ready = c.requires.ready in
+    let volume = c.args.volume in
+    let server = c.args.server in
+    let number = c.disk_number-disk.result in
+    let noted = c.note.new.site in
+    let told_of = c.in_ok-note.ensures in
+    let number_is : number ≡ disk_number (length site.servers.items) server = c.disk_number-disk.ensures ∙ ap (λ (m : ℕ). disk_number m server) (c.len-2.ensures ∙ site.servers.ok.0) in
+    let clients : noted.clients ≡ site.clients = ap (λ s. s.clients) told_of.others in
+    let replicas : noted.replicas ≡ site.replicas = ap (λ s. s.replicas) told_of.others in
+    let areas : noted.areas ≡ site.areas = ap (λ s. s.areas) told_of.others in
+    let own : is_replica_disk number ≡ true = subst (λ (m : ℕ). is_replica_disk m ≡ true) (sym number_is) (replica_number (length site.servers.items) server) in
+    let be = others_left is_client_disk out out1 has has1 number (replica_alone number own) c.in-Ok.ensures.others c.in-Ok.ensures.keeps in
+    let others = out_over is_client_disk out out1 has has1 site.clients be ready.clients in
+    let outs = c.in-Ok.ensures.out is_replica_disk (subst (λ r. OutAll is_replica_disk out r) (sym replicas) ready.replicas) own in
+    let owns = c.in-Ok.ensures.own (subst (λ r. OwnAll (replica_form told) r) (sym replicas) ready.replicas_own) in
+    let kept : KeepsOtherSlots (disk_number (length site.servers.items) server) site.replicas c.open.new.slots = subst (λ r. KeepsOtherSlots (disk_number (length site.servers.items) server) r c.open.new.slots) replicas
+    (subst (λ (m : ℕ). KeepsOtherSlots m noted.replicas c.open.new.slots) number_is c.in-Ok.ensures.slots) in
+    let places : (k : ℕ) → place_in noted k ≡ cond (k == volume) (Some (record { server = server; disk = disk_number (length site.servers.items) server })) (place_in site k) =
+    (λ k. told_of.places k ∙ ap (λ (m : ℕ). cond (k == volume) (Some (record { server = server; disk = m })) (place_in site k)) number_is) in
+    elim c.if-is_made.branch [
+      | then-is_made w ↦ subst (IsReady told out1) (sym w.site-is)
+          (volume_opened told out out1 site ready c.open.new.slots volume server c.requires.server.0 c.requires.server.1 outs owns others kept noted told_of.servers places clients
+          (subst (λ (m : ℕ). m < 64) (c.len.ensures ∙ site.servers.ok.0) c.if-len-ge-MOST_VOLUMES.false) (noted.areas + w.from-then-is_made.result)
+          (subst (λ (a : ℕ). a + w.from-then-is_made.result ≤ 512) (sym areas) (subst (λ (a : ℕ). site.areas + a ≤ 512) (sym w.from-then-is_made.ensures) (few_areas site.areas c.args.area c.from.result c.from.ensures c.if-site-from-gt-MOST_AREAS.false))))
+      | else-is_made w ↦ (
+          let left = w.forget.new.site in
+          let gone = w.forget.ensures in
+          subst (IsReady told out1) (sym w.site-is)
+          (volume_forgotten told out out1 site ready c.open.new.slots volume server c.requires.server.0 c.requires.server.1 outs owns others kept left
+          (gone.servers site.servers.items server told_of.servers) (none_there (place_in site volume) (sym c.if-contains_key.ensures))
+          (λ k. gone.places k ∙ forgotten_place (k == volume) (Some (record { server = server; disk = disk_number (length site.servers.items) server })) (place_in site k) (place_in noted k) (places k))
+          (ap (λ s. s.clients) gone.others ∙ clients) (subst (λ (m : ℕ). is_made (slot_at c.open.new.slots m) ≡ false) number_is (sym c.is_made.ensures ∙ w.if-is_made.false)) (ap (λ s. s.replicas) gone.others) (subst (λ (a : ℕ). a ≤ 512) (sym (ap (λ s. s.areas) gone.others ∙ areas)) ready.areas)))
+    ]
+
+pub returns-after-is_made-clause-does : goal.returns-after-is_made-clause-does
+returns-after-is_made-clause-does g c = λ cell kept is.
+    let told = g.B.D.Disk.told in
+    let out = g.B.Bay.out c.args.bay.now in
+    let has = g.B.Bay.has c.args.bay.now in
+    let out1 = g.B.Bay.out c.open.new.bay in
+    let has1 = g.B.Bay.has c.open.new.bay in
+    let site = c.args.site.now in
+    let volume = c.args.volume in
+    let server = c.args.server in
+    let area = c.args.area in
+    let number = c.disk_number-disk.result in
+    let mounting = c.in-Ok.mounting in
+    let noted = c.note.new.site in
+    let told_of = c.in_ok-note.ensures in
+    let disk : ℕ = disk_number (length cell.made.servers) server in
+    let place : Place = record { server = server; disk = disk } in
+    let number_is : number ≡ disk = c.disk_number-disk.ensures ∙ ap (λ (m : ℕ). disk_number m server) (c.len-2.ensures ∙ site.servers.ok.0) ∙ ap (λ (l : List ℕ). disk_number (length l) server) (sym is.servers) in
+    let absent : is_some (cell.made.homes volume) ≡ false = ap is_some (is.homes volume) ∙ some_home (place_in site volume) ∙ sym c.if-contains_key.ensures in
+    let none = none_there (cell.made.homes volume) absent in
+    let many : length cell.made.servers ≡ c.len.result = ap length is.servers ∙ sym site.servers.ok.0 ∙ sym c.len.ensures in
+    let fits = has_room (length cell.made.servers) c.len.result (nat_lt 512 (cell.areas + area)) many c.if-len-ge-MOST_VOLUMES.false (room_left site.areas cell.areas area c.from.result is.areas c.from.ensures c.if-site-from-gt-MOST_AREAS.false) in
+    let own : is_replica_disk number ≡ true = subst (λ (m : ℕ). is_replica_disk m ≡ true) (sym number_is) (replica_number (length cell.made.servers) server) in
+    let be = others_left is_client_disk out out1 has has1 number (replica_alone number own) c.in-Ok.ensures.others c.in-Ok.ensures.keeps in
+    let replicas : noted.replicas ≡ site.replicas = ap (λ s. s.replicas) told_of.others in
+    let is_noted : IsNoted site volume place noted = record {
+      servers = told_of.servers;
+      places = λ k. told_of.places k ∙ ap (λ (m : ℕ). cond (k == volume) (Some (record { server = server; disk = m })) (place_in site k)) number_is;
+      clock = ap (λ s. s.clock) told_of.others;
+      areas = ap (λ s. s.areas) told_of.others;
+      clients = ap (λ s. s.clients) told_of.others;
+      net = ap (λ s. s.net) told_of.others;
+    } in
+    let plain = is.replicas.0 in
+    let took = c.in-Ok.ensures.step is_replica_disk plain (subst (λ r. FitsAll (replica_form told) told is_replica_disk out has r plain) (sym replicas) is.replicas.2) own in
+    let takes = subst (λ (m : ℕ). Takes (replica_form told) told is_replica_disk plain m (OpenDeed (replica_header volume server area) mounting) out1 has1 c.open.new.slots) number_is
+    (subst (λ (h : Header). Takes (replica_form told) told is_replica_disk plain number (OpenDeed h mounting) out1 has1 c.open.new.slots) c.replica_header-header.ensures took) in
+    let Leaves : Reply → Type 0 = λ reply. Becomes told out1 has1 (MakesVolume cell volume server area) reply (g.B.Bay.answered c.args.bay.now) (g.B.Bay.answered c.open.new.bay) c.if-is_made.site in
+    if_ok Leaves c.opened.result (λ reply e.
+    let says = said_ok (λ (said : Reply). SaysOpened mounting said) c.opened.result reply e c.opened.ensures.says in
+    let made = replica_is_made told out out1 has has1 cell kept site is volume server area c.requires.server.0 c.requires.server.1 none c.open.new.slots be noted is_noted mounting reply (slot_at c.open.new.slots number) says takes c.in-Ok.ensures.opened in
+    let stood = opens_volume told out out1 has has1 cell kept site is volume server area c.requires.server.0 c.requires.server.1 none c.open.new.slots be noted is_noted mounting reply (g.B.Bay.answered c.args.bay.now) says takes in
+    elim c.if-is_made.branch [
+      | then-is_made w ↦ subst (Becomes told out1 has1 (MakesVolume cell volume server area) reply (g.B.Bay.answered c.args.bay.now) (g.B.Bay.answered c.open.new.bay)) (sym w.site-is)
+          (subst (λ (a : List (List ℕ)). Becomes told out1 has1 (MakesVolume cell volume server area) reply (g.B.Bay.answered c.args.bay.now) a (record noted { replicas = c.open.new.slots; areas = noted.areas + w.from-then-is_made.result })) (sym c.in-Ok.ensures.answered)
+          (subst (λ (a : ℕ). Becomes told out1 has1 (MakesVolume cell volume server area) reply (g.B.Bay.answered c.args.bay.now) (g.B.Bay.answered c.args.bay.now) (record noted { replicas = c.open.new.slots; areas = noted.areas + a })) (sym w.from-then-is_made.ensures)
+          (becomes_as told out1 has1 (Opens cell (replica_header volume server area) (with_volume cell volume server area) (TheReplica server volume)) (MakesVolume cell volume server area) reply (g.B.Bay.answered c.args.bay.now) (g.B.Bay.answered c.args.bay.now) (record noted { replicas = c.open.new.slots; areas = noted.areas + area })
+          (λ outside left opens. unless_none cell (no_volume cell volume area) (Opens cell (replica_header volume server area) (with_volume cell volume server area) (TheReplica server volume)) reply outside left (volume_fits cell volume area absent fits) opens) stood)))
+      | else-is_made w ↦ absurd (false≢true (sym w.if-is_made.false ∙ c.is_made.ensures ∙ made))
+    ])
+
+pub returns-in-Err-clause-ready : goal.returns-in-Err-clause-ready
+returns-in-Err-clause-ready g c =
+    let told = g.B.D.Disk.told in
+    let out = g.B.Bay.out c.args.bay.now in
+    let has = g.B.Bay.has c.args.bay.now in
+    let out1 = g.B.Bay.out c.open.new.bay in
+    let has1 = g.B.Bay.has c.open.new.bay in
+    let site = c.args.site.now in
+    let ready = c.requires.ready in
+    let volume = c.args.volume in
+    let server = c.args.server in
+    let number = c.disk_number-disk.result in
+    let noted = c.note.new.site in
+    let told_of = c.in_ok-note.ensures in
+    let disk : ℕ = disk_number (length site.servers.items) server in
+    let number_is : number ≡ disk = c.disk_number-disk.ensures ∙ ap (λ (m : ℕ). disk_number m server) (c.len-2.ensures ∙ site.servers.ok.0) in
+    let clients : noted.clients ≡ site.clients = ap (λ s. s.clients) told_of.others in
+    let replicas : noted.replicas ≡ site.replicas = ap (λ s. s.replicas) told_of.others in
+    let areas : noted.areas ≡ site.areas = ap (λ s. s.areas) told_of.others in
+    let own : is_replica_disk number ≡ true = subst (λ (m : ℕ). is_replica_disk m ≡ true) (sym number_is) (replica_number (length site.servers.items) server) in
+    let be = others_left is_client_disk out out1 has has1 number (replica_alone number own) c.in-Err.ensures.others c.in-Err.ensures.keeps in
+    let others = out_over is_client_disk out out1 has has1 site.clients be ready.clients in
+    let outs = c.in-Err.ensures.out is_replica_disk (subst (λ r. OutAll is_replica_disk out r) (sym replicas) ready.replicas) own in
+    let owns = c.in-Err.ensures.own (subst (λ r. OwnAll (replica_form told) r) (sym replicas) ready.replicas_own) in
+    let kept : KeepsOtherSlots disk site.replicas c.open.new.slots = subst (λ r. KeepsOtherSlots disk r c.open.new.slots) replicas (subst (λ (m : ℕ). KeepsOtherSlots m noted.replicas c.open.new.slots) number_is c.in-Err.ensures.slots) in
+    let places : (k : ℕ) → place_in noted k ≡ cond (k == volume) (Some (record { server = server; disk = disk })) (place_in site k) =
+    (λ k. told_of.places k ∙ ap (λ (m : ℕ). cond (k == volume) (Some (record { server = server; disk = m })) (place_in site k)) number_is) in
+    let left = c.forget-in-Err.new.site in
+    let gone = c.forget-in-Err.ensures in
+    let same : slot_at c.open.new.slots disk ≡ slot_at site.replicas disk = c.in-Err.ensures.slots_err disk ∙ ap (λ r. slot_at r disk) replicas in
+    volume_forgotten told out out1 site ready c.open.new.slots volume server c.requires.server.0 c.requires.server.1 outs owns others kept left
+    (gone.servers site.servers.items server told_of.servers) (none_there (place_in site volume) (sym c.if-contains_key.ensures))
+    (λ k. gone.places k ∙ forgotten_place (k == volume) (Some (record { server = server; disk = disk })) (place_in site k) (place_in noted k) (places k))
+    (ap (λ s. s.clients) gone.others ∙ clients) (ap is_made same ∙ next_unmade told out site ready server) (ap (λ s. s.replicas) gone.others) (subst (λ (a : ℕ). a ≤ 512) (sym (ap (λ s. s.areas) gone.others ∙ areas)) ready.areas)
