@@ -1,12 +1,5 @@
 pub mod Words
-pub mod Texts
-pub mod PlainRun
+pub mod Lines
 pub mod Shows
-pub mod Headline
-pub mod Complete
+pub mod Reported
 pub mod Cached
-pub mod Lettered
-pub mod Thawed
-pub mod Performed
-pub mod Shown
-pub mod Causes

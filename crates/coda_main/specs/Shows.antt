@@ -1,44 +1,60 @@
--- The cell of the code as a machine: what it does is what any cell by its histories may do that it shows.
-use Rattle.std.specs.Prelude.{◌≡◌, ◌≤◌, ℕ, ⊤, ◌⊎◌, nat_lt, List, Err, if◌then◌else◌}
-use Rattle.coda_engine.specs.declared.status.Kind.{Kind}
+-- The cell of the code as a machine: what it does is what any cell on disks may do that it shows.
+use Rattle.std.specs.Prelude.{◌≡◌, ◌≤◌, ◌++◌, ℕ, Bool, ⊤, nat_lt, List, drop, length, if◌then◌else◌}
+use Rattle.coda_disk.specs.Told.{Told}
 use Rattle.coda_engine.specs.declared.machine.LineStop.{LineStop}
 use Rattle.coda_engine.specs.declared.machine.LineStop.TheVariants.{Refused, Bay, Memory as OutOfMemory}
 use Rattle.coda_script.specs.declared.fault.LineFault.{LineFault}
 use Rattle.coda_script.specs.declared.fault.LineFault.TheVariants.{BadLine, Memory}
 use Rattle.coda_script.specs.declared.line.Line.{Line}
 use Rattle.coda_script.specs.declared.reply.Reply.{Reply}
-use Rattle.coda_script.specs.Lines.{line_of}
-use Rattle.coda_cell.specs.State.{CellState}
-use Rattle.coda_cell.specs.Made.{MadeCell, state_of}
-use Rattle.coda_cell.specs.Steps.{Does}
-use Rattle.coda_cell.specs.Cells.{IsCell, Carried}
-use Rattle.coda_cell.specs.Runs.{IsKept}
-use Rattle.coda_cell.specs.Spelled.{CanBeSpelled}
-use Rattle.coda_cell.specs.declared.cell.Cell.{Cell}
-use Rattle.coda_main.specs.declared.machine.CellMachine.{CellMachine}
-use Rattle.coda_main.specs.PlainRun.{LineGives, LineRefused, IsUnbuilt}
-use Rattle.coda_main.specs.Texts.{text_of}
+use Rattle.coda_cell.specs.Made.{state_of}
+use Rattle.coda_stored.specs.Kept.{IsStoredKept}
+use Rattle.coda_stored.specs.Lines.{Happens}
+use Rattle.coda_site.specs.Sites.{IsSite, IsReady, IsClosable}
+use Rattle.coda_site.specs.declared.site.Site.{Site}
+use Rattle.coda_runs.specs.Shows.{Recorded, RecordGives}
+use Rattle.coda_runs.specs.Texts.{text_of}
+use Rattle.coda_main.specs.Lines.{IsGoodLine, IsBadLine}
 
--- the histories are those of a cell between two lines, what that cell has can be spelled, and the cell of the code is what they leave
-pub record Shows (plain : MadeCell) (machine : CellMachine) : Type 0 where
-  pub kept : IsKept plain
-  pub can : CanBeSpelled plain
-  pub left : IsCell (state_of plain) machine.cell
+-- What a cell of the code is between two lines: the numbers that are out of its bay, what the disks tell that the bay has, the images that its
+-- crashes left, and the site.
+pub record Moment (D : Type 0) : Type 1 where
+  pub out : ℕ → Bool
+  pub has : ℕ → Told
+  pub answered : List (List ℕ)
+  pub site : Site D
 
--- after so many lines the machine shows some cell by its histories, in which as many letters were posted at most
-pub record MayRun (machine : CellMachine) (lines : ℕ) : Type 0 where
-  pub plain : MadeCell
-  pub shows : Shows plain machine
-  pub few : plain.acted.posted ≤ lines
+abbrev pub moment : {D : Type 0} → (ℕ → Bool) → (ℕ → Told) → List (List ℕ) → Site D → Moment D
+moment out has answered site = record { out = out; has = has; answered = answered; site = site }
 
--- From each cell by its histories that old shows, one that new shows may be reached by this line.
-abbrev pub CellGives : CellMachine → List ℕ → List ℕ → List (List ℕ) → CellMachine → Type 0
-CellGives old bytes text outside new =
-    (plain : MadeCell) → Shows plain old → (next : MadeCell) × LineGives plain bytes text outside next × Shows next new
+-- The cell that is recorded is kept, the site and the bay stand for it, and the bay answered what is recorded.
+pub record Shows {D : Type 0} (told : D → Told) (plain : Recorded) (now : Moment D) : Type 0 where
+  pub kept : IsStoredKept plain.cell
+  pub stands : IsSite told now.out now.has plain.cell now.site
+  pub answered : now.answered ≡ plain.answered
 
--- Each cell by its histories that the machine shows refuses this line.
-abbrev pub CellRefuses : CellMachine → List ℕ → ℕ → Kind → Type 0
-CellRefuses machine bytes column kind = (plain : MadeCell) → Shows plain machine → LineRefused plain bytes column kind
+-- the site goes on, and gives all disks back that are out
+abbrev pub MayGoOn : {D : Type 0} → (D → Told) → Moment D → Type 0
+MayGoOn told now = IsReady told now.out now.site
+
+-- the site gives back what it has
+abbrev pub MayClose : {D : Type 0} → Moment D → Type 0
+MayClose now = IsClosable now.out now.site
+
+-- after so many lines the site goes on, and as many letters were posted at most
+abbrev pub MayRun : {D : Type 0} → (D → Told) → Moment D → ℕ → Type 0
+MayRun told now lines = MayGoOn told now × (now.site.net.posted ≤ lines)
+
+-- the images that the bay answered from one moment to another
+abbrev pub answered_since : {D : Type 0} → Moment D → Moment D → List (List ℕ)
+answered_since old new = drop (length old.answered) new.answered
+
+-- A line ran: it is a good one; the site goes on if it did before; and from each cell on disks that old shows, one that new shows may be
+-- reached by this line.
+pub record CellGives {D : Type 0} (told : D → Told) (old : Moment D) (bytes text : List ℕ) (outside : List (List ℕ)) (new : Moment D) : Type 0 where
+  pub good : IsGoodLine bytes text
+  pub goes_on : MayGoOn told old → MayGoOn told new
+  pub gives : (plain : Recorded) → Shows told plain old → (next : Recorded) × RecordGives plain bytes text outside next × Shows told next new
 
 -- how a line stops that wasn't read: as its fault says; a column of 4 GiB or more, which no script has, can't be named
 abbrev pub stop_at : LineFault → LineStop
@@ -47,12 +63,21 @@ stop_at Memory = OutOfMemory
 
 -- how bytes stop that say no line, or none that is built: as the cell refuses them, or for want of memory
 abbrev pub StopsSo : List ℕ → LineStop → Type 0
-StopsSo bytes (Refused fault) = (line_of bytes ≡ Err (fault.column, fault.kind)) ⊎ IsUnbuilt bytes fault.column fault.kind
+StopsSo bytes (Refused fault) = IsBadLine bytes fault.column fault.kind
 StopsSo bytes Bay = ⊥
 StopsSo bytes OutOfMemory = ⊤
 
--- From a state a line was carried out, and its reply's text is that in each state which the cell then shows.
-pub record Answered (before : CellState) (said : Line) (text : List ℕ) (cell : Cell) : Type 0 where
+-- how a line stops that was read: the bay refused a call, or there was no memory
+abbrev pub StopsWithin : LineStop → Type 0
+StopsWithin (Refused fault) = ⊥
+StopsWithin Bay = ⊤
+StopsWithin OutOfMemory = ⊤
+
+-- From a cell on disks a line may have a reply whose text is this one, and what it leaves is shown.
+pub record Answered {D : Type 0} (told : D → Told) (plain : Recorded) (said : Line) (text : List ℕ) (old new : Moment D) : Type 0 where
+  pub next : Recorded
   pub reply : Reply
-  pub carried : Carried (Does before said) before reply cell
-  pub printed : (after : CellState) → IsCell after cell → text ≡ text_of after reply
+  pub happens : Happens plain.cell said reply (answered_since old new) next.cell
+  pub printed : text ≡ text_of (state_of next.cell.made) reply
+  pub answered : next.answered ≡ plain.answered ++ answered_since old new
+  pub shows : Shows told next new

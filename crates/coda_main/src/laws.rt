@@ -1,126 +1,20 @@
-// What follows from the answers of a run, and what all runs have in common.
+// What holds of lines and of replies, whatever cell they are of.
 ghost use Rattle.coda_engine.specs.Exact.{CleanScriptsRun, OneStatus};
-ghost use Rattle.coda_cell.specs.Made.{nothing_made};
 ghost use Rattle.coda_main.specs.Cached.{CachedIsHeld};
-ghost use Rattle.coda_main.specs.Causes.{RefusalsHaveCauses};
-ghost use Rattle.coda_main.specs.Complete.{ScriptsInGrammarAreClean};
-ghost use Rattle.coda_main.specs.Headline.{ScriptsRun, ChunksAreDecidedOnce, CertifiedChunksAreApplied, ConflictsNameASentRecord, OperationsAreKept, SettlementsAreDecided, LogsArePending};
-ghost use Rattle.coda_main.specs.Lettered.{RepliesNameLetters, LettersSayWhatIsSo, LettersHaveEnds};
-ghost use Rattle.coda_main.specs.Performed.{OperationsArePerformed};
-ghost use Rattle.coda_main.specs.PlainRun.{LineGives, LineRefused};
-ghost use Rattle.coda_main.specs.Shown.{WhatIsShownIsThere};
-ghost use Rattle.coda_main.specs.Thawed.{VerdictsThaw};
-
-/// A script that the cell can run from its first line to its last, within the limits, never ends as one with a bad
-/// line or as one that is too long.
-pub fn clean_scripts_run()
-    ensures { CleanScriptsRun LineGives LineRefused nothing_made nothing_made }
-{}
-
-/// A script has one status, however it is cut into pieces, but for faults and want of memory.
-pub fn one_status()
-    ensures { OneStatus LineGives LineRefused nothing_made nothing_made }
-{}
-
-/// A script within the limits whose lines are silent, or in the grammar and built, can run to its end from whatever
-/// cell: each of its lines has a reply.
-pub fn scripts_in_the_grammar_are_clean()
-    ensures { ScriptsInGrammarAreClean }
-{}
-
-/// Whatever lines ran from an empty cell, what they left is a run from nothing: what happened to clients and
-/// servers might happen to them entry by entry, and so what is promised of runs is kept.
-pub fn scripts_run()
-    ensures { ScriptsRun }
-{}
-
-/// Whatever lines ran from an empty cell, each chunk of a client is decided at most once (Kistler and
-/// Satyanarayanan 1992: a log is replayed as one transaction).
-pub fn chunks_are_decided_once()
-    ensures { ChunksAreDecidedOnce }
-{}
-
-/// Whatever lines ran, where the operations of a chunk certify in turn, as they were before cancellation, the chunk
-/// is applied, and leaves the volume that replaying them leaves (Kistler and Satyanarayanan 1992: cancellation
-/// changes no outcome).
-pub fn certified_chunks_are_applied()
-    ensures { CertifiedChunksAreApplied }
-{}
-
-/// Whatever lines ran, a conflict names the first of the records sent that certification refuses; the operations of
-/// the chunk don't certify either, as they were before cancellation; and the volume is as it was.
-pub fn conflicts_name_a_sent_record()
-    ensures { ConflictsNameASentRecord }
-{}
-
-/// Whatever lines ran, no operation that a client accepted is lost, and none is done twice: in order, each is in
-/// one chunk that a server applied, or pending.
-pub fn operations_are_kept()
-    ensures { OperationsAreKept }
-{}
-
-/// Whatever lines ran, and whatever letters were lost or came twice, a client settles a chunk only by a verdict
-/// that a server of the volume decided on it.
-pub fn settlements_are_decided()
-    ensures { SettlementsAreDecided }
-{}
-
-/// Whatever lines ran, a client's log of a volume is what cancellation leaves of the operations that no chunk
-/// applied.
-pub fn logs_are_pending()
-    ensures { LogsArePending }
-{}
+ghost use Rattle.coda_main.specs.Lines.{AnyGives, AnyRefuses};
 
 /// A reply to a read or a listing says `cached` exactly where the client held the object before the line.
 pub fn cached_is_held()
     ensures { CachedIsHeld }
 {}
 
-/// Whatever lines ran, what a reply tells of a letter is so: the chunk of a `send` waits under the number that is
-/// named, and no letter is added where one waited that says the same; the answer to a chunk that was delivered
-/// waits likewise, and what was delivered waits on; and a letter that is lost waits no more. No other line touches
-/// letters, nor does one that is refused.
-pub fn replies_name_letters()
-    ensures { RepliesNameLetters }
+/// Over any bay, a script within the limits whose lines are built or say nothing never ends as one with a bad line or
+/// as one that is too long.
+pub fn good_lines_run_over_any_bay()
+    ensures { CleanScriptsRun AnyGives AnyRefuses tt tt }
 {}
 
-/// Whatever lines ran, a letter with a chunk says what its client froze for this server under the chunk's number,
-/// and a letter with a verdict says that of a decision of a server of the volume.
-pub fn letters_say_what_is_so()
-    ensures { LettersSayWhatIsSo }
-{}
-
-/// Whatever lines ran, the client, the volume and the server of a letter that waits are there.
-pub fn letters_have_ends()
-    ensures { LettersHaveEnds }
-{}
-
-/// Whatever lines ran, a drain that is answered by a verdict leaves no chunk of the client's log of the volume
-/// frozen.
-pub fn verdicts_thaw()
-    ensures { VerdictsThaw }
-{}
-
-/// Whatever lines ran, an operation that is answered as done did what its line asked, over what its client held and
-/// fetched for it: the new object stands under the path's last name with the kind, mode and owner that were asked
-/// for, the file has the content, the object has the attributes, is gone with its name, or is bound under the new
-/// name alone. All other objects, and all their names, are as they were, but an object that a rename replaces,
-/// which is gone. The operation is the last of those that no server applied, with the number that is answered. No
-/// other line is answered so.
-pub fn operations_are_performed()
-    ensures { OperationsArePerformed }
-{}
-
-/// Whatever lines ran, what a reply shows of a file, a link or a directory is in the object that the line's path
-/// leads to, over what the client held and what it fetched, which is as the volume's server has it.
-pub fn what_is_shown_is_there()
-    ensures { WhatIsShownIsThere }
-{}
-
-/// Whatever lines ran, an operation, a read or a listing is done, or it is refused for a cause that holds, over
-/// what the client held and fetched: names that lead nowhere, since a directory doesn't bind one, an object isn't a
-/// directory or isn't held; what stands at the path isn't what the operation needs; the name is taken; the log or
-/// the journal is full; or an actor that it names isn't there.
-pub fn refusals_have_causes()
-    ensures { RefusalsHaveCauses }
+/// A script has one status over all bays, however it is cut into pieces, but for faults and want of memory.
+pub fn one_status_over_all_bays()
+    ensures { OneStatus AnyGives AnyRefuses tt tt }
 {}

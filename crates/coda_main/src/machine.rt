@@ -1,8 +1,11 @@
 // The cell as a machine that runs the lines of a script.
-ghost use Rattle.std.specs.Prelude.{◌≡◌, ◌<◌, ◌^◌, true, IfOk, IfErr, IfSome, Ok};
+ghost use Rattle.std.specs.Prelude.{◌≡◌, ◌<◌, ◌≤◌, ◌+◌, ◌^◌, true, IfOk, IfErr, OnOk, IfSome, Ok, Err};
+ghost use Rattle.coda_io.specs.Faults.{Rose};
 ghost use Rattle.coda_script.specs.Lines.{line_of};
+ghost use Rattle.coda_script.specs.Ranges.{InRange};
 ghost use Rattle.coda_stored.specs.Lines.{is_built};
-ghost use Rattle.coda_main.specs.Shows.{StopsSo, stop_at};
+ghost use Rattle.coda_runs.specs.Shows.{Recorded};
+ghost use Rattle.coda_main.specs.Shows.{moment, Shows, MayGoOn, MayClose, Answered, StopsSo, StopsWithin, stop_at};
 
 use crate::report::text_of;
 use coda_disk::Bay;
@@ -24,16 +27,6 @@ pub struct CellMachine<B: Bay> {
     pub cell: Cell<B>,
 }
 
-impl<B: Bay> CellMachine<B> {
-    /// A cell in which nothing was made.
-    pub fn new(alloc: Global, bay: B) -> CellMachine<B>
-    {
-        CellMachine {
-            cell: Cell::new(alloc, bay),
-        }
-    }
-}
-
 // Why a line was not read.
 fn stop_of(fault: coda_script::LineFault) -> LineStop
     ensures { result ≡ stop_at fault }
@@ -51,6 +44,7 @@ fn stop_of(fault: coda_script::LineFault) -> LineStop
 fn built_line(alloc: Global, line: &[u8]) -> Result<Option<Line>, LineStop>
     ensures spelled { IfOk result (λ o. line_of line.now ≡ Ok o) }
     ensures built { IfOk result (λ o. IfSome o (λ said. is_built said ≡ true)) }
+    ensures ranges { IfOk result (λ o. IfSome o InRange) }
     ensures refused { IfErr result (StopsSo line.now) }
 {
     match read_line(alloc, line) {
@@ -68,6 +62,19 @@ fn built_line(alloc: Global, line: &[u8]) -> Result<Option<Line>, LineStop>
 
 // Carries out a line that is built, and writes its reply in the cell that it leaves.
 fn answer<B: Bay>(alloc: Global, cell: &mut Cell<B>, said: &Line) -> Result<Vec<u8>, LineStop>
+    requires built { is_built said.now ≡ true }
+    requires range { InRange said.now }
+    requires goes_on { MayGoOn B.D.told (moment (B.out cell.old.bay) (B.has cell.old.bay) (B.answered cell.old.bay) cell.old.site) }
+    requires few { cell.old.site.net.posted < 2 ^ 63 }
+    ensures goes_on { OnOk result (MayGoOn B.D.told (moment (B.out cell.new.bay) (B.has cell.new.bay) (B.answered cell.new.bay) cell.new.site)) }
+    ensures closable { MayClose (moment (B.out cell.new.bay) (B.has cell.new.bay) (B.answered cell.new.bay) cell.new.site) }
+    ensures answered { IfOk result (λ text. (plain : Recorded) → Shows B.D.told plain (moment (B.out cell.old.bay) (B.has cell.old.bay) (B.answered cell.old.bay) cell.old.site)
+        → Answered B.D.told plain said.now text.items (moment (B.out cell.old.bay) (B.has cell.old.bay) (B.answered cell.old.bay) cell.old.site) (moment (B.out cell.new.bay) (B.has cell.new.bay) (B.answered cell.new.bay) cell.new.site)) }
+    ensures stopped { IfErr result StopsWithin }
+    ensures posted { cell.new.site.net.posted ≤ cell.old.site.net.posted + 1 }
+    ensures later { B.faults cell.old.bay ≤ B.faults cell.new.bay }
+    ensures bay_cause { result ≡ Err LineStop.Bay → Rose (B.faults cell.old.bay) (B.faults cell.new.bay) }
+    ensures follows { B.follows cell.old.bay cell.new.bay }
 {
     let reply = match cell.step(said) {
         Ok(reply) => reply,
@@ -81,19 +88,22 @@ fn answer<B: Bay>(alloc: Global, cell: &mut Cell<B>, said: &Line) -> Result<Vec<
 }
 
 impl<B: Bay> Machine for CellMachine<B> {
-    ghost gives = { λ a b c d e. Unit {0} };
+    ghost use Rattle.coda_main.specs.Lines.{IsBadLine};
+    ghost use Rattle.coda_main.specs.Shows.{MayRun, CellGives};
 
-    ghost refuses = { λ a b c d. Unit {0} };
+    ghost gives = { λ old line text outside new. CellGives B.D.told (moment (B.out old.cell.bay) (B.has old.cell.bay) (B.answered old.cell.bay) old.cell.site) line text outside (moment (B.out new.cell.bay) (B.has new.cell.bay) (B.answered new.cell.bay) new.cell.site) };
+
+    ghost refuses = { λ machine line column kind. IsBadLine line column kind };
 
     ghost faults = { λ machine. B.faults machine.cell.bay };
 
-    ghost ready = { λ a b. Unit {0} };
+    ghost ready = { λ machine lines. MayRun B.D.told (moment (B.out machine.cell.bay) (B.has machine.cell.bay) (B.answered machine.cell.bay) machine.cell.site) lines };
 
-    ghost follows = { λ a b. Unit {0} };
+    ghost follows = { λ old new. (MayClose (moment (B.out old.cell.bay) (B.has old.cell.bay) (B.answered old.cell.bay) old.cell.site) → MayClose (moment (B.out new.cell.bay) (B.has new.cell.bay) (B.answered new.cell.bay) new.cell.site)) × B.follows old.cell.bay new.cell.bay };
 
-    ghost same = { λ a. tt };
+    ghost same = { λ a. ((λ closable. closable), B.same a.cell.bay) };
 
-    ghost then = { λ a b c f g. tt };
+    ghost then = { λ a b c f g. ((λ closable. g.0 (f.0 closable)), B.then a.cell.bay b.cell.bay c.cell.bay f.1 g.1) };
 
     fn run(&mut self, alloc: Global, line: &[u8]) -> Result<Vec<u8>, LineStop> {
         match built_line(alloc, line) {

@@ -1,5 +1,14 @@
 // The texts of replies, in the cell that a line left.
-ghost use Rattle.std.specs.Prelude.{◌≡◌, []};
+ghost use Rattle.std.specs.Prelude.{◌≡◌, false, [], Some, IfOk};
+ghost use Rattle.coda_cell.specs.Cells.{volume_at};
+ghost use Rattle.coda_cell.specs.Made.{state_of};
+ghost use Rattle.coda_cell.specs.State.{ClientState};
+ghost use Rattle.coda_stored.specs.Cells.{StoredCell};
+ghost use Rattle.coda_stored.specs.Kept.{IsStoredKept};
+ghost use Rattle.coda_stored.specs.Lines.{client_down, replica_down};
+ghost use Rattle.coda_site.specs.Sites.{IsSite};
+ghost use Rattle.coda_runs.specs.Shows.{CanShow};
+ghost use Rattle.coda_runs.specs.Texts.{shown_volume, shown_log, text_of};
 
 use coda_cml::Log;
 use coda_disk::Bay;
@@ -21,7 +30,10 @@ fn volume_shown<B: Bay>(
     cell: &Cell<B>,
     server: u8,
     volume: u32,
-) -> Result<Bytes, AllocError> {
+) -> Result<Bytes, AllocError>
+    ensures { IfOk result (λ text. (stored : StoredCell) → IsStoredKept stored → IsSite B.D.told (B.out cell.now.bay) (B.has cell.now.bay) stored cell.now.site
+        → replica_down stored volume ≡ false → text ≡ shown_volume server (volume_at ((state_of stored.made).replicas volume) server)) }
+{
     match cell.volume(server, volume) {
         Some(tree) => volume_text(alloc, tree, server),
         None => Ok(no_text(alloc)),
@@ -34,7 +46,10 @@ fn log_shown<B: Bay>(
     cell: &Cell<B>,
     client: u8,
     volume: u32,
-) -> Result<Bytes, AllocError> {
+) -> Result<Bytes, AllocError>
+    ensures { IfOk result (λ text. (stored : StoredCell) → IsStoredKept stored → IsSite B.D.told (B.out cell.now.bay) (B.has cell.now.bay) stored cell.now.site
+        → client_down stored client ≡ false → (c : ClientState) → (state_of stored.made).clients client ≡ Some c → text ≡ shown_log (Some c) volume) }
+{
     match cell.log(client, volume) {
         Some(log) => log_text(alloc, log),
         None => log_text(alloc, &Log::new(alloc)),
@@ -42,7 +57,10 @@ fn log_shown<B: Bay>(
 }
 
 /// The text of a reply in the cell that the line left.
-pub fn text_of<B: Bay>(alloc: Global, cell: &Cell<B>, reply: &Reply) -> Result<Bytes, AllocError> {
+pub fn text_of<B: Bay>(alloc: Global, cell: &Cell<B>, reply: &Reply) -> Result<Bytes, AllocError>
+    ensures { IfOk result (λ text. (stored : StoredCell) → IsStoredKept stored → IsSite B.D.told (B.out cell.now.bay) (B.has cell.now.bay) stored cell.now.site
+        → CanShow stored reply.now → text ≡ text_of (state_of stored.made) reply.now) }
+{
     match reply {
         Reply::ShowVolume { server, volume } => volume_shown(alloc, cell, *server, *volume),
         Reply::ShowLog { client, volume } => log_shown(alloc, cell, *client, *volume),

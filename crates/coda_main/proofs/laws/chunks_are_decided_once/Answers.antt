@@ -1,5 +1,0 @@
-use Rattle.coda_main.proofs.Running.{chunks_are_decided_once}
-use Rattle.coda_main.proofs.laws.chunks_are_decided_once.Goals as goal
-
-pub returns : goal.returns
-returns c = chunks_are_decided_once

@@ -1,5 +1,0 @@
-use Rattle.coda_main.proofs.Running.{operations_are_kept}
-use Rattle.coda_main.proofs.laws.operations_are_kept.Goals as goal
-
-pub returns : goal.returns
-returns c = operations_are_kept

@@ -1,5 +1,0 @@
-use Rattle.coda_main.proofs.Lettered.{replies_name_letters}
-use Rattle.coda_main.proofs.laws.replies_name_letters.Goals as goal
-
-pub returns : goal.returns
-returns c = replies_name_letters

@@ -1,5 +1,0 @@
-use Rattle.coda_main.proofs.Replying.{scripts_in_grammar_are_clean}
-use Rattle.coda_main.proofs.laws.scripts_in_the_grammar_are_clean.Goals as goal
-
-pub returns : goal.returns
-returns c = scripts_in_grammar_are_clean

@@ -1,5 +1,0 @@
-use Rattle.coda_main.proofs.Running.{settlements_are_decided}
-use Rattle.coda_main.proofs.laws.settlements_are_decided.Goals as goal
-
-pub returns : goal.returns
-returns c = settlements_are_decided

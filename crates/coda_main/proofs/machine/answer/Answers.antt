@@ -1,0 +1,13 @@
+use Rattle.std.proofs.Common.{◌≡◌, rules, ◌∙◌}
+use Rattle.coda_main.specs.Shows.{moment}
+use Rattle.coda_main.proofs.Answering.{line_answered}
+use Rattle.coda_main.proofs.machine.answer.Goals as goal
+
+pub returns-in-Ok-text_of-clause-answered : goal.returns-in-Ok-text_of-clause-answered
+returns-in-Ok-text_of-clause-answered g c =
+    let old = c.args.cell.now in
+    let new = c.step.new.self in
+    let before = moment (g.B.Bay.out old.bay) (g.B.Bay.has old.bay) (g.B.Bay.answered old.bay) old.site in
+    let behind = moment (g.B.Bay.out new.bay) (g.B.Bay.has new.bay) (g.B.Bay.answered new.bay) new.site in
+    let same : c.into_vec.result.items ≡ c.in-Ok-text_of.text = search rules in
+    line_answered g.B.D.Disk.told before behind c.args.said.now c.in-Ok.reply c.into_vec.result.items c.requires.range c.in-Ok.ensures.does (λ stored kept stands can. same ∙ c.in-Ok-text_of.ensures stored kept stands can)

@@ -1,0 +1,23 @@
+use Rattle.std.proofs.Common.{sym, ap, subst}
+use Rattle.coda_site.specs.Cells.{AreBlank}
+use Rattle.coda_main.specs.Shows.{moment}
+use Rattle.coda_main.proofs.Reporting.{goes_on, reported, reported_lines}
+use Rattle.coda_main.proofs.top.run_and_close.Goals as goal
+
+pub returns-clause-report : goal.returns-clause-report
+returns-clause-report g c = λ blank.
+    let start = c.new.ensures in
+    let report = c.run-status.ensures.report in
+    reported c.run-status.new.machine (record { cell = c.new.result }) g.B.D.Disk.told (λ m. moment (g.B.Bay.out m.cell.bay) (g.B.Bay.has m.cell.bay) (g.B.Bay.answered m.cell.bay) m.cell.site) _ _ _ _ report.0 c.run-status.result report.1
+    (g.B.Bay.has c.close.result) (g.B.Bay.answered c.args.bay) (g.B.Bay.answered c.close.result) start.ready (start.stands (subst (λ bay. AreBlank (g.B.Bay.has bay)) (sym start.bay) blank))
+    (ap g.B.Bay.answered start.bay) c.close.ensures.answered (λ ready cell stands. c.close.ensures.stands cell ready stands)
+
+pub returns-clause-given_back : goal.returns-clause-given_back
+returns-clause-given_back g c = λ memory bay number.
+    let report = c.run-status.ensures.report in
+    c.close.ensures.out (goes_on c.run-status.new.machine (record { cell = c.new.result }) g.B.D.Disk.told (λ m. moment (g.B.Bay.out m.cell.bay) (g.B.Bay.has m.cell.bay) (g.B.Bay.answered m.cell.bay) m.cell.site) _ _ _ _ report.0 c.run-status.result report.1 c.new.ensures.ready memory bay) number
+
+pub returns-clause-lines : goal.returns-clause-lines
+returns-clause-lines g c =
+    let report = c.run-status.ensures.report in
+    reported_lines c.run-status.new.machine (record { cell = c.new.result }) g.B.D.Disk.told (λ m. moment (g.B.Bay.out m.cell.bay) (g.B.Bay.has m.cell.bay) (g.B.Bay.answered m.cell.bay) m.cell.site) _ _ _ _ report.0 c.run-status.result report.1

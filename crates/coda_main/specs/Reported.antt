@@ -1,0 +1,27 @@
+-- What the report of a script tells, and what its run leaves on disks.
+use Rattle.std.specs.Prelude.{◌≡◌, ◌≢◌, ◌++◌, ℕ, List, Option}
+use Rattle.coda_disk.specs.Told.{Told}
+use Rattle.coda_engine.specs.Run.{Reports}
+use Rattle.coda_engine.specs.declared.status.Status.{Status}
+use Rattle.coda_engine.specs.declared.status.Status.TheVariants.{BayFault, Memory}
+use Rattle.coda_stored.specs.Cells.{StoredCell, nothing_stored}
+use Rattle.coda_site.specs.Cells.{AreOnDisks}
+use Rattle.coda_runs.specs.Headline.{HasRun}
+use Rattle.coda_runs.specs.Runs.{LineGives, LineRefused}
+use Rattle.coda_main.specs.Lines.{AnyGives, AnyRefuses}
+
+-- Whatever the disks hold, what was read and written fits the status: each line that ran is a good one, and a line that ended the run is a bad one.
+abbrev pub IsReportOfLines : Option (List ℕ) → Option (List ℕ) → Option (List ℕ) → Option (List ℕ) → Status → Type 0
+IsReportOfLines left_old left_new held_old held_new status =
+    (outside : List (List ℕ)) × Reports AnyGives AnyRefuses tt tt left_old left_new held_old held_new outside status
+
+-- What was read and written is the report of a run from the cell in which nothing was made, over disks that hold nothing; the run keeps what is
+-- promised of runs. Unless memory was wanting or the bay at fault, the bay answered what the run had of it, and its disks stand for the cell that
+-- the run left.
+pub record IsReportOfRun {D : Type 0} (told : D → Told) (has : ℕ → Told) (answered_old answered_new : List (List ℕ)) (left_old left_new held_old held_new : Option (List ℕ)) (status : Status) : Type 0 where
+  pub cell : StoredCell
+  pub outside : List (List ℕ)
+  pub reports : Reports LineGives LineRefused nothing_stored cell left_old left_new held_old held_new outside status
+  pub has_run : HasRun cell
+  pub answered : status ≢ Memory → status ≢ BayFault → answered_new ≡ answered_old ++ outside
+  pub on_disks : status ≢ Memory → status ≢ BayFault → AreOnDisks told has cell
