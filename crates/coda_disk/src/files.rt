@@ -198,6 +198,8 @@ fn open<R: Files<File = File>>(alloc: Global, files: &R, number: u32) -> io::Res
         .write(true)
         .create(true)
         .open(files, &path)?;
+    // That the folder has the file outlives a crash of the machine once the folder is synced.
+    fs::open(files, "coda-disks")?.sync_all()?;
     Ok(FileDisk::new(number, file))
 }
 
