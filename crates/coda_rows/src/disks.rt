@@ -1,4 +1,9 @@
 // The disks that a script's first lines hand in, and the bay that has them.
+ghost use Rattle.std.specs.Prelude.{◌≡◌, ℕ, IfOk, OnOk, false};
+ghost use Rattle.std.specs.Ordering.{nat_cmp};
+ghost use Rattle.std.specs.BTreeMap.{get};
+ghost use Rattle.coda_disk.specs.Places.{is_out};
+
 use anyhow::Result;
 use coda_disk::{MemBay, MemDisk};
 use std::alloc::{AllocError, Global};
@@ -50,12 +55,18 @@ pub fn put_bytes(alloc: Global, disks: &mut Vec<DiskLine>, number: u32, text: &s
     Ok(())
 }
 
+// Hands in a disk.
+fn add(bay: &mut MemBay, number: u32, disk: MemDisk) -> Result<(), AllocError>
+    requires { (k : ℕ) → is_out (get nat_cmp bay.old.places k) ≡ false }
+    ensures { OnOk result ((k : ℕ) → is_out (get nat_cmp bay.new.places k) ≡ false) }
+{
+    bay.add(number, disk)
+}
+
 /// A bay with these disks, of which these calls fail.
-pub fn bay_of(
-    alloc: Global,
-    failing: Vec<u64>,
-    disks: Vec<DiskLine>,
-) -> Result<MemBay, AllocError> {
+pub fn bay_of(alloc: Global, failing: Vec<u64>, disks: Vec<DiskLine>) -> Result<MemBay, AllocError>
+    ensures { IfOk result (λ bay. (k : ℕ) → is_out (get nat_cmp bay.places k) ≡ false) }
+{
     let mut bay = MemBay::new(alloc, failing);
     for disk in disks {
         bay.add(disk.number, MemDisk::new(alloc, disk.bytes, disk.failing)?)?;

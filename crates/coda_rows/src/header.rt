@@ -82,7 +82,7 @@ impl Header {
         if let Some(call) = line.strip_prefix("# bay fails at call ") {
             self.failing_bay.push(number_in(call)?)?;
         } else if let Some(disk) = line.strip_prefix("# disk ") {
-            let number = number_in(disk)? as u32;
+            let number = u32::try_from(number_in(disk)?)?;
             if let Some((_, call)) = disk.split_once(" fails at call ") {
                 put_failing(alloc, &mut self.disks, number, number_in(call)?)?;
             } else if let Some((_, bytes)) = disk.split_once(" has ") {

@@ -1,4 +1,9 @@
 // A script is run in memory, over a bay of disks in memory.
+ghost use Rattle.std.specs.Prelude.{◌≡◌, ◌≢◌, ℕ, IfOk, false};
+ghost use Rattle.std.specs.Ordering.{nat_cmp};
+ghost use Rattle.std.specs.BTreeMap.{get};
+ghost use Rattle.coda_disk.specs.Places.{is_out};
+
 use crate::disks::bay_of;
 use crate::header::Header;
 use crate::outlets::{NarrowSink, Pieces};
@@ -29,7 +34,10 @@ fn outcome(
     bay: &mut MemBay,
     script: Vec<u8>,
     header: Header,
-) -> Result<(Status, Vec<u8>), AllocError> {
+) -> Result<(Status, Vec<u8>), AllocError>
+    requires { (k : ℕ) → is_out (get nat_cmp bay.old.places k) ≡ false }
+    ensures { IfOk result (λ r. r.0 ≢ Status.Memory → r.0 ≢ Status.BayFault → (k : ℕ) → is_out (get nat_cmp bay.new.places k) ≡ false) }
+{
     let piece = header.piece.min(65_536) as usize;
     let mut source = Pieces::new(MemSource::new(script, header.failing_reads), piece);
     match header.room {
