@@ -28,11 +28,6 @@ class Disk:
     def __init__(self):
         self.header, self.entries, self.used, self.passes, self.stopped = None, [], 0, None, None
 
-    def copy(self):
-        copy = Disk()
-        copy.header, copy.entries, copy.used, copy.passes, copy.stopped = self.header, self.entries[:], self.used, self.passes, self.stopped
-        return copy
-
     def append(self, entry, length):
         """Appends an entry; whether all four calls passed."""
         passed = 4 if self.passes is None else min(self.passes, 4)
