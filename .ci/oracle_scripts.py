@@ -85,7 +85,8 @@ class Writer:
 
     def operation(self, client, volume):
         at = f"{client} {volume}"
-        kind = self.random.choices(("mkdir", "create", "symlink", "store", "setattr", "remove", "rmdir", "rename"), (11, 13, 5, 60 if self.is_full else 10, 7, 8, 6, 10))[0]
+        weights = (11, 13, 5, 60 if self.is_full else 10, 7, 8, 6, 10)
+        kind = self.random.choices(("mkdir", "create", "symlink", "store", "setattr", "remove", "rmdir", "rename"), weights)[0]
         if kind in ("mkdir", "create"):
             return f"{kind} {at} {self.path(client, volume, True)}{self.options()}"
         if kind == "symlink":
@@ -103,10 +104,11 @@ class Writer:
         return f"{kind} {at} {old}"
 
     def failing(self, client, volume, server):
-        """A line that crashes an actor, recovers it or arms its disk. After a disk was armed it is crashed before it is recovered: how
-        many calls a mounting makes is nobody's business."""
-        is_client = self.random.random() < 0.6
-        name, actor = (f"client {client}", self.actors.clients[client]) if is_client else (f"replica {server} {volume}", self.actors.replicas[volume])
+        """A line that crashes an actor, recovers it or arms its disk. After a disk was armed it is crashed before it is recovered: the
+        rules don't say how many calls a mounting makes."""
+        name, actor = f"client {client}", self.actors.clients[client]
+        if self.random.random() < 0.4:
+            name, actor = f"replica {server} {volume}", self.actors.replicas[volume]
         choice = self.random.choice((0, 0, 1, 1, self.random.randrange(256), 2**64 - 1))
         if actor.has is None and actor.disk.passes is None and self.random.random() < 0.85:
             return f"recover {name}"
