@@ -180,36 +180,40 @@ class Log:
     def records(self):
         return (self.front.records if self.front else []) + self.rest.records
 
+    def has_room(self, record):
+        """Whether the log has room for an operation."""
+        every = (self.front.records if self.front else []) + add(self.rest.records, record)[0]
+        return len(every) <= MOST_RECORDS and sum(weight(r[2]) for r in every) <= MOST_WEIGHT
+
     def append(self, record):
-        """Adds an operation; whether the log has room for it."""
-        records, dropped = add(self.rest.records, record)
-        every = (self.front.records if self.front else []) + records
-        if len(every) > MOST_RECORDS or sum(weight(r[2]) for r in every) > MOST_WEIGHT:
-            return False
-        self.rest.take(record, records, dropped)
-        return True
+        """Adds an operation."""
+        self.operations += 1
+        self.creations += created(record[2]) is not None
+        self.rest.take(record, *add(self.rest.records, record))
 
-    def freeze(self, home, clock, window):
-        """Freezes for a server what may go, where nothing is frozen; answers why there is no chunk for it, or nothing."""
+    def next_chunk(self, home, clock, window):
+        """How many operations a chunk for a server takes, or with nothing where one is frozen for it; and why there is none, or nothing."""
         if self.front:
-            return None if self.home == home else ("frozen", self.chunks, self.home)
+            return None, None if self.home == home else ("frozen", self.chunks, self.home)
         span, why = self.rest.chunk(clock, window)
-        if why:
-            return why
-        self.chunks += 1
-        self.front, self.home, self.rest = Run(span), home, Run(self.rest.pending[len(span):])
-        return None
+        return (None, why) if why else (len(span), None)
 
-    def settle(self, number, applied):
-        """Takes a verdict on a chunk, or with nothing in its place another answer; answers why it isn't taken, or nothing."""
+    def freeze(self, home, count):
+        """Freezes so many operations for a server."""
+        span = self.rest.pending[:count]
+        self.chunks += 1
+        self.front, self.home, self.rest = Run(span), home, Run(self.rest.pending[count:])
+
+    def unsettled(self, number):
+        """Why an answer to a chunk isn't taken, or nothing."""
         if not self.front:
             return ("not-frozen", number)
-        if self.chunks != number:
-            return ("wrong-number", self.chunks, number)
-        if applied is not None:
-            rest = self.rest if applied else Run(self.front.pending + self.rest.pending)
-            self.front, self.home, self.rest = None, None, rest
-        return None
+        return None if self.chunks == number else ("wrong-number", self.chunks, number)
+
+    def settle(self, applied):
+        """Takes a verdict on the frozen chunk."""
+        rest = self.rest if applied else Run(self.front.pending + self.rest.pending)
+        self.front, self.home, self.rest = None, None, rest
 
     def text(self):
         chunk = self.chunks if self.front else "-"
@@ -261,6 +265,11 @@ def operation_length(operation):
     return 1 + 12 + 1 + len(fields[1]) + 12 + 1 + len(fields[3]) + 12 + option_length(fields[5] or None, 12 + 9)
 
 
+def records_length(records):
+    """A count, and each record with its number and time."""
+    return 4 + sum(8 + 8 + operation_length(operation) for _, _, operation in records)
+
+
 def chunk_length(records):
-    """Two bytes, the ends, the volume and the number, and then the records behind their count, each with its number and time."""
-    return 2 + 2 + 4 + 8 + 4 + sum(8 + 8 + operation_length(operation) for _, _, operation in records)
+    """Two bytes, the ends, the volume and the number, and then the records."""
+    return 2 + 2 + 4 + 8 + records_length(records)

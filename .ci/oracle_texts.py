@@ -1,6 +1,21 @@
-"""How fids, names and contents are printed, and the words of a line."""
+"""How fids, names, contents and refusals are printed, and the words of a line."""
 
 import re
+
+NUMBERS = {
+    "not-found": 3, "not-dir": 4, "log-full": 5, "nothing": 6, "young": 7, "frozen": 8, "not-frozen": 9, "wrong-number": 10,
+    "journal-full": 13, "foreign": 14, "exists": 18, "is-dir": 19, "not-empty": 20, "loop": 21, "miss": 22, "down": 23, "too-big": 25,
+    "no-message": 30, "link-down": 31, "no-such-actor": 32, "already-there": 33, "cell-full": 40, "disk-fault": 41, "not-file": 44,
+}
+
+
+class Refused(Exception):
+    """A line can't be carried out: the name of the refusal, and what it names."""
+
+    def __init__(self, name, *named):
+        super().__init__(name)
+        self.text = " ".join(["refused", str(NUMBERS[name]), name, *map(str, named)])
+
 
 def fid_text(fid):
     return "%d.%d.%d" % fid

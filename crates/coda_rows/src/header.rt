@@ -1,4 +1,5 @@
 // What the first lines of a script, which are comments, ask of its run.
+use crate::disks::{DiskLine, put_bytes, put_failing};
 use crate::texts::lines;
 use anyhow::{Context, Result};
 use std::alloc::Global;
@@ -16,12 +17,16 @@ pub struct Header {
     pub piece: u64,
     /// How many bytes a sink takes in all that takes at most three in one call; none for one that takes all.
     pub room: Option<u64>,
+    /// The calls of the bay that fail, from 1.
+    pub failing_bay: Vec<u64>,
+    /// The disks that are handed in with the bay.
+    pub disks: Vec<DiskLine>,
     /// The exit code, and behind a colon what goes to standard error.
     pub status: String,
 }
 
-// The number at the front of a text.
-fn number_in(text: &str) -> Result<u64> {
+/// The number at the front of a text.
+pub fn number_in(text: &str) -> Result<u64> {
     let word = text.split(' ').next().unwrap_or("");
     word.parse::<u64>().with_context(|| text)
 }
@@ -35,6 +40,8 @@ impl Header {
             failing_writes: Vec::new(alloc),
             piece: u64::MAX,
             room: None,
+            failing_bay: Vec::new(alloc),
+            disks: Vec::new(alloc),
             status: "0: ".to_string(alloc)?,
         };
         header.words.push("run".to_string(alloc)?)?;
@@ -64,6 +71,23 @@ impl Header {
             self.room = Some(number_in(room)?);
         } else if let Some(piece) = line.strip_prefix("# pieces of ") {
             self.piece = number_in(piece)?;
+        } else {
+            self.put_outside(alloc, line)?;
+        }
+        Ok(())
+    }
+
+    // Takes a line of the header that says something of the bay or of a disk.
+    fn put_outside(&mut self, alloc: Global, line: &str) -> Result<()> {
+        if let Some(call) = line.strip_prefix("# bay fails at call ") {
+            self.failing_bay.push(number_in(call)?)?;
+        } else if let Some(disk) = line.strip_prefix("# disk ") {
+            let number = u32::try_from(number_in(disk)?)?;
+            if let Some((_, call)) = disk.split_once(" fails at call ") {
+                put_failing(alloc, &mut self.disks, number, number_in(call)?)?;
+            } else if let Some((_, bytes)) = disk.split_once(" has ") {
+                put_bytes(alloc, &mut self.disks, number, bytes)?;
+            }
         }
         Ok(())
     }

@@ -5,6 +5,7 @@
 
 mod answers;
 mod calls;
+mod disks;
 mod header;
 mod operations;
 mod outlets;

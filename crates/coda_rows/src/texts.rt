@@ -1,5 +1,6 @@
 // Texts as lines, and how two of them compare.
 use std::alloc::{AllocError, Global};
+use std::mem;
 
 /// The lines of a text: what its newlines stand between, and behind the last one.
 pub fn lines(alloc: Global, text: &[u8]) -> Result<Vec<&[u8]>, AllocError> {
@@ -8,6 +9,21 @@ pub fn lines(alloc: Global, text: &[u8]) -> Result<Vec<&[u8]>, AllocError> {
         lines.push(line)?;
     }
     Ok(lines)
+}
+
+/// The runs of a text: what its lines `# again` stand between.
+pub fn runs(alloc: Global, text: &[u8]) -> Result<Vec<Vec<u8>>, AllocError> {
+    let mut runs = Vec::new(alloc);
+    let mut run = Vec::new(alloc);
+    for line in text.split_inclusive(|byte| *byte == b'\n') {
+        if line == b"# again\n".as_slice() {
+            runs.push(mem::replace(&mut run, Vec::new(alloc)))?;
+        } else {
+            run.extend_from_slice(line)?;
+        }
+    }
+    runs.push(run)?;
+    Ok(runs)
 }
 
 /// `NAME ok` where both texts are the same; else the first line in which they differ, both sides.
