@@ -12,6 +12,7 @@ ghost use Rattle.coda_venus.specs.History.{payload_of};
 use coda_certify::Verdict;
 use coda_fid::{Fid, Record};
 use coda_journal::{Frame, Journal};
+use coda_record::lengths::length_of_record;
 use coda_record::nodes::put_node;
 use coda_record::writing::{
     put_fid, put_optional_fid, put_record, put_u8, put_u32, put_u64, put_verdict,
@@ -25,7 +26,7 @@ pub(crate) fn operation_frame(alloc: Global, volume: u32, rec: &Record) -> Resul
     requires { HasSpelling (an_op four) rec.now.op }
     ensures { IfOk result (λ f. f.bytes.items ≡ framed w32 (payload_of (OpEntry volume rec.now ∷ []))) }
 {
-    let mut payload = Vec::new(alloc);
+    let mut payload = Vec::with_capacity(alloc, 9 + length_of_record(rec))?;
     put_u32(&mut payload, 1)?;
     put_u8(&mut payload, 1)?;
     put_u32(&mut payload, volume)?;
