@@ -16,6 +16,8 @@ pub mod Accepted
 pub mod SpelledAsks
 pub mod Beginnings
 pub mod DirtyBelow
+pub mod Childless
+pub mod Noted
 pub mod OwnRefusals
 pub mod Performed
 pub mod Entered
