@@ -1,5 +1,5 @@
 // The parents of what a client holds.
-ghost use Rattle.std.specs.Prelude.{◌≡◌, ◌≢◌, true, false, OnOk, OnErr, IsSome, Some, cond};
+ghost use Rattle.std.specs.Prelude.{◌≡◌, ◌≢◌, true, false, IfOk, OnOk, OnErr, IsSome, Some, cond};
 ghost use Rattle.std.specs.HashMap as hash;
 ghost use Rattle.coda_fid.specs.Fid.{same_fid};
 ghost use Rattle.coda_fid.specs.declared.fid.Fid.{Fid};
@@ -101,14 +101,15 @@ impl ParentTable {
         self.may_be_parent(fid) && is_among(&self.parents, fid)
     }
 
-    /// Gives an object a parent, in the place of the one that it has. Fails for want of memory alone, and then changes nothing.
-    pub fn put(&mut self, fid: Fid, parent: Fid) -> Result<(), AllocError>
+    /// Gives an object a parent, in the place of the one that it has, and answers that one. Fails for want of memory alone, and then changes
+    /// nothing.
+    pub fn put(&mut self, fid: Fid, parent: Fid) -> Result<Option<Fid>, AllocError>
+        ensures was { IfOk result (λ was. was ≡ map.get self.old fid) }
         ensures ok { OnOk result (self.new ≡ map.insert self.old fid parent) }
         ensures err { OnErr result (self.new ≡ self.old) }
     {
         self.above.note(parent)?;
-        self.parents.insert(fid, parent)?;
-        Ok(())
+        Ok(self.parents.insert(fid, parent)?)
     }
 
     /// Takes the parent of an object away.
