@@ -18,6 +18,7 @@ pub mod Beginnings
 pub mod DirtyBelow
 pub mod Childless
 pub mod Noted
+pub mod Framing
 pub mod OwnRefusals
 pub mod Performed
 pub mod Entered
