@@ -22,7 +22,7 @@ impl Frame {
     pub fn new(alloc: Global, payload: &[u8]) -> Result<Frame, AllocError>
         ensures { IfOk result (λ f. f.bytes.items ≡ framed w32 payload.now) }
     {
-        let mut bytes = Vec::new(alloc);
+        let mut bytes = Vec::with_capacity(alloc, payload.len() + 6)?;
         bytes.push(1)?;
         bytes.extend_from_slice(&((payload.len() as u64 % 0x1_0000_0000) as u32).to_be_bytes())?;
         bytes.extend_from_slice(payload)?;

@@ -15,6 +15,7 @@ use coda_certify::Verdict;
 use coda_disk::{Disk, DiskFault};
 use coda_fid::Record;
 use coda_journal::{Frame, Journal, write_synced};
+use coda_record::lengths::length_of_records;
 use coda_record::writing::{put_records, put_u8, put_u64, put_verdict};
 use std::alloc::{AllocError, Global};
 
@@ -30,7 +31,7 @@ pub(crate) fn decision_frame(
     requires { HasSpelling (some_records four) recs.now }
     ensures { IfOk result (λ f. f.bytes.items ≡ framed w32 (payload_of (DecideEntry client number recs.now verdict.now))) }
 {
-    let mut payload = Vec::new(alloc);
+    let mut payload = Vec::with_capacity(alloc, 38 + length_of_records(recs))?;
     put_u8(&mut payload, 1)?;
     put_u8(&mut payload, client)?;
     put_u64(&mut payload, number)?;

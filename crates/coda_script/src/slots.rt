@@ -1,5 +1,5 @@
 // One word of a line.
-ghost use Rattle.std.specs.Prelude.{◌≡◌, ◌≤◌, ◌<◌, ◌+◌, IfOk, IfSome, option_and_then, if◌then◌else◌};
+ghost use Rattle.std.specs.Prelude.{◌≡◌, ◌≤◌, ◌<◌, ◌+◌, Err, IfOk, IfSome, option_and_then, if◌then◌else◌};
 ghost use Rattle.coda_engine.specs.declared.status.Kind.TheVariants as kinds;
 ghost use Rattle.coda_text.specs.Words.{rest_of};
 ghost use Rattle.coda_script.specs.Slots.{within, between, octal, any, sized, number_in, path_of, path_in, name_in, strip, letters_in, rights_in, text_in, is_word};
@@ -294,13 +294,24 @@ pub fn wrong(cursor: &Cursor) -> Result<Line, LineFault>
     }
 }
 
+// The line that was read is dropped, for the fault at a byte, counted from 0. Few lines have one, and dropping a line takes a large frame: it
+// is kept out of the way of the others.
+#[cold]
+#[inline(never)]
+fn refuse(at: usize, kind: Kind, _line: Line) -> Result<Line, LineFault>
+    requires { at < 9223372036854775808 }
+    ensures { result ≡ Err (LineFault.BadLine (at + 1) kind) }
+{
+    Err(fault(at, kind))
+}
+
 /// The line ends here and says that; a further word is a fault of this kind.
 pub fn ends(cursor: &Cursor, kind: Kind, line: Line) -> Result<Line, LineFault>
     ensures { Gives (λ l. l) result (end_at kind line cursor.now cursor.now.words) }
 {
     match cursor.head() {
         Head::End { .. } => Ok(line),
-        Head::Bad { at } => Err(fault(at, Kind::Text)),
-        Head::Word { at, .. } => Err(fault(at, kind)),
+        Head::Bad { at } => refuse(at, Kind::Text, line),
+        Head::Word { at, .. } => refuse(at, kind, line),
     }
 }

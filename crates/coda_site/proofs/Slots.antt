@@ -1,6 +1,8 @@
 -- Slots that stand for plain actors which are up.
 use Rattle.std.proofs.Common.{◌≡◌, ◌≢◌, ◌≤◌, ℕ, ◌+◌, List, ◌∷◌, ◌++◌, length, drop, arith, Bool, true, false, Option, Some, None, refl, sym, ap, ◌∙◌, inl, inr}
-use Rattle.std.specs.Prelude.{not}
+use Rattle.std.specs.Prelude.{not, IsSome}
+use Rattle.std.specs.Borrow.{MutBor}
+use Rattle.std.specs.Option.{option_copied_mut}
 use Rattle.std.specs.Int.{w32}
 use Rattle.std.proofs.lemmas.Bool.{false≢true}
 use Rattle.std.proofs.lemmas.List.{length-append, length-take}
@@ -15,6 +17,7 @@ use Rattle.coda_actors.specs.Fits.{FitsUp, Fits}
 use Rattle.coda_actors.specs.Slots.{is_up}
 use Rattle.coda_actors.specs.declared.slot.Slot.{Slot}
 use Rattle.coda_actors.specs.declared.slot.Slot.TheVariants.{Vacant, Spare, Stopped, Started}
+use Rattle.coda_crew.specs.Crews.{slot_or_vacant}
 use Rattle.coda_stored.specs.Cells.{life_of}
 
 -- a life by what was asked for, and whether the actor is up
@@ -70,3 +73,8 @@ reads_fit header image payloads reads =
     let whole : length (area_of header image) ≡ length (blocks w32 payloads ++ held.gate ∷ held.rest) = ap length held.is in
     let split = length-append (blocks w32 payloads) (held.gate ∷ held.rest) in
     omega (arith, long, whole, split)
+
+-- an actor that is up has a place, which can be lent
+pub lent_there : {A D : Type 0} (form : Form A D) (lent : Option (MutBor (Slot A D))) → is_up form (slot_or_vacant (option_copied_mut lent)) ≡ true → IsSome lent
+lent_there form None up = absurd (false≢true up)
+lent_there form (Some slot) up = refl

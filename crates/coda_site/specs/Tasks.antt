@@ -86,11 +86,15 @@ offered_at net replicas client (Some p) = carried (linked_in net client p.server
 
 -- ---- how a client's call ends
 
--- The client of a number was up, and was called with a request: it is in its slot still, and the call ended so by its history. A crash may leave its
+-- A client that was up in its slot was called with a request: it is in the slot still, and the call ended so by its history. A crash may leave its
 -- disk as it is read.
-abbrev pub CallEnds : {D B : Type 0} → (D → Told) → ℕ → Option Nodes → Request → BTreeMap ℕ (Slot (Venus D) D) → BTreeMap ℕ (Slot (Venus D) D) → (Reply → B → Type 0) → Result B VenusRefused → Type 0
-CallEnds {D = D} told number offers request old new IsAs result =
-    (header : Header) (venus : Venus D) → slot_at old number ≡ Started header venus → (left : Venus D) × (slot_at new number ≡ Started header left)
+abbrev pub SlotEnds : {D B : Type 0} → (D → Told) → Option Nodes → Request → Slot (Venus D) D → Slot (Venus D) D → (Reply → B → Type 0) → Result B VenusRefused → Type 0
+SlotEnds {D = D} told offers request old new IsAs result =
+    (header : Header) (venus : Venus D) → old ≡ Started header venus → (left : Venus D) × (new ≡ Started header left)
     × ((told left.journal.disk).honest → (told left.journal.disk).may_leave (told left.journal.disk).seen)
     × ((history : List ClientEntry) → IsUp told header venus (journal_by history) → IsClientHistory header history → AreSpelledOffers offers
     → let answer = request offers (client_of header.number history header.cache) in Ends told header history answer.entries answer.said IsAs left result)
+
+-- the same of the client of a number
+abbrev pub CallEnds : {D B : Type 0} → (D → Told) → ℕ → Option Nodes → Request → BTreeMap ℕ (Slot (Venus D) D) → BTreeMap ℕ (Slot (Venus D) D) → (Reply → B → Type 0) → Result B VenusRefused → Type 0
+CallEnds told number offers request old new IsAs result = SlotEnds told offers request (slot_at old number) (slot_at new number) IsAs result

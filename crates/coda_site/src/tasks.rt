@@ -20,7 +20,7 @@ ghost use Rattle.coda_stored.specs.Kept.{IsStoredKept};
 ghost use Rattle.coda_stored.specs.Lines.{Happens};
 ghost use Rattle.coda_site.specs.Sites.{IsSite, IsReady};
 ghost use Rattle.coda_site.specs.Steps.{Becomes};
-ghost use Rattle.coda_site.specs.Tasks.{is_making, is_changing, Asks, CallEnds, offered_at};
+ghost use Rattle.coda_site.specs.Tasks.{is_making, is_changing, Asks, SlotEnds, CallEnds, offered_at};
 
 use crate::draining::drain;
 use crate::fault::CellFault;
@@ -29,7 +29,7 @@ use crate::replies::{no_such_actor, refuse, refused};
 use crate::site::{Place, Site};
 use coda_actors::Slot;
 use coda_asking::Showing;
-use coda_crew::{get, is_up, put, take};
+use coda_crew::{get, is_up};
 use coda_disk::{Bay, Disk};
 use coda_fid::{Bytes, Path};
 use coda_net::Net;
@@ -73,6 +73,26 @@ fn offers_of<'a, D: Disk + Drop>(
     }
 }
 
+// Has a client perform an operation in its slot, where it is up.
+fn operate_in<D: Disk + Drop>(
+    slot: &mut Slot<Venus<D>, D>,
+    offers: Option<&Volume>,
+    now: u64,
+    volume: u32,
+    ask: &Ask,
+) -> Result<Done, Refused>
+    requires up { is_up (client_form D.told) slot.old ≡ true }
+    requires volume { HasSpelling a_volume volume }
+    requires ask { IsAskSpelled (asked ask.now) }
+    ensures { SlotEnds D.told (nodes_offered offers.entry)
+        (λ o c. operate_answer o c now volume (asked_as (asked ask.now))) slot.old slot.new IsDone result }
+{
+    match slot {
+        Slot::Started { actor, .. } => operate(actor, offers, now, volume, ask),
+        _ => unreachable!(),
+    }
+}
+
 // Has a client that is up perform an operation.
 fn operate_at<D: Disk + Drop>(
     clients: &mut BTreeMap<u32, Slot<Venus<D>, D>>,
@@ -89,12 +109,25 @@ fn operate_at<D: Disk + Drop>(
     ensures ends { CallEnds D.told number (nodes_offered offers.entry)
         (λ o c. operate_answer o c now volume (asked_as (asked ask.now))) clients.old clients.new IsDone result }
 {
-    match take(clients, number) {
-        Slot::Started { header, mut actor } => {
-            let said = operate(&mut actor, offers, now, volume, ask);
-            put(clients, number, Slot::Started { header, actor });
-            said
-        }
+    let slot = clients.get_mut(&number).unwrap();
+    operate_in(slot, offers, now, volume, ask)
+}
+
+// Has a client show what is at a path in its slot, where it is up.
+fn show_in<D: Disk + Drop>(
+    alloc: Global,
+    slot: &mut Slot<Venus<D>, D>,
+    offers: Option<&Volume>,
+    what: Showing,
+    volume: u32,
+    path: &Path,
+) -> Result<(Seen, bool), Refused>
+    requires up { is_up (client_form D.told) slot.old ≡ true }
+    ensures { SlotEnds D.told (nodes_offered offers.entry)
+        (λ o c. show_answer what o c volume path.now) slot.old slot.new IsShown result }
+{
+    match slot {
+        Slot::Started { actor, .. } => show(alloc, actor, offers, what, volume, path),
         _ => unreachable!(),
     }
 }
@@ -114,14 +147,8 @@ fn show_at<D: Disk + Drop>(
     ensures ends { CallEnds D.told number (nodes_offered offers.entry)
         (λ o c. show_answer what o c volume path.now) clients.old clients.new IsShown result }
 {
-    match take(clients, number) {
-        Slot::Started { header, mut actor } => {
-            let said = show(alloc, &mut actor, offers, what, volume, path);
-            put(clients, number, Slot::Started { header, actor });
-            said
-        }
-        _ => unreachable!(),
-    }
+    let slot = clients.get_mut(&number).unwrap();
+    show_in(alloc, slot, offers, what, volume, path)
 }
 
 // The reply to an object that was shown.

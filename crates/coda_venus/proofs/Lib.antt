@@ -16,6 +16,9 @@ pub mod Accepted
 pub mod SpelledAsks
 pub mod Beginnings
 pub mod DirtyBelow
+pub mod Childless
+pub mod Noted
+pub mod Framing
 pub mod OwnRefusals
 pub mod Performed
 pub mod Entered

@@ -1,4 +1,5 @@
 pub mod Ask
+pub mod Above
 pub mod Held
 pub mod Looking
 pub mod State

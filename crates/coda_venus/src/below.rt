@@ -80,9 +80,8 @@ impl Client {
         false
     }
 
-    /// Whether an object is held below another that a record of a volume's log mentions. It costs the records of the log, and the depth for
-    /// each.
-    pub fn is_dirty_below(&self, volume: u32, above: Fid) -> bool
+    // Whether a record of a volume's log mentions an object that is held below another.
+    fn is_mentioned_below(&self, volume: u32, above: Fid) -> bool
         ensures { result ≡ some_below (held_of self.now) (is_mentioned (volume_in (tree.get nat_cmp self.now.logs volume))) above }
     {
         match self.logs.get(&volume) {
@@ -91,6 +90,18 @@ impl Client {
                 self.any_reaches(above, LentRecords::of(chunk)) || self.any_reaches(above, records)
             }
             None => false,
+        }
+    }
+
+    /// Whether an object is held below another that a record of a volume's log mentions. It costs a look-up where the other one was never
+    /// a parent, and else the records of the log, and the depth for each.
+    pub fn is_dirty_below(&self, volume: u32, above: Fid) -> bool
+        ensures { result ≡ some_below (held_of self.now) (is_mentioned (volume_in (tree.get nat_cmp self.now.logs volume))) above }
+    {
+        if self.parents.may_be_parent(above) {
+            self.is_mentioned_below(volume, above)
+        } else {
+            false
         }
     }
 }

@@ -113,8 +113,7 @@ impl Client {
         ensures kept { (self.new.number ≡ self.old.number) × (self.new.blocks ≡ self.old.blocks) × (self.new.logs ≡ self.old.logs) }
         ensures err { OnErr result (held_of self.new ≡ held_of self.old) }
     {
-        let was = self.parents.get(fid);
-        self.parents.put(fid, dir)?;
+        let was = self.parents.put(fid, dir)?;
         match self.nodes.put(fid, node) {
             Ok(()) => Ok(()),
             Err(e) => {

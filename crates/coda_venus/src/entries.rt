@@ -1,7 +1,8 @@
 // Payloads of a client's journal, as they are written.
-ghost use Rattle.std.specs.Prelude.{◌≡◌, ◌+◌, ◌<◌, ◌≤◌, [], ◌∷◌, true, false, IfOk, vec_len};
+ghost use Rattle.std.specs.Prelude.{◌≡◌, ◌+◌, ◌<◌, ◌≤◌, ◌^◌, [], ◌∷◌, true, false, IfOk, vec_len};
 ghost use Rattle.std.specs.Int.{w32};
 ghost use Rattle.coda_journal.specs.Entries.{framed};
+ghost use Rattle.coda_journal.specs.Lengths.{length_bytes};
 ghost use Rattle.coda_record.specs.Form.{four};
 ghost use Rattle.coda_record.specs.Spelling.{HasSpelling};
 ghost use Rattle.coda_record.specs.Entries.{node as a_node};
@@ -12,6 +13,7 @@ ghost use Rattle.coda_venus.specs.History.{payload_of};
 use coda_certify::Verdict;
 use coda_fid::{Fid, Record};
 use coda_journal::{Frame, Journal};
+use coda_record::lengths::length_of_record;
 use coda_record::nodes::put_node;
 use coda_record::writing::{
     put_fid, put_optional_fid, put_record, put_u8, put_u32, put_u64, put_verdict,
@@ -19,18 +21,31 @@ use coda_record::writing::{
 use coda_tree::Node;
 use std::alloc::{AllocError, Global};
 
-// The payload of an operation.
-#[tactic(auto, unfolding(coda_record::specs::Entries::client_entry, coda_record::specs::Entries::client_payload))]
+// The front of an entry whose payload has so many bytes: its gate and the length, with room for what comes behind.
+#[tactic(auto, unfolding(coda_journal::specs::Lengths::length_bytes))]
+fn open(alloc: Global, length: usize) -> Result<Vec<u8>, AllocError>
+    requires { length < 2 ^ 32 }
+    ensures { IfOk result (λ v. v.items ≡ 1 ∷ length_bytes w32 length) }
+{
+    let mut bytes = Vec::with_capacity(alloc, length + 6)?;
+    bytes.push(1)?;
+    bytes.extend_from_slice(&(length as u32).to_be_bytes())?;
+    Ok(bytes)
+}
+
+// The entry of an operation, as it is written. Each operation makes one, so its bytes are put where they stay.
+#[tactic(auto, using(crate::proofs::Framing::operation_framed))]
 pub(crate) fn operation_frame(alloc: Global, volume: u32, rec: &Record) -> Result<Frame, AllocError>
     requires { HasSpelling (an_op four) rec.now.op }
     ensures { IfOk result (λ f. f.bytes.items ≡ framed w32 (payload_of (OpEntry volume rec.now ∷ []))) }
 {
-    let mut payload = Vec::new(alloc);
-    put_u32(&mut payload, 1)?;
-    put_u8(&mut payload, 1)?;
-    put_u32(&mut payload, volume)?;
-    put_record(&mut payload, rec)?;
-    Frame::new(alloc, &payload)
+    let mut bytes = open(alloc, 9 + length_of_record(rec))?;
+    put_u32(&mut bytes, 1)?;
+    put_u8(&mut bytes, 1)?;
+    put_u32(&mut bytes, volume)?;
+    put_record(&mut bytes, rec)?;
+    bytes.push(0)?;
+    Ok(Frame { bytes })
 }
 
 // The payload of a freeze.

@@ -1,6 +1,7 @@
 //! Clients: what one caches, its logs, and which operations it accepts; and the disk that keeps it.
 #![tactic(auto)]
 
+mod above;
 mod accepting;
 mod ask;
 mod begun;

@@ -48,8 +48,7 @@ impl Client {
         ensures kept { (self.new.number ≡ self.old.number) × (self.new.blocks ≡ self.old.blocks) × (self.new.logs ≡ self.old.logs) }
         ensures err { OnErr result (held_of self.new ≡ held_of self.old) }
     {
-        let was = self.parents.get(fid);
-        self.parents.put(fid, dir)?;
+        let was = self.parents.put(fid, dir)?;
         match apply_to_table(self.alloc, &mut self.nodes, self.number, rec) {
             Ok(()) => Ok(was),
             Err(e) => {
@@ -104,8 +103,7 @@ impl Client {
         ensures err { OnErr result (held_of self.new ≡ held_of self.old) }
     {
         let to = to.copy()?;
-        let was = self.parents.get(fid);
-        self.parents.put(fid, to_dir)?;
+        let was = self.parents.put(fid, to_dir)?;
         match self.nodes.bind(to_dir, to, fid) {
             Ok(()) => Ok(was),
             Err(e) => {
@@ -162,8 +160,7 @@ impl Client {
     {
         let from = from.copy()?;
         let to = to.copy()?;
-        let was = self.parents.get(fid);
-        self.parents.put(fid, to_dir)?;
+        let was = self.parents.put(fid, to_dir)?;
         Ok(Begun::Replacing {
             over,
             from_dir,
@@ -271,7 +268,9 @@ impl Client {
         }
     }
 
-    // Undoes an operation that has begun.
+    // Undoes an operation that has begun, which is rare: there was no memory to log it.
+    #[cold]
+    #[inline(never)]
     fn undo(&mut self, begun: Begun)
         requires { MayEnd (held_of self.old) begun }
         ensures held { held_of self.new ≡ undone (held_of self.old) begun }

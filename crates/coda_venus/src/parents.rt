@@ -1,34 +1,39 @@
 // The parents of what a client holds.
-ghost use Rattle.std.specs.Prelude.{◌≡◌, ◌≢◌, true, false, OnOk, OnErr, IsSome, Some, cond};
+ghost use Rattle.std.specs.Prelude.{◌≡◌, ◌≢◌, true, false, IfOk, OnOk, OnErr, IsSome, Some, cond};
 ghost use Rattle.std.specs.HashMap as hash;
 ghost use Rattle.coda_fid.specs.Fid.{same_fid};
 ghost use Rattle.coda_fid.specs.declared.fid.Fid.{Fid};
 ghost use Rattle.coda_venus.specs.Operating.{restored};
 ghost use Rattle.std.specs.FinMap as map;
 
+use crate::above::Above;
 use coda_fid::Fid;
 use std::alloc::{AllocError, Global};
 use std::collections::HashMap;
 use std::marker::Model;
 
-/// The directory that is the parent of each object that has one.
+/// The directory that is the parent of each object that has one, and which objects may be parents.
 ///
 /// Contracts see a finite map from fids to fids.
 #[derive(Drop)]
 pub struct ParentTable {
     parents: HashMap<Fid, Fid>,
+    above: Above,
 }
 
 impl Model for ParentTable {
     ghost use Rattle.std.specs.FinMap as map;
     ghost use Rattle.coda_fid.specs.Fid.{coded_fid};
     ghost use Rattle.coda_venus.specs.Held.{Parents, parents_in};
+    ghost use Rattle.coda_venus.specs.Above.{AreNoted};
 
     ghost Value = { Parents };
 
     ghost coded = { map.code coded_fid coded_fid };
 
     ghost view = { λ p. parents_in p.parents.entries };
+
+    ghost invariant = { λ p. AreNoted p.parents p.above };
 }
 
 // Puts another parent in the place of the one that an object has.
@@ -63,6 +68,7 @@ impl ParentTable {
     {
         ParentTable {
             parents: HashMap::new(alloc),
+            above: Above::new(alloc),
         }
     }
 
@@ -80,21 +86,30 @@ impl ParentTable {
         self.parents.get(&fid).copied()
     }
 
-    /// Whether an object is the parent of another one. It costs the number of parents.
+    /// Whether an object may be the parent of another one: it is, or was. It costs one look-up.
+    pub fn may_be_parent(&self, fid: Fid) -> bool
+        ensures { result ≡ false → (f : Fid) → map.get self.now f ≢ Some fid }
+    {
+        self.above.may_be(fid)
+    }
+
+    /// Whether an object is the parent of another one. It costs the number of parents, where the object was one before.
     pub fn is_parent(&self, fid: Fid) -> bool
         ensures yes { result ≡ true → (f : Fid) × (map.get self.now f ≡ Some fid) }
         ensures no { result ≡ false → (f : Fid) → map.get self.now f ≢ Some fid }
     {
-        is_among(&self.parents, fid)
+        self.may_be_parent(fid) && is_among(&self.parents, fid)
     }
 
-    /// Gives an object a parent, in the place of the one that it has. Fails for want of memory alone, and then changes nothing.
-    pub fn put(&mut self, fid: Fid, parent: Fid) -> Result<(), AllocError>
+    /// Gives an object a parent, in the place of the one that it has, and answers that one. Fails for want of memory alone, and then changes
+    /// nothing.
+    pub fn put(&mut self, fid: Fid, parent: Fid) -> Result<Option<Fid>, AllocError>
+        ensures was { IfOk result (λ was. was ≡ map.get self.old fid) }
         ensures ok { OnOk result (self.new ≡ map.insert self.old fid parent) }
         ensures err { OnErr result (self.new ≡ self.old) }
     {
-        self.parents.insert(fid, parent)?;
-        Ok(())
+        self.above.note(parent)?;
+        Ok(self.parents.insert(fid, parent)?)
     }
 
     /// Takes the parent of an object away.
@@ -111,7 +126,10 @@ impl ParentTable {
     {
         match was {
             None => self.remove(fid),
-            Some(parent) => set(&mut self.parents, fid, parent),
+            Some(parent) => {
+                self.above.note_now(parent);
+                set(&mut self.parents, fid, parent)
+            }
         }
     }
 

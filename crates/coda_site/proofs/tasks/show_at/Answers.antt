@@ -1,16 +1,20 @@
-use Rattle.std.proofs.Common.{sym, ap, subst, ◌∙◌}
-use Rattle.coda_actors.specs.declared.slot.Slot.TheVariants.{Started}
-use Rattle.coda_matching.specs.Clients.{journal_by}
-use Rattle.coda_venus.specs.Standing.{IsUp}
-use Rattle.coda_site.proofs.Calls.{same_header, same_actor}
+use Rattle.std.proofs.Common.{◌≡◌, sym, ap, ◌∙◌, rules}
+use Rattle.std.specs.Option.{option_copied_mut}
+use Rattle.coda_actors.specs.Clients.{client_form}
+use Rattle.coda_actors.specs.Slots.{is_up}
+use Rattle.coda_crew.specs.Crews.{slot_at, slot_or_vacant}
+use Rattle.coda_site.proofs.Slots.{lent_there}
 use Rattle.coda_site.proofs.tasks.show_at.Goals as goal
+
+pub unwrap-slot-requires : goal.unwrap-slot-requires
+unwrap-slot-requires g c =
+    lent_there (client_form g.D.Disk.told) c.get_mut.result (ap (λ s. is_up (client_form g.D.Disk.told) (slot_or_vacant s)) c.get_mut.ensures.value ∙ c.requires.up)
+
+pub show_in-requires : goal.show_in-requires
+show_in-requires g c = record { up = ap (λ s. is_up (client_form g.D.Disk.told) (slot_or_vacant s)) (ap option_copied_mut (sym c.unwrap-slot.ensures) ∙ c.get_mut.ensures.value) ∙ c.requires.up }
 
 pub returns-clause-ends : goal.returns-clause-ends
 returns-clause-ends g c = λ header venus slot.
-    let same = sym c.in-Started.is ∙ c.take.ensures.taken ∙ slot in
-    let left = c.show-said.new.venus in (
-      left,
-      c.put.ensures.here ∙ ap (λ h. Started h left) (same_header c.in-Started.header header c.in-Started.actor venus same),
-      g.met.D.Disk.seen_now left.journal.disk,
-      λ history up lawful spelled. c.show-said.ensures.ends header history (subst (λ v. IsUp g.D.Disk.told header v (journal_by history)) (sym (same_actor c.in-Started.header header c.in-Started.actor venus same)) up) lawful spelled,
-    )
+    let lent = ap slot_or_vacant (ap option_copied_mut (sym c.unwrap-slot.ensures) ∙ c.get_mut.ensures.value) in
+    let left : slot_at (c.get_mut.follows.lender c.show_in.new.slot) c.args.number ≡ c.show_in.new.slot = search rules in
+    let e = c.show_in.ensures header venus (lent ∙ slot) in (e.0, left ∙ e.1, e.2, e.3)

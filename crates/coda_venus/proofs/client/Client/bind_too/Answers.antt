@@ -7,9 +7,9 @@ use Rattle.coda_venus.proofs.Beginnings.{put_back, put_some}
 use Rattle.coda_venus.proofs.client.Client.bind_too.Goals as goal
 
 pub restore-requires : goal.restore-requires
-restore-requires c = subst (λ (p : Parents). IsSome (map.get p c.args.fid)) (sym c.in_ok-put.ensures.ok) (put_some c.args.self.now.parents c.args.fid c.args.to_dir)
+restore-requires c = subst (λ (p : Parents). IsSome (map.get p c.args.fid)) (sym c.in_ok-was.ensures.ok) (put_some c.args.self.now.parents c.args.fid c.args.to_dir)
 
 pub returns-in-Err-clause-err : goal.returns-in-Err-clause-err
 returns-in-Err-clause-err c =
-    let parents : c.restore.new.self ≡ c.args.self.now.parents = c.restore.ensures ∙ (λ i. restored (c.in_ok-put.ensures.ok i) c.args.fid (c.get-was.ensures i)) ∙ put_back c.args.self.now.parents c.args.fid c.args.to_dir in
+    let parents : c.restore.new.self ≡ c.args.self.now.parents = c.restore.ensures ∙ (λ i. restored (c.in_ok-was.ensures.ok i) c.args.fid (c.in_ok-was.ensures.was i)) ∙ put_back c.args.self.now.parents c.args.fid c.args.to_dir in
     λ i. let h : Held = record { nodes = c.in-Err.ensures.err i; parents = parents i } in h
