@@ -6,8 +6,8 @@ ghost use Rattle.coda_report.specs.Printing.{text_of_content, mode_text};
 
 use coda_fid::{Fid, Sid};
 use coda_text::{put_byte, put_quoted};
+use itoa::Buffer;
 use std::alloc::AllocError;
-use std::fmt::Write;
 
 /// The most bytes of a content or a target that are printed.
 const MOST_CONTENT: usize = 64;
@@ -37,10 +37,10 @@ pub fn put_number(out: &mut String, number: u64) -> Result<(), AllocError>
     ensures { OnOk result (string_bytes out.new ≡ string_bytes out.old ++ decimal number) }
 {
     if number < 10 {
-        put_digit(out, number)
-    } else {
-        write!(out, "{number}")
+        return put_digit(out, number);
     }
+    let mut digits = Buffer::new();
+    out.push_str(digits.format(number))
 }
 
 /// Puts a number behind a blank.
