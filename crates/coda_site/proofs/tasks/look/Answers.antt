@@ -44,6 +44,13 @@ returns-in-Ok-clause-does g c = λ cell kept is.
     (nodes_offered c.offers_of-offers.result) c.offers_of-offers.ensures (λ o x. show_answer c.args.what o x c.args.volume c.args.path.now) (λ (r : Seen × Bool). reply_of r.1 r.0.node.kind) c.show_at.result c.show_at.ensures.ends c.shown.result (g.B.Bay.answered c.args._bay.now)
     (subst (λ r. RepliesTo (λ (r : Seen × Bool). reply_of r.1 r.0.node.kind) r c.shown.result) (sym c.in-Ok.is) c.shown.ensures)
 
+pub returns-in-Ok-clause-ready : goal.returns-in-Ok-clause-ready
+returns-in-Ok-clause-ready g c =
+    let told = g.B.D.Disk.told in
+    let site = c.args.site.now in
+    let up = found_up_at told site.clients c.args.client c.from.result c.from-2.result c.is_up.result c.is_up.ensures c.from.ensures c.from-2.ensures c.if-not-is_up.false in
+    call_ready told (g.B.Bay.out c.args._bay.now) site c.show_at.new.clients c.from-2.result (nodes_offered c.offers_of-offers.result) (λ o x. show_answer c.args.what o x c.args.volume c.args.path.now) IsShown c.show_at.result up c.show_at.ensures.slots c.show_at.ensures.ends c.requires.ready
+
 pub returns-in-Err-clause-ready : goal.returns-in-Err-clause-ready
 returns-in-Err-clause-ready g c =
     let told = g.B.D.Disk.told in

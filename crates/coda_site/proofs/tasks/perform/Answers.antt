@@ -46,6 +46,13 @@ returns-in-Ok-clause-does g c = λ cell kept is.
     (nodes_offered c.offers_of-offers.result) c.offers_of-offers.ensures (λ o x. operate o x cell.made.clock c.args.volume (asked_as (asked c.args.ask))) (λ (d : Done). reply.Done d.number d.fid) c.operate_at.result (subst (λ (t : ℕ). CallEnds told c.from-2.result (nodes_offered c.offers_of-offers.result) (λ o x. operate o x t c.args.volume (asked_as (asked c.args.ask))) site.clients c.operate_at.new.clients IsDone c.operate_at.result) (sym is.clock) c.operate_at.ensures.ends) (reply.Done c.in-Ok.done.number c.in-Ok.done.fid) (g.B.Bay.answered c.args._bay.now)
     (subst (λ r. RepliesTo (λ (d : Done). reply.Done d.number d.fid) r (reply.Done c.in-Ok.done.number c.in-Ok.done.fid)) (sym c.in-Ok.is) refl)
 
+pub returns-in-Ok-clause-ready : goal.returns-in-Ok-clause-ready
+returns-in-Ok-clause-ready g c =
+    let told = g.B.D.Disk.told in
+    let site = c.args.site.now in
+    let up = found_up_at told site.clients c.args.client c.from.result c.from-2.result c.is_up.result c.is_up.ensures c.from.ensures c.from-2.ensures c.if-not-is_up.false in
+    call_ready told (g.B.Bay.out c.args._bay.now) site c.operate_at.new.clients c.from-2.result (nodes_offered c.offers_of-offers.result) (λ o x. operate o x site.clock c.args.volume (asked_as (asked c.args.ask))) IsDone c.operate_at.result up c.operate_at.ensures.slots c.operate_at.ensures.ends c.requires.ready
+
 pub returns-in-Err-clause-ready : goal.returns-in-Err-clause-ready
 returns-in-Err-clause-ready g c =
     let told = g.B.D.Disk.told in
