@@ -20,7 +20,7 @@ use Rattle.coda_runs.proofs.ShownUp.{shows_what_is_up}
 use Rattle.coda_main.specs.Shows.{Moment, Shows, MayGoOn, answered_since, CellGives, Answered}
 
 -- behind a list stands what was put there
-behind : {A : Type 0} (xs ys : List A) → drop (length xs) (xs ++ ys) ≡ ys
+pub behind : {A : Type 0} (xs ys : List A) → drop (length xs) (xs ++ ys) ≡ ys
 behind [] ys = refl
 behind (x ∷ xs) ys = behind xs ys
 

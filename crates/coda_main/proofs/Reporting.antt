@@ -14,11 +14,14 @@ use Rattle.coda_runs.specs.Shows.{Recorded}
 use Rattle.coda_runs.proofs.Reporting.{reports_tell_of_runs}
 use Rattle.coda_main.specs.Lines.{IsBadLine}
 use Rattle.coda_main.specs.Reported.{IsReportOfLines, IsReportOfRun}
-use Rattle.coda_main.specs.Shows.{Moment, Shows, MayGoOn, CellGives}
-use Rattle.coda_main.proofs.Showing.{cells_shown, cells_go_on, lines_good}
+use Rattle.coda_stored.specs.Resuming.{at_rest, Awaited, MakeAllAgain}
+use Rattle.coda_runs.specs.Later.{Later, Goes, resumed}
+use Rattle.coda_main.specs.Later.{ShowsLater, MachineGives, IsReportOfLaterRun}
+use Rattle.coda_main.specs.Shows.{Moment, Shows, MayGoOn}
+use Rattle.coda_main.proofs.Showing.{cells_shown, cells_go_on, lines_good, later_shown}
 
 module _ {D M : Type 0} (new old : M) (told : D → Told) (at : M → Moment D) (left_old left_new held_old held_new : Option (List ℕ)) (outside : List (List ℕ)) (status : Status)
-    (reports : Reports (λ old line text outside new. CellGives told (at old) line text outside (at new)) (λ m line column kind. IsBadLine line column kind) old new left_old left_new held_old held_new outside status) where
+    (reports : Reports (λ old line text outside new. MachineGives told (at old) line text outside (at new)) (λ m line column kind. IsBadLine line column kind) old new left_old left_new held_old held_new outside status) where
   -- Behind a run that wants no memory and met no fault of the bay, the site goes on.
   pub goes_on : MayGoOn told (at old) → status ≢ Memory → status ≢ BayFault → MayGoOn told (at new)
   goes_on start = (reports_shown (cells_go_on told at) tt old new left_old left_new held_old held_new outside status start reports).2
@@ -38,6 +41,20 @@ module _ {D M : Type 0} (new old : M) (told : D → Told) (at : M → Moment D) 
         has_run = run.has_run;
         answered = λ memory bay. last_same ∙ (shown.2 memory bay).answered ∙ run.answered memory bay;
         on_disks = λ memory bay. subst (AreOnDisks told has) (run.same memory bay) (closes (goes_on start memory bay) shown.0.cell (shown.2 memory bay).stands);
+      }
+
+  -- What a run over the disks that an earlier run left tells, where the bay, once all is given back, stands for the cell that the run left.
+  pub reported_later : (has : ℕ → Told) (before after : List (List ℕ)) (past : StoredCell) (lines : List Awaited) → MayGoOn told (at old) → ShowsLater told (resumed (at_rest past) lines before) (at old)
+      → after ≡ (at new).answered → (MayGoOn told (at new) → (cell : StoredCell) → IsSite told (at new).out (at new).has cell (at new).site → AreOnDisks told has cell)
+      → IsReportOfLaterRun told has before after left_old left_new held_old held_new status past lines
+  reported_later has before after past lines start shows last_same closes =
+      let shown = reports_shown (later_shown told at) (resumed (at_rest past) lines before) old new left_old left_new held_old held_new outside status shows reports in record {
+        end = shown.0;
+        outside = outside;
+        reports = shown.1;
+        on_disks = λ memory bay reached is.
+            let there : Shows told reached (at new) = subst (λ (l : Later). ShowsLater told l (at new)) is (shown.2 memory bay) in
+            (last_same ∙ there.answered, closes (goes_on start memory bay) reached.cell there.stands);
       }
 
   -- What it tells whatever the disks hold.

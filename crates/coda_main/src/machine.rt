@@ -1,10 +1,13 @@
 // The cell as a machine that runs the lines of a script.
-ghost use Rattle.std.specs.Prelude.{◌≡◌, ◌<◌, ◌≤◌, ◌+◌, ◌^◌, true, IfOk, IfErr, OnOk, IfSome, Ok, Err};
+ghost use Rattle.std.specs.Prelude.{◌≡◌, ◌<◌, ◌≤◌, ◌+◌, ◌^◌, ℕ, true, List, IfOk, IfErr, OnOk, IfSome, Ok, Err};
 ghost use Rattle.coda_io.specs.Faults.{Rose};
 ghost use Rattle.coda_script.specs.Lines.{line_of};
 ghost use Rattle.coda_script.specs.Ranges.{InRange};
 ghost use Rattle.coda_stored.specs.Lines.{is_built};
 ghost use Rattle.coda_runs.specs.Shows.{Recorded};
+ghost use Rattle.coda_stored.specs.Cells.{StoredCell};
+ghost use Rattle.coda_stored.specs.Resuming.{Awaited, is_awaited};
+ghost use Rattle.coda_main.specs.Later.{ShowsWaiting, AnsweredAgain};
 ghost use Rattle.coda_main.specs.Shows.{moment, Shows, MayGoOn, MayClose, Answered, StopsSo, StopsWithin, stop_at};
 
 use crate::report::text_of;
@@ -70,6 +73,9 @@ fn answer<B: Bay>(alloc: Global, cell: &mut Cell<B>, said: &Line) -> Result<Vec<
     ensures closable { MayClose (moment (B.out cell.new.bay) (B.has cell.new.bay) (B.answered cell.new.bay) cell.new.site) }
     ensures answered { IfOk result (λ text. (plain : Recorded) → Shows B.D.told plain (moment (B.out cell.old.bay) (B.has cell.old.bay) (B.answered cell.old.bay) cell.old.site)
         → Answered B.D.told plain said.now text.items (moment (B.out cell.old.bay) (B.has cell.old.bay) (B.answered cell.old.bay) cell.old.site) (moment (B.out cell.new.bay) (B.has cell.new.bay) (B.answered cell.new.bay) cell.new.site)) }
+    ensures again { IfOk result (λ text. (stored : StoredCell) (next : Awaited) (left : List Awaited) (images : List (List ℕ)) → is_awaited next said.now ≡ true
+        → ShowsWaiting B.D.told stored next left images (moment (B.out cell.old.bay) (B.has cell.old.bay) (B.answered cell.old.bay) cell.old.site)
+        → AnsweredAgain B.D.told stored next left images text.items (moment (B.out cell.old.bay) (B.has cell.old.bay) (B.answered cell.old.bay) cell.old.site) (moment (B.out cell.new.bay) (B.has cell.new.bay) (B.answered cell.new.bay) cell.new.site)) }
     ensures stopped { IfErr result StopsWithin }
     ensures posted { cell.new.site.net.posted ≤ cell.old.site.net.posted + 1 }
     ensures later { B.faults cell.old.bay ≤ B.faults cell.new.bay }
@@ -89,9 +95,10 @@ fn answer<B: Bay>(alloc: Global, cell: &mut Cell<B>, said: &Line) -> Result<Vec<
 
 impl<B: Bay> Machine for CellMachine<B> {
     ghost use Rattle.coda_main.specs.Lines.{IsBadLine};
-    ghost use Rattle.coda_main.specs.Shows.{MayRun, CellGives};
+    ghost use Rattle.coda_main.specs.Later.{MachineGives};
+    ghost use Rattle.coda_main.specs.Shows.{MayRun};
 
-    ghost gives = { λ old line text outside new. CellGives B.D.told (moment (B.out old.cell.bay) (B.has old.cell.bay) (B.answered old.cell.bay) old.cell.site) line text outside (moment (B.out new.cell.bay) (B.has new.cell.bay) (B.answered new.cell.bay) new.cell.site) };
+    ghost gives = { λ old line text outside new. MachineGives B.D.told (moment (B.out old.cell.bay) (B.has old.cell.bay) (B.answered old.cell.bay) old.cell.site) line text outside (moment (B.out new.cell.bay) (B.has new.cell.bay) (B.answered new.cell.bay) new.cell.site) };
 
     ghost refuses = { λ machine line column kind. IsBadLine line column kind };
 

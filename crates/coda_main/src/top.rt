@@ -1,8 +1,12 @@
 // The top call: a script is read, runs in a cell on the disks of a bay, and its report is written.
-ghost use Rattle.std.specs.Prelude.{◌≡◌, ◌≢◌, ◌↔◌, ◌≤◌, ℕ, false, map};
+ghost use Rattle.std.specs.Prelude.{◌≡◌, ◌≢◌, ◌↔◌, ◌≤◌, ℕ, false, List, map};
 ghost use Rattle.std.specs.String.{string_bytes};
 ghost use Rattle.coda_io.specs.Faults.{Rose};
-ghost use Rattle.coda_site.specs.Cells.{AreBlank};
+ghost use Rattle.coda_stored.specs.Cells.{StoredCell};
+ghost use Rattle.coda_stored.specs.Kept.{IsStoredKept};
+ghost use Rattle.coda_stored.specs.Resuming.{Awaited, MakeAllAgain};
+ghost use Rattle.coda_site.specs.Cells.{AreBlank, AreOnDisks};
+ghost use Rattle.coda_main.specs.Later.{IsReportOfLaterRun};
 ghost use Rattle.coda_main.specs.Reported.{IsReportOfLines, IsReportOfRun};
 ghost use Rattle.coda_main.specs.Words.{IsRun};
 
@@ -24,6 +28,8 @@ fn run_and_close<S: Source, K: Sink, B: Bay + Drop>(
 ) -> (Status, B)
     requires { (number : ℕ) → B.out bay number ≡ false }
     ensures report { AreBlank (B.has bay) → IsReportOfRun B.D.told (B.has result.1) (B.answered bay) (B.answered result.1) (S.left source.old) (S.left source.new) (K.held sink.old) (K.held sink.new) result.0 }
+    ensures later { (past : StoredCell) (lines : List Awaited) → IsStoredKept past → MakeAllAgain past lines → AreOnDisks B.D.told (B.has bay) past
+        → IsReportOfLaterRun B.D.told (B.has result.1) (B.answered bay) (B.answered result.1) (S.left source.old) (S.left source.new) (K.held sink.old) (K.held sink.new) result.0 past lines }
     ensures lines { IsReportOfLines (S.left source.old) (S.left source.new) (K.held sink.old) (K.held sink.new) result.0 }
     ensures given_back { result.0 ≢ Status.Memory → result.0 ≢ Status.BayFault → (number : ℕ) → B.out result.1 number ≡ false }
     ensures source_fault { result.0 ≡ Status.SourceFault → Rose (S.faults source.old) (S.faults source.new) }
@@ -50,6 +56,8 @@ fn run_lent<'a, S: Source, K: Sink, B: Bay>(
 ) -> (Status, LentBay<'a, B>)
     requires { (number : ℕ) → B.out lent.bay.now number ≡ false }
     ensures report { AreBlank (B.has lent.entry.bay.now) → IsReportOfRun B.D.told (B.has result.1.bay.now) (B.answered lent.entry.bay.now) (B.answered result.1.bay.now) (S.left source.old) (S.left source.new) (K.held sink.old) (K.held sink.new) result.0 }
+    ensures later { (past : StoredCell) (lines : List Awaited) → IsStoredKept past → MakeAllAgain past lines → AreOnDisks B.D.told (B.has lent.entry.bay.now) past
+        → IsReportOfLaterRun B.D.told (B.has result.1.bay.now) (B.answered lent.entry.bay.now) (B.answered result.1.bay.now) (S.left source.old) (S.left source.new) (K.held sink.old) (K.held sink.new) result.0 past lines }
     ensures lines { IsReportOfLines (S.left source.old) (S.left source.new) (K.held sink.old) (K.held sink.new) result.0 }
     ensures given_back { result.0 ≢ Status.Memory → result.0 ≢ Status.BayFault → (number : ℕ) → B.out result.1.bay.now number ≡ false }
     ensures source_fault { result.0 ≡ Status.SourceFault → Rose (S.faults source.old) (S.faults source.new) }
@@ -72,6 +80,9 @@ fn run_lent<'a, S: Source, K: Sink, B: Bay>(
 /// and each log is what cancellation leaves of what is pending (Kistler and Satyanarayanan 1992). Unless memory was
 /// wanting or the bay at fault, the disks then stand for the cell that the run left.
 ///
+/// Where the disks held what an earlier run left, and the script first makes again all that was made there, as it was, the
+/// run goes on from what these lines find: the histories that there were, each perhaps with the entry whose append failed.
+///
 /// Over any bay, the status is that of the lines: each line that ran is built or says nothing, and one that ended the
 /// run is refused. Unless memory was wanting or the bay at fault, the bay has all its disks again.
 pub fn run_script<S: Source, K: Sink, B: Bay>(
@@ -82,6 +93,8 @@ pub fn run_script<S: Source, K: Sink, B: Bay>(
 ) -> Status
     requires { (number : ℕ) → B.out bay.old number ≡ false }
     ensures report { AreBlank (B.has bay.old) → IsReportOfRun B.D.told (B.has bay.new) (B.answered bay.old) (B.answered bay.new) (S.left source.old) (S.left source.new) (K.held sink.old) (K.held sink.new) result }
+    ensures later { (past : StoredCell) (lines : List Awaited) → IsStoredKept past → MakeAllAgain past lines → AreOnDisks B.D.told (B.has bay.old) past
+        → IsReportOfLaterRun B.D.told (B.has bay.new) (B.answered bay.old) (B.answered bay.new) (S.left source.old) (S.left source.new) (K.held sink.old) (K.held sink.new) result past lines }
     ensures lines { IsReportOfLines (S.left source.old) (S.left source.new) (K.held sink.old) (K.held sink.new) result }
     ensures given_back { result ≢ Status.Memory → result ≢ Status.BayFault → (number : ℕ) → B.out bay.new number ≡ false }
     ensures source_fault { result ≡ Status.SourceFault → Rose (S.faults source.old) (S.faults source.new) }
@@ -111,6 +124,8 @@ pub fn coda<S: Source, K: Sink, B: Bay>(
     ensures unused { result ≡ Status.Usage → (source.new ≡ source.old) × (sink.new ≡ sink.old) × (bay.new ≡ bay.old) }
     ensures report { IsRun (map string_bytes words.now) → AreBlank (B.has bay.old)
         → IsReportOfRun B.D.told (B.has bay.new) (B.answered bay.old) (B.answered bay.new) (S.left source.old) (S.left source.new) (K.held sink.old) (K.held sink.new) result }
+    ensures later { IsRun (map string_bytes words.now) → (past : StoredCell) (lines : List Awaited) → IsStoredKept past → MakeAllAgain past lines → AreOnDisks B.D.told (B.has bay.old) past
+        → IsReportOfLaterRun B.D.told (B.has bay.new) (B.answered bay.old) (B.answered bay.new) (S.left source.old) (S.left source.new) (K.held sink.old) (K.held sink.new) result past lines }
     ensures lines { IsRun (map string_bytes words.now) → IsReportOfLines (S.left source.old) (S.left source.new) (K.held sink.old) (K.held sink.new) result }
     ensures given_back { result ≢ Status.Memory → result ≢ Status.BayFault → (number : ℕ) → B.out bay.new number ≡ false }
     ensures source_fault { result ≡ Status.SourceFault → Rose (S.faults source.old) (S.faults source.new) }

@@ -8,20 +8,20 @@ use Rattle.coda_stored.proofs.Remaining.{entries_stay}
 use Rattle.coda_runs.specs.Runs.{LineGives}
 use Rattle.coda_runs.specs.Headline.{AcknowledgedEntriesStay}
 
-begins_same : (cell : StoredCell) → Begins cell cell
+pub begins_same : (cell : StoredCell) → Begins cell cell
 begins_same cell = record { clients = λ client. ([], sym (append-nil _)); replicas = λ server volume. ([], sym (append-nil _)) }
 
 then_begins : {E : Type 0} → (xs ys zs : List E) → BeginsWith ys xs → BeginsWith zs ys → BeginsWith zs xs
 then_begins xs ys zs a b = (a.0 ++ b.0, b.1 ∙ ap (λ l. l ++ b.0) a.1 ∙ append_assoc xs a.0 b.0)
 
-begins_then : (old mid new : StoredCell) → Begins mid old → Begins new mid → Begins new old
+pub begins_then : (old mid new : StoredCell) → Begins mid old → Begins new mid → Begins new old
 begins_then old mid new a b = record {
   clients = λ client. then_begins (old.made.acted.clients client).history (mid.made.acted.clients client).history (new.made.acted.clients client).history (a.clients client) (b.clients client);
   replicas = λ server volume.
       then_begins (old.made.acted.replicas server volume).history (mid.made.acted.replicas server volume).history (new.made.acted.replicas server volume).history (a.replicas server volume) (b.replicas server volume);
 }
 
-gives_begins : (old new : StoredCell) (bytes text : List ℕ) (outside : List (List ℕ)) → LineGives old bytes text outside new → Begins new old
+pub gives_begins : (old new : StoredCell) (bytes text : List ℕ) (outside : List (List ℕ)) → LineGives old bytes text outside new → Begins new old
 gives_begins old new bytes text outside (inl silent) = subst (λ cell. Begins cell old) (sym silent.3) (begins_same old)
 gives_begins old new bytes text outside (inr x) = entries_stay old new x.said x.reply outside x.happens
 

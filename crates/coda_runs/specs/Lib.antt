@@ -8,3 +8,4 @@ pub mod Thawed
 pub mod Performed
 pub mod Shown
 pub mod Causes
+pub mod Later

@@ -4,6 +4,7 @@ ghost use Rattle.coda_stored.specs.Cells.{nothing_stored};
 ghost use Rattle.coda_runs.specs.Causes.{RefusalsHaveCauses};
 ghost use Rattle.coda_runs.specs.Complete.{ScriptsInGrammarAreClean};
 ghost use Rattle.coda_runs.specs.Headline.{ScriptsRun, ChunksAreDecidedOnce, CertifiedChunksAreApplied, ConflictsNameASentRecord, OperationsAreKept, SettlementsAreDecided, LogsArePending, AcknowledgedEntriesStay, ClientsComeBack, ReplicasComeBack};
+ghost use Rattle.coda_runs.specs.Later.{LaterRunsGoOn, WhatRanCanBeResumed};
 ghost use Rattle.coda_runs.specs.Lettered.{RepliesNameLetters, LettersSayWhatIsSo, LettersHaveEnds};
 ghost use Rattle.coda_runs.specs.Performed.{OperationsArePerformed};
 ghost use Rattle.coda_runs.specs.Runs.{LineGives, LineRefused};
@@ -150,4 +151,16 @@ pub fn reports_tell_of_runs()
 /// Nothing is shown of a client or of a server's replica that is down.
 pub fn what_is_shown_is_up()
     ensures { WhatIsShownIsUp }
+{}
+
+/// Over the disks that an earlier run left, and from lines that make all its actors again, whatever a run reached that
+/// didn't go astray has run, and begins with the histories that there were: nothing that was acknowledged is lost.
+pub fn later_runs_go_on()
+    ensures { LaterRunsGoOn }
+{}
+
+/// Whatever lines ran from an empty cell, there are lines that make again all that they made, as it was and in its
+/// order, so that a later run can go on from it.
+pub fn what_ran_can_be_resumed()
+    ensures { WhatRanCanBeResumed }
 {}

@@ -179,12 +179,12 @@ none_from : {A B : Type 0} (f : A → B) (o : Option A) (b : B) → option_map f
 none_from f None b is = cc
 none_from f (Some a) b is = (a, refl, (let e : Some (f a) ≡ Some b = is in cc))
 
-nil_mapped : {A B : Type 0} (f : A → B) (l : List A) → map f l ≡ [] → l ≡ []
+pub nil_mapped : {A B : Type 0} (f : A → B) (l : List A) → map f l ≡ [] → l ≡ []
 nil_mapped f [] is = refl
 nil_mapped f (a ∷ l) is = (let no : f a ∷ map f l ≡ [] = is in cc)
 
 -- the history that a mounting finds, with the failed entry or without it
-found_by : (header : Header) (given : Option Header) (actor : Actor ClientEntry) (new : PlainDisk Payload) → Joins header (record { header = given; history = journal_by actor.history; failed = option_map payload_by actor.failed }) new
+pub found_by : (header : Header) (given : Option Header) (actor : Actor ClientEntry) (new : PlainDisk Payload) → Joins header (record { header = given; history = journal_by actor.history; failed = option_map payload_by actor.failed }) new
     → (joins : Bool) × (new.history ≡ journal_by (recovered joins actor).history)
 found_by header given actor new j = elim j.history [
   | inl same ↦ (false, same)

@@ -23,3 +23,6 @@ pub mod ReplicaLines
 pub mod Makes
 pub mod MakingLines
 pub mod VolumeLines
+pub mod ResumedClients
+pub mod ResumedVolumes
+pub mod Resting

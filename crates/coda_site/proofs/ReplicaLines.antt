@@ -57,14 +57,14 @@ one_kept volume past (Decided client number span) is = (_, refl)
 one_kept volume past (Resolved nodes lasts) is = absurd is
 
 -- so the journal is as long as the history
-kept_long : (volume : ℕ) (past history : List ReplicaEntry) → ((entry : ReplicaEntry) → In entry history → IsDecision entry) → length (histories.told (entry_at volume) past history) ≡ length history
+pub kept_long : (volume : ℕ) (past history : List ReplicaEntry) → ((entry : ReplicaEntry) → In entry history → IsDecision entry) → length (histories.told (entry_at volume) past history) ≡ length history
 kept_long volume past [] alone = refl
 kept_long volume past (entry ∷ history) alone =
     let one = one_kept volume past entry (alone entry (inl refl)) in
     ap (λ (l : List KeptEntry). length (l ++ histories.told (entry_at volume) (past ++ entry ∷ []) history)) one.1 ∙ ap suc (kept_long volume (past ++ entry ∷ []) history (λ e i. alone e (inr i)))
 
 -- the history that a mounting finds, with the failed entry or without it
-found_at : (header : Header) (volume : ℕ) (given : Option Header) (actor : Actor ReplicaEntry) (new : PlainDisk KeptEntry) → Joins header (record { header = given; history = journal_at volume actor.history; failed = failed_at volume actor }) new
+pub found_at : (header : Header) (volume : ℕ) (given : Option Header) (actor : Actor ReplicaEntry) (new : PlainDisk KeptEntry) → Joins header (record { header = given; history = journal_at volume actor.history; failed = failed_at volume actor }) new
     → (joins : Bool) × (new.history ≡ journal_at volume (recovered joins actor).history)
 found_at header volume given actor new j = elim j.history [
   | inl same ↦ (false, same)
@@ -82,7 +82,7 @@ found_at header volume given actor new j = elim j.history [
     by (Some (Resolved nodes lasts)) entry e is = (let no : None ≡ Some entry = sym (ap (λ (o : Option ReplicaEntry). failed_at volume (record actor { failed = o })) e) ∙ is in cc)
 
 -- what joins was there
-joined_in : (actor : Actor ReplicaEntry) (joins : Bool) (entry : ReplicaEntry) → ((e : ReplicaEntry) → In e (found true actor) → IsDecision e) → In entry (found joins actor) → IsDecision entry
+pub joined_in : (actor : Actor ReplicaEntry) (joins : Bool) (entry : ReplicaEntry) → ((e : ReplicaEntry) → In e (found true actor) → IsDecision e) → In entry (found joins actor) → IsDecision entry
 joined_in actor true entry alone i = alone entry i
 joined_in actor false entry alone i = alone entry (by actor.failed i)
   where
@@ -103,7 +103,7 @@ may_have told volume (Some header) history (Some entry) image may = may
 
 -- ---- one replica
 
-ruler_put_twice : (cell : StoredCell) (server volume : ℕ) (a b : Actor ReplicaEntry) → with_ruler (with_ruler cell server volume a) server volume b ≡ with_ruler cell server volume b
+pub ruler_put_twice : (cell : StoredCell) (server volume : ℕ) (a b : Actor ReplicaEntry) → with_ruler (with_ruler cell server volume a) server volume b ≡ with_ruler cell server volume b
 ruler_put_twice cell server volume a b = λ i. record cell { made = record cell.made { acted = record cell.made.acted { replicas = λ s v. at s v i } } }
   where
     at : (s v : ℕ) → cond ((s == server) && (v == volume)) b (cond ((s == server) && (v == volume)) a (cell.made.acted.replicas s v)) ≡ cond ((s == server) && (v == volume)) b (cell.made.acted.replicas s v)

@@ -1,5 +1,5 @@
 // A cell: a site, and the bay that has its disks.
-ghost use Rattle.std.specs.Prelude.{◌≡◌, ◌≢◌, ◌≤◌, ◌<◌, ◌+◌, ◌^◌, ℕ, true, false, Some, None, MatchOption, IfOk, Err};
+ghost use Rattle.std.specs.Prelude.{◌≡◌, ◌≢◌, ◌≤◌, ◌<◌, ◌+◌, ◌^◌, ℕ, true, false, List, [], ◌∷◌, length, Some, None, MatchOption, IfOk, Err};
 ghost use Rattle.coda_io.specs.Faults.{Rose};
 ghost use Rattle.coda_script.specs.Ranges.{InRange};
 ghost use Rattle.coda_cell.specs.Steps.{alone};
@@ -9,6 +9,8 @@ ghost use Rattle.coda_cell.specs.State.{ClientState, log_of, new_volume};
 ghost use Rattle.coda_stored.specs.Cells.{StoredCell, nothing_stored};
 ghost use Rattle.coda_stored.specs.Kept.{IsStoredKept};
 ghost use Rattle.coda_stored.specs.Lines.{is_built, Happens, client_down, replica_down};
+ghost use Rattle.coda_stored.specs.Resuming.{at_rest, Awaited, is_awaited, AreAwaited, MakeAllAgain};
+ghost use Rattle.coda_site.specs.Awaiting.{IsAwaiting, Resumes};
 ghost use Rattle.coda_site.specs.Sites.{IsSite, IsReady, IsClosable};
 ghost use Rattle.coda_site.specs.Steps.{Becomes};
 ghost use Rattle.coda_site.specs.Cells.{AreBlank, AreOnDisks};
@@ -55,7 +57,10 @@ impl<B: Bay> Cell<B> {
         ensures ready { IsReady B.D.told (B.out result.bay) result.site }
         ensures closable { IsClosable (B.out result.bay) result.site }
         ensures posted { result.site.net.posted ≡ 0 }
+        ensures empty { (result.site.servers.items ≡ []) × (result.site.areas ≡ 0) }
         ensures stands { AreBlank (B.has result.bay) → IsSite B.D.told (B.out result.bay) (B.has result.bay) nothing_stored result.site }
+        ensures waits { (cell : StoredCell) (lines : List Awaited) → IsStoredKept cell → MakeAllAgain cell lines → AreOnDisks B.D.told (B.has result.bay) cell
+            → IsAwaiting B.D.told (B.out result.bay) (B.has result.bay) (at_rest cell) lines result.site }
     {
         let clients = unmade(alloc, &bay);
         let replicas = unmade(alloc, &bay);
@@ -88,6 +93,9 @@ impl<B: Bay> Cell<B> {
         ensures closable { IsClosable (B.out self.new.bay) self.new.site }
         ensures does { (cell : StoredCell) → IsStoredKept cell → IsSite B.D.told (B.out self.old.bay) (B.has self.old.bay) cell self.old.site
             → IfOk result (λ reply. Becomes B.D.told (B.out self.new.bay) (B.has self.new.bay) (Happens cell line.now) reply (B.answered self.old.bay) (B.answered self.new.bay) self.new.site) }
+        ensures again { (cell : StoredCell) (awaited : Awaited) (left : List Awaited) → is_awaited awaited line.now ≡ true → IsStoredKept cell
+            → AreAwaited cell (length self.old.site.servers.items) self.old.site.areas (awaited ∷ left) → IsAwaiting B.D.told (B.out self.old.bay) (B.has self.old.bay) cell (awaited ∷ left) self.old.site
+            → IfOk result (λ reply. Resumes B.D.told (B.out self.new.bay) (B.has self.new.bay) cell awaited left reply (B.answered self.old.bay) (B.answered self.new.bay) self.new.site) }
         ensures posted { self.new.site.net.posted ≤ self.old.site.net.posted + 1 }
         ensures later { B.faults self.old.bay ≤ B.faults self.new.bay }
         ensures bay_cause { result ≡ Err CellFault.Bay → Rose (B.faults self.old.bay) (B.faults self.new.bay) }

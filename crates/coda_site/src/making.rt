@@ -1,5 +1,5 @@
 // Lines that make actors.
-ghost use Rattle.std.specs.Prelude.{◌≡◌, ◌≢◌, ◌≤◌, ◌<◌, ◌∷◌, ◌++◌, [], ℕ, List, ◌==◌, if◌then◌else◌, Some, None, IfOk, OnOk, OnErr, Err};
+ghost use Rattle.std.specs.Prelude.{◌≡◌, ◌≢◌, ◌≤◌, ◌<◌, ◌∷◌, ◌++◌, [], ℕ, List, ◌==◌, if◌then◌else◌, length, Some, None, IfOk, OnOk, OnErr, Err};
 ghost use Rattle.coda_io.specs.Faults.{Rose};
 ghost use Rattle.coda_crew.specs.declared.fault.CrewFault.TheVariants as crew_faults;
 ghost use Rattle.coda_script.specs.Ranges.{InRange};
@@ -8,6 +8,8 @@ ghost use Rattle.coda_script.specs.declared.reply.Reply.TheVariants as reply;
 ghost use Rattle.coda_stored.specs.Cells.{StoredCell, client_header, replica_header, disk_number};
 ghost use Rattle.coda_stored.specs.Kept.{IsStoredKept};
 ghost use Rattle.coda_stored.specs.Lines.{Happens, MakesVolume};
+ghost use Rattle.coda_stored.specs.Resuming.{Awaited, ClientAgain, VolumeAgain, AreAwaited};
+ghost use Rattle.coda_site.specs.Awaiting.{IsAwaiting, Resumes};
 ghost use Rattle.coda_site.specs.Makings.{SaysOpened};
 ghost use Rattle.coda_site.specs.Sites.{IsSite, IsReady, place_in};
 ghost use Rattle.coda_site.specs.Steps.{Becomes};
@@ -117,6 +119,9 @@ pub fn make_client<B: Bay>(
     ensures ready { IsReady B.D.told (B.out bay.new) site.new }
     ensures does { (cell : StoredCell) → IsStoredKept cell → IsSite B.D.told (B.out bay.old) (B.has bay.old) cell site.old
         → IfOk result (λ said. Becomes B.D.told (B.out bay.new) (B.has bay.new) (Happens cell (line.Client client blocks (Some area))) said (B.answered bay.old) (B.answered bay.new) site.new) }
+    ensures again { (cell : StoredCell) (left : List Awaited) → IsStoredKept cell → AreAwaited cell (length site.old.servers.items) site.old.areas (ClientAgain client blocks area ∷ left)
+        → IsAwaiting B.D.told (B.out bay.old) (B.has bay.old) cell (ClientAgain client blocks area ∷ left) site.old
+        → IfOk result (λ said. Resumes B.D.told (B.out bay.new) (B.has bay.new) cell (ClientAgain client blocks area) left said (B.answered bay.old) (B.answered bay.new) site.new) }
     ensures net { site.new.net ≡ site.old.net }
     ensures later { B.faults bay.old ≤ B.faults bay.new }
     ensures bay_cause { result ≡ Err CellFault.Bay → Rose (B.faults bay.old) (B.faults bay.new) }
@@ -187,6 +192,9 @@ pub fn make_volume<B: Bay>(
     ensures ready { IsReady B.D.told (B.out bay.new) site.new }
     ensures does { (cell : StoredCell) → IsStoredKept cell → IsSite B.D.told (B.out bay.old) (B.has bay.old) cell site.old
         → IfOk result (λ said. Becomes B.D.told (B.out bay.new) (B.has bay.new) (MakesVolume cell volume server area) said (B.answered bay.old) (B.answered bay.new) site.new) }
+    ensures again { (cell : StoredCell) (left : List Awaited) → IsStoredKept cell → AreAwaited cell (length site.old.servers.items) site.old.areas (VolumeAgain volume server area ∷ left)
+        → IsAwaiting B.D.told (B.out bay.old) (B.has bay.old) cell (VolumeAgain volume server area ∷ left) site.old
+        → IfOk result (λ said. Resumes B.D.told (B.out bay.new) (B.has bay.new) cell (VolumeAgain volume server area) left said (B.answered bay.old) (B.answered bay.new) site.new) }
     ensures net { site.new.net ≡ site.old.net }
     ensures later { B.faults bay.old ≤ B.faults bay.new }
     ensures bay_cause { result ≡ Err CellFault.Bay → Rose (B.faults bay.old) (B.faults bay.new) }

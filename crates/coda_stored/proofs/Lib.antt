@@ -7,3 +7,4 @@ pub mod Disks
 pub mod Making
 pub mod Keeping
 pub mod Remaining
+pub mod Resuming

@@ -19,7 +19,7 @@ use Rattle.coda_stored.specs.Laws.{Begins, EntriesStay}
 use Rattle.coda_stored.specs.Lines.{is_down_for, EndsBy, Becoming, Unless, UnlessDown, Opens, no_volume, no_client, with_volume, with_client as with_client_made, area_of, IsRefused, CrashesClient, CrashesReplica, RecoversClient, RecoversReplica, Stays, DoesUp}
 
 module _ {E : Type 0} where
-  same_entries : (xs : List E) → BeginsWith xs xs
+  pub same_entries : (xs : List E) → BeginsWith xs xs
   same_entries xs = ([], sym (append-nil xs))
 
   then_entries : (xs ys zs : List E) → BeginsWith ys xs → BeginsWith zs ys → BeginsWith zs xs
@@ -131,11 +131,11 @@ module _ (old : StoredCell) (reply : Reply) (outside : List (List ℕ)) (new : S
     replicas = λ server volume. subst (λ (made : MadeCell). BeginsWith (made.acted.replicas server volume).history (old.made.acted.replicas server volume).history) (sym is) (begins.replicas server volume);
   }
 
-  recovers_client_begins : (client : ℕ) → RecoversClient old client reply outside new → Begins new old
+  pub recovers_client_begins : (client : ℕ) → RecoversClient old client reply outside new → Begins new old
   recovers_client_begins client (none, (header, asked, inl did)) = aside (moved old (Recovers (TheClient client) did.0)) (recovery_begins old (TheClient client) did.0) (ap (λ (c : StoredCell). c.made) did.3)
   recovers_client_begins client (none, (header, asked, inr did)) = aside did.1 (refused_begins (TheClient client) _ header _ did.0 did.1 did.2) (ap (λ (c : StoredCell). c.made) did.4)
 
-  recovers_replica_begins : (server volume : ℕ) → RecoversReplica old server volume reply outside new → Begins new old
+  pub recovers_replica_begins : (server volume : ℕ) → RecoversReplica old server volume reply outside new → Begins new old
   recovers_replica_begins server volume (none, (header, asked, inl did)) = aside (moved old (Recovers (TheReplica server volume) did.0)) (recovery_begins old (TheReplica server volume) did.0) (ap (λ (c : StoredCell). c.made) did.3)
   recovers_replica_begins server volume (none, (header, asked, inr did)) = aside did.1 (refused_begins (TheReplica server volume) _ header _ did.0 did.1 did.2) (ap (λ (c : StoredCell). c.made) did.4)
 

@@ -3,3 +3,4 @@ pub mod Room
 pub mod Lines
 pub mod Kept
 pub mod Laws
+pub mod Resuming

@@ -1,6 +1,7 @@
 //! A cell whose actors stand on disks: what each line does in it, wherever a disk fails or has no room, and what holds of all its runs.
 #![tactic(auto)]
 
+ghost use Rattle.coda_stored.specs.Resuming.{CellsAreResumed};
 ghost use Rattle.coda_stored.specs.Laws.{StoredCellsAreKept, StoredCellsArePromised, EntriesStay, ClientsAreRecovered, ReplicasAreRecovered};
 
 /// A law of lines: in a cell that is kept each line leaves one that is kept, wherever the disk of an actor fails or has no room, and
@@ -29,4 +30,10 @@ pub fn clients_are_recovered()
 /// A law of recoveries: the same of a server's replica of a volume, so that a verdict that was answered is kept.
 pub fn replicas_are_recovered()
     ensures { ReplicasAreRecovered }
+{}
+
+/// A law of later runs: what such a run begins with over the disks of an earlier one is kept, and has all its histories; and an actor that
+/// a line makes again has the history that it had, or that one with the one entry whose append failed.
+pub fn cells_are_resumed()
+    ensures { CellsAreResumed }
 {}

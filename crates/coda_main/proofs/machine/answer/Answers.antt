@@ -1,6 +1,7 @@
 use Rattle.std.proofs.Common.{◌≡◌, rules, ◌∙◌}
 use Rattle.coda_main.specs.Shows.{moment}
 use Rattle.coda_main.proofs.Answering.{line_answered}
+use Rattle.coda_main.proofs.Resuming.{line_answered_again}
 use Rattle.coda_main.proofs.machine.answer.Goals as goal
 
 pub returns-in-Ok-text_of-clause-answered : goal.returns-in-Ok-text_of-clause-answered
@@ -10,4 +11,14 @@ returns-in-Ok-text_of-clause-answered g c =
     let before = moment (g.B.Bay.out old.bay) (g.B.Bay.has old.bay) (g.B.Bay.answered old.bay) old.site in
     let behind = moment (g.B.Bay.out new.bay) (g.B.Bay.has new.bay) (g.B.Bay.answered new.bay) new.site in
     let same : c.into_vec.result.items ≡ c.in-Ok-text_of.text = search rules in
-    line_answered g.B.D.Disk.told before behind c.args.said.now c.in-Ok.reply c.into_vec.result.items c.requires.range c.in-Ok.ensures.does (λ stored kept stands can. same ∙ c.in-Ok-text_of.ensures stored kept stands can)
+    line_answered g.B.D.Disk.told before behind c.args.said.now c.in-Ok.reply c.into_vec.result.items c.requires.range c.in-Ok.ensures.does (λ stored kept stands can. same ∙ c.in-Ok-text_of.ensures.shown stored kept stands can)
+
+pub returns-in-Ok-text_of-clause-again : goal.returns-in-Ok-text_of-clause-again
+returns-in-Ok-text_of-clause-again g c = λ stored next left images awaited shows.
+    let old = c.args.cell.now in
+    let new = c.step.new.self in
+    let before = moment (g.B.Bay.out old.bay) (g.B.Bay.has old.bay) (g.B.Bay.answered old.bay) old.site in
+    let behind = moment (g.B.Bay.out new.bay) (g.B.Bay.has new.bay) (g.B.Bay.answered new.bay) new.site in
+    let same : c.into_vec.result.items ≡ c.in-Ok-text_of.text = search rules in
+    line_answered_again g.B.D.Disk.told before behind stored next left images c.in-Ok.reply c.into_vec.result.items shows (c.in-Ok.ensures.again stored next left awaited shows.kept shows.awaited shows.stands)
+    (λ told. same ∙ c.in-Ok-text_of.ensures.other told)

@@ -1,4 +1,4 @@
-use Rattle.std.proofs.Common.{◌≡◌, ◌+◌, ◌≤◌, ℕ, List, true, false, Some, sym, subst, ◌∙◌}
+use Rattle.std.proofs.Common.{◌≡◌, ◌+◌, ◌≤◌, ◌<◌, ℕ, List, true, false, Some, sym, subst, ◌∙◌, arith}
 use Rattle.std.proofs.lemmas.Bool.{false≢true}
 use Rattle.coda_journal.specs.declared.header.Header.{Header}
 use Rattle.std.specs.Prelude.{nat_lt, is_some}
@@ -11,6 +11,8 @@ use Rattle.coda_script.specs.declared.line.Line.TheVariants as line
 use Rattle.coda_cell.specs.Refused.{AlreadyThere, CellFull}
 use Rattle.coda_stored.specs.Cells.{client_header}
 use Rattle.coda_stored.specs.Lines.{Happens, Opens, no_client, with_client}
+use Rattle.coda_stored.specs.Resuming.{ClientAgain}
+use Rattle.coda_site.specs.Awaiting.{Resumes}
 use Rattle.coda_site.specs.Sites.{is_client_disk, is_replica_disk, IsReady}
 use Rattle.coda_site.specs.Steps.{Becomes}
 use Rattle.coda_site.proofs.Becomings.{becomes_as}
@@ -19,6 +21,7 @@ use Rattle.coda_site.proofs.ClientSites.{plain_clients}
 use Rattle.coda_site.proofs.Closing.{client_alone, out_over}
 use Rattle.coda_site.proofs.Makes.{unless_none, with_clients_and_areas, unless_some, client_already, client_full, client_fits, clients_opened, none_there, no_room_left, room_left, few_areas}
 use Rattle.coda_site.proofs.MakingLines.{opens_client, client_is_made}
+use Rattle.coda_site.proofs.ResumedClients.{yet, client_absent, resume_client, client_made_again}
 use Rattle.coda_site.proofs.Stages.{if_ok, said_ok}
 use Rattle.coda_site.proofs.Theres.{client_made}
 use Rattle.coda_site.proofs.making.make_client.Goals.{then-is_made, else-is_made}
@@ -113,3 +116,47 @@ returns-in-Err-clause-ready g c =
     let be = others_left is_replica_disk out out1 has has1 number (client_alone number own) c.in-Err.ensures.others c.in-Err.ensures.keeps in
     clients_opened told out out1 site c.open.new.slots site.areas c.requires.ready (c.in-Err.ensures.out is_client_disk c.requires.ready.clients own) (c.in-Err.ensures.own c.requires.ready.clients_own)
     (out_over is_replica_disk out out1 has has1 site.replicas be c.requires.ready.replicas) c.requires.ready.areas
+
+pub returns-then-has_client-clause-again : goal.returns-then-has_client-clause-again
+returns-then-has_client-clause-again g c = λ cell left kept awaited is.
+    let out = g.B.Bay.out c.args.bay.now in
+    let has = g.B.Bay.has c.args.bay.now in
+    absurd (false≢true (sym (client_absent g.B.D.Disk.told out out has has cell kept c.args.site.now c.args.client c.args.blocks c.args.area left is awaited.0 awaited.1 c.has_client.ensures.disk) ∙ sym c.has_client.ensures.there ∙ c.if-has_client.true))
+
+pub returns-then-site-from-gt-MOST_AREAS-clause-again : goal.returns-then-site-from-gt-MOST_AREAS-clause-again
+returns-then-site-from-gt-MOST_AREAS-clause-again g c = λ cell left kept awaited is.
+    let full : 512 < c.args.site.now.areas + c.from.result = c.if-site-from-gt-MOST_AREAS.true in
+    let same : c.from.result ≡ c.args.area = c.from.ensures in
+    let room : c.args.site.now.areas + c.args.area ≤ 512 = awaited.2 in
+    absurd (omega (arith, full, same, room))
+
+pub returns-after-is_made-clause-again : goal.returns-after-is_made-clause-again
+returns-after-is_made-clause-again g c = λ cell left kept awaited is.
+    let told = g.B.D.Disk.told in
+    let out = g.B.Bay.out c.args.bay.now in
+    let has = g.B.Bay.has c.args.bay.now in
+    let out1 = g.B.Bay.out c.open.new.bay in
+    let has1 = g.B.Bay.has c.open.new.bay in
+    let site = c.args.site.now in
+    let n = c.args.client in
+    let blocks = c.args.blocks in
+    let area = c.args.area in
+    let number = c.from-number.result in
+    let mounting = c.in-Ok.mounting in
+    let before = g.B.Bay.answered c.args.bay.now in
+    let own : is_client_disk number ≡ true = subst (λ (m : ℕ). is_client_disk m ≡ true) (sym c.from-number.ensures) c.has_client.ensures.disk in
+    let be = others_left is_replica_disk out out1 has has1 number (client_alone number own) c.in-Ok.ensures.others c.in-Ok.ensures.keeps in
+    let plain = yet told out out1 has has1 cell kept site n blocks area left is awaited.0 awaited.1 in
+    let took = c.in-Ok.ensures.step is_client_disk plain is.clients own in
+    let takes = subst (λ (m : ℕ). Takes (client_form told) told is_client_disk plain m (OpenDeed (client_header n blocks area) mounting) out1 has1 c.open.new.slots) c.from-number.ensures
+    (subst (λ (h : Header). Takes (client_form told) told is_client_disk plain number (OpenDeed h mounting) out1 has1 c.open.new.slots) c.client_header-header.ensures took) in
+    if_ok _ c.opened.result (λ reply e.
+    let says = said_ok _ c.opened.result reply e c.opened.ensures.says in
+    let made = client_made_again told out out1 has has1 cell kept site n blocks area left is awaited.0 awaited.1 awaited.3 c.open.new.slots be mounting reply (slot_at c.open.new.slots number) says takes c.in-Ok.ensures.opened in
+    let resumed = resume_client told out out1 has has1 cell kept site n blocks area left is awaited.0 awaited.1 awaited.3 c.open.new.slots be mounting reply before says takes in
+    elim c.if-is_made.branch [
+      | then-is_made w ↦ subst (Resumes told out1 has1 cell (ClientAgain n blocks area) left reply before (g.B.Bay.answered c.open.new.bay)) (sym w.site-is)
+          (subst (λ (a : List (List ℕ)). Resumes told out1 has1 cell (ClientAgain n blocks area) left reply before a (with_clients_and_areas site c.open.new.slots (site.areas + w.from-then-is_made.result))) (sym c.in-Ok.ensures.answered)
+          (subst (λ (a : ℕ). Resumes told out1 has1 cell (ClientAgain n blocks area) left reply before before (with_clients_and_areas site c.open.new.slots (site.areas + a))) (sym w.from-then-is_made.ensures) resumed))
+      | else-is_made w ↦ absurd (false≢true (sym w.if-is_made.false ∙ c.is_made.ensures ∙ made))
+    ])

@@ -1,4 +1,4 @@
-use Rattle.std.proofs.Common.{◌≡◌, ◌+◌, ◌≤◌, ◌<◌, ◌==◌, ℕ, List, true, false, cond, length, Some, sym, ap, subst, ◌∙◌}
+use Rattle.std.proofs.Common.{◌≡◌, ◌+◌, ◌≤◌, ◌<◌, ◌==◌, ℕ, List, true, false, cond, length, Some, refl, sym, ap, subst, ◌∙◌, arith}
 use Rattle.std.proofs.lemmas.Bool.{false≢true}
 use Rattle.std.specs.Prelude.{nat_lt, nat_le, ◌||◌, is_some}
 use Rattle.coda_journal.specs.declared.header.Header.{Header}
@@ -12,6 +12,8 @@ use Rattle.coda_script.specs.declared.reply.Reply.{Reply}
 use Rattle.coda_cell.specs.Refused.{AlreadyThere, CellFull}
 use Rattle.coda_stored.specs.Cells.{replica_header, disk_number}
 use Rattle.coda_stored.specs.Lines.{MakesVolume, Opens, no_volume, with_volume}
+use Rattle.coda_stored.specs.Resuming.{VolumeAgain}
+use Rattle.coda_site.specs.Awaiting.{Resumes}
 use Rattle.coda_site.specs.Makings.{SaysOpened}
 use Rattle.coda_site.specs.Sites.{is_client_disk, is_replica_disk, place_in, IsReady}
 use Rattle.coda_site.specs.Steps.{Becomes}
@@ -20,6 +22,7 @@ use Rattle.coda_site.proofs.Becomings.{becomes_as}
 use Rattle.coda_site.proofs.ClientLines.{stays_becomes}
 use Rattle.coda_site.proofs.Closing.{replica_alone, out_over}
 use Rattle.coda_site.proofs.Makes.{unless_none, unless_some, volume_already, volume_full, volume_fits, none_there, no_room_left, room_left, few_areas, many_volumes, full_of_areas, has_room, replica_number, volume_opened, volume_forgotten, forgotten_place, next_unmade}
+use Rattle.coda_site.proofs.ResumedVolumes.{volume_absent, resume_volume, replica_made_again}
 use Rattle.coda_site.proofs.Stages.{if_ok, said_ok}
 use Rattle.coda_site.proofs.VolumeLines.{some_home, IsNoted, opens_volume, replica_is_made}
 use Rattle.coda_site.proofs.making.make_volume.Goals.{then-is_made, else-is_made, then-len-ge-MOST_VOLUMES-via-then-len-ge-MOST_VOLUMES, then-len-ge-MOST_VOLUMES-via-else-len-ge-MOST_VOLUMES+then-site-from-gt-MOST_AREAS}
@@ -176,3 +179,70 @@ returns-in-Err-clause-ready g c =
     (gone.servers site.servers.items server told_of.servers) (none_there (place_in site volume) (sym c.if-contains_key.ensures))
     (λ k. gone.places k ∙ forgotten_place (k == volume) (Some (record { server = server; disk = disk })) (place_in site k) (place_in noted k) (places k))
     (ap (λ s. s.clients) gone.others ∙ clients) (ap is_made same ∙ next_unmade told out site ready server) (ap (λ s. s.replicas) gone.others) (subst (λ (a : ℕ). a ≤ 512) (sym (ap (λ s. s.areas) gone.others ∙ areas)) ready.areas)
+
+pub returns-then-contains_key-clause-again : goal.returns-then-contains_key-clause-again
+returns-then-contains_key-clause-again g c = λ cell left kept awaited is.
+    let out = g.B.Bay.out c.args.bay.now in
+    let has = g.B.Bay.has c.args.bay.now in
+    let none = volume_absent g.B.D.Disk.told out out has has cell kept c.args.site.now c.args.volume c.args.server c.args.area left is awaited.0 awaited.1 awaited.2 in
+    absurd (false≢true (sym (ap is_some none) ∙ sym c.if-contains_key.ensures))
+
+pub returns-then-len-ge-MOST_VOLUMES-clause-again : goal.returns-then-len-ge-MOST_VOLUMES-clause-again
+returns-then-len-ge-MOST_VOLUMES-clause-again g c = λ cell left kept awaited is.
+    let site = c.args.site.now in
+    let few : length site.servers.items < 64 = awaited.3 in
+    let room : site.areas + c.args.area ≤ 512 = awaited.4 in
+    let counted : c.len.result ≡ length site.servers.items = c.len.ensures ∙ site.servers.ok.0 in
+    elim c.then-len-ge-MOST_VOLUMES.branch [
+      | then-len-ge-MOST_VOLUMES-via-then-len-ge-MOST_VOLUMES w ↦ (let many : 64 ≤ c.len.result = w.if-len-ge-MOST_VOLUMES.true in absurd (omega (arith, many, counted, few)))
+      | then-len-ge-MOST_VOLUMES-via-else-len-ge-MOST_VOLUMES+then-site-from-gt-MOST_AREAS w ↦ (
+          let full : 512 < site.areas + w.from.result = w.if-site-from-gt-MOST_AREAS.true in
+          let same : w.from.result ≡ c.args.area = w.from.ensures in
+          absurd (omega (arith, full, same, room)))
+    ]
+
+pub returns-after-is_made-clause-again : goal.returns-after-is_made-clause-again
+returns-after-is_made-clause-again g c = λ cell left kept awaited is.
+    let told = g.B.D.Disk.told in
+    let out = g.B.Bay.out c.args.bay.now in
+    let has = g.B.Bay.has c.args.bay.now in
+    let out1 = g.B.Bay.out c.open.new.bay in
+    let has1 = g.B.Bay.has c.open.new.bay in
+    let site = c.args.site.now in
+    let volume = c.args.volume in
+    let server = c.args.server in
+    let area = c.args.area in
+    let number = c.disk_number-disk.result in
+    let mounting = c.in-Ok.mounting in
+    let before = g.B.Bay.answered c.args.bay.now in
+    let noted = c.note.new.site in
+    let told_of = c.in_ok-note.ensures in
+    let disk : ℕ = disk_number (length site.servers.items) server in
+    let place : Place = record { server = server; disk = disk } in
+    let number_is : number ≡ disk = c.disk_number-disk.ensures ∙ ap (λ (m : ℕ). disk_number m server) (c.len-2.ensures ∙ site.servers.ok.0) in
+    let own : is_replica_disk number ≡ true = subst (λ (m : ℕ). is_replica_disk m ≡ true) (sym number_is) (replica_number (length site.servers.items) server) in
+    let be = others_left is_client_disk out out1 has has1 number (replica_alone number own) c.in-Ok.ensures.others c.in-Ok.ensures.keeps in
+    let replicas : noted.replicas ≡ site.replicas = ap (λ s. s.replicas) told_of.others in
+    let is_noted : IsNoted site volume place noted = record {
+      servers = told_of.servers;
+      places = λ k. told_of.places k ∙ ap (λ (m : ℕ). cond (k == volume) (Some (record { server = server; disk = m })) (place_in site k)) number_is;
+      clock = ap (λ s. s.clock) told_of.others;
+      areas = ap (λ s. s.areas) told_of.others;
+      clients = ap (λ s. s.clients) told_of.others;
+      net = ap (λ s. s.net) told_of.others;
+    } in
+    let plain = is.replicas.0 in
+    let took = c.in-Ok.ensures.step is_replica_disk plain (subst (λ r. FitsAll (replica_form told) told is_replica_disk out has r plain) (sym replicas) is.replicas.2) own in
+    let takes = subst (λ (m : ℕ). Takes (replica_form told) told is_replica_disk plain m (OpenDeed (replica_header volume server area) mounting) out1 has1 c.open.new.slots) number_is
+    (subst (λ (h : Header). Takes (replica_form told) told is_replica_disk plain number (OpenDeed h mounting) out1 has1 c.open.new.slots) c.replica_header-header.ensures took) in
+    let Leaves : Reply → Type 0 = λ reply. Resumes told out1 has1 cell (VolumeAgain volume server area) left reply before (g.B.Bay.answered c.open.new.bay) c.if-is_made.site in
+    if_ok Leaves c.opened.result (λ reply e.
+    let says = said_ok (λ (said : Reply). SaysOpened mounting said) c.opened.result reply e c.opened.ensures.says in
+    let made = replica_made_again told out out1 has has1 cell kept site volume server area left is awaited.0 awaited.1 awaited.2 awaited.5 c.open.new.slots be noted is_noted mounting reply (slot_at c.open.new.slots number) says takes c.in-Ok.ensures.opened in
+    let resumed = resume_volume told out out1 has has1 cell kept site volume server area left is awaited.0 awaited.1 awaited.2 awaited.5 c.open.new.slots be noted is_noted mounting reply before says takes in
+    elim c.if-is_made.branch [
+      | then-is_made w ↦ subst (Resumes told out1 has1 cell (VolumeAgain volume server area) left reply before (g.B.Bay.answered c.open.new.bay)) (sym w.site-is)
+          (subst (λ (a : List (List ℕ)). Resumes told out1 has1 cell (VolumeAgain volume server area) left reply before a (record noted { replicas = c.open.new.slots; areas = noted.areas + w.from-then-is_made.result })) (sym c.in-Ok.ensures.answered)
+          (subst (λ (a : ℕ). Resumes told out1 has1 cell (VolumeAgain volume server area) left reply before before (record noted { replicas = c.open.new.slots; areas = noted.areas + a })) (sym w.from-then-is_made.ensures) resumed))
+      | else-is_made w ↦ absurd (false≢true (sym w.if-is_made.false ∙ c.is_made.ensures ∙ made))
+    ])

@@ -1,0 +1,65 @@
+-- A run over the disks that an earlier run left: what the cell of the code shows of it, and what its report tells.
+use Rattle.std.specs.Prelude.{◌≡◌, ◌≢◌, ℕ, true, List, [], ◌∷◌, Option, length}
+use Rattle.coda_disk.specs.Told.{Told}
+use Rattle.coda_engine.specs.Run.{Reports}
+use Rattle.coda_engine.specs.declared.status.Kind.{Kind}
+use Rattle.coda_engine.specs.declared.status.Status.{Status}
+use Rattle.coda_engine.specs.declared.status.Status.TheVariants.{BayFault, Memory}
+use Rattle.coda_script.specs.declared.reply.Reply.{Reply}
+use Rattle.coda_script.specs.declared.reply.Reply.TheVariants.{ShowVolume, ShowLog}
+use Rattle.coda_report.specs.Texts.{reply_text}
+use Rattle.coda_stored.specs.Cells.{StoredCell}
+use Rattle.coda_stored.specs.Kept.{IsStoredKept}
+use Rattle.coda_stored.specs.Resuming.{at_rest, Awaited, AreAwaited, MakesAgain}
+use Rattle.coda_site.specs.Awaiting.{IsAwaiting}
+use Rattle.coda_site.specs.Cells.{AreOnDisks}
+use Rattle.coda_runs.specs.Later.{Later, Waits, Goes, Strays, resumed, LaterGives}
+use Rattle.coda_runs.specs.Shows.{Recorded}
+use Rattle.coda_main.specs.Lines.{IsBadLine}
+use Rattle.coda_main.specs.Shows.{Moment, Shows, answered_since, CellGives}
+
+-- the reply shows no volume and no log
+abbrev pub ShowsNothing : Reply → Type 0
+ShowsNothing (ShowVolume server volume) = ⊥
+ShowsNothing (ShowLog client volume) = ⊥
+ShowsNothing reply = Unit {0}
+
+-- The cell that was found is kept, and the site and the bay stand for it, but that these lines are yet to make actors of it again.
+pub record ShowsWaiting {D : Type 0} (told : D → Told) (cell : StoredCell) (next : Awaited) (left : List Awaited) (answered : List (List ℕ)) (now : Moment D) : Type 0 where
+  pub kept : IsStoredKept cell
+  pub awaited : AreAwaited cell (length now.site.servers.items) now.site.areas (next ∷ left)
+  pub stands : IsAwaiting told now.out now.has cell (next ∷ left) now.site
+  pub images : now.answered ≡ answered
+
+-- where a later run stands, as the site and the bay have it
+abbrev pub ShowsLater : {D : Type 0} → (D → Told) → Later → Moment D → Type 0
+ShowsLater told (Waits cell next left answered) now = ShowsWaiting told cell next left answered now
+ShowsLater told (Goes at) now = Shows told at now
+ShowsLater told Strays now = Unit {0}
+
+-- a later run refuses what any run does
+abbrev pub LaterRefuses : Later → List ℕ → ℕ → Kind → Type 0
+LaterRefuses old bytes column kind = IsBadLine bytes column kind
+
+-- The line that is awaited made its actor again, with a reply of this text, and what it left is shown.
+pub record AnsweredAgain {D : Type 0} (told : D → Told) (cell : StoredCell) (next : Awaited) (left : List Awaited) (answered : List (List ℕ)) (text : List ℕ) (old new : Moment D) : Type 0 where
+  pub found : StoredCell
+  pub reply : Reply
+  pub makes : MakesAgain cell next reply found
+  pub printed : text ≡ reply_text reply
+  pub quiet : answered_since old new ≡ []
+  pub shows : ShowsLater told (resumed found left answered) new
+
+-- A line ran, and from each place of a later run that old shows, one that new shows may be reached by it.
+pub record MachineGives {D : Type 0} (told : D → Told) (old : Moment D) (bytes text : List ℕ) (outside : List (List ℕ)) (new : Moment D) : Type 0 where
+  pub ran : CellGives told old bytes text outside new
+  pub later : (at : Later) → ShowsLater told at old → (next : Later) × LaterGives at bytes text outside next × ShowsLater told next new
+
+-- What was read and written is the report of a run over the disks that an earlier run left: the lines come first that make all its actors again, and
+-- then the run goes on from what they found, unless a line comes that isn't awaited. Unless memory was wanting or the bay at fault, where all were
+-- made again the bay answered what the run had of it, and its disks stand for the cell that the run left.
+pub record IsReportOfLaterRun {D : Type 0} (told : D → Told) (has : ℕ → Told) (answered_old answered_new : List (List ℕ)) (left_old left_new held_old held_new : Option (List ℕ)) (status : Status) (past : StoredCell) (lines : List Awaited) : Type 0 where
+  pub end : Later
+  pub outside : List (List ℕ)
+  pub reports : Reports LaterGives LaterRefuses (resumed (at_rest past) lines answered_old) end left_old left_new held_old held_new outside status
+  pub on_disks : status ≢ Memory → status ≢ BayFault → (at : Recorded) → end ≡ Goes at → (answered_new ≡ at.answered) × AreOnDisks told has at.cell

@@ -1,0 +1,84 @@
+-- Runs over the disks that an earlier run left.
+use Rattle.std.specs.Prelude.{◌≡◌, ◌⊎◌, ◌+◌, ℕ, true, false, List, [], ◌∷◌, Some, None, Ok}
+use Rattle.coda_engine.specs.Run.{Runs}
+use Rattle.coda_script.specs.declared.line.Line.{Line}
+use Rattle.coda_script.specs.declared.reply.Reply.{Reply}
+use Rattle.coda_script.specs.Lines.{line_of}
+use Rattle.coda_report.specs.Texts.{reply_text}
+use Rattle.coda_stored.specs.Cells.{StoredCell}
+use Rattle.coda_stored.specs.Kept.{IsStoredKept}
+use Rattle.coda_stored.specs.Laws.{Begins}
+use Rattle.coda_stored.specs.Resuming.{at_rest, Awaited, ClientAgain, VolumeAgain, is_awaited, MakesAgain, MakeAllAgain}
+use Rattle.coda_runs.specs.Headline.{HasRun, Always}
+use Rattle.coda_runs.specs.Shows.{Recorded, RecordGives}
+
+-- Where a later run stands, and what the bay answered so far.
+pub data Later : Type 0 where
+  -- this line is awaited, which makes an actor again, and then these
+  Waits : (cell : StoredCell) (next : Awaited) (left : List Awaited) (answered : List (List ℕ)) → Later
+  -- all actors were made again, and the run goes on
+  Goes : (at : Recorded) → Later
+  -- a line came that wasn't awaited: nothing is told of what follows
+  Strays : Later
+
+-- lines are awaited, or the run goes on where none is left
+abbrev pub resumed : StoredCell → List Awaited → List (List ℕ) → Later
+resumed cell [] answered = Goes (record { cell = cell; answered = answered })
+resumed cell (next ∷ left) answered = Waits cell next left answered
+
+-- The bytes say the line that is awaited, and it makes its actor again.
+pub record IsResumed (cell : StoredCell) (next : Awaited) (left : List Awaited) (answered : List (List ℕ)) (bytes text : List ℕ) (outside : List (List ℕ)) (new : Later) : Type 0 where
+  pub said : Line
+  pub reply : Reply
+  pub found : StoredCell
+  pub spelled : line_of bytes ≡ Ok (Some said)
+  pub awaited : is_awaited next said ≡ true
+  pub makes : MakesAgain cell next reply found
+  pub printed : text ≡ reply_text reply
+  pub quiet : outside ≡ []
+  pub goes_on : new ≡ resumed found left answered
+
+-- The bytes say another line.
+pub record IsElsewhere (next : Awaited) (bytes : List ℕ) (new : Later) : Type 0 where
+  pub said : Line
+  pub spelled : line_of bytes ≡ Ok (Some said)
+  pub other : is_awaited next said ≡ false
+  pub strays : new ≡ Strays
+
+-- What a line does in a later run, with this text and these answers of the bay: while lines are awaited, a blank line or a comment does nothing,
+-- the next line makes its actor again, and any other leads astray; then each line does what it does in a cell.
+abbrev pub LaterGives : Later → List ℕ → List ℕ → List (List ℕ) → Later → Type 0
+LaterGives (Waits cell next left answered) bytes text outside new =
+    ((line_of bytes ≡ Ok None) × (text ≡ []) × (outside ≡ []) × (new ≡ Waits cell next left answered)) ⊎ (IsResumed cell next left answered bytes text outside new ⊎ IsElsewhere next bytes new)
+LaterGives (Goes at) bytes text outside new = (next : Recorded) × RecordGives at bytes text outside next × (new ≡ Goes next)
+LaterGives Strays bytes text outside new = new ≡ Strays
+
+-- the cell that a run reached which didn't go astray, and what the bay answered by then
+abbrev pub HasReached : Later → StoredCell → List (List ℕ) → Type 0
+HasReached (Waits cell next left answered) reached images = (reached ≡ cell) × (images ≡ answered)
+HasReached (Goes at) reached images = (reached ≡ at.cell) × (images ≡ at.answered)
+HasReached Strays reached images = ⊥
+
+-- Over the disks of a cell that is kept, and from lines that make all its actors again, whatever a run reached that didn't go astray is kept, has run,
+-- so that it keeps what is promised of runs, and begins with the histories that there were: nothing that was acknowledged in the earlier run is lost.
+abbrev pub LaterRunsGoOn : Type 0
+LaterRunsGoOn =
+    (past : StoredCell) (lines : List Awaited) (before : List (List ℕ)) (ls : List (List ℕ)) (report : List ℕ) (outside : List (List ℕ)) (new : Later) → IsStoredKept past → MakeAllAgain past lines
+    → Runs LaterGives (resumed (at_rest past) lines before) ls report outside new → (cell : StoredCell) (images : List (List ℕ)) → HasReached new cell images
+    → IsStoredKept cell × HasRun cell × Begins cell past
+
+-- the MiB of the areas of actors that are to be made again
+abbrev pub areas_of : List Awaited → ℕ
+areas_of [] = 0
+areas_of (ClientAgain client blocks area ∷ left) = area + areas_of left
+areas_of (VolumeAgain volume server area ∷ left) = area + areas_of left
+
+-- There are lines that make again all that the cell has.
+pub record CanBeResumed (cell : StoredCell) : Type 0 where
+  pub lines : List Awaited
+  pub again : MakeAllAgain cell lines
+  pub areas : cell.areas ≡ areas_of lines
+
+-- Whatever lines ran, over disks that held nothing, there are lines that make again all that they made: a later run can go on from it.
+abbrev pub WhatRanCanBeResumed : Type 0
+WhatRanCanBeResumed = Always CanBeResumed
