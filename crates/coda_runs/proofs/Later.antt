@@ -1,52 +1,107 @@
--- Whatever a later run reached is kept, and begins with the histories that there were.
-use Rattle.std.proofs.Common.{ℕ, ◌+◌, List, [], ◌∷◌, sym, subst, inl, inr}
+-- What later runs reach is kept, has the histories that there were, and can be gone on from.
+use Rattle.std.proofs.Common.{◌≡◌, ℕ, ◌+◌, List, [], ◌∷◌, Option, refl, sym, ap, ◌∙◌, subst, inl, inr, arith}
 use Rattle.coda_engine.specs.Run.{Runs}
+use Rattle.coda_journal.specs.declared.header.Header.{Header}
+use Rattle.std.specs.Prelude.{Some}
 use Rattle.coda_stored.specs.Cells.{StoredCell}
 use Rattle.coda_stored.specs.Kept.{IsStoredKept}
 use Rattle.coda_stored.specs.Laws.{Begins}
-use Rattle.coda_stored.specs.Resuming.{at_rest, Awaited, ClientAgain, VolumeAgain, AreAwaited}
-use Rattle.coda_stored.proofs.Resuming.{cells_are_resumed, again_stays, awaited_stay}
-use Rattle.coda_runs.specs.Headline.{HasRun}
-use Rattle.coda_runs.specs.Later.{Later, Waits, Goes, Strays, resumed, LaterGives, HasReached, LaterRunsGoOn}
+use Rattle.coda_stored.specs.Resuming.{at_rest, Awaited, ClientAgain, VolumeAgain, AsksAgain, AreAwaited, MakeAllAgain}
+use Rattle.coda_stored.proofs.Resuming.{StaysMade, area_in, cells_are_resumed, again_stays, awaited_stay}
+use Rattle.coda_runs.specs.Later.{Later, Waits, Goes, Strays, resumed, IsResumed, LaterGives, HasReached, areas_of, CanBeResumed, HasGoneOn, LaterRunsGoOn}
+use Rattle.coda_runs.specs.Shows.{Recorded}
 use Rattle.coda_runs.proofs.Beginning.{begins_then, gives_begins}
+use Rattle.coda_runs.proofs.Resumable.{gives_can}
 use Rattle.coda_runs.proofs.Running.{has_run, gives_kept}
 
--- what holds of where a later run stands
-abbrev IsKeptLater : StoredCell → Later → Type 0
-IsKeptLater past (Waits cell next left answered) = IsStoredKept cell × Begins cell past × ((volumes : ℕ) × (areas : ℕ) × AreAwaited cell volumes areas (next ∷ left))
-IsKeptLater past (Goes at) = IsStoredKept at.cell × Begins at.cell past
-IsKeptLater past Strays = Unit {0}
+-- what was made in a cell is as an earlier run left it, and its actors ask for the headers that they asked for
+record IsAsFound (cell past : StoredCell) : Type 0 where
+  pub sizes : cell.made.sizes ≡ past.made.sizes
+  pub homes : cell.made.homes ≡ past.made.homes
+  pub servers : cell.made.servers ≡ past.made.servers
+  pub places : cell.places ≡ past.places
+  pub clients : (client : ℕ) (header : Header) → (past.clients client).asked ≡ Some header → AsksAgain (cell.clients client) header
+  pub replicas : (volume : ℕ) (header : Header) → (past.replicas volume).asked ≡ Some header → AsksAgain (cell.replicas volume) header
 
-resumed_kept : (past cell : StoredCell) (left : List Awaited) (answered : List (List ℕ)) (volumes areas : ℕ) → IsStoredKept cell → Begins cell past → AreAwaited cell volumes areas left → IsKeptLater past (resumed cell left answered)
-resumed_kept past cell [] answered volumes areas kept begins are = (kept, begins)
-resumed_kept past cell (next ∷ left) answered volumes areas kept begins are = (kept, begins, (volumes, areas, are))
+found_first : (past : StoredCell) → IsAsFound (at_rest past) past
+found_first past = record { sizes = refl; homes = refl; servers = refl; places = refl; clients = λ client header asked. (asked, refl); replicas = λ volume header asked. (asked, refl) }
+
+found_then : (past cell new : StoredCell) → IsAsFound cell past → StaysMade new cell → IsAsFound new past
+found_then past cell new found stays = record {
+  sizes = stays.sizes ∙ found.sizes;
+  homes = stays.homes ∙ found.homes;
+  servers = stays.servers ∙ found.servers;
+  places = stays.places ∙ found.places;
+  clients = λ client header asked. stays.clients client header (found.clients client header asked);
+  replicas = λ volume header asked. stays.replicas volume header (found.replicas volume header asked);
+}
 
 -- what is awaited behind the first line
 rest_awaited : (cell : StoredCell) (next : Awaited) (left : List Awaited) (volumes areas : ℕ) → AreAwaited cell volumes areas (next ∷ left) → (more : ℕ) × (sum : ℕ) × AreAwaited cell more sum left
 rest_awaited cell (ClientAgain client blocks area) left volumes areas (size, asks, room, once, rest) = (volumes, areas + area, rest)
 rest_awaited cell (VolumeAgain volume server area) left volumes areas (home, asks, place, few, room, once, rest) = (volumes + 1, areas + area, rest)
 
-gives_kept_later : (past : StoredCell) (old new : Later) (bytes text : List ℕ) (outside : List (List ℕ)) → IsKeptLater past old → LaterGives old bytes text outside new → IsKeptLater past new
-gives_kept_later past (Waits cell next left answered) new bytes text outside kept (inl silent) = subst (IsKeptLater past) (sym silent.3) kept
-gives_kept_later past (Waits cell next left answered) new bytes text outside kept (inr (inl r)) =
-    let rest = rest_awaited cell next left kept.2.0 kept.2.1 kept.2.2 in
-    subst (IsKeptLater past) (sym r.goes_on) (resumed_kept past r.found left answered rest.0 rest.1
-    (cells_are_resumed.lines cell r.found kept.2.0 kept.2.1 next left r.reply kept.0 kept.2.2 r.makes) (begins_then past cell r.found kept.1 (cells_are_resumed.stays cell r.found next r.reply r.makes))
-    (awaited_stay cell r.found (again_stays cell r.found next r.reply r.makes).made rest.0 rest.1 left rest.2))
-gives_kept_later past (Waits cell next left answered) new bytes text outside kept (inr (inr e)) = subst (IsKeptLater past) (sym e.strays) tt
-gives_kept_later past (Goes at) new bytes text outside kept (next, gives, same) =
-    subst (IsKeptLater past) (sym same) (gives_kept at.cell next.cell bytes text outside kept.0 gives.0, begins_then past at.cell next.cell kept.1 (gives_begins at.cell next.cell bytes text outside gives.0))
-gives_kept_later past Strays new bytes text outside kept is = subst (IsKeptLater past) (sym is) tt
+next_sum : (before after all : ℕ) (next : Awaited) (left : List Awaited) → after ≡ before + area_in next → before + areas_of (next ∷ left) ≡ all → after + areas_of left ≡ all
+next_sum before after all (ClientAgain client blocks area) left grown sum = omega (arith, grown, sum)
+next_sum before after all (VolumeAgain volume server area) left grown sum = omega (arith, grown, sum)
 
-runs_kept_later : (past : StoredCell) (old new : Later) (ls : List (List ℕ)) (report : List ℕ) (outside : List (List ℕ)) → IsKeptLater past old → Runs LaterGives old ls report outside new → IsKeptLater past new
-runs_kept_later past old new [] report outside kept run = subst (IsKeptLater past) (sym run.2) kept
-runs_kept_later past old new (l ∷ more) report outside kept run = runs_kept_later past run.0 new more run.2 run.4 (gives_kept_later past old run.0 l run.1 run.3 kept run.5) run.6
+-- What holds of where a later run stands: while lines are awaited, what was made is as it was found, and the areas that are mounted and those that are to
+-- come are those of all the lines; and then the lines can make it again.
+abbrev IsKeptLater : StoredCell → List Awaited → Later → Type 0
+IsKeptLater past lines (Waits cell next left answered) =
+    IsStoredKept cell × Begins cell past × IsAsFound cell past × (cell.areas + areas_of (next ∷ left) ≡ areas_of lines) × ((volumes : ℕ) × (areas : ℕ) × AreAwaited cell volumes areas (next ∷ left))
+IsKeptLater past lines (Goes at) = IsStoredKept at.cell × Begins at.cell past × CanBeResumed at.cell
+IsKeptLater past lines Strays = Unit {0}
 
-reached_kept : (past : StoredCell) (new : Later) → IsKeptLater past new → (cell : StoredCell) (images : List (List ℕ)) → HasReached new cell images → IsStoredKept cell × HasRun cell × Begins cell past
-reached_kept past (Waits at next left answered) kept cell images reached = subst (λ (c : StoredCell). IsStoredKept c × HasRun c × Begins c past) (sym reached.0) (kept.0, has_run at kept.0, kept.1)
-reached_kept past (Goes at) kept cell images reached = subst (λ (c : StoredCell). IsStoredKept c × HasRun c × Begins c past) (sym reached.0) (kept.0, has_run at.cell kept.0, kept.1)
-reached_kept past Strays kept cell images reached = absurd reached
+module _ (past : StoredCell) (lines : List Awaited) (all : MakeAllAgain past lines) where
+  found_resumable : (cell : StoredCell) → IsAsFound cell past → cell.areas ≡ areas_of lines → CanBeResumed cell
+  found_resumable cell found areas = record {
+    lines = lines;
+    again = record {
+      each = awaited_stay (at_rest past) (at_rest cell) (record {
+        sizes = found.sizes;
+        homes = found.homes;
+        servers = found.servers;
+        places = found.places;
+        clients = λ client header asks. ((found.clients client header asks.0).0, refl);
+        replicas = λ volume header asks. ((found.replicas volume header asks.0).0, refl);
+      }) 0 0 lines all.each;
+      servers = found.servers ∙ all.servers;
+      clients = λ client blocks there. all.clients client blocks (sym (ap (λ (f : ℕ → Option ℕ). f client) found.sizes) ∙ there);
+      volumes = λ volume server there. all.volumes volume server (sym (ap (λ (f : ℕ → Option ℕ). f volume) found.homes) ∙ there);
+    };
+    areas = areas;
+  }
+
+  resumed_kept : (cell : StoredCell) (left : List Awaited) (answered : List (List ℕ)) (volumes areas : ℕ) → IsStoredKept cell → Begins cell past → IsAsFound cell past → cell.areas + areas_of left ≡ areas_of lines
+      → AreAwaited cell volumes areas left → IsKeptLater past lines (resumed cell left answered)
+  resumed_kept cell [] answered volumes areas kept begins found sum are = (kept, begins, found_resumable cell found (let e : cell.areas + 0 ≡ areas_of lines = sum in omega (arith, e)))
+  resumed_kept cell (next ∷ left) answered volumes areas kept begins found sum are = (kept, begins, found, sum, (volumes, areas, are))
+
+  gives_kept_later : (old new : Later) (bytes text : List ℕ) (outside : List (List ℕ)) → IsKeptLater past lines old → LaterGives old bytes text outside new → IsKeptLater past lines new
+  gives_kept_later (Waits cell next left answered) new bytes text outside kept (inl silent) = subst (IsKeptLater past lines) (sym silent.3) kept
+  gives_kept_later (Waits cell next left answered) new bytes text outside (kept, begins, found, sum, awaited) (inr (inl r)) =
+      let rest = rest_awaited cell next left awaited.0 awaited.1 awaited.2 in
+      let stays = again_stays cell r.found next r.reply r.makes in
+      subst (IsKeptLater past lines) (sym r.goes_on) (resumed_kept r.found left answered rest.0 rest.1
+      (cells_are_resumed.lines cell r.found awaited.0 awaited.1 next left r.reply kept awaited.2 r.makes) (begins_then past cell r.found begins (cells_are_resumed.stays cell r.found next r.reply r.makes))
+      (found_then past cell r.found found stays.made) (next_sum cell.areas r.found.areas (areas_of lines) next left stays.areas sum) (awaited_stay cell r.found stays.made rest.0 rest.1 left rest.2))
+  gives_kept_later (Waits cell next left answered) new bytes text outside kept (inr (inr e)) = subst (IsKeptLater past lines) (sym e.strays) tt
+  gives_kept_later (Goes at) new bytes text outside (kept, begins, can) (next, gives, same) =
+      subst (IsKeptLater past lines) (sym same) (gives_kept at.cell next.cell bytes text outside kept gives.0, begins_then past at.cell next.cell begins (gives_begins at.cell next.cell bytes text outside gives.0), gives_can at.cell next.cell bytes text outside kept can gives.0)
+  gives_kept_later Strays new bytes text outside kept is = subst (IsKeptLater past lines) (sym is) tt
+
+  runs_kept_later : (old new : Later) (ls : List (List ℕ)) (report : List ℕ) (outside : List (List ℕ)) → IsKeptLater past lines old → Runs LaterGives old ls report outside new → IsKeptLater past lines new
+  runs_kept_later old new [] report outside kept run = subst (IsKeptLater past lines) (sym run.2) kept
+  runs_kept_later old new (l ∷ more) report outside kept run = runs_kept_later run.0 new more run.2 run.4 (gives_kept_later old run.0 l run.1 run.3 kept run.5) run.6
+
+  reached_kept : (new : Later) → IsKeptLater past lines new → (cell : StoredCell) (images : List (List ℕ)) → HasReached new cell images → HasGoneOn past cell
+  reached_kept (Waits at next left answered) (kept, begins, found, sum, awaited) cell images reached = subst (HasGoneOn past) (sym reached.0) (record { kept = kept; has_run = has_run at kept; begins = begins })
+  reached_kept (Goes at) (kept, begins, can) cell images reached = subst (HasGoneOn past) (sym reached.0) (record { kept = kept; has_run = has_run at.cell kept; begins = begins })
+  reached_kept Strays kept cell images reached = absurd reached
 
 pub later_runs_go_on : LaterRunsGoOn
 later_runs_go_on past lines before ls report outside new kept all run =
-    reached_kept past new (runs_kept_later past (resumed (at_rest past) lines before) new ls report outside (resumed_kept past (at_rest past) lines before 0 0 (cells_are_resumed.rests past kept) (cells_are_resumed.begins past) all.each) run)
+    let start = resumed_kept past lines all (at_rest past) lines before 0 0 (cells_are_resumed.rests past kept) (cells_are_resumed.begins past) (found_first past) (omega arith) all.each in
+    let end = runs_kept_later past lines all (resumed (at_rest past) lines before) new ls report outside start run in
+    (reached_kept past lines all new end, λ at is. (let there : IsKeptLater past lines (Goes at) = subst (IsKeptLater past lines) is end in there.2))

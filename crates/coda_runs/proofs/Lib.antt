@@ -18,5 +18,5 @@ pub mod Replying
 pub mod Beginning
 pub mod ShownUp
 pub mod Reporting
-pub mod Later
 pub mod Resumable
+pub mod Later

@@ -429,7 +429,7 @@ module _ (old : StoredCell) (kept : IsStoredKept old) (reply : Reply) (outside :
 
 -- ---- runs
 
-gives_can : (old new : StoredCell) (bytes text : List ℕ) (outside : List (List ℕ)) → IsStoredKept old → CanBeResumed old → LineGives old bytes text outside new → CanBeResumed new
+pub gives_can : (old new : StoredCell) (bytes text : List ℕ) (outside : List (List ℕ)) → IsStoredKept old → CanBeResumed old → LineGives old bytes text outside new → CanBeResumed new
 gives_can old new bytes text outside kept can (inl silent) = subst CanBeResumed (sym silent.3) can
 gives_can old new bytes text outside kept can (inr x) = happens_can old kept x.reply outside new can x.said x.happens
 

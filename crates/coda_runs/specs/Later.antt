@@ -59,13 +59,6 @@ HasReached (Waits cell next left answered) reached images = (reached ≡ cell) �
 HasReached (Goes at) reached images = (reached ≡ at.cell) × (images ≡ at.answered)
 HasReached Strays reached images = ⊥
 
--- Over the disks of a cell that is kept, and from lines that make all its actors again, whatever a run reached that didn't go astray is kept, has run,
--- so that it keeps what is promised of runs, and begins with the histories that there were: nothing that was acknowledged in the earlier run is lost.
-abbrev pub LaterRunsGoOn : Type 0
-LaterRunsGoOn =
-    (past : StoredCell) (lines : List Awaited) (before : List (List ℕ)) (ls : List (List ℕ)) (report : List ℕ) (outside : List (List ℕ)) (new : Later) → IsStoredKept past → MakeAllAgain past lines
-    → Runs LaterGives (resumed (at_rest past) lines before) ls report outside new → (cell : StoredCell) (images : List (List ℕ)) → HasReached new cell images
-    → IsStoredKept cell × HasRun cell × Begins cell past
 
 -- the MiB of the areas of actors that are to be made again
 abbrev pub areas_of : List Awaited → ℕ
@@ -78,6 +71,21 @@ pub record CanBeResumed (cell : StoredCell) : Type 0 where
   pub lines : List Awaited
   pub again : MakeAllAgain cell lines
   pub areas : cell.areas ≡ areas_of lines
+
+-- What a run over the disks of another cell reached is kept, has run, so that it keeps what is promised of runs, and begins with the histories that
+-- there were: nothing that was acknowledged in the earlier run is lost.
+pub record HasGoneOn (past cell : StoredCell) : Type 0 where
+  pub kept : IsStoredKept cell
+  pub has_run : HasRun cell
+  pub begins : Begins cell past
+
+-- So is whatever a run reached that didn't go astray, over the disks of a cell that is kept, and from lines that make all its actors again; and where
+-- all were made again, a further run can go on from what it left.
+abbrev pub LaterRunsGoOn : Type 0
+LaterRunsGoOn =
+    (past : StoredCell) (lines : List Awaited) (before : List (List ℕ)) (ls : List (List ℕ)) (report : List ℕ) (outside : List (List ℕ)) (new : Later) → IsStoredKept past → MakeAllAgain past lines
+    → Runs LaterGives (resumed (at_rest past) lines before) ls report outside new
+    → ((cell : StoredCell) (images : List (List ℕ)) → HasReached new cell images → HasGoneOn past cell) × ((at : Recorded) → new ≡ Goes at → CanBeResumed at.cell)
 
 -- Whatever lines ran, over disks that held nothing, there are lines that make again all that they made: a later run can go on from it.
 abbrev pub WhatRanCanBeResumed : Type 0
