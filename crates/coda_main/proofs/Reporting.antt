@@ -14,10 +14,16 @@ use Rattle.coda_runs.specs.Shows.{Recorded}
 use Rattle.coda_runs.proofs.Reporting.{reports_tell_of_runs}
 use Rattle.coda_main.specs.Lines.{IsBadLine}
 use Rattle.coda_main.specs.Reported.{IsReportOfLines, IsReportOfRun}
+use Rattle.coda_stored.specs.Kept.{IsStoredKept}
 use Rattle.coda_stored.specs.Resuming.{at_rest, Awaited, MakeAllAgain}
-use Rattle.coda_runs.specs.Later.{Later, Goes, resumed}
-use Rattle.coda_main.specs.Later.{ShowsLater, MachineGives, IsReportOfLaterRun}
+use Rattle.coda_runs.specs.Later.{Later, Goes, resumed, LaterGives, HasReached, HasGoneOn, CanBeResumed}
+use Rattle.coda_runs.specs.Runs.{LineGives, LineRefused}
+use Rattle.coda_runs.proofs.Later.{later_runs_go_on}
+use Rattle.coda_runs.proofs.Resumable.{what_ran_can_be_resumed}
+use Rattle.coda_runs.proofs.Running.{always_kept}
+use Rattle.coda_main.specs.Later.{ShowsLater, LaterRefuses, MachineGives, IsReportOfLaterRun}
 use Rattle.coda_main.specs.Shows.{Moment, Shows, MayGoOn}
+use Rattle.coda_main.proofs.Reaching.{reports_ran}
 use Rattle.coda_main.proofs.Showing.{cells_shown, cells_go_on, lines_good, later_shown}
 
 module _ {D M : Type 0} (new old : M) (told : D → Told) (at : M → Moment D) (left_old left_new held_old held_new : Option (List ℕ)) (outside : List (List ℕ)) (status : Status)
@@ -41,21 +47,35 @@ module _ {D M : Type 0} (new old : M) (told : D → Told) (at : M → Moment D) 
         has_run = run.has_run;
         answered = λ memory bay. last_same ∙ (shown.2 memory bay).answered ∙ run.answered memory bay;
         on_disks = λ memory bay. subst (AreOnDisks told has) (run.same memory bay) (closes (goes_on start memory bay) shown.0.cell (shown.2 memory bay).stands);
+        resumable = λ memory bay.
+            let ran = reports_ran LineGives LineRefused nothing_stored run.cell left_old left_new held_old held_new outside status memory bay run.reports in
+            (always_kept ran.lines ran.report ran.outside run.cell ran.runs, what_ran_can_be_resumed ran.lines ran.report ran.outside run.cell ran.runs);
       }
 
   -- What a run over the disks that an earlier run left tells, where the bay, once all is given back, stands for the cell that the run left.
-  pub reported_later : (has : ℕ → Told) (before after : List (List ℕ)) (past : StoredCell) (lines : List Awaited) → MayGoOn told (at old) → ShowsLater told (resumed (at_rest past) lines before) (at old)
+  pub reported_later : (has : ℕ → Told) (before after : List (List ℕ)) (past : StoredCell) (lines : List Awaited) → IsStoredKept past → MakeAllAgain past lines → MayGoOn told (at old) → ShowsLater told (resumed (at_rest past) lines before) (at old)
       → after ≡ (at new).answered → (MayGoOn told (at new) → (cell : StoredCell) → IsSite told (at new).out (at new).has cell (at new).site → AreOnDisks told has cell)
       → IsReportOfLaterRun told has before after left_old left_new held_old held_new status past lines
-  reported_later has before after past lines start shows last_same closes =
-      let shown = reports_shown (later_shown told at) (resumed (at_rest past) lines before) old new left_old left_new held_old held_new outside status shows reports in record {
-        end = shown.0;
-        outside = outside;
-        reports = shown.1;
-        on_disks = λ memory bay reached is.
-            let there : Shows told reached (at new) = subst (λ (l : Later). ShowsLater told l (at new)) is (shown.2 memory bay) in
-            (last_same ∙ there.answered, closes (goes_on start memory bay) reached.cell there.stands);
-      }
+  reported_later has before after past lines kept all start shows last_same closes = record {
+    end = shown.0;
+    outside = outside;
+    reports = shown.1;
+    goes_on = λ memory bay. (went memory bay).0;
+    on_disks = λ memory bay reached is.
+        let there : Shows told reached (at new) = subst (λ (l : Later). ShowsLater told l (at new)) is (shown.2 memory bay) in
+        (last_same ∙ there.answered, closes (goes_on start memory bay) reached.cell there.stands, (went memory bay).1 reached is);
+  }
+    where
+      first : Later
+      first = resumed (at_rest past) lines before
+
+      shown : (end : Later) × Reports LaterGives LaterRefuses first end left_old left_new held_old held_new outside status × (status ≢ Memory → status ≢ BayFault → ShowsLater told end (at new))
+      shown = reports_shown (later_shown told at) first old new left_old left_new held_old held_new outside status shows reports
+
+      went : status ≢ Memory → status ≢ BayFault → ((cell : StoredCell) (images : List (List ℕ)) → HasReached shown.0 cell images → HasGoneOn past cell) × ((reached : Recorded) → shown.0 ≡ Goes reached → CanBeResumed reached.cell)
+      went memory bay =
+          let ran = reports_ran LaterGives LaterRefuses first shown.0 left_old left_new held_old held_new outside status memory bay shown.1 in
+          later_runs_go_on past lines before ran.lines ran.report ran.outside shown.0 kept all ran.runs
 
   -- What it tells whatever the disks hold.
   pub reported_lines : IsReportOfLines left_old left_new held_old held_new status

@@ -1,5 +1,5 @@
 -- What a line that ran says of a later run.
-use Rattle.std.proofs.Common.{◌≡◌, ℕ, Bool, true, false, List, [], ◌∷◌, ◌++◌, Ok, refl, sym, ap, ◌∙◌, subst, inl, inr}
+use Rattle.std.proofs.Common.{◌≡◌, ℕ, Bool, true, false, List, [], ◌∷◌, Ok, refl, sym, ap, ◌∙◌, subst, inl, inr}
 use Rattle.std.specs.Prelude.{Some, None, drop, length}
 use Rattle.std.proofs.lemmas.List.{append-nil}
 use Rattle.coda_disk.specs.Told.{Told}

@@ -1,5 +1,5 @@
 -- A run over the disks that an earlier run left: what the cell of the code shows of it, and what its report tells.
-use Rattle.std.specs.Prelude.{◌≡◌, ◌≢◌, ℕ, true, List, [], ◌∷◌, Option, length}
+use Rattle.std.specs.Prelude.{◌≡◌, ◌≢◌, ℕ, List, [], ◌∷◌, Option, length}
 use Rattle.coda_disk.specs.Told.{Told}
 use Rattle.coda_engine.specs.Run.{Reports}
 use Rattle.coda_engine.specs.declared.status.Kind.{Kind}
@@ -13,7 +13,7 @@ use Rattle.coda_stored.specs.Kept.{IsStoredKept}
 use Rattle.coda_stored.specs.Resuming.{at_rest, Awaited, AreAwaited, MakesAgain}
 use Rattle.coda_site.specs.Awaiting.{IsAwaiting}
 use Rattle.coda_site.specs.Cells.{AreOnDisks}
-use Rattle.coda_runs.specs.Later.{Later, Waits, Goes, Strays, resumed, LaterGives}
+use Rattle.coda_runs.specs.Later.{Later, Waits, Goes, Strays, resumed, LaterGives, HasReached, HasGoneOn, CanBeResumed}
 use Rattle.coda_runs.specs.Shows.{Recorded}
 use Rattle.coda_main.specs.Lines.{IsBadLine}
 use Rattle.coda_main.specs.Shows.{Moment, Shows, answered_since, CellGives}
@@ -56,10 +56,12 @@ pub record MachineGives {D : Type 0} (told : D → Told) (old : Moment D) (bytes
   pub later : (at : Later) → ShowsLater told at old → (next : Later) × LaterGives at bytes text outside next × ShowsLater told next new
 
 -- What was read and written is the report of a run over the disks that an earlier run left: the lines come first that make all its actors again, and
--- then the run goes on from what they found, unless a line comes that isn't awaited. Unless memory was wanting or the bay at fault, where all were
--- made again the bay answered what the run had of it, and its disks stand for the cell that the run left.
+-- then the run goes on from what they found, unless a line comes that isn't awaited. Unless memory was wanting or the bay at fault, what it reached has
+-- run and begins with the histories that there were; and where all were made again the bay answered what the run had of it, its disks stand for the cell
+-- that the run left, and a further run can go on from it.
 pub record IsReportOfLaterRun {D : Type 0} (told : D → Told) (has : ℕ → Told) (answered_old answered_new : List (List ℕ)) (left_old left_new held_old held_new : Option (List ℕ)) (status : Status) (past : StoredCell) (lines : List Awaited) : Type 0 where
   pub end : Later
   pub outside : List (List ℕ)
   pub reports : Reports LaterGives LaterRefuses (resumed (at_rest past) lines answered_old) end left_old left_new held_old held_new outside status
-  pub on_disks : status ≢ Memory → status ≢ BayFault → (at : Recorded) → end ≡ Goes at → (answered_new ≡ at.answered) × AreOnDisks told has at.cell
+  pub goes_on : status ≢ Memory → status ≢ BayFault → (cell : StoredCell) (images : List (List ℕ)) → HasReached end cell images → HasGoneOn past cell
+  pub on_disks : status ≢ Memory → status ≢ BayFault → (at : Recorded) → end ≡ Goes at → (answered_new ≡ at.answered) × AreOnDisks told has at.cell × CanBeResumed at.cell

@@ -5,8 +5,10 @@ use Rattle.coda_engine.specs.Run.{Reports}
 use Rattle.coda_engine.specs.declared.status.Status.{Status}
 use Rattle.coda_engine.specs.declared.status.Status.TheVariants.{BayFault, Memory}
 use Rattle.coda_stored.specs.Cells.{StoredCell, nothing_stored}
+use Rattle.coda_stored.specs.Kept.{IsStoredKept}
 use Rattle.coda_site.specs.Cells.{AreOnDisks}
 use Rattle.coda_runs.specs.Headline.{HasRun}
+use Rattle.coda_runs.specs.Later.{CanBeResumed}
 use Rattle.coda_runs.specs.Runs.{LineGives, LineRefused}
 use Rattle.coda_main.specs.Lines.{AnyGives, AnyRefuses}
 
@@ -17,7 +19,7 @@ IsReportOfLines left_old left_new held_old held_new status =
 
 -- What was read and written is the report of a run from the cell in which nothing was made, over disks that hold nothing; the run keeps what is
 -- promised of runs. Unless memory was wanting or the bay at fault, the bay answered what the run had of it, and its disks stand for the cell that
--- the run left.
+-- the run left, and a later run can go on from it.
 pub record IsReportOfRun {D : Type 0} (told : D → Told) (has : ℕ → Told) (answered_old answered_new : List (List ℕ)) (left_old left_new held_old held_new : Option (List ℕ)) (status : Status) : Type 0 where
   pub cell : StoredCell
   pub outside : List (List ℕ)
@@ -25,3 +27,4 @@ pub record IsReportOfRun {D : Type 0} (told : D → Told) (has : ℕ → Told) (
   pub has_run : HasRun cell
   pub answered : status ≢ Memory → status ≢ BayFault → answered_new ≡ answered_old ++ outside
   pub on_disks : status ≢ Memory → status ≢ BayFault → AreOnDisks told has cell
+  pub resumable : status ≢ Memory → status ≢ BayFault → IsStoredKept cell × CanBeResumed cell

@@ -8,8 +8,7 @@ use Rattle.coda_stored.specs.Kept.{IsStoredKept}
 use Rattle.coda_stored.specs.Laws.{Begins}
 use Rattle.coda_stored.specs.Resuming.{at_rest, Awaited, ClientAgain, VolumeAgain, AsksAgain, AreAwaited, MakeAllAgain}
 use Rattle.coda_stored.proofs.Resuming.{StaysMade, area_in, cells_are_resumed, again_stays, awaited_stay}
-use Rattle.coda_runs.specs.Later.{Later, Waits, Goes, Strays, resumed, IsResumed, LaterGives, HasReached, areas_of, CanBeResumed, HasGoneOn, LaterRunsGoOn}
-use Rattle.coda_runs.specs.Shows.{Recorded}
+use Rattle.coda_runs.specs.Later.{Later, Waits, Goes, Strays, resumed, LaterGives, HasReached, areas_of, CanBeResumed, HasGoneOn, LaterRunsGoOn}
 use Rattle.coda_runs.proofs.Beginning.{begins_then, gives_begins}
 use Rattle.coda_runs.proofs.Resumable.{gives_can}
 use Rattle.coda_runs.proofs.Running.{has_run, gives_kept}

@@ -1,26 +1,21 @@
 -- The disks that an earlier run left, before any line made an actor again.
-use Rattle.std.proofs.Common.{◌≡◌, ◌≢◌, ℕ, suc, ◌+◌, Bool, true, false, List, [], ◌∷◌, ◌++◌, append-nil, length, Option, Some, None, refl, sym, ap, subst, ◌∙◌, arith}
+use Rattle.std.proofs.Common.{◌≡◌, ℕ, suc, ◌+◌, Bool, true, false, List, [], ◌∷◌, append-nil, length, Option, Some, None, refl, sym, ap, subst, ◌∙◌, arith}
 use Rattle.std.proofs.lemmas.List.{length-append}
 use Rattle.coda_disk.specs.Told.{Told}
-use Rattle.coda_actors.specs.Fits.{StandsFor}
 use Rattle.coda_actors.specs.Form.{Form}
 use Rattle.coda_actors.specs.Plain.{PlainActor, Unmade}
-use Rattle.coda_actors.specs.Clients.{client_form}
-use Rattle.coda_actors.specs.Replicas.{replica_form}
 use Rattle.coda_crew.specs.Crews.{StandsAll, IsAtEntry}
 use Rattle.coda_plain.specs.Cell.{ClientEntry, Actor}
 use Rattle.coda_plain.specs.Decisions.{ReplicaEntry}
 use Rattle.coda_record.specs.declared.entry.ReplicaEntry.{ReplicaEntry as KeptEntry}
-use Rattle.coda_venus.specs.History.{Payload}
 use Rattle.coda_script.specs.declared.reply.Reply.{Reply}
-use Rattle.coda_stored.specs.Cells.{Side, StoredCell, life_of, plain_client, plain_replica, unmade}
+use Rattle.coda_stored.specs.Cells.{Side, StoredCell, life_of, plain_client, plain_replica}
 use Rattle.coda_stored.specs.Kept.{IsStoredKept, IsClientSide}
 use Rattle.coda_stored.specs.Resuming.{stopped, forgotten, at_rest, Awaited, ClientAgain, VolumeAgain, awaits_client, awaits_volume, servers_of, AreAwaited, MakeAllAgain, MakesAgain}
 use Rattle.coda_stored.proofs.Resuming.{StaysAgain, area_in, again_stays, awaited_stay}
 use Rattle.coda_site.specs.Awaiting.{asleep, home_unless, AreReplicasYet, IsAwaiting}
 use Rattle.coda_site.specs.declared.site.Site.{Site}
-use Rattle.coda_site.specs.Cells.{AreOnDisks}
-use Rattle.coda_site.specs.Sites.{is_client_disk, is_replica_disk, AreReplicas, IsSite}
+use Rattle.coda_site.specs.Sites.{AreReplicas, IsSite}
 
 -- an actor that no line made yet, on the same disk
 abbrev pub rest : {Entry : Type 0} → PlainActor Entry → PlainActor Entry

@@ -1,6 +1,6 @@
 -- Lines that make clients again over the disks that an earlier run left.
-use Rattle.std.proofs.Common.{◌≡◌, ◌≢◌, inl, inr, ℕ, ◌+◌, ◌==◌, Bool, true, false, cond, List, [], ◌∷◌, length, Option, Some, None, IfSome, refl, sym, ap, subst, ◌∙◌}
-use Rattle.std.proofs.lemmas.Bool.{cases_eq, eq-eqb, ne_eqb, false≢true}
+use Rattle.std.proofs.Common.{◌≡◌, ◌≢◌, inl, inr, ℕ, ◌+◌, Bool, true, false, List, [], ◌∷◌, length, Option, Some, None, IfSome, refl, sym, ap, subst, ◌∙◌}
+use Rattle.std.proofs.lemmas.Bool.{cases_eq, eq-eqb, ne_eqb}
 use Rattle.std.proofs.lemmas.List.{length-map}
 use Rattle.std.specs.Prelude.{◌||◌}
 use Rattle.std.specs.BTreeMap.{BTreeMap}
@@ -9,7 +9,7 @@ use Rattle.coda_journal.specs.Image.{ReadsAs}
 use Rattle.coda_journal.specs.declared.header.Header.{Header}
 use Rattle.coda_actors.specs.Clients.{client_form}
 use Rattle.coda_actors.specs.Fits.{Fits}
-use Rattle.coda_actors.specs.Plain.{PlainActor, Unmade, Mounts, opened_as as life_opened, Step, Opens as OpenDeed}
+use Rattle.coda_actors.specs.Plain.{PlainActor, Mounts, opened_as as life_opened, Step, Opens as OpenDeed}
 use Rattle.coda_actors.specs.Replicas.{replica_form}
 use Rattle.coda_actors.specs.Slots.{is_made, IsOpened}
 use Rattle.coda_actors.specs.declared.slot.Mounting.{Mounting}
@@ -21,10 +21,10 @@ use Rattle.coda_plain.specs.Cell.{ClientEntry, Actor}
 use Rattle.coda_plain.specs.Moves.{TheClient, Crashes, Recovers, crashed, recovered}
 use Rattle.coda_script.specs.declared.reply.Reply.{Reply}
 use Rattle.coda_script.specs.declared.reply.Reply.TheVariants.{Recovered}
-use Rattle.coda_venus.specs.History.{Payload, payloads_of}
+use Rattle.coda_venus.specs.History.{Payload}
 use Rattle.coda_venus.specs.declared.venus.Venus.{Venus}
 use Rattle.coda_cell.specs.State.{put}
-use Rattle.coda_matching.specs.Clients.{journal_by, payload_by}
+use Rattle.coda_matching.specs.Clients.{payload_by}
 use Rattle.coda_stored.specs.Cells.{Side, StoredCell, life_of, plain_client, client_header, moved}
 use Rattle.coda_stored.specs.Kept.{IsStoredKept, IsClientSide, IsGiven}
 use Rattle.coda_stored.specs.Lines.{client_payloads, with_client_side, recovered_side, refused_fault, RecoversClient}

@@ -1,6 +1,6 @@
 -- Lines that make volumes again over the disks that an earlier run left.
-use Rattle.std.proofs.Common.{◌≡◌, ◌≢◌, inl, inr, ℕ, ◌+◌, ◌==◌, ◌&&◌, Bool, true, false, cond, List, [], ◌∷◌, ◌++◌, append_assoc, length, Option, Some, None, IfSome, option_map, refl, sym, ap, subst, ◌∙◌}
-use Rattle.std.proofs.lemmas.Bool.{cases_eq, eq-eqb, ne_eqb, and_right, false≢true}
+use Rattle.std.proofs.Common.{◌≡◌, ◌≢◌, inl, inr, ℕ, ◌+◌, ◌==◌, Bool, true, false, cond, List, [], ◌∷◌, ◌++◌, append_assoc, length, Option, Some, None, IfSome, option_map, refl, sym, ap, subst, ◌∙◌}
+use Rattle.std.proofs.lemmas.Bool.{cases_eq, eq-eqb, ne_eqb, and_right}
 use Rattle.std.specs.Prelude.{◌||◌}
 use Rattle.std.specs.BTreeMap.{BTreeMap}
 use Rattle.coda_disk.specs.Told.{Told}
@@ -13,20 +13,17 @@ use Rattle.coda_actors.specs.Slots.{is_made, IsOpened}
 use Rattle.coda_actors.specs.declared.slot.Mounting.{Mounting}
 use Rattle.coda_actors.specs.declared.slot.Mounting.TheVariants.{Entries, Foreign, DiskFault, Memory}
 use Rattle.coda_actors.specs.declared.slot.Slot.{Slot}
-use Rattle.coda_crew.specs.Crews.{slot_at, FitsAll, Takes, LeavesBe}
+use Rattle.coda_crew.specs.Crews.{FitsAll, Takes, LeavesBe}
 use Rattle.coda_crew.proofs.Lifts.{left_fits}
-use Rattle.coda_plain.specs.Cell.{Actor, found}
+use Rattle.coda_plain.specs.Cell.{Actor}
 use Rattle.coda_plain.specs.Decisions.{ReplicaEntry}
-use Rattle.coda_plain.specs.Histories.{In}
 use Rattle.coda_plain.specs.Moves.{TheReplica, Crashes, Recovers, crashed, recovered}
 use Rattle.coda_record.specs.declared.entry.ReplicaEntry.{ReplicaEntry as KeptEntry}
-use Rattle.coda_replica.specs.History.{payloads_of}
 use Rattle.coda_replica.specs.declared.replica.Replica.{Replica}
 use Rattle.coda_script.specs.declared.reply.Reply.{Reply}
 use Rattle.coda_script.specs.declared.reply.Reply.TheVariants.{Recovered}
 use Rattle.coda_cell.specs.Cells.{IsNetwork}
 use Rattle.coda_cell.specs.State.{put}
-use Rattle.coda_matching.specs.Replicas.{journal_at, IsDecision}
 use Rattle.coda_stored.specs.Cells.{Side, StoredCell, life_of, plain_client, plain_replica, replica_header, disk_number, unmade, moved}
 use Rattle.coda_stored.specs.Kept.{IsStoredKept, IsReplicaSide, IsGiven}
 use Rattle.coda_stored.specs.Lines.{replica_payloads, with_replica_side, recovered_side, refused_fault, RecoversReplica}

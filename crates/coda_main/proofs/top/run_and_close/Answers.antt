@@ -33,6 +33,6 @@ returns-clause-later g c = λ past lines kept all disks.
     let now = moment (g.B.Bay.out c.new.result.bay) (g.B.Bay.has c.new.result.bay) (g.B.Bay.answered c.new.result.bay) c.new.result.site in
     let waits = start.waits past lines kept all (subst (λ bay. AreOnDisks told (g.B.Bay.has bay) past) (sym start.bay) disks) in
     reported_later c.run-status.new.machine (record { cell = c.new.result }) told (λ m. moment (g.B.Bay.out m.cell.bay) (g.B.Bay.has m.cell.bay) (g.B.Bay.answered m.cell.bay) m.cell.site) _ _ _ _ report.0 c.run-status.result report.1
-    (g.B.Bay.has c.close.result) (g.B.Bay.answered c.args.bay) (g.B.Bay.answered c.close.result) past lines start.ready
+    (g.B.Bay.has c.close.result) (g.B.Bay.answered c.args.bay) (g.B.Bay.answered c.close.result) past lines kept all start.ready
     (waits_first told (at_rest past) lines (g.B.Bay.answered c.args.bay) now (cells_are_resumed.rests past kept) all.each start.empty.0 start.empty.1 waits (ap g.B.Bay.answered start.bay))
     c.close.ensures.answered (λ ready cell stands. c.close.ensures.stands cell ready stands)

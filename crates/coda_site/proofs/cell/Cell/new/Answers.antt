@@ -1,5 +1,4 @@
 use Rattle.std.proofs.Common.{rules, ◌++◌, refl, sym, ap, subst, ◌∙◌}
-use Rattle.std.specs.Option.{option_map}
 use Rattle.coda_actors.specs.Clients.{client_form}
 use Rattle.coda_actors.specs.Fits.{Fits}
 use Rattle.coda_actors.specs.Replicas.{replica_form}
