@@ -24,6 +24,7 @@ pub fn unmade<B: Bay, A: Actor<B::D>>(alloc: Global, _bay: &B) -> BTreeMap<u32, 
     ensures out { (of : ℕ → Bool) → ((k : ℕ) → of k ≡ true → B.out _bay.now k ≡ false) → OutAll of (B.out _bay.now) result }
     ensures own { OwnAll A.form result }
     ensures vacant { (k : ℕ) → slot_at result k ≡ Slot.Vacant }
+    ensures none { result.entries ≡ [] }
 {
     BTreeMap::new(alloc)
 }

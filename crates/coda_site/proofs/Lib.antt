@@ -23,3 +23,4 @@ pub mod ReplicaLines
 pub mod Makes
 pub mod MakingLines
 pub mod VolumeLines
+pub mod Counting

@@ -5,3 +5,4 @@ pub mod Tasks
 pub mod Chunks
 pub mod Drains
 pub mod Makings
+pub mod Totals

@@ -11,6 +11,8 @@ ghost use Rattle.coda_stored.specs.Kept.{IsStoredKept};
 ghost use Rattle.coda_stored.specs.Lines.{is_built, Happens, client_down, replica_down};
 ghost use Rattle.coda_site.specs.Sites.{IsSite, IsReady, IsClosable};
 ghost use Rattle.coda_site.specs.Steps.{Becomes};
+ghost use Rattle.coda_site.specs.Totals.{IsCounted, IsFault, has_armed, total, totals};
+ghost use Rattle.coda_disk.specs.Bays.{plus};
 ghost use Rattle.coda_site.specs.Cells.{AreBlank, AreOnDisks};
 
 use crate::fault::CellFault;
@@ -56,6 +58,7 @@ impl<B: Bay> Cell<B> {
         ensures closable { IsClosable (B.out result.bay) result.site }
         ensures posted { result.site.net.posted ≡ 0 }
         ensures stands { AreBlank (B.has result.bay) → IsSite B.D.told (B.out result.bay) (B.has result.bay) nothing_stored result.site }
+        ensures counts { totals B.D.told B.D.faults B.D.arms (B.disk_faults result.bay) (B.disk_arms result.bay) result.site ≡ record { faults = plus (B.disk_faults bay) 0; arms = plus (B.disk_arms bay) 0 } }
     {
         let clients = unmade(alloc, &bay);
         let replicas = unmade(alloc, &bay);
@@ -92,6 +95,7 @@ impl<B: Bay> Cell<B> {
         ensures later { B.faults self.old.bay ≤ B.faults self.new.bay }
         ensures bay_cause { result ≡ Err CellFault.Bay → Rose (B.faults self.old.bay) (B.faults self.new.bay) }
         ensures follows { B.follows self.old.bay self.new.bay }
+        ensures counts { IsCounted (IsFault result) (has_armed line.now result) (totals B.D.told B.D.faults B.D.arms (B.disk_faults self.old.bay) (B.disk_arms self.old.bay) self.old.site) (totals B.D.told B.D.faults B.D.arms (B.disk_faults self.new.bay) (B.disk_arms self.new.bay) self.new.site) }
     {
         let (bay, site) = (&mut self.bay, &mut self.site);
         match line {
@@ -143,6 +147,8 @@ impl<B: Bay> Cell<B> {
         ensures answered { B.answered result ≡ B.answered self.bay }
         ensures faults { B.faults result ≡ B.faults self.bay }
         ensures follows { B.follows self.bay result }
+        ensures faults_out { plus (B.disk_faults result) 0 ≡ total B.D.told B.D.faults (B.disk_faults self.bay) self.site }
+        ensures arms_out { plus (B.disk_arms result) 0 ≡ total B.D.told B.D.arms (B.disk_arms self.bay) self.site }
     {
         let mut bay = self.bay;
         give_back(&mut bay, self.site.clients);

@@ -1,4 +1,4 @@
-use Rattle.std.proofs.Common.{◌≡◌, ◌+◌, ◌≤◌, ℕ, List, true, false, Some, sym, subst, ◌∙◌}
+use Rattle.std.proofs.Common.{◌≡◌, ◌+◌, ◌≤◌, ℕ, List, true, false, Some, sym, subst, ◌∙◌, refl, ap}
 use Rattle.std.proofs.lemmas.Bool.{false≢true}
 use Rattle.coda_journal.specs.declared.header.Header.{Header}
 use Rattle.std.specs.Prelude.{nat_lt, is_some}
@@ -22,6 +22,9 @@ use Rattle.coda_site.proofs.MakingLines.{opens_client, client_is_made}
 use Rattle.coda_site.proofs.Stages.{if_ok, said_ok}
 use Rattle.coda_site.proofs.Theres.{client_made}
 use Rattle.coda_site.proofs.making.make_client.Goals.{then-is_made, else-is_made}
+use Rattle.coda_site.proofs.Counting.{client_opened}
+use Rattle.coda_site.specs.Totals.{IsCounted, IsFault, totals}
+use Rattle.coda_site.specs.declared.site.Site.{Site}
 use Rattle.coda_site.proofs.making.make_client.Goals as goal
 
 pub returns-then-has_client-clause-does : goal.returns-then-has_client-clause-does
@@ -113,3 +116,21 @@ returns-in-Err-clause-ready g c =
     let be = others_left is_replica_disk out out1 has has1 number (client_alone number own) c.in-Err.ensures.others c.in-Err.ensures.keeps in
     clients_opened told out out1 site c.open.new.slots site.areas c.requires.ready (c.in-Err.ensures.out is_client_disk c.requires.ready.clients own) (c.in-Err.ensures.own c.requires.ready.clients_own)
     (out_over is_replica_disk out out1 has has1 site.replicas be c.requires.ready.replicas) c.requires.ready.areas
+
+pub returns-after-is_made-clause-counts : goal.returns-after-is_made-clause-counts
+returns-after-is_made-clause-counts g c =
+    let told = g.B.D.Disk.told in
+    let f = g.B.D.Disk.faults in
+    let a = g.B.D.Disk.arms in
+    let df = g.B.Bay.disk_faults c.args.bay.now in
+    let da = g.B.Bay.disk_arms c.args.bay.now in
+    let site = c.args.site.now in
+    let df1 = g.B.Bay.disk_faults c.open.new.bay in
+    let da1 = g.B.Bay.disk_arms c.open.new.bay in
+    let called = c.in-Ok.ensures in
+    let opened = client_opened told f a df da df1 da1 (IsFault c.opened.result) site c.from-number.result c.open.new.slots called.counts called.disk_faults called.disk_arms (record { later = called.later; cause = λ e. called.cause (c.opened.ensures.cause e); arms = called.arms }) in
+    let old = totals told f a df da site in
+    elim c.if-is_made.branch [
+      | then-is_made w ↦ subst (λ (s : Site _). IsCounted (IsFault c.opened.result) false old (totals told f a df1 da1 s)) (sym w.site-is) opened
+      | else-is_made w ↦ subst (λ (s : Site _). IsCounted (IsFault c.opened.result) false old (totals told f a df1 da1 s)) (sym w.site-is) opened
+    ]

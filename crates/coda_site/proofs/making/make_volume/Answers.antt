@@ -1,4 +1,4 @@
-use Rattle.std.proofs.Common.{◌≡◌, ◌+◌, ◌≤◌, ◌<◌, ◌==◌, ℕ, List, true, false, cond, length, Some, sym, ap, subst, ◌∙◌}
+use Rattle.std.proofs.Common.{◌≡◌, ◌+◌, ◌≤◌, ◌<◌, ◌==◌, ℕ, List, true, false, cond, length, Some, sym, ap, subst, ◌∙◌, refl}
 use Rattle.std.proofs.lemmas.Bool.{false≢true}
 use Rattle.std.specs.Prelude.{nat_lt, nat_le, ◌||◌, is_some}
 use Rattle.coda_journal.specs.declared.header.Header.{Header}
@@ -23,6 +23,10 @@ use Rattle.coda_site.proofs.Makes.{unless_none, unless_some, volume_already, vol
 use Rattle.coda_site.proofs.Stages.{if_ok, said_ok}
 use Rattle.coda_site.proofs.VolumeLines.{some_home, IsNoted, opens_volume, replica_is_made}
 use Rattle.coda_site.proofs.making.make_volume.Goals.{then-is_made, else-is_made, then-len-ge-MOST_VOLUMES-via-then-len-ge-MOST_VOLUMES, then-len-ge-MOST_VOLUMES-via-else-len-ge-MOST_VOLUMES+then-site-from-gt-MOST_AREAS}
+use Rattle.coda_site.proofs.Counting.{replica_opened, same_slots}
+use Rattle.coda_site.specs.Totals.{Counts, IsCounted, IsFault, totals}
+use Rattle.coda_site.specs.declared.site.Site.{Site}
+use Rattle.coda_site.proofs.ReplicaSites.{with_replicas}
 use Rattle.coda_site.proofs.making.make_volume.Goals as goal
 
 pub returns-then-contains_key-clause-does : goal.returns-then-contains_key-clause-does
@@ -176,3 +180,26 @@ returns-in-Err-clause-ready g c =
     (gone.servers site.servers.items server told_of.servers) (none_there (place_in site volume) (sym c.if-contains_key.ensures))
     (λ k. gone.places k ∙ forgotten_place (k == volume) (Some (record { server = server; disk = disk })) (place_in site k) (place_in noted k) (places k))
     (ap (λ s. s.clients) gone.others ∙ clients) (ap is_made same ∙ next_unmade told out site ready server) (ap (λ s. s.replicas) gone.others) (subst (λ (a : ℕ). a ≤ 512) (sym (ap (λ s. s.areas) gone.others ∙ areas)) ready.areas)
+
+pub returns-after-is_made-clause-counts : goal.returns-after-is_made-clause-counts
+returns-after-is_made-clause-counts g c =
+    let told = g.B.D.Disk.told in
+    let f = g.B.D.Disk.faults in
+    let a = g.B.D.Disk.arms in
+    let df = g.B.Bay.disk_faults c.args.bay.now in
+    let da = g.B.Bay.disk_arms c.args.bay.now in
+    let site = c.args.site.now in
+    let df1 = g.B.Bay.disk_faults c.open.new.bay in
+    let da1 = g.B.Bay.disk_arms c.open.new.bay in
+    let called = c.in-Ok.ensures in
+    let noted = c.note.new.site in
+    let of = c.in_ok-note.ensures in
+    let over = replica_opened told f a df da df1 da1 (IsFault c.opened.result) noted c.disk_number-disk.result c.open.new.slots called.counts called.disk_faults called.disk_arms (record { later = called.later; cause = λ e. called.cause (c.opened.ensures.cause e); arms = called.arms }) in
+    let left = with_replicas noted c.open.new.slots in
+    let opened = subst (λ (x : Counts). IsCounted (IsFault c.opened.result) false x (totals told f a df1 da1 left)) (same_slots told f a df da noted site (ap (λ s. s.clients) of.others) (ap (λ s. s.replicas) of.others)) over in
+    let old = totals told f a df da site in
+    elim c.if-is_made.branch [
+      | then-is_made w ↦ subst (λ (s : Site _). IsCounted (IsFault c.opened.result) false old (totals told f a df1 da1 s)) (sym w.site-is) opened
+      | else-is_made w ↦ subst (λ (s : Site _). IsCounted (IsFault c.opened.result) false old (totals told f a df1 da1 s)) (sym w.site-is)
+          (subst (λ (x : Counts). IsCounted (IsFault c.opened.result) false old x) (sym (same_slots told f a df1 da1 w.forget.new.site left (ap (λ s. s.clients) w.forget.ensures.others) (ap (λ s. s.replicas) w.forget.ensures.others))) opened)
+    ]
