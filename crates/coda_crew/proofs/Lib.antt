@@ -1,2 +1,3 @@
 pub mod Lifts
 pub mod Giving
+pub mod Counts

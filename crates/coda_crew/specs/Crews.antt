@@ -1,5 +1,5 @@
 -- How the slots of a crew and the disks of a bay stand for the plain actors of the crew.
-use Rattle.std.specs.Prelude.{◌≡◌, ◌≢◌, ℕ, Bool, true, false, List, [], ◌∷◌, Option, Some, None, IsSome}
+use Rattle.std.specs.Prelude.{◌≡◌, ◌≢◌, ◌+◌, ℕ, Bool, true, false, List, [], ◌∷◌, Option, Some, None, IsSome}
 use Rattle.std.specs.BTreeMap.{BTreeMap, get}
 use Rattle.std.specs.Ordering.{nat_cmp}
 use Rattle.coda_disk.specs.Told.{Told}
@@ -89,3 +89,15 @@ LeavesBe of out0 out1 has0 has1 = (k : ℕ) → of k ≡ true → (out1 k ≡ ou
 abbrev pub sum_all : {A D : Type 0} → Form A D → (D → ℕ) → List (ℕ × Slot A D) → ℕ → ℕ
 sum_all form count [] sum = sum
 sum_all form count (slot ∷ slots) sum = sum_all form count slots (sum_with form count slot.1 sum)
+
+-- ---- what is counted of the slots of a crew
+
+-- what is counted of each slot, together
+abbrev pub sum_of : {A D : Type 0} → (Slot A D → ℕ) → List (ℕ × Slot A D) → ℕ
+sum_of count [] = 0
+sum_of count (slot ∷ slots) = count slot.1 + sum_of count slots
+
+-- Whatever is counted of slots, and nothing of a vacant one: together it changed by as much as it did in the slot of this number.
+abbrev pub CountsAt : {A D : Type 0} → ℕ → BTreeMap ℕ (Slot A D) → BTreeMap ℕ (Slot A D) → Type 0
+CountsAt {A = A} {D = D} number old new =
+    (count : Slot A D → ℕ) → count Vacant ≡ 0 → sum_of count new.entries + count (slot_at old number) ≡ sum_of count old.entries + count (slot_at new number)

@@ -7,7 +7,7 @@ ghost use Rattle.coda_journal.specs.declared.header.Header.{Header as AskedHeade
 ghost use Rattle.coda_actors.specs.Fits.{StandsFor, AsksOwn, Others, OutFits};
 ghost use Rattle.coda_actors.specs.Plain.{PlainActor, Opens, Crashes, Recovers, Arms, Leaves};
 ghost use Rattle.coda_actors.specs.Slots.{is_made, is_up, IsOpened, IsRecovered, count_in, sum_with, passes_in};
-ghost use Rattle.coda_crew.specs.Crews.{slot_at, KeepsSlots, KeepsOtherSlots, FitsAll, OutAll, OwnAll, StandsAll, IsAtEntry, Takes, IsOutIfHeld, Lies, out_after, LeavesBe, sum_all};
+ghost use Rattle.coda_crew.specs.Crews.{slot_at, KeepsSlots, KeepsOtherSlots, FitsAll, OutAll, OwnAll, StandsAll, IsAtEntry, Takes, IsOutIfHeld, Lies, out_after, LeavesBe, sum_all, CountsAt};
 
 use crate::fault::CrewFault;
 use crate::places::{make_place, pop, put, take};
@@ -24,6 +24,7 @@ pub fn unmade<B: Bay, A: Actor<B::D>>(alloc: Global, _bay: &B) -> BTreeMap<u32, 
     ensures out { (of : ℕ → Bool) → ((k : ℕ) → of k ≡ true → B.out _bay.now k ≡ false) → OutAll of (B.out _bay.now) result }
     ensures own { OwnAll A.form result }
     ensures vacant { (k : ℕ) → slot_at result k ≡ Slot.Vacant }
+    ensures none { result.entries ≡ [] }
 {
     BTreeMap::new(alloc)
 }
@@ -54,6 +55,7 @@ pub fn open<B: Bay, A: Actor<B::D> + Drop>(
     ensures out { (of : ℕ → Bool) → OutAll of (B.out bay.old) slots.old → of number ≡ true → OutAll of (B.out bay.new) slots.new }
     ensures own { OwnAll A.form slots.old → OwnAll A.form slots.new }
     ensures slots { KeepsOtherSlots number slots.old slots.new }
+    ensures counts { CountsAt number slots.old slots.new }
     ensures slots_err { OnErr result (KeepsSlots slots.old slots.new) }
     ensures others { Others number (B.out bay.old) (B.out bay.new) }
     ensures keeps { KeepsOthers number (B.has bay.old) (B.has bay.new) }
@@ -104,6 +106,7 @@ pub fn crash<B: Bay, A: Actor<B::D> + Drop>(
     ensures out { (of : ℕ → Bool) → OutAll of (B.out bay.old) slots.old → OnOk result (OutAll of (B.out bay.new) slots.new) }
     ensures own { OwnAll A.form slots.old → OwnAll A.form slots.new }
     ensures slots { KeepsOtherSlots number slots.old slots.new }
+    ensures counts { CountsAt number slots.old slots.new }
     ensures lost { OnErr result (slot_at slots.new number ≡ Slot.Vacant) }
     ensures numbers { (k : ℕ) → B.out bay.new k ≡ B.out bay.old k }
     ensures keeps { KeepsAll (B.has bay.old) (B.has bay.new) }
@@ -140,6 +143,7 @@ pub fn recover<B: Bay, A: Actor<B::D> + Drop>(
     ensures out { (of : ℕ → Bool) → OutAll of (B.out _bay.now) slots.old → OutAll of (B.out _bay.now) slots.new }
     ensures own { OwnAll A.form slots.old → OwnAll A.form slots.new }
     ensures slots { KeepsOtherSlots number slots.old slots.new }
+    ensures counts { CountsAt number slots.old slots.new }
     ensures later { count_in A.form B.D.faults (slot_at slots.old number) ≤ count_in A.form B.D.faults (slot_at slots.new number) }
     ensures cause { result ≡ Mounting.DiskFault
         → Rose (count_in A.form B.D.faults (slot_at slots.old number)) (count_in A.form B.D.faults (slot_at slots.new number)) }
@@ -166,6 +170,7 @@ pub fn arm<B: Bay, A: Actor<B::D> + Drop>(
     ensures out { (of : ℕ → Bool) → OutAll of (B.out _bay.now) slots.old → OutAll of (B.out _bay.now) slots.new }
     ensures own { OwnAll A.form slots.old → OwnAll A.form slots.new }
     ensures slots { KeepsOtherSlots number slots.old slots.new }
+    ensures counts { CountsAt number slots.old slots.new }
     ensures faults { count_in A.form B.D.faults (slot_at slots.new number) ≡ count_in A.form B.D.faults (slot_at slots.old number) }
     ensures arms { count_in A.form B.D.arms (slot_at slots.new number) ≡ counted (count_in A.form B.D.arms (slot_at slots.old number)) }
     ensures passes { passes_in A.form B.D.passes (slot_at slots.new number) ≡ Some passes }
@@ -190,6 +195,7 @@ pub fn give_up<B: Bay, A: Actor<B::D> + Drop>(
     ensures out { (of : ℕ → Bool) → OutAll of (B.out _bay.now) slots.old → OutAll of (B.out _bay.now) slots.new }
     ensures own { OwnAll A.form slots.old → OwnAll A.form slots.new }
     ensures slots { KeepsOtherSlots number slots.old slots.new }
+    ensures counts { CountsAt number slots.old slots.new }
     ensures faults { count_in A.form B.D.faults (slot_at slots.new number) ≡ count_in A.form B.D.faults (slot_at slots.old number) }
     ensures arms { count_in A.form B.D.arms (slot_at slots.new number) ≡ count_in A.form B.D.arms (slot_at slots.old number) }
 {

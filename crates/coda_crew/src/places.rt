@@ -1,6 +1,6 @@
 // Slots by the numbers of their disks.
 ghost use Rattle.std.specs.Prelude.{◌≡◌, ℕ, [], ◌∷◌, MatchOption, OnOk};
-ghost use Rattle.coda_crew.specs.Crews.{slot_at, HasPlace, KeepsSlots, KeepsOtherSlots};
+ghost use Rattle.coda_crew.specs.Crews.{slot_at, HasPlace, KeepsSlots, KeepsOtherSlots, CountsAt};
 
 use coda_actors::Slot;
 use std::alloc::AllocError;
@@ -13,6 +13,7 @@ pub fn take<A, D>(slots: &mut BTreeMap<u32, Slot<A, D>>, number: u32) -> Slot<A,
     ensures here { slot_at slots.new number ≡ Slot.Vacant }
     ensures others { KeepsOtherSlots number slots.old slots.new }
     ensures place { HasPlace slots.old number → HasPlace slots.new number }
+    ensures counts { CountsAt number slots.old slots.new }
 {
     match slots.get_mut(&number) {
         Some(place) => mem::replace(place, Slot::Vacant),
@@ -25,6 +26,7 @@ pub fn put<A: Drop, D: Drop>(slots: &mut BTreeMap<u32, Slot<A, D>>, number: u32,
     requires { HasPlace slots.old number }
     ensures here { slot_at slots.new number ≡ slot }
     ensures others { KeepsOtherSlots number slots.old slots.new }
+    ensures counts { CountsAt number slots.old slots.new }
 {
     match slots.get_mut(&number) {
         Some(place) => *place = slot,
@@ -39,6 +41,7 @@ pub(crate) fn make_place<A: Drop, D: Drop>(
 ) -> Result<(), AllocError>
     ensures same { KeepsSlots slots.old slots.new }
     ensures place { OnOk result (HasPlace slots.new number) }
+    ensures counts { CountsAt number slots.old slots.new }
 {
     if slots.contains_key(&number) {
         return Ok(());

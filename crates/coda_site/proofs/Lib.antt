@@ -26,3 +26,4 @@ pub mod VolumeLines
 pub mod ResumedClients
 pub mod ResumedVolumes
 pub mod Resting
+pub mod Counting

@@ -6,3 +6,4 @@ pub mod Chunks
 pub mod Drains
 pub mod Makings
 pub mod Awaiting
+pub mod Totals

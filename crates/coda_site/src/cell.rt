@@ -13,6 +13,8 @@ ghost use Rattle.coda_stored.specs.Resuming.{at_rest, Awaited, is_awaited, AreAw
 ghost use Rattle.coda_site.specs.Awaiting.{IsAwaiting, Resumes};
 ghost use Rattle.coda_site.specs.Sites.{IsSite, IsReady, IsClosable};
 ghost use Rattle.coda_site.specs.Steps.{Becomes};
+ghost use Rattle.coda_site.specs.Totals.{IsCounted, IsFault, has_armed, total, totals};
+ghost use Rattle.coda_disk.specs.Bays.{plus};
 ghost use Rattle.coda_site.specs.Cells.{AreBlank, AreOnDisks};
 
 use crate::fault::CellFault;
@@ -61,6 +63,7 @@ impl<B: Bay> Cell<B> {
         ensures stands { AreBlank (B.has result.bay) → IsSite B.D.told (B.out result.bay) (B.has result.bay) nothing_stored result.site }
         ensures waits { (cell : StoredCell) (lines : List Awaited) → IsStoredKept cell → MakeAllAgain cell lines → AreOnDisks B.D.told (B.has result.bay) cell
             → IsAwaiting B.D.told (B.out result.bay) (B.has result.bay) (at_rest cell) lines result.site }
+        ensures counts { totals B.D.told B.D.faults B.D.arms (B.disk_faults result.bay) (B.disk_arms result.bay) result.site ≡ record { faults = plus (B.disk_faults bay) 0; arms = plus (B.disk_arms bay) 0 } }
     {
         let clients = unmade(alloc, &bay);
         let replicas = unmade(alloc, &bay);
@@ -100,6 +103,7 @@ impl<B: Bay> Cell<B> {
         ensures later { B.faults self.old.bay ≤ B.faults self.new.bay }
         ensures bay_cause { result ≡ Err CellFault.Bay → Rose (B.faults self.old.bay) (B.faults self.new.bay) }
         ensures follows { B.follows self.old.bay self.new.bay }
+        ensures counts { IsCounted (IsFault result) (has_armed line.now result) (totals B.D.told B.D.faults B.D.arms (B.disk_faults self.old.bay) (B.disk_arms self.old.bay) self.old.site) (totals B.D.told B.D.faults B.D.arms (B.disk_faults self.new.bay) (B.disk_arms self.new.bay) self.new.site) }
     {
         let (bay, site) = (&mut self.bay, &mut self.site);
         match line {
@@ -151,6 +155,8 @@ impl<B: Bay> Cell<B> {
         ensures answered { B.answered result ≡ B.answered self.bay }
         ensures faults { B.faults result ≡ B.faults self.bay }
         ensures follows { B.follows self.bay result }
+        ensures faults_out { plus (B.disk_faults result) 0 ≡ total B.D.told B.D.faults (B.disk_faults self.bay) self.site }
+        ensures arms_out { plus (B.disk_arms result) 0 ≡ total B.D.told B.D.arms (B.disk_arms self.bay) self.site }
     {
         let mut bay = self.bay;
         give_back(&mut bay, self.site.clients);

@@ -1,5 +1,5 @@
 // What clients and replicas that are up do for a chunk, in their slots.
-ghost use Rattle.std.specs.Prelude.{◌≡◌, ◌≤◌, ℕ, List, true, OnOk, IfSome};
+ghost use Rattle.std.specs.Prelude.{◌≡◌, ◌≤◌, ℕ, List, true, false, OnOk, IfSome, IsErrOf};
 ghost use Rattle.coda_fid.specs.declared.op.Record.{Record as ARecord};
 ghost use Rattle.coda_journal.specs.declared.header.Header.{Header as AskedHeader};
 ghost use Rattle.coda_record.specs.Form.{four};
@@ -17,6 +17,7 @@ ghost use Rattle.coda_cell.specs.Sending.{freezing, ruling, taking};
 ghost use Rattle.coda_matching.specs.Clients.{journal_by, IsClientHistory};
 ghost use Rattle.coda_matching.specs.Replicas.{RulingEnds};
 ghost use Rattle.coda_sending.specs.Ending.{FreezingEnds, TakingEnds, verdict_in};
+ghost use Rattle.coda_site.specs.Totals.{IsCounted, counts_of};
 ghost use Rattle.coda_site.specs.Chunks.{volume_by, replica_by, ClientEnds, ReplicaEnds};
 
 use coda_actors::Slot;
@@ -58,6 +59,7 @@ pub fn freeze_at<D: Disk + Drop>(
     ensures others { KeepsOtherSlots client clients.old clients.new }
     ensures up { OnOk result (is_up (client_form D.told) (slot_at clients.new client) ≡ true) }
     ensures seen { (disk : D) → (D.told disk).honest → (D.told disk).may_leave (D.told disk).seen }
+    ensures counts { IsCounted (IsErrOf result Refused.DiskFault) false (counts_of (client_form D.told) D.faults D.arms clients.old) (counts_of (client_form D.told) D.faults D.arms clients.new) }
 {
     let number = u32::from(client);
     match take_slot(clients, number) {
@@ -105,6 +107,7 @@ pub fn rule_at<D: Disk + Drop>(
     ensures ends { ReplicaEnds D.told disk replicas.old replicas.new (λ header history left. (span : List ARecord) → recs.now ≡ sent_of span
         → RulingEnds D.told header history (ruling client number span (replica_by header history)) left result) }
     ensures others { KeepsOtherSlots disk replicas.old replicas.new }
+    ensures counts { IsCounted (IsErrOf result ReplicaFault.DiskFault) false (counts_of (replica_form D.told) D.faults D.arms replicas.old) (counts_of (replica_form D.told) D.faults D.arms replicas.new) }
 {
     match take_slot(replicas, disk) {
         Slot::Started { header, mut actor } => {
@@ -135,6 +138,7 @@ pub fn take_at<D: Disk + Drop>(
         TakingEnds D.told header history volume (taking number answer.now (volume_by header history volume)) left result) }
     ensures others { KeepsOtherSlots client clients.old clients.new }
     ensures seen { (disk : D) → (D.told disk).honest → (D.told disk).may_leave (D.told disk).seen }
+    ensures counts { IsCounted (IsErrOf result Refused.DiskFault) false (counts_of (client_form D.told) D.faults D.arms clients.old) (counts_of (client_form D.told) D.faults D.arms clients.new) }
 {
     let disk = u32::from(client);
     match take_slot(clients, disk) {

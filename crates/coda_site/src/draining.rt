@@ -1,5 +1,5 @@
 // A client sends what is pending of a volume to a replica, which decides it, and takes its answer.
-ghost use Rattle.std.specs.Prelude.{◌≡◌, ◌≢◌, ◌∷◌, ◌&&◌, not, [], true, IfOk, IfErr, Some};
+ghost use Rattle.std.specs.Prelude.{◌≡◌, ◌≢◌, ◌∷◌, ◌&&◌, not, [], true, false, IfOk, IfErr, Some};
 ghost use Rattle.coda_record.specs.Spelling.{HasSpelling};
 ghost use Rattle.coda_record.specs.Table.{client as a_client, server as a_server, volume as a_volume};
 ghost use Rattle.coda_script.specs.Ranges.{InRange};
@@ -16,6 +16,7 @@ ghost use Rattle.coda_stored.specs.Lines.{Happens, is_cut};
 ghost use Rattle.coda_site.specs.Drains.{Acted};
 ghost use Rattle.coda_site.specs.Sites.{IsSite, IsReady, place_in};
 ghost use Rattle.coda_site.specs.Steps.{Becomes};
+ghost use Rattle.coda_site.specs.Totals.{IsCounted, IsFault, totals};
 ghost use Rattle.coda_site.specs.declared.site.Place.{Place as APlace};
 
 use crate::chunks::{Until, chunk_at, freeze_at, rule_at, take_at};
@@ -69,6 +70,7 @@ fn drain_up<B: Bay>(
         → IfOk result (λ reply. Acted B.D.told (B.out _bay.now) (B.has _bay.now) cell (line.Task (task.Drain client volume server (Some window))) reply site.new) }
     ensures net { site.new.net ≡ site.old.net }
     ensures memory { IfErr result (λ why. why ≡ CellFault.Memory) }
+    ensures counts { IsCounted (IsFault result) false (totals B.D.told B.D.faults B.D.arms (B.disk_faults _bay.now) (B.disk_arms _bay.now) site.old) (totals B.D.told B.D.faults B.D.arms (B.disk_faults _bay.now) (B.disk_arms _bay.now) site.new) }
 {
     let until = Until {
         now: site.clock,
@@ -118,6 +120,7 @@ pub fn drain<B: Bay>(
         reply (B.answered _bay.now) (B.answered _bay.now) site.new) }
     ensures net { site.new.net ≡ site.old.net }
     ensures memory { IfErr result (λ why. why ≡ CellFault.Memory) }
+    ensures counts { IsCounted (IsFault result) false (totals B.D.told B.D.faults B.D.arms (B.disk_faults _bay.now) (B.disk_arms _bay.now) site.old) (totals B.D.told B.D.faults B.D.arms (B.disk_faults _bay.now) (B.disk_arms _bay.now) site.new) }
 {
     if let Some(number) = site.missing_holder(client, volume, server) {
         return Ok(no_such_actor(site.alloc, number)?);

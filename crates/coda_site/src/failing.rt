@@ -1,5 +1,5 @@
 // Lines that crash actors, recover them, or let their disks fail.
-ghost use Rattle.std.specs.Prelude.{◌≡◌, ◌≢◌, ◌≤◌, IfOk, Err};
+ghost use Rattle.std.specs.Prelude.{◌≡◌, ◌≢◌, ◌≤◌, false, IfOk, Err};
 ghost use Rattle.coda_io.specs.Faults.{Rose};
 ghost use Rattle.coda_script.specs.declared.line.Line.TheVariants as line;
 ghost use Rattle.coda_stored.specs.Cells.{StoredCell};
@@ -8,6 +8,7 @@ ghost use Rattle.coda_stored.specs.Lines.{Happens};
 ghost use Rattle.coda_site.specs.Makings.{SaysRecovered};
 ghost use Rattle.coda_site.specs.Sites.{IsSite, IsReady, IsClosable};
 ghost use Rattle.coda_site.specs.Steps.{Becomes};
+ghost use Rattle.coda_site.specs.Totals.{IsCounted, IsFault, is_ok, totals};
 
 use crate::fault::CellFault;
 use crate::replies::{no_such_actor, refuse, refuse_number};
@@ -22,6 +23,7 @@ use std::alloc::Global;
 fn recovered(alloc: Global, mounting: Mounting) -> Result<Reply, CellFault>
     ensures says { IfOk result (λ said. SaysRecovered mounting said) }
     ensures only { result ≢ Err CellFault.Bay }
+    ensures cause { IsFault result → mounting ≡ Mounting.DiskFault }
 {
     match mounting {
         Mounting::Entries(entries) => Ok(Reply::Recovered { entries }),
@@ -47,6 +49,7 @@ pub fn crash_client<B: Bay>(
     ensures later { B.faults bay.old ≤ B.faults bay.new }
     ensures bay_cause { result ≡ Err CellFault.Bay → Rose (B.faults bay.old) (B.faults bay.new) }
     ensures follows { B.follows bay.old bay.new }
+    ensures counts { IsCounted (IsFault result) false (totals B.D.told B.D.faults B.D.arms (B.disk_faults bay.old) (B.disk_arms bay.old) site.old) (totals B.D.told B.D.faults B.D.arms (B.disk_faults bay.new) (B.disk_arms bay.new) site.new) }
 {
     if !site.has_client(client) {
         return Ok(no_such_actor(site.alloc, u32::from(client))?);
@@ -72,6 +75,7 @@ pub fn crash_replica<B: Bay>(
     ensures later { B.faults bay.old ≤ B.faults bay.new }
     ensures bay_cause { result ≡ Err CellFault.Bay → Rose (B.faults bay.old) (B.faults bay.new) }
     ensures follows { B.follows bay.old bay.new }
+    ensures counts { IsCounted (IsFault result) false (totals B.D.told B.D.faults B.D.arms (B.disk_faults bay.old) (B.disk_arms bay.old) site.old) (totals B.D.told B.D.faults B.D.arms (B.disk_faults bay.new) (B.disk_arms bay.new) site.new) }
 {
     match site.place(volume) {
         Some(place) if place.server == server => {
@@ -97,6 +101,7 @@ pub fn recover_client<B: Bay>(
         → IfOk result (λ reply. Becomes B.D.told (B.out _bay.now) (B.has _bay.now) (Happens cell (line.RecoverClient client)) reply (B.answered _bay.now) (B.answered _bay.now) site.new) }
     ensures net { site.new.net ≡ site.old.net }
     ensures only { result ≢ Err CellFault.Bay }
+    ensures counts { IsCounted (IsFault result) false (totals B.D.told B.D.faults B.D.arms (B.disk_faults _bay.now) (B.disk_arms _bay.now) site.old) (totals B.D.told B.D.faults B.D.arms (B.disk_faults _bay.now) (B.disk_arms _bay.now) site.new) }
 {
     if !site.has_client(client) {
         return Ok(no_such_actor(site.alloc, u32::from(client))?);
@@ -118,6 +123,7 @@ pub fn recover_replica<B: Bay>(
         → IfOk result (λ reply. Becomes B.D.told (B.out _bay.now) (B.has _bay.now) (Happens cell (line.RecoverReplica server volume)) reply (B.answered _bay.now) (B.answered _bay.now) site.new) }
     ensures net { site.new.net ≡ site.old.net }
     ensures only { result ≢ Err CellFault.Bay }
+    ensures counts { IsCounted (IsFault result) false (totals B.D.told B.D.faults B.D.arms (B.disk_faults _bay.now) (B.disk_arms _bay.now) site.old) (totals B.D.told B.D.faults B.D.arms (B.disk_faults _bay.now) (B.disk_arms _bay.now) site.new) }
 {
     match site.place(volume) {
         Some(place) if place.server == server => {
@@ -144,6 +150,7 @@ pub fn arm_client<B: Bay>(
         → IfOk result (λ reply. Becomes B.D.told (B.out _bay.now) (B.has _bay.now) (Happens cell (line.ArmClient client passes)) reply (B.answered _bay.now) (B.answered _bay.now) site.new) }
     ensures net { site.new.net ≡ site.old.net }
     ensures only { result ≢ Err CellFault.Bay }
+    ensures counts { IsCounted (IsFault result) (is_ok result) (totals B.D.told B.D.faults B.D.arms (B.disk_faults _bay.now) (B.disk_arms _bay.now) site.old) (totals B.D.told B.D.faults B.D.arms (B.disk_faults _bay.now) (B.disk_arms _bay.now) site.new) }
 {
     if !site.has_client(client) {
         return Ok(no_such_actor(site.alloc, u32::from(client))?);
@@ -169,6 +176,7 @@ pub fn arm_replica<B: Bay>(
         → IfOk result (λ reply. Becomes B.D.told (B.out _bay.now) (B.has _bay.now) (Happens cell (line.ArmReplica server volume passes)) reply (B.answered _bay.now) (B.answered _bay.now) site.new) }
     ensures net { site.new.net ≡ site.old.net }
     ensures only { result ≢ Err CellFault.Bay }
+    ensures counts { IsCounted (IsFault result) (is_ok result) (totals B.D.told B.D.faults B.D.arms (B.disk_faults _bay.now) (B.disk_arms _bay.now) site.old) (totals B.D.told B.D.faults B.D.arms (B.disk_faults _bay.now) (B.disk_arms _bay.now) site.new) }
 {
     match site.place(volume) {
         Some(place) if place.server == server => {

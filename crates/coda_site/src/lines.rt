@@ -1,5 +1,5 @@
 // What a line of a script does in a cell.
-ghost use Rattle.std.specs.Prelude.{◌≡◌, ◌≢◌, ◌≤◌, ℕ, true, IfOk, IfErr, Err};
+ghost use Rattle.std.specs.Prelude.{◌≡◌, ◌≢◌, ◌≤◌, ℕ, true, false, IfOk, IfErr, Ok, Err};
 ghost use Rattle.coda_io.specs.Faults.{Rose};
 ghost use Rattle.coda_site.specs.Makings.{is_disk_line};
 ghost use Rattle.coda_script.specs.declared.line.Line.TheVariants as line;
@@ -9,6 +9,7 @@ ghost use Rattle.coda_stored.specs.Kept.{IsStoredKept};
 ghost use Rattle.coda_stored.specs.Lines.{is_built, Happens};
 ghost use Rattle.coda_site.specs.Sites.{IsSite, IsReady, IsClosable};
 ghost use Rattle.coda_site.specs.Steps.{Becomes};
+ghost use Rattle.coda_site.specs.Totals.{IsCounted, IsFault, has_armed, totals};
 
 use crate::failing::{
     arm_client, arm_replica, crash_client, crash_replica, recover_client, recover_replica,
@@ -86,6 +87,7 @@ pub fn set_link<B: Bay>(
         reply (B.answered _bay.now) (B.answered _bay.now) site.new) }
     ensures posted { site.new.net.posted ≡ site.old.net.posted }
     ensures memory { IfErr result (λ why. why ≡ CellFault.Memory) }
+    ensures counts { IsCounted (IsFault result) false (totals B.D.told B.D.faults B.D.arms (B.disk_faults _bay.now) (B.disk_arms _bay.now) site.old) (totals B.D.told B.D.faults B.D.arms (B.disk_faults _bay.now) (B.disk_arms _bay.now) site.new) }
 {
     if let Some(number) = site.missing_end(client, server) {
         return Ok(no_such_actor(site.alloc, number)?);
@@ -108,6 +110,7 @@ pub fn tick<B: Bay>(_bay: &B, site: &mut Site<B::D>, seconds: u32) -> Reply
         → IsSite B.D.told (B.out _bay.now) (B.has _bay.now) cell site.old
         → Becomes B.D.told (B.out _bay.now) (B.has _bay.now) (Happens cell (line.Tick seconds))
         result (B.answered _bay.now) (B.answered _bay.now) site.new }
+    ensures counts { IsCounted (IsFault (Ok result)) false (totals B.D.told B.D.faults B.D.arms (B.disk_faults _bay.now) (B.disk_arms _bay.now) site.old) (totals B.D.told B.D.faults B.D.arms (B.disk_faults _bay.now) (B.disk_arms _bay.now) site.new) }
 {
     site.clock = site.clock.saturating_add(u64::from(seconds));
     Reply::Accepted
@@ -127,6 +130,7 @@ pub fn show_volume<B: Bay>(
         (Happens cell (line.ShowVolume server volume))
         reply (B.answered _bay.now) (B.answered _bay.now) site.now) }
     ensures memory { IfErr result (λ why. why ≡ CellFault.Memory) }
+    ensures fine { ¬ IsFault result }
 {
     match site.place(volume) {
         Some(place) if place.server == server => {
@@ -153,6 +157,7 @@ pub fn show_log<B: Bay>(
         (Happens cell (line.ShowLog client volume))
         reply (B.answered _bay.now) (B.answered _bay.now) site.now) }
     ensures memory { IfErr result (λ why. why ≡ CellFault.Memory) }
+    ensures fine { ¬ IsFault result }
 {
     if let Some(number) = site.missing(client, volume) {
         return Ok(no_such_actor(site.alloc, number)?);
@@ -179,6 +184,7 @@ pub fn fail<B: Bay>(bay: &mut B, site: &mut Site<B::D>, line: &Line) -> Result<R
     ensures later { B.faults bay.old ≤ B.faults bay.new }
     ensures bay_cause { result ≡ Err CellFault.Bay → Rose (B.faults bay.old) (B.faults bay.new) }
     ensures follows { B.follows bay.old bay.new }
+    ensures counts { IsCounted (IsFault result) (has_armed line.now result) (totals B.D.told B.D.faults B.D.arms (B.disk_faults bay.old) (B.disk_arms bay.old) site.old) (totals B.D.told B.D.faults B.D.arms (B.disk_faults bay.new) (B.disk_arms bay.new) site.new) }
 {
     match line {
         Line::CrashClient { client, choice } => crash_client(bay, site, *client, *choice),

@@ -1,5 +1,5 @@
 // Lines that make actors.
-ghost use Rattle.std.specs.Prelude.{◌≡◌, ◌≢◌, ◌≤◌, ◌<◌, ◌∷◌, ◌++◌, [], ℕ, List, ◌==◌, if◌then◌else◌, length, Some, None, IfOk, OnOk, OnErr, Err};
+ghost use Rattle.std.specs.Prelude.{◌≡◌, ◌≢◌, ◌≤◌, ◌<◌, ◌∷◌, ◌++◌, [], ℕ, List, ◌==◌, if◌then◌else◌, length, Some, None, IfOk, OnOk, OnErr, Err, false};
 ghost use Rattle.coda_io.specs.Faults.{Rose};
 ghost use Rattle.coda_crew.specs.declared.fault.CrewFault.TheVariants as crew_faults;
 ghost use Rattle.coda_script.specs.Ranges.{InRange};
@@ -13,6 +13,7 @@ ghost use Rattle.coda_site.specs.Awaiting.{IsAwaiting, Resumes};
 ghost use Rattle.coda_site.specs.Makings.{SaysOpened};
 ghost use Rattle.coda_site.specs.Sites.{IsSite, IsReady, place_in};
 ghost use Rattle.coda_site.specs.Steps.{Becomes};
+ghost use Rattle.coda_site.specs.Totals.{IsCounted, IsFault, totals};
 ghost use Rattle.coda_site.specs.declared.site.Place.{Place as APlace};
 
 use crate::fault::CellFault;
@@ -83,6 +84,7 @@ fn counted(alloc: Global, entries: u64) -> Result<Reply, AllocError>
 fn opened(alloc: Global, mounting: Mounting) -> Result<Reply, CellFault>
     ensures says { IfOk result (λ said. SaysOpened mounting said) }
     ensures only { result ≢ Err CellFault.Bay }
+    ensures cause { IsFault result → mounting ≡ Mounting.DiskFault }
 {
     match mounting {
         Mounting::Entries(entries) => Ok(counted(alloc, entries)?),
@@ -126,6 +128,7 @@ pub fn make_client<B: Bay>(
     ensures later { B.faults bay.old ≤ B.faults bay.new }
     ensures bay_cause { result ≡ Err CellFault.Bay → Rose (B.faults bay.old) (B.faults bay.new) }
     ensures follows { B.follows bay.old bay.new }
+    ensures counts { IsCounted (IsFault result) false (totals B.D.told B.D.faults B.D.arms (B.disk_faults bay.old) (B.disk_arms bay.old) site.old) (totals B.D.told B.D.faults B.D.arms (B.disk_faults bay.new) (B.disk_arms bay.new) site.new) }
 {
     if site.has_client(client) {
         return Ok(refuse(site.alloc, Refusal::AlreadyThere));
@@ -199,6 +202,7 @@ pub fn make_volume<B: Bay>(
     ensures later { B.faults bay.old ≤ B.faults bay.new }
     ensures bay_cause { result ≡ Err CellFault.Bay → Rose (B.faults bay.old) (B.faults bay.new) }
     ensures follows { B.follows bay.old bay.new }
+    ensures counts { IsCounted (IsFault result) false (totals B.D.told B.D.faults B.D.arms (B.disk_faults bay.old) (B.disk_arms bay.old) site.old) (totals B.D.told B.D.faults B.D.arms (B.disk_faults bay.new) (B.disk_arms bay.new) site.new) }
 {
     if site.places.contains_key(&volume) {
         return Ok(refuse(site.alloc, Refusal::AlreadyThere));

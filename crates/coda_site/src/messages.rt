@@ -1,5 +1,5 @@
 // Letters between clients and replicas: a client sends a chunk, and what was sent is delivered or lost.
-ghost use Rattle.std.specs.Prelude.{◌≡◌, ◌<◌, ◌≤◌, ◌+◌, ◌^◌, ◌≢◌, ◌∷◌, [], ◌++◌, List, not, nat_le, true, IfOk, IfErr, Some, None};
+ghost use Rattle.std.specs.Prelude.{◌≡◌, ◌<◌, ◌≤◌, ◌+◌, ◌^◌, ◌≢◌, ◌∷◌, [], ◌++◌, List, not, nat_le, true, false, IfOk, IfErr, Some, None};
 ghost use Rattle.coda_cancel.specs.Weights.{total_weight};
 ghost use Rattle.coda_fid.specs.declared.op.Record.{Record as ARecord};
 ghost use Rattle.coda_record.specs.Form.{four};
@@ -27,6 +27,7 @@ ghost use Rattle.coda_stored.specs.Lines.{Happens, is_cut};
 ghost use Rattle.coda_site.specs.Drains.{Acted, Came, CameTo, PostsChunk};
 ghost use Rattle.coda_site.specs.Sites.{IsSite, IsReady, place_in};
 ghost use Rattle.coda_site.specs.Steps.{Becomes};
+ghost use Rattle.coda_site.specs.Totals.{IsCounted, IsFault, totals};
 ghost use Rattle.coda_site.specs.declared.site.Place.{Place as APlace};
 
 use crate::chunks::{Until, chunk_at, freeze_at, rule_at, take_at};
@@ -127,6 +128,7 @@ fn send_up<B: Bay>(
         → IfOk result (λ reply. Acted B.D.told (B.out _bay.now) (B.has _bay.now) cell (line.Send client volume server (Some window)) reply site.new) }
     ensures posted { site.new.net.posted ≤ site.old.net.posted + 1 }
     ensures memory { IfErr result (λ why. why ≡ CellFault.Memory) }
+    ensures counts { IsCounted (IsFault result) false (totals B.D.told B.D.faults B.D.arms (B.disk_faults _bay.now) (B.disk_arms _bay.now) site.old) (totals B.D.told B.D.faults B.D.arms (B.disk_faults _bay.now) (B.disk_arms _bay.now) site.new) }
 {
     let until = Until {
         now: site.clock,
@@ -171,6 +173,7 @@ pub fn send<B: Bay>(
         reply (B.answered _bay.now) (B.answered _bay.now) site.new) }
     ensures posted { site.new.net.posted ≤ site.old.net.posted + 1 }
     ensures memory { IfErr result (λ why. why ≡ CellFault.Memory) }
+    ensures counts { IsCounted (IsFault result) false (totals B.D.told B.D.faults B.D.arms (B.disk_faults _bay.now) (B.disk_arms _bay.now) site.old) (totals B.D.told B.D.faults B.D.arms (B.disk_faults _bay.now) (B.disk_arms _bay.now) site.new) }
 {
     if let Some(number) = site.missing_holder(client, volume, server) {
         return Ok(no_such_actor(site.alloc, number)?);
@@ -207,6 +210,7 @@ fn rule_up<B: Bay>(
         → recs.now ≡ sent_of span → IfOk result (λ reply. Came B.D.told (B.out _bay.now) (B.has _bay.now) cell (ChunkSent client server volume number span) reply site.new) }
     ensures posted { site.new.net.posted ≤ site.old.net.posted + 1 }
     ensures memory { IfErr result (λ why. why ≡ CellFault.Memory) }
+    ensures counts { IsCounted (IsFault result) false (totals B.D.told B.D.faults B.D.arms (B.disk_faults _bay.now) (B.disk_arms _bay.now) site.old) (totals B.D.told B.D.faults B.D.arms (B.disk_faults _bay.now) (B.disk_arms _bay.now) site.new) }
 {
     let answer = match rule_at(&mut site.replicas, disk, client, number, recs) {
         Ok(answer) => answer,
@@ -254,6 +258,7 @@ fn chunk_comes<B: Bay>(
         reply (B.answered _bay.now) (B.answered _bay.now) site.new) }
     ensures posted { site.new.net.posted ≤ site.old.net.posted + 1 }
     ensures memory { IfErr result (λ why. why ≡ CellFault.Memory) }
+    ensures counts { IsCounted (IsFault result) false (totals B.D.told B.D.faults B.D.arms (B.disk_faults _bay.now) (B.disk_arms _bay.now) site.old) (totals B.D.told B.D.faults B.D.arms (B.disk_faults _bay.now) (B.disk_arms _bay.now) site.new) }
 {
     if let Some(number) = site.missing_holder(client, volume, server) {
         return Ok(no_such_actor(site.alloc, number)?);
@@ -288,6 +293,7 @@ fn take_up<B: Bay>(
         → IfOk result (λ reply. Came B.D.told (B.out _bay.now) (B.has _bay.now) cell (AnswerSent server client volume number answer) reply site.new) }
     ensures posted { site.new.net.posted ≤ site.old.net.posted + 1 }
     ensures memory { IfErr result (λ why. why ≡ CellFault.Memory) }
+    ensures counts { IsCounted (IsFault result) false (totals B.D.told B.D.faults B.D.arms (B.disk_faults _bay.now) (B.disk_arms _bay.now) site.old) (totals B.D.told B.D.faults B.D.arms (B.disk_faults _bay.now) (B.disk_arms _bay.now) site.new) }
 {
     if !can_be_posted(&answer) {
         return Err(CellFault::Memory);
@@ -316,6 +322,7 @@ fn answer_comes<B: Bay>(
         reply (B.answered _bay.now) (B.answered _bay.now) site.new) }
     ensures posted { site.new.net.posted ≤ site.old.net.posted + 1 }
     ensures memory { IfErr result (λ why. why ≡ CellFault.Memory) }
+    ensures counts { IsCounted (IsFault result) false (totals B.D.told B.D.faults B.D.arms (B.disk_faults _bay.now) (B.disk_arms _bay.now) site.old) (totals B.D.told B.D.faults B.D.arms (B.disk_faults _bay.now) (B.disk_arms _bay.now) site.new) }
 {
     if let Some(number) = site.missing_holder(client, volume, server) {
         return Ok(no_such_actor(site.alloc, number)?);
@@ -330,6 +337,7 @@ fn answer_comes<B: Bay>(
 fn undelivered(alloc: Global, why: LetterFault) -> Result<Reply, CellFault>
     ensures said { IfOk result (λ reply. (why ≢ letter_faults.Memory) × (reply ≡ refusal (letter_refused_as why))) }
     ensures memory { IfErr result (λ why. why ≡ CellFault.Memory) }
+    ensures fine { ¬ IsFault result }
 {
     match why {
         LetterFault::NoMessage(number) => Ok(refuse_number(alloc, Refusal::NoMessage, number)?),
@@ -353,6 +361,7 @@ pub fn deliver<B: Bay>(bay: &B, site: &mut Site<B::D>, message: u64) -> Result<R
         reply (B.answered bay.now) (B.answered bay.now) site.new) }
     ensures posted { site.new.net.posted ≤ site.old.net.posted + 1 }
     ensures memory { IfErr result (λ why. why ≡ CellFault.Memory) }
+    ensures counts { IsCounted (IsFault result) false (totals B.D.told B.D.faults B.D.arms (B.disk_faults bay.now) (B.disk_arms bay.now) site.old) (totals B.D.told B.D.faults B.D.arms (B.disk_faults bay.now) (B.disk_arms bay.now) site.new) }
 {
     match read_letter(site.alloc, &site.net, message) {
         Ok(
@@ -390,6 +399,7 @@ pub fn lose<B: Bay>(_bay: &B, site: &mut Site<B::D>, message: u64) -> Result<Rep
         reply (B.answered _bay.now) (B.answered _bay.now) site.new) }
     ensures posted { site.new.net.posted ≡ site.old.net.posted }
     ensures memory { IfErr result (λ why. why ≡ CellFault.Memory) }
+    ensures counts { IsCounted (IsFault result) false (totals B.D.told B.D.faults B.D.arms (B.disk_faults _bay.now) (B.disk_arms _bay.now) site.old) (totals B.D.told B.D.faults B.D.arms (B.disk_faults _bay.now) (B.disk_arms _bay.now) site.new) }
 {
     match lose_letter(&mut site.net, message) {
         Ok(()) => Ok(Reply::Lost { message }),

@@ -6,6 +6,7 @@ ghost use Rattle.coda_cell.specs.Messages.{reply_taken};
 ghost use Rattle.coda_cell.specs.Refused as refused;
 ghost use Rattle.coda_matching.specs.Clients.{refused_as};
 ghost use Rattle.coda_stored.specs.Lines.{refused_down, refused_full, refused_fault};
+ghost use Rattle.coda_site.specs.Totals.{IsFault};
 ghost use Rattle.coda_script.specs.declared.reply.Arg.{Arg as AnArg};
 ghost use Rattle.coda_script.specs.declared.reply.Reply.TheVariants as reply;
 
@@ -85,6 +86,7 @@ pub fn refused(alloc: Global, why: Refused) -> Result<Reply, CellFault>
     ensures fault { why ≡ Refused.DiskFault → IfOk result (λ said. said ≡ refused_fault) }
     ensures memory { why ≡ Refused.Memory → result ≡ Err CellFault.Memory }
     ensures only { result ≢ Err CellFault.Bay }
+    ensures cause { IsFault result → why ≡ Refused.DiskFault }
 {
     let said = match why {
         Refused::Down => refuse(alloc, Refusal::Down),
@@ -156,6 +158,7 @@ pub fn unruled(alloc: Global, why: ReplicaFault) -> Result<Reply, CellFault>
     ensures fault { why ≡ ReplicaFault.DiskFault → result ≡ Ok refused_fault }
     ensures memory { why ≡ ReplicaFault.Memory → result ≡ Err CellFault.Memory }
     ensures only { result ≢ Err CellFault.Bay }
+    ensures cause { IsFault result → why ≡ ReplicaFault.DiskFault }
 {
     match why {
         ReplicaFault::Down => Ok(refuse(alloc, Refusal::Down)),

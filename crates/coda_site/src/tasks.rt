@@ -1,5 +1,5 @@
 // What clients are asked to do.
-ghost use Rattle.std.specs.Prelude.{◌≡◌, ℕ, true, Some, replicate, IfOk, IfErr};
+ghost use Rattle.std.specs.Prelude.{◌≡◌, ℕ, true, false, Some, replicate, IfOk, IfErr, IsErrOf};
 ghost use Rattle.std.specs.BTreeMap.{get as get_in};
 ghost use Rattle.std.specs.Ordering.{nat_cmp};
 ghost use Rattle.coda_actors.specs.Clients.{client_form};
@@ -20,6 +20,7 @@ ghost use Rattle.coda_stored.specs.Kept.{IsStoredKept};
 ghost use Rattle.coda_stored.specs.Lines.{Happens};
 ghost use Rattle.coda_site.specs.Sites.{IsSite, IsReady};
 ghost use Rattle.coda_site.specs.Steps.{Becomes};
+ghost use Rattle.coda_site.specs.Totals.{IsCounted, IsFault, counts_in, counts_of, totals};
 ghost use Rattle.coda_site.specs.Tasks.{is_making, is_changing, Asks, SlotEnds, CallEnds, offered_at};
 
 use crate::draining::drain;
@@ -84,8 +85,9 @@ fn operate_in<D: Disk + Drop>(
     requires up { is_up (client_form D.told) slot.old ≡ true }
     requires volume { HasSpelling a_volume volume }
     requires ask { IsAskSpelled (asked ask.now) }
-    ensures { SlotEnds D.told (nodes_offered offers.entry)
+    ensures ends { SlotEnds D.told (nodes_offered offers.entry)
         (λ o c. operate_answer o c now volume (asked_as (asked ask.now))) slot.old slot.new IsDone result }
+    ensures counts { IsCounted (IsErrOf result Refused.DiskFault) false (counts_in (client_form D.told) D.faults D.arms slot.old) (counts_in (client_form D.told) D.faults D.arms slot.new) }
 {
     match slot {
         Slot::Started { actor, .. } => operate(actor, offers, now, volume, ask),
@@ -108,6 +110,7 @@ fn operate_at<D: Disk + Drop>(
     ensures slots { KeepsOtherSlots number clients.old clients.new }
     ensures ends { CallEnds D.told number (nodes_offered offers.entry)
         (λ o c. operate_answer o c now volume (asked_as (asked ask.now))) clients.old clients.new IsDone result }
+    ensures counts { IsCounted (IsErrOf result Refused.DiskFault) false (counts_of (client_form D.told) D.faults D.arms clients.old) (counts_of (client_form D.told) D.faults D.arms clients.new) }
 {
     let slot = clients.get_mut(&number).unwrap();
     operate_in(slot, offers, now, volume, ask)
@@ -123,8 +126,9 @@ fn show_in<D: Disk + Drop>(
     path: &Path,
 ) -> Result<(Seen, bool), Refused>
     requires up { is_up (client_form D.told) slot.old ≡ true }
-    ensures { SlotEnds D.told (nodes_offered offers.entry)
+    ensures ends { SlotEnds D.told (nodes_offered offers.entry)
         (λ o c. show_answer what o c volume path.now) slot.old slot.new IsShown result }
+    ensures counts { IsCounted (IsErrOf result Refused.DiskFault) false (counts_in (client_form D.told) D.faults D.arms slot.old) (counts_in (client_form D.told) D.faults D.arms slot.new) }
 {
     match slot {
         Slot::Started { actor, .. } => show(alloc, actor, offers, what, volume, path),
@@ -146,6 +150,7 @@ fn show_at<D: Disk + Drop>(
     ensures slots { KeepsOtherSlots number clients.old clients.new }
     ensures ends { CallEnds D.told number (nodes_offered offers.entry)
         (λ o c. show_answer what o c volume path.now) clients.old clients.new IsShown result }
+    ensures counts { IsCounted (IsErrOf result Refused.DiskFault) false (counts_of (client_form D.told) D.faults D.arms clients.old) (counts_of (client_form D.told) D.faults D.arms clients.new) }
 {
     let slot = clients.get_mut(&number).unwrap();
     show_in(alloc, slot, offers, what, volume, path)
@@ -187,6 +192,7 @@ fn perform<B: Bay>(
         reply (B.answered _bay.now) (B.answered _bay.now) site.new) }
     ensures net { site.new.net ≡ site.old.net }
     ensures memory { IfErr result (λ why. why ≡ CellFault.Memory) }
+    ensures counts { IsCounted (IsFault result) false (totals B.D.told B.D.faults B.D.arms (B.disk_faults _bay.now) (B.disk_arms _bay.now) site.old) (totals B.D.told B.D.faults B.D.arms (B.disk_faults _bay.now) (B.disk_arms _bay.now) site.new) }
 {
     if let Some(number) = site.missing(client, volume) {
         return Ok(no_such_actor(site.alloc, number)?);
@@ -230,6 +236,7 @@ fn look<B: Bay>(
         reply (B.answered _bay.now) (B.answered _bay.now) site.new) }
     ensures net { site.new.net ≡ site.old.net }
     ensures memory { IfErr result (λ why. why ≡ CellFault.Memory) }
+    ensures counts { IsCounted (IsFault result) false (totals B.D.told B.D.faults B.D.arms (B.disk_faults _bay.now) (B.disk_arms _bay.now) site.old) (totals B.D.told B.D.faults B.D.arms (B.disk_faults _bay.now) (B.disk_arms _bay.now) site.new) }
 {
     if let Some(number) = site.missing(client, volume) {
         return Ok(no_such_actor(site.alloc, number)?);
@@ -281,6 +288,7 @@ fn store<B: Bay>(
         reply (B.answered bay.now) (B.answered bay.now) site.new) }
     ensures net { site.new.net ≡ site.old.net }
     ensures memory { IfErr result (λ why. why ≡ CellFault.Memory) }
+    ensures counts { IsCounted (IsFault result) false (totals B.D.told B.D.faults B.D.arms (B.disk_faults bay.now) (B.disk_arms bay.now) site.old) (totals B.D.told B.D.faults B.D.arms (B.disk_faults bay.now) (B.disk_arms bay.now) site.new) }
 {
     match content {
         Content::Text(content) => perform(bay, site, client, volume, Ask::Store { path, content }),
@@ -303,6 +311,7 @@ fn make<B: Bay>(bay: &B, site: &mut Site<B::D>, task: &Task) -> Result<Reply, Ce
         reply (B.answered bay.now) (B.answered bay.now) site.new) }
     ensures net { site.new.net ≡ site.old.net }
     ensures memory { IfErr result (λ why. why ≡ CellFault.Memory) }
+    ensures counts { IsCounted (IsFault result) false (totals B.D.told B.D.faults B.D.arms (B.disk_faults bay.now) (B.disk_arms bay.now) site.old) (totals B.D.told B.D.faults B.D.arms (B.disk_faults bay.now) (B.disk_arms bay.now) site.new) }
 {
     match task {
         Task::Create {
@@ -359,6 +368,7 @@ fn change<B: Bay>(bay: &B, site: &mut Site<B::D>, task: &Task) -> Result<Reply, 
         reply (B.answered bay.now) (B.answered bay.now) site.new) }
     ensures net { site.new.net ≡ site.old.net }
     ensures memory { IfErr result (λ why. why ≡ CellFault.Memory) }
+    ensures counts { IsCounted (IsFault result) false (totals B.D.told B.D.faults B.D.arms (B.disk_faults bay.now) (B.disk_arms bay.now) site.old) (totals B.D.told B.D.faults B.D.arms (B.disk_faults bay.now) (B.disk_arms bay.now) site.new) }
 {
     match task {
         Task::Setattr {
@@ -406,6 +416,7 @@ pub fn carry_out<B: Bay>(bay: &B, site: &mut Site<B::D>, task: &Task) -> Result<
         reply (B.answered bay.now) (B.answered bay.now) site.new) }
     ensures net { site.new.net ≡ site.old.net }
     ensures memory { IfErr result (λ why. why ≡ CellFault.Memory) }
+    ensures counts { IsCounted (IsFault result) false (totals B.D.told B.D.faults B.D.arms (B.disk_faults bay.now) (B.disk_arms bay.now) site.old) (totals B.D.told B.D.faults B.D.arms (B.disk_faults bay.now) (B.disk_arms bay.now) site.new) }
 {
     match task {
         Task::Create { .. } => make(bay, site, task),

@@ -4,6 +4,9 @@ use Rattle.coda_crew.specs.Crews.{slot_at}
 use Rattle.coda_matching.specs.Clients.{journal_by}
 use Rattle.coda_venus.specs.Standing.{IsUp}
 use Rattle.coda_site.proofs.Calls.{same_header, same_actor}
+use Rattle.coda_actors.specs.Clients.{client_form}
+use Rattle.coda_crew.proofs.Counts.{counts_then}
+use Rattle.coda_site.proofs.Counting.{slot_counted}
 use Rattle.coda_site.proofs.chunks.take_at.Goals as goal
 
 pub returns-clause-ends : goal.returns-clause-ends
@@ -16,3 +19,12 @@ returns-clause-ends g c = λ header venus slot.
 
 pub returns-clause-seen : goal.returns-clause-seen
 returns-clause-seen g c = g.met.D.Disk.seen_now
+
+pub returns-clause-counts : goal.returns-clause-counts
+returns-clause-counts g c =
+    let n = c.from-disk.result in
+    let old = c.args.clients.now in
+    let new = c.put.new.slots in
+    let called = c.take-said.ensures in
+    slot_counted (client_form g.D.Disk.told) g.D.Disk.faults g.D.Disk.arms _ n old new (Started c.in-Started.header c.in-Started.actor) (Started c.in-Started.header c.take-said.new.venus) (counts_then n old c.take.new.slots new c.take.ensures.counts c.put.ensures.counts)
+    (sym c.take.ensures.taken ∙ c.in-Started.is) c.put.ensures.here (record { later = called.later; cause = called.cause; arms = called.arms })

@@ -5,6 +5,8 @@ use Rattle.coda_site.proofs.ReplicaSites.{with_replicas}
 use Rattle.coda_site.proofs.Theres.{client_disk}
 use Rattle.coda_site.proofs.Stages.{client_ready, replica_ready, if_ok, refused_reply, unruled_reply}
 use Rattle.coda_site.proofs.Drainings.{drain_unfrozen, drain_unruled, drain_untaken, drain_taken}
+use Rattle.std.proofs.Common.{ap, sym, ◌∙◌, inl, inr, Err}
+use Rattle.coda_site.proofs.Counting.{clients_counted, replicas_counted, counted_as, counted_then}
 use Rattle.coda_site.proofs.draining.drain_up.Goals as goal
 
 pub returns-in-Err-clause-ready : goal.returns-in-Err-clause-ready
@@ -65,3 +67,69 @@ returns-in-Err-take_at-clause-does g c = λ cell place kept is at disk home link
     c.chunk_at-recs.result.now c.chunk_at-recs.ensures.records c.rule_at.new.replicas c.rule_at.ensures.others c.in-Ok-rule_at.answer c.in-Ok-rule_at.ensures.ends c.take_at.new.clients c.take_at.ensures.others
     c.in-Err-take_at.why c.in-Err-take_at.ensures.ends reply
     (refused_reply {B = ⊤} (λ u. refused_full) c.refused-in-Err-take_at.result c.in-Err-take_at.why reply e c.refused-in-Err-take_at.ensures.own c.refused-in-Err-take_at.ensures.fault c.refused-in-Err-take_at.ensures.memory))
+
+pub returns-in-Err-clause-counts : goal.returns-in-Err-clause-counts
+returns-in-Err-clause-counts g c =
+    let told = g.B.D.Disk.told in
+    let f = g.B.D.Disk.faults in
+    let a = g.B.D.Disk.arms in
+    let df = g.B.Bay.disk_faults c.args._bay.now in
+    let da = g.B.Bay.disk_arms c.args._bay.now in
+    let site = c.args.site.now in
+    clients_counted told f a df da _ site c.freeze_at.new.clients (counted_as _ _ _ _ _ (λ e. c.in-Err.is ∙ ap Err (c.refused.ensures.cause e)) c.freeze_at.ensures.counts)
+
+pub returns-in-Err-rule_at-clause-counts : goal.returns-in-Err-rule_at-clause-counts
+returns-in-Err-rule_at-clause-counts g c =
+    let told = g.B.D.Disk.told in
+    let f = g.B.D.Disk.faults in
+    let a = g.B.D.Disk.arms in
+    let df = g.B.Bay.disk_faults c.args._bay.now in
+    let da = g.B.Bay.disk_arms c.args._bay.now in
+    let site = c.args.site.now in
+    let one = clients_counted told f a df da _ site c.freeze_at.new.clients c.freeze_at.ensures.counts in
+    let after = with_clients site c.freeze_at.new.clients in
+    let two = replicas_counted told f a df da _ after c.rule_at.new.replicas c.rule_at.ensures.counts in
+    counted_then _ _ _ _ _ _ (λ e. inr (c.in-Err-rule_at.is ∙ ap Err (c.unruled.ensures.cause e))) one two
+
+pub returns-then-not-can_be_posted-clause-counts : goal.returns-then-not-can_be_posted-clause-counts
+returns-then-not-can_be_posted-clause-counts g c =
+    let told = g.B.D.Disk.told in
+    let f = g.B.D.Disk.faults in
+    let a = g.B.D.Disk.arms in
+    let df = g.B.Bay.disk_faults c.args._bay.now in
+    let da = g.B.Bay.disk_arms c.args._bay.now in
+    let site = c.args.site.now in
+    let one = clients_counted told f a df da _ site c.freeze_at.new.clients c.freeze_at.ensures.counts in
+    let after = with_clients site c.freeze_at.new.clients in
+    let two = replicas_counted told f a df da _ after c.rule_at.new.replicas c.rule_at.ensures.counts in
+    counted_then _ _ _ _ _ _ (λ e. absurd cc) one two
+
+pub returns-in-Ok-take_at-clause-counts : goal.returns-in-Ok-take_at-clause-counts
+returns-in-Ok-take_at-clause-counts g c =
+    let told = g.B.D.Disk.told in
+    let f = g.B.D.Disk.faults in
+    let a = g.B.D.Disk.arms in
+    let df = g.B.Bay.disk_faults c.args._bay.now in
+    let da = g.B.Bay.disk_arms c.args._bay.now in
+    let site = c.args.site.now in
+    let one = clients_counted told f a df da _ site c.freeze_at.new.clients c.freeze_at.ensures.counts in
+    let after = with_clients site c.freeze_at.new.clients in
+    let two = replicas_counted told f a df da _ after c.rule_at.new.replicas c.rule_at.ensures.counts in
+    let ruled = with_replicas after c.rule_at.new.replicas in
+    let three = clients_counted told f a df da _ ruled c.take_at.new.clients c.take_at.ensures.counts in
+    counted_then _ _ _ _ _ _ (λ e. absurd cc) (counted_then _ _ _ _ _ _ (λ (e : ⊥). absurd e) one two) three
+
+pub returns-in-Err-take_at-clause-counts : goal.returns-in-Err-take_at-clause-counts
+returns-in-Err-take_at-clause-counts g c =
+    let told = g.B.D.Disk.told in
+    let f = g.B.D.Disk.faults in
+    let a = g.B.D.Disk.arms in
+    let df = g.B.Bay.disk_faults c.args._bay.now in
+    let da = g.B.Bay.disk_arms c.args._bay.now in
+    let site = c.args.site.now in
+    let one = clients_counted told f a df da _ site c.freeze_at.new.clients c.freeze_at.ensures.counts in
+    let after = with_clients site c.freeze_at.new.clients in
+    let two = replicas_counted told f a df da _ after c.rule_at.new.replicas c.rule_at.ensures.counts in
+    let ruled = with_replicas after c.rule_at.new.replicas in
+    let three = clients_counted told f a df da _ ruled c.take_at.new.clients c.take_at.ensures.counts in
+    counted_then _ _ _ _ _ _ (λ e. inr (c.in-Err-take_at.is ∙ ap Err (c.refused-in-Err-take_at.ensures.cause e))) (counted_then _ _ _ _ _ _ (λ (e : ⊥). absurd e) one two) three

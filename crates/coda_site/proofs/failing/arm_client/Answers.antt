@@ -14,6 +14,7 @@ use Rattle.coda_site.specs.Sites.{is_client_disk}
 use Rattle.coda_site.proofs.Becomings.{missing_becomes, down_becomes, up_becomes}
 use Rattle.coda_site.proofs.ClientSites.{plain_clients, with_clients}
 use Rattle.coda_site.proofs.ClientLines.{names_there, names_missing, client_is_there, client_is_missing, client_is_down, arm_client_site}
+use Rattle.coda_site.proofs.Counting.{client_armed, accepted_fine}
 use Rattle.coda_site.proofs.failing.arm_client.Goals as goal
 
 pub returns-then-not-has_client-clause-does : goal.returns-then-not-has_client-clause-does
@@ -65,3 +66,13 @@ returns-clause-does g c = λ cell kept is.
     let takes = subst (λ m. Takes (client_form told) told is_client_disk plain m Arms out has c.arm.new.slots) c.from-3.ensures stepped in
     up_becomes told out has cell names (client_down cell n) own Accepted (g.B.Bay.answered c.args._bay.now) (with_clients site c.arm.new.slots) there (down ∙ ap not c.if-not-is_up.false) cell
     (names_there cell names (Stays cell Accepted) Accepted [] cell there (refl, refl, refl)) (arm_client_site told out has cell kept site is n there c.arm.new.slots (g.B.Bay.answered c.args._bay.now) takes)
+
+pub returns-clause-counts : goal.returns-clause-counts
+returns-clause-counts g c =
+    let told = g.B.D.Disk.told in
+    let f = g.B.D.Disk.faults in
+    let a = g.B.D.Disk.arms in
+    let df = g.B.Bay.disk_faults c.args._bay.now in
+    let da = g.B.Bay.disk_arms c.args._bay.now in
+    let site = c.args.site.now in
+    client_armed told f a df da df da _ site c.from-3.result c.arm.new.slots c.arm.ensures.counts accepted_fine c.arm.ensures.faults c.arm.ensures.arms

@@ -14,6 +14,7 @@ use Rattle.coda_site.proofs.ReplicaSites.{with_replicas, of_replicas}
 use Rattle.coda_site.proofs.ReplicaLines.{as_is, arm_replica_site}
 use Rattle.coda_site.proofs.Theres.{holder_at_place, made_elsewhere, not_made, replica_down_at}
 use Rattle.coda_site.proofs.failing.arm_replica.Goals.{in_default-via-in-Some+else-place-server, in_default-via-in_default}
+use Rattle.coda_site.proofs.Counting.{replica_armed, accepted_fine}
 use Rattle.coda_site.proofs.failing.arm_replica.Goals as goal
 
 pub returns-in_ok-no_such_actor-in_default-clause-does : goal.returns-in_ok-no_such_actor-in_default-clause-does
@@ -68,3 +69,13 @@ returns-else-not-is_up-clause-does g c = λ cell kept is.
     up_becomes told out has cell names (replica_down cell volume) (DoesUp cell (line.ArmReplica server volume c.args.passes)) Accepted (g.B.Bay.answered c.args._bay.now) (with_replicas site c.arm.new.slots) there
     (replica_down_at told out has cell kept site is volume place placed ∙ ap not (sym c.is_up.ensures ∙ c.if-not-is_up.false)) cell
     (names_there cell names (Stays cell Accepted) Accepted [] cell there (refl, refl, refl)) (arm_replica_site told out out has has cell kept site is volume place placed c.arm.new.slots be takes)
+
+pub returns-else-not-is_up-clause-counts : goal.returns-else-not-is_up-clause-counts
+returns-else-not-is_up-clause-counts g c =
+    let told = g.B.D.Disk.told in
+    let f = g.B.D.Disk.faults in
+    let a = g.B.D.Disk.arms in
+    let df = g.B.Bay.disk_faults c.args._bay.now in
+    let da = g.B.Bay.disk_arms c.args._bay.now in
+    let site = c.args.site.now in
+    replica_armed told f a df da df da _ site c.in-Some.place.disk c.arm.new.slots c.arm.ensures.counts accepted_fine c.arm.ensures.faults c.arm.ensures.arms

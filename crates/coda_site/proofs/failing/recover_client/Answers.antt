@@ -1,8 +1,8 @@
-use Rattle.std.proofs.Common.{◌≡◌, true, [], ◌∷◌, sym, ap, subst, ◌∙◌}
+use Rattle.std.proofs.Common.{◌≡◌, true, [], ◌∷◌, sym, ap, subst, ◌∙◌, refl}
 use Rattle.coda_script.specs.declared.line.Line.TheVariants as line
 use Rattle.coda_actors.specs.Clients.{client_form}
 use Rattle.coda_actors.specs.Plain.{Recovers}
-use Rattle.coda_crew.specs.Crews.{Takes}
+use Rattle.coda_crew.specs.Crews.{Takes, slot_at}
 use Rattle.coda_cell.specs.Made.{state_of}
 use Rattle.coda_cell.specs.Refusing.{refusal}
 use Rattle.coda_cell.specs.Steps.{client_named}
@@ -11,6 +11,7 @@ use Rattle.coda_stored.specs.Lines.{RecoversClient, Happens}
 use Rattle.coda_site.specs.Sites.{is_client_disk}
 use Rattle.coda_site.proofs.ClientSites.{plain_clients}
 use Rattle.coda_site.proofs.ClientLines.{names_missing, stays_becomes, client_is_there, client_is_missing, clients_ready, recover_client_returns}
+use Rattle.coda_site.proofs.Counting.{clients_counted, slot_counted}
 use Rattle.coda_site.proofs.failing.recover_client.Goals as goal
 
 pub returns-then-not-has_client-clause-does : goal.returns-then-not-has_client-clause-does
@@ -46,3 +47,16 @@ returns-clause-does g c = λ cell kept is.
     let stepped = c.recover-mounting.ensures.step is_client_disk plain is.clients (subst (λ m. is_client_disk m ≡ true) (sym c.from-2.ensures) disk) in
     let takes = subst (λ m. Takes (client_form told) told is_client_disk plain m (Recovers c.recover-mounting.result) out has c.recover-mounting.new.slots) c.from-2.ensures stepped in
     recover_client_returns told out has cell kept site is n there c.recover-mounting.new.slots (g.B.Bay.answered c.args._bay.now) c.recover-mounting.result c.recovered.result c.recovered.ensures.says takes
+
+pub returns-clause-counts : goal.returns-clause-counts
+returns-clause-counts g c =
+    let told = g.B.D.Disk.told in
+    let f = g.B.D.Disk.faults in
+    let a = g.B.D.Disk.arms in
+    let df = g.B.Bay.disk_faults c.args._bay.now in
+    let da = g.B.Bay.disk_arms c.args._bay.now in
+    let site = c.args.site.now in
+    let slots = c.recover-mounting.new.slots in
+    let n = c.from-2.result in
+    let called = c.recover-mounting.ensures in
+    clients_counted told f a df da _ site slots (slot_counted (client_form told) f a _ n site.clients slots (slot_at site.clients n) (slot_at slots n) called.counts refl refl (record { later = called.later; cause = λ e. called.cause (c.recovered.ensures.cause e); arms = called.arms }))

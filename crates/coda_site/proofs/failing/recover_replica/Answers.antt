@@ -13,6 +13,9 @@ use Rattle.coda_site.proofs.ReplicaSites.{with_replicas, of_replicas}
 use Rattle.coda_site.proofs.ReplicaLines.{as_is, replicas_ready, recover_replica_returns}
 use Rattle.coda_site.proofs.Theres.{holder_at_place, made_elsewhere, not_made}
 use Rattle.coda_site.proofs.failing.recover_replica.Goals.{in_default-via-in-Some+else-place-server, in_default-via-in_default}
+use Rattle.coda_crew.specs.Crews.{slot_at}
+use Rattle.coda_actors.specs.Replicas.{replica_form}
+use Rattle.coda_site.proofs.Counting.{replicas_counted, slot_counted}
 use Rattle.coda_site.proofs.failing.recover_replica.Goals as goal
 
 pub returns-in_ok-no_such_actor-in_default-clause-does : goal.returns-in_ok-no_such_actor-in_default-clause-does
@@ -53,3 +56,16 @@ returns-else-not-is_made-clause-does g c = λ cell kept is.
     let there = holder_at_place told out has cell kept site is place.server volume place placed refl in
     subst (λ s. IfOk c.recovered.result (λ reply. Becomes told out has (Happens cell (line.RecoverReplica s volume)) reply old old (with_replicas site c.recover-mounting.new.slots))) same
     (recover_replica_returns told out out has has cell kept site is volume place placed c.recover-mounting.new.slots be there old c.recover-mounting.result c.recovered.result c.recovered.ensures.says takes)
+
+pub returns-else-not-is_made-clause-counts : goal.returns-else-not-is_made-clause-counts
+returns-else-not-is_made-clause-counts g c =
+    let told = g.B.D.Disk.told in
+    let f = g.B.D.Disk.faults in
+    let a = g.B.D.Disk.arms in
+    let df = g.B.Bay.disk_faults c.args._bay.now in
+    let da = g.B.Bay.disk_arms c.args._bay.now in
+    let site = c.args.site.now in
+    let slots = c.recover-mounting.new.slots in
+    let n = c.in-Some.place.disk in
+    let called = c.recover-mounting.ensures in
+    replicas_counted told f a df da _ site slots (slot_counted (replica_form told) f a _ n site.replicas slots (slot_at site.replicas n) (slot_at slots n) called.counts refl refl (record { later = called.later; cause = λ e. called.cause (c.recovered.ensures.cause e); arms = called.arms }))

@@ -1,4 +1,4 @@
-use Rattle.std.proofs.Common.{◌≡◌, ◌+◌, ◌≤◌, ◌<◌, ℕ, List, true, false, Some, sym, subst, ◌∙◌, arith}
+use Rattle.std.proofs.Common.{◌≡◌, ◌+◌, ◌≤◌, ◌<◌, ℕ, List, true, false, Some, sym, subst, ◌∙◌, arith, refl, ap}
 use Rattle.std.proofs.lemmas.Bool.{false≢true}
 use Rattle.coda_journal.specs.declared.header.Header.{Header}
 use Rattle.std.specs.Prelude.{nat_lt, is_some}
@@ -25,6 +25,9 @@ use Rattle.coda_site.proofs.ResumedClients.{yet, client_absent, resume_client, c
 use Rattle.coda_site.proofs.Stages.{if_ok, said_ok}
 use Rattle.coda_site.proofs.Theres.{client_made}
 use Rattle.coda_site.proofs.making.make_client.Goals.{then-is_made, else-is_made}
+use Rattle.coda_site.proofs.Counting.{client_opened}
+use Rattle.coda_site.specs.Totals.{IsCounted, IsFault, totals}
+use Rattle.coda_site.specs.declared.site.Site.{Site}
 use Rattle.coda_site.proofs.making.make_client.Goals as goal
 
 pub returns-then-has_client-clause-does : goal.returns-then-has_client-clause-does
@@ -160,3 +163,20 @@ returns-after-is_made-clause-again g c = λ cell left kept awaited is.
           (subst (λ (a : ℕ). Resumes told out1 has1 cell (ClientAgain n blocks area) left reply before before (with_clients_and_areas site c.open.new.slots (site.areas + a))) (sym w.from-then-is_made.ensures) resumed))
       | else-is_made w ↦ absurd (false≢true (sym w.if-is_made.false ∙ c.is_made.ensures ∙ made))
     ])
+pub returns-after-is_made-clause-counts : goal.returns-after-is_made-clause-counts
+returns-after-is_made-clause-counts g c =
+    let told = g.B.D.Disk.told in
+    let f = g.B.D.Disk.faults in
+    let a = g.B.D.Disk.arms in
+    let df = g.B.Bay.disk_faults c.args.bay.now in
+    let da = g.B.Bay.disk_arms c.args.bay.now in
+    let site = c.args.site.now in
+    let df1 = g.B.Bay.disk_faults c.open.new.bay in
+    let da1 = g.B.Bay.disk_arms c.open.new.bay in
+    let called = c.in-Ok.ensures in
+    let opened = client_opened told f a df da df1 da1 (IsFault c.opened.result) site c.from-number.result c.open.new.slots called.counts called.disk_faults called.disk_arms (record { later = called.later; cause = λ e. called.cause (c.opened.ensures.cause e); arms = called.arms }) in
+    let old = totals told f a df da site in
+    elim c.if-is_made.branch [
+      | then-is_made w ↦ subst (λ (s : Site _). IsCounted (IsFault c.opened.result) false old (totals told f a df1 da1 s)) (sym w.site-is) opened
+      | else-is_made w ↦ subst (λ (s : Site _). IsCounted (IsFault c.opened.result) false old (totals told f a df1 da1 s)) (sym w.site-is) opened
+    ]

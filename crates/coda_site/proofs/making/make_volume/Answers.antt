@@ -1,4 +1,4 @@
-use Rattle.std.proofs.Common.{◌≡◌, ◌+◌, ◌≤◌, ◌<◌, ◌==◌, ℕ, List, true, false, cond, length, Some, sym, ap, subst, ◌∙◌, arith}
+use Rattle.std.proofs.Common.{◌≡◌, ◌+◌, ◌≤◌, ◌<◌, ◌==◌, ℕ, List, true, false, cond, length, Some, sym, ap, subst, ◌∙◌, arith, refl}
 use Rattle.std.proofs.lemmas.Bool.{false≢true}
 use Rattle.std.specs.Prelude.{nat_lt, nat_le, ◌||◌, is_some}
 use Rattle.coda_journal.specs.declared.header.Header.{Header}
@@ -26,6 +26,10 @@ use Rattle.coda_site.proofs.ResumedVolumes.{volume_absent, resume_volume, replic
 use Rattle.coda_site.proofs.Stages.{if_ok, said_ok}
 use Rattle.coda_site.proofs.VolumeLines.{some_home, IsNoted, opens_volume, replica_is_made}
 use Rattle.coda_site.proofs.making.make_volume.Goals.{then-is_made, else-is_made, then-len-ge-MOST_VOLUMES-via-then-len-ge-MOST_VOLUMES, then-len-ge-MOST_VOLUMES-via-else-len-ge-MOST_VOLUMES+then-site-from-gt-MOST_AREAS}
+use Rattle.coda_site.proofs.Counting.{replica_opened, same_slots}
+use Rattle.coda_site.specs.Totals.{Counts, IsCounted, IsFault, totals}
+use Rattle.coda_site.specs.declared.site.Site.{Site}
+use Rattle.coda_site.proofs.ReplicaSites.{with_replicas}
 use Rattle.coda_site.proofs.making.make_volume.Goals as goal
 
 pub returns-then-contains_key-clause-does : goal.returns-then-contains_key-clause-does
@@ -246,3 +250,25 @@ returns-after-is_made-clause-again g c = λ cell left kept awaited is.
           (subst (λ (a : ℕ). Resumes told out1 has1 cell (VolumeAgain volume server area) left reply before before (record noted { replicas = c.open.new.slots; areas = noted.areas + a })) (sym w.from-then-is_made.ensures) resumed))
       | else-is_made w ↦ absurd (false≢true (sym w.if-is_made.false ∙ c.is_made.ensures ∙ made))
     ])
+pub returns-after-is_made-clause-counts : goal.returns-after-is_made-clause-counts
+returns-after-is_made-clause-counts g c =
+    let told = g.B.D.Disk.told in
+    let f = g.B.D.Disk.faults in
+    let a = g.B.D.Disk.arms in
+    let df = g.B.Bay.disk_faults c.args.bay.now in
+    let da = g.B.Bay.disk_arms c.args.bay.now in
+    let site = c.args.site.now in
+    let df1 = g.B.Bay.disk_faults c.open.new.bay in
+    let da1 = g.B.Bay.disk_arms c.open.new.bay in
+    let called = c.in-Ok.ensures in
+    let noted = c.note.new.site in
+    let of = c.in_ok-note.ensures in
+    let over = replica_opened told f a df da df1 da1 (IsFault c.opened.result) noted c.disk_number-disk.result c.open.new.slots called.counts called.disk_faults called.disk_arms (record { later = called.later; cause = λ e. called.cause (c.opened.ensures.cause e); arms = called.arms }) in
+    let left = with_replicas noted c.open.new.slots in
+    let opened = subst (λ (x : Counts). IsCounted (IsFault c.opened.result) false x (totals told f a df1 da1 left)) (same_slots told f a df da noted site (ap (λ s. s.clients) of.others) (ap (λ s. s.replicas) of.others)) over in
+    let old = totals told f a df da site in
+    elim c.if-is_made.branch [
+      | then-is_made w ↦ subst (λ (s : Site _). IsCounted (IsFault c.opened.result) false old (totals told f a df1 da1 s)) (sym w.site-is) opened
+      | else-is_made w ↦ subst (λ (s : Site _). IsCounted (IsFault c.opened.result) false old (totals told f a df1 da1 s)) (sym w.site-is)
+          (subst (λ (x : Counts). IsCounted (IsFault c.opened.result) false old x) (sym (same_slots told f a df1 da1 w.forget.new.site left (ap (λ s. s.clients) w.forget.ensures.others) (ap (λ s. s.replicas) w.forget.ensures.others))) opened)
+    ]

@@ -5,6 +5,8 @@ use Rattle.coda_site.proofs.Theres.{client_disk}
 use Rattle.coda_site.proofs.Stages.{client_ready, if_ok, refused_reply}
 use Rattle.coda_site.proofs.Posted.{net_ready}
 use Rattle.coda_site.proofs.SentChunks.{send_unfrozen, send_done}
+use Rattle.std.proofs.Common.{ap, sym, ◌∙◌, inl, inr, Err}
+use Rattle.coda_site.proofs.Counting.{clients_counted, counted_as, err_fine}
 use Rattle.coda_site.proofs.messages.send_up.Goals as goal
 
 pub returns-in_err-message-in-Ok-clause-ready : goal.returns-in_err-message-in-Ok-clause-ready
@@ -31,3 +33,33 @@ returns-in-Err-clause-does g c = λ cell place kept is at home link. if_ok _ c.r
     send_unfrozen g.B.D.Disk.told (g.B.Bay.out c.args._bay.now) (g.B.Bay.has c.args._bay.now) cell kept c.args.site.now is c.args.client c.args.volume c.args.server c.args.window (client_disk c.args.client c.ranges.client.fits) c.requires.up
     place at home link c.freeze_at.new.clients c.freeze_at.ensures.others c.freeze_at.ensures.seen c.in-Err.why c.in-Err.ensures.ends reply
     (refused_reply {B = ℕ} (λ n. refused_full) c.refused.result c.in-Err.why reply e c.refused.ensures.own c.refused.ensures.fault c.refused.ensures.memory))
+
+pub returns-in_err-message-in-Ok-clause-counts : goal.returns-in_err-message-in-Ok-clause-counts
+returns-in_err-message-in-Ok-clause-counts g c =
+    let told = g.B.D.Disk.told in
+    let f = g.B.D.Disk.faults in
+    let a = g.B.D.Disk.arms in
+    let df = g.B.Bay.disk_faults c.args._bay.now in
+    let da = g.B.Bay.disk_arms c.args._bay.now in
+    let site = c.args.site.now in
+    clients_counted told f a df da _ site c.freeze_at.new.clients (counted_as _ _ _ _ _ (λ e. absurd (err_fine c.from_residual.result c.from_residual.ensures.0 e)) c.freeze_at.ensures.counts)
+
+pub returns-in_ok-message-in-Ok-clause-counts : goal.returns-in_ok-message-in-Ok-clause-counts
+returns-in_ok-message-in-Ok-clause-counts g c =
+    let told = g.B.D.Disk.told in
+    let f = g.B.D.Disk.faults in
+    let a = g.B.D.Disk.arms in
+    let df = g.B.Bay.disk_faults c.args._bay.now in
+    let da = g.B.Bay.disk_arms c.args._bay.now in
+    let site = c.args.site.now in
+    clients_counted told f a df da _ site c.freeze_at.new.clients (counted_as _ _ _ _ _ (λ e. cc) c.freeze_at.ensures.counts)
+
+pub returns-in-Err-clause-counts : goal.returns-in-Err-clause-counts
+returns-in-Err-clause-counts g c =
+    let told = g.B.D.Disk.told in
+    let f = g.B.D.Disk.faults in
+    let a = g.B.D.Disk.arms in
+    let df = g.B.Bay.disk_faults c.args._bay.now in
+    let da = g.B.Bay.disk_arms c.args._bay.now in
+    let site = c.args.site.now in
+    clients_counted told f a df da _ site c.freeze_at.new.clients (counted_as _ _ _ _ _ (λ e. c.in-Err.is ∙ ap Err (c.refused.ensures.cause e)) c.freeze_at.ensures.counts)

@@ -1,4 +1,4 @@
-use Rattle.std.proofs.Common.{Err, sym, subst}
+use Rattle.std.proofs.Common.{◌≡◌, Ok, Err, sym, subst, ap, ◌∙◌}
 use Rattle.std.specs.Prelude.{[], ◌∷◌}
 use Rattle.std.proofs.lemmas.Result.{IfOk-weaker}
 use Rattle.std.specs.Prelude.{Bool}
@@ -11,7 +11,17 @@ use Rattle.coda_site.specs.Tasks.{Asks}
 use Rattle.coda_site.proofs.Becomings.{missing_none, RepliesTo}
 use Rattle.coda_site.proofs.Calls.{found_up_at, call_ready, asked_becomes, refused_so, missing_asked, down_asked}
 use Rattle.coda_site.proofs.ClientSites.{with_clients}
+use Rattle.coda_site.proofs.Counting.{clients_counted, counted_as}
+use Rattle.coda_tree.specs.declared.node.NodeKind.{NodeKind}
+use Rattle.coda_tree.specs.declared.node.NodeKind.TheVariants.{File, Link, Dir}
+use Rattle.coda_script.specs.declared.reply.Reply.{Reply}
+use Rattle.coda_site.specs.Totals.{IsFault}
 use Rattle.coda_site.proofs.tasks.look.Goals as goal
+
+shown_fine : (fetched : Bool) (kind : NodeKind) (said : Reply) → said ≡ reply_of fetched kind → ¬ IsFault (Ok said)
+shown_fine fetched (File content) said is e = cc
+shown_fine fetched (Link target) said is e = cc
+shown_fine fetched (Dir entries) said is e = cc
 
 pub returns-in-Some-clause-does : goal.returns-in-Some-clause-does
 returns-in-Some-clause-does g c = λ cell kept is.
@@ -72,3 +82,13 @@ returns-in-Err-clause-does g c = λ cell kept is.
     (nodes_offered c.offers_of-offers.result) c.offers_of-offers.ensures (λ o x. show_answer c.args.what o x c.args.volume c.args.path.now) (λ (r : Seen × Bool). reply_of r.1 r.0.node.kind) c.show_at.result c.show_at.ensures.ends said answered
     (subst (λ r. RepliesTo (λ (r : Seen × Bool). reply_of r.1 r.0.node.kind) r said) (sym c.in-Err.is) replies))
     (refused_so (λ (r : Seen × Bool). reply_of r.1 r.0.node.kind) c.in-Err.why c.refused.result c.refused.ensures.own c.refused.ensures.fault c.refused.ensures.memory)
+
+pub returns-in-Ok-clause-counts : goal.returns-in-Ok-clause-counts
+returns-in-Ok-clause-counts g c =
+    let bay = c.args._bay.now in
+    clients_counted g.B.D.Disk.told g.B.D.Disk.faults g.B.D.Disk.arms (g.B.Bay.disk_faults bay) (g.B.Bay.disk_arms bay) _ c.args.site.now c.show_at.new.clients (counted_as _ _ _ _ _ (λ e. absurd (shown_fine c.in-Ok.fetched c.in-Ok.seen.node.kind c.shown.result c.shown.ensures e)) c.show_at.ensures.counts)
+
+pub returns-in-Err-clause-counts : goal.returns-in-Err-clause-counts
+returns-in-Err-clause-counts g c =
+    let bay = c.args._bay.now in
+    clients_counted g.B.D.Disk.told g.B.D.Disk.faults g.B.D.Disk.arms (g.B.Bay.disk_faults bay) (g.B.Bay.disk_arms bay) _ c.args.site.now c.show_at.new.clients (counted_as _ _ _ _ _ (λ e. c.in-Err.is ∙ ap Err (c.refused.ensures.cause e)) c.show_at.ensures.counts)

@@ -1,9 +1,11 @@
-use Rattle.std.proofs.Common.{◌≡◌, sym, ap, ◌∙◌, rules}
-use Rattle.std.specs.Option.{option_copied_mut}
+use Rattle.std.proofs.Common.{◌≡◌, sym, ap, ◌∙◌, rules, true, subst, refl}
+use Rattle.std.specs.Option.{option_copied_mut, IsSome}
 use Rattle.coda_actors.specs.Clients.{client_form}
 use Rattle.coda_actors.specs.Slots.{is_up}
 use Rattle.coda_crew.specs.Crews.{slot_at, slot_or_vacant}
 use Rattle.coda_site.proofs.Slots.{lent_there}
+use Rattle.coda_crew.proofs.Counts.{counts_written}
+use Rattle.coda_site.proofs.Counting.{slot_counted}
 use Rattle.coda_site.proofs.tasks.operate_at.Goals as goal
 
 pub unwrap-slot-requires : goal.unwrap-slot-requires
@@ -21,4 +23,14 @@ pub returns-clause-ends : goal.returns-clause-ends
 returns-clause-ends g c = λ header venus slot.
     let lent = ap slot_or_vacant (ap option_copied_mut (sym c.unwrap-slot.ensures) ∙ c.get_mut.ensures.value) in
     let left : slot_at (c.get_mut.follows.lender c.operate_in.new.slot) c.args.number ≡ c.operate_in.new.slot = search rules in
-    let e = c.operate_in.ensures header venus (lent ∙ slot) in (e.0, left ∙ e.1, e.2, e.3)
+    let e = c.operate_in.ensures.ends header venus (lent ∙ slot) in (e.0, left ∙ e.1, e.2, e.3)
+
+pub returns-clause-counts : goal.returns-clause-counts
+returns-clause-counts g c =
+    let n = c.args.number in
+    let old = c.args.clients.now in
+    let put = c.operate_in.new.slot in
+    let new = c.get_mut.follows.lender put in
+    let found = ap option_copied_mut (sym c.unwrap-slot.ensures) ∙ c.get_mut.ensures.value in
+    let left : slot_at new n ≡ put = search rules in
+    slot_counted (client_form g.D.Disk.told) g.D.Disk.faults g.D.Disk.arms _ n old new _ put (counts_written n old new put (subst IsSome found refl) (c.get_mut.follows.holds put)) (sym (ap slot_or_vacant found)) left c.operate_in.ensures.counts

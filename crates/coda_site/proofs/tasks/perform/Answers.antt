@@ -1,4 +1,4 @@
-use Rattle.std.proofs.Common.{ℕ, Err, refl, sym, subst}
+use Rattle.std.proofs.Common.{ℕ, Err, refl, sym, subst, ap, ◌∙◌}
 use Rattle.std.specs.Prelude.{[], ◌∷◌}
 use Rattle.std.proofs.lemmas.Result.{IfOk-weaker}
 use Rattle.coda_venus.specs.Ask.{asked}
@@ -13,6 +13,7 @@ use Rattle.coda_site.specs.Tasks.{Asks, CallEnds}
 use Rattle.coda_site.proofs.Becomings.{missing_none, RepliesTo}
 use Rattle.coda_site.proofs.Calls.{found_up_at, call_ready, asked_becomes, refused_so, missing_asked, down_asked}
 use Rattle.coda_site.proofs.ClientSites.{with_clients}
+use Rattle.coda_site.proofs.Counting.{clients_counted, counted_as}
 use Rattle.coda_site.proofs.tasks.perform.Goals as goal
 
 pub returns-in-Some-clause-does : goal.returns-in-Some-clause-does
@@ -74,3 +75,13 @@ returns-in-Err-clause-does g c = λ cell kept is.
     (nodes_offered c.offers_of-offers.result) c.offers_of-offers.ensures (λ o x. operate o x cell.made.clock c.args.volume (asked_as (asked c.args.ask))) (λ (d : Done). reply.Done d.number d.fid) c.operate_at.result (subst (λ (t : ℕ). CallEnds told c.from-2.result (nodes_offered c.offers_of-offers.result) (λ o x. operate o x t c.args.volume (asked_as (asked c.args.ask))) site.clients c.operate_at.new.clients IsDone c.operate_at.result) (sym is.clock) c.operate_at.ensures.ends) said answered
     (subst (λ r. RepliesTo (λ (d : Done). reply.Done d.number d.fid) r said) (sym c.in-Err.is) replies))
     (refused_so (λ (d : Done). reply.Done d.number d.fid) c.in-Err.why c.refused.result c.refused.ensures.own c.refused.ensures.fault c.refused.ensures.memory)
+
+pub returns-in-Ok-clause-counts : goal.returns-in-Ok-clause-counts
+returns-in-Ok-clause-counts g c =
+    let bay = c.args._bay.now in
+    clients_counted g.B.D.Disk.told g.B.D.Disk.faults g.B.D.Disk.arms (g.B.Bay.disk_faults bay) (g.B.Bay.disk_arms bay) _ c.args.site.now c.operate_at.new.clients (counted_as _ _ _ _ _ (λ e. cc) c.operate_at.ensures.counts)
+
+pub returns-in-Err-clause-counts : goal.returns-in-Err-clause-counts
+returns-in-Err-clause-counts g c =
+    let bay = c.args._bay.now in
+    clients_counted g.B.D.Disk.told g.B.D.Disk.faults g.B.D.Disk.arms (g.B.Bay.disk_faults bay) (g.B.Bay.disk_arms bay) _ c.args.site.now c.operate_at.new.clients (counted_as _ _ _ _ _ (λ e. c.in-Err.is ∙ ap Err (c.refused.ensures.cause e)) c.operate_at.ensures.counts)

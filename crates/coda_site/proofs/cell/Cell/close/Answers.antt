@@ -6,6 +6,7 @@ use Rattle.coda_stored.specs.Cells.{plain_client}
 use Rattle.coda_venus.specs.History.{Payload}
 use Rattle.coda_site.specs.Sites.{is_client_disk, is_replica_disk}
 use Rattle.coda_site.proofs.Closing.{side_of, client_alone, replica_alone, all_held, held_vacant, held_over, vacant, out_over, fits_over, stands_over}
+use Rattle.coda_site.proofs.Counting.{closed}
 use Rattle.coda_site.proofs.cell.Cell.close.Goals as goal
 
 pub give_back-requires-2 : goal.give_back-requires-2
@@ -62,3 +63,11 @@ returns-clause-stands g c = λ cell ready site.
         c.give_back-2.ensures.stands is_replica_disk standing.0 (fits_over (replica_form told) told is_replica_disk out0 out1 has0 has1 replicas standing.0 be standing.2),
       );
     }
+
+pub returns-clause-faults_out : goal.returns-clause-faults_out
+returns-clause-faults_out g c =
+    closed g.B.D.Disk.told g.B.D.Disk.faults c.args.self.site (g.B.Bay.disk_faults c.args.self.bay) (g.B.Bay.disk_faults c.give_back.new.bay) (g.B.Bay.disk_faults c.give_back-2.new.bay) c.give_back.ensures.disk_faults c.give_back-2.ensures.disk_faults
+
+pub returns-clause-arms_out : goal.returns-clause-arms_out
+returns-clause-arms_out g c =
+    closed g.B.D.Disk.told g.B.D.Disk.arms c.args.self.site (g.B.Bay.disk_arms c.args.self.bay) (g.B.Bay.disk_arms c.give_back.new.bay) (g.B.Bay.disk_arms c.give_back-2.new.bay) c.give_back.ensures.disk_arms c.give_back-2.ensures.disk_arms
