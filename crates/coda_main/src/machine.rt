@@ -40,6 +40,11 @@ fn stop_of(fault: coda_script::LineFault) -> LineStop
     }
 }
 
+// Lets a line go that isn't built. Taking a line apart takes a large frame, so this is kept out of the way of the others.
+#[cold]
+#[inline(never)]
+fn let_go(_said: Line) {}
+
 // What a line says, which is then built; nothing where it is silent.
 fn built_line(alloc: Global, line: &[u8]) -> Result<Option<Line>, LineStop>
     ensures spelled { IfOk result (λ o. line_of line.now ≡ Ok o) }
@@ -52,6 +57,7 @@ fn built_line(alloc: Global, line: &[u8]) -> Result<Option<Line>, LineStop>
             if is_built(&said) {
                 Ok(Some(said))
             } else {
+                let_go(said);
                 Err(NOT_BUILT)
             }
         }
