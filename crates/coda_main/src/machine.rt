@@ -40,10 +40,18 @@ fn stop_of(fault: coda_script::LineFault) -> LineStop
     }
 }
 
-// Lets a line go that isn't built. Taking a line apart takes a large frame, so this is kept out of the way of the others.
+// Lets a line go. Taking any line apart takes a large frame: this is kept out of the way of tasks, which are most lines.
 #[cold]
 #[inline(never)]
 fn let_go(_said: Line) {}
+
+// Lets a line go that was carried out.
+fn done_with(said: Line) {
+    match said {
+        Line::Task(task) => drop(task),
+        other => let_go(other),
+    }
+}
 
 // What a line says, which is then built; nothing where it is silent.
 fn built_line(alloc: Global, line: &[u8]) -> Result<Option<Line>, LineStop>
@@ -113,7 +121,11 @@ impl<B: Bay> Machine for CellMachine<B> {
 
     fn run(&mut self, alloc: Global, line: &[u8]) -> Result<Vec<u8>, LineStop> {
         match built_line(alloc, line) {
-            Ok(Some(said)) => answer(alloc, &mut self.cell, &said),
+            Ok(Some(said)) => {
+                let text = answer(alloc, &mut self.cell, &said);
+                done_with(said);
+                text
+            }
             Ok(None) => Ok(Vec::new(alloc)),
             Err(stop) => Err(stop),
         }

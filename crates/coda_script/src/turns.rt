@@ -55,8 +55,8 @@ pub fn read_turns(cursor: &mut Cursor) -> Result<Turns, LineFault>
     Ok(seen)
 }
 
-// What a line says behind threads, if any are named. Few lines name some, and taking a line apart takes a large frame: it is kept out of the way
-// of the others.
+// What a line says behind threads, if any are named. Few lines name some, and taking a line apart takes a large frame: it
+// is kept out of the way of the others.
 #[cold]
 #[inline(never)]
 fn in_turn(turns: Turns, line: Line) -> Result<Line, LineFault>
