@@ -204,15 +204,26 @@ fn full(body: &Body) -> Option<Reason>
     }
 }
 
-// The checks of a creation, in their order.
+// The checks of a creation, in their order. Its directory is looked up once for the first three.
 fn certify_creation(body: &Body, dir: Fid, name: &Name, fid: Fid) -> Option<Reason>
     ensures { result ≡ first_reason (nodes_in body.now.slots) (creation_checks dir name.now fid) }
 {
-    no_dir(body, dir)
-        .or_else(|| marked(body, dir))
-        .or_else(|| name_taken(body, dir, name))
-        .or_else(|| fid_used(body, fid))
-        .or_else(|| full(body))
+    let Some(node) = body.get(dir) else {
+        return Some(Reason::NoDir(dir));
+    };
+    match &node.kind {
+        NodeKind::Dir(entries) => {
+            if node.marked {
+                return Some(Reason::Marked(dir));
+            }
+            match entries.find(name) {
+                Some(found) => Some(Reason::NameTaken(found)),
+                None => fid_used(body, fid).or_else(|| full(body)),
+            }
+        }
+        NodeKind::File(_) => Some(Reason::NoDir(dir)),
+        NodeKind::Link(_) => Some(Reason::NoDir(dir)),
+    }
 }
 
 // The checks of a store, in their order.

@@ -93,3 +93,10 @@ test_from_path bytes (names, (p, e)) = subst (λ (t : List ℕ). is_path t ≡ t
 
 pub no_path : (bytes : List ℕ) → is_path bytes ≡ false → ¬ IsPath bytes
 no_path bytes h p = both_ways (is_path bytes) h (test_from_path bytes p)
+
+false_unless : (b : Bool) → ¬ (b ≡ true) → b ≡ false
+false_unless true n = absurd (n refl)
+false_unless false n = refl
+
+pub test_of_none : (bytes : List ℕ) → ¬ IsPath bytes → is_path bytes ≡ false
+test_of_none bytes n = false_unless (is_path bytes) (λ e. n (path_from_test bytes e))

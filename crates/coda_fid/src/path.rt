@@ -1,4 +1,4 @@
-ghost use Rattle.std.specs.Prelude.{◌≡◌, ◌↔◌, IfOk, IsTrue, List, [], ℕ, false};
+ghost use Rattle.std.specs.Prelude.{◌≡◌, ◌↔◌, IfOk, IsTrue, List, [], ℕ, false, not, nat_le, length};
 ghost use Rattle.std.specs.List.{list_all};
 ghost use Rattle.coda_fid.specs.Name.{is_name, AreNames};
 ghost use Rattle.coda_fid.specs.Path.{path_text, names_in, parts, is_path, IsPath, ArePathNames};
@@ -35,11 +35,18 @@ fn all_good(bytes: &[u8]) -> bool
     bytes.split(|b| *b == b'/').all(is_good)
 }
 
+// Whether bytes are too many for the text of a path.
+fn is_too_long(bytes: &[u8]) -> bool
+    ensures { result ≡ not (nat_le (length bytes.now) 1024) }
+{
+    bytes.len() > LONGEST_PATH
+}
+
 // Whether the bytes are the text of a path.
 fn is_path_text(bytes: &[u8]) -> bool
     ensures { result ≡ is_path bytes.now }
 {
-    if bytes.len() > LONGEST_PATH {
+    if is_too_long(bytes) {
         return false;
     }
     match bytes {
@@ -49,27 +56,46 @@ fn is_path_text(bytes: &[u8]) -> bool
     }
 }
 
-// The parts between the `/`, which are names.
-fn read_parts(alloc: Global, bytes: &[u8]) -> Result<Vec<Name>, AllocError>
-    requires { IsTrue (list_all is_name (parts bytes.now)) }
-    ensures { IfOk result (λ names. names.items ≡ parts bytes.now) }
+// The parts between the `/`, if they are names: they are read in one pass.
+fn read_parts(alloc: Global, bytes: &[u8]) -> Result<Vec<Name>, NameFault>
+    ensures parts { IfOk result (λ names. names.items ≡ parts bytes.now) }
+    ensures names { IfOk result (λ names. AreNames (parts bytes.now)) }
 {
     let mut names = Vec::new(alloc);
     for part in bytes.split(|b| *b == b'/') {
-        let name = Name::of_good(alloc, part)?;
-        names.push(name)?;
+        let name = Name::read(alloc, part)?;
+        if names.push(name).is_err() {
+            return Err(NameFault::Memory);
+        }
     }
     Ok(names)
 }
 
-// The names that the text of a path leads through.
-fn read_names(alloc: Global, bytes: &[u8]) -> Result<Vec<Name>, AllocError>
-    requires { IsTrue (is_path bytes.now) }
-    ensures { IfOk result (λ names. names.items ≡ names_in bytes.now) }
+// The names that a text leads through, if it is that of a path.
+fn read_names(alloc: Global, bytes: &[u8]) -> Result<Vec<Name>, NameFault>
+    ensures names { IfOk result (λ names. names.items ≡ names_in bytes.now) }
+    ensures path { IfOk result (λ names. IsTrue (is_path bytes.now)) }
 {
+    if is_too_long(bytes) {
+        return Err(NameFault::BadName);
+    }
     match bytes {
-        [] | [_] => Ok(Vec::new(alloc)),
-        [_, rest @ ..] => read_parts(alloc, rest),
+        [b'/'] => Ok(Vec::new(alloc)),
+        [b'/', rest @ ..] => read_parts(alloc, rest),
+        _ => Err(NameFault::BadName),
+    }
+}
+
+// Why no path was read from bytes.
+#[cold]
+#[inline(never)]
+fn why_not(bytes: &[u8]) -> NameFault
+    ensures { (result ≡ NameFault.BadName) ↔ (is_path bytes.now ≡ false) }
+{
+    if is_path_text(bytes) {
+        NameFault::Memory
+    } else {
+        NameFault::BadName
     }
 }
 
@@ -102,12 +128,9 @@ impl Path {
         ensures names { IfOk result (λ p. p ≡ names_in bytes.now) }
         ensures tested { (result ≡ Err NameFault.BadName) ↔ (is_path bytes.now ≡ false) }
     {
-        if !is_path_text(bytes) {
-            return Err(NameFault::BadName);
-        }
         match read_names(alloc, bytes) {
             Ok(items) => Ok(Path { items }),
-            Err(_) => Err(NameFault::Memory),
+            Err(_) => Err(why_not(bytes)),
         }
     }
 

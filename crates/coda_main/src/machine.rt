@@ -43,6 +43,19 @@ fn stop_of(fault: coda_script::LineFault) -> LineStop
     }
 }
 
+// Lets a line go. Taking any line apart takes a large frame: this is kept out of the way of tasks, which are most lines.
+#[cold]
+#[inline(never)]
+fn let_go(_said: Line) {}
+
+// Lets a line go that was carried out.
+fn done_with(said: Line) {
+    match said {
+        Line::Task(task) => drop(task),
+        other => let_go(other),
+    }
+}
+
 // What a line says, which is then built; nothing where it is silent.
 fn built_line(alloc: Global, line: &[u8]) -> Result<Option<Line>, LineStop>
     ensures spelled { IfOk result (λ o. line_of line.now ≡ Ok o) }
@@ -55,6 +68,7 @@ fn built_line(alloc: Global, line: &[u8]) -> Result<Option<Line>, LineStop>
             if is_built(&said) {
                 Ok(Some(said))
             } else {
+                let_go(said);
                 Err(NOT_BUILT)
             }
         }
@@ -114,7 +128,11 @@ impl<B: Bay> Machine for CellMachine<B> {
 
     fn run(&mut self, alloc: Global, line: &[u8]) -> Result<Vec<u8>, LineStop> {
         match built_line(alloc, line) {
-            Ok(Some(said)) => answer(alloc, &mut self.cell, &said),
+            Ok(Some(said)) => {
+                let text = answer(alloc, &mut self.cell, &said);
+                done_with(said);
+                text
+            }
             Ok(None) => Ok(Vec::new(alloc)),
             Err(stop) => Err(stop),
         }

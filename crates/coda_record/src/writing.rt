@@ -70,14 +70,15 @@ pub fn put_bytes(out: &mut Vec<u8>, bytes: &Bytes) -> Result<(), AllocError>
     Ok(out.extend_from_slice(bytes.bytes())?)
 }
 
-/// A fid.
-#[tactic(auto, unfolding(crate::specs::Table::fid))]
+/// A fid, in one piece.
+#[tactic(auto, unfolding(crate::specs::Table::fid, crate::specs::Form::number_bytes))]
 pub fn put_fid(out: &mut Vec<u8>, fid: Fid) -> Result<(), AllocError>
     ensures { OnOk result (out.new.items ≡ out.old.items ++ (a_fid.piece fid).bytes) }
 {
-    put_u32(out, fid.volume)?;
-    put_u32(out, fid.vnode)?;
-    put_u32(out, fid.uniq)
+    let [a, b, c, d] = fid.volume.to_be_bytes();
+    let [e, f, g, h] = fid.vnode.to_be_bytes();
+    let [i, j, k, l] = fid.uniq.to_be_bytes();
+    Ok(out.extend_from_slice(&[a, b, c, d, e, f, g, h, i, j, k, l])?)
 }
 
 /// A sid.

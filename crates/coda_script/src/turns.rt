@@ -55,8 +55,11 @@ pub fn read_turns(cursor: &mut Cursor) -> Result<Turns, LineFault>
     Ok(seen)
 }
 
-/// What a line says behind the threads that it names.
-pub fn placed(turns: Turns, line: Line) -> Result<Line, LineFault>
+// What a line says behind threads, if any are named. Few lines name some, and taking a line apart takes a large frame: it
+// is kept out of the way of the others.
+#[cold]
+#[inline(never)]
+fn in_turn(turns: Turns, line: Line) -> Result<Line, LineFault>
     ensures { Gives (λ l. l) result (placed turns line) }
 {
     let misplaced = LineFault::BadLine {
@@ -70,5 +73,16 @@ pub fn placed(turns: Turns, line: Line) -> Result<Line, LineFault>
             _ => Err(misplaced),
         },
         Turns::Several => Err(misplaced),
+    }
+}
+
+/// What a line says behind the threads that it names.
+pub fn placed(turns: Turns, line: Line) -> Result<Line, LineFault>
+    ensures { Gives (λ l. l) result (placed turns line) }
+{
+    match turns {
+        Turns::Unnamed => Ok(line),
+        Turns::Thread(_) => in_turn(turns, line),
+        Turns::Several => in_turn(turns, line),
     }
 }

@@ -71,11 +71,11 @@ impl Client {
         }
     }
 
-    // The directory of a new object and its fid.
+    // The directory of a new object and its fid. Where the directory isn't held, it is what is needed for the fid.
     fn new_place(&self, volume: u32, front: &[Name], name: &Name) -> Result<(Fid, Fid), Refused>
         ensures { result ≡ new_place (sight self.now volume) volume (front.now, name.now) }
     {
-        let dir = self.resolve(Fid::root(volume), front)?;
+        let dir = self.follow(Fid::root(volume), front)?;
         let fid = self.new_under(volume, dir, name)?;
         Ok((dir, fid))
     }
@@ -207,7 +207,7 @@ impl Client {
     fn spot(&self, volume: u32, front: &[Name], name: &Name) -> Result<(Fid, Fid), Refused>
         ensures { result ≡ spot self.now.nodes volume (front.now, name.now) }
     {
-        let dir = self.resolve(Fid::root(volume), front)?;
+        let dir = self.follow(Fid::root(volume), front)?;
         let fid = self.step(dir, name)?;
         let there = self.held(fid)?;
         Ok((dir, there))

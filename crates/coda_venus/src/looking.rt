@@ -20,7 +20,7 @@ fn seen(fid: Fid, node: &Node) -> Result<Seen, Refused>
 impl Client {
     ghost use Rattle.std.specs.Prelude.{◌≡◌};
     ghost use Rattle.std.specs.FinMap as map;
-    ghost use Rattle.coda_venus.specs.Looking.{held, step_from, resolve};
+    ghost use Rattle.coda_venus.specs.Looking.{held, step_from, resolve, then_find};
 
     /// An object, where it is held.
     pub fn held(&self, fid: Fid) -> Result<Fid, Refused>
@@ -49,9 +49,9 @@ impl Client {
         }
     }
 
-    /// Where names lead in turn from an object, over what is held.
-    pub fn resolve(&self, from: Fid, names: &[Name]) -> Result<Fid, Refused>
-        ensures { result ≡ resolve self.now.nodes from names.now }
+    // Where names lead in turn from an object, over what is held, up to the last object, which may not be held.
+    pub(crate) fn follow(&self, from: Fid, names: &[Name]) -> Result<Fid, Refused>
+        ensures { resolve self.now.nodes from names.now ≡ then_find result (λ at. held (map.get self.now.nodes at) at) }
     {
         let mut at = from;
         for name in names {
@@ -60,6 +60,14 @@ impl Client {
                 Err(refusal) => return Err(refusal),
             }
         }
+        Ok(at)
+    }
+
+    /// Where names lead in turn from an object, over what is held.
+    pub fn resolve(&self, from: Fid, names: &[Name]) -> Result<Fid, Refused>
+        ensures { result ≡ resolve self.now.nodes from names.now }
+    {
+        let at = self.follow(from, names)?;
         self.held(at)
     }
 

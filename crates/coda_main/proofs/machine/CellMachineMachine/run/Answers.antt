@@ -15,12 +15,12 @@ of_both P R Q X (Err e) is also on then_ = tt
 pub returns-in-Ok-Some-clause-ok : goal.returns-in-Ok-Some-clause-ok
 returns-in-Ok-Some-clause-ok g c =
     let old = c.args.self.now.cell in
-    let new = c.answer.new.cell in
+    let new = c.answer-text.new.cell in
     let before = moment (g.B.Bay.out old.bay) (g.B.Bay.has old.bay) (g.B.Bay.answered old.bay) old.site in
     let behind = moment (g.B.Bay.out new.bay) (g.B.Bay.has new.bay) (g.B.Bay.answered new.bay) new.site in
     let spelled : line_of c.args.line.now ≡ Ok (Some c.in-Ok-Some.said) = search rules in
     let built : is_built c.in-Ok-Some.said ≡ true = search rules in
-    of_both _ _ _ _ c.answer.result c.answer.ensures.answered c.answer.ensures.again c.answer.ensures.goes_on (λ text answers again goes_on. (
+    of_both _ _ _ _ c.answer-text.result c.answer-text.ensures.answered c.answer-text.ensures.again c.answer-text.ensures.goes_on (λ text answers again goes_on. (
       answered_since before behind,
       line_resumes g.B.D.Disk.told before behind c.args.line.now text.items c.in-Ok-Some.said spelled (line_gives g.B.D.Disk.told before behind c.args.line.now text.items c.in-Ok-Some.said spelled built goes_on answers) again,
     ))
