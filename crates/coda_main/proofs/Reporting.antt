@@ -15,13 +15,15 @@ use Rattle.coda_runs.proofs.Reporting.{reports_tell_of_runs}
 use Rattle.coda_main.specs.Lines.{IsBadLine}
 use Rattle.coda_main.specs.Reported.{IsReportOfLines, IsReportOfRun}
 use Rattle.coda_main.specs.Shows.{Moment, Shows, MayGoOn, CellGives}
+use Rattle.coda_site.specs.Totals.{Counts}
+use Rattle.coda_main.specs.Tallies.{CountsLine}
 use Rattle.coda_main.proofs.Showing.{cells_shown, cells_go_on, lines_good}
 
-module _ {D M : Type 0} (new old : M) (told : D → Told) (at : M → Moment D) (left_old left_new held_old held_new : Option (List ℕ)) (outside : List (List ℕ)) (status : Status)
-    (reports : Reports (λ old line text outside new. CellGives told (at old) line text outside (at new)) (λ m line column kind. IsBadLine line column kind) old new left_old left_new held_old held_new outside status) where
+module _ {D M : Type 0} (new old : M) (told : D → Told) (at : M → Moment D) (counts : M → Counts) (left_old left_new held_old held_new : Option (List ℕ)) (outside : List (List ℕ)) (status : Status)
+    (reports : Reports (λ old line text outside new. CellGives told (at old) line text outside (at new) × CountsLine line text (counts old) (counts new)) (λ m line column kind. IsBadLine line column kind) old new left_old left_new held_old held_new outside status) where
   -- Behind a run that wants no memory and met no fault of the bay, the site goes on.
   pub goes_on : MayGoOn told (at old) → status ≢ Memory → status ≢ BayFault → MayGoOn told (at new)
-  goes_on start = (reports_shown (cells_go_on told at) tt old new left_old left_new held_old held_new outside status start reports).2
+  goes_on start = (reports_shown (cells_go_on told at counts) tt old new left_old left_new held_old held_new outside status start reports).2
 
   -- What a run over disks that hold nothing tells, where the bay, once all is given back, stands for the cell that the run left.
   pub reported : (has : ℕ → Told) (before after : List (List ℕ)) → MayGoOn told (at old) → IsSite told (at old).out (at old).has nothing_stored (at old).site
@@ -30,7 +32,7 @@ module _ {D M : Type 0} (new old : M) (told : D → Told) (at : M → Moment D) 
   reported has before after start site first_same last_same closes =
       let first : Recorded = record { cell = nothing_stored; answered = before } in
       let shows : Shows told first (at old) = record { kept = stored_cells_are_kept.first; stands = site; answered = first_same } in
-      let shown = reports_shown (cells_shown told at) first old new left_old left_new held_old held_new outside status shows reports in
+      let shown = reports_shown (cells_shown told at counts) first old new left_old left_new held_old held_new outside status shows reports in
       let run = reports_tell_of_runs first shown.0 left_old left_new held_old held_new outside status stored_cells_are_kept.first shown.1 in record {
         cell = run.cell;
         outside = outside;
@@ -42,7 +44,7 @@ module _ {D M : Type 0} (new old : M) (told : D → Told) (at : M → Moment D) 
 
   -- What it tells whatever the disks hold.
   pub reported_lines : IsReportOfLines left_old left_new held_old held_new status
-  reported_lines = (outside, (reports_shown (lines_good told at) tt old new left_old left_new held_old held_new outside status tt reports).1)
+  reported_lines = (outside, (reports_shown (lines_good told at counts) tt old new left_old left_new held_old held_new outside status tt reports).1)
 
 -- A run doesn't end as wrong words do.
 pub not_usage : (left_old left_new held_old held_new : Option (List ℕ)) (status : Status) → IsReportOfLines left_old left_new held_old held_new status → status ≢ Usage

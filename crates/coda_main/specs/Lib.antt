@@ -3,3 +3,4 @@ pub mod Lines
 pub mod Shows
 pub mod Reported
 pub mod Cached
+pub mod Tallies

@@ -8,6 +8,7 @@ ghost use Rattle.coda_stored.specs.Kept.{IsStoredKept};
 ghost use Rattle.coda_stored.specs.Lines.{client_down, replica_down};
 ghost use Rattle.coda_site.specs.Sites.{IsSite};
 ghost use Rattle.coda_runs.specs.Shows.{CanShow};
+ghost use Rattle.coda_main.specs.Tallies.{IsText};
 ghost use Rattle.coda_runs.specs.Texts.{shown_volume, shown_log, text_of};
 
 use coda_cml::Log;
@@ -58,7 +59,8 @@ fn log_shown<B: Bay>(
 
 /// The text of a reply in the cell that the line left.
 pub fn text_of<B: Bay>(alloc: Global, cell: &Cell<B>, reply: &Reply) -> Result<Bytes, AllocError>
-    ensures { IfOk result (λ text. (stored : StoredCell) → IsStoredKept stored → IsSite B.D.told (B.out cell.now.bay) (B.has cell.now.bay) stored cell.now.site
+    ensures said { IfOk result (λ text. IsText reply.now text) }
+    ensures printed { IfOk result (λ text. (stored : StoredCell) → IsStoredKept stored → IsSite B.D.told (B.out cell.now.bay) (B.has cell.now.bay) stored cell.now.site
         → CanShow stored reply.now → text ≡ text_of (state_of stored.made) reply.now) }
 {
     match reply {

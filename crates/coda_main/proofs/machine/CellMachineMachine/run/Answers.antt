@@ -1,4 +1,4 @@
-use Rattle.std.proofs.Common.{rules, ◌≡◌, true, [], Result, Ok, Err}
+use Rattle.std.proofs.Common.{inl, inr, refl, rules, ◌≡◌, true, [], Result, Ok, Err}
 use Rattle.std.specs.Prelude.{IfOk, OnOk, Some, None}
 use Rattle.coda_script.specs.Lines.{line_of}
 use Rattle.coda_stored.specs.Lines.{is_built}
@@ -7,9 +7,9 @@ use Rattle.coda_main.proofs.Answering.{line_gives, silent_gives}
 use Rattle.coda_main.proofs.machine.CellMachineMachine.run.Goals as goal
 
 -- what holds of a value where there is one, and what holds then
-of_value : {A E : Type 0} (P Q : A → Type 0) (X : Type 0) (r : Result A E) → IfOk r P → OnOk r X → ((x : A) → P x → X → Q x) → IfOk r Q
-of_value P Q X (Ok x) is on then_ = then_ x is on
-of_value P Q X (Err e) is on then_ = tt
+of_value : {A E : Type 0} (P R Q : A → Type 0) (X : Type 0) (r : Result A E) → IfOk r P → IfOk r R → OnOk r X → ((x : A) → P x → R x → X → Q x) → IfOk r Q
+of_value P R Q X (Ok x) is also on then_ = then_ x is also on
+of_value P R Q X (Err e) is also on then_ = tt
 
 pub returns-in-Ok-Some-clause-ok : goal.returns-in-Ok-Some-clause-ok
 returns-in-Ok-Some-clause-ok g c =
@@ -19,11 +19,15 @@ returns-in-Ok-Some-clause-ok g c =
     let behind = moment (g.B.Bay.out new.bay) (g.B.Bay.has new.bay) (g.B.Bay.answered new.bay) new.site in
     let spelled : line_of c.args.line.now ≡ Ok (Some c.in-Ok-Some.said) = search rules in
     let built : is_built c.in-Ok-Some.said ≡ true = search rules in
-    of_value _ _ _ c.answer.result c.answer.ensures.answered c.answer.ensures.goes_on (λ text answers goes_on. (answered_since before behind, line_gives g.B.D.Disk.told before behind c.args.line.now text.items c.in-Ok-Some.said spelled built goes_on answers))
+    of_value _ _ _ _ c.answer.result c.answer.ensures.answered c.answer.ensures.counts c.answer.ensures.goes_on (λ text answers counts goes_on. (
+      answered_since before behind,
+      (line_gives g.B.D.Disk.told before behind c.args.line.now text.items c.in-Ok-Some.said spelled built goes_on answers,
+      inr (record { said = c.in-Ok-Some.said; reply = counts.0; spelled = spelled; built = built; printed = counts.1 }, counts.2)),
+    ))
 
 pub returns-in-Ok-None-clause-ok : goal.returns-in-Ok-None-clause-ok
 returns-in-Ok-None-clause-ok g c =
     let old = c.args.self.now.cell in
     let before = moment (g.B.Bay.out old.bay) (g.B.Bay.has old.bay) (g.B.Bay.answered old.bay) old.site in
     let silent : line_of c.args.line.now ≡ Ok None = search rules in
-    ([], silent_gives g.B.D.Disk.told before c.args.line.now c.new.result.items silent c.new.ensures.items)
+    ([], (silent_gives g.B.D.Disk.told before c.args.line.now c.new.result.items silent c.new.ensures.items, inl (silent, c.new.ensures.items, refl)))

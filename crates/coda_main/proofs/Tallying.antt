@@ -1,0 +1,69 @@
+-- What a run of a script tells of the disks of its cell.
+use Rattle.std.proofs.Common.{◌≡◌, ◌≢◌, ◌≤◌, ◌+◌, inl, inr, ℕ, Bool, true, false, List, [], ◌∷◌, Ok, refl, sym, ap, ◌∙◌, subst, arith}
+use Rattle.std.specs.Prelude.{Option, if◌then◌else◌}
+use Rattle.coda_io.specs.Faults.{counted, Rose}
+use Rattle.coda_disk.specs.Bays.{plus}
+use Rattle.coda_disk.specs.Told.{Told}
+use Rattle.coda_engine.proofs.Simulation.{Simulates, reports_shown}
+use Rattle.coda_engine.specs.Run.{Reports}
+use Rattle.coda_engine.specs.declared.status.Status.{Status}
+use Rattle.coda_script.specs.declared.line.Line.{Line}
+use Rattle.coda_script.specs.declared.refusal.Refusal.TheVariants.{DiskFault}
+use Rattle.coda_script.specs.declared.reply.Reply.{Reply}
+use Rattle.coda_script.specs.declared.reply.Reply.TheVariants.{Refused}
+use Rattle.coda_stored.specs.Lines.{refused_fault}
+use Rattle.coda_site.specs.Totals.{Counts, IsCounted, IsFault, has_armed}
+use Rattle.coda_main.specs.Lines.{IsBadLine}
+use Rattle.coda_main.specs.Shows.{Moment, CellGives}
+use Rattle.coda_main.specs.Tallies.{tells_fault, Tally, no_tally, tally_with, TallyGives, TallyRefuses, IsReportOfDisks, CountsLine}
+
+-- the totals of a cell rose from the first ones as the tally says
+record IsTallied (first : Counts) (tally : Tally) (now : Counts) : Type 0 where
+  pub faults : plus first.faults tally.faults ≤ now.faults
+  pub arms : now.arms ≡ plus first.arms tally.arms
+
+fault_is : (reply : Reply) → tells_fault reply ≡ true → reply ≡ refused_fault
+fault_is (Refused DiskFault []) e = refl
+fault_is _ e = cc
+
+faults_on : (b : Bool) (first tally old new : ℕ) → plus first tally ≤ old → old ≤ new → (b ≡ true → Rose old new) → plus first (if b then tally + 1 else tally) ≤ new
+faults_on true first tally old new was later rose = let r = rose refl in omega (arith, was, r)
+faults_on false first tally old new was later rose = omega (arith, was, later)
+
+arms_on : (b : Bool) (first tally old new : ℕ) → old ≡ plus first tally → new ≡ (if b then counted old else old) → new ≡ plus first (if b then tally + 1 else tally)
+arms_on true first tally old new was is = omega (arith, was, is)
+arms_on false first tally old new was is = is ∙ was
+
+tallied : (first : Counts) (said : Line) (reply : Reply) (tally : Tally) (old new : Counts) → IsTallied first tally old → IsCounted (IsFault (Ok reply)) (has_armed said (Ok reply)) old new → IsTallied first (tally_with said reply tally) new
+tallied first said reply tally old new was c = record {
+  faults = faults_on (tells_fault reply) first.faults tally.faults old.faults new.faults was.faults c.later (λ e. c.cause (ap Ok (fault_is reply e)));
+  arms = arms_on (has_armed said (Ok reply)) first.arms tally.arms old.arms new.arms was.arms c.arms;
+}
+
+module _ {D M : Type 0} (told : D → Told) (at : M → Moment D) (counts : M → Counts) where
+  tallies_shown : (first : Counts) → Simulates (λ (tally : Tally) (m : M). IsTallied first tally (counts m)) TallyGives TallyRefuses
+      (λ old line text outside new. CellGives told (at old) line text outside (at new) × CountsLine line text (counts old) (counts new)) (λ m line column kind. IsBadLine line column kind)
+  tallies_shown first = record {
+    step = λ tally m m' line text outside shows ran. go tally m m' line text outside shows ran.1;
+    refusal = λ tally m line column kind shows refuses. refuses;
+  }
+    where
+      go : (tally : Tally) (m m' : M) (line text : List ℕ) (outside : List (List ℕ)) → IsTallied first tally (counts m) → CountsLine line text (counts m) (counts m') → (next : Tally) × TallyGives tally line text outside next × IsTallied first next (counts m')
+      go tally m m' line text outside shows (inl silent) = (tally, inl (silent.0, silent.1, refl), subst (IsTallied first tally) (sym silent.2) shows)
+      go tally m m' line text outside shows (inr c) = (tally_with c.0.said c.0.reply tally, inr (c.0, refl), tallied first c.0.said c.0.reply tally (counts m) (counts m') shows c.1)
+
+  -- What a run tells of disks, where the sums of the bay, once all is given back, are the totals that the run left.
+  pub reported_disks : (new old : M) (left_old left_new held_old held_new : Option (List ℕ)) (outside : List (List ℕ)) (status : Status)
+      → Reports (λ old line text outside new. CellGives told (at old) line text outside (at new) × CountsLine line text (counts old) (counts new)) (λ m line column kind. IsBadLine line column kind) old new left_old left_new held_old held_new outside status
+      → (faults_old faults_new arms_old arms_new : ℕ) → (counts old).faults ≡ plus faults_old 0 → (counts old).arms ≡ plus arms_old 0 → plus faults_new 0 ≡ (counts new).faults → plus arms_new 0 ≡ (counts new).arms
+      → IsReportOfDisks faults_old faults_new arms_old arms_new left_old left_new held_old held_new status
+  reported_disks new old left_old left_new held_old held_new outside status reports faults_old faults_new arms_old arms_new f0 a0 f1 a1 =
+      let first : Counts = record { faults = faults_old; arms = arms_old } in
+      let start : IsTallied first no_tally (counts old) = record { faults = omega (arith, f0); arms = a0 } in
+      let shown = reports_shown (tallies_shown first) no_tally old new left_old left_new held_old held_new outside status start reports in record {
+        tally = shown.0;
+        outside = outside;
+        reports = shown.1;
+        faults = λ memory bay. (let t = shown.2 memory bay in let f = t.faults in omega (arith, f, f1));
+        arms = λ memory bay. a1 ∙ (shown.2 memory bay).arms;
+      }
