@@ -4,3 +4,4 @@ pub mod Shows
 pub mod Reported
 pub mod Cached
 pub mod Tallies
+pub mod Counting

@@ -12,7 +12,9 @@ use Rattle.coda_script.specs.declared.refusal.Refusal.TheVariants.{DiskFault}
 use Rattle.coda_script.specs.declared.reply.Reply.{Reply}
 use Rattle.coda_script.specs.declared.reply.Reply.TheVariants.{Refused, ShowVolume, ShowLog}
 use Rattle.coda_stored.specs.Lines.{is_built}
-use Rattle.coda_site.specs.Totals.{Counts, IsCounted, IsFault, has_armed}
+use Rattle.coda_site.specs.Totals.{has_armed}
+use Rattle.coda_stored.specs.Cells.{StoredCell}
+use Rattle.coda_runs.specs.Runs.{Replies, LineRefused}
 use Rattle.coda_main.specs.Lines.{IsBadLine}
 
 -- ---- lines and replies
@@ -60,6 +62,21 @@ TallyGives old bytes text outside new = ((line_of bytes ≡ Ok None) × (text �
 abbrev pub TallyRefuses : Tally → List ℕ → ℕ → Kind → Type 0
 TallyRefuses old bytes column kind = IsBadLine bytes column kind
 
+-- a cell on disks, and the tally of the lines that ran in it
+pub record TalliedCell : Type 0 where
+  pub cell : StoredCell
+  pub tally : Tally
+
+-- From old, the cell may run this line, with the text of its reply and these answers of the bay, and be new then; and the tally is kept of the line and
+-- of this reply.
+abbrev pub TalliedGives : TalliedCell → List ℕ → List ℕ → List (List ℕ) → TalliedCell → Type 0
+TalliedGives old bytes text outside new =
+    ((line_of bytes ≡ Ok None) × (text ≡ []) × (outside ≡ []) × (new ≡ old))
+    ⊎ ((r : Replies old.cell bytes text outside new.cell) × (new.tally ≡ tally_with r.said r.reply old.tally))
+
+abbrev pub TalliedRefuses : TalliedCell → List ℕ → ℕ → Kind → Type 0
+TalliedRefuses old bytes column kind = LineRefused old.cell bytes column kind
+
 -- What was read and written is the report of a run with this tally. Unless memory was wanting or the bay at fault, the bay's sum of the faults of
 -- disks rose by as many at least as the run has replies that a disk failed, and its sum of `arm` calls by as many as lines that arm a disk were
 -- answered `ok`, each up to the last value of a sum.
@@ -69,9 +86,3 @@ pub record IsReportOfDisks (faults_old faults_new arms_old arms_new : ℕ) (left
   pub reports : Reports TallyGives TallyRefuses no_tally tally left_old left_new held_old held_new outside status
   pub faults : status ≢ Memory → status ≢ BayFault → plus faults_old tally.faults ≤ faults_new
   pub arms : status ≢ Memory → status ≢ BayFault → plus arms_new 0 ≡ plus arms_old tally.arms
-
--- ---- the totals of a cell behind a line
-
--- A line that ran says nothing, and the totals are as they were; or it had a reply, and they are counted so.
-abbrev pub CountsLine : List ℕ → List ℕ → Counts → Counts → Type 0
-CountsLine bytes text old new = ((line_of bytes ≡ Ok None) × (text ≡ []) × (new ≡ old)) ⊎ ((r : IsReplied bytes text) × IsCounted (IsFault (Ok r.reply)) (has_armed r.said (Ok r.reply)) old new)

@@ -24,7 +24,7 @@ fn run_and_close<S: Source, K: Sink, B: Bay + Drop>(
     bay: B,
 ) -> (Status, B)
     requires { (number : ℕ) → B.out bay number ≡ false }
-    ensures report { AreBlank (B.has bay) → IsReportOfRun B.D.told (B.has result.1) (B.answered bay) (B.answered result.1) (S.left source.old) (S.left source.new) (K.held sink.old) (K.held sink.new) result.0 }
+    ensures report { AreBlank (B.has bay) → IsReportOfRun B.D.told (B.has result.1) (B.answered bay) (B.answered result.1) (B.disk_faults bay) (B.disk_faults result.1) (B.disk_arms bay) (B.disk_arms result.1) (S.left source.old) (S.left source.new) (K.held sink.old) (K.held sink.new) result.0 }
     ensures lines { IsReportOfLines (S.left source.old) (S.left source.new) (K.held sink.old) (K.held sink.new) result.0 }
     ensures disks { IsReportOfDisks (B.disk_faults bay) (B.disk_faults result.1) (B.disk_arms bay) (B.disk_arms result.1) (S.left source.old) (S.left source.new) (K.held sink.old) (K.held sink.new) result.0 }
     ensures given_back { result.0 ≢ Status.Memory → result.0 ≢ Status.BayFault → (number : ℕ) → B.out result.1 number ≡ false }
@@ -51,7 +51,7 @@ fn run_lent<'a, S: Source, K: Sink, B: Bay>(
     lent: LentBay<'a, B>,
 ) -> (Status, LentBay<'a, B>)
     requires { (number : ℕ) → B.out lent.bay.now number ≡ false }
-    ensures report { AreBlank (B.has lent.entry.bay.now) → IsReportOfRun B.D.told (B.has result.1.bay.now) (B.answered lent.entry.bay.now) (B.answered result.1.bay.now) (S.left source.old) (S.left source.new) (K.held sink.old) (K.held sink.new) result.0 }
+    ensures report { AreBlank (B.has lent.entry.bay.now) → IsReportOfRun B.D.told (B.has result.1.bay.now) (B.answered lent.entry.bay.now) (B.answered result.1.bay.now) (B.disk_faults lent.entry.bay.now) (B.disk_faults result.1.bay.now) (B.disk_arms lent.entry.bay.now) (B.disk_arms result.1.bay.now) (S.left source.old) (S.left source.new) (K.held sink.old) (K.held sink.new) result.0 }
     ensures lines { IsReportOfLines (S.left source.old) (S.left source.new) (K.held sink.old) (K.held sink.new) result.0 }
     ensures disks { IsReportOfDisks (B.disk_faults lent.entry.bay.now) (B.disk_faults result.1.bay.now) (B.disk_arms lent.entry.bay.now) (B.disk_arms result.1.bay.now) (S.left source.old) (S.left source.new) (K.held sink.old) (K.held sink.new) result.0 }
     ensures given_back { result.0 ≢ Status.Memory → result.0 ≢ Status.BayFault → (number : ℕ) → B.out result.1.bay.now number ≡ false }
@@ -84,7 +84,7 @@ pub fn run_script<S: Source, K: Sink, B: Bay>(
     bay: &mut B,
 ) -> Status
     requires { (number : ℕ) → B.out bay.old number ≡ false }
-    ensures report { AreBlank (B.has bay.old) → IsReportOfRun B.D.told (B.has bay.new) (B.answered bay.old) (B.answered bay.new) (S.left source.old) (S.left source.new) (K.held sink.old) (K.held sink.new) result }
+    ensures report { AreBlank (B.has bay.old) → IsReportOfRun B.D.told (B.has bay.new) (B.answered bay.old) (B.answered bay.new) (B.disk_faults bay.old) (B.disk_faults bay.new) (B.disk_arms bay.old) (B.disk_arms bay.new) (S.left source.old) (S.left source.new) (K.held sink.old) (K.held sink.new) result }
     ensures lines { IsReportOfLines (S.left source.old) (S.left source.new) (K.held sink.old) (K.held sink.new) result }
     ensures disks { IsReportOfDisks (B.disk_faults bay.old) (B.disk_faults bay.new) (B.disk_arms bay.old) (B.disk_arms bay.new) (S.left source.old) (S.left source.new) (K.held sink.old) (K.held sink.new) result }
     ensures given_back { result ≢ Status.Memory → result ≢ Status.BayFault → (number : ℕ) → B.out bay.new number ≡ false }
@@ -114,7 +114,7 @@ pub fn coda<S: Source, K: Sink, B: Bay>(
     ensures usage { (result ≡ Status.Usage) ↔ ¬ IsRun (map string_bytes words.now) }
     ensures unused { result ≡ Status.Usage → (source.new ≡ source.old) × (sink.new ≡ sink.old) × (bay.new ≡ bay.old) }
     ensures report { IsRun (map string_bytes words.now) → AreBlank (B.has bay.old)
-        → IsReportOfRun B.D.told (B.has bay.new) (B.answered bay.old) (B.answered bay.new) (S.left source.old) (S.left source.new) (K.held sink.old) (K.held sink.new) result }
+        → IsReportOfRun B.D.told (B.has bay.new) (B.answered bay.old) (B.answered bay.new) (B.disk_faults bay.old) (B.disk_faults bay.new) (B.disk_arms bay.old) (B.disk_arms bay.new) (S.left source.old) (S.left source.new) (K.held sink.old) (K.held sink.new) result }
     ensures lines { IsRun (map string_bytes words.now) → IsReportOfLines (S.left source.old) (S.left source.new) (K.held sink.old) (K.held sink.new) result }
     ensures disks { IsRun (map string_bytes words.now) → IsReportOfDisks (B.disk_faults bay.old) (B.disk_faults bay.new) (B.disk_arms bay.old) (B.disk_arms bay.new) (S.left source.old) (S.left source.new) (K.held sink.old) (K.held sink.new) result }
     ensures given_back { result ≢ Status.Memory → result ≢ Status.BayFault → (number : ℕ) → B.out bay.new number ≡ false }

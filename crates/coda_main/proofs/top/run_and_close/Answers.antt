@@ -11,8 +11,8 @@ returns-clause-report g c = λ blank.
     let start = c.new.ensures in
     let report = c.run-status.ensures.report in
     reported c.run-status.new.machine (record { cell = c.new.result }) g.B.D.Disk.told (λ m. moment (g.B.Bay.out m.cell.bay) (g.B.Bay.has m.cell.bay) (g.B.Bay.answered m.cell.bay) m.cell.site) (λ m. totals g.B.D.Disk.told g.B.D.Disk.faults g.B.D.Disk.arms (g.B.Bay.disk_faults m.cell.bay) (g.B.Bay.disk_arms m.cell.bay) m.cell.site) _ _ _ _ report.0 c.run-status.result report.1
-    (g.B.Bay.has c.close.result) (g.B.Bay.answered c.args.bay) (g.B.Bay.answered c.close.result) start.ready (start.stands (subst (λ bay. AreBlank (g.B.Bay.has bay)) (sym start.bay) blank))
-    (ap g.B.Bay.answered start.bay) c.close.ensures.answered (λ ready cell stands. c.close.ensures.stands cell ready stands)
+    (g.B.Bay.has c.close.result) (g.B.Bay.answered c.args.bay) (g.B.Bay.answered c.close.result) (g.B.Bay.disk_faults c.args.bay) (g.B.Bay.disk_faults c.close.result) (g.B.Bay.disk_arms c.args.bay) (g.B.Bay.disk_arms c.close.result) start.ready (start.stands (subst (λ bay. AreBlank (g.B.Bay.has bay)) (sym start.bay) blank))
+    (ap g.B.Bay.answered start.bay) c.close.ensures.answered (λ ready cell stands. c.close.ensures.stands cell ready stands) (ap (λ t. t.faults) start.counts) (ap (λ t. t.arms) start.counts) c.close.ensures.faults_out c.close.ensures.arms_out
 
 pub returns-clause-given_back : goal.returns-clause-given_back
 returns-clause-given_back g c = λ memory bay number.

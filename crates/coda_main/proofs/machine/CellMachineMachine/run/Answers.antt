@@ -1,9 +1,10 @@
-use Rattle.std.proofs.Common.{inl, inr, refl, rules, ◌≡◌, true, [], Result, Ok, Err}
+use Rattle.std.proofs.Common.{inl, refl, rules, ◌≡◌, true, [], Result, Ok, Err}
 use Rattle.std.specs.Prelude.{IfOk, OnOk, Some, None}
 use Rattle.coda_script.specs.Lines.{line_of}
 use Rattle.coda_stored.specs.Lines.{is_built}
 use Rattle.coda_main.specs.Shows.{moment, answered_since}
-use Rattle.coda_main.proofs.Answering.{line_gives, silent_gives}
+use Rattle.coda_site.specs.Totals.{totals}
+use Rattle.coda_main.proofs.Answering.{line_gives, line_counts, silent_gives}
 use Rattle.coda_main.proofs.machine.CellMachineMachine.run.Goals as goal
 
 -- what holds of a value where there is one, and what holds then
@@ -17,12 +18,14 @@ returns-in-Ok-Some-clause-ok g c =
     let new = c.answer.new.cell in
     let before = moment (g.B.Bay.out old.bay) (g.B.Bay.has old.bay) (g.B.Bay.answered old.bay) old.site in
     let behind = moment (g.B.Bay.out new.bay) (g.B.Bay.has new.bay) (g.B.Bay.answered new.bay) new.site in
+    let old_counts = totals g.B.D.Disk.told g.B.D.Disk.faults g.B.D.Disk.arms (g.B.Bay.disk_faults old.bay) (g.B.Bay.disk_arms old.bay) old.site in
+    let new_counts = totals g.B.D.Disk.told g.B.D.Disk.faults g.B.D.Disk.arms (g.B.Bay.disk_faults new.bay) (g.B.Bay.disk_arms new.bay) new.site in
     let spelled : line_of c.args.line.now ≡ Ok (Some c.in-Ok-Some.said) = search rules in
     let built : is_built c.in-Ok-Some.said ≡ true = search rules in
     of_value _ _ _ _ c.answer.result c.answer.ensures.answered c.answer.ensures.counts c.answer.ensures.goes_on (λ text answers counts goes_on. (
       answered_since before behind,
       (line_gives g.B.D.Disk.told before behind c.args.line.now text.items c.in-Ok-Some.said spelled built goes_on answers,
-      inr (record { said = c.in-Ok-Some.said; reply = counts.0; spelled = spelled; built = built; printed = counts.1 }, counts.2)),
+      line_counts g.B.D.Disk.told before behind old_counts new_counts c.args.line.now text.items c.in-Ok-Some.said counts.0 spelled built counts.1 counts.2 counts.3),
     ))
 
 pub returns-in-Ok-None-clause-ok : goal.returns-in-Ok-None-clause-ok
@@ -30,4 +33,4 @@ returns-in-Ok-None-clause-ok g c =
     let old = c.args.self.now.cell in
     let before = moment (g.B.Bay.out old.bay) (g.B.Bay.has old.bay) (g.B.Bay.answered old.bay) old.site in
     let silent : line_of c.args.line.now ≡ Ok None = search rules in
-    ([], (silent_gives g.B.D.Disk.told before c.args.line.now c.new.result.items silent c.new.ensures.items, inl (silent, c.new.ensures.items, refl)))
+    ([], (silent_gives g.B.D.Disk.told before c.args.line.now c.new.result.items silent c.new.ensures.items, inl (silent, c.new.ensures.items, refl, refl, λ plain shows. shows)))
