@@ -1,6 +1,7 @@
 -- What the report of a script tells of cells on disks.
-use Rattle.std.proofs.Common.{◌≡◌, ◌≢◌, ℕ, List, ◌∙◌, subst}
+use Rattle.std.proofs.Common.{◌≡◌, ◌≢◌, ℕ, List, refl, sym, ap, ◌∙◌, subst, arith}
 use Rattle.std.specs.Prelude.{Option}
+use Rattle.coda_disk.specs.Bays.{plus}
 use Rattle.coda_disk.specs.Told.{Told}
 use Rattle.coda_engine.proofs.Simulation.{reports_shown}
 use Rattle.coda_engine.specs.Run.{Reports}
@@ -24,32 +25,49 @@ use Rattle.coda_runs.proofs.Running.{always_kept}
 use Rattle.coda_main.specs.Later.{ShowsLater, LaterRefuses, MachineGives, IsReportOfLaterRun}
 use Rattle.coda_main.specs.Shows.{Moment, Shows, MayGoOn}
 use Rattle.coda_main.proofs.Reaching.{reports_ran}
-use Rattle.coda_main.proofs.Showing.{cells_shown, cells_go_on, lines_good, later_shown}
+use Rattle.coda_site.specs.Totals.{Counts}
+use Rattle.coda_main.specs.Counting.{CountsLine}
+use Rattle.coda_main.specs.Tallies.{Tally, no_tally, TalliedCell, TalliedGives, TalliedRefuses}
+use Rattle.coda_main.proofs.Tallying.{IsTallied, both_shown, records_shown, cells_tallied, tallied_of}
+use Rattle.coda_main.proofs.Showing.{cells_go_on, lines_good, later_shown}
 
-module _ {D M : Type 0} (new old : M) (told : D → Told) (at : M → Moment D) (left_old left_new held_old held_new : Option (List ℕ)) (outside : List (List ℕ)) (status : Status)
-    (reports : Reports (λ old line text outside new. MachineGives told (at old) line text outside (at new)) (λ m line column kind. IsBadLine line column kind) old new left_old left_new held_old held_new outside status) where
+module _ {D M : Type 0} (new old : M) (told : D → Told) (at : M → Moment D) (counts : M → Counts) (left_old left_new held_old held_new : Option (List ℕ)) (outside : List (List ℕ)) (status : Status)
+    (reports : Reports (λ old line text outside new. MachineGives told (at old) line text outside (at new) × CountsLine told (at old) (counts old) line text outside (at new) (counts new)) (λ m line column kind. IsBadLine line column kind) old new left_old left_new held_old held_new outside status) where
   -- Behind a run that wants no memory and met no fault of the bay, the site goes on.
   pub goes_on : MayGoOn told (at old) → status ≢ Memory → status ≢ BayFault → MayGoOn told (at new)
-  goes_on start = (reports_shown (cells_go_on told at) tt old new left_old left_new held_old held_new outside status start reports).2
+  goes_on start = (reports_shown (cells_go_on told at counts) tt old new left_old left_new held_old held_new outside status start reports).2
 
-  -- What a run over disks that hold nothing tells, where the bay, once all is given back, stands for the cell that the run left.
-  pub reported : (has : ℕ → Told) (before after : List (List ℕ)) → MayGoOn told (at old) → IsSite told (at old).out (at old).has nothing_stored (at old).site
+  -- What a run over disks that hold nothing tells, where the bay, once all is given back, stands for the cell that the run left, and its sums are the
+  -- totals.
+  pub reported : (has : ℕ → Told) (before after : List (List ℕ)) (faults_old faults_new arms_old arms_new : ℕ) → MayGoOn told (at old) → IsSite told (at old).out (at old).has nothing_stored (at old).site
       → (at old).answered ≡ before → after ≡ (at new).answered → (MayGoOn told (at new) → (cell : StoredCell) → IsSite told (at new).out (at new).has cell (at new).site → AreOnDisks told has cell)
-      → IsReportOfRun told has before after left_old left_new held_old held_new status
-  reported has before after start site first_same last_same closes =
+      → (counts old).faults ≡ plus faults_old 0 → (counts old).arms ≡ plus arms_old 0 → plus faults_new 0 ≡ (counts new).faults → plus arms_new 0 ≡ (counts new).arms
+      → IsReportOfRun told has before after faults_old faults_new arms_old arms_new left_old left_new held_old held_new status
+  reported has before after faults_old faults_new arms_old arms_new start site first_same last_same closes f0 a0 f1 a1 =
       let first : Recorded = record { cell = nothing_stored; answered = before } in
+      let entry : Recorded × Tally = (first, no_tally) in
+      let sums : Counts = record { faults = faults_old; arms = arms_old } in
       let shows : Shows told first (at old) = record { kept = stored_cells_are_kept.first; stands = site; answered = first_same } in
-      let shown = reports_shown (cells_shown told at) first old new left_old left_new held_old held_new outside status shows reports in
-      let run = reports_tell_of_runs first shown.0 left_old left_new held_old held_new outside status stored_cells_are_kept.first shown.1 in record {
+      let begins : IsTallied sums no_tally (counts old) = record { faults = omega (arith, f0); arms = a0 } in
+      let both = reports_shown (both_shown told at counts sums) entry old new left_old left_new held_old held_new outside status (shows, begins) reports in
+      let shown = reports_shown records_shown first entry both.0 left_old left_new held_old held_new outside status refl both.1 in
+      let tallies = reports_shown cells_tallied (tallied_of entry) entry both.0 left_old left_new held_old held_new outside status refl both.1 in
+      let run = reports_tell_of_runs first shown.0 left_old left_new held_old held_new outside status stored_cells_are_kept.first shown.1 in
+      let same : status ≢ Memory → status ≢ BayFault → both.0.0.cell ≡ run.cell = (λ memory bay. ap (λ (r : Recorded). r.cell) (sym (shown.2 memory bay)) ∙ run.same memory bay) in record {
         cell = run.cell;
         outside = outside;
         reports = run.reports;
         has_run = run.has_run;
-        answered = λ memory bay. last_same ∙ (shown.2 memory bay).answered ∙ run.answered memory bay;
-        on_disks = λ memory bay. subst (AreOnDisks told has) (run.same memory bay) (closes (goes_on start memory bay) shown.0.cell (shown.2 memory bay).stands);
+        answered = λ memory bay. last_same ∙ (both.2 memory bay).0.answered ∙ ap (λ (r : Recorded). r.answered) (sym (shown.2 memory bay)) ∙ run.answered memory bay;
+        on_disks = λ memory bay. subst (AreOnDisks told has) (same memory bay) (closes (goes_on start memory bay) both.0.0.cell (both.2 memory bay).0.stands);
         resumable = λ memory bay.
             let ran = reports_ran LineGives LineRefused nothing_stored run.cell left_old left_new held_old held_new outside status memory bay run.reports in
             (always_kept ran.lines ran.report ran.outside run.cell ran.runs, what_ran_can_be_resumed ran.lines ran.report ran.outside run.cell ran.runs);
+        tally = both.0.1;
+        tallied = λ memory bay.
+            subst (λ (t : TalliedCell). Reports TalliedGives TalliedRefuses (tallied_of entry) t left_old left_new held_old held_new outside status) (tallies.2 memory bay ∙ ap (λ (c : StoredCell). record { cell = c; tally = both.0.1 }) (same memory bay)) tallies.1;
+        faults = λ memory bay. (let f = (both.2 memory bay).1.faults in omega (arith, f, f1));
+        arms = λ memory bay. a1 ∙ (both.2 memory bay).1.arms;
       }
 
   -- What a run over the disks that an earlier run left tells, where the bay, once all is given back, stands for the cell that the run left.
@@ -70,7 +88,7 @@ module _ {D M : Type 0} (new old : M) (told : D → Told) (at : M → Moment D) 
       first = resumed (at_rest past) lines before
 
       shown : (end : Later) × Reports LaterGives LaterRefuses first end left_old left_new held_old held_new outside status × (status ≢ Memory → status ≢ BayFault → ShowsLater told end (at new))
-      shown = reports_shown (later_shown told at) first old new left_old left_new held_old held_new outside status shows reports
+      shown = reports_shown (later_shown told at counts) first old new left_old left_new held_old held_new outside status shows reports
 
       went : status ≢ Memory → status ≢ BayFault → ((cell : StoredCell) (images : List (List ℕ)) → HasReached shown.0 cell images → HasGoneOn past cell) × ((reached : Recorded) → shown.0 ≡ Goes reached → CanBeResumed reached.cell)
       went memory bay =
@@ -79,7 +97,7 @@ module _ {D M : Type 0} (new old : M) (told : D → Told) (at : M → Moment D) 
 
   -- What it tells whatever the disks hold.
   pub reported_lines : IsReportOfLines left_old left_new held_old held_new status
-  reported_lines = (outside, (reports_shown (lines_good told at) tt old new left_old left_new held_old held_new outside status tt reports).1)
+  reported_lines = (outside, (reports_shown (lines_good told at counts) tt old new left_old left_new held_old held_new outside status tt reports).1)
 
 -- A run doesn't end as wrong words do.
 pub not_usage : (left_old left_new held_old held_new : Option (List ℕ)) (status : Status) → IsReportOfLines left_old left_new held_old held_new status → status ≢ Usage

@@ -5,6 +5,7 @@ use Rattle.std.proofs.lemmas.List.{append-nil}
 use Rattle.coda_disk.specs.Told.{Told}
 use Rattle.coda_script.specs.declared.line.Line.{Line}
 use Rattle.coda_script.specs.declared.reply.Reply.{Reply}
+use Rattle.coda_script.specs.declared.reply.Reply.TheVariants.{ShowVolume, ShowLog}
 use Rattle.coda_script.specs.Lines.{line_of}
 use Rattle.coda_report.specs.Texts.{reply_text}
 use Rattle.coda_stored.specs.Cells.{StoredCell}
@@ -17,9 +18,15 @@ use Rattle.coda_site.proofs.Resting.{all_resumed, next_awaited}
 use Rattle.coda_runs.specs.Later.{Later, Waits, Goes, Strays, resumed, LaterGives}
 use Rattle.coda_main.specs.Later.{ShowsNothing, ShowsWaiting, ShowsLater, AnsweredAgain, MachineGives}
 use Rattle.coda_main.specs.Shows.{Moment, answered_since, CellGives}
+use Rattle.coda_main.specs.Tallies.{IsText}
 use Rattle.coda_main.proofs.Answering.{behind}
 
 -- ---- replies
+
+text_told : (reply : Reply) (text : List ℕ) → ShowsNothing reply → IsText reply text → text ≡ reply_text reply
+text_told (ShowVolume server volume) text none is = absurd none
+text_told (ShowLog client volume) text none is = absurd none
+text_told reply text none is = is
 
 client_says : (old mid : StoredCell) (client : ℕ) (said : Reply) → RecoversClient old client said [] mid → ShowsNothing (opened_as said)
 client_says old mid client said (none, (header, asked, inl did)) = subst (λ (r : Reply). ShowsNothing (opened_as r)) (sym did.1) tt
@@ -44,14 +51,14 @@ shown_again told found (next ∷ left) images new kept are stands answered = rec
 
 -- the line that is awaited was carried out
 pub line_answered_again : {D : Type 0} (told : D → Told) (old new : Moment D) (cell : StoredCell) (next : Awaited) (left : List Awaited) (images : List (List ℕ)) (reply : Reply) (text : List ℕ) → ShowsWaiting told cell next left images old
-    → Resumes told new.out new.has cell next left reply old.answered new.answered new.site → (ShowsNothing reply → text ≡ reply_text reply) → AnsweredAgain told cell next left images text old new
+    → Resumes told new.out new.has cell next left reply old.answered new.answered new.site → IsText reply text → AnsweredAgain told cell next left images text old new
 line_answered_again told old new cell next left images reply text shows resumes printed =
     let found = resumes.next in
     record {
       found = found;
       reply = reply;
       makes = resumes.makes;
-      printed = printed (again_says cell found next reply resumes.makes);
+      printed = text_told reply text (again_says cell found next reply resumes.makes) printed;
       quiet = ap (drop (length old.answered)) (resumes.answered ∙ sym (append-nil old.answered)) ∙ behind old.answered [];
       shows = shown_again told found left images new
           (cells_are_resumed.lines cell found (length old.site.servers.items) old.site.areas next left reply shows.kept shows.awaited resumes.makes)

@@ -4,3 +4,5 @@ pub mod Shows
 pub mod Reported
 pub mod Cached
 pub mod Later
+pub mod Tallies
+pub mod Counting

@@ -1,5 +1,6 @@
 -- What the report of a script tells, and what its run leaves on disks.
-use Rattle.std.specs.Prelude.{◌≡◌, ◌≢◌, ◌++◌, ℕ, List, Option}
+use Rattle.std.specs.Prelude.{◌≡◌, ◌≢◌, ◌≤◌, ◌++◌, ℕ, List, Option}
+use Rattle.coda_disk.specs.Bays.{plus}
 use Rattle.coda_disk.specs.Told.{Told}
 use Rattle.coda_engine.specs.Run.{Reports}
 use Rattle.coda_engine.specs.declared.status.Status.{Status}
@@ -11,6 +12,7 @@ use Rattle.coda_runs.specs.Headline.{HasRun}
 use Rattle.coda_runs.specs.Later.{CanBeResumed}
 use Rattle.coda_runs.specs.Runs.{LineGives, LineRefused}
 use Rattle.coda_main.specs.Lines.{AnyGives, AnyRefuses}
+use Rattle.coda_main.specs.Tallies.{Tally, no_tally, TalliedGives, TalliedRefuses}
 
 -- Whatever the disks hold, what was read and written fits the status: each line that ran is a good one, and a line that ended the run is a bad one.
 abbrev pub IsReportOfLines : Option (List ℕ) → Option (List ℕ) → Option (List ℕ) → Option (List ℕ) → Status → Type 0
@@ -19,8 +21,9 @@ IsReportOfLines left_old left_new held_old held_new status =
 
 -- What was read and written is the report of a run from the cell in which nothing was made, over disks that hold nothing; the run keeps what is
 -- promised of runs. Unless memory was wanting or the bay at fault, the bay answered what the run had of it, and its disks stand for the cell that
--- the run left, and a later run can go on from it.
-pub record IsReportOfRun {D : Type 0} (told : D → Told) (has : ℕ → Told) (answered_old answered_new : List (List ℕ)) (left_old left_new held_old held_new : Option (List ℕ)) (status : Status) : Type 0 where
+-- the run left; its sum of the faults of disks rose by at least as many as this run has replies that a disk failed, and its sum of `arm` calls by as
+-- many as lines that arm a disk were answered `ok`, each up to the last value of a sum; and a later run can go on from it.
+pub record IsReportOfRun {D : Type 0} (told : D → Told) (has : ℕ → Told) (answered_old answered_new : List (List ℕ)) (faults_old faults_new arms_old arms_new : ℕ) (left_old left_new held_old held_new : Option (List ℕ)) (status : Status) : Type 0 where
   pub cell : StoredCell
   pub outside : List (List ℕ)
   pub reports : Reports LineGives LineRefused nothing_stored cell left_old left_new held_old held_new outside status
@@ -28,3 +31,8 @@ pub record IsReportOfRun {D : Type 0} (told : D → Told) (has : ℕ → Told) (
   pub answered : status ≢ Memory → status ≢ BayFault → answered_new ≡ answered_old ++ outside
   pub on_disks : status ≢ Memory → status ≢ BayFault → AreOnDisks told has cell
   pub resumable : status ≢ Memory → status ≢ BayFault → IsStoredKept cell × CanBeResumed cell
+  pub tally : Tally
+  pub tallied : status ≢ Memory → status ≢ BayFault
+      → Reports TalliedGives TalliedRefuses (record { cell = nothing_stored; tally = no_tally }) (record { cell = cell; tally = tally }) left_old left_new held_old held_new outside status
+  pub faults : status ≢ Memory → status ≢ BayFault → plus faults_old tally.faults ≤ faults_new
+  pub arms : status ≢ Memory → status ≢ BayFault → plus arms_new 0 ≡ plus arms_old tally.arms

@@ -8,6 +8,9 @@ ghost use Rattle.coda_runs.specs.Shows.{Recorded};
 ghost use Rattle.coda_stored.specs.Cells.{StoredCell};
 ghost use Rattle.coda_stored.specs.Resuming.{Awaited, is_awaited};
 ghost use Rattle.coda_main.specs.Later.{ShowsWaiting, AnsweredAgain};
+ghost use Rattle.coda_script.specs.declared.reply.Reply.{Reply};
+ghost use Rattle.coda_site.specs.Totals.{IsCounted, IsFault, has_armed, totals};
+ghost use Rattle.coda_main.specs.Tallies.{IsText};
 ghost use Rattle.coda_main.specs.Shows.{moment, Shows, MayGoOn, MayClose, Answered, StopsSo, StopsWithin, stop_at};
 
 use crate::report::text_of;
@@ -90,6 +93,8 @@ fn answer<B: Bay>(alloc: Global, cell: &mut Cell<B>, said: &Line) -> Result<Vec<
     ensures again { IfOk result (λ text. (stored : StoredCell) (next : Awaited) (left : List Awaited) (images : List (List ℕ)) → is_awaited next said.now ≡ true
         → ShowsWaiting B.D.told stored next left images (moment (B.out cell.old.bay) (B.has cell.old.bay) (B.answered cell.old.bay) cell.old.site)
         → AnsweredAgain B.D.told stored next left images text.items (moment (B.out cell.old.bay) (B.has cell.old.bay) (B.answered cell.old.bay) cell.old.site) (moment (B.out cell.new.bay) (B.has cell.new.bay) (B.answered cell.new.bay) cell.new.site)) }
+    ensures counts { IfOk result (λ text. (reply : Reply) × IsText reply text.items × IsCounted (IsFault (Ok reply)) (has_armed said.now (Ok reply)) (totals B.D.told B.D.faults B.D.arms (B.disk_faults cell.old.bay) (B.disk_arms cell.old.bay) cell.old.site) (totals B.D.told B.D.faults B.D.arms (B.disk_faults cell.new.bay) (B.disk_arms cell.new.bay) cell.new.site)
+        × ((plain : Recorded) → Shows B.D.told plain (moment (B.out cell.old.bay) (B.has cell.old.bay) (B.answered cell.old.bay) cell.old.site) → (a : Answered B.D.told plain said.now text.items (moment (B.out cell.old.bay) (B.has cell.old.bay) (B.answered cell.old.bay) cell.old.site) (moment (B.out cell.new.bay) (B.has cell.new.bay) (B.answered cell.new.bay) cell.new.site)) × (a.reply ≡ reply))) }
     ensures stopped { IfErr result StopsWithin }
     ensures posted { cell.new.site.net.posted ≤ cell.old.site.net.posted + 1 }
     ensures later { B.faults cell.old.bay ≤ B.faults cell.new.bay }
@@ -111,8 +116,10 @@ impl<B: Bay> Machine for CellMachine<B> {
     ghost use Rattle.coda_main.specs.Lines.{IsBadLine};
     ghost use Rattle.coda_main.specs.Later.{MachineGives};
     ghost use Rattle.coda_main.specs.Shows.{MayRun};
+    ghost use Rattle.coda_main.specs.Counting.{CountsLine};
+    ghost use Rattle.coda_site.specs.Totals.{totals};
 
-    ghost gives = { λ old line text outside new. MachineGives B.D.told (moment (B.out old.cell.bay) (B.has old.cell.bay) (B.answered old.cell.bay) old.cell.site) line text outside (moment (B.out new.cell.bay) (B.has new.cell.bay) (B.answered new.cell.bay) new.cell.site) };
+    ghost gives = { λ old line text outside new. MachineGives B.D.told (moment (B.out old.cell.bay) (B.has old.cell.bay) (B.answered old.cell.bay) old.cell.site) line text outside (moment (B.out new.cell.bay) (B.has new.cell.bay) (B.answered new.cell.bay) new.cell.site) × CountsLine B.D.told (moment (B.out old.cell.bay) (B.has old.cell.bay) (B.answered old.cell.bay) old.cell.site) (totals B.D.told B.D.faults B.D.arms (B.disk_faults old.cell.bay) (B.disk_arms old.cell.bay) old.cell.site) line text outside (moment (B.out new.cell.bay) (B.has new.cell.bay) (B.answered new.cell.bay) new.cell.site) (totals B.D.told B.D.faults B.D.arms (B.disk_faults new.cell.bay) (B.disk_arms new.cell.bay) new.cell.site) };
 
     ghost refuses = { λ machine line column kind. IsBadLine line column kind };
 

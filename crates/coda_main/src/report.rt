@@ -8,9 +8,8 @@ ghost use Rattle.coda_stored.specs.Kept.{IsStoredKept};
 ghost use Rattle.coda_stored.specs.Lines.{client_down, replica_down};
 ghost use Rattle.coda_site.specs.Sites.{IsSite};
 ghost use Rattle.coda_runs.specs.Shows.{CanShow};
+ghost use Rattle.coda_main.specs.Tallies.{IsText};
 ghost use Rattle.coda_runs.specs.Texts.{shown_volume, shown_log, text_of};
-ghost use Rattle.coda_main.specs.Later.{ShowsNothing};
-ghost use Rattle.coda_report.specs.Texts.{reply_text};
 
 use coda_cml::Log;
 use coda_disk::Bay;
@@ -60,9 +59,9 @@ fn log_shown<B: Bay>(
 
 /// The text of a reply in the cell that the line left.
 pub fn text_of<B: Bay>(alloc: Global, cell: &Cell<B>, reply: &Reply) -> Result<Bytes, AllocError>
-    ensures shown { IfOk result (λ text. (stored : StoredCell) → IsStoredKept stored → IsSite B.D.told (B.out cell.now.bay) (B.has cell.now.bay) stored cell.now.site
+    ensures said { IfOk result (λ text. IsText reply.now text) }
+    ensures printed { IfOk result (λ text. (stored : StoredCell) → IsStoredKept stored → IsSite B.D.told (B.out cell.now.bay) (B.has cell.now.bay) stored cell.now.site
         → CanShow stored reply.now → text ≡ text_of (state_of stored.made) reply.now) }
-    ensures other { IfOk result (λ text. ShowsNothing reply.now → text ≡ reply_text reply.now) }
 {
     match reply {
         Reply::ShowVolume { server, volume } => volume_shown(alloc, cell, *server, *volume),

@@ -8,6 +8,7 @@ ghost use Rattle.coda_stored.specs.Resuming.{Awaited, MakeAllAgain};
 ghost use Rattle.coda_site.specs.Cells.{AreBlank, AreOnDisks};
 ghost use Rattle.coda_main.specs.Later.{IsReportOfLaterRun};
 ghost use Rattle.coda_main.specs.Reported.{IsReportOfLines, IsReportOfRun};
+ghost use Rattle.coda_main.specs.Tallies.{IsReportOfDisks};
 ghost use Rattle.coda_main.specs.Words.{IsRun};
 
 use crate::lent::LentBay;
@@ -27,10 +28,11 @@ fn run_and_close<S: Source, K: Sink, B: Bay + Drop>(
     bay: B,
 ) -> (Status, B)
     requires { (number : ℕ) → B.out bay number ≡ false }
-    ensures report { AreBlank (B.has bay) → IsReportOfRun B.D.told (B.has result.1) (B.answered bay) (B.answered result.1) (S.left source.old) (S.left source.new) (K.held sink.old) (K.held sink.new) result.0 }
+    ensures report { AreBlank (B.has bay) → IsReportOfRun B.D.told (B.has result.1) (B.answered bay) (B.answered result.1) (B.disk_faults bay) (B.disk_faults result.1) (B.disk_arms bay) (B.disk_arms result.1) (S.left source.old) (S.left source.new) (K.held sink.old) (K.held sink.new) result.0 }
     ensures later { (past : StoredCell) (lines : List Awaited) → IsStoredKept past → MakeAllAgain past lines → AreOnDisks B.D.told (B.has bay) past
         → IsReportOfLaterRun B.D.told (B.has result.1) (B.answered bay) (B.answered result.1) (S.left source.old) (S.left source.new) (K.held sink.old) (K.held sink.new) result.0 past lines }
     ensures lines { IsReportOfLines (S.left source.old) (S.left source.new) (K.held sink.old) (K.held sink.new) result.0 }
+    ensures disks { IsReportOfDisks (B.disk_faults bay) (B.disk_faults result.1) (B.disk_arms bay) (B.disk_arms result.1) (S.left source.old) (S.left source.new) (K.held sink.old) (K.held sink.new) result.0 }
     ensures given_back { result.0 ≢ Status.Memory → result.0 ≢ Status.BayFault → (number : ℕ) → B.out result.1 number ≡ false }
     ensures source_fault { result.0 ≡ Status.SourceFault → Rose (S.faults source.old) (S.faults source.new) }
     ensures sink_fault { result.0 ≡ Status.SinkFault → Rose (K.faults sink.old) (K.faults sink.new) }
@@ -55,10 +57,11 @@ fn run_lent<'a, S: Source, K: Sink, B: Bay>(
     lent: LentBay<'a, B>,
 ) -> (Status, LentBay<'a, B>)
     requires { (number : ℕ) → B.out lent.bay.now number ≡ false }
-    ensures report { AreBlank (B.has lent.entry.bay.now) → IsReportOfRun B.D.told (B.has result.1.bay.now) (B.answered lent.entry.bay.now) (B.answered result.1.bay.now) (S.left source.old) (S.left source.new) (K.held sink.old) (K.held sink.new) result.0 }
+    ensures report { AreBlank (B.has lent.entry.bay.now) → IsReportOfRun B.D.told (B.has result.1.bay.now) (B.answered lent.entry.bay.now) (B.answered result.1.bay.now) (B.disk_faults lent.entry.bay.now) (B.disk_faults result.1.bay.now) (B.disk_arms lent.entry.bay.now) (B.disk_arms result.1.bay.now) (S.left source.old) (S.left source.new) (K.held sink.old) (K.held sink.new) result.0 }
     ensures later { (past : StoredCell) (lines : List Awaited) → IsStoredKept past → MakeAllAgain past lines → AreOnDisks B.D.told (B.has lent.entry.bay.now) past
         → IsReportOfLaterRun B.D.told (B.has result.1.bay.now) (B.answered lent.entry.bay.now) (B.answered result.1.bay.now) (S.left source.old) (S.left source.new) (K.held sink.old) (K.held sink.new) result.0 past lines }
     ensures lines { IsReportOfLines (S.left source.old) (S.left source.new) (K.held sink.old) (K.held sink.new) result.0 }
+    ensures disks { IsReportOfDisks (B.disk_faults lent.entry.bay.now) (B.disk_faults result.1.bay.now) (B.disk_arms lent.entry.bay.now) (B.disk_arms result.1.bay.now) (S.left source.old) (S.left source.new) (K.held sink.old) (K.held sink.new) result.0 }
     ensures given_back { result.0 ≢ Status.Memory → result.0 ≢ Status.BayFault → (number : ℕ) → B.out result.1.bay.now number ≡ false }
     ensures source_fault { result.0 ≡ Status.SourceFault → Rose (S.faults source.old) (S.faults source.new) }
     ensures sink_fault { result.0 ≡ Status.SinkFault → Rose (K.faults sink.old) (K.faults sink.new) }
@@ -92,10 +95,11 @@ pub fn run_script<S: Source, K: Sink, B: Bay>(
     bay: &mut B,
 ) -> Status
     requires { (number : ℕ) → B.out bay.old number ≡ false }
-    ensures report { AreBlank (B.has bay.old) → IsReportOfRun B.D.told (B.has bay.new) (B.answered bay.old) (B.answered bay.new) (S.left source.old) (S.left source.new) (K.held sink.old) (K.held sink.new) result }
+    ensures report { AreBlank (B.has bay.old) → IsReportOfRun B.D.told (B.has bay.new) (B.answered bay.old) (B.answered bay.new) (B.disk_faults bay.old) (B.disk_faults bay.new) (B.disk_arms bay.old) (B.disk_arms bay.new) (S.left source.old) (S.left source.new) (K.held sink.old) (K.held sink.new) result }
     ensures later { (past : StoredCell) (lines : List Awaited) → IsStoredKept past → MakeAllAgain past lines → AreOnDisks B.D.told (B.has bay.old) past
         → IsReportOfLaterRun B.D.told (B.has bay.new) (B.answered bay.old) (B.answered bay.new) (S.left source.old) (S.left source.new) (K.held sink.old) (K.held sink.new) result past lines }
     ensures lines { IsReportOfLines (S.left source.old) (S.left source.new) (K.held sink.old) (K.held sink.new) result }
+    ensures disks { IsReportOfDisks (B.disk_faults bay.old) (B.disk_faults bay.new) (B.disk_arms bay.old) (B.disk_arms bay.new) (S.left source.old) (S.left source.new) (K.held sink.old) (K.held sink.new) result }
     ensures given_back { result ≢ Status.Memory → result ≢ Status.BayFault → (number : ℕ) → B.out bay.new number ≡ false }
     ensures source_fault { result ≡ Status.SourceFault → Rose (S.faults source.old) (S.faults source.new) }
     ensures sink_fault { result ≡ Status.SinkFault → Rose (K.faults sink.old) (K.faults sink.new) }
@@ -123,10 +127,11 @@ pub fn coda<S: Source, K: Sink, B: Bay>(
     ensures usage { (result ≡ Status.Usage) ↔ ¬ IsRun (map string_bytes words.now) }
     ensures unused { result ≡ Status.Usage → (source.new ≡ source.old) × (sink.new ≡ sink.old) × (bay.new ≡ bay.old) }
     ensures report { IsRun (map string_bytes words.now) → AreBlank (B.has bay.old)
-        → IsReportOfRun B.D.told (B.has bay.new) (B.answered bay.old) (B.answered bay.new) (S.left source.old) (S.left source.new) (K.held sink.old) (K.held sink.new) result }
+        → IsReportOfRun B.D.told (B.has bay.new) (B.answered bay.old) (B.answered bay.new) (B.disk_faults bay.old) (B.disk_faults bay.new) (B.disk_arms bay.old) (B.disk_arms bay.new) (S.left source.old) (S.left source.new) (K.held sink.old) (K.held sink.new) result }
     ensures later { IsRun (map string_bytes words.now) → (past : StoredCell) (lines : List Awaited) → IsStoredKept past → MakeAllAgain past lines → AreOnDisks B.D.told (B.has bay.old) past
         → IsReportOfLaterRun B.D.told (B.has bay.new) (B.answered bay.old) (B.answered bay.new) (S.left source.old) (S.left source.new) (K.held sink.old) (K.held sink.new) result past lines }
     ensures lines { IsRun (map string_bytes words.now) → IsReportOfLines (S.left source.old) (S.left source.new) (K.held sink.old) (K.held sink.new) result }
+    ensures disks { IsRun (map string_bytes words.now) → IsReportOfDisks (B.disk_faults bay.old) (B.disk_faults bay.new) (B.disk_arms bay.old) (B.disk_arms bay.new) (S.left source.old) (S.left source.new) (K.held sink.old) (K.held sink.new) result }
     ensures given_back { result ≢ Status.Memory → result ≢ Status.BayFault → (number : ℕ) → B.out bay.new number ≡ false }
     ensures source_fault { result ≡ Status.SourceFault → Rose (S.faults source.old) (S.faults source.new) }
     ensures sink_fault { result ≡ Status.SinkFault → Rose (K.faults sink.old) (K.faults sink.new) }

@@ -1,6 +1,7 @@
-use Rattle.std.proofs.Common.{◌≡◌, rules, ◌∙◌}
+use Rattle.std.proofs.Common.{◌≡◌, rules, ◌∙◌, subst, sym}
+use Rattle.coda_main.specs.Tallies.{IsText}
 use Rattle.coda_main.specs.Shows.{moment}
-use Rattle.coda_main.proofs.Answering.{line_answered}
+use Rattle.coda_main.proofs.Answering.{line_replied}
 use Rattle.coda_main.proofs.Resuming.{line_answered_again}
 use Rattle.coda_main.proofs.machine.answer.Goals as goal
 
@@ -11,7 +12,21 @@ returns-in-Ok-text_of-clause-answered g c =
     let before = moment (g.B.Bay.out old.bay) (g.B.Bay.has old.bay) (g.B.Bay.answered old.bay) old.site in
     let behind = moment (g.B.Bay.out new.bay) (g.B.Bay.has new.bay) (g.B.Bay.answered new.bay) new.site in
     let same : c.into_vec.result.items ≡ c.in-Ok-text_of.text = search rules in
-    line_answered g.B.D.Disk.told before behind c.args.said.now c.in-Ok.reply c.into_vec.result.items c.requires.range c.in-Ok.ensures.does (λ stored kept stands can. same ∙ c.in-Ok-text_of.ensures.shown stored kept stands can)
+    λ plain shows. (line_replied g.B.D.Disk.told before behind c.args.said.now c.in-Ok.reply c.into_vec.result.items c.requires.range c.in-Ok.ensures.does (λ stored kept stands can. same ∙ c.in-Ok-text_of.ensures.printed stored kept stands can) plain shows).0
+
+pub returns-in-Ok-text_of-clause-counts : goal.returns-in-Ok-text_of-clause-counts
+returns-in-Ok-text_of-clause-counts g c =
+    let old = c.args.cell.now in
+    let new = c.step.new.self in
+    let before = moment (g.B.Bay.out old.bay) (g.B.Bay.has old.bay) (g.B.Bay.answered old.bay) old.site in
+    let behind = moment (g.B.Bay.out new.bay) (g.B.Bay.has new.bay) (g.B.Bay.answered new.bay) new.site in
+    let same : c.into_vec.result.items ≡ c.in-Ok-text_of.text = search rules in
+    (
+      c.in-Ok.reply,
+      subst (IsText c.in-Ok.reply) (sym same) c.in-Ok-text_of.ensures.said,
+      c.in-Ok.ensures.counts,
+      line_replied g.B.D.Disk.told before behind c.args.said.now c.in-Ok.reply c.into_vec.result.items c.requires.range c.in-Ok.ensures.does (λ stored kept stands can. same ∙ c.in-Ok-text_of.ensures.printed stored kept stands can),
+    )
 
 pub returns-in-Ok-text_of-clause-again : goal.returns-in-Ok-text_of-clause-again
 returns-in-Ok-text_of-clause-again g c = λ stored next left images awaited shows.
@@ -21,4 +36,4 @@ returns-in-Ok-text_of-clause-again g c = λ stored next left images awaited show
     let behind = moment (g.B.Bay.out new.bay) (g.B.Bay.has new.bay) (g.B.Bay.answered new.bay) new.site in
     let same : c.into_vec.result.items ≡ c.in-Ok-text_of.text = search rules in
     line_answered_again g.B.D.Disk.told before behind stored next left images c.in-Ok.reply c.into_vec.result.items shows (c.in-Ok.ensures.again stored next left awaited shows.kept shows.awaited shows.stands)
-    (λ told. same ∙ c.in-Ok-text_of.ensures.other told)
+    (subst (IsText c.in-Ok.reply) (sym same) c.in-Ok-text_of.ensures.said)

@@ -12,8 +12,8 @@ of_value : {A E : Type 0} (P Q : A → Type 0) (r : Result A E) → IfOk r P →
 of_value P Q (Ok x) is then_ = then_ x is
 of_value P Q (Err e) is then_ = tt
 
-pub returns-in-ShowLog-clause-shown : goal.returns-in-ShowLog-clause-shown
-returns-in-ShowLog-clause-shown g c =
+pub returns-in-ShowLog-clause-printed : goal.returns-in-ShowLog-clause-printed
+returns-in-ShowLog-clause-printed g c =
     let is : c.args.reply.now ≡ ShowLog c.in-ShowLog.client c.in-ShowLog.volume = search rules in
     of_value _ _ c.log_shown.result c.log_shown.ensures (λ text said stored kept stands can.
     let Fits = λ (reply : Reply). CanShow stored reply → text ≡ text_of (state_of stored.made) reply in

@@ -2,7 +2,9 @@ use Rattle.std.proofs.Common.{sym, ap, subst}
 use Rattle.coda_stored.specs.Resuming.{at_rest}
 use Rattle.coda_stored.proofs.Resuming.{cells_are_resumed}
 use Rattle.coda_site.specs.Cells.{AreBlank, AreOnDisks}
+use Rattle.coda_site.specs.Totals.{totals}
 use Rattle.coda_main.specs.Shows.{moment}
+use Rattle.coda_main.proofs.Tallying.{reported_disks}
 use Rattle.coda_main.proofs.Reporting.{goes_on, reported, reported_later, reported_lines}
 use Rattle.coda_main.proofs.Resuming.{waits_first}
 use Rattle.coda_main.proofs.top.run_and_close.Goals as goal
@@ -11,19 +13,26 @@ pub returns-clause-report : goal.returns-clause-report
 returns-clause-report g c = λ blank.
     let start = c.new.ensures in
     let report = c.run-status.ensures.report in
-    reported c.run-status.new.machine (record { cell = c.new.result }) g.B.D.Disk.told (λ m. moment (g.B.Bay.out m.cell.bay) (g.B.Bay.has m.cell.bay) (g.B.Bay.answered m.cell.bay) m.cell.site) _ _ _ _ report.0 c.run-status.result report.1
-    (g.B.Bay.has c.close.result) (g.B.Bay.answered c.args.bay) (g.B.Bay.answered c.close.result) start.ready (start.stands (subst (λ bay. AreBlank (g.B.Bay.has bay)) (sym start.bay) blank))
-    (ap g.B.Bay.answered start.bay) c.close.ensures.answered (λ ready cell stands. c.close.ensures.stands cell ready stands)
+    reported c.run-status.new.machine (record { cell = c.new.result }) g.B.D.Disk.told (λ m. moment (g.B.Bay.out m.cell.bay) (g.B.Bay.has m.cell.bay) (g.B.Bay.answered m.cell.bay) m.cell.site) (λ m. totals g.B.D.Disk.told g.B.D.Disk.faults g.B.D.Disk.arms (g.B.Bay.disk_faults m.cell.bay) (g.B.Bay.disk_arms m.cell.bay) m.cell.site) _ _ _ _ report.0 c.run-status.result report.1
+    (g.B.Bay.has c.close.result) (g.B.Bay.answered c.args.bay) (g.B.Bay.answered c.close.result) (g.B.Bay.disk_faults c.args.bay) (g.B.Bay.disk_faults c.close.result) (g.B.Bay.disk_arms c.args.bay) (g.B.Bay.disk_arms c.close.result) start.ready (start.stands (subst (λ bay. AreBlank (g.B.Bay.has bay)) (sym start.bay) blank))
+    (ap g.B.Bay.answered start.bay) c.close.ensures.answered (λ ready cell stands. c.close.ensures.stands cell ready stands) (ap (λ t. t.faults) start.counts) (ap (λ t. t.arms) start.counts) c.close.ensures.faults_out c.close.ensures.arms_out
 
 pub returns-clause-given_back : goal.returns-clause-given_back
 returns-clause-given_back g c = λ memory bay number.
     let report = c.run-status.ensures.report in
-    c.close.ensures.out (goes_on c.run-status.new.machine (record { cell = c.new.result }) g.B.D.Disk.told (λ m. moment (g.B.Bay.out m.cell.bay) (g.B.Bay.has m.cell.bay) (g.B.Bay.answered m.cell.bay) m.cell.site) _ _ _ _ report.0 c.run-status.result report.1 c.new.ensures.ready memory bay) number
+    c.close.ensures.out (goes_on c.run-status.new.machine (record { cell = c.new.result }) g.B.D.Disk.told (λ m. moment (g.B.Bay.out m.cell.bay) (g.B.Bay.has m.cell.bay) (g.B.Bay.answered m.cell.bay) m.cell.site) (λ m. totals g.B.D.Disk.told g.B.D.Disk.faults g.B.D.Disk.arms (g.B.Bay.disk_faults m.cell.bay) (g.B.Bay.disk_arms m.cell.bay) m.cell.site) _ _ _ _ report.0 c.run-status.result report.1 c.new.ensures.ready memory bay) number
 
 pub returns-clause-lines : goal.returns-clause-lines
 returns-clause-lines g c =
     let report = c.run-status.ensures.report in
-    reported_lines c.run-status.new.machine (record { cell = c.new.result }) g.B.D.Disk.told (λ m. moment (g.B.Bay.out m.cell.bay) (g.B.Bay.has m.cell.bay) (g.B.Bay.answered m.cell.bay) m.cell.site) _ _ _ _ report.0 c.run-status.result report.1
+    reported_lines c.run-status.new.machine (record { cell = c.new.result }) g.B.D.Disk.told (λ m. moment (g.B.Bay.out m.cell.bay) (g.B.Bay.has m.cell.bay) (g.B.Bay.answered m.cell.bay) m.cell.site) (λ m. totals g.B.D.Disk.told g.B.D.Disk.faults g.B.D.Disk.arms (g.B.Bay.disk_faults m.cell.bay) (g.B.Bay.disk_arms m.cell.bay) m.cell.site) _ _ _ _ report.0 c.run-status.result report.1
+
+pub returns-clause-disks : goal.returns-clause-disks
+returns-clause-disks g c =
+    let report = c.run-status.ensures.report in
+    reported_disks g.B.D.Disk.told (λ m. moment (g.B.Bay.out m.cell.bay) (g.B.Bay.has m.cell.bay) (g.B.Bay.answered m.cell.bay) m.cell.site)
+    (λ m. totals g.B.D.Disk.told g.B.D.Disk.faults g.B.D.Disk.arms (g.B.Bay.disk_faults m.cell.bay) (g.B.Bay.disk_arms m.cell.bay) m.cell.site) c.run-status.new.machine (record { cell = c.new.result }) _ _ _ _ report.0 c.run-status.result report.1
+    (g.B.Bay.disk_faults c.args.bay) (g.B.Bay.disk_faults c.close.result) (g.B.Bay.disk_arms c.args.bay) (g.B.Bay.disk_arms c.close.result) (ap (λ t. t.faults) c.new.ensures.counts) (ap (λ t. t.arms) c.new.ensures.counts) c.close.ensures.faults_out c.close.ensures.arms_out
 
 pub returns-clause-later : goal.returns-clause-later
 returns-clause-later g c = λ past lines kept all disks.
@@ -32,7 +41,7 @@ returns-clause-later g c = λ past lines kept all disks.
     let told = g.B.D.Disk.told in
     let now = moment (g.B.Bay.out c.new.result.bay) (g.B.Bay.has c.new.result.bay) (g.B.Bay.answered c.new.result.bay) c.new.result.site in
     let waits = start.waits past lines kept all (subst (λ bay. AreOnDisks told (g.B.Bay.has bay) past) (sym start.bay) disks) in
-    reported_later c.run-status.new.machine (record { cell = c.new.result }) told (λ m. moment (g.B.Bay.out m.cell.bay) (g.B.Bay.has m.cell.bay) (g.B.Bay.answered m.cell.bay) m.cell.site) _ _ _ _ report.0 c.run-status.result report.1
+    reported_later c.run-status.new.machine (record { cell = c.new.result }) told (λ m. moment (g.B.Bay.out m.cell.bay) (g.B.Bay.has m.cell.bay) (g.B.Bay.answered m.cell.bay) m.cell.site) (λ m. totals g.B.D.Disk.told g.B.D.Disk.faults g.B.D.Disk.arms (g.B.Bay.disk_faults m.cell.bay) (g.B.Bay.disk_arms m.cell.bay) m.cell.site) _ _ _ _ report.0 c.run-status.result report.1
     (g.B.Bay.has c.close.result) (g.B.Bay.answered c.args.bay) (g.B.Bay.answered c.close.result) past lines kept all start.ready
     (waits_first told (at_rest past) lines (g.B.Bay.answered c.args.bay) now (cells_are_resumed.rests past kept) all.each start.empty.0 start.empty.1 waits (ap g.B.Bay.answered start.bay))
     c.close.ensures.answered (λ ready cell stands. c.close.ensures.stands cell ready stands)

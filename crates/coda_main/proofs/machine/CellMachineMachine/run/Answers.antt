@@ -1,16 +1,17 @@
-use Rattle.std.proofs.Common.{rules, ◌≡◌, true, [], Result, Ok, Err}
+use Rattle.std.proofs.Common.{inl, refl, rules, ◌≡◌, true, [], Result, Ok, Err}
 use Rattle.std.specs.Prelude.{IfOk, OnOk, Some, None}
 use Rattle.coda_script.specs.Lines.{line_of}
 use Rattle.coda_stored.specs.Lines.{is_built}
 use Rattle.coda_main.specs.Shows.{moment, answered_since}
-use Rattle.coda_main.proofs.Answering.{line_gives, silent_gives}
+use Rattle.coda_site.specs.Totals.{totals}
+use Rattle.coda_main.proofs.Answering.{line_gives, line_counts, silent_gives}
 use Rattle.coda_main.proofs.Resuming.{line_resumes, silent_resumes}
 use Rattle.coda_main.proofs.machine.CellMachineMachine.run.Goals as goal
 
 -- what holds of a value where there is one, and what holds then
-of_both : {A E : Type 0} (P R Q : A → Type 0) (X : Type 0) (r : Result A E) → IfOk r P → IfOk r R → OnOk r X → ((x : A) → P x → R x → X → Q x) → IfOk r Q
-of_both P R Q X (Ok x) is also on then_ = then_ x is also on
-of_both P R Q X (Err e) is also on then_ = tt
+of_value : {A E : Type 0} (P R S Q : A → Type 0) (X : Type 0) (r : Result A E) → IfOk r P → IfOk r R → IfOk r S → OnOk r X → ((x : A) → P x → R x → S x → X → Q x) → IfOk r Q
+of_value P R S Q X (Ok x) is also more on then_ = then_ x is also more on
+of_value P R S Q X (Err e) is also more on then_ = tt
 
 pub returns-in-Ok-Some-clause-ok : goal.returns-in-Ok-Some-clause-ok
 returns-in-Ok-Some-clause-ok g c =
@@ -18,11 +19,14 @@ returns-in-Ok-Some-clause-ok g c =
     let new = c.answer-text.new.cell in
     let before = moment (g.B.Bay.out old.bay) (g.B.Bay.has old.bay) (g.B.Bay.answered old.bay) old.site in
     let behind = moment (g.B.Bay.out new.bay) (g.B.Bay.has new.bay) (g.B.Bay.answered new.bay) new.site in
+    let old_counts = totals g.B.D.Disk.told g.B.D.Disk.faults g.B.D.Disk.arms (g.B.Bay.disk_faults old.bay) (g.B.Bay.disk_arms old.bay) old.site in
+    let new_counts = totals g.B.D.Disk.told g.B.D.Disk.faults g.B.D.Disk.arms (g.B.Bay.disk_faults new.bay) (g.B.Bay.disk_arms new.bay) new.site in
     let spelled : line_of c.args.line.now ≡ Ok (Some c.in-Ok-Some.said) = search rules in
     let built : is_built c.in-Ok-Some.said ≡ true = search rules in
-    of_both _ _ _ _ c.answer-text.result c.answer-text.ensures.answered c.answer-text.ensures.again c.answer-text.ensures.goes_on (λ text answers again goes_on. (
+    of_value _ _ _ _ _ c.answer-text.result c.answer-text.ensures.answered c.answer-text.ensures.counts c.answer-text.ensures.again c.answer-text.ensures.goes_on (λ text answers counts again goes_on. (
       answered_since before behind,
-      line_resumes g.B.D.Disk.told before behind c.args.line.now text.items c.in-Ok-Some.said spelled (line_gives g.B.D.Disk.told before behind c.args.line.now text.items c.in-Ok-Some.said spelled built goes_on answers) again,
+      (line_resumes g.B.D.Disk.told before behind c.args.line.now text.items c.in-Ok-Some.said spelled (line_gives g.B.D.Disk.told before behind c.args.line.now text.items c.in-Ok-Some.said spelled built goes_on answers) again,
+      line_counts g.B.D.Disk.told before behind old_counts new_counts c.args.line.now text.items c.in-Ok-Some.said counts.0 spelled built counts.1 counts.2 counts.3),
     ))
 
 pub returns-in-Ok-None-clause-ok : goal.returns-in-Ok-None-clause-ok
@@ -30,4 +34,4 @@ returns-in-Ok-None-clause-ok g c =
     let old = c.args.self.now.cell in
     let before = moment (g.B.Bay.out old.bay) (g.B.Bay.has old.bay) (g.B.Bay.answered old.bay) old.site in
     let silent : line_of c.args.line.now ≡ Ok None = search rules in
-    ([], silent_resumes g.B.D.Disk.told before c.args.line.now c.new.result.items silent c.new.ensures.items (silent_gives g.B.D.Disk.told before c.args.line.now c.new.result.items silent c.new.ensures.items))
+    ([], (silent_resumes g.B.D.Disk.told before c.args.line.now c.new.result.items silent c.new.ensures.items (silent_gives g.B.D.Disk.told before c.args.line.now c.new.result.items silent c.new.ensures.items), inl (silent, c.new.ensures.items, refl, refl, λ plain shows. shows)))

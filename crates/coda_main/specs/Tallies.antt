@@ -1,0 +1,88 @@
+-- What the lines of a script tell of the disks of its cell, whatever these hold.
+use Rattle.std.specs.Prelude.{◌≡◌, ◌≢◌, ◌≤◌, ◌+◌, ◌⊎◌, ℕ, Bool, true, false, if◌then◌else◌, List, [], Option, Some, None, Ok}
+use Rattle.coda_disk.specs.Bays.{plus}
+use Rattle.coda_engine.specs.Run.{Reports}
+use Rattle.coda_engine.specs.declared.status.Kind.{Kind}
+use Rattle.coda_engine.specs.declared.status.Status.{Status}
+use Rattle.coda_engine.specs.declared.status.Status.TheVariants.{BayFault, Memory}
+use Rattle.coda_report.specs.Texts.{reply_text}
+use Rattle.coda_script.specs.Lines.{line_of}
+use Rattle.coda_script.specs.declared.line.Line.{Line}
+use Rattle.coda_script.specs.declared.refusal.Refusal.TheVariants.{DiskFault}
+use Rattle.coda_script.specs.declared.reply.Reply.{Reply}
+use Rattle.coda_script.specs.declared.reply.Reply.TheVariants.{Refused, ShowVolume, ShowLog}
+use Rattle.coda_stored.specs.Lines.{is_built}
+use Rattle.coda_site.specs.Totals.{has_armed}
+use Rattle.coda_stored.specs.Cells.{StoredCell}
+use Rattle.coda_runs.specs.Runs.{Replies, LineRefused}
+use Rattle.coda_main.specs.Lines.{IsBadLine}
+
+-- ---- lines and replies
+
+-- the text is that of the reply, where it shows no volume and no log
+abbrev pub IsText : Reply → List ℕ → Type 0
+IsText (ShowVolume server volume) text = Unit {0}
+IsText (ShowLog client volume) text = Unit {0}
+IsText reply text = text ≡ reply_text reply
+
+-- the reply is that a disk failed
+abbrev pub tells_fault : Reply → Bool
+tells_fault (Refused DiskFault []) = true
+tells_fault _ = false
+
+-- The bytes say a line that is built; its reply has this text.
+pub record IsReplied (bytes text : List ℕ) : Type 0 where
+  pub said : Line
+  pub reply : Reply
+  pub spelled : line_of bytes ≡ Ok (Some said)
+  pub built : is_built said ≡ true
+  pub printed : IsText reply text
+
+-- ---- the tally of a script
+
+-- how many replies were that a disk failed, and how many lines that arm a disk were answered `ok`
+pub record Tally : Type 0 where
+  pub faults : ℕ
+  pub arms : ℕ
+
+abbrev pub no_tally : Tally
+no_tally = record { faults = 0; arms = 0 }
+
+-- the tally with a line and its reply
+abbrev pub tally_with : Line → Reply → Tally → Tally
+tally_with said reply tally = record {
+  faults = if tells_fault reply then tally.faults + 1 else tally.faults;
+  arms = if has_armed said (Ok reply) then tally.arms + 1 else tally.arms;
+}
+
+-- what the lines of a script give and refuse, of which nothing else is known than the bytes, the text and the tally
+abbrev pub TallyGives : Tally → List ℕ → List ℕ → List (List ℕ) → Tally → Type 0
+TallyGives old bytes text outside new = ((line_of bytes ≡ Ok None) × (text ≡ []) × (new ≡ old)) ⊎ ((r : IsReplied bytes text) × (new ≡ tally_with r.said r.reply old))
+
+abbrev pub TallyRefuses : Tally → List ℕ → ℕ → Kind → Type 0
+TallyRefuses old bytes column kind = IsBadLine bytes column kind
+
+-- a cell on disks, and the tally of the lines that ran in it
+pub record TalliedCell : Type 0 where
+  pub cell : StoredCell
+  pub tally : Tally
+
+-- From old, the cell may run this line, with the text of its reply and these answers of the bay, and be new then; and the tally is kept of the line and
+-- of this reply.
+abbrev pub TalliedGives : TalliedCell → List ℕ → List ℕ → List (List ℕ) → TalliedCell → Type 0
+TalliedGives old bytes text outside new =
+    ((line_of bytes ≡ Ok None) × (text ≡ []) × (outside ≡ []) × (new ≡ old))
+    ⊎ ((r : Replies old.cell bytes text outside new.cell) × (new.tally ≡ tally_with r.said r.reply old.tally))
+
+abbrev pub TalliedRefuses : TalliedCell → List ℕ → ℕ → Kind → Type 0
+TalliedRefuses old bytes column kind = LineRefused old.cell bytes column kind
+
+-- What was read and written is the report of a run with this tally. Unless memory was wanting or the bay at fault, the bay's sum of the faults of
+-- disks rose by as many at least as the run has replies that a disk failed, and its sum of `arm` calls by as many as lines that arm a disk were
+-- answered `ok`, each up to the last value of a sum.
+pub record IsReportOfDisks (faults_old faults_new arms_old arms_new : ℕ) (left_old left_new held_old held_new : Option (List ℕ)) (status : Status) : Type 0 where
+  pub tally : Tally
+  pub outside : List (List ℕ)
+  pub reports : Reports TallyGives TallyRefuses no_tally tally left_old left_new held_old held_new outside status
+  pub faults : status ≢ Memory → status ≢ BayFault → plus faults_old tally.faults ≤ faults_new
+  pub arms : status ≢ Memory → status ≢ BayFault → plus arms_new 0 ≡ plus arms_old tally.arms
