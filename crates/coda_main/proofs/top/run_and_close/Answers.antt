@@ -1,4 +1,5 @@
-use Rattle.std.proofs.Common.{sym, ap, subst}
+use Rattle.coda_disk.specs.Bays.{plus}
+use Rattle.std.proofs.Common.{◌≡◌, ◌≤◌, ℕ, arith, sym, ap, subst}
 use Rattle.coda_site.specs.Cells.{AreBlank}
 use Rattle.coda_site.specs.Totals.{totals}
 use Rattle.coda_main.specs.Shows.{moment}
@@ -30,3 +31,11 @@ returns-clause-disks g c =
     reported_disks g.B.D.Disk.told (λ m. moment (g.B.Bay.out m.cell.bay) (g.B.Bay.has m.cell.bay) (g.B.Bay.answered m.cell.bay) m.cell.site)
     (λ m. totals g.B.D.Disk.told g.B.D.Disk.faults g.B.D.Disk.arms (g.B.Bay.disk_faults m.cell.bay) (g.B.Bay.disk_arms m.cell.bay) m.cell.site) c.run-status.new.machine (record { cell = c.new.result }) _ _ _ _ report.0 c.run-status.result report.1
     (g.B.Bay.disk_faults c.args.bay) (g.B.Bay.disk_faults c.close.result) (g.B.Bay.disk_arms c.args.bay) (g.B.Bay.disk_arms c.close.result) (ap (λ t. t.faults) c.new.ensures.counts) (ap (λ t. t.arms) c.new.ensures.counts) c.close.ensures.faults_out c.close.ensures.arms_out
+
+-- a sum that is told by the totals at the start and at the end
+told_later : (old new start end : ℕ) → start ≡ plus old 0 → plus new 0 ≡ end → start ≤ end → plus old 0 ≤ new
+told_later old new start end first last later = omega (arith, first, last, later)
+
+pub returns-clause-disk_faults_later : goal.returns-clause-disk_faults_later
+returns-clause-disk_faults_later g c =
+    told_later (g.B.Bay.disk_faults c.args.bay) (g.B.Bay.disk_faults c.close.result) _ _ (ap (λ t. t.faults) c.new.ensures.counts) c.close.ensures.faults_out c.run-status.ensures.follows.2
