@@ -35,15 +35,17 @@ pub line_replied : {D : Type 0} (told : D → Told) (old new : Moment D) (said :
 line_replied told old new said reply text range does printed plain shows =
     let became = does plain.cell shows.kept shows.stands in
     let same : answered_since old new ≡ became.outside = ap (λ images. drop (length old.answered) images) became.answered ∙ behind old.answered became.outside in
-    let kept = stored_cells_are_kept.lines plain.cell became.left said reply became.outside shows.kept range became.happens in
-    (record {
-      next = record { cell = became.left; answered = new.answered };
-      reply = reply;
-      happens = subst (λ outside. Happens plain.cell said reply outside became.left) (sym same) became.happens;
-      printed = printed became.left kept became.stands (shows_what_is_up plain.cell became.left said reply became.outside shows.kept became.happens);
-      answered = became.answered ∙ ap (λ images. images ++ became.outside) shows.answered ∙ ap (λ outside. plain.answered ++ outside) (sym same);
-      shows = record { kept = kept; stands = became.stands; answered = refl };
-    }, refl)
+    let kept = stored_cells_are_kept.lines plain.cell became.left said reply became.outside shows.kept range became.happens in (
+      record {
+        next = record { cell = became.left; answered = new.answered };
+        reply = reply;
+        happens = subst (λ outside. Happens plain.cell said reply outside became.left) (sym same) became.happens;
+        printed = printed became.left kept became.stands (shows_what_is_up plain.cell became.left said reply became.outside shows.kept became.happens);
+        answered = became.answered ∙ ap (λ images. images ++ became.outside) shows.answered ∙ ap (λ outside. plain.answered ++ outside) (sym same);
+        shows = record { kept = kept; stands = became.stands; answered = refl };
+      },
+      refl,
+    )
 
 -- a line that is built
 pub line_gives : {D : Type 0} (told : D → Told) (old new : Moment D) (bytes text : List ℕ) (said : Line) → line_of bytes ≡ Ok (Some said) → is_built said ≡ true → MayGoOn told new

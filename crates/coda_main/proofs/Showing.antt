@@ -1,21 +1,14 @@
--- The cell of the code shows cells on disks, and goes on.
+-- The cell of the code goes on, and the lines that it ran are good.
 use Rattle.coda_disk.specs.Told.{Told}
 use Rattle.coda_engine.proofs.Simulation.{Simulates}
 use Rattle.coda_runs.specs.Later.{Later, LaterGives}
-use Rattle.coda_runs.specs.Shows.{Recorded, RecordGives, RecordRefuses}
 use Rattle.coda_main.specs.Lines.{IsBadLine, AnyGives, AnyRefuses}
 use Rattle.coda_site.specs.Totals.{Counts}
 use Rattle.coda_main.specs.Later.{ShowsLater, LaterRefuses, MachineGives}
-use Rattle.coda_main.specs.Shows.{Moment, Shows, MayGoOn}
+use Rattle.coda_main.specs.Shows.{Moment, MayGoOn}
 use Rattle.coda_main.specs.Counting.{CountsLine}
 
 module _ {D M : Type 0} (told : D → Told) (at : M → Moment D) (counts : M → Counts) where
-  pub cells_shown : Simulates (λ (plain : Recorded) (m : M). Shows told plain (at m)) RecordGives RecordRefuses (λ old line text outside new. MachineGives told (at old) line text outside (at new) × CountsLine told (at old) (counts old) line text outside (at new) (counts new)) (λ m line column kind. IsBadLine line column kind)
-  cells_shown = record {
-    step = λ p m m' line text outside shows ran. ran.0.ran.gives p shows;
-    refusal = λ p m line column kind shows refuses. refuses;
-  }
-
   pub cells_go_on : Simulates (λ (p : Unit {0}) (m : M). MayGoOn told (at m)) (λ p line text outside p'. Unit {0}) (λ p line column kind. Unit {0}) (λ old line text outside new. MachineGives told (at old) line text outside (at new) × CountsLine told (at old) (counts old) line text outside (at new) (counts new)) (λ m line column kind. IsBadLine line column kind)
   cells_go_on = record {
     step = λ p m m' line text outside goes_on ran. (p, tt, ran.0.ran.goes_on goes_on);

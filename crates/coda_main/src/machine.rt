@@ -9,7 +9,7 @@ ghost use Rattle.coda_stored.specs.Cells.{StoredCell};
 ghost use Rattle.coda_stored.specs.Resuming.{Awaited, is_awaited};
 ghost use Rattle.coda_main.specs.Later.{ShowsWaiting, AnsweredAgain};
 ghost use Rattle.coda_script.specs.declared.reply.Reply.{Reply};
-ghost use Rattle.coda_site.specs.Totals.{IsCounted, IsFault, has_armed, totals};
+ghost use Rattle.coda_site.specs.Totals.{IsCounted, IsFault, has_armed, total, totals};
 ghost use Rattle.coda_main.specs.Tallies.{IsText};
 ghost use Rattle.coda_main.specs.Shows.{moment, Shows, MayGoOn, MayClose, Answered, StopsSo, StopsWithin, stop_at};
 
@@ -100,6 +100,7 @@ fn answer<B: Bay>(alloc: Global, cell: &mut Cell<B>, said: &Line) -> Result<Vec<
     ensures later { B.faults cell.old.bay ≤ B.faults cell.new.bay }
     ensures bay_cause { result ≡ Err LineStop.Bay → Rose (B.faults cell.old.bay) (B.faults cell.new.bay) }
     ensures follows { B.follows cell.old.bay cell.new.bay }
+    ensures faults_later { total B.D.told B.D.faults (B.disk_faults cell.old.bay) cell.old.site ≤ total B.D.told B.D.faults (B.disk_faults cell.new.bay) cell.new.site }
 {
     let reply = match cell.step(said) {
         Ok(reply) => reply,
@@ -117,7 +118,8 @@ impl<B: Bay> Machine for CellMachine<B> {
     ghost use Rattle.coda_main.specs.Later.{MachineGives};
     ghost use Rattle.coda_main.specs.Shows.{MayRun};
     ghost use Rattle.coda_main.specs.Counting.{CountsLine};
-    ghost use Rattle.coda_site.specs.Totals.{totals};
+    ghost use Rattle.coda_site.specs.Totals.{total, totals};
+    ghost use Rattle.std.proofs.Math.Nat.{le_refl, le_trans};
 
     ghost gives = { λ old line text outside new. MachineGives B.D.told (moment (B.out old.cell.bay) (B.has old.cell.bay) (B.answered old.cell.bay) old.cell.site) line text outside (moment (B.out new.cell.bay) (B.has new.cell.bay) (B.answered new.cell.bay) new.cell.site) × CountsLine B.D.told (moment (B.out old.cell.bay) (B.has old.cell.bay) (B.answered old.cell.bay) old.cell.site) (totals B.D.told B.D.faults B.D.arms (B.disk_faults old.cell.bay) (B.disk_arms old.cell.bay) old.cell.site) line text outside (moment (B.out new.cell.bay) (B.has new.cell.bay) (B.answered new.cell.bay) new.cell.site) (totals B.D.told B.D.faults B.D.arms (B.disk_faults new.cell.bay) (B.disk_arms new.cell.bay) new.cell.site) };
 
@@ -127,11 +129,11 @@ impl<B: Bay> Machine for CellMachine<B> {
 
     ghost ready = { λ machine lines. MayRun B.D.told (moment (B.out machine.cell.bay) (B.has machine.cell.bay) (B.answered machine.cell.bay) machine.cell.site) lines };
 
-    ghost follows = { λ old new. (MayClose (moment (B.out old.cell.bay) (B.has old.cell.bay) (B.answered old.cell.bay) old.cell.site) → MayClose (moment (B.out new.cell.bay) (B.has new.cell.bay) (B.answered new.cell.bay) new.cell.site)) × B.follows old.cell.bay new.cell.bay };
+    ghost follows = { λ old new. (MayClose (moment (B.out old.cell.bay) (B.has old.cell.bay) (B.answered old.cell.bay) old.cell.site) → MayClose (moment (B.out new.cell.bay) (B.has new.cell.bay) (B.answered new.cell.bay) new.cell.site)) × B.follows old.cell.bay new.cell.bay × (total B.D.told B.D.faults (B.disk_faults old.cell.bay) old.cell.site ≤ total B.D.told B.D.faults (B.disk_faults new.cell.bay) new.cell.site) };
 
-    ghost same = { λ a. ((λ closable. closable), B.same a.cell.bay) };
+    ghost same = { λ a. ((λ closable. closable), B.same a.cell.bay, le_refl (total B.D.told B.D.faults (B.disk_faults a.cell.bay) a.cell.site)) };
 
-    ghost then = { λ a b c f g. ((λ closable. g.0 (f.0 closable)), B.then a.cell.bay b.cell.bay c.cell.bay f.1 g.1) };
+    ghost then = { λ a b c f g. ((λ closable. g.0 (f.0 closable)), B.then a.cell.bay b.cell.bay c.cell.bay f.1 g.1, le_trans f.2 g.2) };
 
     fn run(&mut self, alloc: Global, line: &[u8]) -> Result<Vec<u8>, LineStop> {
         match built_line(alloc, line) {

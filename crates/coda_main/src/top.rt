@@ -7,6 +7,7 @@ ghost use Rattle.coda_stored.specs.Kept.{IsStoredKept};
 ghost use Rattle.coda_stored.specs.Resuming.{Awaited, MakeAllAgain};
 ghost use Rattle.coda_site.specs.Cells.{AreBlank, AreOnDisks};
 ghost use Rattle.coda_main.specs.Later.{IsReportOfLaterRun};
+ghost use Rattle.coda_disk.specs.Bays.{plus};
 ghost use Rattle.coda_main.specs.Reported.{IsReportOfLines, IsReportOfRun};
 ghost use Rattle.coda_main.specs.Tallies.{IsReportOfDisks};
 ghost use Rattle.coda_main.specs.Words.{IsRun};
@@ -33,6 +34,7 @@ fn run_and_close<S: Source, K: Sink, B: Bay + Drop>(
         → IsReportOfLaterRun B.D.told (B.has result.1) (B.answered bay) (B.answered result.1) (S.left source.old) (S.left source.new) (K.held sink.old) (K.held sink.new) result.0 past lines }
     ensures lines { IsReportOfLines (S.left source.old) (S.left source.new) (K.held sink.old) (K.held sink.new) result.0 }
     ensures disks { IsReportOfDisks (B.disk_faults bay) (B.disk_faults result.1) (B.disk_arms bay) (B.disk_arms result.1) (S.left source.old) (S.left source.new) (K.held sink.old) (K.held sink.new) result.0 }
+    ensures disk_faults_later { plus (B.disk_faults bay) 0 ≤ B.disk_faults result.1 }
     ensures given_back { result.0 ≢ Status.Memory → result.0 ≢ Status.BayFault → (number : ℕ) → B.out result.1 number ≡ false }
     ensures source_fault { result.0 ≡ Status.SourceFault → Rose (S.faults source.old) (S.faults source.new) }
     ensures sink_fault { result.0 ≡ Status.SinkFault → Rose (K.faults sink.old) (K.faults sink.new) }
@@ -62,6 +64,7 @@ fn run_lent<'a, S: Source, K: Sink, B: Bay>(
         → IsReportOfLaterRun B.D.told (B.has result.1.bay.now) (B.answered lent.entry.bay.now) (B.answered result.1.bay.now) (S.left source.old) (S.left source.new) (K.held sink.old) (K.held sink.new) result.0 past lines }
     ensures lines { IsReportOfLines (S.left source.old) (S.left source.new) (K.held sink.old) (K.held sink.new) result.0 }
     ensures disks { IsReportOfDisks (B.disk_faults lent.entry.bay.now) (B.disk_faults result.1.bay.now) (B.disk_arms lent.entry.bay.now) (B.disk_arms result.1.bay.now) (S.left source.old) (S.left source.new) (K.held sink.old) (K.held sink.new) result.0 }
+    ensures disk_faults_later { plus (B.disk_faults lent.entry.bay.now) 0 ≤ B.disk_faults result.1.bay.now }
     ensures given_back { result.0 ≢ Status.Memory → result.0 ≢ Status.BayFault → (number : ℕ) → B.out result.1.bay.now number ≡ false }
     ensures source_fault { result.0 ≡ Status.SourceFault → Rose (S.faults source.old) (S.faults source.new) }
     ensures sink_fault { result.0 ≡ Status.SinkFault → Rose (K.faults sink.old) (K.faults sink.new) }
@@ -100,6 +103,7 @@ pub fn run_script<S: Source, K: Sink, B: Bay>(
         → IsReportOfLaterRun B.D.told (B.has bay.new) (B.answered bay.old) (B.answered bay.new) (S.left source.old) (S.left source.new) (K.held sink.old) (K.held sink.new) result past lines }
     ensures lines { IsReportOfLines (S.left source.old) (S.left source.new) (K.held sink.old) (K.held sink.new) result }
     ensures disks { IsReportOfDisks (B.disk_faults bay.old) (B.disk_faults bay.new) (B.disk_arms bay.old) (B.disk_arms bay.new) (S.left source.old) (S.left source.new) (K.held sink.old) (K.held sink.new) result }
+    ensures disk_faults_later { plus (B.disk_faults bay.old) 0 ≤ B.disk_faults bay.new }
     ensures given_back { result ≢ Status.Memory → result ≢ Status.BayFault → (number : ℕ) → B.out bay.new number ≡ false }
     ensures source_fault { result ≡ Status.SourceFault → Rose (S.faults source.old) (S.faults source.new) }
     ensures sink_fault { result ≡ Status.SinkFault → Rose (K.faults sink.old) (K.faults sink.new) }
@@ -132,6 +136,7 @@ pub fn coda<S: Source, K: Sink, B: Bay>(
         → IsReportOfLaterRun B.D.told (B.has bay.new) (B.answered bay.old) (B.answered bay.new) (S.left source.old) (S.left source.new) (K.held sink.old) (K.held sink.new) result past lines }
     ensures lines { IsRun (map string_bytes words.now) → IsReportOfLines (S.left source.old) (S.left source.new) (K.held sink.old) (K.held sink.new) result }
     ensures disks { IsRun (map string_bytes words.now) → IsReportOfDisks (B.disk_faults bay.old) (B.disk_faults bay.new) (B.disk_arms bay.old) (B.disk_arms bay.new) (S.left source.old) (S.left source.new) (K.held sink.old) (K.held sink.new) result }
+    ensures disk_faults_later { plus (B.disk_faults bay.old) 0 ≤ B.disk_faults bay.new }
     ensures given_back { result ≢ Status.Memory → result ≢ Status.BayFault → (number : ℕ) → B.out bay.new number ≡ false }
     ensures source_fault { result ≡ Status.SourceFault → Rose (S.faults source.old) (S.faults source.new) }
     ensures sink_fault { result ≡ Status.SinkFault → Rose (K.faults sink.old) (K.faults sink.new) }

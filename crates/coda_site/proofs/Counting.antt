@@ -1,5 +1,5 @@
 -- What calls of actors and lines count.
-use Rattle.std.proofs.Common.{◌≡◌, ◌≤◌, ◌<◌, ◌+◌, ◌⊎◌, inl, inr, ℕ, Bool, true, false, List, [], ◌∷◌, Ok, Err, Result, refl, sym, ap, ◌∙◌, subst, arith}
+use Rattle.std.proofs.Common.{◌≡◌, ◌≤◌, ◌+◌, ◌⊎◌, inl, inr, ℕ, Bool, true, false, List, [], ◌∷◌, Ok, Err, Result, refl, sym, ap, ◌∙◌, subst, arith}
 use Rattle.std.specs.BTreeMap.{BTreeMap}
 use Rattle.std.specs.Result.{IsErr}
 use Rattle.coda_io.specs.Faults.{counted, Rose}
@@ -11,7 +11,7 @@ use Rattle.coda_actors.specs.Replicas.{replica_form}
 use Rattle.coda_actors.specs.Slots.{count_in, sum_with}
 use Rattle.coda_actors.specs.declared.slot.Slot.{Slot}
 use Rattle.coda_actors.specs.declared.slot.Slot.TheVariants.{Vacant, Spare, Stopped, Started}
-use Rattle.coda_crew.proofs.Counts.{counts_then, sum_has}
+use Rattle.coda_crew.proofs.Counts.{sum_has}
 use Rattle.coda_crew.specs.Crews.{slot_at, sum_of, sum_all, CountsAt}
 use Rattle.coda_replica.specs.declared.replica.Replica.{Replica}
 use Rattle.coda_venus.specs.declared.venus.Venus.{Venus}
@@ -71,22 +71,31 @@ module _ {A D : Type 0} (form : Form A D) (faults arms : D → ℕ) (failed : Ty
     where
       f0 : count_in form faults (slot_at old n) ≡ count_in form faults took
       f0 = ap (count_in form faults) was
+
       f1 : count_in form faults (slot_at new n) ≡ count_in form faults put
       f1 = ap (count_in form faults) is
+
       a0 : count_in form arms (slot_at old n) ≡ count_in form arms took
       a0 = ap (count_in form arms) was
+
       a1 : count_in form arms (slot_at new n) ≡ count_in form arms put
       a1 = ap (count_in form arms) is
+
       fs : sum_of (count_in form faults) new.entries + count_in form faults (slot_at old n) ≡ sum_of (count_in form faults) old.entries + count_in form faults (slot_at new n)
       fs = at (count_in form faults) refl
+
       has : count_in form faults (slot_at old n) ≤ sum_of (count_in form faults) old.entries
       has = sum_has (count_in form faults) (is_at (nat_cmp n)) old.entries refl
+
       am : sum_of (count_in form arms) new.entries + count_in form arms (slot_at old n) ≡ sum_of (count_in form arms) old.entries + count_in form arms (slot_at new n)
       am = at (count_in form arms) refl
+
       later : sum_of (count_in form faults) old.entries ≤ sum_of (count_in form faults) new.entries
       later = omega (arith, f0, f1, fs, c.later)
+
       rose : Rose (count_in form faults took) (count_in form faults put) → Rose (sum_of (count_in form faults) old.entries) (sum_of (count_in form faults) new.entries)
       rose r = sum_rose (sum_of (count_in form faults) old.entries) (sum_of (count_in form faults) new.entries) (count_in form faults took) (count_in form faults put) (omega (arith, f0, f1, fs)) (omega (arith, f0, has)) c.later r
+
       same : sum_of (count_in form arms) new.entries ≡ sum_of (count_in form arms) old.entries
       same = omega (arith, a0, a1, am, c.arms)
 

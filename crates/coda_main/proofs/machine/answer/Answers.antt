@@ -20,8 +20,7 @@ returns-in-Ok-text_of-clause-counts g c =
     let new = c.step.new.self in
     let before = moment (g.B.Bay.out old.bay) (g.B.Bay.has old.bay) (g.B.Bay.answered old.bay) old.site in
     let behind = moment (g.B.Bay.out new.bay) (g.B.Bay.has new.bay) (g.B.Bay.answered new.bay) new.site in
-    let same : c.into_vec.result.items ≡ c.in-Ok-text_of.text = search rules in
-    (
+    let same : c.into_vec.result.items ≡ c.in-Ok-text_of.text = search rules in (
       c.in-Ok.reply,
       subst (IsText c.in-Ok.reply) (sym same) c.in-Ok-text_of.ensures.said,
       c.in-Ok.ensures.counts,

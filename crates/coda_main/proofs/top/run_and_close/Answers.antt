@@ -1,7 +1,8 @@
-use Rattle.std.proofs.Common.{sym, ap, subst}
+use Rattle.std.proofs.Common.{sym, ap, subst, ◌≡◌, ◌≤◌, ℕ, arith}
 use Rattle.coda_stored.specs.Resuming.{at_rest}
 use Rattle.coda_stored.proofs.Resuming.{cells_are_resumed}
 use Rattle.coda_site.specs.Cells.{AreBlank, AreOnDisks}
+use Rattle.coda_disk.specs.Bays.{plus}
 use Rattle.coda_site.specs.Totals.{totals}
 use Rattle.coda_main.specs.Shows.{moment}
 use Rattle.coda_main.proofs.Tallying.{reported_disks}
@@ -45,3 +46,10 @@ returns-clause-later g c = λ past lines kept all disks.
     (g.B.Bay.has c.close.result) (g.B.Bay.answered c.args.bay) (g.B.Bay.answered c.close.result) past lines kept all start.ready
     (waits_first told (at_rest past) lines (g.B.Bay.answered c.args.bay) now (cells_are_resumed.rests past kept) all.each start.empty.0 start.empty.1 waits (ap g.B.Bay.answered start.bay))
     c.close.ensures.answered (λ ready cell stands. c.close.ensures.stands cell ready stands)
+-- a sum that is told by the totals at the start and at the end
+told_later : (old new start end : ℕ) → start ≡ plus old 0 → plus new 0 ≡ end → start ≤ end → plus old 0 ≤ new
+told_later old new start end first last later = omega (arith, first, last, later)
+
+pub returns-clause-disk_faults_later : goal.returns-clause-disk_faults_later
+returns-clause-disk_faults_later g c =
+    told_later (g.B.Bay.disk_faults c.args.bay) (g.B.Bay.disk_faults c.close.result) _ _ (ap (λ t. t.faults) c.new.ensures.counts) c.close.ensures.faults_out c.run-status.ensures.follows.2

@@ -5,7 +5,7 @@ use Rattle.coda_site.proofs.ReplicaSites.{with_replicas}
 use Rattle.coda_site.proofs.Theres.{client_disk}
 use Rattle.coda_site.proofs.Stages.{client_ready, replica_ready, if_ok, refused_reply, unruled_reply}
 use Rattle.coda_site.proofs.Drainings.{drain_unfrozen, drain_unruled, drain_untaken, drain_taken}
-use Rattle.std.proofs.Common.{ap, sym, ◌∙◌, inl, inr, Err}
+use Rattle.std.proofs.Common.{ap, ◌∙◌, inr, Err}
 use Rattle.coda_site.proofs.Counting.{clients_counted, replicas_counted, counted_as, counted_then}
 use Rattle.coda_site.proofs.draining.drain_up.Goals as goal
 

@@ -1,4 +1,4 @@
-use Rattle.std.proofs.Common.{◌≡◌, ◌+◌, ◌≤◌, ◌<◌, ℕ, List, true, false, Some, sym, subst, ◌∙◌, arith, refl, ap}
+use Rattle.std.proofs.Common.{◌≡◌, ◌+◌, ◌≤◌, ◌<◌, ℕ, List, true, false, Some, sym, subst, ◌∙◌, arith}
 use Rattle.std.proofs.lemmas.Bool.{false≢true}
 use Rattle.coda_journal.specs.declared.header.Header.{Header}
 use Rattle.std.specs.Prelude.{nat_lt, is_some}

@@ -1,7 +1,7 @@
 use Rattle.coda_cell.proofs.SpelledLetters.{chunk_parts}
 use Rattle.coda_site.proofs.Stages.{if_ok, unruled_reply}
 use Rattle.coda_site.proofs.Delivered.{chunk_records, unruled_came, ruled_came}
-use Rattle.std.proofs.Common.{ap, sym, ◌∙◌, inl, inr, Err}
+use Rattle.std.proofs.Common.{ap, ◌∙◌, Err}
 use Rattle.coda_site.proofs.Counting.{replicas_counted, counted_as}
 use Rattle.coda_site.proofs.messages.rule_up.Goals as goal
 

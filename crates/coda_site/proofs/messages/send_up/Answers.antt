@@ -5,7 +5,7 @@ use Rattle.coda_site.proofs.Theres.{client_disk}
 use Rattle.coda_site.proofs.Stages.{client_ready, if_ok, refused_reply}
 use Rattle.coda_site.proofs.Posted.{net_ready}
 use Rattle.coda_site.proofs.SentChunks.{send_unfrozen, send_done}
-use Rattle.std.proofs.Common.{ap, sym, ◌∙◌, inl, inr, Err}
+use Rattle.std.proofs.Common.{ap, ◌∙◌, Err}
 use Rattle.coda_site.proofs.Counting.{clients_counted, counted_as, err_fine}
 use Rattle.coda_site.proofs.messages.send_up.Goals as goal
 

@@ -3,7 +3,7 @@ use Rattle.coda_stored.specs.Lines.{refused_full}
 use Rattle.coda_site.proofs.Theres.{client_disk}
 use Rattle.coda_site.proofs.Stages.{client_ready, if_ok, refused_reply}
 use Rattle.coda_site.proofs.Delivered.{verdict_volume, untaken_came, taken_came}
-use Rattle.std.proofs.Common.{ap, sym, ◌∙◌, inl, inr, Err}
+use Rattle.std.proofs.Common.{ap, ◌∙◌, Err}
 use Rattle.coda_site.proofs.Counting.{clients_counted, counted_as, taken_fine}
 use Rattle.coda_site.proofs.messages.take_up.Goals as goal
 

@@ -25,8 +25,10 @@ returns-in-Ok-Some-clause-ok g c =
     let built : is_built c.in-Ok-Some.said ≡ true = search rules in
     of_value _ _ _ _ _ c.answer-text.result c.answer-text.ensures.answered c.answer-text.ensures.counts c.answer-text.ensures.again c.answer-text.ensures.goes_on (λ text answers counts again goes_on. (
       answered_since before behind,
-      (line_resumes g.B.D.Disk.told before behind c.args.line.now text.items c.in-Ok-Some.said spelled (line_gives g.B.D.Disk.told before behind c.args.line.now text.items c.in-Ok-Some.said spelled built goes_on answers) again,
-      line_counts g.B.D.Disk.told before behind old_counts new_counts c.args.line.now text.items c.in-Ok-Some.said counts.0 spelled built counts.1 counts.2 counts.3),
+      (
+        line_resumes g.B.D.Disk.told before behind c.args.line.now text.items c.in-Ok-Some.said spelled (line_gives g.B.D.Disk.told before behind c.args.line.now text.items c.in-Ok-Some.said spelled built goes_on answers) again,
+        line_counts g.B.D.Disk.told before behind old_counts new_counts c.args.line.now text.items c.in-Ok-Some.said counts.0 spelled built counts.1 counts.2 counts.3,
+      ),
     ))
 
 pub returns-in-Ok-None-clause-ok : goal.returns-in-Ok-None-clause-ok
