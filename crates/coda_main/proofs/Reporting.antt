@@ -1,5 +1,5 @@
 -- What the report of a script tells of cells on disks.
-use Rattle.std.proofs.Common.{◌≡◌, ◌≢◌, ℕ, List, refl, sym, ap, ◌∙◌, subst, arith}
+use Rattle.std.proofs.Common.{◌≡◌, ◌≢◌, ℕ, List, refl, sym, ap, ◌∙◌, subst, arith, ◌∷◌}
 use Rattle.std.specs.Prelude.{Option}
 use Rattle.coda_disk.specs.Bays.{plus}
 use Rattle.coda_disk.specs.Told.{Told}
@@ -10,14 +10,15 @@ use Rattle.coda_engine.specs.declared.status.Status.TheVariants.{Usage, BayFault
 use Rattle.coda_stored.specs.Cells.{StoredCell, nothing_stored}
 use Rattle.coda_stored.proofs.Keeping.{stored_cells_are_kept}
 use Rattle.coda_site.specs.Cells.{AreOnDisks}
+use Rattle.coda_site.specs.Awaiting.{IsAwaiting}
 use Rattle.coda_site.specs.Sites.{IsSite}
 use Rattle.coda_runs.specs.Shows.{Recorded}
 use Rattle.coda_runs.proofs.Reporting.{reports_tell_of_runs}
 use Rattle.coda_main.specs.Lines.{IsBadLine}
 use Rattle.coda_main.specs.Reported.{IsReportOfLines, IsReportOfRun}
 use Rattle.coda_stored.specs.Kept.{IsStoredKept}
-use Rattle.coda_stored.specs.Resuming.{at_rest, Awaited, MakeAllAgain}
-use Rattle.coda_runs.specs.Later.{Later, Goes, resumed, LaterGives, HasReached, HasGoneOn, CanBeResumed}
+use Rattle.coda_stored.specs.Resuming.{at_rest, Awaited, AreAwaited, MakeAllAgain}
+use Rattle.coda_runs.specs.Later.{Later, Waits, Goes, Strays, resumed, LaterGives, HasReached, HasGoneOn, CanBeResumed}
 use Rattle.coda_runs.specs.Runs.{LineGives, LineRefused}
 use Rattle.coda_runs.proofs.Later.{later_runs_go_on}
 use Rattle.coda_runs.proofs.Resumable.{what_ran_can_be_resumed}
@@ -73,15 +74,16 @@ module _ {D M : Type 0} (new old : M) (told : D → Told) (at : M → Moment D) 
   -- What a run over the disks that an earlier run left tells, where the bay, once all is given back, stands for the cell that the run left.
   pub reported_later : (has : ℕ → Told) (before after : List (List ℕ)) (past : StoredCell) (lines : List Awaited) → IsStoredKept past → MakeAllAgain past lines → MayGoOn told (at old) → ShowsLater told (resumed (at_rest past) lines before) (at old)
       → after ≡ (at new).answered → (MayGoOn told (at new) → (cell : StoredCell) → IsSite told (at new).out (at new).has cell (at new).site → AreOnDisks told has cell)
+      → (MayGoOn told (at new) → (cell : StoredCell) (volumes areas : ℕ) (left : List Awaited) → IsStoredKept cell → AreAwaited cell volumes areas left → IsAwaiting told (at new).out (at new).has cell left (at new).site → AreOnDisks told has cell)
       → IsReportOfLaterRun told has before after left_old left_new held_old held_new status past lines
-  reported_later has before after past lines kept all start shows last_same closes = record {
+  reported_later has before after past lines kept all start shows last_same closes waits = record {
     end = shown.0;
     outside = outside;
     reports = shown.1;
-    goes_on = λ memory bay. (went memory bay).0;
-    on_disks = λ memory bay reached is.
-        let there : Shows told reached (at new) = subst (λ (l : Later). ShowsLater told l (at new)) is (shown.2 memory bay) in
-        (last_same ∙ there.answered, closes (goes_on start memory bay) reached.cell there.stands, (went memory bay).1 reached is);
+    goes_on = λ memory bay cell images reached.
+        let there = on_disks (goes_on start memory bay) shown.0 (shown.2 memory bay) cell images reached in
+        ((went memory bay).0 cell images reached, there.0, there.1);
+    resumable = λ memory bay. (went memory bay).1;
   }
     where
       first : Later
@@ -94,6 +96,12 @@ module _ {D M : Type 0} (new old : M) (told : D → Told) (at : M → Moment D) 
       went memory bay =
           let ran = reports_ran LaterGives LaterRefuses first shown.0 left_old left_new held_old held_new outside status memory bay shown.1 in
           later_runs_go_on past lines before ran.lines ran.report ran.outside shown.0 kept all ran.runs
+
+      on_disks : MayGoOn told (at new) → (end : Later) → ShowsLater told end (at new) → (cell : StoredCell) (images : List (List ℕ)) → HasReached end cell images → (after ≡ images) × AreOnDisks told has cell
+      on_disks ready (Waits found next left answered) there cell images reached =
+          (last_same ∙ there.images ∙ sym reached.1, subst (AreOnDisks told has) (sym reached.0) (waits ready found _ _ (next ∷ left) there.kept there.awaited there.stands))
+      on_disks ready (Goes stored) there cell images reached = (last_same ∙ there.answered ∙ sym reached.1, subst (AreOnDisks told has) (sym reached.0) (closes ready stored.cell there.stands))
+      on_disks ready Strays there cell images reached = absurd reached
 
   -- What it tells whatever the disks hold.
   pub reported_lines : IsReportOfLines left_old left_new held_old held_new status

@@ -59,7 +59,6 @@ HasReached (Waits cell next left answered) reached images = (reached ≡ cell) �
 HasReached (Goes at) reached images = (reached ≡ at.cell) × (images ≡ at.answered)
 HasReached Strays reached images = ⊥
 
-
 -- the MiB of the areas of actors that are to be made again
 abbrev pub areas_of : List Awaited → ℕ
 areas_of [] = 0

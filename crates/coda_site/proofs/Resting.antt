@@ -1,21 +1,27 @@
 -- The disks that an earlier run left, before any line made an actor again.
-use Rattle.std.proofs.Common.{◌≡◌, ℕ, suc, ◌+◌, Bool, true, false, List, [], ◌∷◌, append-nil, length, Option, Some, None, refl, sym, ap, subst, ◌∙◌, arith}
+use Rattle.std.proofs.Common.{◌≡◌, ℕ, suc, ◌+◌, Bool, true, false, List, [], ◌∷◌, append-nil, length, Option, Some, None, refl, sym, ap, subst, ◌∙◌, arith, ◌==◌, cond, inl, inr, ◌≢◌}
+use Rattle.std.proofs.lemmas.Bool.{cases_eq, eq-eqb, ne_eqb}
+use Rattle.std.specs.Prelude.{◌||◌}
 use Rattle.std.proofs.lemmas.List.{length-append}
 use Rattle.coda_disk.specs.Told.{Told}
+use Rattle.coda_actors.specs.Fits.{StandsFor}
 use Rattle.coda_actors.specs.Form.{Form}
 use Rattle.coda_actors.specs.Plain.{PlainActor, Unmade}
+use Rattle.coda_actors.specs.Clients.{client_form}
+use Rattle.coda_actors.specs.Replicas.{replica_form}
 use Rattle.coda_crew.specs.Crews.{StandsAll, IsAtEntry}
 use Rattle.coda_plain.specs.Cell.{ClientEntry, Actor}
 use Rattle.coda_plain.specs.Decisions.{ReplicaEntry}
 use Rattle.coda_record.specs.declared.entry.ReplicaEntry.{ReplicaEntry as KeptEntry}
 use Rattle.coda_script.specs.declared.reply.Reply.{Reply}
-use Rattle.coda_stored.specs.Cells.{Side, StoredCell, life_of, plain_client, plain_replica}
+use Rattle.coda_stored.specs.Cells.{Side, StoredCell, life_of, plain_client, plain_replica, unmade}
 use Rattle.coda_stored.specs.Kept.{IsStoredKept, IsClientSide}
 use Rattle.coda_stored.specs.Resuming.{stopped, forgotten, at_rest, Awaited, ClientAgain, VolumeAgain, awaits_client, awaits_volume, servers_of, AreAwaited, MakeAllAgain, MakesAgain}
 use Rattle.coda_stored.proofs.Resuming.{StaysAgain, area_in, again_stays, awaited_stay}
 use Rattle.coda_site.specs.Awaiting.{asleep, home_unless, AreReplicasYet, IsAwaiting}
+use Rattle.coda_site.specs.Cells.{AreOnDisks}
 use Rattle.coda_site.specs.declared.site.Site.{Site}
-use Rattle.coda_site.specs.Sites.{AreReplicas, IsSite}
+use Rattle.coda_site.specs.Sites.{is_client_disk, is_replica_disk, AreReplicas, IsSite}
 
 -- an actor that no line made yet, on the same disk
 abbrev pub rest : {Entry : Type 0} → PlainActor Entry → PlainActor Entry
@@ -96,3 +102,75 @@ next_awaited told out out1 has has1 cell found next left reply old new before be
         let count : length new.servers.items ≡ length old.servers.items + 1 = omega (arith, same) in
         let sum : new.areas ≡ old.areas + area = areas_are ∙ ap (λ (n : Awaited). old.areas + area_in n) e in
         awaited_stay cell found stays.made (length new.servers.items) new.areas left (subst (λ (m : ℕ). AreAwaited cell m new.areas left) (sym count) (subst (λ (m : ℕ). AreAwaited cell (length old.servers.items + 1) m left) (sym sum) rest))
+
+-- ---- disks that are given back before all were made again
+
+-- the replicas of a cell by the numbers of their disks, as they would be if those that are awaited were made again and down
+abbrev awake_at : StoredCell → List Awaited → (ℕ → PlainActor KeptEntry) → ℕ → PlainActor KeptEntry
+awake_at cell [] plain number = plain number
+awake_at cell (ClientAgain client blocks area ∷ left) plain number = awake_at cell left plain number
+awake_at cell (VolumeAgain volume server area ∷ left) plain number =
+    cond (number == cell.places volume) (plain_replica volume (cell.made.acted.replicas server volume) (cell.replicas volume)) (awake_at cell left plain number)
+
+module _ (cell : StoredCell) (kept : IsStoredKept cell) (plain : ℕ → PlainActor KeptEntry) where
+  abbrev family : ℕ → ℕ → Actor ReplicaEntry
+  family = cell.made.acted.replicas
+
+  awake_placed : (left : List Awaited) (volumes areas : ℕ) → AreAwaited cell volumes areas left → (v s : ℕ) → cell.made.homes v ≡ Some s
+      → plain (cell.places v) ≡ plain_replica v (family s v) (asleep (awaits_volume left v) (cell.replicas v)) → awake_at cell left plain (cell.places v) ≡ plain_replica v (family s v) (cell.replicas v)
+  awake_placed [] volumes areas are v s home is = is
+  awake_placed (ClientAgain client blocks area ∷ left) volumes areas (size, asks, room, once, rest) v s home is = awake_placed left volumes (areas + area) rest v s home is
+  awake_placed (VolumeAgain w t area ∷ left) volumes areas (there, asks, place, few, room, once, rest) v s home is = elim (cases_eq (cell.places v) (cell.places w)) [
+    | inl same ↦ (
+        let one : v ≡ w = kept.apart v w s t home there same in
+        let homes : Some t ≡ Some s = sym there ∙ ap cell.made.homes (sym one) ∙ home in
+        let server : t ≡ s = cc in
+        ap (λ (b : Bool). cond b (plain_replica w (family t w) (cell.replicas w)) (awake_at cell left plain (cell.places v))) (eq-eqb (cell.places v) (cell.places w) same)
+        ∙ (λ i. plain_replica (sym one i) (family (server i) (sym one i)) (cell.replicas (sym one i))))
+    | inr other ↦ (
+        let apart : v ≢ w = (λ e. other (ap cell.places e)) in
+        ap (λ (b : Bool). cond b (plain_replica w (family t w) (cell.replicas w)) (awake_at cell left plain (cell.places v))) (ne_eqb (cell.places v) (cell.places w) other)
+        ∙ awake_placed left (volumes + 1) (areas + area) rest v s home (is ∙ ap (λ (b : Bool). plain_replica v (family s v) (asleep (b || awaits_volume left v) (cell.replicas v))) (ne_eqb v w apart)))
+  ]
+
+  awake_others : (left : List Awaited) (volumes areas : ℕ) → AreAwaited cell volumes areas left → (number : ℕ) → ((v s : ℕ) → cell.made.homes v ≡ Some s → cell.places v ≢ number) → plain number ≡ unmade → awake_at cell left plain number ≡ unmade
+  awake_others [] volumes areas are number none is = is
+  awake_others (ClientAgain client blocks area ∷ left) volumes areas (size, asks, room, once, rest) number none is = awake_others left volumes (areas + area) rest number none is
+  awake_others (VolumeAgain w t area ∷ left) volumes areas (there, asks, place, few, room, once, rest) number none is =
+      ap (λ (b : Bool). cond b (plain_replica w (family t w) (cell.replicas w)) (awake_at cell left plain number)) (ne_eqb number (cell.places w) (λ e. none w t there (sym e)))
+      ∙ awake_others left (volumes + 1) (areas + area) rest number none is
+
+  asleep_disk : (v : ℕ) (actor : Actor ReplicaEntry) (b : Bool) (side : Side) → (plain_replica v actor (asleep b side)).disk ≡ (plain_replica v actor side).disk
+  asleep_disk v actor true side = refl
+  asleep_disk v actor false side = refl
+
+  awake_disk : (all left : List Awaited) (volumes areas : ℕ) → AreAwaited cell volumes areas left → ((v s : ℕ) → cell.made.homes v ≡ Some s → plain (cell.places v) ≡ plain_replica v (family s v) (asleep (awaits_volume all v) (cell.replicas v)))
+      → (number : ℕ) → (plain number).disk ≡ (awake_at cell left plain number).disk
+  awake_disk all [] volumes areas are placed number = refl
+  awake_disk all (ClientAgain client blocks area ∷ left) volumes areas (size, asks, room, once, rest) placed number = awake_disk all left volumes (areas + area) rest placed number
+  awake_disk all (VolumeAgain w t area ∷ left) volumes areas (there, asks, place, few, room, once, rest) placed number = elim (cases_eq number (cell.places w)) [
+    | inl same ↦ ap (λ (n : ℕ). (plain n).disk) same ∙ ap (λ (p : PlainActor KeptEntry). p.disk) (placed w t there) ∙ asleep_disk w (family t w) (awaits_volume all w) (cell.replicas w)
+        ∙ ap (λ (b : Bool). (cond b (plain_replica w (family t w) (cell.replicas w)) (awake_at cell left plain number)).disk) (sym (eq-eqb number (cell.places w) same))
+    | inr other ↦ awake_disk all left (volumes + 1) (areas + area) rest placed number
+        ∙ ap (λ (b : Bool). (cond b (plain_replica w (family t w) (cell.replicas w)) (awake_at cell left plain number)).disk) (sym (ne_eqb number (cell.places w) other))
+  ]
+
+pub asleep_client_disk : (actor : Actor ClientEntry) (b : Bool) (side : Side) → (plain_client actor (asleep b side)).disk ≡ (plain_client actor side).disk
+asleep_client_disk actor true side = refl
+asleep_client_disk actor false side = refl
+
+-- the disks stand for the cell, whoever is yet to be made again
+pub awaiting_on_disks : {D : Type 0} (told : D → Told) (has : ℕ → Told) (cell : StoredCell) (left : List Awaited) (volumes areas : ℕ) → IsStoredKept cell → AreAwaited cell volumes areas left
+    → StandsAll (client_form told) is_client_disk has (λ client. plain_client (cell.made.acted.clients client) (asleep (awaits_client left client) (cell.clients client)))
+    → (plain : ℕ → PlainActor KeptEntry) → AreReplicasYet cell left plain → StandsAll (replica_form told) is_replica_disk has plain → AreOnDisks told has cell
+awaiting_on_disks told has cell left volumes areas kept are clients plain yet replicas = record {
+  clients = λ k own. subst (StandsFor (client_form told) (has k)) (asleep_client_disk (cell.made.acted.clients k) (awaits_client left k) (cell.clients k)) (clients k own);
+  replicas = (
+    awake_at cell left plain,
+    record {
+      placed = λ v s home. awake_placed cell kept plain left volumes areas are v s home (yet.placed v s home);
+      others = λ number none. awake_others cell kept plain left volumes areas are number none (yet.others number none);
+    },
+    λ k own. subst (StandsFor (replica_form told) (has k)) (awake_disk cell kept plain left left volumes areas are yet.placed k) (replicas k own),
+  );
+}

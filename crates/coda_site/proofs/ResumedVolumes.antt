@@ -96,13 +96,13 @@ module _ (cell : StoredCell) (kept : IsStoredKept cell) (volume server area : �
       let none_left : new.left ≡ side.left = left ∙ sym asks.1 in
       elim mounts [
         | inl same ↦ record {
-            next = crashed actor;
-            known = record side { given = side.given };
-            said = refused_fault;
-            recovers = (refl, (header, asks.0, inr (side.given, moved cell (Crashes (TheReplica server volume)), inl (refl, refl), refl, refl)));
-            replied = says;
-            here = λ i. record { disk = same i; life = is_down i; left = none_left i };
-          }
+          next = crashed actor;
+          known = record side { given = side.given };
+          said = refused_fault;
+          recovers = (refl, (header, asks.0, inr (side.given, moved cell (Crashes (TheReplica server volume)), inl (refl, refl), refl, refl)));
+          replied = says;
+          here = λ i. record { disk = same i; life = is_down i; left = none_left i };
+        }
         | inr fresh ↦ (
             let known : Side = record side { given = Some header } in
             let mid = moved (moved cell (Recovers (TheReplica server volume) false)) (Crashes (TheReplica server volume)) in

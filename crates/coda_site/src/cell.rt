@@ -152,6 +152,8 @@ impl<B: Bay> Cell<B> {
         requires { IsClosable (B.out self.bay) self.site }
         ensures out { IsReady B.D.told (B.out self.bay) self.site → (number : ℕ) → B.out result number ≡ false }
         ensures stands { (cell : StoredCell) → IsReady B.D.told (B.out self.bay) self.site → IsSite B.D.told (B.out self.bay) (B.has self.bay) cell self.site → AreOnDisks B.D.told (B.has result) cell }
+        ensures waits { (cell : StoredCell) (volumes areas : ℕ) (left : List Awaited) → IsReady B.D.told (B.out self.bay) self.site → IsStoredKept cell → AreAwaited cell volumes areas left
+            → IsAwaiting B.D.told (B.out self.bay) (B.has self.bay) cell left self.site → AreOnDisks B.D.told (B.has result) cell }
         ensures answered { B.answered result ≡ B.answered self.bay }
         ensures faults { B.faults result ≡ B.faults self.bay }
         ensures follows { B.follows self.bay result }

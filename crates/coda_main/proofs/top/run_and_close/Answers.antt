@@ -45,7 +45,8 @@ returns-clause-later g c = λ past lines kept all disks.
     reported_later c.run-status.new.machine (record { cell = c.new.result }) told (λ m. moment (g.B.Bay.out m.cell.bay) (g.B.Bay.has m.cell.bay) (g.B.Bay.answered m.cell.bay) m.cell.site) (λ m. totals g.B.D.Disk.told g.B.D.Disk.faults g.B.D.Disk.arms (g.B.Bay.disk_faults m.cell.bay) (g.B.Bay.disk_arms m.cell.bay) m.cell.site) _ _ _ _ report.0 c.run-status.result report.1
     (g.B.Bay.has c.close.result) (g.B.Bay.answered c.args.bay) (g.B.Bay.answered c.close.result) past lines kept all start.ready
     (waits_first told (at_rest past) lines (g.B.Bay.answered c.args.bay) now (cells_are_resumed.rests past kept) all.each start.empty.0 start.empty.1 waits (ap g.B.Bay.answered start.bay))
-    c.close.ensures.answered (λ ready cell stands. c.close.ensures.stands cell ready stands)
+    c.close.ensures.answered (λ ready cell stands. c.close.ensures.stands cell ready stands) (λ ready cell volumes areas left held awaited stands. c.close.ensures.waits cell volumes areas left ready held awaited stands)
+
 -- a sum that is told by the totals at the start and at the end
 told_later : (old new start end : ℕ) → start ≡ plus old 0 → plus new 0 ≡ end → start ≤ end → plus old 0 ≤ new
 told_later old new start end first last later = omega (arith, first, last, later)

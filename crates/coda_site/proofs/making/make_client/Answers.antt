@@ -163,6 +163,7 @@ returns-after-is_made-clause-again g c = λ cell left kept awaited is.
           (subst (λ (a : ℕ). Resumes told out1 has1 cell (ClientAgain n blocks area) left reply before before (with_clients_and_areas site c.open.new.slots (site.areas + a))) (sym w.from-then-is_made.ensures) resumed))
       | else-is_made w ↦ absurd (false≢true (sym w.if-is_made.false ∙ c.is_made.ensures ∙ made))
     ])
+
 pub returns-after-is_made-clause-counts : goal.returns-after-is_made-clause-counts
 returns-after-is_made-clause-counts g c =
     let told = g.B.D.Disk.told in

@@ -1,4 +1,4 @@
-use Rattle.std.proofs.Common.{◌≡◌, ◌+◌, ◌≤◌, ◌<◌, ◌==◌, ℕ, List, true, false, cond, length, Some, sym, ap, subst, ◌∙◌, arith, refl}
+use Rattle.std.proofs.Common.{◌≡◌, ◌+◌, ◌≤◌, ◌<◌, ◌==◌, ℕ, List, true, false, cond, length, Some, sym, ap, subst, ◌∙◌, arith}
 use Rattle.std.proofs.lemmas.Bool.{false≢true}
 use Rattle.std.specs.Prelude.{nat_lt, nat_le, ◌||◌, is_some}
 use Rattle.coda_journal.specs.declared.header.Header.{Header}
@@ -250,6 +250,7 @@ returns-after-is_made-clause-again g c = λ cell left kept awaited is.
           (subst (λ (a : ℕ). Resumes told out1 has1 cell (VolumeAgain volume server area) left reply before before (record noted { replicas = c.open.new.slots; areas = noted.areas + a })) (sym w.from-then-is_made.ensures) resumed))
       | else-is_made w ↦ absurd (false≢true (sym w.if-is_made.false ∙ c.is_made.ensures ∙ made))
     ])
+
 pub returns-after-is_made-clause-counts : goal.returns-after-is_made-clause-counts
 returns-after-is_made-clause-counts g c =
     let told = g.B.D.Disk.told in

@@ -1,4 +1,4 @@
-use Rattle.std.proofs.Common.{◌≡◌, sym, ap, ◌∙◌, rules, true, subst, refl}
+use Rattle.std.proofs.Common.{◌≡◌, sym, ap, ◌∙◌, rules, subst, refl}
 use Rattle.std.specs.Option.{option_copied_mut, IsSome}
 use Rattle.coda_actors.specs.Clients.{client_form}
 use Rattle.coda_actors.specs.Slots.{is_up}
