@@ -90,7 +90,8 @@ fn run_lent<'a, S: Source, K: Sink, B: Bay>(
 /// run goes on from what these lines find: the histories that there were, each perhaps with the entry whose append failed.
 ///
 /// Over any bay, the status is that of the lines: each line that ran is built or says nothing, and one that ended the
-/// run is refused. Unless memory was wanting or the bay at fault, the bay has all its disks again.
+/// run is refused. Unless memory was wanting or the bay at fault, the bay has all its disks again, its sum of their
+/// faults rose by as many at least as the replies tell, and its sum of `arm` calls by the lines that armed a disk.
 pub fn run_script<S: Source, K: Sink, B: Bay>(
     alloc: Global,
     source: &mut S,
