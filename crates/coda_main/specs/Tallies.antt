@@ -5,13 +5,17 @@ use Rattle.coda_engine.specs.Run.{Reports}
 use Rattle.coda_engine.specs.declared.status.Kind.{Kind}
 use Rattle.coda_engine.specs.declared.status.Status.{Status}
 use Rattle.coda_engine.specs.declared.status.Status.TheVariants.{BayFault, Memory}
+use Rattle.coda_cml.specs.State.{LogState}
+use Rattle.coda_report.specs.LogTexts.{log_text}
 use Rattle.coda_report.specs.Texts.{reply_text}
+use Rattle.coda_report.specs.Volumes.{volume_text}
+use Rattle.coda_tree.specs.Volume.{Tree}
 use Rattle.coda_script.specs.Lines.{line_of}
 use Rattle.coda_script.specs.declared.line.Line.{Line}
 use Rattle.coda_script.specs.declared.refusal.Refusal.TheVariants.{DiskFault}
 use Rattle.coda_script.specs.declared.reply.Reply.{Reply}
-use Rattle.coda_script.specs.declared.reply.Reply.TheVariants.{Refused, ShowVolume, ShowLog}
-use Rattle.coda_stored.specs.Lines.{is_built}
+use Rattle.coda_script.specs.declared.reply.Reply.TheVariants.{Refused, Accepted, ShowVolume, ShowLog}
+use Rattle.coda_stored.specs.Lines.{is_built, refused_fault}
 use Rattle.coda_site.specs.Totals.{has_armed}
 use Rattle.coda_stored.specs.Cells.{StoredCell}
 use Rattle.coda_runs.specs.Runs.{Replies, LineRefused}
@@ -19,16 +23,21 @@ use Rattle.coda_main.specs.Lines.{IsBadLine}
 
 -- ---- lines and replies
 
--- the text is that of the reply, where it shows no volume and no log
+-- the text is that of the reply; where this shows a volume or a log, it is the text of some volume at the server, or empty, or that of some log
 abbrev pub IsText : Reply → List ℕ → Type 0
-IsText (ShowVolume server volume) text = Unit {0}
-IsText (ShowLog client volume) text = Unit {0}
+IsText (ShowVolume server volume) text = (text ≡ []) ⊎ ((tree : Tree) × (text ≡ volume_text server tree))
+IsText (ShowLog client volume) text = (log : LogState) × (text ≡ log_text log)
 IsText reply text = text ≡ reply_text reply
 
 -- the reply is that a disk failed
 abbrev pub tells_fault : Reply → Bool
 tells_fault (Refused DiskFault []) = true
 tells_fault _ = false
+
+-- A text tells whether the reply is one that is counted: no other than that a disk failed has the text of this one, and no other than `ok` has that.
+abbrev pub CountedRepliesAreTold : Type 0
+CountedRepliesAreTold =
+    (reply : Reply) (text : List ℕ) → IsText reply text → (text ≡ reply_text refused_fault → reply ≡ refused_fault) × (text ≡ reply_text Accepted → reply ≡ Accepted)
 
 -- The bytes say a line that is built; its reply has this text.
 pub record IsReplied (bytes text : List ℕ) : Type 0 where

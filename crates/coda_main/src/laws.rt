@@ -2,6 +2,7 @@
 ghost use Rattle.coda_engine.specs.Exact.{CleanScriptsRun, OneStatus};
 ghost use Rattle.coda_main.specs.Cached.{CachedIsHeld};
 ghost use Rattle.coda_main.specs.Lines.{AnyGives, AnyRefuses};
+ghost use Rattle.coda_main.specs.Tallies.{CountedRepliesAreTold};
 
 /// A reply to a read or a listing says `cached` exactly where the client held the object before the line.
 pub fn cached_is_held()
@@ -17,4 +18,10 @@ pub fn good_lines_run_over_any_bay()
 /// A script has one status over all bays, however it is cut into pieces, but for faults and want of memory.
 pub fn one_status_over_all_bays()
     ensures { OneStatus AnyGives AnyRefuses tt tt }
+{}
+
+/// What was written for a line tells whether it was counted: no reply but that of a failed disk has its text, and none
+/// but `ok` has that of `ok`.
+pub fn counted_replies_are_told()
+    ensures { CountedRepliesAreTold }
 {}

@@ -21,5 +21,7 @@ pub use coda_runs::{
     reports_tell_of_runs, scripts_in_the_grammar_are_clean, scripts_run, settlements_are_decided,
     verdicts_thaw, what_is_shown_is_there, what_is_shown_is_up, what_ran_can_be_resumed,
 };
-pub use laws::{cached_is_held, good_lines_run_over_any_bay, one_status_over_all_bays};
+pub use laws::{
+    cached_is_held, counted_replies_are_told, good_lines_run_over_any_bay, one_status_over_all_bays,
+};
 pub use top::{coda, run_script};

@@ -8,6 +8,7 @@ ghost use Rattle.coda_stored.specs.Kept.{IsStoredKept};
 ghost use Rattle.coda_stored.specs.Lines.{client_down, replica_down};
 ghost use Rattle.coda_site.specs.Sites.{IsSite};
 ghost use Rattle.coda_runs.specs.Shows.{CanShow};
+ghost use Rattle.coda_script.specs.declared.reply.Reply.TheVariants.{ShowVolume, ShowLog};
 ghost use Rattle.coda_main.specs.Tallies.{IsText};
 ghost use Rattle.coda_runs.specs.Texts.{shown_volume, shown_log, text_of};
 
@@ -32,7 +33,8 @@ fn volume_shown<B: Bay>(
     server: u8,
     volume: u32,
 ) -> Result<Bytes, AllocError>
-    ensures { IfOk result (λ text. (stored : StoredCell) → IsStoredKept stored → IsSite B.D.told (B.out cell.now.bay) (B.has cell.now.bay) stored cell.now.site
+    ensures said { IfOk result (λ text. IsText (ShowVolume server volume) text) }
+    ensures shown { IfOk result (λ text. (stored : StoredCell) → IsStoredKept stored → IsSite B.D.told (B.out cell.now.bay) (B.has cell.now.bay) stored cell.now.site
         → replica_down stored volume ≡ false → text ≡ shown_volume server (volume_at ((state_of stored.made).replicas volume) server)) }
 {
     match cell.volume(server, volume) {
@@ -48,7 +50,8 @@ fn log_shown<B: Bay>(
     client: u8,
     volume: u32,
 ) -> Result<Bytes, AllocError>
-    ensures { IfOk result (λ text. (stored : StoredCell) → IsStoredKept stored → IsSite B.D.told (B.out cell.now.bay) (B.has cell.now.bay) stored cell.now.site
+    ensures said { IfOk result (λ text. IsText (ShowLog client volume) text) }
+    ensures shown { IfOk result (λ text. (stored : StoredCell) → IsStoredKept stored → IsSite B.D.told (B.out cell.now.bay) (B.has cell.now.bay) stored cell.now.site
         → client_down stored client ≡ false → (c : ClientState) → (state_of stored.made).clients client ≡ Some c → text ≡ shown_log (Some c) volume) }
 {
     match cell.log(client, volume) {

@@ -1,5 +1,6 @@
-use Rattle.std.proofs.Common.{◌≡◌, refl, sym, ◌∙◌, subst, Result, Ok, Err, rules}
-use Rattle.std.specs.Prelude.{IfOk, Some}
+use Rattle.std.proofs.Common.{◌≡◌, refl, sym, ◌∙◌, subst, rules}
+use Rattle.std.specs.Prelude.{Some}
+use Rattle.std.proofs.lemmas.Result.{IfOk-weaker}
 use Rattle.coda_cell.specs.Made.{state_of}
 use Rattle.coda_script.specs.declared.reply.Reply.{Reply}
 use Rattle.coda_script.specs.declared.reply.Reply.TheVariants.{ShowLog}
@@ -7,14 +8,9 @@ use Rattle.coda_runs.specs.Shows.{CanShow}
 use Rattle.coda_runs.specs.Texts.{shown_log, text_of}
 use Rattle.coda_main.proofs.report.text_of.Goals as goal
 
--- what holds of a value where there is one
-of_value : {A E : Type 0} (P Q : A → Type 0) (r : Result A E) → IfOk r P → ((x : A) → P x → Q x) → IfOk r Q
-of_value P Q (Ok x) is then_ = then_ x is
-of_value P Q (Err e) is then_ = tt
-
 pub returns-in-ShowLog-clause-printed : goal.returns-in-ShowLog-clause-printed
 returns-in-ShowLog-clause-printed g c =
     let is : c.args.reply.now ≡ ShowLog c.in-ShowLog.client c.in-ShowLog.volume = search rules in
-    of_value _ _ c.log_shown.result c.log_shown.ensures (λ text said stored kept stands can.
+    IfOk-weaker c.log_shown.result _ _ (λ text said stored kept stands can.
     let Fits = λ (reply : Reply). CanShow stored reply → text ≡ text_of (state_of stored.made) reply in
-    subst Fits (sym is) (λ shows. said stored kept stands shows.0 shows.1.0 shows.1.1 ∙ subst (λ o. shown_log (Some shows.1.0) c.in-ShowLog.volume ≡ shown_log o c.in-ShowLog.volume) (sym shows.1.1) refl) can)
+    subst Fits (sym is) (λ shows. said stored kept stands shows.0 shows.1.0 shows.1.1 ∙ subst (λ o. shown_log (Some shows.1.0) c.in-ShowLog.volume ≡ shown_log o c.in-ShowLog.volume) (sym shows.1.1) refl) can) c.log_shown.ensures.shown
