@@ -16,3 +16,4 @@ pub mod Volumes
 pub mod Drafted
 pub mod Drafts
 pub mod Blocks
+pub mod Hashed

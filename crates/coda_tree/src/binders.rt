@@ -4,10 +4,11 @@ ghost use Rattle.coda_tree.specs.Pages.{all_pairs};
 ghost use Rattle.coda_tree.specs.declared.binders.Bound.TheVariants.{Nowhere};
 ghost use Rattle.coda_tree.specs.Binders.{bound_at, bound_after, known_at, after_at, after_leave, after_move, after_all, pairs_of, Notes};
 
+use crate::hasher::FidMap;
 use crate::{Node, NodeKind};
 use coda_fid::{Fid, Name};
 use std::alloc::Global;
-use std::collections::HashMap;
+use std::hash::BuildHasherDefault;
 
 // At how many names a fid is bound, in all directories.
 #[derive(Clone, Copy)]
@@ -35,7 +36,7 @@ pub(crate) enum Change {
 // what is asked of it has to be searched for.
 #[derive(Drop)]
 pub(crate) struct Binders {
-    kept: HashMap<Fid, Bound>,
+    kept: FidMap<Bound>,
     // Whether each fid that has no entry is bound nowhere.
     whole: bool,
 }
@@ -71,7 +72,7 @@ impl Binders {
         ensures { (f : Fid) → bound_at result f ≡ Nowhere }
     {
         Binders {
-            kept: HashMap::new(alloc),
+            kept: FidMap::with_hasher(alloc, BuildHasherDefault::new()),
             whole: true,
         }
     }

@@ -5,18 +5,19 @@ ghost use Rattle.coda_fid.specs.Fid.{same_fid};
 ghost use Rattle.coda_tree.specs.Volume.{child, moved, changed, bound, unbound, written, content_patch, attrs_patch, IsDir, IsDirAt, bindings, parent_of};
 ghost use Rattle.coda_tree.specs.Table.{nodes_of, earliest, ChangesAt, BindsAt, UnbindsAt, IsSame};
 
+use crate::hasher::FidMap;
 use crate::{Node, NodeKind, NodeTable};
 use coda_fid::{Attrs, Bytes, Fid, Name, Sid};
 use std::alloc::{AllocError, Global};
 use std::cmp::Ordering;
-use std::collections::HashMap;
+use std::hash::BuildHasherDefault;
 use std::marker::Model;
 
 // Nodes under their fids, without what is known of who binds them.
 #[derive(Drop)]
 pub(crate) struct NodeMap {
     alloc: Global,
-    nodes: HashMap<Fid, Node>,
+    nodes: FidMap<Node>,
 }
 
 impl Model for NodeMap {
@@ -32,7 +33,7 @@ impl Model for NodeMap {
 }
 
 // Binds a free name in the directory at a fid.
-fn bind(nodes: &mut HashMap<Fid, Node>, dir: Fid, name: Name, fid: Fid) -> Result<(), AllocError>
+fn bind(nodes: &mut FidMap<Node>, dir: Fid, name: Name, fid: Fid) -> Result<(), AllocError>
     requires { IfSome (hash.get same_fid nodes.old dir) (λ node. IsDir node.kind × (map.get (bindings node.kind) name ≡ None)) }
     ensures ok { OnOk result (BindsAt nodes.old nodes.new dir name fid) }
     ensures err { OnErr result (IsSame nodes.old nodes.new) }
@@ -44,7 +45,7 @@ fn bind(nodes: &mut HashMap<Fid, Node>, dir: Fid, name: Name, fid: Fid) -> Resul
 }
 
 // Unbinds a name in the directory at a fid.
-fn unbind(nodes: &mut HashMap<Fid, Node>, dir: Fid, name: &Name)
+fn unbind(nodes: &mut FidMap<Node>, dir: Fid, name: &Name)
     requires { IfSome (hash.get same_fid nodes.old dir) (λ node. IsDir node.kind) }
     ensures { UnbindsAt nodes.old nodes.new dir name.now }
 {
@@ -54,7 +55,7 @@ fn unbind(nodes: &mut HashMap<Fid, Node>, dir: Fid, name: &Name)
 }
 
 // Binds a bound name of the directory at a fid to another fid.
-fn rebind(nodes: &mut HashMap<Fid, Node>, dir: Fid, name: &Name, fid: Fid)
+fn rebind(nodes: &mut FidMap<Node>, dir: Fid, name: &Name, fid: Fid)
     requires { IfSome (hash.get same_fid nodes.old dir) (λ node. IsDir node.kind × IsSome (map.get (bindings node.kind) name.now)) }
     ensures { BindsAt nodes.old nodes.new dir name.now fid }
 {
@@ -64,7 +65,7 @@ fn rebind(nodes: &mut HashMap<Fid, Node>, dir: Fid, name: &Name, fid: Fid)
 }
 
 // Writes a content with its time to the node at a fid, where there is one.
-fn store(nodes: &mut HashMap<Fid, Node>, fid: Fid, content: Bytes, mtime: u64, sid: Sid)
+fn store(nodes: &mut FidMap<Node>, fid: Fid, content: Bytes, mtime: u64, sid: Sid)
     ensures { ChangesAt nodes.old nodes.new fid (written (content_patch content mtime) sid) }
 {
     if let Some(node) = nodes.get_mut(&fid) {
@@ -73,7 +74,7 @@ fn store(nodes: &mut HashMap<Fid, Node>, fid: Fid, content: Bytes, mtime: u64, s
 }
 
 // Sets attributes of the node at a fid, where there is one.
-fn set_attributes(nodes: &mut HashMap<Fid, Node>, fid: Fid, attrs: &Attrs, sid: Sid)
+fn set_attributes(nodes: &mut FidMap<Node>, fid: Fid, attrs: &Attrs, sid: Sid)
     ensures { ChangesAt nodes.old nodes.new fid (written (attrs_patch attrs.now) sid) }
 {
     if let Some(node) = nodes.get_mut(&fid) {
@@ -103,7 +104,7 @@ fn earliest(first: Option<Fid>, fid: Fid) -> Fid
 }
 
 // The first node, in the order of fids, that binds a fid.
-fn first_binder(nodes: &HashMap<Fid, Node>, fid: Fid) -> Option<Fid>
+fn first_binder(nodes: &FidMap<Node>, fid: Fid) -> Option<Fid>
     ensures { result ≡ parent_of (nodes_of nodes.now.entries) fid }
 {
     let mut first = None;
@@ -116,7 +117,7 @@ fn first_binder(nodes: &HashMap<Fid, Node>, fid: Fid) -> Option<Fid>
 }
 
 // A copy of each node.
-fn copy_nodes(alloc: Global, nodes: &HashMap<Fid, Node>) -> Result<NodeTable, AllocError>
+fn copy_nodes(alloc: Global, nodes: &FidMap<Node>) -> Result<NodeTable, AllocError>
     ensures { IfOk result (λ t. t ≡ nodes_of nodes.now.entries) }
 {
     let mut copy = NodeTable::new(alloc);
@@ -134,7 +135,7 @@ impl NodeMap {
     {
         NodeMap {
             alloc,
-            nodes: HashMap::new(alloc),
+            nodes: FidMap::with_hasher(alloc, BuildHasherDefault::new()),
         }
     }
 

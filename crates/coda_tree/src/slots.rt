@@ -10,13 +10,14 @@ ghost use Rattle.coda_tree.specs.Undoing.{HasSlot, MayTakeBack, MayUndo, undone,
 ghost use Rattle.coda_tree.specs.SlotSteps.{MayTakeBackSlot, AltersAt, IsSameSlots, IsDirSlot, MayBindSlot, MayRebindSlot};
 
 use crate::entries::Room;
+use crate::hasher::FidMap;
 use crate::node::Parts;
 use crate::slot::{self, Held};
 use crate::undo::Undo;
 use crate::{Node, NodeKind};
 use coda_fid::{Attrs, Bytes, Fid, Name, Sid};
 use std::alloc::{AllocError, Global};
-use std::collections::HashMap;
+use std::hash::BuildHasherDefault;
 use std::marker::Model;
 use std::mem::replace;
 
@@ -25,7 +26,7 @@ use std::mem::replace;
 #[derive(Drop)]
 pub(crate) struct SlotTable {
     alloc: Global,
-    slots: HashMap<Fid, Option<Held>>,
+    slots: FidMap<Option<Held>>,
     full: usize,
 }
 
@@ -44,12 +45,7 @@ impl Model for SlotTable {
 }
 
 // Binds a free name in the directory at a fid.
-fn bind(
-    slots: &mut HashMap<Fid, Option<Held>>,
-    dir: Fid,
-    name: Name,
-    fid: Fid,
-) -> Result<(), AllocError>
+fn bind(slots: &mut FidMap<Option<Held>>, dir: Fid, name: Name, fid: Fid) -> Result<(), AllocError>
     requires { MayBindSlot (held_in (hash.get same_fid slots.old dir)) name }
     ensures ok { OnOk result (AltersAt slots.old slots.new dir (slot_changed (λ node. bind_in node name fid))) }
     ensures err { OnErr result (IsSameSlots slots.old slots.new) }
@@ -61,7 +57,7 @@ fn bind(
 }
 
 // Unbinds a name in the directory at a fid.
-fn unbind(slots: &mut HashMap<Fid, Option<Held>>, dir: Fid, name: &Name)
+fn unbind(slots: &mut FidMap<Option<Held>>, dir: Fid, name: &Name)
     requires { IsDirSlot (held_in (hash.get same_fid slots.old dir)) }
     ensures { AltersAt slots.old slots.new dir (slot_changed (λ node. unbind_in node name.now)) }
 {
@@ -71,7 +67,7 @@ fn unbind(slots: &mut HashMap<Fid, Option<Held>>, dir: Fid, name: &Name)
 }
 
 // Binds a bound name of the directory at a fid to another fid.
-fn rebind(slots: &mut HashMap<Fid, Option<Held>>, dir: Fid, name: &Name, fid: Fid)
+fn rebind(slots: &mut FidMap<Option<Held>>, dir: Fid, name: &Name, fid: Fid)
     requires { MayRebindSlot (held_in (hash.get same_fid slots.old dir)) name.now }
     ensures { AltersAt slots.old slots.new dir (slot_changed (λ node. bind_in node name.now fid)) }
 {
@@ -81,7 +77,7 @@ fn rebind(slots: &mut HashMap<Fid, Option<Held>>, dir: Fid, name: &Name, fid: Fi
 }
 
 // Binds a free name in the directory at a fid. Takes no memory but the room.
-fn take_back(slots: &mut HashMap<Fid, Option<Held>>, dir: Fid, name: Name, fid: Fid, room: Room)
+fn take_back(slots: &mut FidMap<Option<Held>>, dir: Fid, name: Name, fid: Fid, room: Room)
     requires { MayTakeBackSlot (held_in (hash.get same_fid slots.old dir)) name room }
     ensures { AltersAt slots.old slots.new dir (slot_changed (λ node. bind_in node name fid)) }
 {
@@ -92,7 +88,7 @@ fn take_back(slots: &mut HashMap<Fid, Option<Held>>, dir: Fid, name: Name, fid: 
 
 // Writes a content with its time to the node at a fid, where there is one, and answers what these parts were.
 fn exchange(
-    slots: &mut HashMap<Fid, Option<Held>>,
+    slots: &mut FidMap<Option<Held>>,
     fid: Fid,
     content: Bytes,
     mtime: u64,
@@ -108,7 +104,7 @@ fn exchange(
 }
 
 // Sets these parts of the node at a fid, where there is one.
-fn give_back(slots: &mut HashMap<Fid, Option<Held>>, fid: Fid, parts: Parts)
+fn give_back(slots: &mut FidMap<Option<Held>>, fid: Fid, parts: Parts)
     ensures { AltersAt slots.old slots.new fid (slot_changed (given_back parts)) }
 {
     if let Some(slot) = slots.get_mut(&fid) {
@@ -117,7 +113,7 @@ fn give_back(slots: &mut HashMap<Fid, Option<Held>>, fid: Fid, parts: Parts)
 }
 
 // Sets attributes of the node at a fid, where there is one.
-fn set_attributes(slots: &mut HashMap<Fid, Option<Held>>, fid: Fid, attrs: &Attrs, sid: Sid)
+fn set_attributes(slots: &mut FidMap<Option<Held>>, fid: Fid, attrs: &Attrs, sid: Sid)
     ensures { AltersAt slots.old slots.new fid (slot_changed (written (attrs_patch attrs.now) sid)) }
 {
     if let Some(slot) = slots.get_mut(&fid) {
@@ -126,7 +122,7 @@ fn set_attributes(slots: &mut HashMap<Fid, Option<Held>>, fid: Fid, attrs: &Attr
 }
 
 // Puts a node in the place of the one at a fid, where there is one.
-fn set(slots: &mut HashMap<Fid, Option<Held>>, fid: Fid, node: Node)
+fn set(slots: &mut FidMap<Option<Held>>, fid: Fid, node: Node)
     ensures { AltersAt slots.old slots.new fid (slot_changed (λ _. node)) }
 {
     if let Some(slot) = slots.get_mut(&fid) {
@@ -135,7 +131,7 @@ fn set(slots: &mut HashMap<Fid, Option<Held>>, fid: Fid, node: Node)
 }
 
 // Keeps another directory as the one that binds the node at a fid.
-fn set_parent(slots: &mut HashMap<Fid, Option<Held>>, fid: Fid, dir: Fid)
+fn set_parent(slots: &mut FidMap<Option<Held>>, fid: Fid, dir: Fid)
     ensures { AltersAt slots.old slots.new fid (slot_moved dir) }
 {
     if let Some(slot) = slots.get_mut(&fid) {
@@ -144,7 +140,7 @@ fn set_parent(slots: &mut HashMap<Fid, Option<Held>>, fid: Fid, dir: Fid)
 }
 
 // Empties the slot at a fid, where there is one.
-fn vacate(slots: &mut HashMap<Fid, Option<Held>>, fid: Fid) -> Option<Held>
+fn vacate(slots: &mut FidMap<Option<Held>>, fid: Fid) -> Option<Held>
     ensures held { result ≡ held_in (hash.get same_fid slots.old fid) }
     ensures empty { AltersAt slots.old slots.new fid (slot_with None) }
 {
@@ -180,7 +176,7 @@ fn is_full(slot: &Option<Option<Held>>) -> bool
 }
 
 // Whether the slot at a fid is there and empty.
-fn is_empty(slots: &HashMap<Fid, Option<Held>>, fid: Fid) -> bool
+fn is_empty(slots: &FidMap<Option<Held>>, fid: Fid) -> bool
     ensures { IsTrue result ↔ (hash.get same_fid slots.now fid ≡ Some None) }
 {
     match slots.get(&fid) {
@@ -191,7 +187,7 @@ fn is_empty(slots: &HashMap<Fid, Option<Held>>, fid: Fid) -> bool
 }
 
 // A copy of each slot.
-fn copy_slots(alloc: Global, slots: &HashMap<Fid, Option<Held>>) -> Result<SlotTable, AllocError>
+fn copy_slots(alloc: Global, slots: &FidMap<Option<Held>>) -> Result<SlotTable, AllocError>
     ensures { IfOk result (λ s. s ≡ keyed slots.now.entries) }
 {
     let mut copy = SlotTable::new(alloc);
@@ -209,7 +205,7 @@ impl SlotTable {
     {
         SlotTable {
             alloc,
-            slots: HashMap::new(alloc),
+            slots: FidMap::with_hasher(alloc, BuildHasherDefault::new()),
             full: 0,
         }
     }

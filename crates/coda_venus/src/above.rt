@@ -5,13 +5,15 @@ ghost use Rattle.coda_fid.specs.Fid.{same_fid};
 ghost use Rattle.coda_venus.specs.Above.{may_be_above};
 
 use coda_fid::Fid;
+use coda_tree::FidHash;
 use std::alloc::{AllocError, Global};
 use std::collections::HashSet;
+use std::hash::BuildHasherDefault;
 
 /// Objects that are or were the parents of others. Where one of them could not be noted, any object may be one.
 #[derive(Drop)]
 pub struct Above {
-    pub(crate) noted: HashSet<Fid>,
+    pub(crate) noted: HashSet<Fid, FidHash>,
     pub(crate) any: bool,
 }
 
@@ -21,7 +23,7 @@ impl Above {
         ensures { (f : Fid) → may_be_above result f ≡ false }
     {
         Above {
-            noted: HashSet::new(alloc),
+            noted: HashSet::with_hasher(alloc, BuildHasherDefault::new()),
             any: false,
         }
     }

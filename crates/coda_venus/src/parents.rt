@@ -8,8 +8,8 @@ ghost use Rattle.std.specs.FinMap as map;
 
 use crate::above::Above;
 use coda_fid::Fid;
+use coda_tree::FidMap;
 use std::alloc::{AllocError, Global};
-use std::collections::HashMap;
 use std::marker::Model;
 
 /// The directory that is the parent of each object that has one, and which objects may be parents.
@@ -17,7 +17,7 @@ use std::marker::Model;
 /// Contracts see a finite map from fids to fids.
 #[derive(Drop)]
 pub struct ParentTable {
-    parents: HashMap<Fid, Fid>,
+    parents: FidMap<Fid>,
     above: Above,
 }
 
@@ -37,7 +37,7 @@ impl Model for ParentTable {
 }
 
 // Puts another parent in the place of the one that an object has.
-fn set(parents: &mut HashMap<Fid, Fid>, fid: Fid, parent: Fid)
+fn set(parents: &mut FidMap<Fid>, fid: Fid, parent: Fid)
     requires { IsSome (hash.get same_fid parents.old fid) }
     ensures { (q : Fid) → hash.get same_fid parents.new q ≡ cond (same_fid fid q) (Some parent) (hash.get same_fid parents.old q) }
 {
@@ -47,7 +47,7 @@ fn set(parents: &mut HashMap<Fid, Fid>, fid: Fid, parent: Fid)
 }
 
 // Whether an object is the parent of some other one.
-fn is_among(parents: &HashMap<Fid, Fid>, fid: Fid) -> bool
+fn is_among(parents: &FidMap<Fid>, fid: Fid) -> bool
     ensures yes { result ≡ true → (f : Fid) × (hash.get same_fid parents.now f ≡ Some fid) }
     ensures no { result ≡ false → (f : Fid) → hash.get same_fid parents.now f ≢ Some fid }
 {
@@ -67,7 +67,7 @@ impl ParentTable {
         ensures { result ≡ map.empty }
     {
         ParentTable {
-            parents: HashMap::new(alloc),
+            parents: FidMap::with_hasher(alloc, BuildHasherDefault::new()),
             above: Above::new(alloc),
         }
     }
