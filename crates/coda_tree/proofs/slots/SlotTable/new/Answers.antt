@@ -11,4 +11,4 @@ use Rattle.coda_tree.proofs.SlotMap.{no_nodes}
 use Rattle.coda_tree.proofs.slots.SlotTable.new.Goals as goal
 
 pub invariant_of-result : goal.invariant_of-result
-invariant_of-result c = sym (ap (λ (es : List (Fid × Option Held)). map.len (nodes_in (keyed es))) c.new.ensures.empty ∙ ap (λ (m : Nodes). map.len m) no_nodes ∙ map.len-empty fid_cmp Node)
+invariant_of-result c = sym (ap (λ (es : List (Fid × Option Held)). map.len (nodes_in (keyed es))) c.with_hasher.ensures.empty ∙ ap (λ (m : Nodes). map.len m) no_nodes ∙ map.len-empty fid_cmp Node)
