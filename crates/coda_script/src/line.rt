@@ -1,6 +1,7 @@
-ghost use Rattle.std.specs.Prelude.{◌≡◌, List, ℕ};
+ghost use Rattle.std.specs.Prelude.{◌≡◌, List, ℕ, IfOk};
 
 use coda_fid::{Attrs, Bytes, Name, Path};
+use std::alloc::AllocError;
 use std::marker::Model;
 
 /// The servers of a volume, each of 1 to 8 and greater than the one before it.
@@ -23,6 +24,14 @@ impl Servers {
         ensures { result.now ≡ self.now }
     {
         &self.items
+    }
+
+    /// The same servers, in memory of their own.
+    pub fn copy(&self) -> Result<Servers, AllocError>
+        ensures { IfOk result (λ s. s ≡ self.now) }
+    {
+        let items = self.items.clone()?;
+        Ok(Servers { items })
     }
 }
 
