@@ -37,3 +37,8 @@ pub mod After
 mod Lasting
 mod Merging
 mod Kept
+mod Reasons
+mod Forgotten
+mod Contested
+mod Doubled
+mod FirstCause
