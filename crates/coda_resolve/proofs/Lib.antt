@@ -29,6 +29,7 @@ mod Sorted
 mod Stack
 mod Marking
 mod Changed
+mod Others
 mod Parts
 mod Sameness
 mod Renewing
