@@ -29,6 +29,7 @@ mod Sorted
 mod Stack
 mod Marking
 mod Changed
+mod Others
 mod Parts
 mod Sameness
 mod Renewing
@@ -37,3 +38,8 @@ pub mod After
 mod Lasting
 mod Merging
 mod Kept
+mod Reasons
+mod Forgotten
+mod Contested
+mod Doubled
+mod FirstCause

@@ -108,7 +108,7 @@ most_greatest origin (c ∷ cs) copy (inr s) = let k = most_greatest origin cs c
 
 -- ---- the missing update
 
-is_gap : (copies : Copies) (a b : Option Held) (origin seq : ℕ) → IsIn a copies → IsIn b copies → 1 ≤ origin → origin ≤ 8 → knows a origin seq ≡ true → knows b origin seq ≡ false → IsIn (origin, seq) (gaps copies)
+pub is_gap : (copies : Copies) (a b : Option Held) (origin seq : ℕ) → IsIn a copies → IsIn b copies → 1 ≤ origin → origin ≤ 8 → knows a origin seq ≡ true → knows b origin seq ≡ false → IsIn (origin, seq) (gaps copies)
 is_gap copies a b origin seq ina inb low high one other =
     in_flat (λ o. map {B = ℕ × ℕ} (λ s. (o, s)) (range_with_len (fewest o copies + 1) (most o copies - fewest o copies))) servers origin (origin, seq)
     (in_range 8 1 origin low (omega arith))

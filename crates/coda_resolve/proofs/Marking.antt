@@ -9,11 +9,8 @@ use Rattle.coda_resolve.specs.declared.walking.Taken.{Taken}
 use Rattle.coda_resolve.specs.declared.why.Mark.{Mark}
 use Rattle.coda_resolve.specs.Resolution.{Replicas, copies_at, fate_at}
 use Rattle.coda_resolve.specs.Outcome.{mark_by, marks_of, taken_up}
+use Rattle.coda_resolve.specs.Survey.{mark_at}
 use Rattle.coda_resolve.specs.Taken.{fids_of, AreFates}
-
--- the mark of an object that was taken up
-abbrev pub mark_at : Replicas → Taken → Option Mark
-mark_at views t = mark_by (copies_at views t.fid) t.fid t.fate
 
 one_item : (o : Option Mark) → cons_option o [] ≡ option_to_list o
 one_item None = refl

@@ -15,6 +15,7 @@ use Rattle.coda_resolve.specs.declared.walking.Taken.{Taken}
 use Rattle.coda_resolve.specs.declared.why.Why.{Why}
 use Rattle.coda_resolve.specs.Settling.{Fate, Same, Marked, Gone}
 use Rattle.coda_resolve.specs.Counted.{has_fid}
+use Rattle.coda_resolve.specs.Survey.{AreOthers}
 use Rattle.coda_resolve.specs.Taken.{fids_of, AreFates}
 use Rattle.coda_resolve.specs.Reached.{IsReached, start, onward, AreReached}
 use Rattle.coda_resolve.specs.Resolution.{Objects, Replicas, fate_at, IsTakenUp, at_root, has_in}
@@ -25,6 +26,8 @@ use Rattle.coda_resolve.specs.Changes.{is_among, changed, node_of, IsChange}
 use Rattle.coda_resolve.specs.Renewals.{Tells, left_at, AreRenewed, is_mark, marked_among, IsPart}
 use Rattle.coda_resolve.specs.Views.{objects_in}
 use Rattle.coda_resolve.proofs.Lists.{some_none}
+use Rattle.coda_resolve.proofs.Others.{renewed_all}
+use Rattle.coda_resolve.proofs.Twice.{is_same}
 use Rattle.coda_resolve.proofs.MergedNames.{any_append}
 use Rattle.coda_resolve.proofs.Walked.{walk_is_taken_up}
 use Rattle.coda_resolve.proofs.Complete.{taken_up_is_met}
@@ -183,18 +186,26 @@ is_marked_among views (t ∷ objects) f why are e is = by (is_mark t.fate) refl 
     by true at more = ⊎_elim (λ same. ap (λ b. b || is_among (marked_among objects) f) same) (λ rest. or_right (same_fid f t.fid) (is_among (marked_among objects) f) (more rest is)) (or_cases (same_fid f t.fid) (is_among (fids_of objects) f) e)
     by false at more = ⊎_elim (λ same. absurd (true≢false (sym (mark_here same) ∙ at))) (λ rest. more rest is) (or_cases (same_fid f t.fid) (is_among (fids_of objects) f) e)
 
-pub part_from : (views : Replicas) (root : Fid) (view : Objects) → AreOfOneHistory views root → IsIn view views → (objects : List Taken) → fids_of objects ≡ taken_up views root → AreFates views objects → (change : Change) (held : BTreeMap Fid Held) (touched : List Fid) (seen : BTreeSet Fid) (left : Fid → Bool) (marks : List Fid) → marks ≡ marked_among objects → AreReached view marks seen → ((f : Fid) → left f ≡ (has_fid seen f || is_among (fids_of objects) f)) → AreRenewed views view (fids_of objects) held touched → is_sorted fid_cmp change.held ≡ true → ((f : Fid) → finmap.get (objects_in change.held) f ≡ get fid_cmp held f) → change.gone ≡ filter (λ f. not (left f)) (finmap.keys view) → IsPart views root view change (touched ++ change.gone)
-part_from views root view history inview objects all are change held touched seen left marks marks_are reached left_are renewed up same gone =
-    part_made views root view history inview (fids_of objects) all change held touched left renewed up same gone
-    (λ f e. ⊎_elim (λ s. from_reached f (reached.only f s)) (λ a. inl (taken f a)) (or_cases (has_fid seen f) (is_among (fids_of objects) f) (sym (left_are f) ∙ e)))
-    (λ f a. left_are f ∙ or_right (has_fid seen f) (is_among (fids_of objects) f) a)
-    (λ f keeps. left_are f ∙ or_left (has_fid seen f) (is_among (fids_of objects) f) (reached.all f (to_reached f keeps)))
+pub part_from : (views : Replicas) (root : Fid) (view : Objects) → AreOfOneHistory views root → IsIn view views → (fids : List Fid) (others : List Taken) → fids ≡ taken_up views root → AreOthers views fids others → (change : Change) (held : BTreeMap Fid Held) (touched : List Fid) (seen : BTreeSet Fid) (left : Fid → Bool) (marks : List Fid) → marks ≡ marked_among others → AreReached view marks seen → ((f : Fid) → left f ≡ (has_fid seen f || is_among fids f)) → AreRenewed views view (fids_of others) held touched → is_sorted fid_cmp change.held ≡ true → ((f : Fid) → finmap.get (objects_in change.held) f ≡ get fid_cmp held f) → change.gone ≡ filter (λ f. not (left f)) (finmap.keys view) → IsPart views root view change (touched ++ change.gone)
+part_from views root view history inview fids others all are change held touched seen left marks marks_are reached left_are renewed up same gone =
+    part_made views root view history inview fids all change held touched left (renewed_all views view fids others held touched inview are renewed) up same gone
+    (λ f e. ⊎_elim (λ s. from_reached f (reached.only f s)) (λ a. inl (taken f a)) (or_cases (has_fid seen f) (is_among fids f) (sym (left_are f) ∙ e)))
+    (λ f a. left_are f ∙ or_right (has_fid seen f) (is_among fids f) a)
+    (λ f keeps. left_are f ∙ or_left (has_fid seen f) (is_among fids f) (reached.all f (to_reached f keeps)))
   where
-    taken : (f : Fid) → is_among (fids_of objects) f ≡ true → IsTakenUp views root f
-    taken f a = among_taken views root view history inview (fids_of objects) all f a
+    taken : (f : Fid) → is_among fids f ≡ true → IsTakenUp views root f
+    taken f a = among_taken views root view history inview fids all f a
 
     marked_is : (f : Fid) → is_among marks f ≡ true → KeepsOwn views root view f
-    marked_is f e = let m = is_marked_there views objects f are (ap (λ fids. is_among fids f) (sym marks_are) ∙ e) in marked_there f m.1.0 (taken f m.0) m.1.1
+    marked_is f e = let m = is_marked_there views others f are.fates (ap (λ gs. is_among gs f) (sym marks_are) ∙ e) in marked_there f m.1.0 (taken f (are.among f m.0)) m.1.1
+
+    -- what is marked may change
+    marked_may : (d : Fid) (why : Why) → is_among fids d ≡ true → fate_at views d ≡ Marked why → is_among (fids_of others) d ≡ true
+    marked_may d why a is = by (is_among (fids_of others) d) refl
+      where
+        by : (b : Bool) → is_among (fids_of others) d ≡ b → b ≡ true
+        by true e = refl
+        by false e = absurd (true≢false (ap is_same (sym (are.alike d a e).fate ∙ is)))
 
     from_reached : (f : Fid) → IsReached view marks f → IsTakenUp views root f ⊎ KeepsOwn views root view f
     from_reached g r = inr (keeps g r)
@@ -204,5 +215,5 @@ part_from views root view history inview objects all are change held touched see
         keeps g (onward d n f r bound) = further d n f (keeps d r) bound
 
     to_reached : (f : Fid) → KeepsOwn views root view f → IsReached view marks f
-    to_reached g (marked_there d why up is) = start d (ap (λ fids. is_among fids d) marks_are ∙ is_marked_among views objects d why are (taken_among views root view history inview (fids_of objects) all d up) is)
+    to_reached g (marked_there d why up is) = start d (ap (λ gs. is_among gs d) marks_are ∙ is_marked_among views others d why are.fates (marked_may d why (taken_among views root view history inview fids all d up) is) is)
     to_reached g (further d n f keeps bound) = onward d n f (to_reached d keeps) bound

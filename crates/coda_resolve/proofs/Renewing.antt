@@ -50,13 +50,13 @@ or_false false = refl
 pub among_last : (fids : List Fid) (f g : Fid) → is_among (fids ++ f ∷ []) g ≡ (is_among fids g || same_fid g f)
 among_last fids f g = any_append (same_fid g) fids (f ∷ []) ∙ ap (λ b. is_among fids g || b) (or_false (same_fid g f))
 
-among_cases : (fids : List Fid) (f g : Fid) → is_among (fids ++ f ∷ []) g ≡ true → (is_among fids g ≡ true) ⊎ (g ≡ f)
+pub among_cases : (fids : List Fid) (f g : Fid) → is_among (fids ++ f ∷ []) g ≡ true → (is_among fids g ≡ true) ⊎ (g ≡ f)
 among_cases fids f g e = ⊎_elim (λ h. inl h) (λ h. inr (same_fid_is g f h)) (or_cases (is_among fids g) (same_fid g f) (sym (among_last fids f g) ∙ e))
 
-among_before : (fids : List Fid) (f g : Fid) → is_among fids g ≡ true → is_among (fids ++ f ∷ []) g ≡ true
+pub among_before : (fids : List Fid) (f g : Fid) → is_among fids g ≡ true → is_among (fids ++ f ∷ []) g ≡ true
 among_before fids f g e = among_last fids f g ∙ or_left (is_among fids g) (same_fid g f) e
 
-among_here : (fids : List Fid) (f g : Fid) → g ≡ f → is_among (fids ++ f ∷ []) g ≡ true
+pub among_here : (fids : List Fid) (f g : Fid) → g ≡ f → is_among (fids ++ f ∷ []) g ≡ true
 among_here fids f g e = among_last fids f g ∙ or_right (is_among fids g) (same_fid g f) (subst (λ x. same_fid g x ≡ true) e (same_fid_refl g))
 
 -- ---- one object more

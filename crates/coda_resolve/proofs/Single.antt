@@ -22,7 +22,7 @@ use Rattle.coda_resolve.proofs.Walked.{value_at}
 
 -- ---- lists
 
-in_append : {X : Type 0} (xs ys : List X) (x : X) → IsIn x (xs ++ ys) → IsIn x xs ⊎ IsIn x ys
+pub in_append : {X : Type 0} (xs ys : List X) (x : X) → IsIn x (xs ++ ys) → IsIn x xs ⊎ IsIn x ys
 in_append [] ys x s = inr s
 in_append (z ∷ xs) ys x (inl is) = inl (inl is)
 in_append (z ∷ xs) ys x (inr s) = by (in_append xs ys x s)
@@ -31,7 +31,7 @@ in_append (z ∷ xs) ys x (inr s) = by (in_append xs ys x s)
     by (inl i) = inl (inr i)
     by (inr i) = inr i
 
-in_flat_from : {X Y : Type 0} (f : X → List Y) (xs : List X) (y : Y) → IsIn y (flat_map f xs) → (x : X) × (IsIn x xs × IsIn y (f x))
+pub in_flat_from : {X Y : Type 0} (f : X → List Y) (xs : List X) (y : Y) → IsIn y (flat_map f xs) → (x : X) × (IsIn x xs × IsIn y (f x))
 in_flat_from f [] y s = absurd s
 in_flat_from {X = X} {Y = Y} f (x ∷ xs) y s = by (in_append (f x) (flat_map f xs) y s) (in_flat_from f xs y)
   where

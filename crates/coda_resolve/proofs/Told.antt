@@ -33,6 +33,16 @@ in_made {X} {Y} h (z ∷ xs) x y (inr s) e = by (h z) (in_made h xs x y s e)
     by None t = t
     by (Some w) t = inr t
 
+-- and each of these is made of one of the items
+pub made_of : {X Y : Type 0} (h : X → Option Y) (xs : List X) (y : Y) → IsIn y (filter_map h xs) → (x : X) × (IsIn x xs × (h x ≡ Some y))
+made_of h [] y s = absurd s
+made_of {X} {Y} h (z ∷ xs) y s = by (h z) refl s (made_of h xs y)
+  where
+    by : (o : Option Y) → h z ≡ o → IsIn y (cons_option o (filter_map h xs)) → (IsIn y (filter_map h xs) → (x : X) × (IsIn x xs × (h x ≡ Some y))) → (x : X) × (IsIn x (z ∷ xs) × (h x ≡ Some y))
+    by None e t more = let m = more t in (m.0, (inr m.1.0, m.1.1))
+    by (Some w) e (inl is) more = (z, (inl refl, e ∙ ap Some is))
+    by (Some w) e (inr t) more = let m = more t in (m.0, (inr m.1.0, m.1.1))
+
 -- ---- marks
 
 all_marked : (copies : List (Option Held)) → list_any (λ copy. not (is_marked copy)) copies ≡ false → list_all is_marked copies ≡ true

@@ -99,7 +99,7 @@ lowest_kind b (Some other ∷ copies) held a e = subst (λ h. is_dir h.node.kind
 -- ---- files and links
 
 -- the file or link that all replicas hold, unmarked, stays
-leaf_again : (held : Held) (copy : Option Held) (others : Copies) (later : Fid → Copies) → held.node.marked ≡ false → is_dir held.node.kind ≡ false → fate (alike held (copy ∷ others)) later ≡ Same held
+pub leaf_again : (held : Held) (copy : Option Held) (others : Copies) (later : Fid → Copies) → held.node.marked ≡ false → is_dir held.node.kind ≡ false → fate (alike held (copy ∷ others)) later ≡ Same held
 leaf_again held copy others later plain kind = by_kind held.node.kind kind
   where
     newest : first_of_copies (dominating (alike held (copy ∷ others))) (alike held (copy ∷ others)) ≡ Some held

@@ -12,9 +12,12 @@ ghost use Rattle.coda_resolve.specs.Settling.{dominating, leaf_fate, dir_fate, f
 ghost use Rattle.coda_resolve.specs.Resolution.{copies_at, fate_at};
 ghost use Rattle.coda_resolve.specs.Views.{replicas_of, AreInOrder};
 ghost use Rattle.coda_resolve.specs.Lent.{lent};
+ghost use Rattle.coda_resolve.specs.Survey.{IsFateOrAlike};
 
 use crate::causes::dir_fate;
 use crate::copies::{lowest, some_marked, vector_of};
+use crate::hints::Hints;
+use crate::leaves::are_alike;
 use crate::updated::includes;
 use crate::view::{View, copies_near};
 use crate::why::Why;
@@ -135,21 +138,49 @@ fn fate_from(
     }
 }
 
-// What becomes of the object at all replicas. It is looked for first at a place for each view, where one is given.
+// What becomes of the object with these copies.
+fn fate_of(alloc: Global, views: &[View], copies: &[Option<&Held>]) -> Result<Fate, AllocError>
+    requires { AreInOrder views.now }
+    ensures { IfOk result (λ found. found ≡ fate (map option_copied copies.now) (copies_at (replicas_of views.now))) }
+{
+    match lowest(copies) {
+        Some(held) => fate_from(alloc, views, copies, held),
+        None => Ok(Fate::Gone),
+    }
+}
+
+// What becomes of the object at all replicas, which is met then, and looked for first where the hints of each view say.
 pub(crate) fn fate_near(
     alloc: Global,
     views: &[View],
     fid: Fid,
-    near: &mut [usize],
+    hints: &mut [Hints],
+    when: usize,
 ) -> Result<Fate, AllocError>
     requires { AreInOrder views.now }
     ensures { IfOk result (λ fate. fate ≡ fate_at (replicas_of views.now) fid) }
 {
-    let copies = copies_near(alloc, views, fid, near)?;
-    match lowest(&copies) {
-        Some(held) => fate_from(alloc, views, &copies, held),
-        None => Ok(Fate::Gone),
+    let copies = copies_near(alloc, views, fid, hints, when)?;
+    fate_of(alloc, views, &copies)
+}
+
+// The same, unless it is a file or link that stays as all replicas hold it.
+pub(crate) fn fate_or_alike(
+    alloc: Global,
+    views: &[View],
+    fid: Fid,
+    hints: &mut [Hints],
+    when: usize,
+) -> Result<Option<Fate>, AllocError>
+    requires { AreInOrder views.now }
+    ensures { IfOk result (λ fate. IsFateOrAlike (replicas_of views.now) fid fate) }
+{
+    let copies = copies_near(alloc, views, fid, hints, when)?;
+    if are_alike(&copies) {
+        return Ok(None);
     }
+    let fate = fate_of(alloc, views, &copies)?;
+    Ok(Some(fate))
 }
 
 /// What becomes of the object at all replicas, from what each of them holds, the lowest server first.
@@ -165,5 +196,5 @@ pub fn fate_at(alloc: Global, views: &[View], fid: Fid) -> Result<Fate, AllocErr
     requires { AreInOrder views.now }
     ensures { IfOk result (λ fate. fate ≡ fate_at (replicas_of views.now) fid) }
 {
-    fate_near(alloc, views, fid, &mut [])
+    fate_near(alloc, views, fid, &mut [], 0)
 }

@@ -5,6 +5,7 @@ ghost use Rattle.coda_resolve.specs.Trees.{TreesStayTrees};
 ghost use Rattle.coda_resolve.specs.Past.{RecalledAreOfOneHistory};
 ghost use Rattle.coda_resolve.specs.Outcome.{WalkIsTakenUp};
 ghost use Rattle.coda_resolve.specs.Told.{MarksAreTold, GreatestAreJoined, MergedLogsKeepTheLatest};
+ghost use Rattle.coda_resolve.specs.FirstCause.{MarksNameTheFirstCause};
 ghost use Rattle.coda_resolve.specs.Outcomes.{ChangesLeaveEqualOrMarked, ChangesKeepOneHistory, SecondOutcomeIsNothing};
 
 /// A law of resolution: an object that some replica has is the same at all replicas after its
@@ -106,4 +107,11 @@ pub fn greatest_are_joined()
 /// of theirs stands: all of them, or the last 256.
 pub fn merged_logs_keep_the_latest()
     ensures { MergedLogsKeepTheLatest }
+{}
+
+/// A law of resolution: a directory is marked for a cause just where that is the first of the table that holds, and the new marks
+/// name it. A mark that is there comes first, then an update that no log has any more, a move between directories, a name, an
+/// object that would be bound twice or though it was taken out, one that was taken out and updated elsewhere, and attributes.
+pub fn marks_name_the_first_cause()
+    ensures { MarksNameTheFirstCause }
 {}

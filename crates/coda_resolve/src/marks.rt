@@ -1,11 +1,10 @@
 ghost use Rattle.std.specs.Prelude.{◌≡◌, ◌++◌, not, option_copied, map, option_to_list, IfOk};
 ghost use Rattle.std.specs.List.{list_any};
 ghost use Rattle.coda_resolve.specs.Copies.{is_marked};
-ghost use Rattle.coda_fid.specs.declared.fid.Fid.{Fid};
-ghost use Rattle.coda_resolve.specs.Outcome.{mark_by, marks_of, taken_up};
+ghost use Rattle.coda_resolve.specs.Outcome.{mark_by, marks_of};
 ghost use Rattle.coda_resolve.specs.Placement.{AreOfOneHistory};
 ghost use Rattle.coda_resolve.specs.Resolution.{copies_at};
-ghost use Rattle.coda_resolve.specs.Taken.{fids_of, AreFates};
+ghost use Rattle.coda_resolve.specs.Survey.{marks_among};
 ghost use Rattle.coda_resolve.specs.Views.{replicas_of, AreInOrder};
 
 use crate::copies::is_marked;
@@ -72,9 +71,8 @@ pub(crate) fn marks_among(
     views: &[View],
     objects: &[Taken],
 ) -> Result<Vec<Mark>, AllocError>
-    requires order { AreInOrder views.now }
-    requires fates { AreFates (replicas_of views.now) objects.now }
-    ensures { IfOk result (λ marks. (root : Fid) → fids_of objects.now ≡ taken_up (replicas_of views.now) root → marks.items ≡ marks_of (replicas_of views.now) root) }
+    requires { AreInOrder views.now }
+    ensures { IfOk result (λ marks. marks.items ≡ marks_among (replicas_of views.now) objects.now) }
 {
     let mut marks = Vec::new(alloc);
     for taken in objects {

@@ -1,5 +1,5 @@
 // What a resolution makes of one replica.
-ghost use Rattle.std.specs.Prelude.{◌≡◌, ◌++◌, ◌∷◌, [], ◌||◌, true, not, cond, map, IfOk, OnOk, List};
+ghost use Rattle.std.specs.Prelude.{◌≡◌, ◌++◌, ◌∷◌, [], ◌||◌, true, not, cond, map, Bool, false, IsTrue, IfOk, OnOk, List};
 ghost use Rattle.std.specs.List.{filter};
 ghost use Rattle.std.specs.BTreeMap.{get};
 ghost use Rattle.std.specs.FinMap as finmap;
@@ -12,14 +12,16 @@ ghost use Rattle.coda_resolve.specs.Placement.{IsIn, AreOfOneHistory};
 ghost use Rattle.coda_resolve.specs.Resolution.{Objects, Replicas};
 ghost use Rattle.coda_resolve.specs.Changes.{is_among};
 ghost use Rattle.coda_resolve.specs.Renewals.{IsRenewal, left_at, AreRenewed, is_mark, marked_among, IsPart};
+ghost use Rattle.coda_resolve.specs.Survey.{AreOthers};
 ghost use Rattle.coda_resolve.specs.Taken.{fids_of, AreFates};
 ghost use Rattle.coda_resolve.specs.Views.{objects_in, objects_of, replicas_of, AreInOrder};
 
 use crate::below::below;
 use crate::fate::Fate;
+use crate::hints::{Hints, met_at, place};
 use crate::renewal::{Renewal, renewal_of};
 use crate::view::{View, held_near};
-use crate::walking::Taken;
+use crate::walking::{Survey, Taken};
 use coda_fid::Fid;
 use coda_reslog::{Change, Fids, Held, HeldObjects};
 use std::alloc::{AllocError, Global};
@@ -74,6 +76,7 @@ fn renewed(
     views: &[View],
     view: &View,
     objects: &[Taken],
+    hints: Option<&Hints>,
 ) -> Result<Renewals, AllocError>
     requires order { AreInOrder views.now }
     requires sorted { is_sorted fid_cmp view.now.held ≡ true }
@@ -82,9 +85,9 @@ fn renewed(
 {
     let mut held = BTreeMap::new(alloc);
     let mut touched = Vec::new(alloc);
-    let mut near = 0;
     for object in objects {
-        let own = held_near(view.held.objects(), object.fid, &mut near);
+        let near = place(hints, object.fid);
+        let own = held_near(view.held.objects(), object.fid, near);
         let renewal = renewal_of(alloc, views, object.fid, &object.fate, own)?;
         add_renewal(&mut held, &mut touched, object.fid, renewal)?;
     }
@@ -127,15 +130,43 @@ pub(crate) fn marked(alloc: Global, objects: &[Taken]) -> Result<Vec<Fid>, Alloc
     Ok(fids)
 }
 
-// The objects, found by their hashes.
-pub(crate) fn taken_set(alloc: Global, objects: &[Taken]) -> Result<HashSet<Fid>, AllocError>
-    ensures { IfOk result (λ set. (f : Fid) → has_hashed set f ≡ is_among (fids_of objects.now) f) }
+// The fids, found by their hashes.
+fn hashed(alloc: Global, fids: &[Fid]) -> Result<HashSet<Fid>, AllocError>
+    ensures { IfOk result (λ set. (f : Fid) → has_hashed set f ≡ is_among fids.now f) }
 {
     let mut set = HashSet::new(alloc);
-    for object in objects {
-        set.insert(object.fid)?;
+    for fid in fids {
+        set.insert(*fid)?;
     }
     Ok(set)
+}
+
+// Whether the object stands at a place of the list. Where it doesn't, nothing is said.
+fn stands_at(fids: &[Fid], place: usize, fid: Fid) -> bool
+    ensures { IsTrue result → is_among fids.now fid ≡ true }
+{
+    match fids.get(place) {
+        Some(other) => *other == fid,
+        None => false,
+    }
+}
+
+// The objects of the replica, in their order, but for some that are among the fids: those that were met where the hints say.
+fn unmet(
+    alloc: Global,
+    held: &[(Fid, Held)],
+    hints: Option<&Hints>,
+    fids: &[Fid],
+) -> Result<Vec<Fid>, AllocError>
+    ensures { IfOk result (λ unmet. (t : Fid → Bool) → ((f : Fid) → is_among fids.now f ≡ true → t f ≡ false) → filter t unmet.items ≡ filter t (map (λ object. object.0) held.now)) }
+{
+    let mut unmet = Vec::new(alloc);
+    for place in 0..held.len() {
+        let fid = held[place].0;
+        let met = stands_at(fids, met_at(hints, place), fid);
+        add_where(&mut unmet, fid, !met)?;
+    }
+    Ok(unmet)
 }
 
 // Whether the object is in one of the sets.
@@ -145,20 +176,36 @@ fn stays(below: &BTreeSet<Fid>, taken: &HashSet<Fid>, fid: Fid) -> bool
     below.contains(&fid) || taken.contains(&fid)
 }
 
-// The objects of the replica that aren't in one of the sets, in their order.
-fn gone(
+// Those of the objects that aren't in one of the sets, in their order.
+fn outside(
     alloc: Global,
-    held: &[(Fid, Held)],
+    objects: &[Fid],
     below: &BTreeSet<Fid>,
     taken: &HashSet<Fid>,
 ) -> Result<Vec<Fid>, AllocError>
-    ensures { IfOk result (λ fids. fids.items ≡ filter (λ f. not (has_fid below.now f || has_hashed taken.now f)) (map (λ object. object.0) held.now)) }
+    ensures { IfOk result (λ fids. fids.items ≡ filter (λ f. not (has_fid below.now f || has_hashed taken.now f)) objects.now) }
 {
     let mut fids = Vec::new(alloc);
-    for object in held {
-        add_where(&mut fids, object.0, !stays(below, taken, object.0))?;
+    for fid in objects {
+        add_where(&mut fids, *fid, !stays(below, taken, *fid))?;
     }
     Ok(fids)
+}
+
+// Those of the objects that are neither in the set nor among those that are taken up, in their order.
+fn gone(
+    alloc: Global,
+    objects: &[Fid],
+    below: &BTreeSet<Fid>,
+    taken: &[Fid],
+) -> Result<Vec<Fid>, AllocError>
+    ensures { IfOk result (λ fids. fids.items ≡ filter (λ f. not (has_fid below.now f || is_among taken.now f)) objects.now) }
+{
+    if objects.is_empty() {
+        return Ok(Vec::new(alloc));
+    }
+    let taken = hashed(alloc, taken)?;
+    outside(alloc, objects, below, &taken)
 }
 
 // Adds the fids behind the others.
@@ -173,26 +220,25 @@ fn add_all(fids: &mut Vec<Fid>, more: &[Fid]) -> Result<(), AllocError>
 
 // ---- the replica
 
-// What a resolution makes of one of the replicas, from what it takes up, what all replicas have marked of that, and the
-// set of what it takes up.
+// What a resolution makes of one of the replicas, from what it takes up, and what all replicas have marked of that.
 pub(crate) fn part_of(
     alloc: Global,
     views: &[View],
     view: &View,
-    objects: &[Taken],
+    survey: &Survey,
     marked: &[Fid],
-    taken: &HashSet<Fid>,
+    hints: Option<&Hints>,
 ) -> Result<Part, AllocError>
     requires order { AreInOrder views.now }
     requires sorted { is_sorted fid_cmp view.now.held ≡ true }
-    requires fates { AreFates (replicas_of views.now) objects.now }
-    requires marked { marked.now ≡ marked_among objects.now }
-    requires taken { (f : Fid) → has_hashed taken.now f ≡ is_among (fids_of objects.now) f }
-    ensures { IfOk result (λ part. (root : Fid) → AreOfOneHistory (replicas_of views.now) root → fids_of objects.now ≡ taken_up (replicas_of views.now) root → IsIn (objects_of view.now) (replicas_of views.now) → IsPart (replicas_of views.now) root (objects_of view.now) part.change part.touched.items) }
+    requires others { AreOthers (replicas_of views.now) survey.now.fids.items survey.now.others.items }
+    requires marked { marked.now ≡ marked_among survey.now.others.items }
+    ensures { IfOk result (λ part. (root : Fid) → AreOfOneHistory (replicas_of views.now) root → survey.now.fids.items ≡ taken_up (replicas_of views.now) root → IsIn (objects_of view.now) (replicas_of views.now) → IsPart (replicas_of views.now) root (objects_of view.now) part.change part.touched.items) }
 {
     let below = below(alloc, view, marked)?;
-    let gone = gone(alloc, view.held.objects(), &below, taken)?;
-    let renewed = renewed(alloc, views, view, objects)?;
+    let unmet = unmet(alloc, view.held.objects(), hints, &survey.fids)?;
+    let gone = gone(alloc, &unmet, &below, &survey.fids)?;
+    let renewed = renewed(alloc, views, view, &survey.others, hints)?;
     let mut touched = renewed.touched;
     add_all(&mut touched, &gone)?;
     let held = in_order(alloc, renewed.held)?;

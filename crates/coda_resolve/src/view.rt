@@ -5,6 +5,7 @@ ghost use Rattle.coda_fid.specs.Fid.{fid_cmp};
 ghost use Rattle.coda_resolve.specs.Resolution.{copies_at};
 ghost use Rattle.coda_resolve.specs.Views.{IsIndexOf, IsGapFor, IsBetween, objects_in, objects_of, replicas_of, AreInOrder};
 
+use crate::hints::{Hints, meet};
 use crate::lasts::Lasts;
 use coda_fid::Fid;
 use coda_reslog::{Held, HeldObjects};
@@ -100,21 +101,13 @@ fn search_near(items: &[(Fid, Held)], fid: Fid, near: usize) -> Result<usize, us
     }
 }
 
-// What is held of the object, which may well be at a place; that place is then the one behind it. So objects that are asked for
-// in the order of their fids are found at once, and others near each other by a short search.
-pub(crate) fn held_near<'a>(
-    items: &'a [(Fid, Held)],
-    fid: Fid,
-    near: &mut usize,
-) -> Option<&'a Held>
+// What is held of the object, which may well be at a place.
+pub(crate) fn held_near(items: &[(Fid, Held)], fid: Fid, near: usize) -> Option<&Held>
     requires { is_sorted fid_cmp items.now ≡ true }
     ensures { option_copied result ≡ finmap.get (objects_in items.now) fid }
 {
-    match search_near(items, fid, *near) {
-        Ok(at) => {
-            *near = at + 1;
-            Some(&items[at].1)
-        }
+    match search_near(items, fid, near) {
+        Ok(at) => Some(&items[at].1),
         Err(_) => None,
     }
 }
@@ -154,13 +147,21 @@ pub fn are_in_order(views: &[View]) -> bool
     }
 }
 
-// What is held of the object, which is looked for first at a place where it may well be, if one is given.
-fn held_from<'a>(items: &'a [(Fid, Held)], fid: Fid, near: Option<&mut usize>) -> Option<&'a Held>
+// What is held of the object, which is met, and looked for first where it may well be, if hints are given.
+fn held_from<'a>(
+    items: &'a [(Fid, Held)],
+    fid: Fid,
+    hints: Option<&mut Hints>,
+    when: usize,
+) -> Option<&'a Held>
     requires { is_sorted fid_cmp items.now ≡ true }
     ensures { option_copied result ≡ finmap.get (objects_in items.now) fid }
 {
-    match near {
-        Some(near) => held_near(items, fid, near),
+    match hints {
+        Some(hints) => {
+            let near = meet(hints, fid, when);
+            held_near(items, fid, near)
+        }
         None => held_in(items, fid),
     }
 }
@@ -170,7 +171,8 @@ fn with_views<'a>(
     mut copies: Vec<Option<&'a Held>>,
     views: &'a [View],
     fid: Fid,
-    near: &mut [usize],
+    hints: &mut [Hints],
+    when: usize,
 ) -> Result<Vec<Option<&'a Held>>, AllocError>
     requires { AreInOrder views.now }
     ensures { IfOk result (λ all. map option_copied all.items ≡ map option_copied copies.entry.items ++ copies_at (replicas_of views.now) fid) }
@@ -178,25 +180,25 @@ fn with_views<'a>(
     match views {
         [] => Ok(copies),
         [first, rest @ ..] => {
-            let place = near.get_mut(copies.len());
-            copies.push(held_from(first.held.objects(), fid, place))?;
-            with_views(copies, rest, fid, near)
+            let own = hints.get_mut(copies.len());
+            copies.push(held_from(first.held.objects(), fid, own, when))?;
+            with_views(copies, rest, fid, hints, when)
         }
     }
 }
 
-// What each replica holds of the object, which is looked for first at a place for each view, where one is given. Each place is
-// then the one behind the object.
+// What each replica holds of the object, which is met then, and looked for first where the hints of each view say.
 pub(crate) fn copies_near<'a>(
     alloc: Global,
     views: &'a [View],
     fid: Fid,
-    near: &mut [usize],
+    hints: &mut [Hints],
+    when: usize,
 ) -> Result<Vec<Option<&'a Held>>, AllocError>
     requires { AreInOrder views.now }
     ensures { IfOk result (λ copies. map option_copied copies.items ≡ copies_at (replicas_of views.now) fid) }
 {
-    with_views(Vec::new(alloc), views, fid, near)
+    with_views(Vec::new(alloc), views, fid, hints, when)
 }
 
 // What each replica holds of the object.
@@ -208,5 +210,5 @@ pub(crate) fn copies_at<'a>(
     requires { AreInOrder views.now }
     ensures { IfOk result (λ copies. map option_copied copies.items ≡ copies_at (replicas_of views.now) fid) }
 {
-    copies_near(alloc, views, fid, &mut [])
+    copies_near(alloc, views, fid, &mut [], 0)
 }

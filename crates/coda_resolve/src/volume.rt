@@ -11,14 +11,14 @@ ghost use Rattle.coda_resolve.specs.Outcome.{taken_up};
 ghost use Rattle.coda_resolve.specs.Placement.{AreOfOneHistory};
 ghost use Rattle.coda_resolve.specs.Renewals.{IsPart, AreParts, changes_of};
 ghost use Rattle.coda_resolve.specs.Resolution.{Objects, Replicas};
-ghost use Rattle.coda_resolve.specs.Taken.{fids_of, AreFates};
+ghost use Rattle.coda_resolve.specs.Survey.{AreOthers};
 ghost use Rattle.coda_resolve.specs.Views.{replicas_of, volume_of, AreInOrder};
 
 use crate::lasts::{Lasts, joined};
 use crate::marks::marks_among;
-use crate::part::{Part, marked, part_of, taken_set};
+use crate::part::{Part, marked, part_of};
 use crate::view::View;
-use crate::walking::{Taken, walk};
+use crate::walking::{Survey, take_up};
 use crate::why::Mark;
 use coda_fid::Fid;
 use coda_reslog::Change;
@@ -139,18 +139,18 @@ fn add_part(
 }
 
 // What becomes of each replica, from what a resolution takes up.
-fn parts_of(alloc: Global, views: &[View], objects: &[Taken]) -> Result<Parts, AllocError>
+fn parts_of(alloc: Global, views: &[View], survey: &Survey) -> Result<Parts, AllocError>
     requires order { AreInOrder views.now }
-    requires fates { AreFates (replicas_of views.now) objects.now }
+    requires others { AreOthers (replicas_of views.now) survey.now.fids.items survey.now.others.items }
     ensures servers { IfOk result (λ parts. map (λ (change : ℕ × Change). change.0) parts.changes.items ≡ map (λ (view : View). view.server) views.now) }
-    ensures parts { IfOk result (λ parts. (root : Fid) → AreOfOneHistory (replicas_of views.now) root → fids_of objects.now ≡ taken_up (replicas_of views.now) root → AreParts (replicas_of views.now) root (replicas_of views.now) parts.changes.items parts.touched) }
+    ensures parts { IfOk result (λ parts. (root : Fid) → AreOfOneHistory (replicas_of views.now) root → survey.now.fids.items ≡ taken_up (replicas_of views.now) root → AreParts (replicas_of views.now) root (replicas_of views.now) parts.changes.items parts.touched) }
 {
-    let marked = marked(alloc, objects)?;
-    let taken = taken_set(alloc, objects)?;
+    let marked = marked(alloc, &survey.others)?;
     let mut changes = Vec::new(alloc);
     let mut touched = BTreeSet::new(alloc);
     for view in views {
-        let part = part_of(alloc, views, view, objects, &marked, &taken)?;
+        let hints = survey.hints.get(changes.len());
+        let part = part_of(alloc, views, view, survey, &marked, hints)?;
         add_part(&mut changes, &mut touched, view.server, part)?;
     }
     Ok(Parts { changes, touched })
@@ -172,7 +172,7 @@ fn volume_of(views: &[View]) -> u32
 /// The views are of one volume, in the order of servers, each with its objects in the order of fids. Of replicas of one
 /// history the outcome is exact: each change makes of its replica what the resolution leaves of it and names nothing else,
 /// the marks are the new ones in path order, and so many objects are touched. The work is linear in what each directory
-/// binds and in the entries of its logs, times a logarithm; no node is compared twice.
+/// binds and in the entries of its logs, times a logarithm; no node is compared twice, unless copies with the same updates differ.
 ///
 /// # Errors
 ///
@@ -183,9 +183,9 @@ pub fn merge(alloc: Global, views: &[View]) -> Result<Outcome, AllocError>
     ensures lasts { IfOk result (λ outcome. outcome.lasts ≡ joined_lasts (flat_map (λ (view : View). view.lasts) views.now)) }
     ensures outcome { IfOk result (λ outcome. AreOfOneHistory (replicas_of views.now) (root_of (volume_of views.now)) → IsOutcome (replicas_of views.now) (root_of (volume_of views.now)) (changes_of outcome.changes) outcome.marks outcome.touched) }
 {
-    let objects = walk(alloc, views, Fid::root(volume_of(views)))?;
-    let marks = marks_among(alloc, views, &objects)?;
-    let parts = parts_of(alloc, views, &objects)?;
+    let survey = take_up(alloc, views, Fid::root(volume_of(views)))?;
+    let marks = marks_among(alloc, views, &survey.others)?;
+    let parts = parts_of(alloc, views, &survey)?;
     let lasts = joined(alloc, views)?;
     let touched = parts.touched.len() as u64;
     Ok(Outcome {

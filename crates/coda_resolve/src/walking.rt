@@ -1,12 +1,15 @@
-ghost use Rattle.std.specs.Prelude.{◌≡◌, ◌++◌, reverse, IfOk};
+ghost use Rattle.std.specs.Prelude.{◌≡◌, ◌++◌, ◌∷◌, [], List, reverse, IfOk};
 ghost use Rattle.coda_fid.specs.declared.fid.Fid.{Fid};
 ghost use Rattle.coda_resolve.specs.Outcome.{next_up, taken_up};
 ghost use Rattle.coda_resolve.specs.Placement.{AreOfOneHistory};
 ghost use Rattle.coda_resolve.specs.Views.{replicas_of, AreInOrder};
+ghost use Rattle.coda_resolve.specs.Resolution.{Replicas, fate_at};
+ghost use Rattle.coda_resolve.specs.Survey.{IsFateOrAlike, AreOthers};
 ghost use Rattle.coda_resolve.specs.Taken.{fids_of, AreFates};
 
 use crate::doubles::values;
-use crate::fate::{Fate, fate_near};
+use crate::fate::{Fate, fate_near, fate_or_alike};
+use crate::hints::{Hints, all_hints};
 use crate::view::View;
 use coda_fid::Fid;
 use coda_tree::NodeKind;
@@ -50,11 +53,6 @@ fn push_next(alloc: Global, stack: Vec<Fid>, fate: &Fate) -> Result<Vec<Fid>, Al
     }
 }
 
-// For each view the place of its first object.
-fn places(alloc: Global, views: &[View]) -> Result<Vec<usize>, AllocError> {
-    vec![in alloc; 0usize; views.len()]
-}
-
 /// What a resolution takes up, in path order, with what becomes of each object.
 ///
 /// That it is all of that, each object once, holds of replicas of one history; of others the walk may want memory without
@@ -68,16 +66,69 @@ pub fn walk(alloc: Global, views: &[View], root: Fid) -> Result<Vec<Taken>, Allo
     ensures fids { IfOk result (λ taken. AreOfOneHistory (replicas_of views.now) root → fids_of taken.items ≡ taken_up (replicas_of views.now) root) }
     ensures fates { IfOk result (λ taken. AreFates (replicas_of views.now) taken.items) }
 {
-    let mut near = places(alloc, views)?;
+    let mut hints = all_hints(alloc, views)?;
     let mut taken = Vec::new(alloc);
     let mut stack = vec![in alloc; root]?;
     for _ in 0..u64::MAX {
         let Some(fid) = stack.pop() else {
             return Ok(taken);
         };
-        let fate = fate_near(alloc, views, fid, &mut near)?;
+        let fate = fate_near(alloc, views, fid, &mut hints, taken.len())?;
         stack = push_next(alloc, stack, &fate)?;
         taken.push(Taken { fid, fate })?;
+    }
+    Err(AllocError)
+}
+
+// What a resolution takes up, in path order; those of the objects that may change, with what becomes of each; and for each view
+// where its objects may well be, and at which place of the path order each was met.
+#[derive(Drop)]
+pub(crate) struct Survey {
+    pub(crate) fids: Vec<Fid>,
+    pub(crate) others: Vec<Taken>,
+    pub(crate) hints: Vec<Hints>,
+}
+
+// Goes on with a survey: what is taken up next waits, and the object may change unless it stays alike.
+fn go_on(
+    alloc: Global,
+    others: &mut Vec<Taken>,
+    stack: Vec<Fid>,
+    fid: Fid,
+    fate: Option<Fate>,
+) -> Result<Vec<Fid>, AllocError>
+    ensures next { IfOk result (λ all. (views : Replicas) → IsFateOrAlike views fid fate → reverse all.items ≡ next_up (fate_at views fid) ++ reverse stack.items) }
+    ensures others { IfOk result (λ all. (views : Replicas) (fids : List Fid) → IsFateOrAlike views fid fate → AreOthers views fids others.old.items → AreOthers views (fids ++ fid ∷ []) others.new.items) }
+{
+    let Some(fate) = fate else {
+        return Ok(stack);
+    };
+    let stack = push_next(alloc, stack, &fate)?;
+    others.push(Taken { fid, fate })?;
+    Ok(stack)
+}
+
+// What a resolution takes up, and what of it may change.
+pub(crate) fn take_up(alloc: Global, views: &[View], root: Fid) -> Result<Survey, AllocError>
+    requires { AreInOrder views.now }
+    ensures fids { IfOk result (λ survey. AreOfOneHistory (replicas_of views.now) root → survey.fids.items ≡ taken_up (replicas_of views.now) root) }
+    ensures others { IfOk result (λ survey. AreOthers (replicas_of views.now) survey.fids.items survey.others.items) }
+{
+    let mut hints = all_hints(alloc, views)?;
+    let mut fids = Vec::new(alloc);
+    let mut others = Vec::new(alloc);
+    let mut stack = vec![in alloc; root]?;
+    for _ in 0..u64::MAX {
+        let Some(fid) = stack.pop() else {
+            return Ok(Survey {
+                fids,
+                others,
+                hints,
+            });
+        };
+        let fate = fate_or_alike(alloc, views, fid, &mut hints, fids.len())?;
+        stack = go_on(alloc, &mut others, stack, fid, fate)?;
+        fids.push(fid)?;
     }
     Err(AllocError)
 }
