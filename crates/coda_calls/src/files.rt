@@ -16,7 +16,14 @@ pub struct Filed<'a> {
 
 // Puts whether files could be reached.
 fn put_reached(out: &mut String, outcome: io::Result<()>) -> Result<(), AllocError> {
-    put(out, if outcome.is_ok() { "reached" } else { "io fault" })
+    put(
+        out,
+        if outcome.is_ok() {
+            "reached"
+        } else {
+            "io fault"
+        },
+    )
 }
 
 // `left NUMBER`: what a crash leaves of the disk, on which abc was written at 2; it refused a further call.
@@ -53,7 +60,14 @@ fn sealed(rt: &HostRuntime, file: &str, out: &mut String) -> Result<(), AllocErr
         return put(out, "io fault");
     };
     let mut disk = FileDisk::new(1, file);
-    put(out, if disk.write_at(0, b"x").is_ok() { "done" } else { "fault" })?;
+    put(
+        out,
+        if disk.write_at(0, b"x").is_ok() {
+            "done"
+        } else {
+            "fault"
+        },
+    )?;
     put_number(out, disk.faults())
 }
 
@@ -71,8 +85,14 @@ fn put_appended(out: &mut String, done: Result<(), JournalFault>) -> Result<(), 
     }
 }
 
-// `append NUMBER COUNT`: an entry of so many bytes 7 is appended to the journal of a disk, and once more; and what it has after a crash.
-fn append(alloc: Global, rt: &HostRuntime, words: &[&str], out: &mut String) -> Result<(), AllocError> {
+// `append NUMBER COUNT`: an entry of so many bytes 7 is appended to the journal of a disk, and once more; and what
+// it has after a crash.
+fn append(
+    alloc: Global,
+    rt: &HostRuntime,
+    words: &[&str],
+    out: &mut String,
+) -> Result<(), AllocError> {
     let payload = vec![in alloc; 7u8; number(words, 2).min(1_000_000) as usize]?;
     let frame = Frame::new(alloc, &payload)?;
     let mut bay = FileBay::new(alloc, rt);
@@ -93,7 +113,14 @@ fn append(alloc: Global, rt: &HostRuntime, words: &[&str], out: &mut String) -> 
     put(out, "used")?;
     put_number(out, journal.used())?;
     for found in &payloads {
-        put(out, if found.bytes() == payload.as_slice() { "same" } else { "other" })?;
+        put(
+            out,
+            if found.bytes() == payload.as_slice() {
+                "same"
+            } else {
+                "other"
+            },
+        )?;
     }
     Ok(())
 }

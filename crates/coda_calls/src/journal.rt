@@ -1,4 +1,5 @@
-// Calls on the journal of a disk in memory, that of the replica of volume 0x01020304 at server 3, of group 7, in an area of 1 MiB.
+// Calls on the journal of a disk in memory, that of the replica of volume 0x01020304 at server 3, of group 7, in
+// an area of 1 MiB.
 use crate::compare::Bench;
 use crate::words::{bytes, number, put, put_number, word};
 use coda_disk::{Disk, MemDisk};
@@ -103,7 +104,8 @@ impl Image {
         put_mounted(alloc, image, out)
     }
 
-    // `append PASSES CHOICE`: whether def is appended where so many calls may be made, and what the disk has after a crash.
+    // `append PASSES CHOICE`: whether def is appended where so many calls may be made, and what the disk has after
+    // a crash.
     fn append(&self, alloc: Global, words: &[&str], out: &mut String) -> Result<(), AllocError> {
         let frame = Frame::new(alloc, b"def")?;
         let disk = disk_of(alloc, self.bytes.to_vec(alloc)?)?;

@@ -1,6 +1,6 @@
-//! Worked calls, on what no script reaches, or not call by call. Each file of the folder has calls, each with its answer on the line
-//! below; the front of its name says what they are on. The program goes through the folder in the order of names, and prints how
-//! each file compares.
+//! Worked calls, on what no script reaches, or not call by call. Each file of the folder has calls, each with its
+//! answer on the line below; the front of its name says what they are on. The program goes through the folder in
+//! the order of names, and prints how each file compares.
 #![tactic(auto)]
 
 mod cache;

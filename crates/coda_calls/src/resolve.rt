@@ -11,7 +11,8 @@ use coda_vv::Vv;
 use std::alloc::{AllocError, Global};
 use std::mem;
 
-/// The names and updates of the directory that comes next, what the replica that comes next holds and decided, and the replicas.
+/// The names and updates of the directory that comes next, what the replica that comes next holds and decided, and
+/// the replicas.
 #[derive(Drop)]
 pub struct Replicas {
     entries: Entries,
@@ -112,7 +113,8 @@ fn put_marks(alloc: Global, views: &[View], out: &mut String) -> Result<(), Allo
     put_number(out, new_marks(alloc, views, object_of(0))?.len() as u64)
 }
 
-// `merge`: how many objects each replica holds anew and how many go, the first cause, how many are marked, and how many touched.
+// `merge`: how many objects each replica holds anew and how many go, the first cause, how many are marked, and how
+// many touched.
 fn put_merge(alloc: Global, views: &[View], out: &mut String) -> Result<(), AllocError> {
     if !are_in_order(views) {
         return put(out, "out of order");
@@ -170,7 +172,8 @@ impl Replicas {
         Ok(())
     }
 
-    // `update ORIGIN SEQ KIND NAME OBJECT`, of the directory that comes next. Where it is a drop, the object had no update of its own.
+    // `update ORIGIN SEQ KIND NAME OBJECT`, of the directory that comes next. Where it is a drop, the object had
+    // no update of its own.
     fn update(&mut self, alloc: Global, words: &[&str], seq: u64) {
         let kind = kind(word(words, 3));
         let fid = object(words, 5);

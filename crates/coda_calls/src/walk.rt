@@ -14,7 +14,8 @@ pub struct Walk {
     queue: Queue,
 }
 
-// `OBJECT PARENT PRIORITY BLOCKS MARKS`, of which the marks are letters: `c` for cached, `s` for served and `p` for pinned.
+// `OBJECT PARENT PRIORITY BLOCKS MARKS`, of which the marks are letters: `c` for cached, `s` for served and `p`
+// for pinned.
 fn item(words: &[&str]) -> Item {
     let marks = word(words, 5).as_bytes();
     Item {
