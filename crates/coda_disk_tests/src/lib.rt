@@ -1,19 +1,9 @@
-//! Tests of what stands on a disk: disks, journals, and replicas over journals.
+//! Tests of calls on what stands on a disk that no row makes: each of them proves all that it calls.
 #![tactic(auto)]
 
 #[cfg(test)]
 mod actors;
 #[cfg(test)]
-mod asking;
-#[cfg(test)]
-mod crew;
-#[cfg(test)]
 mod decider;
 #[cfg(test)]
-mod disk;
-#[cfg(test)]
-mod journal;
-#[cfg(test)]
 mod replica;
-#[cfg(test)]
-mod venus;

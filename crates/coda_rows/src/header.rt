@@ -21,6 +21,8 @@ pub struct Header {
     pub failing_bay: Vec<u64>,
     /// The disks that are handed in with the bay.
     pub disks: Vec<DiskLine>,
+    /// Whether the images that the bay answered at crashes stand behind the report.
+    pub shows_images: bool,
     /// The exit code, and behind a colon what goes to standard error.
     pub status: String,
 }
@@ -42,6 +44,7 @@ impl Header {
             room: None,
             failing_bay: Vec::new(alloc),
             disks: Vec::new(alloc),
+            shows_images: false,
             status: "0: ".to_string(alloc)?,
         };
         header.words.push("run".to_string(alloc)?)?;
@@ -79,7 +82,9 @@ impl Header {
 
     // Takes a line of the header that says something of the bay or of a disk.
     fn put_outside(&mut self, alloc: Global, line: &str) -> Result<()> {
-        if let Some(call) = line.strip_prefix("# bay fails at call ") {
+        if line == "# images" {
+            self.shows_images = true;
+        } else if let Some(call) = line.strip_prefix("# bay fails at call ") {
             self.failing_bay.push(number_in(call)?)?;
         } else if let Some(disk) = line.strip_prefix("# disk ") {
             let number = u32::try_from(number_in(disk)?)?;
