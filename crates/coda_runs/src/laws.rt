@@ -159,9 +159,9 @@ pub fn later_runs_go_on()
     ensures { LaterRunsGoOn }
 {}
 
-/// Where a line of a later run makes an actor again that it waits for, its text counts the entries that were found on the
-/// actor's disk: those that the actor had, or those and the one whose append failed, and the actor is up with them. Or a disk
-/// failed, as the text says, and the actor is down.
+/// Where a line that a later run waits for makes an actor again, its text counts the entries that were found on the
+/// actor's disk: those that the actor had, or those and the one whose append failed, and the actor is up with them. Or
+/// a disk failed, as the text says, and the actor is down.
 pub fn what_is_made_again_is_counted()
     ensures { WhatIsMadeAgainIsCounted }
 {}
