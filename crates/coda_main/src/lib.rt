@@ -19,7 +19,8 @@ pub use coda_runs::{
     letters_have_ends, letters_say_what_is_so, logs_are_pending, one_status, operations_are_kept,
     operations_are_performed, refusals_have_causes, replicas_come_back, replies_name_letters,
     reports_tell_of_runs, scripts_in_the_grammar_are_clean, scripts_run, settlements_are_decided,
-    verdicts_thaw, what_is_shown_is_there, what_is_shown_is_up, what_ran_can_be_resumed,
+    verdicts_thaw, what_is_made_again_is_counted, what_is_shown_is_there, what_is_shown_is_up,
+    what_ran_can_be_resumed,
 };
 pub use laws::{
     cached_is_held, counted_replies_are_told, good_lines_run_over_any_bay, one_status_over_all_bays,

@@ -20,3 +20,4 @@ pub mod ShownUp
 pub mod Reporting
 pub mod Resumable
 pub mod Later
+pub mod Found

@@ -1,13 +1,17 @@
 -- Runs over the disks that an earlier run left.
-use Rattle.std.specs.Prelude.{◌≡◌, ◌⊎◌, ◌+◌, ℕ, true, false, List, [], ◌∷◌, Some, None, Ok}
+use Rattle.std.specs.Prelude.{◌≡◌, ◌⊎◌, ◌+◌, ℕ, true, false, List, [], ◌∷◌, length, Some, None, Ok}
 use Rattle.coda_engine.specs.Run.{Runs}
+use Rattle.coda_plain.specs.Cell.{Actor}
+use Rattle.coda_plain.specs.Laws.{IsRecovered}
 use Rattle.coda_script.specs.declared.line.Line.{Line}
 use Rattle.coda_script.specs.declared.reply.Reply.{Reply}
+use Rattle.coda_script.specs.declared.reply.Reply.TheVariants.{Opened}
 use Rattle.coda_script.specs.Lines.{line_of}
 use Rattle.coda_report.specs.Texts.{reply_text}
 use Rattle.coda_stored.specs.Cells.{StoredCell}
 use Rattle.coda_stored.specs.Kept.{IsStoredKept}
 use Rattle.coda_stored.specs.Laws.{Begins}
+use Rattle.coda_stored.specs.Lines.{refused_fault}
 use Rattle.coda_stored.specs.Resuming.{at_rest, Awaited, ClientAgain, VolumeAgain, is_awaited, MakesAgain, MakeAllAgain}
 use Rattle.coda_runs.specs.Headline.{HasRun, Always}
 use Rattle.coda_runs.specs.Shows.{Recorded, RecordGives}
@@ -89,3 +93,21 @@ LaterRunsGoOn =
 -- Whatever lines ran, over disks that held nothing, there are lines that make again all that they made: a later run can go on from it.
 abbrev pub WhatRanCanBeResumed : Type 0
 WhatRanCanBeResumed = Always CanBeResumed
+
+-- What a text tells of an actor that a line made again: the actor is up, with the history that it had, or that one with the entry whose append failed,
+-- and the text counts its entries; or a disk failed, and the actor is down.
+abbrev pub TellsOfFound : {E : Type 0} → List ℕ → Actor E → Actor E → Type 0
+TellsOfFound text old new =
+    ((text ≡ reply_text (Opened (length new.history ∷ []))) × IsRecovered old new.history × (new.up ≡ true)) ⊎ ((text ≡ reply_text refused_fault) × (new.up ≡ false))
+
+-- the same of the actor that is awaited
+abbrev pub TellsOfAwaited : Awaited → List ℕ → StoredCell → StoredCell → Type 0
+TellsOfAwaited (ClientAgain client blocks area) text old new = TellsOfFound text (old.made.acted.clients client) (new.made.acted.clients client)
+TellsOfAwaited (VolumeAgain volume server area) text old new = TellsOfFound text (old.made.acted.replicas server volume) (new.made.acted.replicas server volume)
+
+-- Where a line is awaited in a later run and comes, its text counts what was found on its actor's disk, unless that failed.
+abbrev pub WhatIsMadeAgainIsCounted : Type 0
+WhatIsMadeAgainIsCounted =
+    (cell : StoredCell) (next : Awaited) (left : List Awaited) (before : List (List ℕ)) (said : Line) (bytes text : List ℕ) (outside : List (List ℕ)) (new : Later) (reached : StoredCell) (images : List (List ℕ))
+    → line_of bytes ≡ Ok (Some said) → is_awaited next said ≡ true → LaterGives (Waits cell next left before) bytes text outside new → HasReached new reached images
+    → TellsOfAwaited next text cell reached

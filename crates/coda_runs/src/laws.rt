@@ -4,7 +4,7 @@ ghost use Rattle.coda_stored.specs.Cells.{nothing_stored};
 ghost use Rattle.coda_runs.specs.Causes.{RefusalsHaveCauses};
 ghost use Rattle.coda_runs.specs.Complete.{ScriptsInGrammarAreClean};
 ghost use Rattle.coda_runs.specs.Headline.{ScriptsRun, ChunksAreDecidedOnce, CertifiedChunksAreApplied, ConflictsNameASentRecord, OperationsAreKept, SettlementsAreDecided, LogsArePending, AcknowledgedEntriesStay, ClientsComeBack, ReplicasComeBack};
-ghost use Rattle.coda_runs.specs.Later.{LaterRunsGoOn, WhatRanCanBeResumed};
+ghost use Rattle.coda_runs.specs.Later.{LaterRunsGoOn, WhatIsMadeAgainIsCounted, WhatRanCanBeResumed};
 ghost use Rattle.coda_runs.specs.Lettered.{RepliesNameLetters, LettersSayWhatIsSo, LettersHaveEnds};
 ghost use Rattle.coda_runs.specs.Performed.{OperationsArePerformed};
 ghost use Rattle.coda_runs.specs.Runs.{LineGives, LineRefused};
@@ -157,6 +157,13 @@ pub fn what_is_shown_is_up()
 /// didn't go astray has run, and begins with the histories that there were: nothing that was acknowledged is lost.
 pub fn later_runs_go_on()
     ensures { LaterRunsGoOn }
+{}
+
+/// Where a line that a later run waits for makes an actor again, its text counts the entries that were found on the
+/// actor's disk: those that the actor had, or those and the one whose append failed, and the actor is up with them. Or
+/// a disk failed, as the text says, and the actor is down.
+pub fn what_is_made_again_is_counted()
+    ensures { WhatIsMadeAgainIsCounted }
 {}
 
 /// Whatever lines ran from an empty cell, there are lines that make again all that they made, as it was and in its
