@@ -1,62 +1,12 @@
 // Lines, in memory of their own.
 ghost use Rattle.std.specs.Prelude.{◌≡◌, true, IfOk};
-ghost use Rattle.coda_cell.specs.Steps.{is_alone};
 ghost use Rattle.coda_site.specs.Makings.{is_disk_line};
 ghost use Rattle.coda_trace.specs.Copies.{is_plain_line};
 ghost use Rattle.coda_stored.specs.Lines.{is_built};
 
 use crate::operations::copy_task;
-use coda_script::{Line, Servers, read_line};
-use std::alloc::{AllocError, Global};
-
-// A line that makes a volume on this server.
-fn volume_on(server: u8) -> &'static [u8] {
-    match server {
-        1 => b"volume 1 on 1",
-        2 => b"volume 1 on 2",
-        3 => b"volume 1 on 3",
-        4 => b"volume 1 on 4",
-        5 => b"volume 1 on 5",
-        6 => b"volume 1 on 6",
-        7 => b"volume 1 on 7",
-        _ => b"volume 1 on 8",
-    }
-}
-
-// The servers of a line that makes a volume.
-fn servers_in(line: Line) -> Option<Servers> {
-    match line {
-        Line::Volume { servers, .. } => Some(servers),
-        _other => None,
-    }
-}
-
-// The same servers, of which there is one. Servers come of lines that were read, and of nothing else, so a line is read
-// that names it.
-fn copy_servers(alloc: Global, servers: &Servers) -> Result<Servers, AllocError>
-    requires { is_alone servers.now ≡ true }
-    ensures { IfOk result (λ s. s ≡ servers.now) }
-{
-    let server = match servers.servers() {
-        [server] => *server,
-        _ => unreachable!(),
-    };
-    let copies = match read_line(alloc, volume_on(server)) {
-        Ok(Some(line)) => servers_in(line),
-        Ok(None) => None,
-        Err(_) => None,
-    };
-    match copies {
-        Some(copies) => {
-            if copies.servers() == servers.servers() {
-                Ok(copies)
-            } else {
-                Err(AllocError)
-            }
-        }
-        None => Err(AllocError),
-    }
-}
+use coda_script::Line;
+use std::alloc::AllocError;
 
 // The same line, which crashes an actor, recovers it, or lets its disk fail.
 fn copy_disk_line(line: &Line) -> Line
@@ -140,7 +90,7 @@ fn copy_plain_line(line: &Line) -> Line
 }
 
 /// The same line, of those that are built. Fails for want of memory alone.
-pub fn copy_line(alloc: Global, line: &Line) -> Result<Line, AllocError>
+pub fn copy_line(line: &Line) -> Result<Line, AllocError>
     requires { is_built line.now ≡ true }
     ensures { IfOk result (λ l. l ≡ line.now) }
 {
@@ -151,7 +101,7 @@ pub fn copy_line(alloc: Global, line: &Line) -> Result<Line, AllocError>
             area,
         } => Ok(Line::Volume {
             volume: *volume,
-            servers: copy_servers(alloc, servers)?,
+            servers: servers.copy()?,
             area: *area,
         }),
         Line::Client {

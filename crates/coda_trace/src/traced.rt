@@ -107,7 +107,7 @@ impl<B: Bay> TracedCell<B> {
         ensures steps { (start cell : StoredCell) (images : List (List ℕ)) → IsStoredKept cell → IsSite B.D.told (B.out self.old.cell.bay) (B.has self.old.cell.bay) cell self.old.cell.site
             → AreSteps start self.old.events.items images cell → IfOk result (λ _. GoesOn B.D.told (B.out self.new.cell.bay) (B.has self.new.cell.bay) start self.new.events.items images (B.answered self.old.cell.bay) (B.answered self.new.cell.bay) self.new.cell.site) }
     {
-        let line_copy = copy_line(self.cell.site.alloc, line)?;
+        let line_copy = copy_line(line)?;
         self.events.reserve(1)?;
         let reply = self.cell.step(line)?;
         let event = Event {
