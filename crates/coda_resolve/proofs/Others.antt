@@ -16,14 +16,14 @@ use Rattle.coda_reslog.specs.declared.change.Held.{Held}
 use Rattle.coda_resolve.specs.declared.why.Mark.{Mark}
 use Rattle.coda_resolve.specs.declared.walking.Taken.{Taken}
 use Rattle.coda_resolve.specs.Copies.{Copies, first_some}
-use Rattle.coda_resolve.specs.Settling.{Fate, fate, settled_copy}
+use Rattle.coda_resolve.specs.Settling.{Fate, Same, Marked, Gone, fate, settled_copy}
 use Rattle.coda_resolve.specs.Settled.{IsEverywhere, is_dir}
 use Rattle.coda_resolve.specs.Resolution.{Objects, Replicas, copies_at, fate_at}
 use Rattle.coda_resolve.specs.Placement.{IsIn}
 use Rattle.coda_resolve.specs.Outcome.{next_up, mark_by}
 use Rattle.coda_resolve.specs.Changes.{is_among, node_of}
 use Rattle.coda_resolve.specs.Renewals.{left_at, AreRenewed}
-use Rattle.coda_resolve.specs.Survey.{HasUpdatesOf, HasNodeOf, AreAlike, StaysAlike, mark_at, AreOthers}
+use Rattle.coda_resolve.specs.Survey.{HasUpdatesOf, HasNodeOf, AreAlike, StaysAlike, IsFateOf, mark_at, AreOthers}
 use Rattle.coda_resolve.specs.Taken.{fids_of, AreFates}
 use Rattle.coda_resolve.proofs.Alike.{alike}
 use Rattle.coda_resolve.proofs.Renewing.{among_last, among_cases, among_before, among_here}
@@ -42,26 +42,32 @@ same_everywhere held (None ∷ copies) u n = absurd u.0
 same_everywhere held (Some own ∷ copies) u n = ((λ i. Some (record { node = n.0 i; vector = u.0.0 i; ring = u.0.1 i })), same_everywhere held copies u.1 n.1)
 
 -- a file or link that all hold alike stays so
-pub stays_alike : (views : Replicas) (f : Fid) (copies : Copies) → copies ≡ copies_at views f → AreAlike copies → StaysAlike views f
+pub stays_alike : (views : Replicas) (f : Fid) (copies : Copies) → copies ≡ copies_at views f → AreAlike copies → (s : StaysAlike views f) × (is_dir s.held.node.kind ≡ false)
 stays_alike views f [] is a = absurd a
 stays_alike views f (copy ∷ others) is a =
     let held = a.0 in
     let all : IsEverywhere held (copy ∷ others) = (a.1.0, a.1.1.everywhere) in
-    record {
+    let s : StaysAlike views f = record {
       held = held;
-      leaf = a.1.1.leaf;
       everywhere = subst (IsEverywhere held) is all;
       fate = ap (λ cs. fate cs (copies_at views)) (sym is ∙ everywhere_alike held (copy ∷ others) all) ∙ leaf_again held copy others (copies_at views) a.1.1.plain a.1.1.leaf;
-    }
+    } in
+    (s, a.1.1.leaf)
 
 -- and binds nothing
-pub alike_next : (views : Replicas) (f : Fid) → StaysAlike views f → next_up (fate_at views f) ≡ []
-alike_next views f s = by s.held.node.kind refl
+pub alike_next : (views : Replicas) (f : Fid) (s : StaysAlike views f) → is_dir s.held.node.kind ≡ false → next_up (fate_at views f) ≡ []
+alike_next views f s leaf = by s.held.node.kind refl
   where
     by : (k : NodeKind) → s.held.node.kind ≡ k → next_up (fate_at views f) ≡ []
     by (File content) is = file_next (fate_at views f) s.held content s.fate is
     by (Link target) is = link_next (fate_at views f) s.held target s.fate is
-    by (Dir entries) is = absurd (true≢false (sym (ap is_dir is) ∙ s.leaf))
+    by (Dir entries) is = absurd (true≢false (sym (ap is_dir is) ∙ leaf))
+
+-- what becomes of an object stays where each copy is that
+pub stays_as : (views : Replicas) (f : Fid) (copies : Copies) (result : Fate) → copies ≡ copies_at views f → result ≡ fate_at views f → IsFateOf result copies → StaysAlike views f
+stays_as views f copies (Same held) is e all = record { held = held; everywhere = subst (IsEverywhere held) is all; fate = sym e }
+stays_as views f copies (Marked why) is e all = absurd all
+stays_as views f copies Gone is e all = absurd all
 
 -- ---- one object more
 

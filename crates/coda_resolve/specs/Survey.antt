@@ -1,12 +1,12 @@
 -- What a resolution takes up, and which of these objects may change.
-use Rattle.std.specs.Prelude.{◌≡◌, true, false, List, [], ◌∷◌, Option, Some, None}
+use Rattle.std.specs.Prelude.{◌≡◌, Bool, IsTrue, true, false, List, [], ◌∷◌, Option, Some, None}
 use Rattle.std.specs.List.{filter_map}
 use Rattle.coda_fid.specs.declared.fid.Fid.{Fid}
 use Rattle.coda_reslog.specs.declared.change.Held.{Held}
 use Rattle.coda_resolve.specs.declared.why.Mark.{Mark}
 use Rattle.coda_resolve.specs.declared.walking.Taken.{Taken}
 use Rattle.coda_resolve.specs.Copies.{Copies}
-use Rattle.coda_resolve.specs.Settling.{Fate, Same}
+use Rattle.coda_resolve.specs.Settling.{Fate, Same, Marked, Gone}
 use Rattle.coda_resolve.specs.Settled.{IsEverywhere, is_dir}
 use Rattle.coda_resolve.specs.Resolution.{Replicas, copies_at, fate_at}
 use Rattle.coda_resolve.specs.Outcome.{mark_by}
@@ -38,17 +38,22 @@ AreAlike (copy ∷ copies) = (held : Held) × ((copy ≡ Some held) × IsLeafEve
 
 -- ---- what may change
 
--- all replicas hold the file or link alike, and a resolution leaves it so
+-- all replicas hold the object alike, and a resolution leaves it so
 pub record StaysAlike (replicas : Replicas) (f : Fid) : Type 0 where
   pub held : Held
-  pub leaf : is_dir held.node.kind ≡ false
   pub everywhere : IsEverywhere held (copies_at replicas f)
   pub fate : fate_at replicas f ≡ Same held
 
--- what becomes of the object, unless it is a file or link that stays as all replicas hold it
-abbrev pub IsFateOrAlike : Replicas → Fid → Option Fate → Type 0
-IsFateOrAlike replicas f None = StaysAlike replicas f
-IsFateOrAlike replicas f (Some fate) = fate ≡ fate_at replicas f
+-- each copy is what becomes of the object
+abbrev pub IsFateOf : Fate → Copies → Type 0
+IsFateOf (Same held) copies = IsEverywhere held copies
+IsFateOf (Marked why) copies = ⊥
+IsFateOf Gone copies = ⊥
+
+-- what becomes of the object, unless it is a file or link that stays as all replicas hold it; where it is said that it stays so, it does
+abbrev pub IsOutlook : Replicas → Fid → Option Fate → Bool → Type 0
+IsOutlook replicas f None stays = (s : StaysAlike replicas f) × (is_dir s.held.node.kind ≡ false)
+IsOutlook replicas f (Some fate) stays = (fate ≡ fate_at replicas f) × (IsTrue stays → StaysAlike replicas f)
 
 -- the mark of an object that was taken up, where it is new
 abbrev pub mark_at : Replicas → Taken → Option Mark
@@ -58,7 +63,7 @@ mark_at replicas object = mark_by (copies_at replicas object.fid) object.fid obj
 abbrev pub marks_among : Replicas → List Taken → List Mark
 marks_among replicas objects = filter_map (mark_at replicas) objects
 
--- of the objects those that may change, in their order, with what becomes of each: all others are files or links that stay as all replicas hold them
+-- of the objects those that may change, in their order, with what becomes of each: all others stay as all replicas hold them
 pub record AreOthers (replicas : Replicas) (fids : List Fid) (others : List Taken) : Type 0 where
   pub fates : AreFates replicas others
   pub among : (f : Fid) → is_among (fids_of others) f ≡ true → is_among fids f ≡ true

@@ -1,4 +1,4 @@
-ghost use Rattle.std.specs.Prelude.{◌≡◌, ◌≢◌, [], ◌∷◌, ◌||◌, true, cond, option_copied, map, IfOk, List, Option, Some, None};
+ghost use Rattle.std.specs.Prelude.{IsTrue, ◌≡◌, ◌≢◌, [], ◌∷◌, ◌||◌, true, cond, option_copied, map, IfOk, List, Option, Some, None};
 ghost use Rattle.std.specs.List.{list_all, list_any};
 ghost use Rattle.std.specs.FinMap as finmap;
 ghost use Rattle.coda_fid.specs.Fid.{fid_cmp};
@@ -12,12 +12,12 @@ ghost use Rattle.coda_resolve.specs.Settling.{dominating, leaf_fate, dir_fate, f
 ghost use Rattle.coda_resolve.specs.Resolution.{copies_at, fate_at};
 ghost use Rattle.coda_resolve.specs.Views.{replicas_of, AreInOrder};
 ghost use Rattle.coda_resolve.specs.Lent.{lent};
-ghost use Rattle.coda_resolve.specs.Survey.{IsFateOrAlike};
+ghost use Rattle.coda_resolve.specs.Survey.{IsFateOf, IsOutlook};
 
 use crate::causes::dir_fate;
 use crate::copies::{lowest, some_marked, vector_of};
 use crate::hints::Hints;
-use crate::leaves::are_alike;
+use crate::leaves::{all_hold, are_alike};
 use crate::updated::includes;
 use crate::view::{View, copies_near};
 use crate::why::Why;
@@ -164,23 +164,48 @@ pub(crate) fn fate_near(
     fate_of(alloc, views, &copies)
 }
 
-// The same, unless it is a file or link that stays as all replicas hold it.
-pub(crate) fn fate_or_alike(
+// What becomes of an object, unless it is a file or link that all replicas hold alike; and whether it stays as all hold it.
+#[derive(Drop)]
+pub(crate) struct Outlook {
+    pub(crate) fate: Option<Fate>,
+    pub(crate) stays: bool,
+}
+
+// Whether the object stays as all replicas hold it. Where it isn't so, nothing is said.
+fn stays(fate: &Fate, copies: &[Option<&Held>]) -> bool
+    ensures { IsTrue result → IsFateOf fate.now (map option_copied copies.now) }
+{
+    match fate {
+        Fate::Same(held) => all_hold(held, copies),
+        Fate::Marked(_) => false,
+        Fate::Gone => false,
+    }
+}
+
+// The outlook of an object, which is met then, and looked for first where the hints of each view say.
+pub(crate) fn look_ahead(
     alloc: Global,
     views: &[View],
     fid: Fid,
     hints: &mut [Hints],
     when: usize,
-) -> Result<Option<Fate>, AllocError>
+) -> Result<Outlook, AllocError>
     requires { AreInOrder views.now }
-    ensures { IfOk result (λ fate. IsFateOrAlike (replicas_of views.now) fid fate) }
+    ensures { IfOk result (λ outlook. IsOutlook (replicas_of views.now) fid outlook.fate outlook.stays) }
 {
     let copies = copies_near(alloc, views, fid, hints, when)?;
     if are_alike(&copies) {
-        return Ok(None);
+        return Ok(Outlook {
+            fate: None,
+            stays: true,
+        });
     }
     let fate = fate_of(alloc, views, &copies)?;
-    Ok(Some(fate))
+    let stays = stays(&fate, &copies);
+    Ok(Outlook {
+        fate: Some(fate),
+        stays,
+    })
 }
 
 /// What becomes of the object at all replicas, from what each of them holds, the lowest server first.

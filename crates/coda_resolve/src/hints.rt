@@ -24,7 +24,7 @@ fn key_of(fid: Fid) -> u64 {
 
 // The keys of the objects, in their order.
 fn keys_of(alloc: Global, items: &[(Fid, Held)]) -> Result<Vec<u64>, AllocError> {
-    let mut keys = Vec::new(alloc);
+    let mut keys = Vec::with_capacity(alloc, items.len())?;
     for object in items {
         keys.push(key_of(object.0))?;
     }

@@ -1,7 +1,7 @@
-// Files and links that all replicas hold alike.
+// What all replicas hold alike.
 ghost use Rattle.std.specs.Prelude.{◌≡◌, option_copied, map, IsTrue};
 ghost use Rattle.std.specs.List.{AllByRecursion};
-ghost use Rattle.coda_resolve.specs.Settled.{is_dir};
+ghost use Rattle.coda_resolve.specs.Settled.{IsEverywhere, is_dir};
 ghost use Rattle.coda_resolve.specs.Survey.{HasUpdatesOf, HasNodeOf, IsLeafEverywhere, AreAlike};
 
 use crate::same::{same_node, same_updates};
@@ -45,14 +45,18 @@ fn is_dir(kind: &NodeKind) -> bool
     }
 }
 
-// Whether it is a file or link, unmarked, and the copies are the same. Nodes are compared only where all updates are the same.
+// Whether each copy is the same as this. Nodes are compared only where all updates are the same.
+pub(crate) fn all_hold(held: &Held, copies: &[Option<&Held>]) -> bool
+    ensures { IsTrue result → IsEverywhere held.now (map option_copied copies.now) }
+{
+    share_updates(held, copies) && share_node(held, copies)
+}
+
+// Whether it is a file or link, unmarked, and the copies are the same.
 fn is_everywhere(held: &Held, copies: &[Option<&Held>]) -> bool
     ensures { IsTrue result → IsLeafEverywhere held.now (map option_copied copies.now) }
 {
-    !is_dir(&held.node.kind)
-        && !held.node.marked
-        && share_updates(held, copies)
-        && share_node(held, copies)
+    !is_dir(&held.node.kind) && !held.node.marked && all_hold(held, copies)
 }
 
 // Whether the copies are those of a file or link that all replicas hold alike, unmarked. Where it isn't so, nothing is said.

@@ -99,7 +99,7 @@ fn in_order(alloc: Global, held: BTreeMap<Fid, Held>) -> Result<HeldObjects, All
     ensures sorted { IfOk result (λ objects. is_sorted fid_cmp objects ≡ true) }
     ensures same { IfOk result (λ objects. (f : Fid) → finmap.get (objects_in objects) f ≡ get fid_cmp held f) }
 {
-    let mut items = Vec::new(alloc);
+    let mut items = Vec::with_capacity(alloc, held.len())?;
     for (fid, object) in held {
         items.push((fid, object))?;
     }

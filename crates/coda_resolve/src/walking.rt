@@ -1,14 +1,14 @@
-ghost use Rattle.std.specs.Prelude.{◌≡◌, ◌++◌, ◌∷◌, [], List, reverse, IfOk};
+ghost use Rattle.std.specs.Prelude.{◌≡◌, ◌++◌, ◌∷◌, [], List, reverse, Some, IfOk, OnOk};
 ghost use Rattle.coda_fid.specs.declared.fid.Fid.{Fid};
 ghost use Rattle.coda_resolve.specs.Outcome.{next_up, taken_up};
 ghost use Rattle.coda_resolve.specs.Placement.{AreOfOneHistory};
 ghost use Rattle.coda_resolve.specs.Views.{replicas_of, AreInOrder};
 ghost use Rattle.coda_resolve.specs.Resolution.{Replicas, fate_at};
-ghost use Rattle.coda_resolve.specs.Survey.{IsFateOrAlike, AreOthers};
+ghost use Rattle.coda_resolve.specs.Survey.{IsOutlook, AreOthers};
 ghost use Rattle.coda_resolve.specs.Taken.{fids_of, AreFates};
 
 use crate::doubles::values;
-use crate::fate::{Fate, fate_near, fate_or_alike};
+use crate::fate::{Fate, fate_near, look_ahead};
 use crate::hints::{Hints, all_hints};
 use crate::view::View;
 use coda_fid::Fid;
@@ -89,22 +89,34 @@ pub(crate) struct Survey {
     pub(crate) hints: Vec<Hints>,
 }
 
-// Goes on with a survey: what is taken up next waits, and the object may change unless it stays alike.
+// Adds the object, with what becomes of it, unless it stays as all replicas hold it.
+fn add_other(others: &mut Vec<Taken>, fid: Fid, fate: Fate, stays: bool) -> Result<(), AllocError>
+    ensures { OnOk result ((views : Replicas) (fids : List Fid) → IsOutlook views fid (Some fate) stays → AreOthers views fids others.old.items → AreOthers views (fids ++ fid ∷ []) others.new.items) }
+{
+    if stays {
+        return Ok(());
+    }
+    others.push(Taken { fid, fate })?;
+    Ok(())
+}
+
+// Goes on with a survey: what is taken up next waits, and the object may change unless it stays as all replicas hold it.
 fn go_on(
     alloc: Global,
     others: &mut Vec<Taken>,
     stack: Vec<Fid>,
     fid: Fid,
     fate: Option<Fate>,
+    stays: bool,
 ) -> Result<Vec<Fid>, AllocError>
-    ensures next { IfOk result (λ all. (views : Replicas) → IsFateOrAlike views fid fate → reverse all.items ≡ next_up (fate_at views fid) ++ reverse stack.items) }
-    ensures others { IfOk result (λ all. (views : Replicas) (fids : List Fid) → IsFateOrAlike views fid fate → AreOthers views fids others.old.items → AreOthers views (fids ++ fid ∷ []) others.new.items) }
+    ensures next { IfOk result (λ all. (views : Replicas) → IsOutlook views fid fate stays → reverse all.items ≡ next_up (fate_at views fid) ++ reverse stack.items) }
+    ensures others { IfOk result (λ all. (views : Replicas) (fids : List Fid) → IsOutlook views fid fate stays → AreOthers views fids others.old.items → AreOthers views (fids ++ fid ∷ []) others.new.items) }
 {
     let Some(fate) = fate else {
         return Ok(stack);
     };
     let stack = push_next(alloc, stack, &fate)?;
-    others.push(Taken { fid, fate })?;
+    add_other(others, fid, fate, stays)?;
     Ok(stack)
 }
 
@@ -126,8 +138,9 @@ pub(crate) fn take_up(alloc: Global, views: &[View], root: Fid) -> Result<Survey
                 hints,
             });
         };
-        let fate = fate_or_alike(alloc, views, fid, &mut hints, fids.len())?;
-        stack = go_on(alloc, &mut others, stack, fid, fate)?;
+        let outlook = look_ahead(alloc, views, fid, &mut hints, fids.len())?;
+        let stays = outlook.stays;
+        stack = go_on(alloc, &mut others, stack, fid, outlook.fate, stays)?;
         fids.push(fid)?;
     }
     Err(AllocError)
