@@ -1,7 +1,7 @@
 // Calls on a disk in memory.
 use crate::compare::Bench;
 use crate::words::{bytes, number, put, put_bytes, put_number, word};
-use coda_disk::{Bay, BayFault, Disk, DiskFault, MemBay, MemDisk};
+use coda_disk::{Bay, BayFault, Disk, DiskFault, Image, MemBay, MemDisk};
 use std::alloc::{AllocError, Global};
 
 /// What the calls are on.
@@ -25,6 +25,14 @@ fn put_contents(disk: &mut MemDisk, out: &mut String) -> Result<(), AllocError> 
         Ok(count) => put_bytes(out, found.get(..count).unwrap_or(&[])),
         Err(DiskFault) => put(out, "fault"),
     }
+}
+
+// Puts the images that a bay tells of.
+fn put_images(out: &mut String, images: &[Image]) -> Result<(), AllocError> {
+    for image in images {
+        put_bytes(out, image.bytes())?;
+    }
+    Ok(())
 }
 
 impl Platter {
@@ -53,10 +61,7 @@ impl Platter {
             }
             Err(BayFault) => return put(out, "bay fault"),
         }
-        for image in bay.images() {
-            put_bytes(out, image.bytes())?;
-        }
-        Ok(())
+        put_images(out, bay.images())
     }
 
     // `size`.

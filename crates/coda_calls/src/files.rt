@@ -1,8 +1,9 @@
 // Calls on disks that are files, in the folder `coda-disks`.
 use crate::compare::Bench;
 use crate::journal::HEADER;
-use crate::words::{number, put, put_bytes, put_number, small, word};
+use crate::words::{number, put, put_bytes, put_counted, put_number, small, word};
 use coda_disk::{Bay, Disk, DiskFault, FileBay, FileDisk};
+use coda_fid::Bytes;
 use coda_journal::{Frame, Journal, JournalFault};
 use std::alloc::{AllocError, Global};
 use std::fs::{self, OpenOptions};
@@ -85,6 +86,40 @@ fn put_appended(out: &mut String, done: Result<(), JournalFault>) -> Result<(), 
     }
 }
 
+// Puts how many bytes are used, and whether each payload is this one.
+fn put_payloads(
+    out: &mut String,
+    used: u64,
+    payloads: &[Bytes],
+    wanted: &[u8],
+) -> Result<(), AllocError> {
+    put_counted(out, "used", used)?;
+    for payload in payloads {
+        put(
+            out,
+            if payload.bytes() == wanted {
+                "same"
+            } else {
+                "other"
+            },
+        )?;
+    }
+    Ok(())
+}
+
+// Puts what a disk has.
+fn put_mounted(
+    alloc: Global,
+    disk: FileDisk,
+    wanted: &[u8],
+    out: &mut String,
+) -> Result<(), AllocError> {
+    match Journal::mount(alloc, disk, &HEADER) {
+        Ok((journal, payloads)) => put_payloads(out, journal.used(), &payloads, wanted),
+        Err(_) => put(out, "not mounted"),
+    }
+}
+
 // `append NUMBER COUNT`: an entry of so many bytes 7 is appended to the journal of a disk, and once more; and what
 // it has after a crash.
 fn append(
@@ -102,27 +137,14 @@ fn append(
     let Ok((mut journal, _)) = Journal::mount(alloc, disk, &HEADER) else {
         return put(out, "not mounted");
     };
-    put_appended(out, journal.append(&frame))?;
-    put_appended(out, journal.append(&frame))?;
-    let Ok(again) = bay.crash(journal.into_disk(), 0) else {
-        return put(out, "bay fault");
-    };
-    let Ok((journal, payloads)) = Journal::mount(alloc, again, &HEADER) else {
-        return put(out, "not mounted");
-    };
-    put(out, "used")?;
-    put_number(out, journal.used())?;
-    for found in &payloads {
-        put(
-            out,
-            if found.bytes() == payload.as_slice() {
-                "same"
-            } else {
-                "other"
-            },
-        )?;
+    let (first, second) = (journal.append(&frame), journal.append(&frame));
+    let again = bay.crash(journal.into_disk(), 0);
+    put_appended(out, first)?;
+    put_appended(out, second)?;
+    match again {
+        Ok(disk) => put_mounted(alloc, disk, &payload, out),
+        Err(_) => put(out, "bay fault"),
     }
-    Ok(())
 }
 
 impl Filed<'_> {

@@ -20,6 +20,15 @@ fn put_fault(out: &mut String, fault: HdbFault) -> Result<(), AllocError> {
     }
 }
 
+// `list`: the priorities.
+fn put_priorities(out: &mut String, entries: &[HdbEntry]) -> Result<(), AllocError> {
+    put(out, "priorities")?;
+    for entry in entries {
+        put_number(out, u64::from(entry.priority))?;
+    }
+    Ok(())
+}
+
 impl Hoard {
     /// An empty database.
     pub fn new(alloc: Global) -> Hoard {
@@ -92,15 +101,6 @@ impl Hoard {
             Err(fault) => put_fault(out, fault),
         }
     }
-
-    // `list`: the priorities.
-    fn list(&self, out: &mut String) -> Result<(), AllocError> {
-        put(out, "priorities")?;
-        for entry in &self.database.list()? {
-            put_number(out, u64::from(entry.priority))?;
-        }
-        Ok(())
-    }
 }
 
 impl Bench for Hoard {
@@ -118,7 +118,7 @@ impl Bench for Hoard {
             "add" => self.add_one(alloc, words, out),
             "add-all" => self.add_all(alloc, words, out),
             "remove" => self.remove(alloc, words, out),
-            "list" => self.list(out),
+            "list" => put_priorities(out, &self.database.list()?),
             "clear" => {
                 self.database.clear();
                 Ok(())

@@ -1,7 +1,7 @@
 // Calls on the journal of a disk in memory, that of the replica of volume 0x01020304 at server 3, of group 7, in
 // an area of 1 MiB.
 use crate::compare::Bench;
-use crate::words::{bytes, number, put, put_number, word};
+use crate::words::{bytes, number, put, put_counted, word};
 use coda_disk::{Disk, MemDisk};
 use coda_journal::{Frame, Header, Journal, Kind, MountFault};
 use std::alloc::{AllocError, Global};
@@ -30,26 +30,30 @@ fn disk_of(alloc: Global, image: Vec<u8>) -> Result<MemDisk, AllocError> {
 // Puts the place where a disk is foreign.
 fn put_fault(out: &mut String, fault: MountFault) -> Result<(), AllocError> {
     match fault {
-        MountFault::Foreign(place) => {
-            put(out, "foreign")?;
-            put_number(out, place)
-        }
+        MountFault::Foreign(place) => put_counted(out, "foreign", place),
         MountFault::DiskFault => put(out, "disk-fault"),
         MountFault::Memory => Err(AllocError),
     }
 }
 
-// Puts how many bytes are used and how many entries there are, or where the disk is foreign.
+// Puts how many bytes are used and how many entries there are.
+fn put_found(out: &mut String, used: u64, count: usize) -> Result<(), AllocError> {
+    put_counted(out, "used", used)?;
+    put_counted(out, "entries", count as u64)
+}
+
+// Puts what there is on a disk, or where it is foreign.
 fn put_mounted(alloc: Global, image: Vec<u8>, out: &mut String) -> Result<(), AllocError> {
     match Journal::mount(alloc, disk_of(alloc, image)?, &HEADER) {
-        Ok((journal, payloads)) => {
-            put(out, "used")?;
-            put_number(out, journal.used())?;
-            put(out, "entries")?;
-            put_number(out, payloads.len() as u64)
-        }
+        Ok((journal, payloads)) => put_found(out, journal.used(), payloads.len()),
         Err(unmounted) => put_fault(out, unmounted.why),
     }
+}
+
+// Puts a word, and what there is on a disk.
+fn put_left(alloc: Global, word: &str, image: Vec<u8>, out: &mut String) -> Result<(), AllocError> {
+    put(out, word)?;
+    put_mounted(alloc, image, out)
 }
 
 // `make PASSES CHOICE`: whether a disk is made anew that may make so many calls, and what it has after a crash.
@@ -58,14 +62,12 @@ fn make(alloc: Global, words: &[&str], out: &mut String) -> Result<(), AllocErro
     disk.arm(number(words, 1));
     match Journal::mount(alloc, disk, &HEADER) {
         Ok(mount) => {
-            put(out, "made")?;
             let image = mount.0.into_disk().image(number(words, 2))?;
-            put_mounted(alloc, image, out)
+            put_left(alloc, "made", image, out)
         }
         Err(unmounted) => {
-            put(out, "unmade")?;
             let image = unmounted.disk.image(number(words, 2))?;
-            put_mounted(alloc, image, out)
+            put_left(alloc, "unmade", image, out)
         }
     }
 }
@@ -114,9 +116,8 @@ impl Image {
         };
         journal.arm(number(words, 1));
         let done = journal.append(&frame).is_ok();
-        put(out, if done { "done" } else { "fault" })?;
         let image = journal.into_disk().image(number(words, 2))?;
-        put_mounted(alloc, image, out)
+        put_left(alloc, if done { "done" } else { "fault" }, image, out)
     }
 }
 

@@ -1,11 +1,15 @@
 // Calls on replicas that are to be resolved.
 use crate::compare::Bench;
-use crate::words::{name, number, object, object_of, put, put_number, small, tiny, word};
+use crate::words::{
+    name, number, object, object_of, put, put_counted, put_number, small, tiny, word,
+};
 use coda_certify::Verdict;
 use coda_fid::{Bytes, Fid, Sid};
 use coda_record::Last;
-use coda_reslog::{Held, HeldObjects, Lost, ResEntry, ResKind, Ring};
-use coda_resolve::{Fate, Lasts, View, Why, are_in_order, fate_at, merge, new_marks, walk};
+use coda_reslog::{Change, Held, HeldObjects, Lost, ResEntry, ResKind, Ring};
+use coda_resolve::{
+    Fate, Lasts, Mark, Outcome, View, Why, are_in_order, fate_at, merge, new_marks, walk,
+};
 use coda_tree::{Entries, Node, NodeKind};
 use coda_vv::Vv;
 use std::alloc::{AllocError, Global};
@@ -52,9 +56,9 @@ fn vector(words: &[&str]) -> Vv {
     Vv([number(words, 2), number(words, 3), 0, 0, 0, 0, 0, 0])
 }
 
-// Puts the cause of a mark, with the number that it tells.
-fn put_cause(out: &mut String, why: &Why) -> Result<(), AllocError> {
-    let (word, number) = match why {
+// The cause of a mark, with the number that it tells.
+fn cause(why: &Why) -> (&'static str, u64) {
+    match why {
         Why::Kept => ("kept", 0),
         Why::Wrapped(_, seq) => ("wrapped", *seq),
         Why::CrossRename => ("cross-rename", 0),
@@ -63,17 +67,21 @@ fn put_cause(out: &mut String, why: &Why) -> Result<(), AllocError> {
         Why::RemoveUpdate(_) => ("remove-update", 0),
         Why::AttrAttr => ("attr-attr", 0),
         Why::FileFile => ("file-file", 0),
-    };
-    put(out, word)?;
-    put_number(out, number)
+    }
+}
+
+// Puts the cause of a mark.
+fn put_cause(out: &mut String, why: &Why) -> Result<(), AllocError> {
+    let (word, number) = cause(why);
+    put_counted(out, word, number)
 }
 
 // Puts what became of an object, with the number told, or that of all updates.
 fn put_fate(out: &mut String, fate: &Fate) -> Result<(), AllocError> {
     match fate {
         Fate::Same(held) => {
-            put(out, "same")?;
-            put_number(out, held.vector.0[0].saturating_add(held.vector.0[1]))
+            let Vv(counts) = held.vector;
+            put_counted(out, "same", counts[0].saturating_add(counts[1]))
         }
         Fate::Marked(why) => put_cause(out, why),
         Fate::Gone => put(out, "gone"),
@@ -113,40 +121,56 @@ fn put_marks(alloc: Global, views: &[View], out: &mut String) -> Result<(), Allo
     put_number(out, new_marks(alloc, views, object_of(0))?.len() as u64)
 }
 
-// `merge`: how many objects each replica holds anew and how many go, the first cause, how many are marked, and how
-// many touched.
+// Puts how many objects a replica holds anew, and how many go.
+fn put_change(out: &mut String, change: &Change) -> Result<(), AllocError> {
+    put_counted(out, "new", change.held.objects().len() as u64)?;
+    put_counted(out, "gone", change.gone.fids().len() as u64)
+}
+
+// Puts how many marks there are, and the cause of the first.
+fn put_first(out: &mut String, marks: &[Mark]) -> Result<(), AllocError> {
+    put_counted(out, "marks", marks.len() as u64)?;
+    match marks {
+        [] => Ok(()),
+        [first, ..] => put_cause(out, &first.why),
+    }
+}
+
+// Puts what a resolution makes of the replicas.
+fn put_outcome(out: &mut String, outcome: &Outcome) -> Result<(), AllocError> {
+    for (_, change) in outcome.changes.changes() {
+        put_change(out, change)?;
+    }
+    put_first(out, outcome.marks.marks())?;
+    put_counted(out, "touched", outcome.touched)
+}
+
+// `merge`: how many objects each replica holds anew and how many go, how many are marked and for which cause
+// the first, and how many touched.
 fn put_merge(alloc: Global, views: &[View], out: &mut String) -> Result<(), AllocError> {
     if !are_in_order(views) {
         return put(out, "out of order");
     }
     let outcome = merge(alloc, views)?;
-    for (_, change) in outcome.changes.changes() {
-        put(out, "new")?;
-        put_number(out, change.held.objects().len() as u64)?;
-        put(out, "gone")?;
-        put_number(out, change.gone.fids().len() as u64)?;
-    }
-    let marks = outcome.marks.marks();
-    put(out, "marks")?;
-    put_number(out, marks.len() as u64)?;
-    if let [first, ..] = marks {
-        put_cause(out, &first.why)?;
-    }
-    put(out, "touched")?;
-    put_number(out, outcome.touched)
+    put_outcome(out, &outcome)
 }
 
-// `decisions`: those that are joined, each by its client and its number.
+// Puts decisions, each by its client and its number.
+fn put_lasts(out: &mut String, lasts: &[Last]) -> Result<(), AllocError> {
+    for last in lasts {
+        put_counted(out, "client", u64::from(last.client))?;
+        put_number(out, last.number)?;
+    }
+    Ok(())
+}
+
+// `decisions`: those that are joined.
 fn put_decisions(alloc: Global, views: &[View], out: &mut String) -> Result<(), AllocError> {
     if !are_in_order(views) {
         return put(out, "out of order");
     }
-    for last in merge(alloc, views)?.lasts.lasts() {
-        put(out, "client")?;
-        put_number(out, u64::from(last.client))?;
-        put_number(out, last.number)?;
-    }
-    Ok(())
+    let outcome = merge(alloc, views)?;
+    put_lasts(out, outcome.lasts.lasts())
 }
 
 impl Replicas {

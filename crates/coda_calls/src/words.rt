@@ -95,6 +95,12 @@ pub fn put_number(out: &mut String, number: u64) -> Result<(), AllocError> {
     write!(out, "{number}")
 }
 
+/// Puts a word and a number behind an answer.
+pub fn put_counted(out: &mut String, word: &str, number: u64) -> Result<(), AllocError> {
+    put(out, word)?;
+    put_number(out, number)
+}
+
 /// Puts the vnodes of objects behind an answer.
 pub fn put_objects(out: &mut String, fids: &[Fid]) -> Result<(), AllocError> {
     for fid in fids {
