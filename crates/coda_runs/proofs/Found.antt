@@ -1,5 +1,5 @@
 -- What is told where a later run makes an actor again is what was found on its disk.
-use Rattle.std.proofs.Common.{◌≡◌, ℕ, false, List, [], ◌∷◌, length, Option, refl, sym, ap, ◌∙◌, subst, inl, inr}
+use Rattle.std.proofs.Common.{◌≡◌, ℕ, false, List, [], ◌∷◌, length, Option, sym, ap, ◌∙◌, subst, inl, inr}
 use Rattle.coda_journal.specs.declared.header.Header.{Header}
 use Rattle.coda_plain.specs.Cell.{Actor}
 use Rattle.coda_plain.specs.Laws.{IsRecovered}
@@ -7,7 +7,6 @@ use Rattle.coda_plain.specs.Moves.{TheClient, TheReplica, Recovers, crashed, rec
 use Rattle.coda_plain.proofs.Following.{client_here, replica_here}
 use Rattle.coda_plain.proofs.Staying.{histories_stay}
 use Rattle.coda_report.specs.Texts.{reply_text}
-use Rattle.coda_script.specs.declared.line.Line.{Line}
 use Rattle.coda_script.specs.declared.reply.Reply.{Reply}
 use Rattle.coda_script.specs.declared.reply.Reply.TheVariants.{Recovered}
 use Rattle.coda_stored.specs.Cells.{StoredCell, moved}

@@ -17,7 +17,6 @@ use Rattle.coda_stored.specs.Cells.{StoredCell, moved}
 use Rattle.coda_stored.specs.Kept.{IsStoredKept}
 use Rattle.coda_stored.specs.Lines.{Becoming, Unless, RecoversClient, RecoversReplica, Happens}
 use Rattle.coda_stored.proofs.Keeping.{stored_cells_are_kept}
-use Rattle.coda_site.specs.Sites.{IsSite}
 use Rattle.coda_site.specs.Steps.{Becomes}
 use Rattle.coda_site.specs.Totals.{Counts}
 use Rattle.coda_site.specs.declared.site.Site.{Site}
