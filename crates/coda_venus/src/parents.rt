@@ -10,6 +10,7 @@ use crate::above::Above;
 use coda_fid::Fid;
 use coda_tree::FidMap;
 use std::alloc::{AllocError, Global};
+use std::hash::BuildHasherDefault;
 use std::marker::Model;
 
 /// The directory that is the parent of each object that has one, and which objects may be parents.
