@@ -1,4 +1,0 @@
-pub mod Notes
-pub mod Told
-pub mod Laws
-pub mod Copies
