@@ -21,8 +21,16 @@ fn put_ending(report: &mut Vec<u8>, ending: &str) -> Result<(), AllocError> {
     report.extend_from_slice(b"\n")
 }
 
-// Puts the images that a bay answered at crashes, each as a line of hex digits.
-fn put_images(alloc: Global, report: &mut Vec<u8>, bay: &MemBay) -> Result<(), AllocError> {
+// Puts the images that a bay answered at crashes, each as a line of hex digits, where they are to be shown.
+fn put_images(
+    alloc: Global,
+    report: &mut Vec<u8>,
+    bay: &MemBay,
+    are_shown: bool,
+) -> Result<(), AllocError> {
+    if !are_shown {
+        return Ok(());
+    }
     for image in bay.images() {
         report.extend_from_slice(b"image ")?;
         report.extend_from_slice(hex::encode(alloc, image.bytes())?.as_bytes())?;
@@ -87,9 +95,7 @@ fn found_of(alloc: Global, scripts: Vec<Vec<u8>>) -> Result<Vec<u8>> {
         let shows_images = header.shows_images;
         let (status, report) = outcome(alloc, &mut bay, script, header)?;
         found.extend_from_slice(&report)?;
-        if shows_images {
-            put_images(alloc, &mut found, &bay)?;
-        }
+        put_images(alloc, &mut found, &bay, shows_images)?;
         put_ending(&mut found, ending(alloc, status)?.as_str())?;
         // Such a run may keep disks of the bay, so no other follows it.
         if status == Status::BayFault || status == Status::Memory {
