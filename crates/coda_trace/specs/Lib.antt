@@ -1,0 +1,4 @@
+pub mod Notes
+pub mod Told
+pub mod Laws
+pub mod Copies

@@ -1,0 +1,165 @@
+// A cell with the trace of its steps.
+ghost use Rattle.std.specs.Prelude.{◌≡◌, ◌≢◌, ◌≤◌, ◌<◌, ◌+◌, ◌^◌, ℕ, true, false, List, [], ◌∷◌, length, Some, None, MatchOption, IfOk, OnErr, Err};
+ghost use Rattle.coda_io.specs.Faults.{Rose};
+ghost use Rattle.coda_script.specs.Ranges.{InRange};
+ghost use Rattle.coda_cell.specs.Cells.{volume_at};
+ghost use Rattle.coda_cell.specs.Made.{state_of};
+ghost use Rattle.coda_cell.specs.State.{ClientState, log_of, new_volume};
+ghost use Rattle.coda_stored.specs.Cells.{StoredCell, nothing_stored};
+ghost use Rattle.coda_stored.specs.Kept.{IsStoredKept};
+ghost use Rattle.coda_stored.specs.Lines.{is_built, Happens, client_down, replica_down};
+ghost use Rattle.coda_stored.specs.Resuming.{at_rest, Awaited, is_awaited, AreAwaited, MakeAllAgain};
+ghost use Rattle.coda_site.specs.Awaiting.{IsAwaiting, Resumes};
+ghost use Rattle.coda_site.specs.Sites.{IsSite, IsReady, IsClosable};
+ghost use Rattle.coda_site.specs.Steps.{Becomes};
+ghost use Rattle.coda_site.specs.Totals.{IsCounted, IsFault, has_armed, total, totals};
+ghost use Rattle.coda_disk.specs.Bays.{plus};
+ghost use Rattle.coda_site.specs.Cells.{AreBlank, AreOnDisks};
+ghost use Rattle.coda_trace.specs.Notes.{IsNoteOf, IsTraced};
+ghost use Rattle.coda_trace.specs.Told.{AreSteps, GoesOn};
+
+use crate::copying::copy_line;
+use crate::event::{Event, Note};
+use coda_cml::Log;
+use coda_disk::Bay;
+use coda_script::{Line, Refusal, Reply};
+use coda_site::{Cell, CellFault};
+use coda_tree::Volume;
+use std::alloc::Global;
+
+// What a step is noted as that has this reply.
+fn note_of(reply: &Reply) -> Note
+    ensures { IsNoteOf reply.now result }
+{
+    match reply {
+        Reply::Recovered { entries } => Note::Recovered(*entries),
+        Reply::Refused { refusal, args } => {
+            if *refusal == Refusal::DiskFault && args.args().is_empty() {
+                Note::Fault
+            } else {
+                Note::Plain
+            }
+        }
+        _ => Note::Plain,
+    }
+}
+
+/// A cell, and the trace of its steps: each line that was carried out, with what its step tells of disks. It grows with
+/// the script, by a copy of each line.
+#[derive(Drop)]
+pub struct TracedCell<B: Bay> {
+    /// The cell.
+    pub cell: Cell<B>,
+    /// The steps so far, in their order.
+    pub events: Vec<Event>,
+}
+
+impl<B: Bay> TracedCell<B> {
+    /// A cell in which nothing was made, with an empty trace. No number of the bay is out.
+    pub fn new(alloc: Global, bay: B) -> TracedCell<B>
+        requires { (number : ℕ) → B.out bay number ≡ false }
+        ensures bay { result.cell.bay ≡ bay }
+        ensures ready { IsReady B.D.told (B.out result.cell.bay) result.cell.site }
+        ensures closable { IsClosable (B.out result.cell.bay) result.cell.site }
+        ensures posted { result.cell.site.net.posted ≡ 0 }
+        ensures empty { (result.cell.site.servers.items ≡ []) × (result.cell.site.areas ≡ 0) }
+        ensures stands { AreBlank (B.has result.cell.bay) → IsSite B.D.told (B.out result.cell.bay) (B.has result.cell.bay) nothing_stored result.cell.site }
+        ensures waits { (cell : StoredCell) (lines : List Awaited) → IsStoredKept cell → MakeAllAgain cell lines → AreOnDisks B.D.told (B.has result.cell.bay) cell
+            → IsAwaiting B.D.told (B.out result.cell.bay) (B.has result.cell.bay) (at_rest cell) lines result.cell.site }
+        ensures counts { totals B.D.told B.D.faults B.D.arms (B.disk_faults result.cell.bay) (B.disk_arms result.cell.bay) result.cell.site ≡ record { faults = plus (B.disk_faults bay) 0; arms = plus (B.disk_arms bay) 0 } }
+        ensures untraced { result.events.items ≡ [] }
+    {
+        TracedCell {
+            cell: Cell::new(alloc, bay),
+            events: Vec::new(alloc),
+        }
+    }
+
+    /// Carries out a line that is built, answers its reply, and adds the step to the trace. Memory for that is taken
+    /// first, so a line that was answered is in the trace.
+    ///
+    /// # Errors
+    ///
+    /// `Memory`, and `Bay` where the bay refused a disk, or a crash. The trace is then as it was.
+    pub fn step(&mut self, line: &Line) -> Result<Reply, CellFault>
+        requires built { is_built line.now ≡ true }
+        requires range { InRange line.now }
+        requires ready { IsReady B.D.told (B.out self.old.cell.bay) self.old.cell.site }
+        requires few { self.old.cell.site.net.posted < 2 ^ 63 }
+        requires short { length self.old.events.items < 2 ^ 32 }
+        ensures ready { result ≢ Err CellFault.Bay → IsReady B.D.told (B.out self.new.cell.bay) self.new.cell.site }
+        ensures closable { IsClosable (B.out self.new.cell.bay) self.new.cell.site }
+        ensures does { (cell : StoredCell) → IsStoredKept cell → IsSite B.D.told (B.out self.old.cell.bay) (B.has self.old.cell.bay) cell self.old.cell.site
+            → IfOk result (λ reply. Becomes B.D.told (B.out self.new.cell.bay) (B.has self.new.cell.bay) (Happens cell line.now) reply (B.answered self.old.cell.bay) (B.answered self.new.cell.bay) self.new.cell.site) }
+        ensures again { (cell : StoredCell) (awaited : Awaited) (left : List Awaited) → is_awaited awaited line.now ≡ true → IsStoredKept cell
+            → AreAwaited cell (length self.old.cell.site.servers.items) self.old.cell.site.areas (awaited ∷ left) → IsAwaiting B.D.told (B.out self.old.cell.bay) (B.has self.old.cell.bay) cell (awaited ∷ left) self.old.cell.site
+            → IfOk result (λ reply. Resumes B.D.told (B.out self.new.cell.bay) (B.has self.new.cell.bay) cell awaited left reply (B.answered self.old.cell.bay) (B.answered self.new.cell.bay) self.new.cell.site) }
+        ensures posted { self.new.cell.site.net.posted ≤ self.old.cell.site.net.posted + 1 }
+        ensures later { B.faults self.old.cell.bay ≤ B.faults self.new.cell.bay }
+        ensures bay_cause { result ≡ Err CellFault.Bay → Rose (B.faults self.old.cell.bay) (B.faults self.new.cell.bay) }
+        ensures follows { B.follows self.old.cell.bay self.new.cell.bay }
+        ensures counts { IsCounted (IsFault result) (has_armed line.now result) (totals B.D.told B.D.faults B.D.arms (B.disk_faults self.old.cell.bay) (B.disk_arms self.old.cell.bay) self.old.cell.site) (totals B.D.told B.D.faults B.D.arms (B.disk_faults self.new.cell.bay) (B.disk_arms self.new.cell.bay) self.new.cell.site) }
+        ensures traced { IfOk result (λ reply. IsTraced line.now reply (totals B.D.told B.D.faults B.D.arms (B.disk_faults self.old.cell.bay) (B.disk_arms self.old.cell.bay) self.old.cell.site) (totals B.D.told B.D.faults B.D.arms (B.disk_faults self.new.cell.bay) (B.disk_arms self.new.cell.bay) self.new.cell.site) self.old.events.items self.new.events.items) }
+        ensures untraced { OnErr result (self.new.events.items ≡ self.old.events.items) }
+
+        // Where the trace has the steps of a run to the cell for which the site stands, it has those of a run to what
+        // the line leaves.
+        ensures steps { (start cell : StoredCell) (images : List (List ℕ)) → IsStoredKept cell → IsSite B.D.told (B.out self.old.cell.bay) (B.has self.old.cell.bay) cell self.old.cell.site
+            → AreSteps start self.old.events.items images cell → IfOk result (λ _. GoesOn B.D.told (B.out self.new.cell.bay) (B.has self.new.cell.bay) start self.new.events.items images (B.answered self.old.cell.bay) (B.answered self.new.cell.bay) self.new.cell.site) }
+    {
+        let line_copy = copy_line(line)?;
+        self.events.reserve(1)?;
+        let reply = self.cell.step(line)?;
+        let event = Event {
+            line: line_copy,
+            note: note_of(&reply),
+        };
+        self.events.push_reserved(event);
+        Ok(reply)
+    }
+
+    /// The trace: the lines that were carried out, in their order, each with what its step tells of disks.
+    pub fn trace(&self) -> &[Event]
+        ensures { result.now ≡ self.now.events.items }
+    {
+        &self.events
+    }
+
+    /// Gives every disk back, and answers the bay. It takes no memory.
+    pub fn close(self) -> B
+        requires { IsClosable (B.out self.cell.bay) self.cell.site }
+        ensures out { IsReady B.D.told (B.out self.cell.bay) self.cell.site → (number : ℕ) → B.out result number ≡ false }
+        ensures stands { (cell : StoredCell) → IsReady B.D.told (B.out self.cell.bay) self.cell.site → IsSite B.D.told (B.out self.cell.bay) (B.has self.cell.bay) cell self.cell.site → AreOnDisks B.D.told (B.has result) cell }
+        ensures waits { (cell : StoredCell) (volumes areas : ℕ) (left : List Awaited) → IsReady B.D.told (B.out self.cell.bay) self.cell.site → IsStoredKept cell → AreAwaited cell volumes areas left
+            → IsAwaiting B.D.told (B.out self.cell.bay) (B.has self.cell.bay) cell left self.cell.site → AreOnDisks B.D.told (B.has result) cell }
+        ensures answered { B.answered result ≡ B.answered self.cell.bay }
+        ensures faults { B.faults result ≡ B.faults self.cell.bay }
+        ensures follows { B.follows self.cell.bay result }
+        ensures faults_out { plus (B.disk_faults result) 0 ≡ total B.D.told B.D.faults (B.disk_faults self.cell.bay) self.cell.site }
+        ensures arms_out { plus (B.disk_arms result) 0 ≡ total B.D.told B.D.arms (B.disk_arms self.cell.bay) self.cell.site }
+    {
+        self.cell.close()
+    }
+
+    /// The volume that a server has; `None` where it has none of this number, or is down.
+    pub fn volume(&self, server: u8, volume: u32) -> Option<&Volume>
+        ensures down { (cell : StoredCell) → IsStoredKept cell → IsSite B.D.told (B.out self.now.cell.bay) (B.has self.now.cell.bay) cell self.now.cell.site
+            → replica_down cell volume ≡ true → result ≡ None }
+        ensures shown { (cell : StoredCell) → IsStoredKept cell → IsSite B.D.told (B.out self.now.cell.bay) (B.has self.now.cell.bay) cell self.now.cell.site
+            → replica_down cell volume ≡ false
+            → MatchOption result (volume_at ((state_of cell.made).replicas volume) server ≡ None) (λ tree. volume_at ((state_of cell.made).replicas volume) server ≡ Some tree.now) }
+    {
+        self.cell.volume(server, volume)
+    }
+
+    /// A client's log of a volume; `None` where the client isn't there or is down, or never had a log of the volume.
+    pub fn log(&self, client: u8, volume: u32) -> Option<&Log>
+        ensures down { (cell : StoredCell) → IsStoredKept cell → IsSite B.D.told (B.out self.now.cell.bay) (B.has self.now.cell.bay) cell self.now.cell.site
+            → client_down cell client ≡ true → result ≡ None }
+        ensures shown { (cell : StoredCell) → IsStoredKept cell → IsSite B.D.told (B.out self.now.cell.bay) (B.has self.now.cell.bay) cell self.now.cell.site
+            → client_down cell client ≡ false → (c : ClientState) → (state_of cell.made).clients client ≡ Some c
+            → MatchOption result (log_of (c.volumes volume) ≡ log_of new_volume) (λ log. log.now ≡ log_of (c.volumes volume)) }
+    {
+        self.cell.log(client, volume)
+    }
+}
