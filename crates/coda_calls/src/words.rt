@@ -1,5 +1,6 @@
 // The words of a call.
 use coda_fid::{Fid, Name};
+use hex::FromHexError;
 use std::alloc::{AllocError, Global};
 
 /// The word at a place, and nothing behind the last.
@@ -59,23 +60,14 @@ pub fn name(alloc: Global, words: &[&str], at: usize) -> Option<Name> {
     Name::read(alloc, word(words, at).as_bytes()).ok()
 }
 
-// The value of a hexadecimal digit.
-fn digit(byte: u8) -> u8 {
-    if byte < b'a' {
-        byte.wrapping_sub(b'0')
-    } else {
-        byte.wrapping_sub(b'a').wrapping_add(10)
-    }
-}
-
-/// The bytes whose hexadecimal digits stand from a place on.
+/// The bytes whose hexadecimal digits stand from a place on, up to the first word that isn't digits.
 pub fn bytes(alloc: Global, words: &[&str], from: usize) -> Result<Vec<u8>, AllocError> {
     let mut bytes = Vec::new(alloc);
     for word in words.iter().skip(from) {
-        for pair in word.as_bytes().chunks(2) {
-            if let [high, low] = pair {
-                bytes.push(digit(*high).wrapping_mul(16).wrapping_add(digit(*low)))?;
-            }
+        match hex::decode(alloc, *word) {
+            Ok(decoded) => bytes.extend_from_slice(&decoded)?,
+            Err(FromHexError::OutOfMemory) => return Err(AllocError),
+            Err(_) => break,
         }
     }
     Ok(bytes)
