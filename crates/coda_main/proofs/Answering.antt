@@ -9,11 +9,12 @@ use Rattle.coda_script.specs.Lines.{line_of}
 use Rattle.coda_script.specs.Ranges.{InRange}
 use Rattle.coda_cell.specs.Made.{state_of}
 use Rattle.coda_stored.specs.Cells.{StoredCell}
-use Rattle.coda_stored.specs.Kept.{IsStoredKept}
+use Rattle.coda_stored.specs.Seen.{IsSeen}
+use Rattle.coda_stored.proofs.Seeing.{kept_is_seen}
 use Rattle.coda_stored.specs.Lines.{is_built, Happens}
 use Rattle.coda_stored.proofs.Keeping.{stored_cells_are_kept}
 use Rattle.coda_site.specs.Sites.{IsSite}
-use Rattle.coda_site.specs.Steps.{Becomes}
+use Rattle.coda_site.specs.Steps.{Admits, Becomes}
 use Rattle.coda_runs.specs.Shows.{Recorded, CanShow}
 use Rattle.coda_runs.specs.Texts.{text_of}
 use Rattle.coda_runs.proofs.ShownUp.{shows_what_is_up}
@@ -29,18 +30,18 @@ behind (x ∷ xs) ys = behind xs ys
 
 -- A line was carried out with this reply, and this is its text in each cell that may be shown then.
 pub line_replied : {D : Type 0} (told : D → Told) (old new : Moment D) (said : Line) (reply : Reply) (text : List ℕ) → InRange said
-    → ((cell : StoredCell) → IsStoredKept cell → IsSite told old.out old.has cell old.site → Becomes told new.out new.has (Happens cell said) reply old.answered new.answered new.site)
-    → ((cell : StoredCell) → IsStoredKept cell → IsSite told new.out new.has cell new.site → CanShow cell reply → text ≡ text_of (state_of cell.made) reply)
+    → ((cell : StoredCell) → Admits cell said → IsSite told old.out old.has cell old.site → Becomes told new.out new.has (Happens cell said) reply old.answered new.answered new.site)
+    → ((cell : StoredCell) → IsSeen cell → IsSite told new.out new.has cell new.site → CanShow cell reply → text ≡ text_of (state_of cell.made) reply)
     → (plain : Recorded) → Shows told plain old → (a : Answered told plain said text old new) × (a.reply ≡ reply)
 line_replied told old new said reply text range does printed plain shows =
-    let became = does plain.cell shows.kept shows.stands in
+    let became = does plain.cell (kept_is_seen plain.cell shows.kept, λ mounts. shows.kept) shows.stands in
     let same : answered_since old new ≡ became.outside = ap (λ images. drop (length old.answered) images) became.answered ∙ behind old.answered became.outside in
     let kept = stored_cells_are_kept.lines plain.cell became.left said reply became.outside shows.kept range became.happens in (
       record {
         next = record { cell = became.left; answered = new.answered };
         reply = reply;
         happens = subst (λ outside. Happens plain.cell said reply outside became.left) (sym same) became.happens;
-        printed = printed became.left kept became.stands (shows_what_is_up plain.cell became.left said reply became.outside shows.kept became.happens);
+        printed = printed became.left (kept_is_seen became.left kept) became.stands (shows_what_is_up plain.cell became.left said reply became.outside became.happens);
         answered = became.answered ∙ ap (λ images. images ++ became.outside) shows.answered ∙ ap (λ outside. plain.answered ++ outside) (sym same);
         shows = record { kept = kept; stands = became.stands; answered = refl };
       },

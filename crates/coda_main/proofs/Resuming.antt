@@ -1,5 +1,5 @@
 -- What a line that ran says of a later run.
-use Rattle.std.proofs.Common.{◌≡◌, ℕ, Bool, true, false, List, [], ◌∷◌, Ok, refl, sym, ap, ◌∙◌, subst, inl, inr}
+use Rattle.std.proofs.Common.{◌≡◌, ℕ, Bool, true, false, List, [], ◌∷◌, ◌++◌, Ok, refl, sym, ap, ◌∙◌, subst, inl, inr}
 use Rattle.std.specs.Prelude.{Some, None, drop, length}
 use Rattle.std.proofs.lemmas.List.{append-nil}
 use Rattle.coda_disk.specs.Told.{Told}
@@ -7,16 +7,27 @@ use Rattle.coda_script.specs.declared.line.Line.{Line}
 use Rattle.coda_script.specs.declared.reply.Reply.{Reply}
 use Rattle.coda_script.specs.declared.reply.Reply.TheVariants.{ShowVolume, ShowLog}
 use Rattle.coda_script.specs.Lines.{line_of}
+use Rattle.coda_script.specs.Ranges.{InRange}
+use Rattle.coda_cell.specs.Made.{state_of}
 use Rattle.coda_report.specs.Texts.{reply_text}
 use Rattle.coda_stored.specs.Cells.{StoredCell}
 use Rattle.coda_stored.specs.Kept.{IsStoredKept}
-use Rattle.coda_stored.specs.Lines.{RecoversClient, RecoversReplica}
+use Rattle.coda_stored.specs.Lines.{is_built, Happens, RecoversClient, RecoversReplica}
+use Rattle.coda_stored.specs.Seen.{seen, mounts_none, IsSeen, Meanwhile}
+use Rattle.coda_stored.proofs.Between.{lines_come_between}
+use Rattle.coda_stored.proofs.Seeing.{seen_is_seen}
 use Rattle.coda_stored.specs.Resuming.{Awaited, ClientAgain, VolumeAgain, is_awaited, AreAwaited, opened_as, MakesAgain}
 use Rattle.coda_stored.proofs.Resuming.{cells_are_resumed}
 use Rattle.coda_site.specs.Awaiting.{IsAwaiting, Resumes}
+use Rattle.coda_site.specs.Sites.{IsSite}
+use Rattle.coda_site.specs.Steps.{Admits, Becomes}
 use Rattle.coda_site.proofs.Resting.{all_resumed, next_awaited}
+use Rattle.coda_site.proofs.SeenSites.{awaiting_is_seen, still_awaited, still_waits}
+use Rattle.coda_runs.specs.Shows.{CanShow}
+use Rattle.coda_runs.specs.Texts.{text_of}
+use Rattle.coda_runs.proofs.ShownUp.{shows_what_is_up}
 use Rattle.coda_runs.specs.Later.{Later, Waits, Goes, Strays, resumed, LaterGives}
-use Rattle.coda_main.specs.Later.{ShowsNothing, ShowsWaiting, ShowsLater, AnsweredAgain, MachineGives}
+use Rattle.coda_main.specs.Later.{ShowsNothing, ShowsWaiting, ShowsLater, AnsweredAgain, AnsweredBetween, MachineGives}
 use Rattle.coda_main.specs.Shows.{Moment, answered_since, CellGives}
 use Rattle.coda_main.specs.Tallies.{IsText}
 use Rattle.coda_main.proofs.Answering.{behind}
@@ -46,7 +57,7 @@ again_says old new (VolumeAgain volume server area) reply (said, mid, did, is, s
 -- what is shown of a cell in which an actor was made again
 shown_again : {D : Type 0} (told : D → Told) (found : StoredCell) (left : List Awaited) (images : List (List ℕ)) (new : Moment D) → IsStoredKept found → AreAwaited found (length new.site.servers.items) new.site.areas left
     → IsAwaiting told new.out new.has found left new.site → new.answered ≡ images → ShowsLater told (resumed found left images) new
-shown_again told found [] images new kept are stands answered = record { kept = kept; stands = all_resumed told new.out new.has found new.site stands; answered = answered }
+shown_again told found [] images new kept are stands answered = record { kept = kept; stands = all_resumed told new.out new.has found new.site kept stands; answered = answered }
 shown_again told found (next ∷ left) images new kept are stands answered = record { kept = kept; awaited = are; stands = stands; images = answered }
 
 -- the line that is awaited was carried out
@@ -66,11 +77,59 @@ line_answered_again told old new cell next left images reply text shows resumes 
           resumes.stands (resumes.answered ∙ shows.images);
     }
 
+-- what a line did in the cell as it is seen, which came before the one that is awaited
+module _ {D : Type 0} (told : D → Told) (old new : Moment D) (cell : StoredCell) (next : Awaited) (left : List Awaited) (images : List (List ℕ)) (said : Line) (reply : Reply) (text : List ℕ) (range : InRange said) (shows : ShowsWaiting told cell next left images old)
+    (printed : (stored : StoredCell) → IsSeen stored → IsSite told new.out new.has stored new.site → CanShow stored reply → text ≡ text_of (state_of stored.made) reply)
+    (outside : List (List ℕ)) (answered : new.answered ≡ old.answered ++ outside) (found : StoredCell) (m : Meanwhile cell (next ∷ left) said reply outside found) (stands : IsSite told new.out new.has (seen found (next ∷ left)) new.site) where
+  since : answered_since old new ≡ outside
+  since = ap (λ l. drop (length old.answered) l) answered ∙ behind old.answered outside
+
+  found_kept : IsStoredKept found
+  found_kept = lines_come_between.kept cell found (next ∷ left) said reply outside shows.kept range m
+
+  found_awaited : AreAwaited found (length old.site.servers.items) old.site.areas (next ∷ left)
+  found_awaited = lines_come_between.awaited cell found (length old.site.servers.items) old.site.areas (next ∷ left) said reply outside shows.awaited m
+
+  answers_between : AnsweredBetween told cell next left images said text old new
+  answers_between = record {
+    found = found;
+    reply = reply;
+    does = subst (λ (l : List (List ℕ)). Meanwhile cell (next ∷ left) said reply l found) (sym since) m;
+    printed = printed (seen found (next ∷ left)) (seen_is_seen found (next ∷ left) found_kept) stands (shows_what_is_up (seen cell (next ∷ left)) (seen found (next ∷ left)) said reply outside m.does);
+    shows = record {
+      kept = found_kept;
+      awaited = still_awaited told old.out new.out old.has new.has cell found (next ∷ left) shows.kept found_kept m.stays old.site new.site shows.awaited found_awaited shows.stands stands;
+      stands = still_waits told old.out new.out old.has new.has cell found (next ∷ left) shows.kept found_kept m.stays old.site new.site shows.awaited found_awaited shows.stands stands;
+      images = answered ∙ ap (λ l. l ++ outside) shows.images ∙ ap (λ l. images ++ l) (sym since);
+    };
+  }
+
+-- a line that isn't awaited and mounts no disk was carried out before the one that is awaited
+pub line_answered_between : {D : Type 0} (told : D → Told) (old new : Moment D) (cell : StoredCell) (next : Awaited) (left : List Awaited) (images : List (List ℕ)) (said : Line) (reply : Reply) (text : List ℕ) → InRange said
+    → mounts_none (seen cell (next ∷ left)) said ≡ true → ShowsWaiting told cell next left images old
+    → ((stored : StoredCell) → Admits stored said → IsSite told old.out old.has stored old.site → Becomes told new.out new.has (Happens stored said) reply old.answered new.answered new.site)
+    → ((stored : StoredCell) → IsSeen stored → IsSite told new.out new.has stored new.site → CanShow stored reply → text ≡ text_of (state_of stored.made) reply)
+    → AnsweredBetween told cell next left images said text old new
+line_answered_between {D} told old new cell next left images said reply text range none shows does printed = by (does (seen cell (next ∷ left)) admits before)
+  where
+    admits : Admits (seen cell (next ∷ left)) said
+    admits = (seen_is_seen cell (next ∷ left) shows.kept, λ mounts. (let wrong : true ≡ false = sym none ∙ mounts in cc))
+
+    before : IsSite told old.out old.has (seen cell (next ∷ left)) old.site
+    before = awaiting_is_seen told old.out old.has cell (next ∷ left) (length old.site.servers.items) old.site.areas shows.kept shows.awaited old.site shows.stands
+
+    by : Becomes told new.out new.has (Happens (seen cell (next ∷ left)) said) reply old.answered new.answered new.site → AnsweredBetween told cell next left images said text old new
+    by became =
+        let f = lines_come_between.happens cell became.left (next ∷ left) said reply became.outside none became.happens in
+        answers_between told old new cell next left images said reply text range shows printed became.outside became.answered f.0 f.2
+        (subst (λ (c : StoredCell). IsSite told new.out new.has c new.site) f.1 became.stands)
+
 -- a line that is built
-pub line_resumes : {D : Type 0} (told : D → Told) (old new : Moment D) (bytes text : List ℕ) (said : Line) → line_of bytes ≡ Ok (Some said) → CellGives told old bytes text (answered_since old new) new
+pub line_resumes : {D : Type 0} (told : D → Told) (old new : Moment D) (bytes text : List ℕ) (said : Line) → line_of bytes ≡ Ok (Some said) → is_built said ≡ true → CellGives told old bytes text (answered_since old new) new
     → ((cell : StoredCell) (next : Awaited) (left : List Awaited) (images : List (List ℕ)) → is_awaited next said ≡ true → ShowsWaiting told cell next left images old → AnsweredAgain told cell next left images text old new)
+    → ((cell : StoredCell) (next : Awaited) (left : List Awaited) (images : List (List ℕ)) → mounts_none (seen cell (next ∷ left)) said ≡ true → ShowsWaiting told cell next left images old → AnsweredBetween told cell next left images said text old new)
     → MachineGives told old bytes text (answered_since old new) new
-line_resumes told old new bytes text said spelled ran again = record { ran = ran; later = later }
+line_resumes told old new bytes text said spelled built ran again between = record { ran = ran; later = later }
   where
     later : (at : Later) → ShowsLater told at old → (next : Later) × LaterGives at bytes text (answered_since old new) next × ShowsLater told next new
     later (Waits cell next left images) shows = by (is_awaited next said) refl
@@ -79,7 +138,13 @@ line_resumes told old new bytes text said spelled ran again = record { ran = ran
         by true is =
             let a = again cell next left images is shows in
             (resumed a.found left images, inr (inl (record { said = said; reply = a.reply; found = a.found; spelled = spelled; awaited = is; makes = a.makes; printed = a.printed; quiet = a.quiet; goes_on = refl })), a.shows)
-        by false is = (Strays, inr (inr (record { said = said; spelled = spelled; other = is; strays = refl })), tt)
+        by false is = else (mounts_none (seen cell (next ∷ left)) said) refl
+          where
+            else : (b : Bool) → mounts_none (seen cell (next ∷ left)) said ≡ b → (place : Later) × LaterGives (Waits cell next left images) bytes text (answered_since old new) place × ShowsLater told place new
+            else false mounts = (Strays, inr (inr (inr (record { said = said; spelled = spelled; other = is; mounts = mounts; strays = refl }))), tt)
+            else true none =
+                let a = between cell next left images none shows in
+                (Waits a.found next left (images ++ answered_since old new), inr (inr (inl (record { said = said; reply = a.reply; found = a.found; spelled = spelled; built = built; other = is; mounts = none; does = a.does; printed = a.printed; goes_on = refl }))), a.shows)
     later (Goes at) shows = (let g = ran.gives at shows in (Goes g.0, (g.0, g.1, refl), g.2))
     later Strays shows = (Strays, refl, tt)
 

@@ -1,20 +1,24 @@
 -- A run over the disks that an earlier run left: what the cell of the code shows of it, and what its report tells.
-use Rattle.std.specs.Prelude.{◌≡◌, ◌≢◌, ℕ, List, [], ◌∷◌, Option, length}
+use Rattle.std.specs.Prelude.{◌≡◌, ◌≢◌, ℕ, List, [], ◌∷◌, ◌++◌, Option, length}
 use Rattle.coda_disk.specs.Told.{Told}
 use Rattle.coda_engine.specs.Run.{Reports}
 use Rattle.coda_engine.specs.declared.status.Kind.{Kind}
 use Rattle.coda_engine.specs.declared.status.Status.{Status}
 use Rattle.coda_engine.specs.declared.status.Status.TheVariants.{BayFault, Memory}
+use Rattle.coda_script.specs.declared.line.Line.{Line}
 use Rattle.coda_script.specs.declared.reply.Reply.{Reply}
 use Rattle.coda_script.specs.declared.reply.Reply.TheVariants.{ShowVolume, ShowLog}
 use Rattle.coda_report.specs.Texts.{reply_text}
+use Rattle.coda_cell.specs.Made.{state_of}
 use Rattle.coda_stored.specs.Cells.{StoredCell}
 use Rattle.coda_stored.specs.Kept.{IsStoredKept}
 use Rattle.coda_stored.specs.Resuming.{at_rest, Awaited, AreAwaited, MakesAgain}
+use Rattle.coda_stored.specs.Seen.{seen, Meanwhile}
 use Rattle.coda_site.specs.Awaiting.{IsAwaiting}
 use Rattle.coda_site.specs.Cells.{AreOnDisks}
 use Rattle.coda_runs.specs.Later.{Later, Waits, Goes, Strays, resumed, LaterGives, HasReached, HasGoneOn, CanBeResumed}
 use Rattle.coda_runs.specs.Shows.{Recorded}
+use Rattle.coda_runs.specs.Texts.{text_of}
 use Rattle.coda_main.specs.Lines.{IsBadLine}
 use Rattle.coda_main.specs.Shows.{Moment, Shows, answered_since, CellGives}
 
@@ -50,15 +54,23 @@ pub record AnsweredAgain {D : Type 0} (told : D → Told) (cell : StoredCell) (n
   pub quiet : answered_since old new ≡ []
   pub shows : ShowsLater told (resumed found left answered) new
 
+-- A line that makes no actor came before the one that is awaited, with a reply of this text, and what it left is shown.
+pub record AnsweredBetween {D : Type 0} (told : D → Told) (cell : StoredCell) (next : Awaited) (left : List Awaited) (answered : List (List ℕ)) (said : Line) (text : List ℕ) (old new : Moment D) : Type 0 where
+  pub found : StoredCell
+  pub reply : Reply
+  pub does : Meanwhile cell (next ∷ left) said reply (answered_since old new) found
+  pub printed : text ≡ text_of (state_of (seen found (next ∷ left)).made) reply
+  pub shows : ShowsLater told (Waits found next left (answered ++ answered_since old new)) new
+
 -- A line ran, and from each place of a later run that old shows, one that new shows may be reached by it.
 pub record MachineGives {D : Type 0} (told : D → Told) (old : Moment D) (bytes text : List ℕ) (outside : List (List ℕ)) (new : Moment D) : Type 0 where
   pub ran : CellGives told old bytes text outside new
   pub later : (at : Later) → ShowsLater told at old → (next : Later) × LaterGives at bytes text outside next × ShowsLater told next new
 
--- What was read and written is the report of a run over the disks that an earlier run left: the lines come first that make all its actors again, and
--- then the run goes on from what they found, unless a line comes that isn't awaited. Unless memory was wanting or the bay at fault, what it reached has
--- run and begins with the histories that there were, the bay answered what the run had of it, and its disks stand for what was reached; and where all
--- were made again, a further run can go on from it.
+-- What was read and written is the report of a run over the disks that an earlier run left: lines make its actors again in this order, some of them or
+-- all, and each other line does what it does where those were made that came so far, unless one makes an actor out of this order. Unless memory was
+-- wanting or the bay at fault, what it reached has run and begins with the histories that there were, the bay answered what the run had of it, and its
+-- disks stand for what was reached; and where all were made again, a further run can go on from it.
 pub record IsReportOfLaterRun {D : Type 0} (told : D → Told) (has : ℕ → Told) (answered_old answered_new : List (List ℕ)) (left_old left_new held_old held_new : Option (List ℕ)) (status : Status) (past : StoredCell) (lines : List Awaited) : Type 0 where
   pub end : Later
   pub outside : List (List ℕ)

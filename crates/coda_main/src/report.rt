@@ -4,7 +4,7 @@ ghost use Rattle.coda_cell.specs.Cells.{volume_at};
 ghost use Rattle.coda_cell.specs.Made.{state_of};
 ghost use Rattle.coda_cell.specs.State.{ClientState};
 ghost use Rattle.coda_stored.specs.Cells.{StoredCell};
-ghost use Rattle.coda_stored.specs.Kept.{IsStoredKept};
+ghost use Rattle.coda_stored.specs.Seen.{IsSeen};
 ghost use Rattle.coda_stored.specs.Lines.{client_down, replica_down};
 ghost use Rattle.coda_site.specs.Sites.{IsSite};
 ghost use Rattle.coda_runs.specs.Shows.{CanShow};
@@ -34,7 +34,7 @@ fn volume_shown<B: Bay>(
     volume: u32,
 ) -> Result<Bytes, AllocError>
     ensures said { IfOk result (λ text. IsText (ShowVolume server volume) text) }
-    ensures shown { IfOk result (λ text. (stored : StoredCell) → IsStoredKept stored → IsSite B.D.told (B.out cell.now.bay) (B.has cell.now.bay) stored cell.now.site
+    ensures shown { IfOk result (λ text. (stored : StoredCell) → IsSeen stored → IsSite B.D.told (B.out cell.now.bay) (B.has cell.now.bay) stored cell.now.site
         → replica_down stored volume ≡ false → text ≡ shown_volume server (volume_at ((state_of stored.made).replicas volume) server)) }
 {
     match cell.volume(server, volume) {
@@ -51,7 +51,7 @@ fn log_shown<B: Bay>(
     volume: u32,
 ) -> Result<Bytes, AllocError>
     ensures said { IfOk result (λ text. IsText (ShowLog client volume) text) }
-    ensures shown { IfOk result (λ text. (stored : StoredCell) → IsStoredKept stored → IsSite B.D.told (B.out cell.now.bay) (B.has cell.now.bay) stored cell.now.site
+    ensures shown { IfOk result (λ text. (stored : StoredCell) → IsSeen stored → IsSite B.D.told (B.out cell.now.bay) (B.has cell.now.bay) stored cell.now.site
         → client_down stored client ≡ false → (c : ClientState) → (state_of stored.made).clients client ≡ Some c → text ≡ shown_log (Some c) volume) }
 {
     match cell.log(client, volume) {
@@ -63,7 +63,7 @@ fn log_shown<B: Bay>(
 /// The text of a reply in the cell that the line left.
 pub fn text_of<B: Bay>(alloc: Global, cell: &Cell<B>, reply: &Reply) -> Result<Bytes, AllocError>
     ensures said { IfOk result (λ text. IsText reply.now text) }
-    ensures printed { IfOk result (λ text. (stored : StoredCell) → IsStoredKept stored → IsSite B.D.told (B.out cell.now.bay) (B.has cell.now.bay) stored cell.now.site
+    ensures printed { IfOk result (λ text. (stored : StoredCell) → IsSeen stored → IsSite B.D.told (B.out cell.now.bay) (B.has cell.now.bay) stored cell.now.site
         → CanShow stored reply.now → text ≡ text_of (state_of stored.made) reply.now) }
 {
     match reply {

@@ -86,8 +86,9 @@ fn run_lent<'a, S: Source, K: Sink, B: Bay>(
 /// and each log is what cancellation leaves of what is pending (Kistler and Satyanarayanan 1992). Unless memory was
 /// wanting or the bay at fault, the disks then stand for the cell that the run left.
 ///
-/// Where the disks held what an earlier run left, and the script first makes again all that was made there, as it was, the
-/// run goes on from what these lines find: the histories that there were, each perhaps with the entry whose append failed.
+/// Where the disks held what an earlier run left, take lines that make again all that was made there, as it was: the run goes
+/// on from what those of them find that come, the histories that there were, each perhaps with the entry whose append failed,
+/// and all other lines meet those actors alone that came so far.
 ///
 /// Over any bay, the status is that of the lines: each line that ran is built or says nothing, and one that ended the
 /// run is refused. Unless memory was wanting or the bay at fault, the bay has all its disks again, its sum of their

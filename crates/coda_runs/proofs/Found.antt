@@ -82,5 +82,7 @@ what_is_made_again_is_counted cell next left before said bytes text outside new 
 what_is_made_again_is_counted cell next left before said bytes text outside new reached images spelled awaited (inr (inl r)) there =
     let at = reached_found r.found reached left before images (subst (λ (l : Later). HasReached l reached images) r.goes_on there) in
     subst (λ (t : List ℕ). TellsOfAwaited next t cell reached) (sym r.printed) (subst (λ (c : StoredCell). TellsOfAwaited next (reply_text r.reply) cell c) (sym at) (makes_told cell r.found next r.reply r.makes))
-what_is_made_again_is_counted cell next left before said bytes text outside new reached images spelled awaited (inr (inr e)) there =
+what_is_made_again_is_counted cell next left before said bytes text outside new reached images spelled awaited (inr (inr (inl b))) there =
+    absurd (let same = sym spelled ∙ b.spelled in let other : is_awaited next b.said ≡ false = b.other in cc)
+what_is_made_again_is_counted cell next left before said bytes text outside new reached images spelled awaited (inr (inr (inr e))) there =
     absurd (let same = sym spelled ∙ e.spelled in let other : is_awaited next e.said ≡ false = e.other in cc)

@@ -1,17 +1,17 @@
 -- What later runs reach is kept, has the histories that there were, and can be gone on from.
 use Rattle.std.proofs.Common.{◌≡◌, ℕ, ◌+◌, List, [], ◌∷◌, Option, refl, sym, ap, ◌∙◌, subst, inl, inr, arith}
 use Rattle.coda_engine.specs.Run.{Runs}
-use Rattle.coda_journal.specs.declared.header.Header.{Header}
-use Rattle.std.specs.Prelude.{Some}
 use Rattle.coda_stored.specs.Cells.{StoredCell}
 use Rattle.coda_stored.specs.Kept.{IsStoredKept}
 use Rattle.coda_stored.specs.Laws.{Begins}
-use Rattle.coda_stored.specs.Resuming.{at_rest, Awaited, ClientAgain, VolumeAgain, AsksAgain, AreAwaited, MakeAllAgain}
+use Rattle.coda_stored.specs.Resuming.{at_rest, Awaited, ClientAgain, VolumeAgain, AreAwaited, MakeAllAgain}
+use Rattle.coda_stored.specs.Seen.{StayAsleep}
+use Rattle.coda_stored.proofs.Between.{lines_come_between}
 use Rattle.coda_stored.proofs.Resuming.{StaysMade, area_in, cells_are_resumed, again_stays, awaited_stay}
 use Rattle.coda_runs.specs.Later.{Later, Waits, Goes, Strays, resumed, LaterGives, HasReached, areas_of, CanBeResumed, HasGoneOn, LaterRunsGoOn}
 use Rattle.coda_runs.proofs.Beginning.{begins_then, gives_begins}
 use Rattle.coda_runs.proofs.Resumable.{gives_can}
-use Rattle.coda_runs.proofs.Running.{has_run, gives_kept}
+use Rattle.coda_runs.proofs.Running.{has_run, gives_kept, read_in_range}
 
 -- what was made in a cell is as an earlier run left it, and its actors ask for the headers that they asked for
 record IsAsFound (cell past : StoredCell) : Type 0 where
@@ -19,11 +19,11 @@ record IsAsFound (cell past : StoredCell) : Type 0 where
   pub homes : cell.made.homes ≡ past.made.homes
   pub servers : cell.made.servers ≡ past.made.servers
   pub places : cell.places ≡ past.places
-  pub clients : (client : ℕ) (header : Header) → (past.clients client).asked ≡ Some header → AsksAgain (cell.clients client) header
-  pub replicas : (volume : ℕ) (header : Header) → (past.replicas volume).asked ≡ Some header → AsksAgain (cell.replicas volume) header
+  pub clients : (client : ℕ) → (cell.clients client).asked ≡ (past.clients client).asked
+  pub replicas : (volume : ℕ) → (cell.replicas volume).asked ≡ (past.replicas volume).asked
 
 found_first : (past : StoredCell) → IsAsFound (at_rest past) past
-found_first past = record { sizes = refl; homes = refl; servers = refl; places = refl; clients = λ client header asked. (asked, refl); replicas = λ volume header asked. (asked, refl) }
+found_first past = record { sizes = refl; homes = refl; servers = refl; places = refl; clients = λ client. refl; replicas = λ volume. refl }
 
 found_then : (past cell new : StoredCell) → IsAsFound cell past → StaysMade new cell → IsAsFound new past
 found_then past cell new found stays = record {
@@ -31,8 +31,19 @@ found_then past cell new found stays = record {
   homes = stays.homes ∙ found.homes;
   servers = stays.servers ∙ found.servers;
   places = stays.places ∙ found.places;
-  clients = λ client header asked. stays.clients client header (found.clients client header asked);
-  replicas = λ volume header asked. stays.replicas volume header (found.replicas volume header asked);
+  clients = λ client. stays.clients_ask client ∙ found.clients client;
+  replicas = λ volume. stays.replicas_ask volume ∙ found.replicas volume;
+}
+
+-- whoever came between left it so
+found_between : (past cell new : StoredCell) (left : List Awaited) → IsAsFound cell past → StayAsleep left new cell → IsAsFound new past
+found_between past cell new left found stays = record {
+  sizes = stays.sizes ∙ found.sizes;
+  homes = stays.homes ∙ found.homes;
+  servers = stays.servers ∙ found.servers;
+  places = stays.places ∙ found.places;
+  clients = λ client. stays.clients_ask client ∙ found.clients client;
+  replicas = λ volume. stays.replicas_ask volume ∙ found.replicas volume;
 }
 
 -- what is awaited behind the first line
@@ -62,8 +73,10 @@ module _ (past : StoredCell) (lines : List Awaited) (all : MakeAllAgain past lin
         homes = found.homes;
         servers = found.servers;
         places = found.places;
-        clients = λ client header asks. ((found.clients client header asks.0).0, refl);
-        replicas = λ volume header asks. ((found.replicas volume header asks.0).0, refl);
+        clients = λ client header asks. (found.clients client ∙ asks.0, refl);
+        replicas = λ volume header asks. (found.replicas volume ∙ asks.0, refl);
+        clients_ask = found.clients;
+        replicas_ask = found.replicas;
       }) 0 0 lines all.each;
       servers = found.servers ∙ all.servers;
       clients = λ client blocks there. all.clients client blocks (sym (ap (λ (f : ℕ → Option ℕ). f client) found.sizes) ∙ there);
@@ -85,7 +98,17 @@ module _ (past : StoredCell) (lines : List Awaited) (all : MakeAllAgain past lin
       subst (IsKeptLater past lines) (sym r.goes_on) (resumed_kept r.found left answered rest.0 rest.1
       (cells_are_resumed.lines cell r.found awaited.0 awaited.1 next left r.reply kept awaited.2 r.makes) (begins_then past cell r.found begins (cells_are_resumed.stays cell r.found next r.reply r.makes))
       (found_then past cell r.found found stays.made) (next_sum cell.areas r.found.areas (areas_of lines) next left stays.areas sum) (awaited_stay cell r.found stays.made rest.0 rest.1 left rest.2))
-  gives_kept_later (Waits cell next left answered) new bytes text outside kept (inr (inr e)) = subst (IsKeptLater past lines) (sym e.strays) tt
+  gives_kept_later (Waits cell next left answered) new bytes text outside (kept, begins, found, sum, awaited) (inr (inr (inl b))) =
+      let all_left = next ∷ left in
+      let stays = b.does.stays in
+      subst (IsKeptLater past lines) (sym b.goes_on) (
+        lines_come_between.kept cell b.found all_left b.said b.reply outside kept (read_in_range bytes b.said b.spelled) b.does,
+        begins_then past cell b.found begins (lines_come_between.begins cell b.found all_left b.said b.reply outside b.does),
+        found_between past cell b.found all_left found stays,
+        ap (λ (n : ℕ). n + areas_of all_left) stays.areas ∙ sum,
+        (awaited.0, awaited.1, lines_come_between.awaited cell b.found awaited.0 awaited.1 all_left b.said b.reply outside awaited.2 b.does),
+      )
+  gives_kept_later (Waits cell next left answered) new bytes text outside kept (inr (inr (inr e))) = subst (IsKeptLater past lines) (sym e.strays) tt
   gives_kept_later (Goes at) new bytes text outside (kept, begins, can) (next, gives, same) =
       subst (IsKeptLater past lines) (sym same) (gives_kept at.cell next.cell bytes text outside kept gives.0, begins_then past at.cell next.cell begins (gives_begins at.cell next.cell bytes text outside gives.0), gives_can at.cell next.cell bytes text outside kept can gives.0)
   gives_kept_later Strays new bytes text outside kept is = subst (IsKeptLater past lines) (sym is) tt

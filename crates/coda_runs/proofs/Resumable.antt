@@ -255,6 +255,8 @@ nothing_resumable old new same can = record {
       places = same.places;
       clients = λ client header asks. (same.clients client ∙ asks.0, refl);
       replicas = λ volume header asks. (same.replicas volume ∙ asks.0, refl);
+      clients_ask = same.clients;
+      replicas_ask = same.replicas;
     }) 0 0 can.lines can.again.each;
     servers = same.servers ∙ can.again.servers;
     clients = λ client blocks there. can.again.clients client blocks (sym (ap (λ (f : ℕ → Option ℕ). f client) same.sizes) ∙ there);

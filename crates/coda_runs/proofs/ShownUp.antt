@@ -38,7 +38,6 @@ use Rattle.coda_cell.specs.Steps.{Doing, Unless, Says, Named, first_missing, on_
 use Rattle.coda_cell.specs.Refused.{Refused}
 use Rattle.coda_cell.specs.Refused as refused
 use Rattle.coda_stored.specs.Cells.{StoredCell}
-use Rattle.coda_stored.specs.Kept.{IsStoredKept}
 use Rattle.coda_stored.specs.Lines.{client_down, replica_down, is_down_for, EndsBy, UnlessDown, Happens, refused_down, refused_full, refused_fault}
 use Rattle.coda_stored.proofs.Stopping.{nothing_ends}
 use Rattle.coda_runs.specs.Shows.{CanShow}
@@ -281,8 +280,8 @@ module _ (old new : StoredCell) (reply : Reply) where
           acted_can (first_missing names) (ShowLog client volume) h.1.own h.1.events
           (λ all. (not_down (first_missing names) (client_down old client) all up, some_there (s.clients client) (first_there (client_named s client) (volume_named s volume ∷ []) all))) h.1.does h.1.ends
 
-pub shows_what_is_up : (old new : StoredCell) (said : Line) (reply : Reply) (outside : List (List ℕ)) → IsStoredKept old → Happens old said reply outside new
+pub shows_what_is_up : (old new : StoredCell) (said : Line) (reply : Reply) (outside : List (List ℕ)) → Happens old said reply outside new
     → CanShow new reply
-shows_what_is_up old new (line.ShowVolume server volume) reply outside kept happens = shows_volume old new reply server volume outside happens
-shows_what_is_up old new (line.ShowLog client volume) reply outside kept happens = shows_log old new reply client volume outside happens
-shows_what_is_up old new said reply outside kept happens = whole_can new reply (came_whole old new said refl reply (line_comes old reply outside new said happens))
+shows_what_is_up old new (line.ShowVolume server volume) reply outside happens = shows_volume old new reply server volume outside happens
+shows_what_is_up old new (line.ShowLog client volume) reply outside happens = shows_log old new reply client volume outside happens
+shows_what_is_up old new said reply outside happens = whole_can new reply (came_whole old new said refl reply (line_comes old reply outside new said happens))

@@ -1,5 +1,5 @@
 -- Runs over the disks that an earlier run left.
-use Rattle.std.specs.Prelude.{◌≡◌, ◌⊎◌, ◌+◌, ℕ, true, false, List, [], ◌∷◌, length, Some, None, Ok}
+use Rattle.std.specs.Prelude.{◌≡◌, ◌⊎◌, ◌+◌, ℕ, true, false, List, [], ◌∷◌, ◌++◌, length, Some, None, Ok}
 use Rattle.coda_engine.specs.Run.{Runs}
 use Rattle.coda_plain.specs.Cell.{Actor}
 use Rattle.coda_plain.specs.Laws.{IsRecovered}
@@ -8,21 +8,24 @@ use Rattle.coda_script.specs.declared.reply.Reply.{Reply}
 use Rattle.coda_script.specs.declared.reply.Reply.TheVariants.{Opened}
 use Rattle.coda_script.specs.Lines.{line_of}
 use Rattle.coda_report.specs.Texts.{reply_text}
+use Rattle.coda_cell.specs.Made.{state_of}
 use Rattle.coda_stored.specs.Cells.{StoredCell}
 use Rattle.coda_stored.specs.Kept.{IsStoredKept}
 use Rattle.coda_stored.specs.Laws.{Begins}
-use Rattle.coda_stored.specs.Lines.{refused_fault}
+use Rattle.coda_stored.specs.Lines.{is_built, refused_fault}
 use Rattle.coda_stored.specs.Resuming.{at_rest, Awaited, ClientAgain, VolumeAgain, is_awaited, MakesAgain, MakeAllAgain}
 use Rattle.coda_runs.specs.Headline.{HasRun, Always}
+use Rattle.coda_stored.specs.Seen.{seen, mounts_none, Meanwhile}
 use Rattle.coda_runs.specs.Shows.{Recorded, RecordGives}
+use Rattle.coda_runs.specs.Texts.{text_of}
 
 -- Where a later run stands, and what the bay answered so far.
 pub data Later : Type 0 where
-  -- this line is awaited, which makes an actor again, and then these
+  -- this line is awaited, which makes an actor again, and then these; others may come before it
   Waits : (cell : StoredCell) (next : Awaited) (left : List Awaited) (answered : List (List ℕ)) → Later
   -- all actors were made again, and the run goes on
   Goes : (at : Recorded) → Later
-  -- a line came that wasn't awaited: nothing is told of what follows
+  -- a line came that wasn't awaited and mounts the disk of an actor that it makes: nothing is told of what follows
   Strays : Later
 
 -- lines are awaited, or the run goes on where none is left
@@ -42,18 +45,34 @@ pub record IsResumed (cell : StoredCell) (next : Awaited) (left : List Awaited) 
   pub quiet : outside ≡ []
   pub goes_on : new ≡ resumed found left answered
 
--- The bytes say another line.
-pub record IsElsewhere (next : Awaited) (bytes : List ℕ) (new : Later) : Type 0 where
+-- The bytes say a line that isn't awaited and mounts no disk of an actor that it makes: it does what it does in the cell as it is seen, where those
+-- weren't made that are to come, and these are awaited as before.
+pub record IsBetween (cell : StoredCell) (next : Awaited) (left : List Awaited) (answered : List (List ℕ)) (bytes text : List ℕ) (outside : List (List ℕ)) (new : Later) : Type 0 where
+  pub said : Line
+  pub reply : Reply
+  pub found : StoredCell
+  pub spelled : line_of bytes ≡ Ok (Some said)
+  pub built : is_built said ≡ true
+  pub other : is_awaited next said ≡ false
+  pub mounts : mounts_none (seen cell (next ∷ left)) said ≡ true
+  pub does : Meanwhile cell (next ∷ left) said reply outside found
+  pub printed : text ≡ text_of (state_of (seen found (next ∷ left)).made) reply
+  pub goes_on : new ≡ Waits found next left (answered ++ outside)
+
+-- The bytes say another line, which makes an actor and mounts its disk.
+pub record IsElsewhere (cell : StoredCell) (next : Awaited) (left : List Awaited) (bytes : List ℕ) (new : Later) : Type 0 where
   pub said : Line
   pub spelled : line_of bytes ≡ Ok (Some said)
   pub other : is_awaited next said ≡ false
+  pub mounts : mounts_none (seen cell (next ∷ left)) said ≡ false
   pub strays : new ≡ Strays
 
 -- What a line does in a later run, with this text and these answers of the bay: while lines are awaited, a blank line or a comment does nothing,
--- the next line makes its actor again, and any other leads astray; then each line does what it does in a cell.
+-- the one that is awaited makes its actor again, any other that mounts the disk of an actor leads astray, and all others do what they do where only
+-- those were made that were made again so far; once all were, each line does what it does in a cell.
 abbrev pub LaterGives : Later → List ℕ → List ℕ → List (List ℕ) → Later → Type 0
 LaterGives (Waits cell next left answered) bytes text outside new =
-    ((line_of bytes ≡ Ok None) × (text ≡ []) × (outside ≡ []) × (new ≡ Waits cell next left answered)) ⊎ (IsResumed cell next left answered bytes text outside new ⊎ IsElsewhere next bytes new)
+    ((line_of bytes ≡ Ok None) × (text ≡ []) × (outside ≡ []) × (new ≡ Waits cell next left answered)) ⊎ (IsResumed cell next left answered bytes text outside new ⊎ (IsBetween cell next left answered bytes text outside new ⊎ IsElsewhere cell next left bytes new))
 LaterGives (Goes at) bytes text outside new = (next : Recorded) × RecordGives at bytes text outside next × (new ≡ Goes next)
 LaterGives Strays bytes text outside new = new ≡ Strays
 

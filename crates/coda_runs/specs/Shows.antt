@@ -50,4 +50,4 @@ CanShow cell reply = Unit {0}
 
 -- Nothing is shown of an actor that is down.
 abbrev pub WhatIsShownIsUp : Type 0
-WhatIsShownIsUp = (old new : StoredCell) (said : Line) (reply : Reply) (outside : List (List ℕ)) → IsStoredKept old → Happens old said reply outside new → CanShow new reply
+WhatIsShownIsUp = (old new : StoredCell) (said : Line) (reply : Reply) (outside : List (List ℕ)) → Happens old said reply outside new → CanShow new reply

@@ -23,7 +23,7 @@ use Rattle.coda_cell.specs.Refused as refused
 use Rattle.coda_matching.specs.Clients.{refused_as, Ends}
 use Rattle.coda_serving.specs.Serving.{AreSpelledOffers}
 use Rattle.coda_stored.specs.Cells.{StoredCell}
-use Rattle.coda_stored.specs.Kept.{IsStoredKept}
+use Rattle.coda_stored.specs.Seen.{IsSeen}
 use Rattle.coda_stored.specs.Lines.{refused_down, refused_fault, client_down, met_by}
 use Rattle.coda_site.specs.Sites.{is_client_disk, place_in, IsSite, IsReady, client_at, volume_at}
 use Rattle.coda_site.specs.Steps.{Becomes}
@@ -59,7 +59,7 @@ module _ {D B : Type 0} (told : D → Told) (out : ℕ → Bool) (site : Site D)
       let e = ends s.0 s.1 s.2 in
       still_ready told out site slots number s.0 s.1 e.0 s.2 others e.1 ready
 
-module _ {D B : Type 0} (told : D → Told) (out : ℕ → Bool) (has : ℕ → Told) (cell : StoredCell) (kept : IsStoredKept cell) (site : Site D) (is : IsSite told out has cell site)
+module _ {D B : Type 0} (told : D → Told) (out : ℕ → Bool) (has : ℕ → Told) (cell : StoredCell) (kept : IsSeen cell) (site : Site D) (is : IsSite told out has cell site)
     (client volume number : ℕ) (here : is_client_disk client ≡ true) (there : first_missing (client_at site client ∷ volume_at site volume ∷ []) ≡ None) (same : number ≡ client)
     (up : is_up (client_form told) (slot_at site.clients number) ≡ true) (slots : BTreeMap ℕ (Slot (Venus D) D)) (others : KeepsOtherSlots number site.clients slots)
     (offers : Option Nodes) (offers_are : offers ≡ offered_at site.net site.replicas client (place_in site volume)) (request : Request) (f : B → Reply) (result : Result B VenusRefused)
@@ -103,7 +103,7 @@ refused_so f why (Ok said) own disk memory = refused_replies f why said (λ m. (
 refused_so f why (Err e) own disk memory = tt
 
 -- nobody is asked who is missing, or down
-module _ {D : Type 0} (told : D → Told) (out : ℕ → Bool) (has : ℕ → Told) (cell : StoredCell) (kept : IsStoredKept cell) (site : Site D) (is : IsSite told out has cell site)
+module _ {D : Type 0} (told : D → Told) (out : ℕ → Bool) (has : ℕ → Told) (cell : StoredCell) (kept : IsSeen cell) (site : Site D) (is : IsSite told out has cell site)
     (client volume : ℕ) (here : is_client_disk client ≡ true) (request : Request) (answered : List (List ℕ)) (reply : Reply) where
   pub missing_asked : (result : Option ℕ) (number : ℕ) → option_map refused.NoSuchActor result ≡ first_missing (client_at site client ∷ volume_at site volume ∷ []) → result ≡ Some number → reply ≡ refusal (refused.NoSuchActor number)
       → Becomes told out has (Asks cell client volume request) reply answered answered site

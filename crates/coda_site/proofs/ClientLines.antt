@@ -36,7 +36,8 @@ use Rattle.coda_cell.specs.Refused.{Refused}
 use Rattle.coda_cell.specs.Refused.{NoSuchActor}
 use Rattle.coda_matching.specs.Clients.{journal_by, payload_by}
 use Rattle.coda_stored.specs.Cells.{Side, StoredCell, life_of, plain_client, client_header, moved}
-use Rattle.coda_stored.specs.Kept.{IsStoredKept, IsClientSide, IsGiven}
+use Rattle.coda_stored.specs.Kept.{IsGiven}
+use Rattle.coda_stored.specs.Seen.{IsClientSeen, IsSeen}
 use Rattle.coda_stored.specs.Lines.{client_down, MayHave, client_payloads, with_client_side, recovered_side, refused_fault, Becoming, Naming, Unless, CrashesClient, RecoversClient, Happens}
 use Rattle.coda_site.specs.Makings.{SaysRecovered}
 use Rattle.coda_site.specs.Sites.{is_client_disk, is_replica_disk, IsSite, IsReady, client_at}
@@ -65,7 +66,7 @@ stays_becomes told out has cell becoming reply answered site happens is = record
 pub all_be : (of out out1 : ℕ → Bool) (has has1 : ℕ → Told) → ((k : ℕ) → out1 k ≡ out k) → KeepsAll has has1 → LeavesBe of out out1 has has1
 all_be of out out1 has has1 numbers keeps k is = (numbers k, λ honest. no_more (has k) (has1 k) (keeps k honest))
 
-module _ {D : Type 0} (told : D → Told) (out : ℕ → Bool) (has : ℕ → Told) (cell : StoredCell) (kept : IsStoredKept cell) (site : Site D) (is : IsSite told out has cell site) (n : ℕ) (here : is_client_disk n ≡ true) (result : Bool) (tells : result ≡ (client_at site n).there) where
+module _ {D : Type 0} (told : D → Told) (out : ℕ → Bool) (has : ℕ → Told) (cell : StoredCell) (kept : IsSeen cell) (site : Site D) (is : IsSite told out has cell site) (n : ℕ) (here : is_client_disk n ≡ true) (result : Bool) (tells : result ≡ (client_at site n).there) where
   at_site : (there : Bool) → result ≡ there → first_missing (client_at site n ∷ []) ≡ cond there None (Some (NoSuchActor n))
   at_site there so = ap (λ (b : Bool). cond b None (Some (NoSuchActor n))) (sym tells ∙ so)
 
@@ -193,7 +194,7 @@ found_by header given actor new j = elim j.history [
       (true, more.2 ∙ ap (λ (p : Payload). journal_by actor.history ++ p ∷ []) e.2 ∙ sym (map-append payload_by actor.history (e.0 ∷ [])) ∙ ap (λ (o : Option ClientEntry). journal_by (joined_to actor.history true o)) (sym e.1)))
 ]
 
-module _ {D : Type 0} (told : D → Told) (out : ℕ → Bool) (has : ℕ → Told) (cell : StoredCell) (kept : IsStoredKept cell) (site : Site D) (is : IsSite told out has cell site) (n : ℕ) (there : first_missing (client_named (state_of cell.made) n ∷ []) ≡ None)
+module _ {D : Type 0} (told : D → Told) (out : ℕ → Bool) (has : ℕ → Told) (cell : StoredCell) (kept : IsSeen cell) (site : Site D) (is : IsSite told out has cell site) (n : ℕ) (there : first_missing (client_named (state_of cell.made) n ∷ []) ≡ None)
     (slots : BTreeMap ℕ (Slot (Venus D) D)) (answered : List (List ℕ)) where
   abbrev actor : Actor ClientEntry
   actor = cell.made.acted.clients n
@@ -268,8 +269,8 @@ module _ {D : Type 0} (told : D → Told) (out : ℕ → Bool) (has : ℕ → To
             (client_site told out out has has cell site n next known slots new is leaves_be fits here else)))
       ]
 
-  given_of : (size : Option ℕ) (header : Header) → IsClientSide n size actor side → side.asked ≡ Some header → (asked : Header) × (asked ≡ header) × IsGiven side.given asked actor
-  given_of None header known asks = (let no : Some header ≡ None = sym asks ∙ ap (λ (s : Side). s.asked) known.0 in cc)
+  given_of : (size : Option ℕ) (header : Header) → IsClientSeen n size actor side → side.asked ≡ Some header → (asked : Header) × (asked ≡ header) × IsGiven side.given asked actor
+  given_of None header known asks = (let no : Some header ≡ None = sym asks ∙ known in cc)
   given_of (Some size) header known asks = (client_header n size known.0, (let e : Some (client_header n size known.0) ≡ Some header = sym known.6 ∙ asks in cc), known.7)
 
   pub recover_client_becomes : (mounting : Mounting) (reply : Reply) → SaysRecovered mounting reply → Takes (client_form told) told is_client_disk (plain_clients cell) n (RecoverDeed mounting) out has slots → Recovery reply

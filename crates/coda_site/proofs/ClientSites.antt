@@ -33,10 +33,9 @@ use Rattle.coda_cell.specs.State.{Event, at_client}
 use Rattle.coda_cell.specs.Made.{client_of, state_of}
 use Rattle.coda_cell.specs.Refused.{Refused}
 use Rattle.coda_cell.specs.Refused as refused
-use Rattle.coda_cell.proofs.KeptCells.{lawful}
 use Rattle.coda_matching.specs.Clients.{journal_by, payload_by, IsClientHistory, Cut, LacksRoom, refused_as, Ends}
 use Rattle.coda_stored.specs.Cells.{Side, StoredCell, life_of, plain_client, client_header, after, after_all, failed}
-use Rattle.coda_stored.specs.Kept.{IsStoredKept, IsClientSide, whole}
+use Rattle.coda_stored.specs.Seen.{IsClientSeen, IsSeen}
 use Rattle.coda_stored.specs.Room.{Lacks, LacksUnder, Fits as FitsEvents}
 use Rattle.coda_site.specs.Sites.{is_client_disk, IsSite, IsReady}
 use Rattle.coda_site.specs.declared.site.Site.{Site}
@@ -59,8 +58,8 @@ unmade_asks (Some h) true is = cc
 unmade_asks (Some h) false is = cc
 
 -- the size of its cache that a client was made with, by the header that it asks for
-sized : (n : ℕ) (size : Option ℕ) (actor : Actor ClientEntry) (side : Side) (header : Header) → IsClientSide n size actor side → side.asked ≡ Some header → (size ≡ Some header.cache) × (header.number ≡ n)
-sized n None actor side header is asks = (let no : Some header ≡ None = sym asks ∙ ap (λ (s : Side). s.asked) is.0 in cc)
+sized : (n : ℕ) (size : Option ℕ) (actor : Actor ClientEntry) (side : Side) (header : Header) → IsClientSeen n size actor side → side.asked ≡ Some header → (size ≡ Some header.cache) × (header.number ≡ n)
+sized n None actor side header is asks = (let no : Some header ≡ None = sym asks ∙ is in cc)
 sized n (Some size) actor side header is asks = (let same : client_header n size is.0 ≡ header = (let e : Some (client_header n size is.0) ≡ Some header = sym is.6 ∙ asks in cc) in
     (ap (λ (h : Header). Some h.cache) same, sym (ap (λ (h : Header). h.number) same)))
 
@@ -100,10 +99,10 @@ none_mapped : {A B : Type 0} (f : A → B) (o : Option A) → option_map f o ≡
 none_mapped f None is = refl
 none_mapped f (Some x) is = cc
 
-module _ {D : Type 0} (told : D → Told) (out : ℕ → Bool) (has : ℕ → Told) (cell : StoredCell) (kept : IsStoredKept cell) where
+module _ {D : Type 0} (told : D → Told) (out : ℕ → Bool) (has : ℕ → Told) (cell : StoredCell) (kept : IsSeen cell) where
   -- the deeds of a client of a cell that is kept are lawful
   pub lawful_deeds : (n : ℕ) (header : Header) (venus : Venus D) → IsUp told header venus (journal_by (cell.made.acted.clients n).history) → IsClientHistory header (cell.made.acted.clients n).history
-  lawful_deeds n header venus up = record { journal = up.lawful; deeds = λ volume. lawful (whole cell.made none_joins) (kept.kept none_joins) n volume }
+  lawful_deeds n header venus up = record { journal = up.lawful; deeds = λ volume. ((kept.sound none_joins).agree none_joins).lawful n volume }
 
   -- a slot that holds a client that is up, by what the slot and the disks stand for
   pub up_from : (slots : BTreeMap ℕ (Slot (Venus D) D)) (n : ℕ) (header : Header) (venus : Venus D) → FitsAll (client_form told) told is_client_disk out has slots (plain_clients cell) → is_client_disk n ≡ true

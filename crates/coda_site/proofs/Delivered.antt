@@ -53,7 +53,7 @@ use Rattle.coda_matching.specs.Clients.{journal_by}
 use Rattle.coda_matching.specs.Replicas.{RulingEnds}
 use Rattle.coda_sending.specs.Ending.{entries_on, deeds_by, nothing_said, TakingEnds}
 use Rattle.coda_stored.specs.Cells.{StoredCell, after, after_all}
-use Rattle.coda_stored.specs.Kept.{IsStoredKept}
+use Rattle.coda_stored.specs.Seen.{IsSeen}
 use Rattle.coda_stored.specs.Lines.{is_cut, refused_down, refused_full, client_down, replica_down, receiver_down, EndsBy, Becoming, UnlessDown, Acts, Happens}
 use Rattle.coda_stored.specs.Room.{Fits as FitsEvents}
 use Rattle.coda_site.specs.Chunks.{volume_by, replica_by, ClientEnds, ReplicaEnds}
@@ -105,7 +105,7 @@ said_of number (l ∷ waiting) sent can e = by (nat_eq number l.0) e (said_of nu
 
 -- ---- a chunk comes to a replica
 
-module _ {D : Type 0} (told : D → Told) (out : ℕ → Bool) (has : ℕ → Told) (cell : StoredCell) (kept : IsStoredKept cell) (site : Site D) (is : IsSite told out has cell site) (client server volume disk number : ℕ) (replica_on : is_up (replica_form told) (slot_at site.replicas disk) ≡ true)
+module _ {D : Type 0} (told : D → Told) (out : ℕ → Bool) (has : ℕ → Told) (cell : StoredCell) (kept : IsSeen cell) (site : Site D) (is : IsSite told out has cell site) (client server volume disk number : ℕ) (replica_on : is_up (replica_form told) (slot_at site.replicas disk) ≡ true)
     (place : Place) (at : place_in site volume ≡ Some place) (disk_is : place.disk ≡ disk) (home : place.server ≡ server) (named : first_missing (on_holder (state_of cell.made) client volume server) ≡ None)
     (recs : List Record) (span : List Record) (sent : recs ≡ sent_of span) where
   r : (header : Header) × (replica : Replica D) × IsReplicaThere told out has cell site is volume place at header replica
@@ -227,7 +227,7 @@ module _ {D : Type 0} (told : D → Told) (out : ℕ → Bool) (has : ℕ → To
 
 -- ---- an answer comes to a client
 
-module _ {D : Type 0} (told : D → Told) (out : ℕ → Bool) (has : ℕ → Told) (seen : (d : D) → (told d).honest → (told d).may_leave (told d).seen) (cell : StoredCell) (kept : IsStoredKept cell) (site : Site D) (is : IsSite told out has cell site)
+module _ {D : Type 0} (told : D → Told) (out : ℕ → Bool) (has : ℕ → Told) (seen : (d : D) → (told d).honest → (told d).may_leave (told d).seen) (cell : StoredCell) (kept : IsSeen cell) (site : Site D) (is : IsSite told out has cell site)
     (client server volume number : ℕ) (here : is_client_disk client ≡ true) (on : is_up (client_form told) (slot_at site.clients client) ≡ true) (answer : Answer) (named : first_missing (on_holder (state_of cell.made) client volume server) ≡ None) where
   c : (header : Header) × (venus : Venus D) × IsClientUp told out cell site.clients client header venus
   c = up_at told out has cell kept site client is here on
@@ -289,7 +289,7 @@ module _ {D : Type 0} (told : D → Told) (out : ℕ → Bool) (has : ℕ → To
 
 -- ---- whom it comes to
 
-module _ {D : Type 0} (told : D → Told) (out : ℕ → Bool) (has : ℕ → Told) (cell : StoredCell) (kept : IsStoredKept cell) (site : Site D) (is : IsSite told out has cell site) (client volume server : ℕ) (here : is_client_disk client ≡ true) (answered : List (List ℕ)) where
+module _ {D : Type 0} (told : D → Told) (out : ℕ → Bool) (has : ℕ → Told) (cell : StoredCell) (kept : IsSeen cell) (site : Site D) (is : IsSite told out has cell site) (client volume server : ℕ) (here : is_client_disk client ≡ true) (answered : List (List ℕ)) where
   abbrev names : List Named
   names = on_holder (state_of cell.made) client volume server
 

@@ -35,7 +35,7 @@ use Rattle.coda_matching.specs.Clients.{journal_by, IsClientHistory}
 use Rattle.coda_matching.specs.Replicas.{RulingEnds}
 use Rattle.coda_sending.specs.Ending.{FreezingEnds, TakingEnds}
 use Rattle.coda_stored.specs.Cells.{StoredCell}
-use Rattle.coda_stored.specs.Kept.{IsStoredKept}
+use Rattle.coda_stored.specs.Seen.{IsSeen}
 use Rattle.coda_stored.specs.Lines.{is_cut, refused_down, refused_full, client_down, replica_down, Becoming, Acts, Happens}
 use Rattle.coda_site.specs.Chunks.{volume_by, replica_by, ClientEnds, ReplicaEnds}
 use Rattle.coda_site.specs.Drains.{Acted}
@@ -55,7 +55,7 @@ abbrev pub IsLent : {D : Type 0} → (D → Told) → ℕ → ℕ → BTreeMap �
 IsLent {D = D} told client volume clients recs =
     (header : Header) (venus : Venus D) (history : List ClientEntry) → slot_at clients client ≡ Started header venus → IsUp told header venus (journal_by history) → IsClientHistory header history → recs ≡ sent_of (volume_by header history volume).front
 
-module _ {D : Type 0} (told : D → Told) (out : ℕ → Bool) (has : ℕ → Told) (seen : (d : D) → (told d).honest → (told d).may_leave (told d).seen) (cell : StoredCell) (kept : IsStoredKept cell) (site : Site D) (is : IsSite told out has cell site)
+module _ {D : Type 0} (told : D → Told) (out : ℕ → Bool) (has : ℕ → Told) (seen : (d : D) → (told d).honest → (told d).may_leave (told d).seen) (cell : StoredCell) (kept : IsSeen cell) (site : Site D) (is : IsSite told out has cell site)
     (client volume server disk window : ℕ) (here : is_client_disk client ≡ true) (client_on : is_up (client_form told) (slot_at site.clients client) ≡ true) (replica_on : is_up (replica_form told) (slot_at site.replicas disk) ≡ true)
     (place : Place) (at : place_in site volume ≡ Some place) (disk_is : place.disk ≡ disk) (home : place.server ≡ server) (link : not (is_cut (linked_in site.net client server)) ≡ true) where
   c : (header : Header) × (venus : Venus D) × IsClientUp told out cell site.clients client header venus
@@ -151,7 +151,7 @@ module _ {D : Type 0} (told : D → Told) (out : ℕ → Bool) (has : ℕ → To
 
 -- ---- the whole line
 
-module _ {D : Type 0} (told : D → Told) (out : ℕ → Bool) (has : ℕ → Told) (cell : StoredCell) (kept : IsStoredKept cell) (site : Site D) (is : IsSite told out has cell site) (client volume server window : ℕ) (here : is_client_disk client ≡ true) (answered : List (List ℕ)) where
+module _ {D : Type 0} (told : D → Told) (out : ℕ → Bool) (has : ℕ → Told) (cell : StoredCell) (kept : IsSeen cell) (site : Site D) (is : IsSite told out has cell site) (client volume server window : ℕ) (here : is_client_disk client ≡ true) (answered : List (List ℕ)) where
   abbrev IsDrained : Reply → Site D → Type 0
   IsDrained reply after = Becomes told out has (Happens cell (line.Task (task.Drain client volume server (Some window)))) reply answered answered after
 

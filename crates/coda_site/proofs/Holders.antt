@@ -14,7 +14,7 @@ use Rattle.coda_cell.specs.Steps.{Named, on_holder, first_missing}
 use Rattle.coda_cell.specs.Refused as refused
 use Rattle.coda_cell.proofs.Events.{all_there}
 use Rattle.coda_stored.specs.Cells.{StoredCell}
-use Rattle.coda_stored.specs.Kept.{IsStoredKept}
+use Rattle.coda_stored.specs.Seen.{IsSeen}
 use Rattle.coda_stored.specs.Lines.{client_down, replica_down, is_cut}
 use Rattle.coda_site.specs.Sites.{is_client_disk, place_in, IsSite, client_at, volume_at, holder_at}
 use Rattle.coda_site.specs.declared.site.Place.{Place}
@@ -40,7 +40,7 @@ both_up false b e = absurd (false≢true e)
 held_by : (server : ℕ) (o : Option Place) (place : Place) → o ≡ Some place → option_map_or (λ (p : Place). p.server == server) o false ≡ true → place.server ≡ server
 held_by server o place e holds = eqb-true place.server server (ap (λ (x : Option Place). option_map_or (λ (p : Place). p.server == server) x false) (sym e) ∙ holds)
 
-module _ {D : Type 0} (told : D → Told) (out : ℕ → Bool) (has : ℕ → Told) (cell : StoredCell) (kept : IsStoredKept cell) (site : Site D) (is : IsSite told out has cell site) (client volume server : ℕ) (here : is_client_disk client ≡ true) where
+module _ {D : Type 0} (told : D → Told) (out : ℕ → Bool) (has : ℕ → Told) (cell : StoredCell) (kept : IsSeen cell) (site : Site D) (is : IsSite told out has cell site) (client volume server : ℕ) (here : is_client_disk client ≡ true) where
   names_are : on_holder (state_of cell.made) client volume server ≡ names_in site client volume server
   names_are = λ i. client_named_at told out has cell kept site is client here i ∷ volume_named_at told out has cell kept site is volume i ∷ holder_named_at told out has cell kept site is server volume i ∷ []
 

@@ -26,4 +26,6 @@ pub mod VolumeLines
 pub mod ResumedClients
 pub mod ResumedVolumes
 pub mod Resting
+pub mod SeenSites
+pub mod Newcomers
 pub mod Counting

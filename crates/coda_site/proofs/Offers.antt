@@ -23,7 +23,7 @@ use Rattle.coda_matching.specs.Replicas.{journal_at}
 use Rattle.coda_matching.proofs.Replicas.{journals_leave_replicas}
 use Rattle.coda_serving.specs.Serving.{AreSpelledOffers}
 use Rattle.coda_stored.specs.Cells.{StoredCell}
-use Rattle.coda_stored.specs.Kept.{IsStoredKept}
+use Rattle.coda_stored.specs.Seen.{IsSeen}
 use Rattle.coda_stored.specs.Lines.{links_to, met_by}
 use Rattle.coda_site.specs.Sites.{place_in, IsSite}
 use Rattle.coda_site.specs.Tasks.{nodes_in, carried, offered_at}
@@ -62,7 +62,7 @@ spelled_carried Down nodes are = λ fid node at. (let no : None ≡ Some node = 
 none_offered : AreSpelledOffers None
 none_offered fid node at = (let no : None ≡ Some node = at in cc)
 
-module _ {D : Type 0} (told : D → Told) (out : ℕ → Bool) (has : ℕ → Told) (cell : StoredCell) (kept : IsStoredKept cell) (site : Site D) (is : IsSite told out has cell site) (client volume : ℕ) where
+module _ {D : Type 0} (told : D → Told) (out : ℕ → Bool) (has : ℕ → Told) (cell : StoredCell) (kept : IsSeen cell) (site : Site D) (is : IsSite told out has cell site) (client volume : ℕ) where
   -- the replica of a volume that was made
   module _ (p : Place) (at : place_in site volume ≡ Some p) where
     -- what the cell has of it

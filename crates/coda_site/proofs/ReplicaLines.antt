@@ -33,8 +33,9 @@ use Rattle.coda_cell.specs.Made.{state_of}
 use Rattle.coda_cell.specs.State.{put}
 use Rattle.coda_cell.specs.Steps.{holder_named, first_missing}
 use Rattle.coda_matching.specs.Replicas.{entry_at, journal_at, IsDecision}
-use Rattle.coda_stored.specs.Cells.{Side, StoredCell, life_of, first_in, failed_at, plain_client, plain_replica, replica_header, unmade, moved}
-use Rattle.coda_stored.specs.Kept.{IsStoredKept, IsReplicaSide}
+use Rattle.coda_stored.specs.Cells.{Side, StoredCell, life_of, first_in, failed_at, plain_client, plain_replica, replica_header, moved}
+use Rattle.coda_stored.specs.Kept.{IsReplicaSide}
+use Rattle.coda_stored.specs.Seen.{IsReplicaSeen, IsSeen}
 use Rattle.coda_stored.specs.Lines.{MayHave, replica_payloads, with_replica_side, recovered_side, refused_fault, CrashesReplica, RecoversReplica, Happens}
 use Rattle.coda_site.specs.Makings.{SaysRecovered}
 use Rattle.coda_site.specs.Sites.{is_client_disk, is_replica_disk, place_in, IsSite, IsReady}
@@ -109,7 +110,7 @@ ruler_put_twice cell server volume a b = λ i. record cell { made = record cell.
     at : (s v : ℕ) → cond ((s == server) && (v == volume)) b (cond ((s == server) && (v == volume)) a (cell.made.acted.replicas s v)) ≡ cond ((s == server) && (v == volume)) b (cell.made.acted.replicas s v)
     at s v = elim ((s == server) && (v == volume)) as (λ (x : Bool). cond x b (cond x a (cell.made.acted.replicas s v)) ≡ cond x b (cell.made.acted.replicas s v)) [ true ↦ refl | false ↦ refl ]
 
-module _ {D : Type 0} (told : D → Told) (out out1 : ℕ → Bool) (has has1 : ℕ → Told) (cell : StoredCell) (kept : IsStoredKept cell) (site : Site D) (is : IsSite told out has cell site) (volume : ℕ) (place : Place) (at : place_in site volume ≡ Some place)
+module _ {D : Type 0} (told : D → Told) (out out1 : ℕ → Bool) (has has1 : ℕ → Told) (cell : StoredCell) (kept : IsSeen cell) (site : Site D) (is : IsSite told out has cell site) (volume : ℕ) (place : Place) (at : place_in site volume ≡ Some place)
     (slots : BTreeMap ℕ (Slot (Replica D) D)) (be : LeavesBe is_client_disk out out1 has has1) where
   abbrev server : ℕ
   server = place.server
@@ -161,7 +162,7 @@ module _ {D : Type 0} (told : D → Told) (out out1 : ℕ → Bool) (has has1 : 
             ∙ (λ i. plain_replica v (cond (sym (and_right (s == server) (v == volume) (ne_eqb v volume other)) i) next (cell.made.acted.replicas s v)) (cond (sym (ne_eqb v volume other) i) known (cell.replicas v))))
       ]
 
-      others_at : (number : ℕ) → ((v s : ℕ) → cell.made.homes v ≡ Some s → cell.places v ≢ number) → new number ≡ unmade
+      others_at : (number : ℕ) → ((v s : ℕ) → cell.made.homes v ≡ Some s → cell.places v ≢ number) → new number ≡ cell.idle number
       others_at number none = else number (λ e. none volume server home (there_is ∙ sym e)) ∙ is.replicas.1.others number none
 
   module _ (there : first_missing (holder_named (state_of cell.made) server volume ∷ []) ≡ None) where
@@ -249,7 +250,7 @@ module _ {D : Type 0} (told : D → Told) (out out1 : ℕ → Bool) (has has1 : 
           ]
 
       made_side : IsReplicaSide volume (Some server) (λ s. cell.made.acted.replicas s volume) side
-      made_side = subst (λ (o : Option ℕ). IsReplicaSide volume o (λ s. cell.made.acted.replicas s volume) side) home (kept.replicas volume)
+      made_side = subst (λ (o : Option ℕ). IsReplicaSeen volume o (λ s. cell.made.acted.replicas s volume) side) home (kept.replicas volume)
 
       pub recover_replica_becomes : (mounting : Mounting) (reply : Reply) → SaysRecovered mounting reply → Takes (replica_form told) told is_replica_disk plain place.disk (RecoverDeed mounting) out1 has1 slots → Recovery reply
       recover_replica_becomes (Entries count) reply says takes = subst Recovery (sym says)

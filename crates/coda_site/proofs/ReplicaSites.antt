@@ -32,8 +32,9 @@ use Rattle.coda_cell.specs.Made.{replica_of, state_of}
 use Rattle.coda_cell.specs.Sending.{entries_at}
 use Rattle.coda_cell.specs.State.{new_replica, replica_after_all}
 use Rattle.coda_matching.specs.Replicas.{entry_at, journal_at, IsReplicaHistory, LacksRoom}
-use Rattle.coda_stored.specs.Cells.{Side, StoredCell, life_of, first_in, plain_replica, replica_header, unmade, failed_at, after_all, failed}
-use Rattle.coda_stored.specs.Kept.{IsReplicaSide, IsStoredKept}
+use Rattle.coda_stored.specs.Cells.{Side, StoredCell, life_of, first_in, plain_replica, replica_header, failed_at, after_all, failed}
+use Rattle.coda_stored.specs.Kept.{IsReplicaSide}
+use Rattle.coda_stored.specs.Seen.{IsReplicaSeen, IsSeen}
 use Rattle.coda_stored.specs.Lines.{replica_down}
 use Rattle.coda_stored.specs.Room.{Lacks, LacksFor, Fits as FitsEvents}
 use Rattle.coda_site.specs.Sites.{is_replica_disk, place_in, IsSite}
@@ -151,12 +152,12 @@ module _ {D : Type 0} (told : D → Told) (out : ℕ → Bool) (has : ℕ → To
     pub lent : out place.disk ≡ true
     pub up : IsReplicaUp told volume place.server (cell.replicas volume) actor_there header replica
 
-  module _ (kept : IsStoredKept cell) where
+  module _ (kept : IsSeen cell) where
     made_side : IsReplicaSide volume (Some place.server) (λ server. cell.made.acted.replicas server volume) (cell.replicas volume)
-    made_side = subst (λ (o : Option ℕ). IsReplicaSide volume o (λ server. cell.made.acted.replicas server volume) (cell.replicas volume)) home_is (kept.replicas volume)
+    made_side = subst (λ (o : Option ℕ). IsReplicaSeen volume o (λ server. cell.made.acted.replicas server volume) (cell.replicas volume)) home_is (kept.replicas volume)
 
     pub of_replicas : is_replica_disk place.disk ≡ true
-    of_replicas = let p = kept.placed volume place.server home_is in le-leb 256 place.disk (let n = p.0 in let s = place.server in let e : 256 + 8 * n + (s - 1) ≡ place.disk = sym p.2 ∙ place_is in omega (arith, e))
+    of_replicas = let p = kept.placed volume place.server home_is in le-leb 256 place.disk (let n = p.0 in let s = place.server in let e : 256 + 8 * n + (s - 1) ≡ place.disk = sym p.1 ∙ place_is in omega (arith, e))
 
     fits_there : Fits (replica_form told) told (out place.disk) (has place.disk) (slot_at site.replicas place.disk) (plain_replica volume actor_there (cell.replicas volume))
     fits_there = let r = is.replicas in
@@ -176,7 +177,7 @@ module _ {D : Type 0} (told : D → Told) (out : ℕ → Bool) (has : ℕ → To
         let own = header_is s.header life.0 in
         let clean = kept.replicas_up place.server volume life.1 in
         let stands : IsUp told s.header s.actor (journal_at s.header.number actor_there.history) = subst (λ (n : ℕ). IsUp told s.header s.actor (journal_at n actor_there.history)) (sym own.0) s.fits.up in
-        let ruled : AreDecisions volume actor_there.history = ((kept.kept none_joins).sound.agree none_joins).ruled place.server volume in (
+        let ruled : AreDecisions volume actor_there.history = ((kept.sound none_joins).agree none_joins).ruled place.server volume in (
           s.header,
           s.actor,
           record {
@@ -299,7 +300,7 @@ with_replicas site slots = record site { replicas = slots }
 abbrev pub IsApart : StoredCell → ℕ → Type 0
 IsApart cell volume = (other home : ℕ) → cell.made.homes other ≡ Some home → cell.places volume ≡ cell.places other → volume ≡ other
 
-pub apart_in : (cell : StoredCell) (volume server : ℕ) → IsStoredKept cell → cell.made.homes volume ≡ Some server → IsApart cell volume
+pub apart_in : (cell : StoredCell) (volume server : ℕ) → IsSeen cell → cell.made.homes volume ≡ Some server → IsApart cell volume
 apart_in cell volume server kept home other at made same = kept.apart volume other server at home made same
 
 module _ {D : Type 0} (told : D → Told) (out : ℕ → Bool) (has : ℕ → Told) (cell : StoredCell) (site : Site D) (is : IsSite told out has cell site) (volume : ℕ) (place : Place) (at : place_in site volume ≡ Some place) (apart : IsApart cell volume)
@@ -335,7 +336,7 @@ module _ {D : Type 0} (told : D → Told) (out : ℕ → Bool) (has : ℕ → To
           ∙ ap (λ (b : Bool). plain_replica v (cond b actor (cell.made.acted.replicas s v)) (cell.replicas v)) (sym (and_right (s == place.server) (v == volume) (ne_eqb v volume other))))
     ]
 
-    others_at : (number : ℕ) → ((v s : ℕ) → cell.made.homes v ≡ Some s → cell.places v ≢ number) → plain number ≡ unmade
+    others_at : (number : ℕ) → ((v s : ℕ) → cell.made.homes v ≡ Some s → cell.places v ≢ number) → plain number ≡ cell.idle number
     others_at number none = plain_else number (λ same. none volume place.server home (here ∙ sym same)) ∙ is.replicas.1.others number none
 
     fits_at : (k : ℕ) → is_replica_disk k ≡ true → Fits (replica_form told) told (out k) (has k) (slot_at slots k) (plain k)

@@ -18,7 +18,8 @@ use Rattle.coda_stored.specs.Cells.{Side, StoredCell, life_of, plain_client, pla
 use Rattle.coda_stored.specs.Kept.{IsStoredKept, IsClientSide}
 use Rattle.coda_stored.specs.Resuming.{stopped, forgotten, at_rest, Awaited, ClientAgain, VolumeAgain, awaits_client, awaits_volume, servers_of, AreAwaited, MakeAllAgain, MakesAgain}
 use Rattle.coda_stored.proofs.Resuming.{StaysAgain, area_in, again_stays, awaited_stay}
-use Rattle.coda_site.specs.Awaiting.{asleep, home_unless, AreReplicasYet, IsAwaiting}
+use Rattle.coda_site.specs.Awaiting.{AreReplicasYet, IsAwaiting}
+use Rattle.coda_stored.specs.Seen.{asleep, home_unless}
 use Rattle.coda_site.specs.Cells.{AreOnDisks}
 use Rattle.coda_site.specs.declared.site.Site.{Site}
 use Rattle.coda_site.specs.Sites.{is_client_disk, is_replica_disk, AreReplicas, IsSite}
@@ -50,7 +51,7 @@ module _ (cell : StoredCell) (kept : IsStoredKept cell) (lines : List Awaited) (
   replicas_wait plain are = record {
     placed = λ volume server home. ap rest (are.placed volume server home)
         ∙ replica_waits volume server (cell.made.homes volume) (awaits_volume lines volume) (cell.made.acted.replicas server volume) (cell.replicas volume) home (all.volumes volume server home);
-    others = λ number none. ap rest (are.others number none);
+    others = λ number none. ap rest (are.others number none ∙ kept.idle number);
   }
 
   home_waits : (o : Option ℕ) (b : Bool) → ((server : ℕ) → o ≡ Some server → b ≡ true) → home_unless b o ≡ None
@@ -64,15 +65,15 @@ module _ (cell : StoredCell) (kept : IsStoredKept cell) (lines : List Awaited) (
 
 -- ---- all were made again
 
-pub all_resumed : {D : Type 0} (told : D → Told) (out : ℕ → Bool) (has : ℕ → Told) (cell : StoredCell) (site : Site D) → IsAwaiting told out has cell [] site → IsSite told out has cell site
-all_resumed told out has cell site is = record {
+pub all_resumed : {D : Type 0} (told : D → Told) (out : ℕ → Bool) (has : ℕ → Told) (cell : StoredCell) (site : Site D) → IsStoredKept cell → IsAwaiting told out has cell [] site → IsSite told out has cell site
+all_resumed told out has cell site kept is = record {
   clock = is.clock;
   servers = is.servers ∙ append-nil site.servers.items;
   homes = is.homes;
   places = is.places;
   areas = is.areas;
   clients = is.clients;
-  replicas = (is.replicas.0, record { placed = is.replicas.1.placed; others = is.replicas.1.others }, is.replicas.2);
+  replicas = (is.replicas.0, record { placed = is.replicas.1.placed; others = λ number none. is.replicas.1.others number none ∙ sym (kept.idle number) }, is.replicas.2);
   net = is.net;
 }
 
@@ -169,7 +170,7 @@ awaiting_on_disks told has cell left volumes areas kept are clients plain yet re
     awake_at cell left plain,
     record {
       placed = λ v s home. awake_placed cell kept plain left volumes areas are v s home (yet.placed v s home);
-      others = λ number none. awake_others cell kept plain left volumes areas are number none (yet.others number none);
+      others = λ number none. awake_others cell kept plain left volumes areas are number none (yet.others number none) ∙ sym (kept.idle number);
     },
     λ k own. subst (StandsFor (replica_form told) (has k)) (awake_disk cell kept plain left left volumes areas are yet.placed k) (replicas k own),
   );

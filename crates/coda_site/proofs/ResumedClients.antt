@@ -29,7 +29,8 @@ use Rattle.coda_stored.specs.Cells.{Side, StoredCell, life_of, plain_client, cli
 use Rattle.coda_stored.specs.Kept.{IsStoredKept, IsClientSide, IsGiven}
 use Rattle.coda_stored.specs.Lines.{client_payloads, with_client_side, recovered_side, refused_fault, RecoversClient}
 use Rattle.coda_stored.specs.Resuming.{Awaited, ClientAgain, awaits_client, AsksAgain, opened_as, with_area}
-use Rattle.coda_site.specs.Awaiting.{asleep, IsAwaiting, Resumes}
+use Rattle.coda_site.specs.Awaiting.{IsAwaiting, Resumes}
+use Rattle.coda_stored.specs.Seen.{asleep}
 use Rattle.coda_site.specs.Makings.{SaysOpened}
 use Rattle.coda_site.specs.Sites.{is_client_disk, is_replica_disk}
 use Rattle.coda_site.specs.declared.site.Site.{Site}

@@ -28,7 +28,8 @@ use Rattle.coda_stored.specs.Cells.{Side, StoredCell, life_of, plain_client, pla
 use Rattle.coda_stored.specs.Kept.{IsStoredKept, IsReplicaSide, IsGiven}
 use Rattle.coda_stored.specs.Lines.{replica_payloads, with_replica_side, recovered_side, refused_fault, RecoversReplica}
 use Rattle.coda_stored.specs.Resuming.{Awaited, VolumeAgain, awaits_client, awaits_volume, servers_of, AsksAgain, opened_as, with_area}
-use Rattle.coda_site.specs.Awaiting.{asleep, home_unless, IsAwaiting, Resumes}
+use Rattle.coda_site.specs.Awaiting.{IsAwaiting, Resumes}
+use Rattle.coda_stored.specs.Seen.{asleep, home_unless}
 use Rattle.coda_site.specs.Makings.{SaysOpened}
 use Rattle.coda_site.specs.Sites.{is_client_disk, is_replica_disk, place_in}
 use Rattle.coda_site.specs.declared.site.Place.{Place}

@@ -40,7 +40,7 @@ use Rattle.coda_matching.specs.Clients.{journal_by, IsClientHistory}
 use Rattle.coda_sending.specs.Ending.{entries_on, deeds_for, number_said, FreezingEnds}
 use Rattle.coda_sending.proofs.Kept.{GoesOn, frozen_so}
 use Rattle.coda_stored.specs.Cells.{StoredCell, after_all}
-use Rattle.coda_stored.specs.Kept.{IsStoredKept}
+use Rattle.coda_stored.specs.Seen.{IsSeen}
 use Rattle.coda_stored.specs.Lines.{is_cut, is_down_for, refused_down, refused_full, client_down, EndsBy, Becoming, Acts, UnlessDown, DoesUp, Happens}
 use Rattle.coda_stored.specs.Room.{Fits as FitsEvents}
 use Rattle.coda_site.specs.Chunks.{volume_by, ClientEnds}
@@ -201,7 +201,7 @@ module _ {D : Type 0} (told : D → Told) (out : ℕ → Bool) (has : ℕ → To
 
 -- ---- by the calls
 
-module _ {D : Type 0} (told : D → Told) (out : ℕ → Bool) (has : ℕ → Told) (cell : StoredCell) (kept : IsStoredKept cell) (site : Site D) (is : IsSite told out has cell site) (client volume server window : ℕ) (here : is_client_disk client ≡ true) where
+module _ {D : Type 0} (told : D → Told) (out : ℕ → Bool) (has : ℕ → Told) (cell : StoredCell) (kept : IsSeen cell) (site : Site D) (is : IsSite told out has cell site) (client volume server window : ℕ) (here : is_client_disk client ≡ true) where
   abbrev AsFrozen : Result ℕ VenusRefused → Header → List ClientEntry → Venus D → Type 0
   AsFrozen result header history left = FreezingEnds told header history volume (freezing site.clock window server (volume_by header history volume)) left result
 

@@ -24,7 +24,7 @@ use Rattle.coda_cell.specs.Made.{client_of, replica_of, state_of}
 use Rattle.coda_cell.specs.State.{ClientVolume, ClientState, ReplicaState, log_of, new_volume, replica_after_all, new_replica}
 use Rattle.coda_cell.proofs.Histories.{server_stays}
 use Rattle.coda_stored.specs.Cells.{StoredCell}
-use Rattle.coda_stored.specs.Kept.{IsStoredKept}
+use Rattle.coda_stored.specs.Seen.{IsSeen}
 use Rattle.coda_stored.specs.Lines.{client_down, replica_down}
 use Rattle.coda_site.specs.Sites.{is_client_disk, place_in, IsSite}
 use Rattle.coda_site.specs.declared.site.Site.{Site}
@@ -32,7 +32,7 @@ use Rattle.coda_site.specs.declared.site.Place.{Place}
 use Rattle.coda_site.proofs.ClientSites.{up_from}
 use Rattle.coda_site.proofs.ReplicaSites.{replica_is, there, down_is}
 
-module _ {D : Type 0} (told : D → Told) (out : ℕ → Bool) (has : ℕ → Told) (cell : StoredCell) (kept : IsStoredKept cell) (site : Site D) (is : IsSite told out has cell site) (volume : ℕ) where
+module _ {D : Type 0} (told : D → Told) (out : ℕ → Bool) (has : ℕ → Told) (cell : StoredCell) (kept : IsSeen cell) (site : Site D) (is : IsSite told out has cell site) (volume : ℕ) where
   -- no volume of this number was made
   pub none_shown : (server : ℕ) → place_in site volume ≡ None → volume_at ((state_of cell.made).replicas volume) server ≡ None
   none_shown server none = ap (λ (o : Option ℕ). volume_at (option_map (replica_of (λ s. (cell.made.acted.replicas s volume).history) volume) o) server) (is.homes volume ∙ ap (option_map (λ (p : Place). p.server)) none)
@@ -82,7 +82,7 @@ log_so (Some log) v w same is = is ∙ same
 some_client : (a b : ClientState) → Some a ≡ Some b → a ≡ b
 some_client a b e = cc
 
-pub log_shown : {D : Type 0} (told : D → Told) (out : ℕ → Bool) (has : ℕ → Told) (cell : StoredCell) (kept : IsStoredKept cell) (site : Site D) → IsSite told out has cell site
+pub log_shown : {D : Type 0} (told : D → Told) (out : ℕ → Bool) (has : ℕ → Told) (cell : StoredCell) (kept : IsSeen cell) (site : Site D) → IsSite told out has cell site
     → (client volume : ℕ) (header : Header) (venus : Venus D) (c : ClientState) (r : Option (Bor LogState)) → is_client_disk client ≡ true → slot_at site.clients client ≡ Started header venus → venus.down ≡ false
     → (state_of cell.made).clients client ≡ Some c → ((d : VenusState) → IsClient d venus.client → MatchOption r (d.volumes volume ≡ venus_new_volume) (λ log. log.now ≡ (d.volumes volume).log))
     → MatchOption r (log_of (c.volumes volume) ≡ log_of new_volume) (λ log. log.now ≡ log_of (c.volumes volume))
@@ -97,7 +97,7 @@ log_shown told out has cell kept site is client volume header venus c r here slo
     (log_so r v (d.volumes volume) (one.volumes volume).log (told_so d up.up.state))
 
 -- a client that is up in its slot isn't down
-pub client_runs : {D : Type 0} (told : D → Told) (out : ℕ → Bool) (has : ℕ → Told) (cell : StoredCell) (kept : IsStoredKept cell) (site : Site D) → IsSite told out has cell site
+pub client_runs : {D : Type 0} (told : D → Told) (out : ℕ → Bool) (has : ℕ → Told) (cell : StoredCell) (kept : IsSeen cell) (site : Site D) → IsSite told out has cell site
     → (client : ℕ) (header : Header) (venus : Venus D) → is_client_disk client ≡ true → slot_at site.clients client ≡ Started header venus → venus.down ≡ false → client_down cell client ≡ false
 client_runs told out has cell kept site is client header venus here slot runs =
     let up = up_from told out has cell kept site.clients client header venus is.clients here slot runs in

@@ -26,7 +26,7 @@ use Rattle.coda_cell.specs.Steps.{Named, client_named, volume_named, server_name
 use Rattle.coda_cell.specs.Refused.{NoSuchActor}
 use Rattle.coda_cell.proofs.Histories.{server_stays}
 use Rattle.coda_stored.specs.Cells.{Side, StoredCell, life_of, plain_client, plain_replica}
-use Rattle.coda_stored.specs.Kept.{IsStoredKept, IsClientSide, IsReplicaSide}
+use Rattle.coda_stored.specs.Seen.{IsClientSeen, IsReplicaSeen, IsSeen}
 use Rattle.coda_stored.specs.Lines.{client_down, replica_down}
 use Rattle.coda_site.specs.Sites.{is_client_disk, is_replica_disk, place_in, IsSite, client_at, volume_at, server_at, holder_at}
 use Rattle.coda_site.specs.declared.site.Site.{Site}
@@ -72,18 +72,18 @@ unmade_up : (asked : Option Header) (up : Bool) → asked ≡ None → is_life_u
 unmade_up None up is = refl
 unmade_up (Some h) up is = cc
 
-side_made : (n : ℕ) (size : Option ℕ) (actor : Actor ClientEntry) (side : Side) → IsClientSide n size actor side → is_some side.asked ≡ is_some size
-side_made n None actor side is = ap (λ (s : Side). is_some s.asked) is.0
+side_made : (n : ℕ) (size : Option ℕ) (actor : Actor ClientEntry) (side : Side) → IsClientSeen n size actor side → is_some side.asked ≡ is_some size
+side_made n None actor side is = ap is_some is
 side_made n (Some size) actor side is = ap is_some is.6
 
-replica_asks : (volume : ℕ) (home : Option ℕ) (server : ℕ) (actors : ℕ → Actor ReplicaEntry) (side : Side) → IsReplicaSide volume home actors side → home ≡ Some server → (header : Header) × (side.asked ≡ Some header)
+replica_asks : (volume : ℕ) (home : Option ℕ) (server : ℕ) (actors : ℕ → Actor ReplicaEntry) (side : Side) → IsReplicaSeen volume home actors side → home ≡ Some server → (header : Header) × (side.asked ≡ Some header)
 replica_asks volume None server actors side is at = cc
 replica_asks volume (Some home) server actors side is at = (_, is.5)
 
 home_server : (home server : ℕ) → Some home ≡ Some server → home ≡ server
 home_server home server e = cc
 
-module _ {D : Type 0} (told : D → Told) (out : ℕ → Bool) (has : ℕ → Told) (cell : StoredCell) (kept : IsStoredKept cell) (site : Site D) (is : IsSite told out has cell site) where
+module _ {D : Type 0} (told : D → Told) (out : ℕ → Bool) (has : ℕ → Told) (cell : StoredCell) (kept : IsSeen cell) (site : Site D) (is : IsSite told out has cell site) where
   client_lawful : (n : ℕ) (header : Header) (venus : Venus D) → (client_form told).IsUp header venus (plain_client (cell.made.acted.clients n) (cell.clients n)).disk.history → venus.down ≡ false
   client_lawful n header venus up = up.up
 
@@ -145,7 +145,7 @@ module _ {D : Type 0} (told : D → Told) (out : ℕ → Bool) (has : ℕ → To
   pub is_replica_at : (volume : ℕ) (p : Place) → place_in site volume ≡ Some p → is_replica_disk p.disk ≡ true
   is_replica_at volume p there =
       let placed = kept.placed volume p.server (home_at volume p there) in
-      let disk = sym (disk_at volume p there) ∙ placed.2 in
+      let disk = sym (disk_at volume p there) ∙ placed.1 in
       grind (arith, nat_tests, disk)
 
   -- the slot and the disk of the volume's replica stand for it
@@ -193,7 +193,7 @@ there_first named names none = by named.there refl none
     by true is e = (is, e)
     by false is e = cc
 
-module _ {D : Type 0} (told : D → Told) (out : ℕ → Bool) (has : ℕ → Told) (cell : StoredCell) (kept : IsStoredKept cell) (site : Site D) (is : IsSite told out has cell site) where
+module _ {D : Type 0} (told : D → Told) (out : ℕ → Bool) (has : ℕ → Told) (cell : StoredCell) (kept : IsSeen cell) (site : Site D) (is : IsSite told out has cell site) where
   pub on_volume_at : (client volume : ℕ) → is_client_disk client ≡ true → on_volume (state_of cell.made) client volume ≡ client_at site client ∷ volume_at site volume ∷ []
   on_volume_at client volume here = λ i. client_named_at told out has cell kept site is client here i ∷ volume_named_at told out has cell kept site is volume i ∷ []
 

@@ -87,7 +87,7 @@ module _ {D : Type 0} (told : D → Told) (out out1 : ℕ → Bool) (has has1 : 
   other_home v s home same = (let no : None ≡ Some s = sym absent ∙ ap cell.made.homes (sym same) ∙ home in cc)
 
   old_is : plain disk ≡ unmade
-  old_is = is.replicas.1.others disk apart
+  old_is = is.replicas.1.others disk apart ∙ kept.idle disk
 
   module _ (is_noted : IsNoted site volume here noted) where
     -- a cell with the volume more, in which servers' replicas are these, stands for the site with these slots
@@ -139,7 +139,7 @@ module _ {D : Type 0} (told : D → Told) (out out1 : ℕ → Bool) (has has1 : 
               ∙ (λ i. plain_replica v (sym (others s v other) i) (sym (put_else cell.replicas side v other) i)))
         ]
 
-        others_at : (number : ℕ) → ((v s : ℕ) → put cell.made.homes volume (Some server) v ≡ Some s → put cell.places volume disk v ≢ number) → new number ≡ unmade
+        others_at : (number : ℕ) → ((v s : ℕ) → put cell.made.homes volume (Some server) v ≡ Some s → put cell.places volume disk v ≢ number) → new number ≡ cell.idle number
         others_at number none =
             else number (λ e. none volume server (put_here cell.made.homes (Some server)) (put_here cell.places disk ∙ sym e))
             ∙ is.replicas.1.others number (λ v s home e. none v s (put_else cell.made.homes (Some server) v (other_home v s home) ∙ home) (put_else cell.places disk v (other_home v s home) ∙ e))

@@ -1,5 +1,5 @@
 -- A site over the disks that an earlier run left, while lines make the actors again.
-use Rattle.std.specs.Prelude.{◌≡◌, ℕ, Bool, true, false, List, ◌++◌, Option, Some, None, IfSome}
+use Rattle.std.specs.Prelude.{◌≡◌, ℕ, Bool, List, ◌++◌, Some, IfSome}
 use Rattle.std.specs.Option.{option_map}
 use Rattle.coda_disk.specs.Told.{Told}
 use Rattle.coda_actors.specs.Clients.{client_form}
@@ -9,21 +9,12 @@ use Rattle.coda_crew.specs.Crews.{FitsAll}
 use Rattle.coda_record.specs.declared.entry.ReplicaEntry.{ReplicaEntry as KeptEntry}
 use Rattle.coda_script.specs.declared.reply.Reply.{Reply}
 use Rattle.coda_cell.specs.Cells.{IsNetwork}
-use Rattle.coda_stored.specs.Cells.{Side, StoredCell, plain_client, plain_replica, unmade}
+use Rattle.coda_stored.specs.Cells.{StoredCell, plain_client, plain_replica, unmade}
 use Rattle.coda_stored.specs.Resuming.{Awaited, awaits_client, awaits_volume, servers_of, MakesAgain}
+use Rattle.coda_stored.specs.Seen.{asleep, home_unless}
 use Rattle.coda_site.specs.Sites.{is_client_disk, is_replica_disk, place_in}
 use Rattle.coda_site.specs.declared.site.Place.{Place}
 use Rattle.coda_site.specs.declared.site.Site.{Site}
-
--- what is known of the disk of an actor that a line is yet to make again: nobody asks for it
-abbrev pub asleep : Bool → Side → Side
-asleep true side = record { given = side.given; asked = None; left = None }
-asleep false side = side
-
--- the home of a volume once a line made it again
-abbrev pub home_unless : Bool → Option ℕ → Option ℕ
-home_unless true home = None
-home_unless false home = home
 
 -- The replicas of a cell by the numbers of their disks, where some volumes are yet to be made again.
 pub record AreReplicasYet (cell : StoredCell) (left : List Awaited) (plain : ℕ → PlainActor KeptEntry) : Type 0 where

@@ -7,3 +7,4 @@ pub mod Drains
 pub mod Makings
 pub mod Awaiting
 pub mod Totals
+pub mod NewClients

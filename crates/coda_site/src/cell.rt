@@ -8,11 +8,12 @@ ghost use Rattle.coda_cell.specs.Made.{state_of};
 ghost use Rattle.coda_cell.specs.State.{ClientState, log_of, new_volume};
 ghost use Rattle.coda_stored.specs.Cells.{StoredCell, nothing_stored};
 ghost use Rattle.coda_stored.specs.Kept.{IsStoredKept};
+ghost use Rattle.coda_stored.specs.Seen.{IsSeen};
 ghost use Rattle.coda_stored.specs.Lines.{is_built, Happens, client_down, replica_down};
 ghost use Rattle.coda_stored.specs.Resuming.{at_rest, Awaited, is_awaited, AreAwaited, MakeAllAgain};
 ghost use Rattle.coda_site.specs.Awaiting.{IsAwaiting, Resumes};
 ghost use Rattle.coda_site.specs.Sites.{IsSite, IsReady, IsClosable};
-ghost use Rattle.coda_site.specs.Steps.{Becomes};
+ghost use Rattle.coda_site.specs.Steps.{Admits, Becomes};
 ghost use Rattle.coda_site.specs.Totals.{IsCounted, IsFault, has_armed, total, totals};
 ghost use Rattle.coda_disk.specs.Bays.{plus};
 ghost use Rattle.coda_site.specs.Cells.{AreBlank, AreOnDisks};
@@ -94,7 +95,7 @@ impl<B: Bay> Cell<B> {
         requires few { self.old.site.net.posted < 2 ^ 63 }
         ensures ready { result ≢ Err CellFault.Bay → IsReady B.D.told (B.out self.new.bay) self.new.site }
         ensures closable { IsClosable (B.out self.new.bay) self.new.site }
-        ensures does { (cell : StoredCell) → IsStoredKept cell → IsSite B.D.told (B.out self.old.bay) (B.has self.old.bay) cell self.old.site
+        ensures does { (cell : StoredCell) → Admits cell line.now → IsSite B.D.told (B.out self.old.bay) (B.has self.old.bay) cell self.old.site
             → IfOk result (λ reply. Becomes B.D.told (B.out self.new.bay) (B.has self.new.bay) (Happens cell line.now) reply (B.answered self.old.bay) (B.answered self.new.bay) self.new.site) }
         ensures again { (cell : StoredCell) (awaited : Awaited) (left : List Awaited) → is_awaited awaited line.now ≡ true → IsStoredKept cell
             → AreAwaited cell (length self.old.site.servers.items) self.old.site.areas (awaited ∷ left) → IsAwaiting B.D.told (B.out self.old.bay) (B.has self.old.bay) cell (awaited ∷ left) self.old.site
@@ -168,9 +169,9 @@ impl<B: Bay> Cell<B> {
 
     /// The volume that a server has; `None` where it has none of this number, or is down.
     pub fn volume(&self, server: u8, volume: u32) -> Option<&Volume>
-        ensures down { (cell : StoredCell) → IsStoredKept cell → IsSite B.D.told (B.out self.now.bay) (B.has self.now.bay) cell self.now.site
+        ensures down { (cell : StoredCell) → IsSeen cell → IsSite B.D.told (B.out self.now.bay) (B.has self.now.bay) cell self.now.site
             → replica_down cell volume ≡ true → result ≡ None }
-        ensures shown { (cell : StoredCell) → IsStoredKept cell → IsSite B.D.told (B.out self.now.bay) (B.has self.now.bay) cell self.now.site
+        ensures shown { (cell : StoredCell) → IsSeen cell → IsSite B.D.told (B.out self.now.bay) (B.has self.now.bay) cell self.now.site
             → replica_down cell volume ≡ false
             → MatchOption result (volume_at ((state_of cell.made).replicas volume) server ≡ None) (λ tree. volume_at ((state_of cell.made).replicas volume) server ≡ Some tree.now) }
     {
@@ -186,9 +187,9 @@ impl<B: Bay> Cell<B> {
 
     /// A client's log of a volume; `None` where the client isn't there or is down, or never had a log of the volume.
     pub fn log(&self, client: u8, volume: u32) -> Option<&Log>
-        ensures down { (cell : StoredCell) → IsStoredKept cell → IsSite B.D.told (B.out self.now.bay) (B.has self.now.bay) cell self.now.site
+        ensures down { (cell : StoredCell) → IsSeen cell → IsSite B.D.told (B.out self.now.bay) (B.has self.now.bay) cell self.now.site
             → client_down cell client ≡ true → result ≡ None }
-        ensures shown { (cell : StoredCell) → IsStoredKept cell → IsSite B.D.told (B.out self.now.bay) (B.has self.now.bay) cell self.now.site
+        ensures shown { (cell : StoredCell) → IsSeen cell → IsSite B.D.told (B.out self.now.bay) (B.has self.now.bay) cell self.now.site
             → client_down cell client ≡ false → (c : ClientState) → (state_of cell.made).clients client ≡ Some c
             → MatchOption result (log_of (c.volumes volume) ≡ log_of new_volume) (λ log. log.now ≡ log_of (c.volumes volume)) }
     {

@@ -7,6 +7,7 @@ mod chunks;
 mod draining;
 mod failing;
 mod fault;
+mod laws;
 mod lines;
 mod links;
 mod making;
@@ -18,6 +19,7 @@ mod there;
 
 pub use cell::Cell;
 pub use fault::CellFault;
+pub use laws::new_clients_may_come;
 pub use lines::{fail, is_built, set_link, show_log, show_volume, tick};
 pub use messages::{deliver, lose, send};
 pub use site::{Place, Site};

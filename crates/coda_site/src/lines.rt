@@ -5,7 +5,7 @@ ghost use Rattle.coda_site.specs.Makings.{is_disk_line};
 ghost use Rattle.coda_script.specs.declared.line.Line.TheVariants as line;
 ghost use Rattle.coda_cell.specs.Steps.{is_built_task, is_plain};
 ghost use Rattle.coda_stored.specs.Cells.{StoredCell};
-ghost use Rattle.coda_stored.specs.Kept.{IsStoredKept};
+ghost use Rattle.coda_stored.specs.Seen.{IsSeen};
 ghost use Rattle.coda_stored.specs.Lines.{is_built, Happens};
 ghost use Rattle.coda_site.specs.Sites.{IsSite, IsReady, IsClosable};
 ghost use Rattle.coda_site.specs.Steps.{Becomes};
@@ -80,7 +80,7 @@ pub fn set_link<B: Bay>(
 ) -> Result<Reply, CellFault>
     requires ready { IsReady B.D.told (B.out _bay.now) site.old }
     ensures ready { IsReady B.D.told (B.out _bay.now) site.new }
-    ensures does { (cell : StoredCell) → IsStoredKept cell
+    ensures does { (cell : StoredCell) → IsSeen cell
         → IsSite B.D.told (B.out _bay.now) (B.has _bay.now) cell site.old
         → IfOk result (λ reply. Becomes B.D.told (B.out _bay.now) (B.has _bay.now)
         (Happens cell (line.Link client server strength))
@@ -106,7 +106,7 @@ pub fn tick<B: Bay>(_bay: &B, site: &mut Site<B::D>, seconds: u32) -> Reply
     requires ready { IsReady B.D.told (B.out _bay.now) site.old }
     ensures ready { IsReady B.D.told (B.out _bay.now) site.new }
     ensures net { site.new.net ≡ site.old.net }
-    ensures does { (cell : StoredCell) → IsStoredKept cell
+    ensures does { (cell : StoredCell) → IsSeen cell
         → IsSite B.D.told (B.out _bay.now) (B.has _bay.now) cell site.old
         → Becomes B.D.told (B.out _bay.now) (B.has _bay.now) (Happens cell (line.Tick seconds))
         result (B.answered _bay.now) (B.answered _bay.now) site.new }
@@ -124,7 +124,7 @@ pub fn show_volume<B: Bay>(
     volume: u32,
 ) -> Result<Reply, CellFault>
     requires ready { IsReady B.D.told (B.out _bay.now) site.now }
-    ensures does { (cell : StoredCell) → IsStoredKept cell
+    ensures does { (cell : StoredCell) → IsSeen cell
         → IsSite B.D.told (B.out _bay.now) (B.has _bay.now) cell site.now
         → IfOk result (λ reply. Becomes B.D.told (B.out _bay.now) (B.has _bay.now)
         (Happens cell (line.ShowVolume server volume))
@@ -151,7 +151,7 @@ pub fn show_log<B: Bay>(
     volume: u32,
 ) -> Result<Reply, CellFault>
     requires ready { IsReady B.D.told (B.out _bay.now) site.now }
-    ensures does { (cell : StoredCell) → IsStoredKept cell
+    ensures does { (cell : StoredCell) → IsSeen cell
         → IsSite B.D.told (B.out _bay.now) (B.has _bay.now) cell site.now
         → IfOk result (λ reply. Becomes B.D.told (B.out _bay.now) (B.has _bay.now)
         (Happens cell (line.ShowLog client volume))
@@ -178,7 +178,7 @@ pub fn fail<B: Bay>(bay: &mut B, site: &mut Site<B::D>, line: &Line) -> Result<R
     requires ready { IsReady B.D.told (B.out bay.old) site.old }
     ensures ready { result ≢ Err CellFault.Bay → IsReady B.D.told (B.out bay.new) site.new }
     ensures closable { IsClosable (B.out bay.new) site.new }
-    ensures does { (cell : StoredCell) → IsStoredKept cell → IsSite B.D.told (B.out bay.old) (B.has bay.old) cell site.old
+    ensures does { (cell : StoredCell) → IsSeen cell → IsSite B.D.told (B.out bay.old) (B.has bay.old) cell site.old
         → IfOk result (λ reply. Becomes B.D.told (B.out bay.new) (B.has bay.new) (Happens cell line.now) reply (B.answered bay.old) (B.answered bay.new) site.new) }
     ensures net { site.new.net ≡ site.old.net }
     ensures later { B.faults bay.old ≤ B.faults bay.new }

@@ -1,5 +1,5 @@
 // Lines that make actors.
-ghost use Rattle.std.specs.Prelude.{◌≡◌, ◌≢◌, ◌≤◌, ◌<◌, ◌∷◌, ◌++◌, [], ℕ, List, ◌==◌, if◌then◌else◌, length, Some, None, IfOk, OnOk, OnErr, Err, false};
+ghost use Rattle.std.specs.Prelude.{◌≡◌, ◌≢◌, ◌≤◌, ◌<◌, ◌∷◌, ◌++◌, [], ℕ, List, ◌==◌, is_some, if◌then◌else◌, length, Some, None, IfOk, OnOk, OnErr, Err, false};
 ghost use Rattle.coda_io.specs.Faults.{Rose};
 ghost use Rattle.coda_crew.specs.declared.fault.CrewFault.TheVariants as crew_faults;
 ghost use Rattle.coda_script.specs.Ranges.{InRange};
@@ -7,7 +7,8 @@ ghost use Rattle.coda_script.specs.declared.line.Line.TheVariants as line;
 ghost use Rattle.coda_script.specs.declared.reply.Reply.TheVariants as reply;
 ghost use Rattle.coda_stored.specs.Cells.{StoredCell, client_header, replica_header, disk_number};
 ghost use Rattle.coda_stored.specs.Kept.{IsStoredKept};
-ghost use Rattle.coda_stored.specs.Lines.{Happens, MakesVolume};
+ghost use Rattle.coda_stored.specs.Lines.{no_volume, no_client, Happens, MakesVolume};
+ghost use Rattle.coda_stored.specs.Seen.{IsSeen};
 ghost use Rattle.coda_stored.specs.Resuming.{Awaited, ClientAgain, VolumeAgain, AreAwaited};
 ghost use Rattle.coda_site.specs.Awaiting.{IsAwaiting, Resumes};
 ghost use Rattle.coda_site.specs.Makings.{SaysOpened};
@@ -119,7 +120,7 @@ pub fn make_client<B: Bay>(
     requires ready { IsReady B.D.told (B.out bay.old) site.old }
     requires range { InRange (line.Client client blocks (Some area)) }
     ensures ready { IsReady B.D.told (B.out bay.new) site.new }
-    ensures does { (cell : StoredCell) → IsStoredKept cell → IsSite B.D.told (B.out bay.old) (B.has bay.old) cell site.old
+    ensures does { (cell : StoredCell) → IsSeen cell → (is_some (no_client cell client area) ≡ false → IsStoredKept cell) → IsSite B.D.told (B.out bay.old) (B.has bay.old) cell site.old
         → IfOk result (λ said. Becomes B.D.told (B.out bay.new) (B.has bay.new) (Happens cell (line.Client client blocks (Some area))) said (B.answered bay.old) (B.answered bay.new) site.new) }
     ensures again { (cell : StoredCell) (left : List Awaited) → IsStoredKept cell → AreAwaited cell (length site.old.servers.items) site.old.areas (ClientAgain client blocks area ∷ left)
         → IsAwaiting B.D.told (B.out bay.old) (B.has bay.old) cell (ClientAgain client blocks area ∷ left) site.old
@@ -193,7 +194,7 @@ pub fn make_volume<B: Bay>(
     requires server { (1 ≤ server) × (server ≤ 8) }
     requires area { (1 ≤ area) × (area ≤ 64) }
     ensures ready { IsReady B.D.told (B.out bay.new) site.new }
-    ensures does { (cell : StoredCell) → IsStoredKept cell → IsSite B.D.told (B.out bay.old) (B.has bay.old) cell site.old
+    ensures does { (cell : StoredCell) → IsSeen cell → (is_some (no_volume cell volume area) ≡ false → IsStoredKept cell) → IsSite B.D.told (B.out bay.old) (B.has bay.old) cell site.old
         → IfOk result (λ said. Becomes B.D.told (B.out bay.new) (B.has bay.new) (MakesVolume cell volume server area) said (B.answered bay.old) (B.answered bay.new) site.new) }
     ensures again { (cell : StoredCell) (left : List Awaited) → IsStoredKept cell → AreAwaited cell (length site.old.servers.items) site.old.areas (VolumeAgain volume server area ∷ left)
         → IsAwaiting B.D.told (B.out bay.old) (B.has bay.old) cell (VolumeAgain volume server area ∷ left) site.old

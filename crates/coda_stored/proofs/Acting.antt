@@ -48,18 +48,18 @@ is_true : (b : Bool) → not b ≡ false → b ≡ true
 is_true true e = refl
 is_true false e = cc
 
-behind : (first second : Bool) → first ≡ true → (first && second) ≡ false → second ≡ false
+pub behind : (first second : Bool) → first ≡ true → (first && second) ≡ false → second ≡ false
 behind first second is e = sym (ap (λ b. b && second) is) ∙ e
 
-uncut : (strength : Strength) → link_down strength ≡ None → is_cut strength ≡ false
+pub uncut : (strength : Strength) → link_down strength ≡ None → is_cut strength ≡ false
 uncut Strong e = refl
 uncut Weak e = refl
 uncut Down e = cc
 
-none_missing : (names : List Named) → first_missing names ≡ None → all_there names ≡ true
+pub none_missing : (names : List Named) → first_missing names ≡ None → all_there names ≡ true
 none_missing names e = ap (λ o. not (is_some o)) e
 
-some_same : {A B C : Type 0} → (f : A → B) (g : A → C) (o : Option A) → is_some (option_map f o) ≡ is_some (option_map g o)
+pub some_same : {A B C : Type 0} → (f : A → B) (g : A → C) (o : Option A) → is_some (option_map f o) ≡ is_some (option_map g o)
 some_same f g None = refl
 some_same f g (Some x) = refl
 
@@ -96,7 +96,7 @@ made_size client history None c e = cc
 made_size client history (Some blocks) c e = (blocks, refl)
 
 -- a refusal, by which nothing happens, or else
-unless_acted : {X : Type 0} → (o : Option Refused) (own : Doing) (reply : Reply) (events : List Event) → (o ≡ None → own reply events → (events ≡ []) ⊎ X) → Unless o own reply events → (events ≡ []) ⊎ X
+pub unless_acted : {X : Type 0} → (o : Option Refused) (own : Doing) (reply : Reply) (events : List Event) → (o ≡ None → own reply events → (events ≡ []) ⊎ X) → Unless o own reply events → (events ≡ []) ⊎ X
 unless_acted (Some why) own reply events rest does = inl does.1
 unless_acted None own reply events rest does = rest refl does
 

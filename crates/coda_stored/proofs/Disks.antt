@@ -71,6 +71,7 @@ module _ (cell : StoredCell) (kept : IsStoredKept cell) where
     replicas = kept.replicas;
     placed = kept.placed;
     apart = kept.apart;
+    idle = kept.idle;
   })
 
   pub replica_sided : (server volume : ℕ) (side : Side) → cell.made.homes volume ≡ Some server → side.asked ≡ (cell.replicas volume).asked
@@ -85,6 +86,7 @@ module _ (cell : StoredCell) (kept : IsStoredKept cell) where
     ] refl;
     placed = kept.placed;
     apart = kept.apart;
+    idle = kept.idle;
   })
 
   -- ---- an actor crashes, or is recovered

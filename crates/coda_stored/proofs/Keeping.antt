@@ -45,6 +45,7 @@ first_stored = record {
   replicas = λ volume. (refl, λ server. refl);
   placed = λ volume server e. cc;
   apart = λ volume other server home e f same. cc;
+  idle = λ number. refl;
 }
 
 -- ---- ranges

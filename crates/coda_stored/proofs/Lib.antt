@@ -8,3 +8,7 @@ pub mod Making
 pub mod Keeping
 pub mod Remaining
 pub mod Resuming
+pub mod Seeing
+pub mod Sleeping
+pub mod Meanwhile
+pub mod Between

@@ -88,6 +88,7 @@ module _ (old : StoredCell) (kept : IsStoredKept old) (volume server area : ℕ)
                 | false ↦ λ second a b same. kept.apart v o s h a b same
               ] refl
         ] refl;
+    idle = kept.idle;
   }
     where
       more : (n : ℕ) → n < length old.made.servers + 1 → n < length (old.made.servers ++ server ∷ [])
@@ -142,6 +143,7 @@ module _ (old : StoredCell) (kept : IsStoredKept old) (client blocks area : ℕ)
     replicas = λ v. subst (λ (f : ℕ → ℕ → Actor ReplicaEntry). IsReplicaSide v (old.made.homes v) (λ s. f s v) (old.replicas v)) (sym replicas) (kept.replicas v);
     placed = kept.placed;
     apart = kept.apart;
+    idle = kept.idle;
   }
 
   kept_client : (joins : Joins) → IsKept (whole (with_client_made old client blocks area (old.clients client)).made joins)

@@ -32,7 +32,7 @@ module _ {E : Type 0} where
 
 -- ---- cells
 
-begins_same : (cell : StoredCell) → Begins cell cell
+pub begins_same : (cell : StoredCell) → Begins cell cell
 begins_same cell = record { clients = λ client. same_entries (cell.made.acted.clients client).history; replicas = λ server volume. same_entries (cell.made.acted.replicas server volume).history }
 
 begins_then : (old mid new : StoredCell) → Begins mid old → Begins new mid → Begins new old

@@ -103,6 +103,7 @@ rests cell kept = record {
   replicas = λ volume. replica_rests volume (cell.made.homes volume) (λ server. cell.made.acted.replicas server volume) (cell.replicas volume) (kept.replicas volume);
   placed = kept.placed;
   apart = kept.apart;
+  idle = kept.idle;
   alone = λ server volume. alone_stopped (cell.made.homes volume) (cell.made.acted.replicas server volume) (kept.alone server volume);
 }
 
@@ -127,6 +128,7 @@ area_kept cell area kept = record {
   replicas = kept.replicas;
   placed = kept.placed;
   apart = kept.apart;
+  idle = kept.idle;
   alone = kept.alone;
 }
 
@@ -158,6 +160,8 @@ pub record StaysMade (new old : StoredCell) : Type 0 where
   pub places : new.places ≡ old.places
   pub clients : (client : ℕ) (header : Header) → AsksAgain (old.clients client) header → AsksAgain (new.clients client) header
   pub replicas : (volume : ℕ) (header : Header) → AsksAgain (old.replicas volume) header → AsksAgain (new.replicas volume) header
+  pub clients_ask : (client : ℕ) → (new.clients client).asked ≡ (old.clients client).asked
+  pub replicas_ask : (volume : ℕ) → (new.replicas volume).asked ≡ (old.replicas volume).asked
 
 pub awaited_stay : (old new : StoredCell) → StaysMade new old → (volumes areas : ℕ) (left : List Awaited) → AreAwaited old volumes areas left → AreAwaited new volumes areas left
 awaited_stay old new stays volumes areas [] are = tt
@@ -174,6 +178,14 @@ asks_put sides k side asked left number header asks = elim (number == k) as (λ 
       (asked ∙ there.0, left there.1)
   | false ↦ λ e. asks
 ] refl
+
+-- what it is asked for is the same
+pub side_asks : (sides : ℕ → Side) (k : ℕ) (side : Side) → side.asked ≡ (sides k).asked → (number : ℕ) → (put sides k side number).asked ≡ (sides number).asked
+side_asks sides k side same number = by (number == k) refl
+  where
+    by : (b : Bool) → (number == k) ≡ b → (cond b side (sides number)).asked ≡ (sides number).asked
+    by true e = same ∙ ap (λ n. (sides n).asked) (sym (eqb-true number k e))
+    by false e = refl
 
 -- what a recovery that failed leaves of a cell, but its histories
 record IsAside (new old : StoredCell) : Type 0 where
@@ -193,6 +205,8 @@ client_stays old mid client area side is asked left = record {
   places = is.places;
   clients = λ c header asks. subst (λ (f : ℕ → Side). AsksAgain (put f client side c) header) (sym is.clients) (asks_put old.clients client side asked left c header asks);
   replicas = λ v header asks. subst (λ (f : ℕ → Side). AsksAgain (f v) header) (sym is.replicas) asks;
+  clients_ask = λ c. ap (λ (f : ℕ → Side). (put f client side c).asked) is.clients ∙ side_asks old.clients client side asked c;
+  replicas_ask = λ v. ap (λ (f : ℕ → Side). (f v).asked) is.replicas;
 }
 
 replica_stays : (old mid : StoredCell) (volume area : ℕ) (side : Side) → IsAside mid old → side.asked ≡ (old.replicas volume).asked → ((old.replicas volume).left ≡ None → side.left ≡ None) → StaysMade (with_area (with_replica_side mid volume side) area) old
@@ -203,6 +217,8 @@ replica_stays old mid volume area side is asked left = record {
   places = is.places;
   clients = λ c header asks. subst (λ (f : ℕ → Side). AsksAgain (f c) header) (sym is.clients) asks;
   replicas = λ v header asks. subst (λ (f : ℕ → Side). AsksAgain (put f volume side v) header) (sym is.replicas) (asks_put old.replicas volume side asked left v header asks);
+  clients_ask = λ c. ap (λ (f : ℕ → Side). (f c).asked) is.clients;
+  replicas_ask = λ v. ap (λ (f : ℕ → Side). (put f volume side v).asked) is.replicas ∙ side_asks old.replicas volume side asked v;
 }
 
 crash_aside : (old : StoredCell) (who : Who) → IsAside (moved old (Crashes who)) old

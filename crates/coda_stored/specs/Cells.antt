@@ -26,17 +26,23 @@ abbrev pub no_side : Side
 no_side = record { given = None; asked = None; left = None }
 
 -- A cell on disks: what was made in it, with the histories of its actors, of which some may be down; how many MiB the areas of their disks
--- have; the number of the disk of each volume that was made; and what is known of the disk of each client, and of the replica of each volume.
+-- have; the number of the disk of each volume that was made; what is known of the disk of each client, and of the replica of each volume; and
+-- what the disks of replicas hold, by their numbers, that are of no volume that was made.
 pub record StoredCell : Type 0 where
   pub made : MadeCell
   pub areas : ℕ
   pub places : ℕ → ℕ
   pub clients : ℕ → Side
   pub replicas : ℕ → Side
+  pub idle : ℕ → PlainActor KeptEntry
+
+-- an actor that no line made, on a disk that holds nothing
+abbrev pub unmade : {Entry : Type 0} → PlainActor Entry
+unmade = record { disk = record { header = None; history = []; failed = None }; life = Unmade; left = None }
 
 -- nothing was made, and the disks hold nothing
 abbrev pub nothing_stored : StoredCell
-nothing_stored = record { made = nothing_made; areas = 0; places = λ volume. 0; clients = λ client. no_side; replicas = λ volume. no_side }
+nothing_stored = record { made = nothing_made; areas = 0; places = λ volume. 0; clients = λ client. no_side; replicas = λ volume. no_side; idle = λ number. unmade }
 
 -- ---- the actors
 
@@ -70,10 +76,6 @@ plain_replica volume actor side = record {
   life = life_of side.asked actor.up;
   left = side.left;
 }
-
--- an actor that no line made, on a disk that holds nothing
-abbrev pub unmade : {Entry : Type 0} → PlainActor Entry
-unmade = record { disk = record { header = None; history = []; failed = None }; life = Unmade; left = None }
 
 -- ---- headers
 

@@ -4,3 +4,4 @@ pub mod Lines
 pub mod Kept
 pub mod Laws
 pub mod Resuming
+pub mod Seen

@@ -47,6 +47,7 @@ at_rest cell = record {
   places = cell.places;
   clients = λ client. forgotten (cell.clients client);
   replicas = λ volume. forgotten (cell.replicas volume);
+  idle = cell.idle;
 }
 
 -- ---- the lines that make its actors again

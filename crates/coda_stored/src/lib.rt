@@ -2,6 +2,7 @@
 #![tactic(auto)]
 
 ghost use Rattle.coda_stored.specs.Resuming.{CellsAreResumed};
+ghost use Rattle.coda_stored.specs.Seen.{LinesComeBetween};
 ghost use Rattle.coda_stored.specs.Laws.{StoredCellsAreKept, StoredCellsArePromised, EntriesStay, ClientsAreRecovered, ReplicasAreRecovered};
 
 /// A law of lines: in a cell that is kept each line leaves one that is kept, wherever the disk of an actor fails or has no room, and
@@ -36,4 +37,10 @@ pub fn replicas_are_recovered()
 /// a line makes again has the history that it had, or that one with the one entry whose append failed.
 pub fn cells_are_resumed()
     ensures { CellsAreResumed }
+{}
+
+/// A law of later runs: a line that comes before all actors were made again, and mounts no disk of one that it makes, does what it does where
+/// only those were made that came so far; whoever is yet to come stays as the earlier run left it, and can still be made again.
+pub fn lines_come_between()
+    ensures { LinesComeBetween }
 {}

@@ -7,11 +7,12 @@ ghost use Rattle.coda_cell.specs.Made.{state_of};
 ghost use Rattle.coda_cell.specs.State.{ClientState, log_of, new_volume};
 ghost use Rattle.coda_stored.specs.Cells.{StoredCell, nothing_stored};
 ghost use Rattle.coda_stored.specs.Kept.{IsStoredKept};
+ghost use Rattle.coda_stored.specs.Seen.{IsSeen};
 ghost use Rattle.coda_stored.specs.Lines.{is_built, Happens, client_down, replica_down};
 ghost use Rattle.coda_stored.specs.Resuming.{at_rest, Awaited, is_awaited, AreAwaited, MakeAllAgain};
 ghost use Rattle.coda_site.specs.Awaiting.{IsAwaiting, Resumes};
 ghost use Rattle.coda_site.specs.Sites.{IsSite, IsReady, IsClosable};
-ghost use Rattle.coda_site.specs.Steps.{Becomes};
+ghost use Rattle.coda_site.specs.Steps.{Admits, Becomes};
 ghost use Rattle.coda_site.specs.Totals.{IsCounted, IsFault, has_armed, total, totals};
 ghost use Rattle.coda_disk.specs.Bays.{plus};
 ghost use Rattle.coda_site.specs.Cells.{AreBlank, AreOnDisks};
@@ -89,7 +90,7 @@ impl<B: Bay> TracedCell<B> {
         requires short { length self.old.events.items < 2 ^ 32 }
         ensures ready { result ≢ Err CellFault.Bay → IsReady B.D.told (B.out self.new.cell.bay) self.new.cell.site }
         ensures closable { IsClosable (B.out self.new.cell.bay) self.new.cell.site }
-        ensures does { (cell : StoredCell) → IsStoredKept cell → IsSite B.D.told (B.out self.old.cell.bay) (B.has self.old.cell.bay) cell self.old.cell.site
+        ensures does { (cell : StoredCell) → Admits cell line.now → IsSite B.D.told (B.out self.old.cell.bay) (B.has self.old.cell.bay) cell self.old.cell.site
             → IfOk result (λ reply. Becomes B.D.told (B.out self.new.cell.bay) (B.has self.new.cell.bay) (Happens cell line.now) reply (B.answered self.old.cell.bay) (B.answered self.new.cell.bay) self.new.cell.site) }
         ensures again { (cell : StoredCell) (awaited : Awaited) (left : List Awaited) → is_awaited awaited line.now ≡ true → IsStoredKept cell
             → AreAwaited cell (length self.old.cell.site.servers.items) self.old.cell.site.areas (awaited ∷ left) → IsAwaiting B.D.told (B.out self.old.cell.bay) (B.has self.old.cell.bay) cell (awaited ∷ left) self.old.cell.site
@@ -143,9 +144,9 @@ impl<B: Bay> TracedCell<B> {
 
     /// The volume that a server has; `None` where it has none of this number, or is down.
     pub fn volume(&self, server: u8, volume: u32) -> Option<&Volume>
-        ensures down { (cell : StoredCell) → IsStoredKept cell → IsSite B.D.told (B.out self.now.cell.bay) (B.has self.now.cell.bay) cell self.now.cell.site
+        ensures down { (cell : StoredCell) → IsSeen cell → IsSite B.D.told (B.out self.now.cell.bay) (B.has self.now.cell.bay) cell self.now.cell.site
             → replica_down cell volume ≡ true → result ≡ None }
-        ensures shown { (cell : StoredCell) → IsStoredKept cell → IsSite B.D.told (B.out self.now.cell.bay) (B.has self.now.cell.bay) cell self.now.cell.site
+        ensures shown { (cell : StoredCell) → IsSeen cell → IsSite B.D.told (B.out self.now.cell.bay) (B.has self.now.cell.bay) cell self.now.cell.site
             → replica_down cell volume ≡ false
             → MatchOption result (volume_at ((state_of cell.made).replicas volume) server ≡ None) (λ tree. volume_at ((state_of cell.made).replicas volume) server ≡ Some tree.now) }
     {
@@ -154,9 +155,9 @@ impl<B: Bay> TracedCell<B> {
 
     /// A client's log of a volume; `None` where the client isn't there or is down, or never had a log of the volume.
     pub fn log(&self, client: u8, volume: u32) -> Option<&Log>
-        ensures down { (cell : StoredCell) → IsStoredKept cell → IsSite B.D.told (B.out self.now.cell.bay) (B.has self.now.cell.bay) cell self.now.cell.site
+        ensures down { (cell : StoredCell) → IsSeen cell → IsSite B.D.told (B.out self.now.cell.bay) (B.has self.now.cell.bay) cell self.now.cell.site
             → client_down cell client ≡ true → result ≡ None }
-        ensures shown { (cell : StoredCell) → IsStoredKept cell → IsSite B.D.told (B.out self.now.cell.bay) (B.has self.now.cell.bay) cell self.now.cell.site
+        ensures shown { (cell : StoredCell) → IsSeen cell → IsSite B.D.told (B.out self.now.cell.bay) (B.has self.now.cell.bay) cell self.now.cell.site
             → client_down cell client ≡ false → (c : ClientState) → (state_of cell.made).clients client ≡ Some c
             → MatchOption result (log_of (c.volumes volume) ≡ log_of new_volume) (λ log. log.now ≡ log_of (c.volumes volume)) }
     {

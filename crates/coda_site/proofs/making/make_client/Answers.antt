@@ -1,4 +1,4 @@
-use Rattle.std.proofs.Common.{◌≡◌, ◌+◌, ◌≤◌, ◌<◌, ℕ, List, true, false, Some, sym, subst, ◌∙◌, arith}
+use Rattle.std.proofs.Common.{◌≡◌, ◌+◌, ◌≤◌, ◌<◌, ℕ, List, true, false, Some, sym, ap, subst, ◌∙◌, arith}
 use Rattle.std.proofs.lemmas.Bool.{false≢true}
 use Rattle.coda_journal.specs.declared.header.Header.{Header}
 use Rattle.std.specs.Prelude.{nat_lt, is_some}
@@ -31,22 +31,22 @@ use Rattle.coda_site.specs.declared.site.Site.{Site}
 use Rattle.coda_site.proofs.making.make_client.Goals as goal
 
 pub returns-then-has_client-clause-does : goal.returns-then-has_client-clause-does
-returns-then-has_client-clause-does g c = λ cell kept is.
+returns-then-has_client-clause-does g c = λ cell seen may is.
     let told = g.B.D.Disk.told in
     let out = g.B.Bay.out c.args.bay.now in
     let has = g.B.Bay.has c.args.bay.now in
     let n = c.args.client in
-    let there : is_some (cell.made.sizes n) ≡ true = sym (client_made told out has cell kept c.args.site.now is n c.has_client.ensures.disk) ∙ sym c.has_client.ensures.there ∙ c.if-has_client.true in
+    let there : is_some (cell.made.sizes n) ≡ true = sym (client_made told out has cell seen c.args.site.now is n c.has_client.ensures.disk) ∙ sym c.has_client.ensures.there ∙ c.if-has_client.true in
     stays_becomes told out has cell (Happens cell (line.Client n c.args.blocks (Some c.args.area))) c.refuse.result (g.B.Bay.answered c.args.bay.now) c.args.site.now
     (unless_some cell (no_client cell n c.args.area) AlreadyThere (Opens cell (client_header n c.args.blocks c.args.area) (with_client cell n c.args.blocks c.args.area) (TheClient n)) c.refuse.result (client_already cell n c.args.area there) c.refuse.ensures) is
 
 pub returns-then-site-from-gt-MOST_AREAS-clause-does : goal.returns-then-site-from-gt-MOST_AREAS-clause-does
-returns-then-site-from-gt-MOST_AREAS-clause-does g c = λ cell kept is.
+returns-then-site-from-gt-MOST_AREAS-clause-does g c = λ cell seen may is.
     let told = g.B.D.Disk.told in
     let out = g.B.Bay.out c.args.bay.now in
     let has = g.B.Bay.has c.args.bay.now in
     let n = c.args.client in
-    let absent : is_some (cell.made.sizes n) ≡ false = sym (client_made told out has cell kept c.args.site.now is n c.has_client.ensures.disk) ∙ sym c.has_client.ensures.there ∙ c.if-has_client.false in
+    let absent : is_some (cell.made.sizes n) ≡ false = sym (client_made told out has cell seen c.args.site.now is n c.has_client.ensures.disk) ∙ sym c.has_client.ensures.there ∙ c.if-has_client.false in
     let full : nat_lt 512 (cell.areas + c.args.area) ≡ true = no_room_left c.args.site.now.areas cell.areas c.args.area c.from.result is.areas c.from.ensures c.if-site-from-gt-MOST_AREAS.true in
     stays_becomes told out has cell (Happens cell (line.Client n c.args.blocks (Some c.args.area))) c.refuse-then-site-from-gt-MOST_AREAS.result (g.B.Bay.answered c.args.bay.now) c.args.site.now
     (unless_some cell (no_client cell n c.args.area) CellFull (Opens cell (client_header n c.args.blocks c.args.area) (with_client cell n c.args.blocks c.args.area) (TheClient n)) c.refuse-then-site-from-gt-MOST_AREAS.result (client_full cell n c.args.area absent full) c.refuse-then-site-from-gt-MOST_AREAS.ensures) is
@@ -73,7 +73,7 @@ returns-after-is_made-clause-ready g c =
     ]
 
 pub returns-after-is_made-clause-does : goal.returns-after-is_made-clause-does
-returns-after-is_made-clause-does g c = λ cell kept is.
+returns-after-is_made-clause-does g c = λ cell seen may is.
     let told = g.B.D.Disk.told in
     let out = g.B.Bay.out c.args.bay.now in
     let has = g.B.Bay.has c.args.bay.now in
@@ -85,9 +85,10 @@ returns-after-is_made-clause-does g c = λ cell kept is.
     let area = c.args.area in
     let number = c.from-number.result in
     let mounting = c.in-Ok.mounting in
-    let absent : is_some (cell.made.sizes n) ≡ false = sym (client_made told out has cell kept site is n c.has_client.ensures.disk) ∙ sym c.has_client.ensures.there ∙ c.if-has_client.false in
+    let absent : is_some (cell.made.sizes n) ≡ false = sym (client_made told out has cell seen site is n c.has_client.ensures.disk) ∙ sym c.has_client.ensures.there ∙ c.if-has_client.false in
     let none = none_there (cell.made.sizes n) absent in
     let fits : nat_lt 512 (cell.areas + area) ≡ false = room_left site.areas cell.areas area c.from.result is.areas c.from.ensures c.if-site-from-gt-MOST_AREAS.false in
+    let kept = may (ap is_some (client_fits cell n area absent fits)) in
     let own : is_client_disk number ≡ true = subst (λ (m : ℕ). is_client_disk m ≡ true) (sym c.from-number.ensures) c.has_client.ensures.disk in
     let be = others_left is_replica_disk out out1 has has1 number (client_alone number own) c.in-Ok.ensures.others c.in-Ok.ensures.keeps in
     let took = c.in-Ok.ensures.step is_client_disk (plain_clients cell) is.clients own in

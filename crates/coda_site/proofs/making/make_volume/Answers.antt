@@ -33,7 +33,7 @@ use Rattle.coda_site.proofs.ReplicaSites.{with_replicas}
 use Rattle.coda_site.proofs.making.make_volume.Goals as goal
 
 pub returns-then-contains_key-clause-does : goal.returns-then-contains_key-clause-does
-returns-then-contains_key-clause-does g c = λ cell kept is.
+returns-then-contains_key-clause-does g c = λ cell seen may is.
     let volume = c.args.volume in
     let server = c.args.server in
     let area = c.args.area in
@@ -42,7 +42,7 @@ returns-then-contains_key-clause-does g c = λ cell kept is.
     (unless_some cell (no_volume cell volume area) AlreadyThere (Opens cell (replica_header volume server area) (with_volume cell volume server area) (TheReplica server volume)) c.refuse.result (volume_already cell volume area there) c.refuse.ensures) is
 
 pub returns-then-len-ge-MOST_VOLUMES-clause-does : goal.returns-then-len-ge-MOST_VOLUMES-clause-does
-returns-then-len-ge-MOST_VOLUMES-clause-does g c = λ cell kept is.
+returns-then-len-ge-MOST_VOLUMES-clause-does g c = λ cell seen may is.
     let volume = c.args.volume in
     let server = c.args.server in
     let area = c.args.area in
@@ -99,7 +99,7 @@ returns-after-is_made-clause-ready g c =
     ]
 
 pub returns-after-is_made-clause-does : goal.returns-after-is_made-clause-does
-returns-after-is_made-clause-does g c = λ cell kept is.
+returns-after-is_made-clause-does g c = λ cell seen may is.
     let told = g.B.D.Disk.told in
     let out = g.B.Bay.out c.args.bay.now in
     let has = g.B.Bay.has c.args.bay.now in
@@ -120,6 +120,7 @@ returns-after-is_made-clause-does g c = λ cell kept is.
     let none = none_there (cell.made.homes volume) absent in
     let many : length cell.made.servers ≡ c.len.result = ap length is.servers ∙ sym site.servers.ok.0 ∙ sym c.len.ensures in
     let fits = has_room (length cell.made.servers) c.len.result (nat_lt 512 (cell.areas + area)) many c.if-len-ge-MOST_VOLUMES.false (room_left site.areas cell.areas area c.from.result is.areas c.from.ensures c.if-site-from-gt-MOST_AREAS.false) in
+    let kept = may (ap is_some (volume_fits cell volume area absent fits)) in
     let own : is_replica_disk number ≡ true = subst (λ (m : ℕ). is_replica_disk m ≡ true) (sym number_is) (replica_number (length cell.made.servers) server) in
     let be = others_left is_client_disk out out1 has has1 number (replica_alone number own) c.in-Ok.ensures.others c.in-Ok.ensures.keeps in
     let replicas : noted.replicas ≡ site.replicas = ap (λ s. s.replicas) told_of.others in

@@ -5,7 +5,7 @@ use Rattle.coda_actors.specs.Replicas.{replica_form}
 use Rattle.coda_stored.specs.Cells.{plain_client}
 use Rattle.coda_venus.specs.History.{Payload}
 use Rattle.coda_stored.specs.Resuming.{awaits_client}
-use Rattle.coda_site.specs.Awaiting.{asleep}
+use Rattle.coda_stored.specs.Seen.{asleep}
 use Rattle.coda_site.specs.Sites.{is_client_disk, is_replica_disk}
 use Rattle.coda_site.proofs.Resting.{awaiting_on_disks}
 use Rattle.coda_site.proofs.Closing.{side_of, client_alone, replica_alone, all_held, held_vacant, held_over, vacant, out_over, fits_over, stands_over}

@@ -1,16 +1,18 @@
-use Rattle.std.proofs.Common.{ℕ, Some, sym, subst}
+use Rattle.std.proofs.Common.{rules, ◌≡◌, ℕ, Some, is_some, sym, ap, subst, ◌∙◌}
 use Rattle.std.proofs.lemmas.Result.{IfOk-weaker}
 use Rattle.coda_script.specs.declared.line.Line.{Line}
 use Rattle.coda_script.specs.declared.line.Line.TheVariants as line
 use Rattle.coda_script.specs.declared.reply.Reply.{Reply}
-use Rattle.coda_stored.specs.Lines.{Happens, MakesClient}
+use Rattle.coda_cell.specs.Steps.{alone}
+use Rattle.coda_stored.specs.Lines.{area_of, no_volume, no_client, Happens, MakesVolume, MakesClient}
+use Rattle.coda_stored.specs.Seen.{mounts_none}
 use Rattle.coda_site.specs.Steps.{Becomes}
 use Rattle.coda_site.proofs.Becomings.{becomes_as}
 use Rattle.coda_site.proofs.SentChunks.{windowed}
 use Rattle.coda_site.proofs.cell.Cell.step.Goals as goal
 
 pub returns-in-Client-clause-does : goal.returns-in-Client-clause-does
-returns-in-Client-clause-does g c = λ cell kept is.
+returns-in-Client-clause-does g c = λ cell may is.
     let told = g.B.D.Disk.told in
     let out = g.B.Bay.out c.make_client.new.bay in
     let has = g.B.Bay.has c.make_client.new.bay in
@@ -25,10 +27,10 @@ returns-in-Client-clause-does g c = λ cell kept is.
     (λ reply becomes. subst (λ (l : Line). Becomes told out has (Happens cell l) reply old new site) (sym c.in-Client.is)
     (becomes_as told out has (Happens cell named) (Happens cell said) reply old new site
     (λ outside left made. subst (λ (area : ℕ). MakesClient cell client blocks area reply outside left) c.unwrap_or-in-Client.ensures made) becomes))
-    (c.make_client.ensures.does cell kept is)
+    (c.make_client.ensures.does cell may.0 (λ fits. may.1 (ap (mounts_none cell) c.in-Client.is ∙ ap (λ (area : ℕ). is_some (no_client cell client area)) (sym c.unwrap_or-in-Client.ensures) ∙ fits)) is)
 
 pub returns-in-Send-clause-does : goal.returns-in-Send-clause-does
-returns-in-Send-clause-does g c = λ cell kept is.
+returns-in-Send-clause-does g c = λ cell may is.
     let told = g.B.D.Disk.told in
     let out = g.B.Bay.out c.args.self.now.bay in
     let has = g.B.Bay.has c.args.self.now.bay in
@@ -44,4 +46,24 @@ returns-in-Send-clause-does g c = λ cell kept is.
     (λ reply becomes. subst (λ (l : Line). Becomes told out has (Happens cell l) reply answered answered site) (sym c.in-Send.is)
     (becomes_as told out has (Happens cell named) (Happens cell said) reply answered answered site
     (λ outside left sent. windowed cell client volume server c.in-Send.window reply outside left window c.unwrap_or-window.ensures sent) becomes))
-    (c.send.ensures.does cell kept is)
+    (c.send.ensures.does cell may.0 is)
+
+pub returns-in-Volume-clause-does : goal.returns-in-Volume-clause-does
+returns-in-Volume-clause-does g c = λ cell may is.
+    let told = g.B.D.Disk.told in
+    let out = g.B.Bay.out c.make_volume.new.bay in
+    let has = g.B.Bay.has c.make_volume.new.bay in
+    let old = g.B.Bay.answered c.args.self.now.bay in
+    let new = g.B.Bay.answered c.make_volume.new.bay in
+    let site = c.make_volume.new.site in
+    let volume = c.in-Volume.volume in
+    let servers = c.in-Volume.servers in
+    let said = line.Volume volume servers c.in-Volume.area in
+    let server_is : c.alone.result ≡ alone servers = search rules in
+    let area_is : c.unwrap_or.result ≡ area_of c.in-Volume.area = c.unwrap_or.ensures in
+    let own = MakesVolume cell volume c.alone.result c.unwrap_or.result in
+    IfOk-weaker c.make_volume.result (λ (reply : Reply). Becomes told out has own reply old new site) (λ (reply : Reply). Becomes told out has (Happens cell c.args.line.now) reply old new site)
+    (λ reply becomes. subst (λ (l : Line). Becomes told out has (Happens cell l) reply old new site) (sym c.in-Volume.is)
+    (becomes_as told out has own (Happens cell said) reply old new site
+    (λ outside left made. subst (λ (area : ℕ). MakesVolume cell volume (alone servers) area reply outside left) area_is (subst (λ (server : ℕ). MakesVolume cell volume server c.unwrap_or.result reply outside left) server_is made)) becomes))
+    (c.make_volume.ensures.does cell may.0 (λ fits. may.1 (ap (mounts_none cell) c.in-Volume.is ∙ ap (λ (area : ℕ). is_some (no_volume cell volume area)) (sym area_is) ∙ fits)) is)

@@ -1,4 +1,5 @@
 use Rattle.std.proofs.Common.{rules}
+use Rattle.coda_stored.proofs.Seeing.{kept_is_seen}
 use Rattle.coda_site.specs.Totals.{totals}
 use Rattle.coda_trace.specs.Notes.{IsTraced}
 use Rattle.coda_trace.proofs.Telling.{goes_on}
@@ -15,4 +16,4 @@ returns-clause-steps g c = λ start cell images kept is steps.
     let behind = totals told faults arms (g.B.Bay.disk_faults new.bay) (g.B.Bay.disk_arms new.bay) new.site in
     let traced : IsTraced c.args.line.now c.in_ok-reply.reply before behind old.events.items c.push_reserved.new.self.items = search rules in
     goes_on told (g.B.Bay.out new.bay) (g.B.Bay.has new.bay) start cell c.args.line.now c.in_ok-reply.reply before behind old.events.items c.push_reserved.new.self.items images (g.B.Bay.answered old.cell.bay)
-    (g.B.Bay.answered new.bay) new.site c.requires.range traced (c.in_ok-reply.ensures.does cell kept is) steps
+    (g.B.Bay.answered new.bay) new.site c.requires.range traced (c.in_ok-reply.ensures.does cell (kept_is_seen cell kept, λ mounts. kept) is) steps

@@ -1,0 +1,117 @@
+-- A cell as it is seen while lines are yet to make some of its actors again, and what other lines do in it meanwhile.
+use Rattle.std.specs.Prelude.{◌≡◌, ◌⊎◌, ◌==◌, ℕ, ◌-◌, Bool, true, false, is_some, if◌then◌else◌, List, [], ◌∷◌, take, length, Option, Some, None}
+use Rattle.coda_actors.specs.Plain.{PlainActor}
+use Rattle.coda_plain.specs.Cell.{ClientEntry, Actor, Joins, found}
+use Rattle.coda_plain.specs.Decisions.{ReplicaEntry}
+use Rattle.coda_plain.specs.Histories.{In}
+use Rattle.coda_plain.specs.Sound.{IsSound}
+use Rattle.coda_record.specs.declared.entry.ReplicaEntry.{ReplicaEntry as KeptEntry}
+use Rattle.coda_script.specs.Ranges.{InRange}
+use Rattle.coda_script.specs.declared.line.Line.{Line}
+use Rattle.coda_script.specs.declared.line.Line.TheVariants as line
+use Rattle.coda_script.specs.declared.reply.Reply.{Reply}
+use Rattle.coda_matching.specs.Replicas.{IsDecision}
+use Rattle.coda_stored.specs.Cells.{Side, StoredCell, disk_number, plain_replica}
+use Rattle.coda_stored.specs.Kept.{whole, IsClientSide, IsReplicaSide, IsStoredKept}
+use Rattle.coda_stored.specs.Laws.{Begins}
+use Rattle.coda_stored.specs.Lines.{area_of, no_volume, no_client, Happens}
+use Rattle.coda_stored.specs.Resuming.{Awaited, ClientAgain, VolumeAgain, awaits_client, awaits_volume, servers_of, AreAwaited}
+
+-- ---- the cell as it is seen
+
+-- what is known of the disk of an actor that a line is yet to make again: nobody asks for it
+abbrev pub asleep : Bool → Side → Side
+asleep true side = record { given = side.given; asked = None; left = None }
+asleep false side = side
+
+-- the home of a volume, or the size of a client's cache, once a line made it again
+abbrev pub home_unless : Bool → Option ℕ → Option ℕ
+home_unless true home = None
+home_unless false home = home
+
+-- the servers of the volumes that were made again so far: all but those that are to come
+abbrev pub servers_before : List ℕ → List Awaited → List ℕ
+servers_before servers left = take (length servers - length (servers_of left)) servers
+
+-- what the disks of replicas hold, by their numbers, that are of no volume that was made: of one that is to be made again, its replica
+abbrev pub idle_until : StoredCell → List Awaited → ℕ → PlainActor KeptEntry
+idle_until cell [] number = cell.idle number
+idle_until cell (ClientAgain client blocks area ∷ left) number = idle_until cell left number
+idle_until cell (VolumeAgain volume server area ∷ left) number =
+    if number == cell.places volume then plain_replica volume (cell.made.acted.replicas server volume) (asleep true (cell.replicas volume)) else idle_until cell left number
+
+-- A cell as it is seen before these lines make its actors again: they weren't made, and nobody asks for their disks.
+abbrev pub seen : StoredCell → List Awaited → StoredCell
+seen cell left = record {
+  made = record cell.made {
+    servers = servers_before cell.made.servers left;
+    homes = λ volume. home_unless (awaits_volume left volume) (cell.made.homes volume);
+    sizes = λ client. home_unless (awaits_client left client) (cell.made.sizes client);
+  };
+  areas = cell.areas;
+  places = cell.places;
+  clients = λ client. asleep (awaits_client left client) (cell.clients client);
+  replicas = λ volume. asleep (awaits_volume left volume) (cell.replicas volume);
+  idle = idle_until cell left;
+}
+
+-- ---- what other lines do
+
+-- the line mounts no disk of an actor that it makes: it makes none, or is refused, since the actor is there or there is no room
+abbrev pub mounts_none : StoredCell → Line → Bool
+mounts_none cell (line.Volume volume servers area) = is_some (no_volume cell volume (area_of area))
+mounts_none cell (line.Client client blocks area) = is_some (no_client cell client (area_of area))
+mounts_none cell said = true
+
+-- What was made is as it was, and where it was; whoever is yet to be made again has the history that it had, on a disk that is as it was; and
+-- each actor asks for the header that it asked for.
+pub record StayAsleep (left : List Awaited) (new old : StoredCell) : Type 0 where
+  pub sizes : new.made.sizes ≡ old.made.sizes
+  pub homes : new.made.homes ≡ old.made.homes
+  pub servers : new.made.servers ≡ old.made.servers
+  pub areas : new.areas ≡ old.areas
+  pub places : new.places ≡ old.places
+  pub clients : (client : ℕ) → awaits_client left client ≡ true → (new.made.acted.clients client ≡ old.made.acted.clients client) × (new.clients client ≡ old.clients client)
+  pub replicas : (server volume : ℕ) → awaits_volume left volume ≡ true → (new.made.acted.replicas server volume ≡ old.made.acted.replicas server volume) × (new.replicas volume ≡ old.replicas volume)
+  pub clients_ask : (client : ℕ) → (new.clients client).asked ≡ (old.clients client).asked
+  pub replicas_ask : (volume : ℕ) → (new.replicas volume).asked ≡ (old.replicas volume).asked
+
+-- Before these lines came, another one does what it does in the cell as it is seen; in the cell that is whole it happens as it does there, or is
+-- refused and nothing changes, since it names one that is yet to be made again; and these stay asleep.
+pub record Meanwhile (old : StoredCell) (left : List Awaited) (said : Line) (reply : Reply) (outside : List (List ℕ)) (new : StoredCell) : Type 0 where
+  pub does : Happens (seen old left) said reply outside (seen new left)
+  pub happens : Happens old said reply outside new ⊎ (new ≡ old)
+  pub stays : StayAsleep left new old
+
+-- ---- what holds of a cell that is seen
+
+-- what is known of the disk of a client: where no line made it, that nobody asks for it
+abbrev pub IsClientSeen : ℕ → Option ℕ → Actor ClientEntry → Side → Type 0
+IsClientSeen client None actor side = side.asked ≡ None
+IsClientSeen client (Some blocks) actor side = IsClientSide client (Some blocks) actor side
+
+-- the same of the replica of a volume
+abbrev pub IsReplicaSeen : ℕ → Option ℕ → (ℕ → Actor ReplicaEntry) → Side → Type 0
+IsReplicaSeen volume None actors side = side.asked ≡ None
+IsReplicaSeen volume (Some server) actors side = IsReplicaSide volume (Some server) actors side
+
+-- What holds of a cell as it is seen, and of one that is kept: the histories are sound, also of actors that no line made yet; and of those
+-- that one made, what holds of a cell that is kept.
+pub record IsSeen (cell : StoredCell) : Type 0 where
+  pub replicas_up : (server volume : ℕ) → (cell.made.acted.replicas server volume).up ≡ true → (cell.made.acted.replicas server volume).failed ≡ None
+  pub sound : (joins : Joins) → IsSound (whole cell.made joins).acted
+  pub clients : (client : ℕ) → IsClientSeen client (cell.made.sizes client) (cell.made.acted.clients client) (cell.clients client)
+  pub replicas : (volume : ℕ) → IsReplicaSeen volume (cell.made.homes volume) (λ server. cell.made.acted.replicas server volume) (cell.replicas volume)
+  pub placed : (volume server : ℕ) → cell.made.homes volume ≡ Some server → (before : ℕ) × (cell.places volume ≡ disk_number before server)
+  pub apart : (volume other server home : ℕ) → cell.made.homes volume ≡ Some server → cell.made.homes other ≡ Some home → cell.places volume ≡ cell.places other → volume ≡ other
+  pub alone : (server volume : ℕ) (entry : ReplicaEntry) → In entry (found true (cell.made.acted.replicas server volume)) → IsDecision entry
+
+-- What holds of lines that come between: each that mounts no disk of an actor that it makes does in the cell that is whole what it does in the cell as it is seen, or
+-- nothing; what it leaves is kept, and begins with the histories that there were; and the lines that are to come can make their actors again.
+pub record LinesComeBetween : Type 0 where
+  pub happens : (old mid : StoredCell) (left : List Awaited) (said : Line) (reply : Reply) (outside : List (List ℕ)) → mounts_none (seen old left) said ≡ true → Happens (seen old left) said reply outside mid
+      → (new : StoredCell) × (mid ≡ seen new left) × Meanwhile old left said reply outside new
+  pub kept : (old new : StoredCell) (left : List Awaited) (said : Line) (reply : Reply) (outside : List (List ℕ)) → IsStoredKept old → InRange said → Meanwhile old left said reply outside new → IsStoredKept new
+  pub begins : (old new : StoredCell) (left : List Awaited) (said : Line) (reply : Reply) (outside : List (List ℕ)) → Meanwhile old left said reply outside new → Begins new old
+  pub awaited : (old new : StoredCell) (volumes areas : ℕ) (left : List Awaited) (said : Line) (reply : Reply) (outside : List (List ℕ)) → AreAwaited old volumes areas left → Meanwhile old left said reply outside new
+      → AreAwaited new volumes areas left
