@@ -37,7 +37,13 @@ fn is_carried_out<B: Bay>(alloc: Global, cell: &mut TracedCell<B>, line: &[u8]) 
     let Ok(Some(said)) = read_line(alloc, line) else {
         return false;
     };
-    is_built(&said) && cell.step(&said).is_ok()
+    if !is_built(&said) {
+        return false;
+    }
+    match cell.step(&said) {
+        Ok(_) => true,
+        Err(_) => false,
+    }
 }
 
 // Carries out the script. Were all its lines answered?
