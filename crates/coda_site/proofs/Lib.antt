@@ -28,4 +28,6 @@ pub mod ResumedVolumes
 pub mod Resting
 pub mod SeenSites
 pub mod Newcomers
+pub mod NewVolumes
+pub mod NewLines
 pub mod Counting

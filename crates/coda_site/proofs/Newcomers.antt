@@ -14,20 +14,42 @@ use Rattle.coda_stored.specs.Kept.{IsArea, IsClientSide, IsStoredKept}
 use Rattle.coda_stored.specs.Lines.{Unless, Opens, no_client, with_client, refused_fault}
 use Rattle.coda_stored.proofs.Keeping.{stored_cells_are_kept}
 use Rattle.coda_site.specs.Cells.{AreOnDisks}
-use Rattle.coda_site.specs.NewClients.{with_new_client, NewClientsMayCome}
+use Rattle.coda_site.specs.NewActors.{with_new_client, NewClientsMayCome}
 
-module _ (cell : StoredCell) (client blocks area : ℕ) (kept : IsStoredKept cell) (absent : cell.made.sizes client ≡ None) (room : cell.areas + area ≤ 512) where
+-- a cell in which so many MiB are mounted: no matter how many, it is kept
+abbrev pub mounted : StoredCell → ℕ → StoredCell
+mounted cell areas = record cell { areas = areas }
+
+pub kept_mounted : (cell : StoredCell) (areas : ℕ) → IsStoredKept cell → IsStoredKept (mounted cell areas)
+kept_mounted cell areas kept = record {
+  clients_up = kept.clients_up;
+  replicas_up = kept.replicas_up;
+  kept = kept.kept;
+  clients = kept.clients;
+  replicas = kept.replicas;
+  placed = kept.placed;
+  apart = kept.apart;
+  idle = kept.idle;
+  alone = kept.alone;
+}
+
+module _ (cell : StoredCell) (client blocks area : ℕ) (kept : IsStoredKept cell) (absent : cell.made.sizes client ≡ None) where
   abbrev side : Side
   side = record { given = None; asked = Some (client_header client blocks area); left = None }
 
+  -- nothing else is mounted
+  abbrev bare : StoredCell
+  bare = mounted cell 0
+
   -- the line that made it, whose disk failed
-  none_refused : no_client cell client area ≡ None
-  none_refused = (let fits : nat_lt 512 (cell.areas + area) ≡ false = grind (arith, nat_tests, room) in λ i. no_room (is_some (absent i)) (fits i))
+  none_refused : IsArea area → no_client bare client area ≡ None
+  none_refused sized = (let few = sized.1 in let fits : nat_lt 512 (0 + area) ≡ false = grind (arith, nat_tests, few) in λ i. no_room (is_some (absent i)) (fits i))
 
   came_kept : 1 ≤ client → client < 256 → 1 ≤ blocks → blocks ≤ 32768 → IsArea area → IsStoredKept (with_new_client cell client blocks area)
-  came_kept one under some few sized = stored_cells_are_kept.lines cell (with_new_client cell client blocks area) (line.Client client blocks (Some area)) refused_fault [] kept ((one, omega (arith, under)), (some, few), sized)
-      (subst (λ o. Unless cell o (Opens cell (client_header client blocks area) (with_client cell client blocks area) (TheClient client)) refused_fault [] (with_new_client cell client blocks area)) (sym none_refused)
-      (refl, inr (None, inl refl, refl, refl)))
+  came_kept one under some few sized = kept_mounted (with_new_client bare client blocks area) (cell.areas + area)
+      (stored_cells_are_kept.lines bare (with_new_client bare client blocks area) (line.Client client blocks (Some area)) refused_fault [] (kept_mounted cell 0 kept) ((one, omega (arith, under)), (some, few), sized)
+      (subst (λ o. Unless bare o (Opens bare (client_header client blocks area) (with_client bare client blocks area) (TheClient client)) refused_fault [] (with_new_client bare client blocks area)) (sym (none_refused sized))
+      (refl, inr (None, inl refl, refl, refl))))
 
   fresh : IsClientSide client None (cell.made.acted.clients client) (cell.clients client)
   fresh = subst (λ (o : Option ℕ). IsClientSide client o (cell.made.acted.clients client) (cell.clients client)) absent (kept.clients client)
@@ -47,5 +69,5 @@ module _ (cell : StoredCell) (client blocks area : ℕ) (kept : IsStoredKept cel
   }
 
 pub new_clients_may_come : {D : Type 0} (told : D → Told) (has : ℕ → Told) → NewClientsMayCome told has
-new_clients_may_come told has cell client blocks area kept absent one under some few sized room disks =
-    (came_kept cell client blocks area kept absent room one under some few sized, came_on_disks cell client blocks area kept absent room told has disks)
+new_clients_may_come told has cell client blocks area kept absent one under some few sized disks =
+    (came_kept cell client blocks area kept absent one under some few sized, came_on_disks cell client blocks area kept absent told has disks)

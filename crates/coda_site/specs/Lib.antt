@@ -7,4 +7,4 @@ pub mod Drains
 pub mod Makings
 pub mod Awaiting
 pub mod Totals
-pub mod NewClients
+pub mod NewActors
