@@ -12,3 +12,4 @@ pub mod Seeing
 pub mod Sleeping
 pub mod Meanwhile
 pub mod Between
+pub mod Absent

@@ -5,3 +5,4 @@ pub mod Kept
 pub mod Laws
 pub mod Resuming
 pub mod Seen
+pub mod Absent

@@ -1,6 +1,7 @@
 //! A cell whose actors stand on disks: what each line does in it, wherever a disk fails or has no room, and what holds of all its runs.
 #![tactic(auto)]
 
+ghost use Rattle.coda_stored.specs.Absent.{AbsentActorsAreRefused};
 ghost use Rattle.coda_stored.specs.Resuming.{CellsAreResumed};
 ghost use Rattle.coda_stored.specs.Seen.{LinesComeBetween};
 ghost use Rattle.coda_stored.specs.Laws.{StoredCellsAreKept, StoredCellsArePromised, EntriesStay, ClientsAreRecovered, ReplicasAreRecovered};
@@ -43,4 +44,10 @@ pub fn cells_are_resumed()
 /// only those were made that came so far; whoever is yet to come stays as the earlier run left it, and can still be made again.
 pub fn lines_come_between()
     ensures { LinesComeBetween }
+{}
+
+/// A law of later runs: a line that names an actor who is yet to be made again is refused as one that names an actor who was
+/// never made: for the leftmost such actor, by its number, and nothing changes.
+pub fn absent_actors_are_refused()
+    ensures { AbsentActorsAreRefused }
 {}
