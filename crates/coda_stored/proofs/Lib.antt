@@ -13,3 +13,4 @@ pub mod Sleeping
 pub mod Meanwhile
 pub mod Between
 pub mod Absent
+pub mod Makers

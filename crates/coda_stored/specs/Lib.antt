@@ -6,3 +6,4 @@ pub mod Laws
 pub mod Resuming
 pub mod Seen
 pub mod Absent
+pub mod Makers

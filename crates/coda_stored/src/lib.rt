@@ -2,6 +2,7 @@
 #![tactic(auto)]
 
 ghost use Rattle.coda_stored.specs.Absent.{AbsentActorsAreRefused};
+ghost use Rattle.coda_stored.specs.Makers.{MakersMakeAgain};
 ghost use Rattle.coda_stored.specs.Resuming.{CellsAreResumed};
 ghost use Rattle.coda_stored.specs.Seen.{LinesComeBetween};
 ghost use Rattle.coda_stored.specs.Laws.{StoredCellsAreKept, StoredCellsArePromised, EntriesStay, ClientsAreRecovered, ReplicasAreRecovered};
@@ -50,4 +51,11 @@ pub fn lines_come_between()
 /// never made: for the leftmost such actor, by its number, and nothing changes.
 pub fn absent_actors_are_refused()
     ensures { AbsentActorsAreRefused }
+{}
+
+/// A law of later runs: a line that mounts the disk of an actor that it makes is the very line that makes it again in a later
+/// run, and any other leaves the actors that there were; whoever was made is down when a later run begins; and where nobody is
+/// yet to come, a cell is seen as it is.
+pub fn makers_make_again()
+    ensures { MakersMakeAgain }
 {}
