@@ -14,3 +14,4 @@ pub mod Meanwhile
 pub mod Between
 pub mod Absent
 pub mod Makers
+pub mod Patient

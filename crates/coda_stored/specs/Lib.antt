@@ -7,3 +7,4 @@ pub mod Resuming
 pub mod Seen
 pub mod Absent
 pub mod Makers
+pub mod Patient

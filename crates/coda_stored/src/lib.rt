@@ -3,6 +3,7 @@
 
 ghost use Rattle.coda_stored.specs.Absent.{AbsentActorsAreRefused};
 ghost use Rattle.coda_stored.specs.Makers.{MakersMakeAgain};
+ghost use Rattle.coda_stored.specs.Patient.{ThoseToComeStay};
 ghost use Rattle.coda_stored.specs.Resuming.{CellsAreResumed};
 ghost use Rattle.coda_stored.specs.Seen.{LinesComeBetween};
 ghost use Rattle.coda_stored.specs.Laws.{StoredCellsAreKept, StoredCellsArePromised, EntriesStay, ClientsAreRecovered, ReplicasAreRecovered};
@@ -58,4 +59,10 @@ pub fn absent_actors_are_refused()
 /// yet to come, a cell is seen as it is.
 pub fn makers_make_again()
     ensures { MakersMakeAgain }
+{}
+
+/// A law of later runs: whoever is yet to come stays as the earlier run left it, by its history and on its disk, behind a line
+/// that makes another actor again and behind any that comes between.
+pub fn those_to_come_stay()
+    ensures { ThoseToComeStay }
 {}
