@@ -1,7 +1,7 @@
 -- The lines that mount disks are those that make actors again.
-use Rattle.std.proofs.Common.{◌≡◌, ℕ, ◌&&◌, ◌||◌, ◌+◌, ◌-◌, ◌≤◌, ◌<◌, Bool, true, false, cond, List, [], ◌∷◌, length, take, Option, Some, None, is_some, refl, sym, ap, ◌∙◌, subst, inl, inr, arith}
+use Rattle.std.proofs.Common.{◌≡◌, ℕ, ◌==◌, ◌&&◌, ◌||◌, ◌+◌, ◌-◌, ◌≤◌, ◌<◌, Bool, true, false, cond, List, [], ◌∷◌, length, take, Option, Some, None, is_some, refl, sym, ap, ◌∙◌, subst, inl, inr, arith}
 use Rattle.std.specs.Prelude.{nat_le, nat_lt}
-use Rattle.std.proofs.lemmas.Bool.{eq-eqb}
+use Rattle.std.proofs.lemmas.Bool.{eq-eqb, eqb-true, and_parts}
 use Rattle.std.proofs.lemmas.Bool.Decides.{nat_tests}
 use Rattle.std.proofs.Math.Seq.{take-length}
 use Rattle.coda_plain.specs.Cell.{Actor}
@@ -15,7 +15,7 @@ use Rattle.coda_cell.specs.State.{put}
 use Rattle.coda_cell.specs.Steps.{no_room}
 use Rattle.coda_stored.specs.Cells.{Side, StoredCell, client_header, replica_header, disk_number}
 use Rattle.coda_stored.specs.Lines.{is_built, area_of, no_volume, no_client, with_volume, with_client, Becoming, Unless, Opens, Happens}
-use Rattle.coda_stored.specs.Makers.{IsUnknown, AreThoseThatWere, MakersMakeAgain}
+use Rattle.coda_stored.specs.Makers.{IsUnknown, IsSaid, AreThoseThatWere, MakersMakeAgain}
 use Rattle.coda_stored.specs.Resuming.{stopped, forgotten, at_rest, Awaited, ClientAgain, VolumeAgain, is_awaited, AsksAgain, AreAwaited}
 use Rattle.coda_stored.specs.Seen.{seen, mounts_none, StayAsleep}
 use Rattle.coda_stored.proofs.Between.{lines_come_between}
@@ -157,6 +157,22 @@ others old new said reply outside none does =
     let stays : StayAsleep [] found.0 old = found.2.stays in
     subst (λ (c : StoredCell). AreThoseThatWere c old) (sym same) (record { sizes = stays.sizes; homes = stays.homes; servers = stays.servers; areas = stays.areas; places = stays.places })
 
+-- ---- a line that is awaited
+
+says : (awaited : Awaited) (said : Line) → is_awaited awaited said ≡ true → IsSaid awaited said
+says (ClientAgain client blocks area) (line.Client number cache size) is =
+    let first = and_parts (number == client) ((cache == blocks) && (area_of size == area)) is in
+    let rest = and_parts (cache == blocks) (area_of size == area) first.1 in
+    (size, (λ i. line.Client (eqb-true number client first.0 i) (eqb-true cache blocks rest.0 i) size), eqb-true (area_of size) area rest.1)
+says (ClientAgain client blocks area) said is = cc
+says (VolumeAgain volume server area) (line.Volume number (home ∷ []) size) is =
+    let first = and_parts (number == volume) ((home == server) && (area_of size == area)) is in
+    let rest = and_parts (home == server) (area_of size == area) first.1 in
+    (size, (λ i. line.Volume (eqb-true number volume first.0 i) (eqb-true home server rest.0 i ∷ []) size), eqb-true (area_of size) area rest.1)
+says (VolumeAgain volume server area) (line.Volume number [] size) is = cc
+says (VolumeAgain volume server area) (line.Volume number (home ∷ other ∷ homes) size) is = cc
+says (VolumeAgain volume server area) said is = cc
+
 -- ---- who was made is down
 
 stops : {E : Type 0} (o : Option ℕ) (made : ℕ) (actor : Actor E) → o ≡ Some made → (stopped o actor).up ≡ false
@@ -167,6 +183,7 @@ pub makers_make_again : MakersMakeAgain
 makers_make_again = record {
   makes = λ old new said reply outside built mounts does. makes old new reply outside said built mounts does;
   others = others;
+  says = says;
   clients_rest = λ cell client blocks there. stops (cell.made.sizes client) blocks (cell.made.acted.clients client) there;
   replicas_rest = λ cell server volume home there. stops (cell.made.homes volume) home (cell.made.acted.replicas server volume) there;
   whole = whole_seen;

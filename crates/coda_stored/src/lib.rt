@@ -55,8 +55,8 @@ pub fn absent_actors_are_refused()
 {}
 
 /// A law of later runs: a line that mounts the disk of an actor that it makes is the very line that makes it again in a later
-/// run, and any other leaves the actors that there were; whoever was made is down when a later run begins; and where nobody is
-/// yet to come, a cell is seen as it is.
+/// run, and any other leaves the actors that there were; a line that is awaited says what is awaited; whoever was made is
+/// down when a later run begins; and where nobody is yet to come, a cell is seen as it is.
 pub fn makers_make_again()
     ensures { MakersMakeAgain }
 {}
