@@ -2,21 +2,49 @@
 ghost use Rattle.std.specs.Prelude.{◌≡◌, ◌<◌, ◌^◌, IfOk};
 ghost use Rattle.coda_tree.specs.Blocks.{blocks_of};
 
-use crate::compare::Bench;
-use crate::words::{
-    number, object, objects, optional_object, put, put_number, put_objects, put_optional, small,
-    tiny, word,
-};
+use crate::answer::{Answer, Bench};
+use crate::words::{named, object, objects, optional_object, small, tiny};
 use coda_cache::{Cache, CacheFault};
 use coda_fid::{Bytes, Fid, Sid};
 use coda_tree::{Node, NodeKind};
 use std::alloc::{AllocError, Global};
 
-/// What the calls are on.
-#[derive(Drop)]
-pub struct Cached {
-    cache: Cache,
+#[derive(Clone, Copy)]
+enum Call {
+    New,
+    Put,
+    Touch,
+    Pin,
+    PinIn,
+    Invalidate,
+    InvalidateFrom,
+    Remove,
+    DropAll,
+    EvictFor,
+    Told,
+    Source,
+    Rows,
+    Recency,
+    Below,
 }
+
+const CALLS: &[(&str, Call)] = &[
+    ("new", Call::New),
+    ("put", Call::Put),
+    ("touch", Call::Touch),
+    ("pin", Call::Pin),
+    ("pin-in", Call::PinIn),
+    ("invalidate", Call::Invalidate),
+    ("invalidate-from", Call::InvalidateFrom),
+    ("remove", Call::Remove),
+    ("drop-all", Call::DropAll),
+    ("evict-for", Call::EvictFor),
+    ("told", Call::Told),
+    ("source", Call::Source),
+    ("rows", Call::Rows),
+    ("recency", Call::Recency),
+    ("below", Call::Below),
+];
 
 // A link, which takes one block.
 fn link(alloc: Global) -> Result<Node, AllocError>
@@ -36,113 +64,100 @@ fn link(alloc: Global) -> Result<Node, AllocError>
     })
 }
 
-impl Cached {
-    /// A cache of so many blocks.
-    pub fn new(alloc: Global, size: u32) -> Result<Cached, AllocError> {
-        let cache = Cache::new(alloc, size)?;
-        Ok(Cached { cache })
-    }
-
-    // `put OBJECT UNDER`, as server 1 has it.
-    fn put(&mut self, alloc: Global, words: &[&str]) -> Result<(), AllocError> {
-        let link = link(alloc)?;
-        self.cache
-            .put(object(words, 1), optional_object(words, 2), link, Some(1))
-    }
-
-    // `evict-for OBJECT UNDER BLOCKS KEPT..`: who goes, or `full` with the fault's numbers.
-    fn evict_for(&self, alloc: Global, words: &[&str], out: &mut String) -> Result<(), AllocError> {
-        let keep = objects(alloc, words, 4)?;
-        let (fid, under, blocks) = (object(words, 1), optional_object(words, 2), small(words, 3));
-        match self.cache.evict_for(fid, under, blocks, &keep) {
-            Ok(gone) => {
-                put(out, "gone")?;
-                put_objects(out, &gone)
-            }
-            Err(CacheFault::CacheFull(pinned, further, size)) => {
-                put(out, "full")?;
-                put_number(out, pinned)?;
-                put_number(out, further)?;
-                put_number(out, size)
-            }
-            Err(CacheFault::Memory) => Err(AllocError),
-        }
-    }
-
-    // `told OBJECT`: whether it is cached, whether it is dirty, and what it stands under.
-    fn told(&self, fid: Fid, out: &mut String) -> Result<(), AllocError> {
-        let (found, dirty) = (self.cache.contains(fid), self.cache.is_dirty(fid));
-        put(out, if found { "cached" } else { "none" })?;
-        put(out, if dirty { "dirty" } else { "clean" })?;
-        put_optional(out, self.cache.parent(fid))
-    }
-
-    // Calls that only read.
-    fn read(&self, alloc: Global, words: &[&str], out: &mut String) -> Result<(), AllocError> {
-        match word(words, 0) {
-            "evict-for" => self.evict_for(alloc, words, out),
-            "told" => self.told(object(words, 1), out),
-            "source" => match self.cache.source(object(words, 1)) {
-                Some(server) => put_number(out, u64::from(server)),
-                None => put(out, "-"),
-            },
-            "rows" => put_number(out, self.cache.rows()?.len() as u64),
-            "recency" => {
-                put(out, "used")?;
-                put_objects(out, &self.cache.recency()?)
-            }
-            "below" => {
-                put(out, "below")?;
-                put_objects(out, &self.cache.at_or_below(object(words, 1))?)
-            }
-            _ => put(out, "no call"),
-        }
+// `new SIZE`.
+fn renew(cache: &mut Cache, size: u32, out: &Answer) {
+    if let Ok(made) = Cache::new(out.alloc, size) {
+        *cache = made;
     }
 }
 
-impl Bench for Cached {
-    fn answer(
-        &mut self,
-        alloc: Global,
-        words: &[&str],
-        out: &mut String,
-    ) -> Result<(), AllocError> {
-        match word(words, 0) {
-            "new" => {
-                *self = Cached::new(alloc, small(words, 1))?;
-                Ok(())
-            }
-            "put" => self.put(alloc, words),
-            "touch" => {
-                self.cache.touch(object(words, 1));
-                Ok(())
-            }
-            "pin" => {
-                self.cache.pin(&objects(alloc, words, 1)?);
-                Ok(())
-            }
-            "pin-in" => {
-                self.cache
-                    .pin_in(small(words, 1), &objects(alloc, words, 2)?);
-                Ok(())
-            }
-            "invalidate" => {
-                let was = self.cache.invalidate(object(words, 1));
-                put(out, if was { "valid" } else { "none" })
-            }
-            "invalidate-from" => {
-                self.cache.invalidate_from(small(words, 1), tiny(words, 2));
-                Ok(())
-            }
-            "remove" => {
-                self.cache.remove(object(words, 1));
-                Ok(())
-            }
-            "drop-all" => {
-                self.cache.drop_all(&objects(alloc, words, 1)?);
-                Ok(())
-            }
-            _ => self.read(alloc, words, out),
+// `put OBJECT UNDER`, as server 1 has it.
+fn put(cache: &mut Cache, fid: Fid, under: Option<Fid>, out: &mut Answer) {
+    if let Ok(link) = link(out.alloc) {
+        out.note(cache.put(fid, under, link, Some(1)));
+    }
+}
+
+// `evict-for OBJECT UNDER BLOCKS KEPT..`: who goes, or `full` with the fault's numbers.
+fn evict_for(cache: &Cache, call: &str, out: &mut Answer) {
+    let (fid, under, blocks) = (object(call, 1), optional_object(call, 2), small(call, 3));
+    match cache.evict_for(fid, under, blocks, &objects(out.alloc, call, 4)) {
+        Ok(gone) => {
+            out.put("gone");
+            out.put_objects(&gone);
+        }
+        Err(CacheFault::CacheFull(pinned, further, size)) => {
+            out.put_counted("full", pinned);
+            out.put_number(further);
+            out.put_number(size);
+        }
+        Err(CacheFault::Memory) => out.put("no memory"),
+    }
+}
+
+// `told OBJECT`: whether it is cached, whether it is dirty, and what it stands under.
+fn put_told(cache: &Cache, fid: Fid, out: &mut Answer) {
+    out.put(if cache.contains(fid) {
+        "cached"
+    } else {
+        "none"
+    });
+    out.put(if cache.is_dirty(fid) {
+        "dirty"
+    } else {
+        "clean"
+    });
+    out.put_optional(cache.parent(fid));
+}
+
+// `source OBJECT`.
+fn put_source(cache: &Cache, fid: Fid, out: &mut Answer) {
+    match cache.source(fid) {
+        Some(server) => out.put_number(u64::from(server)),
+        None => out.put("-"),
+    }
+}
+
+// Puts a word, and objects behind it.
+fn put_all(out: &mut Answer, word: &str, found: Result<Vec<Fid>, AllocError>) {
+    if let Ok(fids) = found {
+        out.put(word);
+        out.put_objects(&fids);
+    }
+}
+
+// Calls that only read.
+fn ask(cache: &Cache, asked: Call, call: &str, out: &mut Answer) {
+    let fid = object(call, 1);
+    match asked {
+        Call::EvictFor => evict_for(cache, call, out),
+        Call::Told => put_told(cache, fid, out),
+        Call::Source => put_source(cache, fid, out),
+        Call::Rows => out.put_number(cache.rows().map_or(0, |rows| rows.len() as u64)),
+        Call::Recency => put_all(out, "used", cache.recency()),
+        _ => put_all(out, "below", cache.at_or_below(fid)),
+    }
+}
+
+impl Bench for Cache {
+    fn answer(&mut self, call: &str, out: &mut Answer) {
+        let fid = object(call, 1);
+        match named(CALLS, call) {
+            Some(Call::New) => renew(self, small(call, 1), out),
+            Some(Call::Put) => put(self, fid, optional_object(call, 2), out),
+            Some(Call::Touch) => self.touch(fid),
+            Some(Call::Pin) => self.pin(&objects(out.alloc, call, 1)),
+            Some(Call::PinIn) => self.pin_in(small(call, 1), &objects(out.alloc, call, 2)),
+            Some(Call::Invalidate) => out.put(if self.invalidate(fid) {
+                "valid"
+            } else {
+                "none"
+            }),
+            Some(Call::InvalidateFrom) => self.invalidate_from(small(call, 1), tiny(call, 2)),
+            Some(Call::Remove) => self.remove(fid),
+            Some(Call::DropAll) => self.drop_all(&objects(out.alloc, call, 1)),
+            Some(asked) => ask(self, asked, call, out),
+            None => out.put("no call"),
         }
     }
 }

@@ -1,104 +1,115 @@
 // Calls on a disk in memory.
-use crate::compare::Bench;
-use crate::words::{bytes, number, put, put_bytes, put_number, word};
-use coda_disk::{Bay, BayFault, Disk, DiskFault, Image, MemBay, MemDisk};
+use crate::answer::{Answer, Bench};
+use crate::words::{bytes, named, number};
+use coda_disk::{Bay, BayFault, Disk, DiskFault, MemBay, MemDisk};
 use std::alloc::{AllocError, Global};
+use std::mem;
 
-/// What the calls are on.
-#[derive(Drop)]
-pub struct Platter {
-    disk: MemDisk,
+#[derive(Clone, Copy)]
+enum Call {
+    New,
+    Write,
+    Sync,
+    Cut,
+    Size,
+    Read,
+    Image,
+    Crash,
+    Arm,
+    Faults,
+    Arms,
+}
+
+const CALLS: &[(&str, Call)] = &[
+    ("new", Call::New),
+    ("write", Call::Write),
+    ("sync", Call::Sync),
+    ("cut", Call::Cut),
+    ("size", Call::Size),
+    ("read", Call::Read),
+    ("image", Call::Image),
+    ("crash", Call::Crash),
+    ("arm", Call::Arm),
+    ("faults", Call::Faults),
+    ("arms", Call::Arms),
+];
+
+/// An empty disk.
+pub fn empty(alloc: Global) -> Result<MemDisk, AllocError> {
+    MemDisk::new(alloc, Vec::new(alloc), Vec::new(alloc))
 }
 
 // Puts what a call of the disk says.
-fn put_done(out: &mut String, done: Result<(), DiskFault>) -> Result<(), AllocError> {
-    match done {
-        Ok(()) => Ok(()),
-        Err(DiskFault) => put(out, "fault"),
+fn put_done(out: &mut Answer, done: Result<(), DiskFault>) {
+    if done.is_err() {
+        out.put("fault");
     }
 }
 
-// `read`: what a disk of at most 16 bytes has.
-fn put_contents(disk: &mut MemDisk, out: &mut String) -> Result<(), AllocError> {
+// `new FAILING BYTES`: a disk that has these bytes, and of which that call fails.
+fn renew(disk: &mut MemDisk, call: &str, out: &Answer) {
+    let mut failing = Vec::new(out.alloc);
+    let _ = failing.push(number(call, 1));
+    if let Ok(made) = MemDisk::new(out.alloc, bytes(out.alloc, call, 2), failing) {
+        *disk = made;
+    }
+}
+
+// `size`.
+fn put_size(disk: &mut MemDisk, out: &mut Answer) {
+    match disk.size() {
+        Ok(size) => out.put_number(size),
+        Err(DiskFault) => out.put("fault"),
+    }
+}
+
+/// `read`: what a disk of at most 16 bytes has.
+pub fn put_contents<D: Disk>(disk: &mut D, out: &mut Answer) {
     let mut found = [0; 16];
     match disk.read(0, &mut found) {
-        Ok(count) => put_bytes(out, found.get(..count).unwrap_or(&[])),
-        Err(DiskFault) => put(out, "fault"),
+        Ok(count) => out.put_bytes(found.get(..count).unwrap_or(&[])),
+        Err(DiskFault) => out.put("fault"),
     }
 }
 
-// Puts the images that a bay tells of.
-fn put_images(out: &mut String, images: &[Image]) -> Result<(), AllocError> {
-    for image in images {
-        put_bytes(out, image.bytes())?;
-    }
-    Ok(())
-}
-
-impl Platter {
-    /// An empty disk.
-    pub fn new(alloc: Global) -> Result<Platter, AllocError> {
-        let disk = MemDisk::new(alloc, Vec::new(alloc), Vec::new(alloc))?;
-        Ok(Platter { disk })
-    }
-
-    // `new FAILING BYTES`: a disk that has these bytes, and of which that call fails.
-    fn renew(&mut self, alloc: Global, words: &[&str]) -> Result<(), AllocError> {
-        let mut failing = Vec::new(alloc);
-        failing.push(number(words, 1))?;
-        self.disk = MemDisk::new(alloc, bytes(alloc, words, 2)?, failing)?;
-        Ok(())
-    }
-
-    // `crash CHOICE`: the image that the bay tells of. What it leaves is the disk then.
-    fn crash(&mut self, alloc: Global, choice: u64, out: &mut String) -> Result<(), AllocError> {
-        let empty = MemDisk::new(alloc, Vec::new(alloc), Vec::new(alloc))?;
-        let disk = std::mem::replace(&mut self.disk, empty);
-        let mut bay = MemBay::new(alloc, Vec::new(alloc));
-        match bay.crash(disk, choice) {
-            Ok(left) => {
-                self.disk = left;
-            }
-            Err(BayFault) => return put(out, "bay fault"),
-        }
-        put_images(out, bay.images())
-    }
-
-    // `size`.
-    fn size(&mut self, out: &mut String) -> Result<(), AllocError> {
-        match self.disk.size() {
-            Ok(size) => put_number(out, size),
-            Err(DiskFault) => put(out, "fault"),
-        }
+// `image CHOICE`.
+fn put_image(disk: &MemDisk, choice: u64, out: &mut Answer) {
+    if let Ok(image) = disk.image(choice) {
+        out.put_bytes(&image);
     }
 }
 
-impl Bench for Platter {
-    fn answer(
-        &mut self,
-        alloc: Global,
-        words: &[&str],
-        out: &mut String,
-    ) -> Result<(), AllocError> {
-        match word(words, 0) {
-            "new" => self.renew(alloc, words),
-            "write" => {
-                let bytes = bytes(alloc, words, 2)?;
-                put_done(out, self.disk.write_at(number(words, 1), &bytes))
-            }
-            "sync" => put_done(out, self.disk.sync()),
-            "cut" => put_done(out, self.disk.cut(number(words, 1))),
-            "size" => self.size(out),
-            "read" => put_contents(&mut self.disk, out),
-            "image" => put_bytes(out, &self.disk.image(number(words, 1))?),
-            "crash" => self.crash(alloc, number(words, 1), out),
-            "arm" => {
-                self.disk.arm(number(words, 1));
-                Ok(())
-            }
-            "faults" => put_number(out, self.disk.faults()),
-            "arms" => put_number(out, self.disk.arms()),
-            _ => put(out, "no call"),
+// `crash CHOICE`: the image that the bay tells of. What it leaves is the disk then.
+fn crash(disk: &mut MemDisk, choice: u64, out: &mut Answer) {
+    let Ok(empty) = empty(out.alloc) else {
+        return;
+    };
+    let mut bay = MemBay::new(out.alloc, Vec::new(out.alloc));
+    match bay.crash(mem::replace(disk, empty), choice) {
+        Ok(left) => *disk = left,
+        Err(BayFault) => out.put("bay fault"),
+    }
+    for image in bay.images() {
+        out.put_bytes(image.bytes());
+    }
+}
+
+impl Bench for MemDisk {
+    fn answer(&mut self, call: &str, out: &mut Answer) {
+        let first = number(call, 1);
+        match named(CALLS, call) {
+            Some(Call::New) => renew(self, call, out),
+            Some(Call::Write) => put_done(out, self.write_at(first, &bytes(out.alloc, call, 2))),
+            Some(Call::Sync) => put_done(out, self.sync()),
+            Some(Call::Cut) => put_done(out, self.cut(first)),
+            Some(Call::Size) => put_size(self, out),
+            Some(Call::Read) => put_contents(self, out),
+            Some(Call::Image) => put_image(self, first, out),
+            Some(Call::Crash) => crash(self, first, out),
+            Some(Call::Arm) => self.arm(first),
+            Some(Call::Faults) => out.put_number(self.faults()),
+            Some(Call::Arms) => out.put_number(self.arms()),
+            None => out.put("no call"),
         }
     }
 }

@@ -1,137 +1,93 @@
 // Calls on a hoard database.
-use crate::compare::Bench;
-use crate::words::{number, put, put_number, small, word};
+use crate::answer::{Answer, Bench};
+use crate::words::{named, number, small, word};
 use coda_fid::Path;
 use coda_hdb::{Expand, Hdb, HdbEntry, HdbFault};
-use std::alloc::{AllocError, Global};
 
-/// What the calls are on.
-#[derive(Drop)]
-pub struct Hoard {
-    database: Hdb,
+#[derive(Clone, Copy)]
+enum Call {
+    New,
+    Add,
+    AddAll,
+    Remove,
+    List,
+    Clear,
+    IsEmpty,
 }
 
-// Puts a fault.
-fn put_fault(out: &mut String, fault: HdbFault) -> Result<(), AllocError> {
-    match fault {
-        HdbFault::NoEntry => put(out, "no entry"),
-        HdbFault::HdbFull => put(out, "full"),
-        HdbFault::Memory => Err(AllocError),
+const CALLS: &[(&str, Call)] = &[
+    ("new", Call::New),
+    ("add", Call::Add),
+    ("add-all", Call::AddAll),
+    ("remove", Call::Remove),
+    ("list", Call::List),
+    ("clear", Call::Clear),
+    ("is-empty", Call::IsEmpty),
+];
+
+// Puts what the database says.
+fn put_done(out: &mut Answer, done: Result<(), HdbFault>) {
+    match done {
+        Ok(()) => {}
+        Err(HdbFault::NoEntry) => out.put("no entry"),
+        Err(HdbFault::HdbFull) => out.put("full"),
+        Err(HdbFault::Memory) => out.put("no memory"),
+    }
+}
+
+// Adds an entry.
+fn add(database: &mut Hdb, volume: u32, path: &str, priority: u16, out: &mut Answer) {
+    match Path::read(out.alloc, path.as_bytes()) {
+        Ok(path) => {
+            let entry = HdbEntry {
+                volume,
+                path,
+                priority,
+                expand: Expand::Children,
+            };
+            put_done(out, database.add(entry));
+        }
+        Err(_) => out.put("no path"),
+    }
+}
+
+// `add-all VOLUMES`: `/a` of each volume below this number.
+fn add_all(database: &mut Hdb, volumes: u32, out: &mut Answer) {
+    for volume in 0..volumes {
+        add(database, volume, "/a", 1, out);
+    }
+}
+
+// `remove VOLUME PATH`.
+fn remove(database: &mut Hdb, volume: u32, path: &str, out: &mut Answer) {
+    match Path::read(out.alloc, path.as_bytes()) {
+        Ok(path) => put_done(out, database.remove(volume, &path)),
+        Err(_) => out.put("no path"),
     }
 }
 
 // `list`: the priorities.
-fn put_priorities(out: &mut String, entries: &[HdbEntry]) -> Result<(), AllocError> {
-    put(out, "priorities")?;
-    for entry in entries {
-        put_number(out, u64::from(entry.priority))?;
-    }
-    Ok(())
-}
-
-impl Hoard {
-    /// An empty database.
-    pub fn new(alloc: Global) -> Hoard {
-        Hoard {
-            database: Hdb::new(alloc),
-        }
-    }
-
-    // Adds an entry.
-    fn add(
-        &mut self,
-        volume: u32,
-        path: Path,
-        priority: u16,
-        out: &mut String,
-    ) -> Result<(), AllocError> {
-        let entry = HdbEntry {
-            volume,
-            path,
-            priority,
-            expand: Expand::Children,
-        };
-        match self.database.add(entry) {
-            Ok(()) => Ok(()),
-            Err(fault) => put_fault(out, fault),
-        }
-    }
-
-    // `add VOLUME PATH PRIORITY`.
-    fn add_one(
-        &mut self,
-        alloc: Global,
-        words: &[&str],
-        out: &mut String,
-    ) -> Result<(), AllocError> {
-        let priority = number(words, 3).min(1_000) as u16;
-        match Path::read(alloc, word(words, 2).as_bytes()) {
-            Ok(path) => self.add(small(words, 1), path, priority, out),
-            Err(_) => put(out, "no path"),
-        }
-    }
-
-    // `add-all VOLUMES`: `/a` of each volume below this number.
-    fn add_all(
-        &mut self,
-        alloc: Global,
-        words: &[&str],
-        out: &mut String,
-    ) -> Result<(), AllocError> {
-        for volume in 0..small(words, 1) {
-            if let Ok(path) = Path::read(alloc, b"/a") {
-                self.add(volume, path, 1, out)?;
-            }
-        }
-        Ok(())
-    }
-
-    // `remove VOLUME PATH`.
-    fn remove(
-        &mut self,
-        alloc: Global,
-        words: &[&str],
-        out: &mut String,
-    ) -> Result<(), AllocError> {
-        let Ok(path) = Path::read(alloc, word(words, 2).as_bytes()) else {
-            return put(out, "no path");
-        };
-        match self.database.remove(small(words, 1), &path) {
-            Ok(()) => Ok(()),
-            Err(fault) => put_fault(out, fault),
+fn put_list(database: &Hdb, out: &mut Answer) {
+    out.put("priorities");
+    if let Ok(entries) = database.list() {
+        for entry in &entries {
+            out.put_number(u64::from(entry.priority));
         }
     }
 }
 
-impl Bench for Hoard {
-    fn answer(
-        &mut self,
-        alloc: Global,
-        words: &[&str],
-        out: &mut String,
-    ) -> Result<(), AllocError> {
-        match word(words, 0) {
-            "new" => {
-                *self = Hoard::new(alloc);
-                Ok(())
-            }
-            "add" => self.add_one(alloc, words, out),
-            "add-all" => self.add_all(alloc, words, out),
-            "remove" => self.remove(alloc, words, out),
-            "list" => put_priorities(out, &self.database.list()?),
-            "clear" => {
-                self.database.clear();
-                Ok(())
-            }
-            "is-empty" => put(
-                out,
-                if self.database.is_empty() {
-                    "empty"
-                } else {
-                    "filled"
-                },
-            ),
-            _ => put(out, "no call"),
+impl Bench for Hdb {
+    fn answer(&mut self, call: &str, out: &mut Answer) {
+        let (volume, path) = (small(call, 1), word(call, 2));
+        match named(CALLS, call) {
+            Some(Call::New) => *self = Hdb::new(out.alloc),
+            Some(Call::Add) => add(self, volume, path, number(call, 3).min(1_000) as u16, out),
+            Some(Call::AddAll) => add_all(self, volume, out),
+            Some(Call::Remove) => remove(self, volume, path, out),
+            Some(Call::List) => put_list(self, out),
+            Some(Call::Clear) => self.clear(),
+            Some(Call::IsEmpty) => out.put(if self.is_empty() { "empty" } else { "filled" }),
+            None => out.put("no call"),
         }
     }
 }

@@ -1,7 +1,7 @@
 // Calls on the journal of a disk in memory, that of the replica of volume 0x01020304 at server 3, of group 7, in
 // an area of 1 MiB.
-use crate::compare::Bench;
-use crate::words::{bytes, number, put, put_counted, word};
+use crate::answer::{Answer, Bench};
+use crate::words::{bytes, named, number, size};
 use coda_disk::{Disk, MemDisk};
 use coda_journal::{Frame, Header, Journal, Kind, MountFault};
 use std::alloc::{AllocError, Global};
@@ -22,52 +22,121 @@ pub struct Image {
     bytes: Vec<u8>,
 }
 
-// A disk.
-fn disk_of(alloc: Global, image: Vec<u8>) -> Result<MemDisk, AllocError> {
-    MemDisk::new(alloc, image, Vec::new(alloc))
+#[derive(Clone, Copy)]
+enum Call {
+    Image,
+    Front,
+    Other,
+    Zeros,
+    Append,
+    Make,
+}
+
+const CALLS: &[(&str, Call)] = &[
+    ("image", Call::Image),
+    ("front", Call::Front),
+    ("other", Call::Other),
+    ("zeros", Call::Zeros),
+    ("append", Call::Append),
+    ("make", Call::Make),
+];
+
+// A disk with these bytes.
+fn disk_of(alloc: Global, image: &[u8]) -> Result<MemDisk, AllocError> {
+    MemDisk::new(alloc, image.to_vec(alloc)?, Vec::new(alloc))
 }
 
 // Puts the place where a disk is foreign.
-fn put_fault(out: &mut String, fault: MountFault) -> Result<(), AllocError> {
+fn put_fault(out: &mut Answer, fault: MountFault) {
     match fault {
-        MountFault::Foreign(place) => put_counted(out, "foreign", place),
-        MountFault::DiskFault => put(out, "disk-fault"),
-        MountFault::Memory => Err(AllocError),
+        MountFault::Foreign(place) => out.put_counted("foreign", place),
+        MountFault::DiskFault => out.put("disk-fault"),
+        MountFault::Memory => out.put("no memory"),
     }
 }
 
-// Puts how many bytes are used and how many entries there are.
-fn put_found(out: &mut String, used: u64, count: usize) -> Result<(), AllocError> {
-    put_counted(out, "used", used)?;
-    put_counted(out, "entries", count as u64)
-}
-
-// Puts what there is on a disk, or where it is foreign.
-fn put_mounted(alloc: Global, image: Vec<u8>, out: &mut String) -> Result<(), AllocError> {
-    match Journal::mount(alloc, disk_of(alloc, image)?, &HEADER) {
-        Ok((journal, payloads)) => put_found(out, journal.used(), payloads.len()),
-        Err(unmounted) => put_fault(out, unmounted.why),
+// Puts how many bytes are used and how many entries there are on a disk, or where it is foreign.
+fn put_mounted(image: &[u8], out: &mut Answer) {
+    if let Ok(disk) = disk_of(out.alloc, image) {
+        match Journal::mount(out.alloc, disk, &HEADER) {
+            Ok((journal, payloads)) => {
+                out.put_counted("used", journal.used());
+                out.put_counted("entries", payloads.len() as u64);
+            }
+            Err(unmounted) => put_fault(out, unmounted.why),
+        }
     }
 }
 
-// Puts a word, and what there is on a disk.
-fn put_left(alloc: Global, word: &str, image: Vec<u8>, out: &mut String) -> Result<(), AllocError> {
-    put(out, word)?;
-    put_mounted(alloc, image, out)
+// Puts a word, and what there is on a disk after a crash.
+fn put_left(out: &mut Answer, word: &str, disk: &MemDisk, choice: u64) {
+    out.put(word);
+    if let Ok(image) = disk.image(choice) {
+        put_mounted(&image, out);
+    }
 }
 
 // `make PASSES CHOICE`: whether a disk is made anew that may make so many calls, and what it has after a crash.
-fn make(alloc: Global, words: &[&str], out: &mut String) -> Result<(), AllocError> {
-    let mut disk = disk_of(alloc, Vec::new(alloc))?;
-    disk.arm(number(words, 1));
-    match Journal::mount(alloc, disk, &HEADER) {
-        Ok(mount) => {
-            let image = mount.0.into_disk().image(number(words, 2))?;
-            put_left(alloc, "made", image, out)
+fn make(mut disk: MemDisk, call: &str, out: &mut Answer) {
+    disk.arm(number(call, 1));
+    match Journal::mount(out.alloc, disk, &HEADER) {
+        Ok(mount) => put_left(out, "made", &mount.0.into_disk(), number(call, 2)),
+        Err(unmounted) => put_left(out, "unmade", &unmounted.disk, number(call, 2)),
+    }
+}
+
+// Whether def is appended.
+fn is_appended(alloc: Global, journal: &mut Journal<MemDisk>) -> bool {
+    match Frame::new(alloc, b"def") {
+        Ok(frame) => journal.append(&frame).is_ok(),
+        Err(AllocError) => false,
+    }
+}
+
+// `append PASSES CHOICE`: whether def is appended where so many calls may be made, and what the disk has after a
+// crash.
+fn append(disk: MemDisk, call: &str, out: &mut Answer) {
+    match Journal::mount(out.alloc, disk, &HEADER) {
+        Ok((mut journal, _)) => {
+            journal.arm(number(call, 1));
+            let is_done = is_appended(out.alloc, &mut journal);
+            let word = if is_done { "done" } else { "fault" };
+            put_left(out, word, &journal.into_disk(), number(call, 2));
         }
-        Err(unmounted) => {
-            let image = unmounted.disk.image(number(words, 2))?;
-            put_left(alloc, "unmade", image, out)
+        Err(_) => out.put("not mounted"),
+    }
+}
+
+// `front SIZE`: the first bytes alone. `other PLACE`: the byte there is 3 more. `zeros COUNT`: so many zeros stand
+// behind it.
+fn change(image: &mut Vec<u8>, asked: Call, place: usize) {
+    match asked {
+        Call::Front => image.truncate(place),
+        Call::Other => {
+            if let Some(byte) = image.get_mut(place) {
+                *byte = byte.wrapping_add(3);
+            }
+        }
+        _ => {
+            let _ = image.resize(image.len().saturating_add(place), 0);
+        }
+    }
+}
+
+// Calls on the bytes with a change.
+fn ask_changed(image: &[u8], asked: Call, call: &str, out: &mut Answer) {
+    if let Ok(mut image) = image.to_vec(out.alloc) {
+        change(&mut image, asked, size(call, 1));
+        put_mounted(&image, out);
+    }
+}
+
+// Calls on a disk that has the bytes.
+fn ask_disk(image: &[u8], asked: Call, call: &str, out: &mut Answer) {
+    if let Ok(disk) = disk_of(out.alloc, image) {
+        match asked {
+            Call::Append => append(disk, call, out),
+            _ => make(disk, call, out),
         }
     }
 }
@@ -79,66 +148,16 @@ impl Image {
             bytes: Vec::new(alloc),
         }
     }
-
-    // `front SIZE`: the first bytes alone.
-    fn front(&self, alloc: Global, words: &[&str], out: &mut String) -> Result<(), AllocError> {
-        let size = number(words, 1).min(1_000) as usize;
-        let front = self.bytes.get(..size).unwrap_or(&[]).to_vec(alloc)?;
-        put_mounted(alloc, front, out)
-    }
-
-    // `other PLACE`: the byte there is 3 more.
-    fn other(&self, alloc: Global, words: &[&str], out: &mut String) -> Result<(), AllocError> {
-        let mut image = self.bytes.to_vec(alloc)?;
-        if let Some(byte) = image.get_mut(number(words, 1).min(1_000) as usize) {
-            *byte = byte.wrapping_add(3);
-        }
-        put_mounted(alloc, image, out)
-    }
-
-    // `zeros COUNT`: so many zeros stand behind it.
-    fn zeros(&self, alloc: Global, words: &[&str], out: &mut String) -> Result<(), AllocError> {
-        let mut image = self.bytes.to_vec(alloc)?;
-        let size = image
-            .len()
-            .saturating_add(number(words, 1).min(10_000_000) as usize);
-        image.resize(size, 0)?;
-        put_mounted(alloc, image, out)
-    }
-
-    // `append PASSES CHOICE`: whether def is appended where so many calls may be made, and what the disk has after
-    // a crash.
-    fn append(&self, alloc: Global, words: &[&str], out: &mut String) -> Result<(), AllocError> {
-        let frame = Frame::new(alloc, b"def")?;
-        let disk = disk_of(alloc, self.bytes.to_vec(alloc)?)?;
-        let Ok((mut journal, _)) = Journal::mount(alloc, disk, &HEADER) else {
-            return put(out, "not mounted");
-        };
-        journal.arm(number(words, 1));
-        let done = journal.append(&frame).is_ok();
-        let image = journal.into_disk().image(number(words, 2))?;
-        put_left(alloc, if done { "done" } else { "fault" }, image, out)
-    }
 }
 
 impl Bench for Image {
-    fn answer(
-        &mut self,
-        alloc: Global,
-        words: &[&str],
-        out: &mut String,
-    ) -> Result<(), AllocError> {
-        match word(words, 0) {
-            "image" => {
-                self.bytes = bytes(alloc, words, 1)?;
-                Ok(())
-            }
-            "front" => self.front(alloc, words, out),
-            "other" => self.other(alloc, words, out),
-            "zeros" => self.zeros(alloc, words, out),
-            "append" => self.append(alloc, words, out),
-            "make" => make(alloc, words, out),
-            _ => put(out, "no call"),
+    fn answer(&mut self, call: &str, out: &mut Answer) {
+        match named(CALLS, call) {
+            Some(Call::Image) => self.bytes = bytes(out.alloc, call, 1),
+            Some(Call::Append) => ask_disk(&self.bytes, Call::Append, call, out),
+            Some(Call::Make) => ask_disk(&[], Call::Make, call, out),
+            Some(asked) => ask_changed(&self.bytes, asked, call, out),
+            None => out.put("no call"),
         }
     }
 }

@@ -3,8 +3,8 @@
 //! the order of names, and prints how each file compares.
 #![tactic(auto)]
 
+mod answer;
 mod cache;
-mod compare;
 mod disk;
 mod files;
 mod hoard;
@@ -17,9 +17,45 @@ mod spelled;
 mod walk;
 mod words;
 
-use crate::compare::compared;
+use crate::answer::answered;
+use crate::words::named;
+use coda_cache::Cache;
+use coda_callback::Promises;
+use coda_disk::MemDisk;
+use coda_hdb::Hdb;
 use std::alloc::AllocError;
 use std::{fs, io};
+
+/// What the calls of a file are on.
+#[derive(Clone, Copy)]
+enum On {
+    Cache,
+    Disk,
+    Files,
+    Hoard,
+    Journal,
+    Letters,
+    Promises,
+    Resolution,
+    Ring,
+    Spelling,
+    Walk,
+}
+
+// By the front of the file's name.
+const FRONTS: &[(&str, On)] = &[
+    ("cache", On::Cache),
+    ("disk", On::Disk),
+    ("files", On::Files),
+    ("hoard", On::Hoard),
+    ("journal", On::Journal),
+    ("letters", On::Letters),
+    ("promises", On::Promises),
+    ("resolution", On::Resolution),
+    ("ring", On::Ring),
+    ("spelling", On::Spelling),
+    ("walk", On::Walk),
+];
 
 // The names of the files of calls of the folder, by their bytes.
 fn names(rt: &HostRuntime) -> io::Result<Vec<String>> {
@@ -34,30 +70,49 @@ fn names(rt: &HostRuntime) -> io::Result<Vec<String>> {
     Ok(names)
 }
 
-// How the calls of a file compare.
-fn comparison(rt: &HostRuntime, name: &str, text: &str) -> Result<String, AllocError> {
+// The calls of a file as they are answered.
+fn found(rt: &HostRuntime, on: On, text: &str) -> String {
     let alloc = rt.alloc();
-    match name.split('_').next().unwrap_or("") {
-        "cache" => compared(cache::Cached::new(alloc, 0)?, alloc, text),
-        "disk" => compared(disk::Platter::new(alloc)?, alloc, text),
-        "files" => compared(files::Filed::new(rt), alloc, text),
-        "hoard" => compared(hoard::Hoard::new(alloc), alloc, text),
-        "journal" => compared(journal::Image::new(alloc), alloc, text),
-        "letters" => compared(letters::Posted::new(alloc), alloc, text),
-        "promises" => compared(promises::Promised::new(alloc), alloc, text),
-        "resolution" => compared(resolve::Replicas::new(alloc)?, alloc, text),
-        "ring" => compared(ring::Logged::new(alloc)?, alloc, text),
-        "spelling" => compared(spelled::Spelled {}, alloc, text),
-        "walk" => compared(walk::Walk::new(alloc), alloc, text),
-        _ => "are on nothing".to_string(alloc),
+    match on {
+        On::Cache => answered(Cache::new(alloc, 0), alloc, text),
+        On::Disk => answered(disk::empty(alloc), alloc, text),
+        On::Files => answered(Ok(files::Filed { rt }), alloc, text),
+        On::Hoard => answered(Ok(Hdb::new(alloc)), alloc, text),
+        On::Journal => answered(Ok(journal::Image::new(alloc)), alloc, text),
+        On::Letters => answered(Ok(letters::Posted::new(alloc)), alloc, text),
+        On::Promises => answered(Ok(Promises::new(alloc)), alloc, text),
+        On::Resolution => answered(resolve::Replicas::new(alloc), alloc, text),
+        On::Ring => answered(ring::Logged::new(alloc), alloc, text),
+        On::Spelling => answered(Ok(spelled::Spelled {}), alloc, text),
+        On::Walk => answered(Ok(walk::Walk::new(alloc)), alloc, text),
     }
+}
+
+// The line at a place, and nothing behind the last.
+fn line(text: &str, at: usize) -> &str {
+    text.lines().nth(at).unwrap_or("")
+}
+
+// `ok` where both are the same; else the first line in which they differ, both sides.
+fn comparison(rt: &HostRuntime, wanted: &str, found: &str) -> Result<String, AllocError> {
+    if wanted == found {
+        return "ok".to_string(rt.alloc());
+    }
+    let pairs = wanted.lines().zip(found.lines());
+    let at = pairs.take_while(|pair| pair.0 == pair.1).count();
+    let number = at.saturating_add(1);
+    let (wanted, found) = (line(wanted, at), line(found, at));
+    format!(in rt.alloc(); "differs at line {number}\n    wanted: {wanted}\n    found:  {found}")
 }
 
 fn main(rt: HostRuntime) -> io::Result<()> {
     for name in names(&rt)? {
-        let bytes = fs::read(&rt, name.as_str())?;
-        let text = std::str::from_utf8(&bytes).unwrap_or("");
-        let told = comparison(&rt, name.as_str(), text)?;
+        let text = fs::read_to_string(&rt, name.as_str())?;
+        let front = name.split('_').next().unwrap_or("");
+        let told = match named(FRONTS, front) {
+            Some(on) => comparison(&rt, text.as_str(), found(&rt, on, text.as_str()).as_str())?,
+            None => "are on nothing".to_string(rt.alloc())?,
+        };
         println!(rt; "{name} {told}")?;
     }
     Ok(())

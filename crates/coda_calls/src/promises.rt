@@ -1,47 +1,47 @@
 // Calls on the promises of a server.
-use crate::compare::Bench;
-use crate::words::{object, objects, put, put_objects, tiny, word};
+use crate::answer::{Answer, Bench};
+use crate::words::{named, object, objects, tiny};
 use coda_callback::Promises;
-use std::alloc::{AllocError, Global};
 
-/// What the calls are on.
-#[derive(Drop)]
-pub struct Promised {
-    promises: Promises,
+#[derive(Clone, Copy)]
+enum Call {
+    Promise,
+    BrokenBy,
+    Waiting,
+    Collect,
+    DropClient,
 }
 
-impl Promised {
-    /// No promises.
-    pub fn new(alloc: Global) -> Promised {
-        Promised {
-            promises: Promises::new(alloc),
-        }
+const CALLS: &[(&str, Call)] = &[
+    ("promise", Call::Promise),
+    ("broken-by", Call::BrokenBy),
+    ("waiting", Call::Waiting),
+    ("collect", Call::Collect),
+    ("drop-client", Call::DropClient),
+];
+
+// `collect CLIENT`.
+fn collect(promises: &mut Promises, client: u8, out: &mut Answer) {
+    out.put("told");
+    if let Ok(fids) = promises.collect(client) {
+        out.put_objects(&fids);
     }
 }
 
-impl Bench for Promised {
-    fn answer(
-        &mut self,
-        alloc: Global,
-        words: &[&str],
-        out: &mut String,
-    ) -> Result<(), AllocError> {
-        match word(words, 0) {
-            "promise" => self.promises.promise(tiny(words, 1), object(words, 2)),
-            "broken-by" => self.promises.broken_by(&objects(alloc, words, 1)?),
-            "waiting" => {
-                let waits = self.promises.waiting(tiny(words, 1));
-                put(out, if waits { "waiting" } else { "none" })
-            }
-            "collect" => {
-                put(out, "told")?;
-                put_objects(out, &self.promises.collect(tiny(words, 1))?)
-            }
-            "drop-client" => {
-                self.promises.drop_client(tiny(words, 1));
-                Ok(())
-            }
-            _ => put(out, "no call"),
+impl Bench for Promises {
+    fn answer(&mut self, call: &str, out: &mut Answer) {
+        let client = tiny(call, 1);
+        match named(CALLS, call) {
+            Some(Call::Promise) => out.note(self.promise(client, object(call, 2))),
+            Some(Call::BrokenBy) => out.note(self.broken_by(&objects(out.alloc, call, 1))),
+            Some(Call::Waiting) => out.put(if self.waiting(client) {
+                "waiting"
+            } else {
+                "none"
+            }),
+            Some(Call::Collect) => collect(self, client, out),
+            Some(Call::DropClient) => self.drop_client(client),
+            None => out.put("no call"),
         }
     }
 }

@@ -1,8 +1,8 @@
 // Calls on replicas that are to be resolved.
-use crate::compare::Bench;
-use crate::words::{
-    name, number, object, object_of, put, put_counted, put_number, small, tiny, word,
-};
+ghost use Rattle.coda_resolve.specs.Views.{AreInOrder};
+
+use crate::answer::{Answer, Bench};
+use crate::words::{name, named, number, object, object_of, tiny, word};
 use coda_certify::Verdict;
 use coda_fid::{Bytes, Fid, Sid};
 use coda_record::Last;
@@ -26,15 +26,45 @@ pub struct Replicas {
     views: Vec<View>,
 }
 
-fn kind(word: &str) -> ResKind {
-    match word {
-        "add" => ResKind::Add,
-        "drop" => ResKind::Drop,
-        "rename" => ResKind::Rename,
-        "cross" => ResKind::Cross,
-        _ => ResKind::Attr,
-    }
+#[derive(Clone, Copy)]
+enum Call {
+    New,
+    Bind,
+    Update,
+    Updates,
+    Directory,
+    File,
+    Decided,
+    Replica,
+    Fate,
+    Walk,
+    Marks,
+    Merge,
+    Decisions,
 }
+
+const CALLS: &[(&str, Call)] = &[
+    ("new", Call::New),
+    ("bind", Call::Bind),
+    ("update", Call::Update),
+    ("updates", Call::Updates),
+    ("directory", Call::Directory),
+    ("file", Call::File),
+    ("decided", Call::Decided),
+    ("replica", Call::Replica),
+    ("fate", Call::Fate),
+    ("walk", Call::Walk),
+    ("marks", Call::Marks),
+    ("merge", Call::Merge),
+    ("decisions", Call::Decisions),
+];
+
+const KINDS: &[(&str, ResKind)] = &[
+    ("add", ResKind::Add),
+    ("drop", ResKind::Drop),
+    ("rename", ResKind::Rename),
+    ("cross", ResKind::Cross),
+];
 
 // A node of this kind.
 fn node(kind: NodeKind, marked: bool) -> Node {
@@ -52,8 +82,8 @@ fn node(kind: NodeKind, marked: bool) -> Node {
 }
 
 // The updates of servers 1 and 2 that are in an object.
-fn vector(words: &[&str]) -> Vv {
-    Vv([number(words, 2), number(words, 3), 0, 0, 0, 0, 0, 0])
+fn vector(call: &str) -> Vv {
+    Vv([number(call, 2), number(call, 3), 0, 0, 0, 0, 0, 0])
 }
 
 // The cause of a mark, with the number that it tells.
@@ -71,106 +101,185 @@ fn cause(why: &Why) -> (&'static str, u64) {
 }
 
 // Puts the cause of a mark.
-fn put_cause(out: &mut String, why: &Why) -> Result<(), AllocError> {
+fn put_cause(out: &mut Answer, why: &Why) {
     let (word, number) = cause(why);
-    put_counted(out, word, number)
+    out.put_counted(word, number);
 }
 
 // Puts what became of an object, with the number told, or that of all updates.
-fn put_fate(out: &mut String, fate: &Fate) -> Result<(), AllocError> {
+fn put_fate(out: &mut Answer, fate: &Fate) {
     match fate {
         Fate::Same(held) => {
             let Vv(counts) = held.vector;
-            put_counted(out, "same", counts[0].saturating_add(counts[1]))
+            out.put_counted("same", counts[0].saturating_add(counts[1]));
         }
         Fate::Marked(why) => put_cause(out, why),
-        Fate::Gone => put(out, "gone"),
+        Fate::Gone => out.put("gone"),
     }
-}
-
-// `fate OBJECT`.
-fn put_fate_of(
-    alloc: Global,
-    views: &[View],
-    fid: Fid,
-    out: &mut String,
-) -> Result<(), AllocError> {
-    if !are_in_order(views) {
-        return put(out, "out of order");
-    }
-    put_fate(out, &fate_at(alloc, views, fid)?)
-}
-
-// `walk`: the objects that are taken up from the root.
-fn put_walk(alloc: Global, views: &[View], out: &mut String) -> Result<(), AllocError> {
-    if !are_in_order(views) {
-        return put(out, "out of order");
-    }
-    put(out, "taken")?;
-    for taken in &walk(alloc, views, object_of(0))? {
-        put_number(out, u64::from(taken.fid.vnode))?;
-    }
-    Ok(())
-}
-
-// `marks`: how many marks are new.
-fn put_marks(alloc: Global, views: &[View], out: &mut String) -> Result<(), AllocError> {
-    if !are_in_order(views) {
-        return put(out, "out of order");
-    }
-    put_number(out, new_marks(alloc, views, object_of(0))?.len() as u64)
 }
 
 // Puts how many objects a replica holds anew, and how many go.
-fn put_change(out: &mut String, change: &Change) -> Result<(), AllocError> {
-    put_counted(out, "new", change.held.objects().len() as u64)?;
-    put_counted(out, "gone", change.gone.fids().len() as u64)
+fn put_change(out: &mut Answer, change: &Change) {
+    out.put_counted("new", change.held.objects().len() as u64);
+    out.put_counted("gone", change.gone.fids().len() as u64);
 }
 
 // Puts how many marks there are, and the cause of the first.
-fn put_first(out: &mut String, marks: &[Mark]) -> Result<(), AllocError> {
-    put_counted(out, "marks", marks.len() as u64)?;
-    match marks {
-        [] => Ok(()),
-        [first, ..] => put_cause(out, &first.why),
+fn put_first(out: &mut Answer, marks: &[Mark]) {
+    out.put_counted("marks", marks.len() as u64);
+    if let Some(first) = marks.first() {
+        put_cause(out, &first.why);
     }
-}
-
-// Puts what a resolution makes of the replicas.
-fn put_outcome(out: &mut String, outcome: &Outcome) -> Result<(), AllocError> {
-    for (_, change) in outcome.changes.changes() {
-        put_change(out, change)?;
-    }
-    put_first(out, outcome.marks.marks())?;
-    put_counted(out, "touched", outcome.touched)
 }
 
 // `merge`: how many objects each replica holds anew and how many go, how many are marked and for which cause
 // the first, and how many touched.
-fn put_merge(alloc: Global, views: &[View], out: &mut String) -> Result<(), AllocError> {
-    if !are_in_order(views) {
-        return put(out, "out of order");
+fn put_outcome(out: &mut Answer, outcome: &Outcome) {
+    for (_, change) in outcome.changes.changes() {
+        put_change(out, change);
     }
-    let outcome = merge(alloc, views)?;
-    put_outcome(out, &outcome)
+    put_first(out, outcome.marks.marks());
+    out.put_counted("touched", outcome.touched);
 }
 
-// Puts decisions, each by its client and its number.
-fn put_lasts(out: &mut String, lasts: &[Last]) -> Result<(), AllocError> {
+// `decisions`: those that are joined, each by its client and its number.
+fn put_lasts(out: &mut Answer, lasts: &[Last]) {
     for last in lasts {
-        put_counted(out, "client", u64::from(last.client))?;
-        put_number(out, last.number)?;
+        out.put_counted("client", u64::from(last.client));
+        out.put_number(last.number);
     }
-    Ok(())
 }
 
-// `decisions`: those that are joined.
-fn put_decisions(alloc: Global, views: &[View], out: &mut String) -> Result<(), AllocError> {
-    if !are_in_order(views) {
-        return put(out, "out of order");
+// `fate OBJECT`.
+fn put_fate_of(views: &[View], fid: Fid, out: &mut Answer)
+    requires { AreInOrder views.now }
+{
+    if let Ok(fate) = fate_at(out.alloc, views, fid) {
+        put_fate(out, &fate);
     }
-    let outcome = merge(alloc, views)?;
-    put_lasts(out, outcome.lasts.lasts())
+}
+
+// `walk`: the objects that are taken up from the root.
+fn put_walk(views: &[View], out: &mut Answer)
+    requires { AreInOrder views.now }
+{
+    if let Ok(taken) = walk(out.alloc, views, object_of(0)) {
+        out.put("taken");
+        for object in &taken {
+            out.put_number(u64::from(object.fid.vnode));
+        }
+    }
+}
+
+// `marks`: how many marks are new.
+fn put_marks(views: &[View], out: &mut Answer)
+    requires { AreInOrder views.now }
+{
+    if let Ok(marks) = new_marks(out.alloc, views, object_of(0)) {
+        out.put_number(marks.len() as u64);
+    }
+}
+
+// `merge` and `decisions`.
+fn put_merged(views: &[View], asked: Call, out: &mut Answer)
+    requires { AreInOrder views.now }
+{
+    if let Ok(outcome) = merge(out.alloc, views) {
+        match asked {
+            Call::Merge => put_outcome(out, &outcome),
+            _ => put_lasts(out, outcome.lasts.lasts()),
+        }
+    }
+}
+
+// Calls on the replicas that are there.
+fn ask(views: &[View], asked: Call, fid: Fid, out: &mut Answer) {
+    if are_in_order(views) {
+        match asked {
+            Call::Fate => put_fate_of(views, fid, out),
+            Call::Walk => put_walk(views, out),
+            Call::Marks => put_marks(views, out),
+            _ => put_merged(views, asked, out),
+        }
+    } else {
+        out.put("out of order");
+    }
+}
+
+// An empty log, where there is memory for one.
+fn renew(replicas: &mut Replicas, out: &Answer) {
+    if let Ok(made) = Replicas::new(out.alloc) {
+        *replicas = made;
+    }
+}
+
+// `bind NAME OBJECT`, in the directory that comes next.
+fn bind(entries: &mut Entries, call: &str, out: &mut Answer) {
+    if let Some(name) = name(out.alloc, call, 1) {
+        if entries.find(&name).is_none() {
+            out.note(entries.insert(name, object(call, 2)));
+        }
+    }
+}
+
+// `update ORIGIN SEQ KIND NAME OBJECT`, of the directory that comes next. Where it is a drop, the object had no update
+// of its own.
+fn update(ring: &mut Ring, alloc: Global, call: &str, seq: u64) {
+    let kind = named(KINDS, word(call, 3)).unwrap_or(ResKind::Attr);
+    let fid = object(call, 5);
+    let lost = Lost {
+        fid,
+        vector: Vv([0; 8]),
+    };
+    ring.push(ResEntry {
+        origin: tiny(call, 1),
+        seq,
+        sid: Sid {
+            client: 1,
+            number: seq,
+        },
+        kind,
+        name: name(alloc, call, 4),
+        other: None,
+        fid,
+        lost: if kind == ResKind::Drop {
+            Some(lost)
+        } else {
+            None
+        },
+    });
+}
+
+// `updates ORIGIN LAST KIND NAME OBJECT`: those of the numbers up to this one.
+fn update_all(ring: &mut Ring, alloc: Global, call: &str) {
+    for seq in 1..number(call, 2).saturating_add(1) {
+        update(ring, alloc, call, seq);
+    }
+}
+
+// An object of no name or update.
+fn held(kind: NodeKind, ring: Option<Ring>, call: &str) -> Held {
+    Held {
+        node: node(kind, word(call, 4) == "marked"),
+        vector: vector(call),
+        ring,
+    }
+}
+
+// `file OBJECT FIRST SECOND`.
+fn put_file(items: &mut Vec<(Fid, Held)>, alloc: Global, call: &str) {
+    if let Ok(content) = Bytes::of(alloc, b"") {
+        let _ = items.push((object(call, 1), held(NodeKind::File(content), None, call)));
+    }
+}
+
+// `decided CLIENT NUMBER`.
+fn put_last(lasts: &mut Vec<Last>, call: &str) {
+    let _ = lasts.push(Last {
+        client: tiny(call, 1),
+        number: number(call, 2),
+        verdict: Verdict::Applied,
+    });
 }
 
 impl Replicas {
@@ -186,131 +295,42 @@ impl Replicas {
         })
     }
 
-    // `bind NAME OBJECT`, in the directory that comes next.
-    fn bind(&mut self, alloc: Global, words: &[&str]) -> Result<(), AllocError> {
-        if let Some(name) = name(alloc, words, 1) {
-            if self.entries.find(&name).is_none() {
-                self.entries.insert(name, object(words, 2))?;
-            }
-        }
-        Ok(())
-    }
-
-    // `update ORIGIN SEQ KIND NAME OBJECT`, of the directory that comes next. Where it is a drop, the object had
-    // no update of its own.
-    fn update(&mut self, alloc: Global, words: &[&str], seq: u64) {
-        let kind = kind(word(words, 3));
-        let fid = object(words, 5);
-        let lost = Lost {
-            fid,
-            vector: Vv([0; 8]),
-        };
-        let entry = ResEntry {
-            origin: tiny(words, 1),
-            seq,
-            sid: Sid {
-                client: 1,
-                number: seq,
-            },
-            kind,
-            name: name(alloc, words, 4),
-            other: None,
-            fid,
-            lost: if kind == ResKind::Drop {
-                Some(lost)
-            } else {
-                None
-            },
-        };
-        self.ring.push(entry);
-    }
-
     // `directory OBJECT FIRST SECOND`, or with `marked` behind it: what was bound and updated is its.
-    fn directory(&mut self, alloc: Global, words: &[&str]) -> Result<(), AllocError> {
-        let ring = Ring::new(alloc)?;
-        let entries = mem::replace(&mut self.entries, Entries::new(alloc));
-        let held = Held {
-            node: node(NodeKind::Dir(entries), word(words, 4) == "marked"),
-            vector: vector(words),
-            ring: Some(mem::replace(&mut self.ring, ring)),
-        };
-        Ok(self.items.push((object(words, 1), held))?)
-    }
-
-    // `file OBJECT FIRST SECOND`.
-    fn file(&mut self, alloc: Global, words: &[&str]) -> Result<(), AllocError> {
-        let held = Held {
-            node: node(NodeKind::File(Bytes::of(alloc, b"")?), false),
-            vector: vector(words),
-            ring: None,
-        };
-        Ok(self.items.push((object(words, 1), held))?)
-    }
-
-    // `decided CLIENT NUMBER`.
-    fn decided(&mut self, words: &[&str]) -> Result<(), AllocError> {
-        let last = Last {
-            client: tiny(words, 1),
-            number: number(words, 2),
-            verdict: Verdict::Applied,
-        };
-        Ok(self.lasts.push(last)?)
+    fn put_directory(&mut self, alloc: Global, call: &str) {
+        if let Ok(ring) = Ring::new(alloc) {
+            let entries = mem::replace(&mut self.entries, Entries::new(alloc));
+            let ring = mem::replace(&mut self.ring, ring);
+            let held = held(NodeKind::Dir(entries), Some(ring), call);
+            let _ = self.items.push((object(call, 1), held));
+        }
     }
 
     // `replica SERVER`: what came before is its.
-    fn replica(&mut self, alloc: Global, server: u8) -> Result<(), AllocError> {
+    fn put_replica(&mut self, alloc: Global, server: u8) {
         let items = mem::replace(&mut self.items, Vec::new(alloc));
         let lasts = mem::replace(&mut self.lasts, Vec::new(alloc));
-        let view = View {
+        let _ = self.views.push(View {
             server,
             volume: 7,
             held: HeldObjects::from_vec(items),
             lasts: Lasts::from_vec(lasts),
-        };
-        Ok(self.views.push(view)?)
-    }
-
-    // Calls that make a replica.
-    fn make(&mut self, alloc: Global, words: &[&str], out: &mut String) -> Result<(), AllocError> {
-        match word(words, 0) {
-            "bind" => self.bind(alloc, words),
-            "update" => {
-                self.update(alloc, words, number(words, 2));
-                Ok(())
-            }
-            "updates" => {
-                for seq in 1..number(words, 2).saturating_add(1) {
-                    self.update(alloc, words, seq);
-                }
-                Ok(())
-            }
-            "directory" => self.directory(alloc, words),
-            "file" => self.file(alloc, words),
-            "decided" => self.decided(words),
-            "replica" => self.replica(alloc, tiny(words, 1)),
-            _ => put(out, "no call"),
-        }
+        });
     }
 }
 
 impl Bench for Replicas {
-    fn answer(
-        &mut self,
-        alloc: Global,
-        words: &[&str],
-        out: &mut String,
-    ) -> Result<(), AllocError> {
-        match word(words, 0) {
-            "new" => {
-                *self = Replicas::new(alloc)?;
-                Ok(())
-            }
-            "fate" => put_fate_of(alloc, &self.views, object_of(small(words, 1)), out),
-            "walk" => put_walk(alloc, &self.views, out),
-            "marks" => put_marks(alloc, &self.views, out),
-            "merge" => put_merge(alloc, &self.views, out),
-            "decisions" => put_decisions(alloc, &self.views, out),
-            _ => self.make(alloc, words, out),
+    fn answer(&mut self, call: &str, out: &mut Answer) {
+        match named(CALLS, call) {
+            Some(Call::New) => renew(self, out),
+            Some(Call::Bind) => bind(&mut self.entries, call, out),
+            Some(Call::Update) => update(&mut self.ring, out.alloc, call, number(call, 2)),
+            Some(Call::Updates) => update_all(&mut self.ring, out.alloc, call),
+            Some(Call::Directory) => self.put_directory(out.alloc, call),
+            Some(Call::File) => put_file(&mut self.items, out.alloc, call),
+            Some(Call::Decided) => put_last(&mut self.lasts, call),
+            Some(Call::Replica) => self.put_replica(out.alloc, tiny(call, 1)),
+            Some(asked) => ask(&self.views, asked, object(call, 1), out),
+            None => out.put("no call"),
         }
     }
 }

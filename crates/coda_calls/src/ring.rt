@@ -1,6 +1,6 @@
 // Calls on the log of a directory's updates.
-use crate::compare::Bench;
-use crate::words::{number, object_of, put, put_number, word};
+use crate::answer::{Answer, Bench};
+use crate::words::{named, number, object_of, size};
 use coda_fid::Sid;
 use coda_reslog::{ResEntry, ResKind, Ring};
 use std::alloc::{AllocError, Global};
@@ -11,6 +11,23 @@ pub struct Logged {
     ring: Ring,
     copy: Ring,
 }
+
+#[derive(Clone, Copy)]
+enum Call {
+    Push,
+    Copy,
+    Get,
+    GetCopied,
+    LenCopied,
+}
+
+const CALLS: &[(&str, Call)] = &[
+    ("push", Call::Push),
+    ("copy", Call::Copy),
+    ("get", Call::Get),
+    ("get-copied", Call::GetCopied),
+    ("len-copied", Call::LenCopied),
+];
 
 // The change of attributes with this number.
 fn attributes(seq: u64) -> ResEntry {
@@ -29,11 +46,20 @@ fn attributes(seq: u64) -> ResEntry {
     }
 }
 
-// The number of the entry at an index, and 0 where there is none.
-fn seq_at(ring: &Ring, index: u64) -> u64 {
-    match ring.get(index.min(1_000) as usize) {
-        Some(entry) => entry.seq,
-        None => 0,
+// `push FIRST LAST`: changes of these numbers, and the number that is handed out for the last one.
+fn push(ring: &mut Ring, first: u64, last: u64, out: &mut Answer) {
+    let mut handed = None;
+    for seq in first..last.saturating_add(1) {
+        handed = ring.push(attributes(seq));
+    }
+    out.put_number(handed.map_or(0, |entry| entry.seq));
+}
+
+// `get INDEX`: the number of the entry there, and 0 where there is none.
+fn put_entry(ring: &Ring, index: usize, out: &mut Answer) {
+    match ring.get(index) {
+        Some(entry) => out.put_number(entry.seq),
+        None => out.put_number(0),
     }
 }
 
@@ -41,40 +67,27 @@ impl Logged {
     /// An empty log, and a copy of it.
     pub fn new(alloc: Global) -> Result<Logged, AllocError> {
         let ring = Ring::new(alloc)?;
-        let copy = Ring::new(alloc)?;
+        let copy = ring.copy()?;
         Ok(Logged { ring, copy })
     }
 
-    // `push FIRST LAST`: changes of these numbers, and the number that is handed out for the last one.
-    fn push(&mut self, words: &[&str], out: &mut String) -> Result<(), AllocError> {
-        let mut handed = 0;
-        for seq in number(words, 1)..number(words, 2).saturating_add(1) {
-            handed = match self.ring.push(attributes(seq)) {
-                Some(entry) => entry.seq,
-                None => 0,
-            };
+    // `copy`.
+    fn copy(&mut self) {
+        if let Ok(copy) = self.ring.copy() {
+            self.copy = copy;
         }
-        put_number(out, handed)
     }
 }
 
 impl Bench for Logged {
-    fn answer(
-        &mut self,
-        alloc: Global,
-        words: &[&str],
-        out: &mut String,
-    ) -> Result<(), AllocError> {
-        match word(words, 0) {
-            "push" => self.push(words, out),
-            "copy" => {
-                self.copy = self.ring.copy()?;
-                Ok(())
-            }
-            "get" => put_number(out, seq_at(&self.ring, number(words, 1))),
-            "get-copied" => put_number(out, seq_at(&self.copy, number(words, 1))),
-            "len-copied" => put_number(out, self.copy.len() as u64),
-            _ => put(out, "no call"),
+    fn answer(&mut self, call: &str, out: &mut Answer) {
+        match named(CALLS, call) {
+            Some(Call::Push) => push(&mut self.ring, number(call, 1), number(call, 2), out),
+            Some(Call::Copy) => self.copy(),
+            Some(Call::Get) => put_entry(&self.ring, size(call, 1), out),
+            Some(Call::GetCopied) => put_entry(&self.copy, size(call, 1), out),
+            Some(Call::LenCopied) => out.put_number(self.copy.len() as u64),
+            None => out.put("no call"),
         }
     }
 }

@@ -1,10 +1,8 @@
 // Calls on items that a walk weighs, and on a queue of them.
-use crate::compare::Bench;
-use crate::words::{
-    number, object, objects, optional_object, put, put_number, put_objects, small, word,
-};
+use crate::answer::{Answer, Bench};
+use crate::words::{named, number, object, objects, optional_object, small, word};
 use coda_walk::{Item, Queue, plan, who_goes};
-use std::alloc::{AllocError, Global};
+use std::alloc::Global;
 use std::collections::BTreeSet;
 
 /// What the calls are on.
@@ -14,18 +12,100 @@ pub struct Walk {
     queue: Queue,
 }
 
+#[derive(Clone, Copy)]
+enum Call {
+    New,
+    Item,
+    Plan,
+    WhoGoes,
+    Put,
+    Change,
+    TakeOut,
+    Get,
+    Blocks,
+    Leaves,
+}
+
+const CALLS: &[(&str, Call)] = &[
+    ("new", Call::New),
+    ("item", Call::Item),
+    ("plan", Call::Plan),
+    ("who-goes", Call::WhoGoes),
+    ("put", Call::Put),
+    ("change", Call::Change),
+    ("take-out", Call::TakeOut),
+    ("get", Call::Get),
+    ("blocks", Call::Blocks),
+    ("leaves", Call::Leaves),
+];
+
 // `OBJECT PARENT PRIORITY BLOCKS MARKS`, of which the marks are letters: `c` for cached, `s` for served and `p`
 // for pinned.
-fn item(words: &[&str]) -> Item {
-    let marks = word(words, 5).as_bytes();
+fn item(call: &str) -> Item {
+    let marks = word(call, 5).as_bytes();
     Item {
-        fid: object(words, 1),
-        parent: optional_object(words, 2),
-        priority: number(words, 3).min(1_000) as u16,
-        blocks: small(words, 4),
+        fid: object(call, 1),
+        parent: optional_object(call, 2),
+        priority: number(call, 3).min(1_000) as u16,
+        blocks: small(call, 4),
         cached: marks.contains(&b'c'),
         served: marks.contains(&b's'),
         pinned: marks.contains(&b'p'),
+    }
+}
+
+// `plan SIZE RECENCY..`: who is kept, fetched and dropped.
+fn put_plan(items: &[Item], call: &str, out: &mut Answer) {
+    if let Ok(plan) = plan(
+        out.alloc,
+        items,
+        &objects(out.alloc, call, 2),
+        small(call, 1),
+    ) {
+        out.put("keep");
+        out.put_objects(&plan.keep);
+        out.put("fetch");
+        out.put_objects(&plan.fetch);
+        out.put("drop");
+        out.put_objects(&plan.drop);
+    }
+}
+
+// `who-goes SIZE KEPT..`, of the items.
+fn put_who_goes(items: &[Item], call: &str, out: &mut Answer) {
+    if let Ok(gone) = who_goes(
+        out.alloc,
+        number(call, 1),
+        &objects(out.alloc, call, 2),
+        items,
+    ) {
+        out.put("gone");
+        out.put_objects(&gone);
+    }
+}
+
+// `leaves SIZE`: who goes from the queue, and whether the rest fits.
+fn put_leaves(queue: &Queue, size: u64, out: &mut Answer) {
+    if let Ok(gone) = queue.who_goes(out.alloc, size, &BTreeSet::new(out.alloc)) {
+        out.put(if gone.fits { "fits" } else { "full" });
+        out.put_objects(&gone.fids);
+    }
+}
+
+// Calls on the queue.
+fn ask(queue: &mut Queue, asked: Call, call: &str, out: &mut Answer) {
+    let fid = object(call, 1);
+    match asked {
+        Call::Put => out.note(queue.put(item(call))),
+        Call::Change => out.note(queue.change(item(call))),
+        Call::TakeOut => out.note(queue.take_out(fid)),
+        Call::Get => out.put(if queue.get(fid).is_some() {
+            "there"
+        } else {
+            "none"
+        }),
+        Call::Blocks => out.put_number(queue.blocks()),
+        _ => put_leaves(queue, number(call, 1), out),
     }
 }
 
@@ -37,61 +117,19 @@ impl Walk {
             queue: Queue::new(alloc),
         }
     }
-
-    // `plan SIZE RECENCY..`: who is kept, fetched and dropped.
-    fn plan(&self, alloc: Global, words: &[&str], out: &mut String) -> Result<(), AllocError> {
-        let recency = objects(alloc, words, 2)?;
-        let plan = plan(alloc, &self.items, &recency, small(words, 1))?;
-        put(out, "keep")?;
-        put_objects(out, &plan.keep)?;
-        put(out, "fetch")?;
-        put_objects(out, &plan.fetch)?;
-        put(out, "drop")?;
-        put_objects(out, &plan.drop)
-    }
-
-    // `who-goes SIZE KEPT..`, of the items.
-    fn who_goes(&self, alloc: Global, words: &[&str], out: &mut String) -> Result<(), AllocError> {
-        let kept = objects(alloc, words, 2)?;
-        let gone = who_goes(alloc, number(words, 1), &kept, &self.items)?;
-        put(out, "gone")?;
-        put_objects(out, &gone)
-    }
-
-    // `leaves SIZE`: who goes from the queue, and whether the rest fits.
-    fn leaves(&self, alloc: Global, words: &[&str], out: &mut String) -> Result<(), AllocError> {
-        let kept = BTreeSet::new(alloc);
-        let gone = self.queue.who_goes(alloc, number(words, 1), &kept)?;
-        put(out, if gone.fits { "fits" } else { "full" })?;
-        put_objects(out, &gone.fids)
-    }
 }
 
 impl Bench for Walk {
-    fn answer(
-        &mut self,
-        alloc: Global,
-        words: &[&str],
-        out: &mut String,
-    ) -> Result<(), AllocError> {
-        match word(words, 0) {
-            "new" => {
-                *self = Walk::new(alloc);
-                Ok(())
+    fn answer(&mut self, call: &str, out: &mut Answer) {
+        match named(CALLS, call) {
+            Some(Call::New) => *self = Walk::new(out.alloc),
+            Some(Call::Item) => {
+                let _ = self.items.push(item(call));
             }
-            "item" => Ok(self.items.push(item(words))?),
-            "plan" => self.plan(alloc, words, out),
-            "who-goes" => self.who_goes(alloc, words, out),
-            "put" => self.queue.put(item(words)),
-            "change" => self.queue.change(item(words)),
-            "take-out" => self.queue.take_out(object(words, 1)),
-            "get" => {
-                let found = self.queue.get(object(words, 1)).is_some();
-                put(out, if found { "there" } else { "none" })
-            }
-            "blocks" => put_number(out, self.queue.blocks()),
-            "leaves" => self.leaves(alloc, words, out),
-            _ => put(out, "no call"),
+            Some(Call::Plan) => put_plan(&self.items, call, out),
+            Some(Call::WhoGoes) => put_who_goes(&self.items, call, out),
+            Some(asked) => ask(&mut self.queue, asked, call, out),
+            None => out.put("no call"),
         }
     }
 }

@@ -1,26 +1,41 @@
-// The words of a call.
+// The words of a call, of which the first names it.
 use coda_fid::{Fid, Name};
-use hex::FromHexError;
-use std::alloc::{AllocError, Global};
+use std::alloc::Global;
 
 /// The word at a place, and nothing behind the last.
-pub fn word<'a>(words: &[&'a str], at: usize) -> &'a str {
-    words.get(at).copied().unwrap_or("")
+pub fn word(call: &str, at: usize) -> &str {
+    call.split(' ').nth(at).unwrap_or("")
+}
+
+/// What a table has for the first word, if it has anything.
+pub fn named<T: Copy>(table: &[(&str, T)], call: &str) -> Option<T> {
+    let name = word(call, 0);
+    for row in table {
+        if row.0 == name {
+            return Some(row.1);
+        }
+    }
+    None
 }
 
 /// The number at a place, and 0 where there is none.
-pub fn number(words: &[&str], at: usize) -> u64 {
-    word(words, at).parse::<u64>().unwrap_or(0)
+pub fn number(call: &str, at: usize) -> u64 {
+    word(call, at).parse::<u64>().unwrap_or(0)
 }
 
 /// The number of 32 bits at a place.
-pub fn small(words: &[&str], at: usize) -> u32 {
-    number(words, at).min(4_294_967_295) as u32
+pub fn small(call: &str, at: usize) -> u32 {
+    number(call, at).min(4_294_967_295) as u32
 }
 
 /// The number of 8 bits at a place.
-pub fn tiny(words: &[&str], at: usize) -> u8 {
-    number(words, at).min(255) as u8
+pub fn tiny(call: &str, at: usize) -> u8 {
+    number(call, at).min(255) as u8
+}
+
+/// The number at a place, for a place or a size: 10,000,000 at most.
+pub fn size(call: &str, at: usize) -> usize {
+    number(call, at).min(10_000_000) as usize
 }
 
 /// The object of volume 7 with this vnode.
@@ -33,87 +48,43 @@ pub fn object_of(vnode: u32) -> Fid {
 }
 
 /// The object at a place.
-pub fn object(words: &[&str], at: usize) -> Fid {
-    object_of(small(words, at))
+pub fn object(call: &str, at: usize) -> Fid {
+    object_of(small(call, at))
 }
 
 /// The object at a place, and none for `-`.
-pub fn optional_object(words: &[&str], at: usize) -> Option<Fid> {
-    if word(words, at) == "-" {
+pub fn optional_object(call: &str, at: usize) -> Option<Fid> {
+    if word(call, at) == "-" {
         None
     } else {
-        Some(object(words, at))
+        Some(object(call, at))
     }
 }
 
 /// The objects from a place on.
-pub fn objects(alloc: Global, words: &[&str], from: usize) -> Result<Vec<Fid>, AllocError> {
+pub fn objects(alloc: Global, call: &str, from: usize) -> Vec<Fid> {
     let mut fids = Vec::new(alloc);
-    for at in from..words.len() {
-        fids.push(object(words, at))?;
+    for word in call.split(' ').skip(from) {
+        let _ = fids.push(object(word, 0));
     }
-    Ok(fids)
+    fids
 }
 
 /// The name at a place, where it is one.
-pub fn name(alloc: Global, words: &[&str], at: usize) -> Option<Name> {
-    Name::read(alloc, word(words, at).as_bytes()).ok()
+pub fn name(alloc: Global, call: &str, at: usize) -> Option<Name> {
+    Name::read(alloc, word(call, at).as_bytes()).ok()
 }
 
 /// The bytes whose hexadecimal digits stand from a place on, up to the first word that isn't digits.
-pub fn bytes(alloc: Global, words: &[&str], from: usize) -> Result<Vec<u8>, AllocError> {
+pub fn bytes(alloc: Global, call: &str, from: usize) -> Vec<u8> {
     let mut bytes = Vec::new(alloc);
-    for word in words.iter().skip(from) {
-        match hex::decode(alloc, *word) {
-            Ok(decoded) => bytes.extend_from_slice(&decoded)?,
-            Err(FromHexError::OutOfMemory) => return Err(AllocError),
+    for word in call.split(' ').skip(from) {
+        match hex::decode(alloc, word) {
+            Ok(decoded) => {
+                let _ = bytes.extend_from_slice(&decoded);
+            }
             Err(_) => break,
         }
     }
-    Ok(bytes)
-}
-
-/// Puts a word behind an answer.
-pub fn put(out: &mut String, word: &str) -> Result<(), AllocError> {
-    if !out.is_empty() {
-        out.push_str(" ")?;
-    }
-    out.push_str(word)
-}
-
-/// Puts a number behind an answer.
-pub fn put_number(out: &mut String, number: u64) -> Result<(), AllocError> {
-    put(out, "")?;
-    write!(out, "{number}")
-}
-
-/// Puts a word and a number behind an answer.
-pub fn put_counted(out: &mut String, word: &str, number: u64) -> Result<(), AllocError> {
-    put(out, word)?;
-    put_number(out, number)
-}
-
-/// Puts the vnodes of objects behind an answer.
-pub fn put_objects(out: &mut String, fids: &[Fid]) -> Result<(), AllocError> {
-    for fid in fids {
-        put_number(out, u64::from(fid.vnode))?;
-    }
-    Ok(())
-}
-
-/// Puts the vnode of an object behind an answer, or `-`.
-pub fn put_optional(out: &mut String, fid: Option<Fid>) -> Result<(), AllocError> {
-    match fid {
-        Some(fid) => put_number(out, u64::from(fid.vnode)),
-        None => put(out, "-"),
-    }
-}
-
-/// Puts bytes behind an answer, by their digits.
-pub fn put_bytes(out: &mut String, bytes: &[u8]) -> Result<(), AllocError> {
-    put(out, "")?;
-    for byte in bytes {
-        write!(out, "{byte:02x}")?;
-    }
-    Ok(())
+    bytes
 }

@@ -1,10 +1,9 @@
 // Calls on a volume and on a client's log that no script can make, or not one by one, each with its answer on the line below.
-use crate::operations::{number, object, operation, word};
-use anyhow::{Result, bail};
+use crate::operations::{named, number, object, operation, word};
 use coda_cancel::LentRecords;
 use coda_certify::{Reason, Verdict, certify, replay};
-use coda_cml::{FreezeFault, Log, Segment, SettleFault};
-use coda_fid::{Op, Record};
+use coda_cml::{FreezeFault, Log, LogFault, Segment, SettleFault};
+use coda_fid::{Fid, Op, Record};
 use coda_report::{reply_text, volume_text};
 use coda_script::{Records, Reply};
 use coda_tree::Volume;
@@ -21,6 +20,41 @@ pub struct Bench {
     now: u64,
 }
 
+#[derive(Clone, Copy)]
+enum Call {
+    New,
+    Queue,
+    Replay,
+    ReplayLog,
+    Mark,
+    Certify,
+    Append,
+    Tick,
+    Freeze,
+    Thaw,
+    Settle,
+    GiveUp,
+    Log,
+    Volume,
+}
+
+const CALLS: &[(&str, Call)] = &[
+    ("new", Call::New),
+    ("queue", Call::Queue),
+    ("replay", Call::Replay),
+    ("replay-log", Call::ReplayLog),
+    ("mark", Call::Mark),
+    ("certify", Call::Certify),
+    ("append", Call::Append),
+    ("tick", Call::Tick),
+    ("freeze", Call::Freeze),
+    ("thaw", Call::Thaw),
+    ("settle", Call::Settle),
+    ("giveup", Call::GiveUp),
+    ("log", Call::Log),
+    ("volume", Call::Volume),
+];
+
 fn kind(op: &Op) -> &'static str {
     match op {
         Op::Create { .. } => "create",
@@ -34,73 +68,171 @@ fn kind(op: &Op) -> &'static str {
     }
 }
 
-// The segments as `first-last count newest`, and the records as `number kind`, with the version that one carries.
-fn put_part(
-    text: &mut String,
-    segments: &[Segment],
-    mut records: LentRecords<'_>,
-) -> Result<(), AllocError> {
+// Puts segments as `first-last count newest`.
+fn put_segments(segments: &[Segment], out: &mut String) {
     for segment in segments {
-        let (first, last, count, newest) = (
-            segment.first,
-            segment.last,
-            segment.count,
-            segment.newest,
-        );
-        write!(text, " | {first}-{last} {count} {newest}")?;
+        let (first, last) = (segment.first, segment.last);
+        let (count, newest) = (segment.count, segment.newest);
+        let _ = write!(out, " | {first}-{last} {count} {newest}");
     }
+}
+
+// Puts a record as `number kind`, with the version that it carries.
+fn put_record(record: &Record, out: &mut String) {
+    let (number, kind) = (record.number, kind(&record.op));
+    let _ = write!(out, " | {number} {kind}");
+    if let Some(over) = record.op.carried() {
+        let pre = over.pre;
+        let _ = write!(out, " {pre}");
+    }
+}
+
+fn put_records(mut records: LentRecords<'_>, out: &mut String) {
     for _ in 0..records.len() {
-        let Some(record) = records.take_first() else {
-            break;
-        };
-        let (number, kind) = (record.number, kind(&record.op));
-        write!(text, " | {number} {kind}")?;
-        if let Some(over) = record.op.carried() {
-            let pre = over.pre;
-            write!(text, " {pre}")?;
+        if let Some(record) = records.take_first() {
+            put_record(record, out);
         }
     }
-    Ok(())
 }
 
-// A text in one line: bars stand for its newlines.
-fn barred(alloc: Global, text: &[u8]) -> Result<String, AllocError> {
-    let mut line = String::new(alloc);
+// `log`: of the chunk and of the tail the segments, and the records.
+fn put_log(log: &Log, out: &mut String) {
+    let (chunk, tail) = log.records();
+    let (chunk_segments, segments) = log.segments();
+    let _ = out.push_str("chunk");
+    put_segments(chunk_segments, out);
+    put_records(LentRecords::of(chunk), out);
+    let _ = out.push_str(" | tail");
+    put_segments(segments, out);
+    put_records(tail, out);
+}
+
+// Puts a text in one line: bars stand for its newlines.
+fn put_barred(text: &[u8], out: &mut String) {
     for part in std::str::from_utf8(text).unwrap_or("").lines() {
-        line.push_str(part)?;
-        line.push_str(" | ")?;
+        let _ = write!(out, "{part} | ");
     }
-    Ok(line)
 }
 
-fn verdict_text(alloc: Global, verdict: Verdict) -> Result<String, AllocError> {
+fn put_verdict(verdict: Result<Verdict, AllocError>, out: &mut String) {
     match verdict {
-        Verdict::Applied => "applied".to_string(alloc),
-        Verdict::Conflict(number, reason) => format!(in alloc; "conflict {number} {reason}"),
+        Ok(Verdict::Applied) => put(out, "applied"),
+        Ok(Verdict::Conflict(number, reason)) => {
+            let _ = write!(out, "conflict {number} {reason}");
+        }
+        Err(AllocError) => put(out, "no memory"),
     }
 }
 
-fn freeze_text(alloc: Global, outcome: Result<u64, FreezeFault>) -> Result<String, AllocError> {
-    match outcome {
-        Ok(chunk) => format!(in alloc; "chunk {chunk}"),
-        Err(FreezeFault::Memory) => Err(AllocError),
-        Err(fault) => format!(in alloc; "{fault}"),
+fn put_frozen(outcome: Result<u64, FreezeFault>, out: &mut String) {
+    let _ = match outcome {
+        Ok(chunk) => write!(out, "chunk {chunk}"),
+        Err(fault) => write!(out, "{fault}"),
+    };
+}
+
+fn put_settled(outcome: Result<(), SettleFault>, out: &mut String) {
+    let _ = match outcome {
+        Ok(()) => out.push_str("settled"),
+        Err(fault) => write!(out, "{fault}"),
+    };
+}
+
+// Puts whether an operation was appended.
+fn put_appended(outcome: Result<(), LogFault>, out: &mut String) {
+    let _ = match outcome {
+        Ok(()) => out.push_str("ok"),
+        Err(fault) => write!(out, "{fault}"),
+    };
+}
+
+fn put(out: &mut String, word: &str) {
+    let _ = out.push_str(word);
+}
+
+// `certify OP`: the reason, or `-`.
+fn put_reason(volume: &Volume, record: &Record, out: &mut String) {
+    let _ = match certify(volume, record) {
+        Some(reason) => write!(out, "{reason}"),
+        None => out.push_str("-"),
+    };
+}
+
+// `volume`.
+fn put_volume(alloc: Global, volume: &Volume, out: &mut String) {
+    if let Ok(text) = volume_text(alloc, volume, 1) {
+        put_barred(text.bytes(), out);
     }
 }
 
-fn settle_text(alloc: Global, outcome: Result<(), SettleFault>) -> Result<String, AllocError> {
-    match outcome {
-        Ok(()) => "settled".to_string(alloc),
-        Err(SettleFault::Memory) => Err(AllocError),
-        Err(fault) => format!(in alloc; "{fault}"),
+// `mark FID`.
+fn mark(volume: &mut Volume, fid: Fid) {
+    if let Some(node) = volume.get(fid) {
+        if let Ok(mut marked) = node.copy() {
+            marked.marked = true;
+            volume.set(fid, marked);
+        }
+    }
+}
+
+// `thaw`.
+fn thaw(log: &mut Log, out: &mut String) {
+    if log.frozen().is_none() {
+        put(out, "nothing frozen");
+    } else {
+        let is_done = log.thaw().is_ok();
+        put(out, if is_done { "thawed" } else { "no memory" });
+    }
+}
+
+// `freeze WINDOW CAP`, for server 1.
+fn freeze(log: &mut Log, now: u64, call: &str, out: &mut String) {
+    if log.chunks() > 4_096 {
+        put(out, "too many chunks");
+    } else {
+        let cap = number(call, 2).min(4_096) as usize;
+        put_frozen(log.freeze(1, now, number(call, 1), cap), out);
+    }
+}
+
+// `settle K applied`, `settle K refused`.
+fn settle(log: &mut Log, call: &str, out: &mut String) {
+    let verdict = if word(call, 2) == "applied" {
+        Verdict::Applied
+    } else {
+        Verdict::Conflict(1, Reason::NotEmpty)
+    };
+    put_settled(log.settle(number(call, 1), &verdict), out);
+}
+
+// Puts the records of a log that was given up.
+fn put_given_up(alloc: Global, records: Vec<Record>, out: &mut String) {
+    if let Ok(text) = reply_text(alloc, &Reply::GaveUp(Records::from_vec(records))) {
+        put_barred(text.bytes(), out);
+    }
+}
+
+// `giveup`: the records.
+fn give_up(alloc: Global, log: &mut Log, out: &mut String) {
+    match log.giveup() {
+        Ok(records) => put_given_up(alloc, records, out),
+        Err(fault) => put_frozen(Err(fault), out),
+    }
+}
+
+// The records of a log's tail.
+fn replay_log(alloc: Global, volume: &mut Volume, log: &Log, out: &mut String) {
+    if let Ok(records) = log.records().1.to_vec(alloc) {
+        put_verdict(replay(alloc, volume, 1, &records), out);
     }
 }
 
 impl Bench {
     /// A volume of number 7, and an empty log.
     pub fn new(alloc: Global) -> Result<Bench, AllocError> {
+        let volume = Volume::new(alloc, 7)?;
         Ok(Bench {
-            volume: Volume::new(alloc, 7)?,
+            volume,
             run: Vec::new(alloc),
             log: Log::new(alloc),
             next: 1,
@@ -108,168 +240,88 @@ impl Bench {
         })
     }
 
-    // `queue OP`: one more operation of the run that is to be replayed.
-    fn queue(&mut self, op: Op) -> Result<(), AllocError> {
-        let number = (self.run.len() as u64).saturating_add(1);
-        self.run.push(Record {
-            number,
-            time: 0,
-            op,
-        })?;
-        Ok(())
+    // `new N`: of which the operation that is appended first has this number.
+    fn renew(&mut self, alloc: Global, next: u64) {
+        if let Ok(made) = Bench::new(alloc) {
+            *self = made;
+            self.next = next;
+        }
     }
 
     // `replay C`: client C's run, which is empty then.
-    fn replay(&mut self, alloc: Global, client: u8) -> Result<String, AllocError> {
-        let verdict = replay(alloc, &mut self.volume, client, &self.run)?;
-        self.run = Vec::new(alloc);
-        verdict_text(alloc, verdict)
+    fn replay(&mut self, alloc: Global, client: u8, out: &mut String) {
+        put_verdict(replay(alloc, &mut self.volume, client, &self.run), out);
+        self.run.clear();
     }
 
-    // `mark FID`.
-    fn mark(&mut self, words: &[&str]) -> Result<()> {
-        let fid = object(words, 1)?;
-        if let Some(node) = self.volume.get(fid) {
-            let mut marked = node.copy()?;
-            marked.marked = true;
-            self.volume.set(fid, marked);
-        }
-        Ok(())
+    // `queue OP`: one more operation of the run that is to be replayed.
+    fn queue(&mut self, op: Op, out: &mut String) {
+        let number = (self.run.len() as u64).saturating_add(1);
+        let queued = self.run.push(Record {
+            number,
+            time: 0,
+            op,
+        });
+        put(out, if queued.is_ok() { "ok" } else { "no memory" });
     }
 
-    // `certify OP`: the reason, or `-`.
-    fn certify(&self, alloc: Global, op: Op) -> Result<String, AllocError> {
+    // `certify OP`.
+    fn certify(&self, op: Op, out: &mut String) {
         let record = Record {
             number: 41,
             time: 5,
             op,
         };
-        match certify(&self.volume, &record) {
-            Some(reason) => format!(in alloc; "{reason}"),
-            None => "-".to_string(alloc),
-        }
+        put_reason(&self.volume, &record, out);
     }
 
     // `append OP`: the next operation.
-    fn append(&mut self, alloc: Global, op: Op) -> Result<String, AllocError> {
+    fn append(&mut self, op: Op, out: &mut String) {
         let number = self.next;
         if number <= self.log.last() {
-            return "not later".to_string(alloc);
-        }
-        self.next = number.saturating_add(1);
-        let record = Record {
-            number,
-            time: self.now,
-            op,
-        };
-        match self.log.append(record) {
-            Ok(()) => "ok".to_string(alloc),
-            Err(fault) => format!(in alloc; "{fault}"),
-        }
-    }
-
-    // `freeze WINDOW CAP`, for server 1.
-    fn freeze(&mut self, alloc: Global, words: &[&str]) -> Result<String> {
-        let (window, cap) = (number(words, 1)?, number(words, 2)?.min(4_096) as usize);
-        if self.log.chunks() > 4_096 {
-            bail!("too many chunks");
-        }
-        let outcome = self.log.freeze(1, self.now, window, cap);
-        Ok(freeze_text(alloc, outcome)?)
-    }
-
-    // `thaw`.
-    fn thaw(&mut self, alloc: Global) -> Result<String, AllocError> {
-        if self.log.frozen().is_none() {
-            return "nothing frozen".to_string(alloc);
-        }
-        self.log.thaw()?;
-        "thawed".to_string(alloc)
-    }
-
-    // `settle K applied`, `settle K refused`.
-    fn settle(&mut self, alloc: Global, words: &[&str]) -> Result<String> {
-        let verdict = if word(words, 2) == "applied" {
-            Verdict::Applied
+            put(out, "not later");
         } else {
-            Verdict::Conflict(1, Reason::NotEmpty)
-        };
-        let outcome = self.log.settle(number(words, 1)?, &verdict);
-        Ok(settle_text(alloc, outcome)?)
-    }
-
-    // `giveup`: the records.
-    fn give_up(&mut self, alloc: Global) -> Result<String> {
-        match self.log.giveup() {
-            Ok(records) => {
-                let text = reply_text(alloc, &Reply::GaveUp(Records::from_vec(records)))?;
-                Ok(barred(alloc, text.bytes())?)
-            }
-            Err(fault) => Ok(format!(in alloc; "{fault}")?),
+            self.next = number.saturating_add(1);
+            let record = Record {
+                number,
+                time: self.now,
+                op,
+            };
+            put_appended(self.log.append(record), out);
         }
     }
 
-    // `log`: the log.
-    fn show(&self, alloc: Global) -> Result<String, AllocError> {
-        let (chunk, tail) = self.log.records();
-        let (chunk_segments, segments) = self.log.segments();
-        let mut text = "chunk".to_string(alloc)?;
-        put_part(&mut text, chunk_segments, LentRecords::of(chunk))?;
-        text.push_str(" | tail")?;
-        put_part(&mut text, segments, tail)?;
-        Ok(text)
-    }
-
-    // The volume, its lines behind bars.
-    fn show_volume(&self, alloc: Global) -> Result<String> {
-        let text = volume_text(alloc, &self.volume, 1)?;
-        Ok(barred(alloc, text.bytes())?)
-    }
-
-    /// The answer to a call.
-    pub fn answer(&mut self, alloc: Global, line: &str) -> Result<String> {
-        let mut words = Vec::new(alloc);
-        for word in line.split(' ') {
-            words.push(word)?;
+    // Calls with an operation.
+    fn take(&mut self, asked: Call, op: Op, out: &mut String) {
+        match asked {
+            Call::Queue => self.queue(op, out),
+            Call::Certify => self.certify(op, out),
+            _ => self.append(op, out),
         }
-        self.answer_words(alloc, &words)
     }
 
-    fn answer_words(&mut self, alloc: Global, words: &[&str]) -> Result<String> {
-        let behind = words.get(1..).unwrap_or(&[]);
-        let text = match word(words, 0) {
-            "new" => {
-                *self = Bench::new(alloc)?;
-                self.next = number(words, 1)?;
-                "ok".to_string(alloc)?
-            }
-            "queue" => {
-                self.queue(operation(alloc, behind)?)?;
-                "ok".to_string(alloc)?
-            }
-            "replay" => self.replay(alloc, number(words, 1)?.min(255) as u8)?,
-            "replay-log" => {
-                let records = self.log.records().1.to_vec(alloc)?;
-                verdict_text(alloc, replay(alloc, &mut self.volume, 1, &records)?)?
-            }
-            "mark" => {
-                self.mark(words)?;
-                "ok".to_string(alloc)?
-            }
-            "certify" => self.certify(alloc, operation(alloc, behind)?)?,
-            "append" => self.append(alloc, operation(alloc, behind)?)?,
-            "tick" => {
-                self.now = self.now.saturating_add(number(words, 1)?);
-                "ok".to_string(alloc)?
-            }
-            "freeze" => self.freeze(alloc, words)?,
-            "thaw" => self.thaw(alloc)?,
-            "settle" => self.settle(alloc, words)?,
-            "giveup" => self.give_up(alloc)?,
-            "log" => self.show(alloc)?,
-            "volume" => self.show_volume(alloc)?,
-            _ => bail!("no call"),
-        };
-        Ok(text)
+    /// Puts the answer to a call.
+    pub fn answer(&mut self, alloc: Global, call: &str, out: &mut String) {
+        match named(CALLS, call) {
+            Some(Call::New) => self.renew(alloc, number(call, 1)),
+            Some(Call::Replay) => self.replay(alloc, number(call, 1).min(255) as u8, out),
+            Some(Call::ReplayLog) => replay_log(alloc, &mut self.volume, &self.log, out),
+            Some(Call::Mark) => mark(&mut self.volume, object(call, 1)),
+            Some(Call::Tick) => self.now = self.now.saturating_add(number(call, 1)),
+            Some(Call::Freeze) => freeze(&mut self.log, self.now, call, out),
+            Some(Call::Thaw) => thaw(&mut self.log, out),
+            Some(Call::Settle) => settle(&mut self.log, call, out),
+            Some(Call::GiveUp) => give_up(alloc, &mut self.log, out),
+            Some(Call::Log) => put_log(&self.log, out),
+            Some(Call::Volume) => put_volume(alloc, &self.volume, out),
+            Some(asked) => match operation(alloc, call.split_once(' ').map_or("", |pair| pair.1)) {
+                Some(op) => self.take(asked, op, out),
+                None => put(out, "no operation"),
+            },
+            None => put(out, "no call"),
+        }
+        if out.is_empty() {
+            put(out, "ok");
+        }
     }
 }

@@ -1,12 +1,10 @@
 // What the first lines of a script, which are comments, ask of its run.
-use crate::disks::{DiskLine, put_bytes, put_failing};
-use crate::texts::lines;
-use anyhow::{Context, Result};
-use std::alloc::Global;
+use crate::disks::{DiskLine, place_of};
+use std::alloc::{AllocError, Global};
 
 /// How a script is run, and how its run must end.
 #[derive(Drop)]
-pub struct Header {
+pub struct Header<'a> {
     /// The words of the command line.
     pub words: Vec<String>,
     /// The calls of the source that fail, from 1.
@@ -24,20 +22,64 @@ pub struct Header {
     /// Whether the images that the bay answered at crashes stand behind the report.
     pub shows_images: bool,
     /// The exit code, and behind a colon what goes to standard error.
-    pub status: String,
+    pub status: &'a str,
 }
 
-/// The number at the front of a text.
-pub fn number_in(text: &str) -> Result<u64> {
+#[derive(Clone, Copy)]
+enum Says {
+    Status,
+    Words,
+    SourceFails,
+    SinkFails,
+    SinkTakes,
+    Pieces,
+    Images,
+    BayFails,
+    Disk,
+}
+
+const FRONTS: &[(&str, Says)] = &[
+    ("# status ", Says::Status),
+    ("# words", Says::Words),
+    ("# source fails at call ", Says::SourceFails),
+    ("# sink fails at call ", Says::SinkFails),
+    ("# sink takes ", Says::SinkTakes),
+    ("# pieces of ", Says::Pieces),
+    ("# images", Says::Images),
+    ("# bay fails at call ", Says::BayFails),
+    ("# disk ", Says::Disk),
+];
+
+// What a line says, and what stands behind that. What says nothing of the run is a comment.
+fn said(line: &str) -> Option<(Says, &str)> {
+    for row in FRONTS {
+        if let Some(rest) = line.strip_prefix(row.0) {
+            return Some((row.1, rest));
+        }
+    }
+    None
+}
+
+/// The number at the front of a text, and 0 where there is none.
+pub fn number_in(text: &str) -> u64 {
     let word = text.split(' ').next().unwrap_or("");
-    word.parse::<u64>().with_context(|| text)
+    word.parse::<u64>().unwrap_or(0)
 }
 
-impl Header {
+// Words behind a blank each.
+fn words_of(alloc: Global, text: &str) -> Result<Vec<String>, AllocError> {
+    let mut words = Vec::new(alloc);
+    for word in text.split(' ').skip(1) {
+        words.push(word.to_string(alloc)?)?;
+    }
+    Ok(words)
+}
+
+impl<'a> Header<'a> {
     /// Reads the header of a script.
-    pub fn read(alloc: Global, script: &[u8]) -> Result<Header> {
+    pub fn read(alloc: Global, script: &'a [u8]) -> Result<Header<'a>, AllocError> {
         let mut header = Header {
-            words: Vec::new(alloc),
+            words: words_of(alloc, " run")?,
             failing_reads: Vec::new(alloc),
             failing_writes: Vec::new(alloc),
             piece: u64::MAX,
@@ -45,55 +87,58 @@ impl Header {
             failing_bay: Vec::new(alloc),
             disks: Vec::new(alloc),
             shows_images: false,
-            status: "0: ".to_string(alloc)?,
+            status: "0: ",
         };
-        header.words.push("run".to_string(alloc)?)?;
-        for line in lines(alloc, script)? {
-            match std::str::from_utf8(line) {
-                Ok(text) if text.starts_with("# ") => header.put(alloc, text)?,
-                _ => break,
+        for line in script.split(|byte| *byte == b'\n') {
+            let text = std::str::from_utf8(line).unwrap_or("");
+            if !text.starts_with("# ") {
+                break;
             }
+            header.put_line(alloc, text);
         }
         Ok(header)
     }
 
-    // Takes a line of the header. What says nothing of the run is a comment.
-    fn put(&mut self, alloc: Global, line: &str) -> Result<()> {
-        if let Some(status) = line.strip_prefix("# status ") {
-            self.status = status.to_string(alloc)?;
-        } else if let Some(words) = line.strip_prefix("# words") {
-            self.words = Vec::new(alloc);
-            for word in words.split(' ').skip(1) {
-                self.words.push(word.to_string(alloc)?)?;
-            }
-        } else if let Some(call) = line.strip_prefix("# source fails at call ") {
-            self.failing_reads.push(number_in(call)?)?;
-        } else if let Some(call) = line.strip_prefix("# sink fails at call ") {
-            self.failing_writes.push(number_in(call)?)?;
-        } else if let Some(room) = line.strip_prefix("# sink takes ") {
-            self.room = Some(number_in(room)?);
-        } else if let Some(piece) = line.strip_prefix("# pieces of ") {
-            self.piece = number_in(piece)?;
-        } else {
-            self.put_outside(alloc, line)?;
+    fn put_line(&mut self, alloc: Global, line: &'a str) {
+        if let Some((says, rest)) = said(line) {
+            self.put(alloc, says, rest);
         }
-        Ok(())
     }
 
-    // Takes a line of the header that says something of the bay or of a disk.
-    fn put_outside(&mut self, alloc: Global, line: &str) -> Result<()> {
-        if line == "# images" {
-            self.shows_images = true;
-        } else if let Some(call) = line.strip_prefix("# bay fails at call ") {
-            self.failing_bay.push(number_in(call)?)?;
-        } else if let Some(disk) = line.strip_prefix("# disk ") {
-            let number = u32::try_from(number_in(disk)?)?;
-            if let Some((_, call)) = disk.split_once(" fails at call ") {
-                put_failing(alloc, &mut self.disks, number, number_in(call)?)?;
-            } else if let Some((_, bytes)) = disk.split_once(" has ") {
-                put_bytes(alloc, &mut self.disks, number, bytes)?;
-            }
+    // Takes a line of the header.
+    fn put(&mut self, alloc: Global, says: Says, rest: &'a str) {
+        let number = number_in(rest);
+        match says {
+            Says::Status => self.status = rest,
+            Says::Words => self.words = words_of(alloc, rest).unwrap_or(Vec::new(alloc)),
+            Says::SourceFails => put_call(&mut self.failing_reads, number),
+            Says::SinkFails => put_call(&mut self.failing_writes, number),
+            Says::SinkTakes => self.room = Some(number),
+            Says::Pieces => self.piece = number,
+            Says::Images => self.shows_images = true,
+            Says::BayFails => put_call(&mut self.failing_bay, number),
+            Says::Disk => put_disk(
+                alloc,
+                &mut self.disks,
+                number.min(4_294_967_295) as u32,
+                rest,
+            ),
         }
-        Ok(())
+    }
+}
+
+fn put_call(calls: &mut Vec<u64>, number: u64) {
+    let _ = calls.push(number);
+}
+
+// Takes what a line says of the disk of this number: that a call of it fails, or what bytes it has.
+fn put_disk(alloc: Global, disks: &mut Vec<DiskLine>, number: u32, rest: &str) {
+    let place = place_of(alloc, disks, number);
+    if let Some(disk) = disks.get_mut(place) {
+        if let Some((_, call)) = rest.split_once(" fails at call ") {
+            put_call(&mut disk.failing, number_in(call));
+        } else if let Some((_, digits)) = rest.split_once(" has ") {
+            disk.put_bytes(alloc, digits);
+        }
     }
 }

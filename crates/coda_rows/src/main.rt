@@ -23,8 +23,7 @@ use std::{env, fs, io};
 fn names_in(rt: &HostRuntime, folder: &str) -> io::Result<Vec<String>> {
     let mut names = Vec::new(rt.alloc());
     for entry in fs::read_dir(rt, folder)? {
-        let entry = entry?;
-        names.push(entry.file_name().to_string(rt.alloc())?)?;
+        names.push(entry?.file_name().to_string(rt.alloc())?)?;
     }
     names.sort()?;
     Ok(names)
@@ -34,31 +33,35 @@ fn names_in(rt: &HostRuntime, folder: &str) -> io::Result<Vec<String>> {
 fn contents(rt: &HostRuntime, folder: &str, name: &str, ending: &str) -> Result<Vec<u8>> {
     let path = format!(in rt.alloc(); "{folder}/{name}.{ending}")?;
     let bytes = fs::read(rt, path.as_str()).with_context(|| path.as_str())?;
-    Ok(repeated(rt.alloc(), &bytes)?)
+    Ok(repeated(rt.alloc(), &bytes))
+}
+
+// How a script's row compares.
+fn script(rt: &HostRuntime, folder: &str, name: &str) -> Result<String> {
+    let text = contents(rt, folder, name, "coda")?;
+    let report = contents(rt, folder, name, "report")?;
+    let (wanted, found) = scripts::run(rt.alloc(), &text, &report)?;
+    Ok(comparison(rt.alloc(), name, &wanted, &found)?)
+}
+
+// How a row of answered lines compares.
+fn lines(rt: &HostRuntime, folder: &str, name: &str, ending: &str, kind: Kind) -> Result<String> {
+    let wanted = contents(rt, folder, name, ending)?;
+    let found = answered(rt.alloc(), &wanted, kind)?;
+    Ok(comparison(rt.alloc(), name, &wanted, &found)?)
 }
 
 // How the row of a file compares, where the file is one of a row.
 fn row(rt: &HostRuntime, folder: &str, file: &str) -> Result<Option<String>> {
-    let alloc = rt.alloc();
-    let Some((name, ending)) = file.rsplit_once('.') else {
-        return Ok(None);
-    };
+    let (name, ending) = file.rsplit_once('.').unwrap_or((file, ""));
     let kind = match ending {
-        "coda" => None,
-        "lines" => Some(Kind::Said),
-        "words" => Some(Kind::Words),
-        "calls" => Some(Kind::Calls),
+        "coda" => return Ok(Some(script(rt, folder, name)?)),
+        "lines" => Kind::Said,
+        "words" => Kind::Words,
+        "calls" => Kind::Calls,
         _ => return Ok(None),
     };
-    let text = contents(rt, folder, name, ending)?;
-    let (wanted, found) = match kind {
-        None => scripts::run(alloc, text, contents(rt, folder, name, "report")?)?,
-        Some(kind) => {
-            let found = answered(alloc, &text, kind)?;
-            (text, found)
-        }
-    };
-    Ok(Some(comparison(alloc, name, &wanted, &found)?))
+    Ok(Some(lines(rt, folder, name, ending, kind)?))
 }
 
 fn main(rt: HostRuntime) -> Result<()> {

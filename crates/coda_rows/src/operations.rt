@@ -1,84 +1,149 @@
 // Operations as they are written in rows of calls. An object goes by a number: 0 is the root of volume 7, and n its object 7.1.n.
-use anyhow::{Context, Result, bail};
 use coda_fid::{Attrs, Bytes, Fid, Name, Op, Over, Sid};
 use std::alloc::Global;
 
-/// The word at a place, and nothing behind the last.
-pub fn word<'a>(words: &[&'a str], at: usize) -> &'a str {
-    words.get(at).copied().unwrap_or("")
+#[derive(Clone, Copy)]
+enum Kind {
+    Create,
+    Mkdir,
+    Symlink,
+    Remove,
+    Rmdir,
+    Rename,
+    Store,
+    Chmod,
+    Chown,
 }
 
-/// The number at a place.
-pub fn number(words: &[&str], at: usize) -> Result<u64> {
-    let word = word(words, at);
-    word.parse::<u64>().with_context(|| word)
+const KINDS: &[(&str, Kind)] = &[
+    ("create", Kind::Create),
+    ("mkdir", Kind::Mkdir),
+    ("symlink", Kind::Symlink),
+    ("remove", Kind::Remove),
+    ("rmdir", Kind::Rmdir),
+    ("rename", Kind::Rename),
+    ("store", Kind::Store),
+    ("chmod", Kind::Chmod),
+    ("chown", Kind::Chown),
+];
+
+/// The word at a place, and nothing behind the last.
+pub fn word(call: &str, at: usize) -> &str {
+    call.split(' ').nth(at).unwrap_or("")
+}
+
+/// What a table has for the first word, if it has anything.
+pub fn named<T: Copy>(table: &[(&str, T)], call: &str) -> Option<T> {
+    let name = word(call, 0);
+    for row in table {
+        if row.0 == name {
+            return Some(row.1);
+        }
+    }
+    None
+}
+
+/// The number at a place, and 0 where there is none.
+pub fn number(call: &str, at: usize) -> u64 {
+    word(call, at).parse::<u64>().unwrap_or(0)
 }
 
 /// The object at a place.
-pub fn object(words: &[&str], at: usize) -> Result<Fid> {
-    let number = number(words, at)?.min(4_294_967_295) as u32;
+pub fn object(call: &str, at: usize) -> Fid {
+    let number = number(call, at).min(4_294_967_295) as u32;
     let (vnode, uniq) = if number == 0 { (0, 1) } else { (1, number) };
-    Ok(Fid {
+    Fid {
         volume: 7,
         vnode,
         uniq,
-    })
-}
-
-// The version at a place, as `client.number`.
-fn version(words: &[&str], at: usize) -> Result<Sid> {
-    match word(words, at).split_once('.') {
-        Some((client, number)) => {
-            let (client, number) = (client.parse::<u8>(), number.parse::<u64>());
-            Ok(Sid {
-                client: client?,
-                number: number?,
-            })
-        }
-        None => bail!("no version"),
     }
 }
 
-fn name(alloc: Global, words: &[&str], at: usize) -> Result<Name> {
-    Ok(Name::read(alloc, word(words, at).as_bytes())?)
+// The version at a place, as `client.number`.
+fn version(call: &str, at: usize) -> Sid {
+    let (client, number) = word(call, at).split_once('.').unwrap_or(("", ""));
+    Sid {
+        client: client.parse::<u8>().unwrap_or(0),
+        number: number.parse::<u64>().unwrap_or(0),
+    }
 }
 
-// `KIND DIR NAME FID`, a creation.
-fn creation(alloc: Global, words: &[&str]) -> Result<Op> {
-    let (dir, fid) = (object(words, 1)?, object(words, 3)?);
-    let name = name(alloc, words, 2)?;
-    Ok(match word(words, 0) {
-        "create" => Op::Create {
+fn name(alloc: Global, call: &str, at: usize) -> Option<Name> {
+    Name::read(alloc, word(call, at).as_bytes()).ok()
+}
+
+// What stands behind a rename: `FID PRE` of the replaced object, or nothing.
+fn over(call: &str) -> Option<Over> {
+    if word(call, 6).is_empty() {
+        None
+    } else {
+        Some(Over {
+            fid: object(call, 6),
+            pre: version(call, 7),
+        })
+    }
+}
+
+// The attribute that is changed.
+fn attrs(kind: Kind, number: u64) -> Attrs {
+    let number = number.min(511);
+    let (mode, owner) = match kind {
+        Kind::Chmod => (Some(number as u16), None),
+        _ => (None, Some(number as u32)),
+    };
+    Attrs {
+        mode,
+        owner,
+        mtime: None,
+    }
+}
+
+// `KIND FID PRE NUMBER`, a change of an attribute.
+fn setattr(kind: Kind, call: &str) -> Op {
+    Op::Setattr {
+        fid: object(call, 1),
+        pre: version(call, 2),
+        attrs: attrs(kind, number(call, 3)),
+    }
+}
+
+// `store FID PRE`.
+fn store(call: &str, content: Bytes) -> Op {
+    Op::Store {
+        fid: object(call, 1),
+        pre: version(call, 2),
+        content,
+    }
+}
+
+// `KIND DIR NAME FID`, with PRE behind it where it is a removal.
+fn binding(kind: Kind, call: &str, name: Name, target: Bytes) -> Op {
+    let (dir, fid, pre) = (object(call, 1), object(call, 3), version(call, 4));
+    let (mode, owner) = (0o644, 0);
+    match kind {
+        Kind::Create => Op::Create {
             dir,
             name,
             fid,
-            mode: 0o644,
-            owner: 0,
+            mode,
+            owner,
         },
-        "mkdir" => Op::Mkdir {
+        Kind::Mkdir => Op::Mkdir {
             dir,
             name,
             fid,
             mode: 0o755,
-            owner: 0,
+            owner,
         },
-        _ => Op::Symlink {
+        Kind::Symlink => Op::Symlink {
             dir,
             name,
             fid,
-            target: Bytes::of(alloc, b"t")?,
+            target,
             mode: 0o777,
-            owner: 0,
+            owner,
         },
-    })
-}
-
-// `KIND DIR NAME FID PRE`, a removal.
-fn removal(alloc: Global, words: &[&str]) -> Result<Op> {
-    let (dir, fid, pre) = (object(words, 1)?, object(words, 3)?, version(words, 4)?);
-    let name = name(alloc, words, 2)?;
-    Ok(match word(words, 0) {
-        "remove" => Op::Remove {
+        Kind::Remove => Op::Remove {
             dir,
             name,
             fid,
@@ -90,56 +155,33 @@ fn removal(alloc: Global, words: &[&str]) -> Result<Op> {
             fid,
             pre,
         },
-    })
+    }
 }
 
 // `rename DIR NAME DIR NAME FID`, and behind it perhaps `FID PRE` of the replaced object.
-fn rename(alloc: Global, words: &[&str]) -> Result<Op> {
-    let over = if words.len() > 6 {
-        Some(Over {
-            fid: object(words, 6)?,
-            pre: version(words, 7)?,
-        })
-    } else {
-        None
-    };
-    let from = name(alloc, words, 2)?;
-    let to = name(alloc, words, 4)?;
-    Ok(Op::Rename {
-        from_dir: object(words, 1)?,
+fn rename(call: &str, from: Name, to: Name) -> Op {
+    Op::Rename {
+        from_dir: object(call, 1),
         from,
-        to_dir: object(words, 3)?,
+        to_dir: object(call, 3),
         to,
-        fid: object(words, 5)?,
-        over,
-    })
+        fid: object(call, 5),
+        over: over(call),
+    }
 }
 
 /// The operation that these words are.
-pub fn operation(alloc: Global, words: &[&str]) -> Result<Op> {
-    match word(words, 0) {
-        "create" | "mkdir" | "symlink" => creation(alloc, words),
-        "remove" | "rmdir" => removal(alloc, words),
-        "rename" => rename(alloc, words),
-        "store" => Ok(Op::Store {
-            fid: object(words, 1)?,
-            pre: version(words, 2)?,
-            content: Bytes::of(alloc, b"content")?,
-        }),
-        "chmod" | "chown" => {
-            let number = number(words, 3)?.min(511);
-            let is_mode = word(words, 0) == "chmod";
-            let attrs = Attrs {
-                mode: if is_mode { Some(number as u16) } else { None },
-                owner: if is_mode { None } else { Some(number as u32) },
-                mtime: None,
-            };
-            Ok(Op::Setattr {
-                fid: object(words, 1)?,
-                pre: version(words, 2)?,
-                attrs,
-            })
-        }
-        _ => bail!("no operation"),
+pub fn operation(alloc: Global, call: &str) -> Option<Op> {
+    match named(KINDS, call)? {
+        Kind::Store => Some(store(call, Bytes::of(alloc, b"content").ok()?)),
+        Kind::Chmod => Some(setattr(Kind::Chmod, call)),
+        Kind::Chown => Some(setattr(Kind::Chown, call)),
+        Kind::Rename => Some(rename(call, name(alloc, call, 2)?, name(alloc, call, 4)?)),
+        kind => Some(binding(
+            kind,
+            call,
+            name(alloc, call, 2)?,
+            Bytes::of(alloc, b"t").ok()?,
+        )),
     }
 }

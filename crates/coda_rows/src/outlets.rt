@@ -1,5 +1,5 @@
 // A source that gives small pieces, and a sink that takes few bytes.
-use coda_io::{MemSource, ReadFault, Sink, Source, WriteFault};
+use coda_io::{MemSink, MemSource, ReadFault, Sink, Source, WriteFault};
 
 /// Bytes in memory, of which one call gives only so many.
 #[derive(Drop)]
@@ -28,19 +28,19 @@ impl Source for Pieces {
     }
 }
 
-/// A sink that takes at most three bytes in one call, and none where it is full.
+/// A sink that may be narrow: then it takes at most three bytes in one call, and none where it is full.
 #[derive(Drop)]
-pub struct NarrowSink {
-    bytes: Vec<u8>,
-    room: usize,
+pub struct Outlet {
+    sink: MemSink,
+    room: Option<u64>,
     faults: u64,
 }
 
-impl NarrowSink {
-    /// A sink for so many bytes.
-    pub fn new(bytes: Vec<u8>, room: usize) -> NarrowSink {
-        NarrowSink {
-            bytes,
+impl Outlet {
+    /// This sink, for so many bytes, or for all.
+    pub fn new(sink: MemSink, room: Option<u64>) -> Outlet {
+        Outlet {
+            sink,
             room,
             faults: 0,
         }
@@ -48,11 +48,11 @@ impl NarrowSink {
 
     /// What it holds.
     pub fn bytes(&self) -> &[u8] {
-        &self.bytes
+        self.sink.bytes()
     }
 }
 
-impl Sink for NarrowSink {
+impl Sink for Outlet {
     ghost use Rattle.std.specs.Prelude.{None};
 
     ghost held = { λ _. None };
@@ -60,15 +60,19 @@ impl Sink for NarrowSink {
     ghost faults = { λ s. s.faults };
 
     fn write(&mut self, bytes: &[u8]) -> Result<usize, WriteFault> {
-        let count = bytes.len().min(self.room).min(3);
-        if self.bytes.extend_from_slice(&bytes[..count]).is_err() {
+        let most = match self.room {
+            Some(room) => room.min(3) as usize,
+            None => bytes.len(),
+        };
+        let count = bytes.len().min(most);
+        if self.sink.write(&bytes[..count]).is_err() {
             self.faults = self.faults.saturating_add(1);
             return Err(WriteFault);
         }
         if count == 0 && !bytes.is_empty() {
             self.faults = self.faults.saturating_add(1);
         }
-        self.room -= count;
+        self.room = self.room.map(|room| room.saturating_sub(count as u64));
         Ok(count)
     }
 }

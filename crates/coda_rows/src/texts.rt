@@ -2,15 +2,6 @@
 use std::alloc::{AllocError, Global};
 use std::mem;
 
-/// The lines of a text: what its newlines stand between, and behind the last one.
-pub fn lines(alloc: Global, text: &[u8]) -> Result<Vec<&[u8]>, AllocError> {
-    let mut lines = Vec::new(alloc);
-    for line in text.split(|byte| *byte == b'\n') {
-        lines.push(line)?;
-    }
-    Ok(lines)
-}
-
 /// The runs of a text: what its lines `# again` stand between.
 pub fn runs(alloc: Global, text: &[u8]) -> Result<Vec<Vec<u8>>, AllocError> {
     let mut runs = Vec::new(alloc);
@@ -26,6 +17,12 @@ pub fn runs(alloc: Global, text: &[u8]) -> Result<Vec<Vec<u8>>, AllocError> {
     Ok(runs)
 }
 
+// The line at a place, and nothing behind the last.
+fn line(text: &[u8], at: usize) -> &str {
+    let line = text.split(|byte| *byte == b'\n').nth(at).unwrap_or(b"");
+    std::str::from_utf8(line).unwrap_or("bytes that are no text")
+}
+
 /// `NAME ok` where both texts are the same; else the first line in which they differ, both sides.
 pub fn comparison(
     alloc: Global,
@@ -36,11 +33,10 @@ pub fn comparison(
     if wanted == found {
         return format!(in alloc; "{name} ok");
     }
-    let (wanted, found) = (lines(alloc, wanted)?, lines(alloc, found)?);
     let pairs = wanted.iter().zip(found.iter());
-    let at = pairs.take_while(|pair| pair.0 == pair.1).count();
+    let same = pairs.take_while(|pair| pair.0 == pair.1);
+    let at = same.filter(|pair| *pair.0 == b'\n').count();
     let number = at.saturating_add(1);
-    let wanted = String::from_utf8_lossy(alloc, wanted.get(at).copied().unwrap_or(b""))?;
-    let found = String::from_utf8_lossy(alloc, found.get(at).copied().unwrap_or(b""))?;
+    let (wanted, found) = (line(wanted, at), line(found, at));
     format!(in alloc; "{name} differs at line {number}\n    wanted: {wanted}\n    found:  {found}")
 }
