@@ -11,6 +11,7 @@ mod hoard;
 mod journal;
 mod letters;
 mod promises;
+mod replica;
 mod resolve;
 mod ring;
 mod spelled;
@@ -23,6 +24,7 @@ use coda_cache::Cache;
 use coda_callback::Promises;
 use coda_disk::MemDisk;
 use coda_hdb::Hdb;
+use coda_replica::Decider;
 use std::alloc::AllocError;
 use std::{fs, io};
 
@@ -36,6 +38,7 @@ enum On {
     Journal,
     Letters,
     Promises,
+    Replica,
     Resolution,
     Ring,
     Spelling,
@@ -51,6 +54,7 @@ const FRONTS: &[(&str, On)] = &[
     ("journal", On::Journal),
     ("letters", On::Letters),
     ("promises", On::Promises),
+    ("replica", On::Replica),
     ("resolution", On::Resolution),
     ("ring", On::Ring),
     ("spelling", On::Spelling),
@@ -81,6 +85,7 @@ fn found(rt: &HostRuntime, on: On, text: &str) -> String {
         On::Journal => answered(Ok(journal::Image::new(alloc)), alloc, text),
         On::Letters => answered(Ok(letters::Posted::new(alloc)), alloc, text),
         On::Promises => answered(Ok(Promises::new(alloc)), alloc, text),
+        On::Replica => answered(Decider::new(alloc, 7, 1), alloc, text),
         On::Resolution => answered(resolve::Replicas::new(alloc), alloc, text),
         On::Ring => answered(ring::Logged::new(alloc), alloc, text),
         On::Spelling => answered(Ok(spelled::Spelled {}), alloc, text),

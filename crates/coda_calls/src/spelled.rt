@@ -131,14 +131,16 @@ fn put_reason(out: &mut Answer, reason: Reason) {
     }
 }
 
-// Puts what was decided.
-fn put_decision(out: &mut Answer, decision: Decision) {
+/// Puts what was decided.
+pub fn put_decision(out: &mut Answer, decision: Decision) {
     match decision {
+        Decision::Applied => out.put("applied"),
         Decision::Conflict(number, reason) => {
             out.put_counted("conflict", number);
             put_reason(out, reason);
         }
-        _ => out.put("another answer"),
+        Decision::Old(number) => out.put_counted("old", number),
+        Decision::Behind(number) => out.put_counted("behind", number),
     }
 }
 

@@ -1,4 +1,4 @@
-use Rattle.std.proofs.Common.{◌≡◌, ℕ, ◌<◌, ◌≤◌, true, [], ◌∷◌, refl, sym, subst, arith, rules}
+use Rattle.std.proofs.Common.{◌≡◌, ◌<◌, ◌≤◌, [], ◌∷◌, refl, sym, subst, arith, rules}
 use Rattle.std.proofs.lemmas.Bool.{lt-ltb, le-leb}
 use Rattle.coda_fid.specs.Fid.{root_of}
 use Rattle.coda_fid.specs.declared.op.Record.{Record}
@@ -7,7 +7,7 @@ use Rattle.coda_record.specs.Parts.{u64}
 use Rattle.coda_record.specs.Spelling.{HasSpelling}
 use Rattle.coda_record.specs.Table as table
 use Rattle.coda_spelling.proofs.SpelledParts.{both_true, name_spelled, fid_spelled, IsOpSpelled, create_spelled}
-use Rattle.coda_disk_tests.proofs.replica.creation.Goals as goal
+use Rattle.coda_calls.proofs.replica.first_creation.Goals as goal
 
 one_spelled : (rec : Record) → 0 < rec.number → rec.number ≤ 4294967295 → HasSpelling u64 rec.time → IsOpSpelled rec.op → HasSpelling (table.records four) (rec ∷ [])
 unfolding table.records table.record_above
@@ -17,8 +17,7 @@ one_spelled rec low high time op =
 
 pub returns : goal.returns
 returns c =
-    let uniq = c.ranges.uniq.fits in
     let is : c.in_ok-name.name ≡ 97 ∷ [] = search rules in
     let name : HasSpelling table.name c.in_ok-name.name = subst (HasSpelling table.name) (sym is) (name_spelled (97 ∷ []) refl) in
     one_spelled _ (omega arith) (omega arith) refl
-    (create_spelled c.root.result c.in_ok-name.name _ 420 0 (subst (HasSpelling table.fid) (sym c.root.ensures) (fid_spelled (root_of 7) (omega arith) (omega arith) (omega arith))) name (fid_spelled _ (omega arith) (omega arith) (omega (arith, uniq))) refl refl)
+    (create_spelled c.root.result c.in_ok-name.name _ 420 0 (subst (HasSpelling table.fid) (sym c.root.ensures) (fid_spelled (root_of 7) (omega arith) (omega arith) (omega arith))) name (fid_spelled _ (omega arith) (omega arith) (omega arith)) refl refl)
