@@ -3,13 +3,13 @@ ghost use Rattle.coda_report.specs.Texts.{IsWhole};
 
 use anyhow::Result;
 use coda_certify::{Reason, Verdict};
-use coda_fid::{Fid, Name, Path};
+use coda_fid::{Bytes, Fid, Name, Path};
 use coda_report::reply_text;
 use coda_script::{
     Answer, Arg, Args, ClientState, Expansion, HoardEntries, HoardEntry, Mark, Marks, Numbers,
     Refusal, Reply, Undecided, Why,
 };
-use std::alloc::Global;
+use std::alloc::{AllocError, Global};
 use std::process::Abort;
 use std::test::Fail;
 
@@ -27,17 +27,29 @@ const B: Fid = Fid {
     uniq: 19,
 };
 
+// What a text was made to, or that there was no memory.
+fn shown(text: &Result<Bytes, AllocError>) -> &str {
+    match text {
+        Ok(text) => std::str::from_utf8(text.bytes()).unwrap_or("bytes that are no text"),
+        Err(AllocError) => "no memory",
+    }
+}
+
+// Compares a text.
+fn compare(rt: &impl Abort, text: &Result<Bytes, AllocError>, wanted: &str) {
+    assert_eq!(rt; shown(text), wanted);
+}
+
 // Checks the text of a reply.
-fn check(rt: &impl Abort, alloc: Global, reply: Reply, wanted: &str) -> Result<(), Fail>
+fn check(rt: &impl Abort, alloc: Global, reply: Reply, wanted: &str)
     requires { IsWhole reply }
 {
-    let text = reply_text(alloc, &reply)?;
-    assert_eq!(rt; std::str::from_utf8(text.bytes())?, wanted);
-    Ok(())
+    let text = reply_text(alloc, &reply);
+    compare(rt, &text, wanted);
 }
 
 #[test]
-fn replies_of_messages(rt: HostRuntime) -> Result<(), Fail> {
+fn replies_of_messages(rt: HostRuntime) {
     let alloc = rt.alloc();
     let applied = Answer::Decided(Verdict::Applied);
     check(
@@ -48,7 +60,7 @@ fn replies_of_messages(rt: HostRuntime) -> Result<(), Fail> {
             chunk: 2,
         },
         "message 4 chunk 2\n",
-    )?;
+    );
     check(
         &rt,
         alloc,
@@ -57,7 +69,7 @@ fn replies_of_messages(rt: HostRuntime) -> Result<(), Fail> {
             answer: Answer::Behind(1),
         },
         "chunk 3 behind 1\n",
-    )?;
+    );
     check(
         &rt,
         alloc,
@@ -66,7 +78,7 @@ fn replies_of_messages(rt: HostRuntime) -> Result<(), Fail> {
             answer: Answer::Old(2),
         },
         "chunk 1 old 2\n",
-    )?;
+    );
     check(
         &rt,
         alloc,
@@ -76,7 +88,7 @@ fn replies_of_messages(rt: HostRuntime) -> Result<(), Fail> {
             message: 5,
         },
         "chunk 1 applied message 5\n",
-    )?;
+    );
     check(
         &rt,
         alloc,
@@ -86,7 +98,7 @@ fn replies_of_messages(rt: HostRuntime) -> Result<(), Fail> {
             message: 6,
         },
         "chunk 2 behind 0 message 6\n",
-    )?;
+    );
     check(
         &rt,
         alloc,
@@ -95,7 +107,7 @@ fn replies_of_messages(rt: HostRuntime) -> Result<(), Fail> {
             verdict: Verdict::Applied,
         },
         "settled 1 applied\n",
-    )?;
+    );
     let conflict = Verdict::Conflict(3, Reason::NotEmpty);
     check(
         &rt,
@@ -105,7 +117,7 @@ fn replies_of_messages(rt: HostRuntime) -> Result<(), Fail> {
             verdict: conflict,
         },
         "settled 1 conflict 3 not-empty\n",
-    )?;
+    );
     check(
         &rt,
         alloc,
@@ -114,7 +126,7 @@ fn replies_of_messages(rt: HostRuntime) -> Result<(), Fail> {
             why: Undecided::Behind(2),
         },
         "frozen 4 behind 2\n",
-    )?;
+    );
     check(
         &rt,
         alloc,
@@ -123,8 +135,8 @@ fn replies_of_messages(rt: HostRuntime) -> Result<(), Fail> {
             why: Undecided::Old(6),
         },
         "frozen 4 old 6\n",
-    )?;
-    check(&rt, alloc, Reply::Lost { message: 17 }, "lost 17\n")
+    );
+    check(&rt, alloc, Reply::Lost { message: 17 }, "lost 17\n");
 }
 
 #[test]
@@ -141,36 +153,36 @@ fn replies_of_caches_and_disks(rt: HostRuntime) -> Result<(), Fail> {
             size: 50,
         },
         "walk keep 1 fetch 20 drop 3 used 40 of 50\n",
-    )?;
+    );
     check(
         &rt,
         alloc,
         Reply::State(ClientState::Hoarding),
         "hoarding\n",
-    )?;
+    );
     check(
         &rt,
         alloc,
         Reply::State(ClientState::Emulating),
         "emulating\n",
-    )?;
+    );
     check(
         &rt,
         alloc,
         Reply::State(ClientState::WriteDisconnected),
         "write-disconnected\n",
-    )?;
-    check(&rt, alloc, Reply::Broken { copies: 0 }, "broken 0\n")?;
-    check(&rt, alloc, Reply::Crashed, "crashed\n")?;
-    check(&rt, alloc, Reply::Recovered { entries: 8 }, "recovered 8\n")?;
-    check(&rt, alloc, Reply::Repaired(A), "repaired 7.1.1\n")?;
+    );
+    check(&rt, alloc, Reply::Broken { copies: 0 }, "broken 0\n");
+    check(&rt, alloc, Reply::Crashed, "crashed\n");
+    check(&rt, alloc, Reply::Recovered { entries: 8 }, "recovered 8\n");
+    check(&rt, alloc, Reply::Repaired(A), "repaired 7.1.1\n");
     let mut numbers = Vec::new(alloc);
     check(
         &rt,
         alloc,
         Reply::Posted(Numbers::from_vec(Vec::new(alloc))),
         "posted\n",
-    )?;
+    );
     numbers.push(0)?;
     numbers.push(u64::MAX)?;
     check(
@@ -178,7 +190,7 @@ fn replies_of_caches_and_disks(rt: HostRuntime) -> Result<(), Fail> {
         alloc,
         Reply::Opened(Numbers::from_vec(numbers)),
         "opened 0 18446744073709551615\n",
-    )?;
+    );
     let mut args = Vec::new(alloc);
     args.push(Arg::Number(1))?;
     args.push(Arg::Number(2))?;
@@ -191,7 +203,8 @@ fn replies_of_caches_and_disks(rt: HostRuntime) -> Result<(), Fail> {
             args: Args::from_vec(args),
         },
         "refused 15 cache-full 1 2 3\n",
-    )
+    );
+    Ok(())
 }
 
 // A hoard entry.
@@ -217,7 +230,7 @@ fn replies_of_hoards_and_resolutions(rt: HostRuntime) -> Result<(), Fail> {
         alloc,
         Reply::Hoarded(HoardEntries::from_vec(entries)),
         wanted,
-    )?;
+    );
     let mut marks = Vec::new(alloc);
     let name = Name::read(alloc, b"a b")?;
     marks.push(Mark {
@@ -249,5 +262,6 @@ fn replies_of_hoards_and_resolutions(rt: HostRuntime) -> Result<(), Fail> {
             marks: Marks::from_vec(marks),
         },
         wanted,
-    )
+    );
+    Ok(())
 }
