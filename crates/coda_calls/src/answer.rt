@@ -2,7 +2,8 @@
 use coda_fid::Fid;
 use std::alloc::{AllocError, Global};
 
-/// An answer, word by word. Where there is no memory for a word, it lacks the word, and so isn't the one that is wanted.
+/// An answer, word by word. Where there is no memory for a word, it lacks the word, and so isn't the one that is
+/// wanted.
 #[derive(Drop)]
 pub struct Answer {
     /// The allocator, for what a call takes.
@@ -61,6 +62,20 @@ impl Answer {
             "" => "ok",
             text => text,
         }
+    }
+}
+
+/// Puts a value behind others, if there is memory. What is refused is let go here, and not in each function that puts
+/// one.
+pub fn push<T: Drop>(values: &mut Vec<T>, value: T) {
+    let _ = values.push(value);
+}
+
+/// Puts a value in place of another, where it was made. The other is let go here, and not in each function that makes
+/// one.
+pub fn renew<T: Drop, E: Drop>(value: &mut T, made: Result<T, E>) {
+    if let Ok(made) = made {
+        *value = made;
     }
 }
 

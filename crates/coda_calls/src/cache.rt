@@ -2,7 +2,7 @@
 ghost use Rattle.std.specs.Prelude.{◌≡◌, ◌<◌, ◌^◌, IfOk};
 ghost use Rattle.coda_tree.specs.Blocks.{blocks_of};
 
-use crate::answer::{Answer, Bench};
+use crate::answer::{Answer, Bench, renew};
 use crate::words::{named, object, objects, optional_object, small, tiny};
 use coda_cache::{Cache, CacheFault};
 use coda_fid::{Bytes, Fid, Sid};
@@ -62,13 +62,6 @@ fn link(alloc: Global) -> Result<Node, AllocError>
         },
         marked: false,
     })
-}
-
-// `new SIZE`.
-fn renew(cache: &mut Cache, size: u32, out: &Answer) {
-    if let Ok(made) = Cache::new(out.alloc, size) {
-        *cache = made;
-    }
 }
 
 // `put OBJECT UNDER`, as server 1 has it.
@@ -143,7 +136,7 @@ impl Bench for Cache {
     fn answer(&mut self, call: &str, out: &mut Answer) {
         let fid = object(call, 1);
         match named(CALLS, call) {
-            Some(Call::New) => renew(self, small(call, 1), out),
+            Some(Call::New) => renew(self, Cache::new(out.alloc, small(call, 1))),
             Some(Call::Put) => put(self, fid, optional_object(call, 2), out),
             Some(Call::Touch) => self.touch(fid),
             Some(Call::Pin) => self.pin(&objects(out.alloc, call, 1)),

@@ -1,5 +1,5 @@
 // Calls on a disk in memory.
-use crate::answer::{Answer, Bench};
+use crate::answer::{Answer, Bench, renew};
 use crate::words::{bytes, named, number};
 use coda_disk::{Bay, BayFault, Disk, DiskFault, MemBay, MemDisk};
 use std::alloc::{AllocError, Global};
@@ -47,12 +47,10 @@ fn put_done(out: &mut Answer, done: Result<(), DiskFault>) {
 }
 
 // `new FAILING BYTES`: a disk that has these bytes, and of which that call fails.
-fn renew(disk: &mut MemDisk, call: &str, out: &Answer) {
-    let mut failing = Vec::new(out.alloc);
+fn made(call: &str, alloc: Global) -> Result<MemDisk, AllocError> {
+    let mut failing = Vec::new(alloc);
     let _ = failing.push(number(call, 1));
-    if let Ok(made) = MemDisk::new(out.alloc, bytes(out.alloc, call, 2), failing) {
-        *disk = made;
-    }
+    MemDisk::new(alloc, bytes(alloc, call, 2), failing)
 }
 
 // `size`.
@@ -98,7 +96,7 @@ impl Bench for MemDisk {
     fn answer(&mut self, call: &str, out: &mut Answer) {
         let first = number(call, 1);
         match named(CALLS, call) {
-            Some(Call::New) => renew(self, call, out),
+            Some(Call::New) => renew(self, made(call, out.alloc)),
             Some(Call::Write) => put_done(out, self.write_at(first, &bytes(out.alloc, call, 2))),
             Some(Call::Sync) => put_done(out, self.sync()),
             Some(Call::Cut) => put_done(out, self.cut(first)),

@@ -1,10 +1,11 @@
-// Calls on a replica of volume 7 at server 1, without a disk, and on others on disks. Objects go by the last number of 7.1.N.
+// Calls on a replica of volume 7 at server 1, without a disk, and on others on disks. Objects go by the last number of
+// 7.1.N.
 ghost use Rattle.std.specs.Prelude.{◌≡◌, [], ◌∷◌, IfOk};
 ghost use Rattle.coda_record.specs.Form.{four};
 ghost use Rattle.coda_record.specs.Spelling.{HasSpelling};
 ghost use Rattle.coda_record.specs.Table.{records as some_records};
 
-use crate::answer::{Answer, Bench};
+use crate::answer::{Answer, Bench, renew};
 use crate::spelled::put_decision;
 use crate::words::{named, number, small, tiny, word};
 use coda_actors::{Mounting, Slot, give_back, give_up, open};
@@ -188,17 +189,10 @@ fn put_given_up(out: &mut Answer) {
     give_back(&mut bay, 256, slot);
 }
 
-// `new`.
-fn renew(replica: &mut Decider, out: &Answer) {
-    if let Ok(made) = Decider::new(out.alloc, 7, 1) {
-        *replica = made;
-    }
-}
-
 impl Bench for Decider {
     fn answer(&mut self, call: &str, out: &mut Answer) {
         match named(CALLS, call) {
-            Some(Call::New) => renew(self, out),
+            Some(Call::New) => renew(self, Decider::new(out.alloc, 7, 1)),
             Some(Call::Objects) => out.put_number(self.volume().len() as u64),
             Some(Call::Fetch) => put_fetched(self, fid(small(call, 1)), out),
             Some(Call::Last) => out.put_number(self.last(tiny(call, 1))),

@@ -1,7 +1,7 @@
 // Calls on replicas that are to be resolved.
 ghost use Rattle.coda_resolve.specs.Views.{AreInOrder};
 
-use crate::answer::{Answer, Bench};
+use crate::answer::{Answer, Bench, push, renew};
 use crate::words::{name, named, number, object, object_of, tiny, word};
 use coda_certify::Verdict;
 use coda_fid::{Bytes, Fid, Sid};
@@ -206,13 +206,6 @@ fn ask(views: &[View], asked: Call, fid: Fid, out: &mut Answer) {
     }
 }
 
-// An empty log, where there is memory for one.
-fn renew(replicas: &mut Replicas, out: &Answer) {
-    if let Ok(made) = Replicas::new(out.alloc) {
-        *replicas = made;
-    }
-}
-
 // `bind NAME OBJECT`, in the directory that comes next.
 fn bind(entries: &mut Entries, call: &str, out: &mut Answer) {
     if let Some(name) = name(out.alloc, call, 1) {
@@ -269,7 +262,10 @@ fn held(kind: NodeKind, ring: Option<Ring>, call: &str) -> Held {
 // `file OBJECT FIRST SECOND`.
 fn put_file(items: &mut Vec<(Fid, Held)>, alloc: Global, call: &str) {
     if let Ok(content) = Bytes::of(alloc, b"") {
-        let _ = items.push((object(call, 1), held(NodeKind::File(content), None, call)));
+        push(
+            items,
+            (object(call, 1), held(NodeKind::File(content), None, call)),
+        );
     }
 }
 
@@ -301,7 +297,7 @@ impl Replicas {
             let entries = mem::replace(&mut self.entries, Entries::new(alloc));
             let ring = mem::replace(&mut self.ring, ring);
             let held = held(NodeKind::Dir(entries), Some(ring), call);
-            let _ = self.items.push((object(call, 1), held));
+            push(&mut self.items, (object(call, 1), held));
         }
     }
 
@@ -309,19 +305,20 @@ impl Replicas {
     fn put_replica(&mut self, alloc: Global, server: u8) {
         let items = mem::replace(&mut self.items, Vec::new(alloc));
         let lasts = mem::replace(&mut self.lasts, Vec::new(alloc));
-        let _ = self.views.push(View {
+        let view = View {
             server,
             volume: 7,
             held: HeldObjects::from_vec(items),
             lasts: Lasts::from_vec(lasts),
-        });
+        };
+        push(&mut self.views, view);
     }
 }
 
 impl Bench for Replicas {
     fn answer(&mut self, call: &str, out: &mut Answer) {
         match named(CALLS, call) {
-            Some(Call::New) => renew(self, out),
+            Some(Call::New) => renew(self, Replicas::new(out.alloc)),
             Some(Call::Bind) => bind(&mut self.entries, call, out),
             Some(Call::Update) => update(&mut self.ring, out.alloc, call, number(call, 2)),
             Some(Call::Updates) => update_all(&mut self.ring, out.alloc, call),

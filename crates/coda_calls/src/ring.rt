@@ -1,5 +1,5 @@
 // Calls on the log of a directory's updates.
-use crate::answer::{Answer, Bench};
+use crate::answer::{Answer, Bench, renew};
 use crate::words::{named, number, object_of, size};
 use coda_fid::Sid;
 use coda_reslog::{ResEntry, ResKind, Ring};
@@ -70,20 +70,13 @@ impl Logged {
         let copy = ring.copy()?;
         Ok(Logged { ring, copy })
     }
-
-    // `copy`.
-    fn copy(&mut self) {
-        if let Ok(copy) = self.ring.copy() {
-            self.copy = copy;
-        }
-    }
 }
 
 impl Bench for Logged {
     fn answer(&mut self, call: &str, out: &mut Answer) {
         match named(CALLS, call) {
             Some(Call::Push) => push(&mut self.ring, number(call, 1), number(call, 2), out),
-            Some(Call::Copy) => self.copy(),
+            Some(Call::Copy) => renew(&mut self.copy, self.ring.copy()),
             Some(Call::Get) => put_entry(&self.ring, size(call, 1), out),
             Some(Call::GetCopied) => put_entry(&self.copy, size(call, 1), out),
             Some(Call::LenCopied) => out.put_number(self.copy.len() as u64),

@@ -1,5 +1,5 @@
 // Calls on items that a walk weighs, and on a queue of them.
-use crate::answer::{Answer, Bench};
+use crate::answer::{Answer, Bench, push};
 use crate::words::{named, number, object, objects, optional_object, small, word};
 use coda_walk::{Item, Queue, plan, who_goes};
 use std::alloc::Global;
@@ -123,9 +123,7 @@ impl Bench for Walk {
     fn answer(&mut self, call: &str, out: &mut Answer) {
         match named(CALLS, call) {
             Some(Call::New) => *self = Walk::new(out.alloc),
-            Some(Call::Item) => {
-                let _ = self.items.push(item(call));
-            }
+            Some(Call::Item) => push(&mut self.items, item(call)),
             Some(Call::Plan) => put_plan(&self.items, call, out),
             Some(Call::WhoGoes) => put_who_goes(&self.items, call, out),
             Some(asked) => ask(&mut self.queue, asked, call, out),

@@ -82,7 +82,8 @@ fn has(alloc: Global, disk: &MemDisk, payloads: u64) -> bool {
     }
 }
 
-// Whether the client has the file, and its disk the root and one operation. It looks twice, since it may find no memory once.
+// Whether the client has the file, and its disk the root and one operation. It looks twice, since it may find no
+// memory once.
 fn is_performed(alloc: Global, mut venus: Venus<MemDisk>, path: &Path) -> bool {
     let is_there = venus.read(7, path).is_ok() || venus.read(7, path).is_ok();
     let disk = venus.down();
@@ -102,6 +103,29 @@ fn create(venus: &mut Venus<MemDisk>, path: &Path) -> Result<u64, Refused>
     Ok(done.number)
 }
 
+// What becomes of a second try.
+fn created_again(venus: &mut Venus<MemDisk>, path: &Path) -> Result<&'static str, &'static str>
+    requires { AreNames path.now }
+{
+    match create(venus, path) {
+        Ok(1) => Ok("no memory, then done"),
+        _ => Err("no memory, then refused"),
+    }
+}
+
+// What becomes of a creation, or why it isn't done.
+fn created(venus: &mut Venus<MemDisk>, path: &Path) -> Result<&'static str, &'static str>
+    requires { AreNames path.now }
+{
+    match create(venus, path) {
+        Ok(_) => Ok("done"),
+        Err(Refused::Memory) => created_again(venus, path),
+        // The disk is one in memory, and found none.
+        Err(Refused::DiskFault) if venus.is_down() => Err("fault of the disk"),
+        Err(_) => Err("refused"),
+    }
+}
+
 /// What becomes of a creation in the root.
 pub fn operated(alloc: Global) -> &'static str {
     let Some(path) = path(alloc) else {
@@ -110,20 +134,14 @@ pub fn operated(alloc: Global) -> &'static str {
     let Some(mut venus) = rooted(alloc) else {
         return "not begun";
     };
-    let first = create(&mut venus, &path);
-    let said = match first {
-        Ok(_) => "done",
-        Err(Refused::Memory) => "no memory, then done",
-        // The disk is one in memory, and found none.
-        Err(Refused::DiskFault) if venus.is_down() => return "fault of the disk",
-        Err(_) => return "refused",
-    };
-    if first.is_err() && create(&mut venus, &path) != Ok(1) {
-        return "no memory, then refused";
-    }
-    if is_performed(alloc, venus, &path) {
-        said
-    } else {
-        "not kept"
+    match created(&mut venus, &path) {
+        Ok(said) => {
+            if is_performed(alloc, venus, &path) {
+                said
+            } else {
+                "not kept"
+            }
+        }
+        Err(why) => why,
     }
 }

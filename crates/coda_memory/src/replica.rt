@@ -65,31 +65,60 @@ fn has_one(alloc: Global, disk: &MemDisk) -> bool {
     }
 }
 
+// What becomes of a second try.
+fn decided_again(
+    replica: &mut Replica<MemDisk>,
+    chunk: &[Record],
+) -> Result<&'static str, &'static str>
+    requires { HasSpelling (some_records four) chunk.now }
+{
+    match replica.decide(1, 1, chunk) {
+        Ok(Answer::Applied) => Ok("no memory, then done"),
+        _ => Err("no memory, then refused"),
+    }
+}
+
+// What becomes of a chunk, or why it isn't decided.
+fn decided_by(
+    replica: &mut Replica<MemDisk>,
+    chunk: &[Record],
+) -> Result<&'static str, &'static str>
+    requires { HasSpelling (some_records four) chunk.now }
+{
+    match replica.decide(1, 1, chunk) {
+        Ok(_) => Ok("done"),
+        Err(ReplicaFault::Memory) => decided_again(replica, chunk),
+        // The disk is one in memory, and found none.
+        Err(ReplicaFault::DiskFault) if replica.is_down() => Err("fault of the disk"),
+        Err(_) => Err("refused"),
+    }
+}
+
+// What was said, where the disk has the decision. It looks twice, since it may find no memory once.
+fn kept(alloc: Global, disk: &MemDisk, said: Result<&'static str, &'static str>) -> &'static str {
+    match said {
+        Ok(said) => {
+            if has_one(alloc, disk) || has_one(alloc, disk) {
+                said
+            } else {
+                "not kept"
+            }
+        }
+        Err(why) => why,
+    }
+}
+
 /// What becomes of the decision of a client's first chunk.
 pub fn decided(alloc: Global) -> &'static str {
     let Some(rec) = creation(alloc) else {
         return "not begun";
     };
-    let Some((mut replica, _)) = recovered(alloc, Vec::new(alloc)) else {
-        return "not begun";
-    };
     let chunk = [rec];
-    let first = replica.decide(1, 1, &chunk);
-    let said = match first {
-        Ok(_) => "done",
-        Err(ReplicaFault::Memory) => "no memory, then done",
-        // The disk is one in memory, and found none.
-        Err(ReplicaFault::DiskFault) if replica.is_down() => return "fault of the disk",
-        Err(_) => return "refused",
-    };
-    if first.is_err() && replica.decide(1, 1, &chunk) != Ok(Answer::Applied) {
-        return "no memory, then refused";
-    }
-    // It looks twice, since it may find no memory once.
-    let disk = replica.down();
-    if has_one(alloc, &disk) || has_one(alloc, &disk) {
-        said
-    } else {
-        "not kept"
+    match recovered(alloc, Vec::new(alloc)) {
+        Some((mut replica, _)) => {
+            let said = decided_by(&mut replica, &chunk);
+            kept(alloc, &replica.down(), said)
+        }
+        None => "not begun",
     }
 }

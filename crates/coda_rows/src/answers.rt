@@ -1,8 +1,9 @@
 // Lines of a row, each with what is made of it on the line below.
 use crate::calls::Bench;
-use coda_script::{Line, LineFault, read_line};
+use coda_script::{LineFault, read_line};
 use coda_text::{TextFault, Token, printed, tokens, unquote};
 use std::alloc::{AllocError, Global};
+use std::fmt;
 
 /// What is made of the lines.
 #[derive(Clone, Copy)]
@@ -18,14 +19,23 @@ pub enum Kind {
 /// More bytes than any line of a row has.
 const MOST_BYTES: usize = 4_000_000;
 
+// Puts the debug text of a value.
+fn put_shown<T: fmt::Debug + Drop>(out: &mut String, shown: T) {
+    let _ = write!(out, "{shown:?}");
+}
+
 // Puts what a line says, as the debug text of its value; nothing; or its first wrong column and what is wrong there.
-fn put_said(said: &Result<Option<Line>, LineFault>, out: &mut String) {
-    let _ = match said {
-        Ok(Some(said)) => write!(out, "{said:?}"),
-        Ok(None) => Ok(()),
-        Err(LineFault::BadLine { column, kind }) => write!(out, "{column} {kind}"),
-        Err(LineFault::Memory) => out.push_str("no memory"),
-    };
+fn put_said(alloc: Global, line: &[u8], out: &mut String) {
+    match read_line(alloc, line) {
+        Ok(Some(said)) => put_shown(out, said),
+        Ok(None) => {}
+        Err(LineFault::BadLine { column, kind }) => {
+            let _ = write!(out, "{column} {kind}");
+        }
+        Err(LineFault::Memory) => {
+            let _ = out.push_str("no memory");
+        }
+    }
 }
 
 // Puts a word: its span, and in angles the bytes that it stands for, as they are printed.
@@ -61,7 +71,7 @@ fn put_answer(alloc: Global, bench: &mut Bench, line: &[u8], kind: Kind, out: &m
             if line.len() > MOST_BYTES {
                 let _ = out.push_str("too long");
             } else {
-                put_said(&read_line(alloc, line), out);
+                put_said(alloc, line, out);
             }
         }
         Kind::Words => put_words(alloc, line, out),

@@ -1,4 +1,5 @@
-// Calls on a volume and on a client's log that no script can make, or not one by one, each with its answer on the line below.
+// Calls on a volume and on a client's log that no script can make, or not one by one, each with its answer on the line
+// below.
 use crate::operations::{named, number, object, operation, word};
 use coda_cancel::LentRecords;
 use coda_certify::{Reason, Verdict, certify, replay};
@@ -146,6 +147,14 @@ fn put_appended(outcome: Result<(), LogFault>, out: &mut String) {
     };
 }
 
+// Lets a value go. The drop of a large enum is proved once by this, and not in each function that owns one.
+fn let_go<T: Drop>(_value: T) {}
+
+// Puts a value behind others, where there is memory.
+fn is_pushed<T: Drop>(values: &mut Vec<T>, value: T) -> bool {
+    values.push(value).is_ok()
+}
+
 fn put(out: &mut String, word: &str) {
     let _ = out.push_str(word);
 }
@@ -207,9 +216,11 @@ fn settle(log: &mut Log, call: &str, out: &mut String) {
 
 // Puts the records of a log that was given up.
 fn put_given_up(alloc: Global, records: Vec<Record>, out: &mut String) {
-    if let Ok(text) = reply_text(alloc, &Reply::GaveUp(Records::from_vec(records))) {
+    let reply = Reply::GaveUp(Records::from_vec(records));
+    if let Ok(text) = reply_text(alloc, &reply) {
         put_barred(text.bytes(), out);
     }
+    let_go(reply);
 }
 
 // `giveup`: the records.
@@ -257,12 +268,13 @@ impl Bench {
     // `queue OP`: one more operation of the run that is to be replayed.
     fn queue(&mut self, op: Op, out: &mut String) {
         let number = (self.run.len() as u64).saturating_add(1);
-        let queued = self.run.push(Record {
+        let record = Record {
             number,
             time: 0,
             op,
-        });
-        put(out, if queued.is_ok() { "ok" } else { "no memory" });
+        };
+        let is_queued = is_pushed(&mut self.run, record);
+        put(out, if is_queued { "ok" } else { "no memory" });
     }
 
     // `certify OP`.
@@ -273,12 +285,14 @@ impl Bench {
             op,
         };
         put_reason(&self.volume, &record, out);
+        let_go(record);
     }
 
     // `append OP`: the next operation.
     fn append(&mut self, op: Op, out: &mut String) {
         let number = self.next;
         if number <= self.log.last() {
+            let_go(op);
             put(out, "not later");
         } else {
             self.next = number.saturating_add(1);

@@ -1,4 +1,5 @@
-// Operations as they are written in rows of calls. An object goes by a number: 0 is the root of volume 7, and n its object 7.1.n.
+// Operations as they are written in rows of calls. An object goes by a number: 0 is the root of volume 7, and n its
+// object 7.1.n.
 use coda_fid::{Attrs, Bytes, Fid, Name, Op, Over, Sid};
 use std::alloc::Global;
 

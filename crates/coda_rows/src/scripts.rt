@@ -48,7 +48,8 @@ fn outcome(
     report: &mut Vec<u8>,
 ) -> Result<Status, AllocError>
     requires { (k : ℕ) → is_out (get nat_cmp bay.old.places k) ≡ false }
-    ensures { IfOk result (λ status. status ≢ Status.Memory → status ≢ Status.BayFault → (k : ℕ) → is_out (get nat_cmp bay.new.places k) ≡ false) }
+    ensures { IfOk result (λ status. status ≢ Status.Memory → status ≢ Status.BayFault
+        → (k : ℕ) → is_out (get nat_cmp bay.new.places k) ≡ false) }
 {
     let header = Header::read(alloc, script)?;
     let source = MemSource::new(script.to_vec(alloc)?, header.failing_reads);
@@ -99,8 +100,8 @@ fn found_of(alloc: Global, scripts: &[Vec<u8>]) -> Result<Vec<u8>, AllocError> {
     Ok(found)
 }
 
-/// Runs a script, or several over one bay, by their headers: the report that must be written, and the one that was, with each run's
-/// ending behind what it wrote.
+/// Runs a script, or several over one bay, by their headers: the report that must be written, and the one that was,
+/// with each run's ending behind what it wrote.
 pub fn run(alloc: Global, script: &[u8], report: &[u8]) -> Result<(Vec<u8>, Vec<u8>)> {
     let (scripts, reports) = (runs(alloc, script)?, runs(alloc, report)?);
     if scripts.len() != reports.len() {
