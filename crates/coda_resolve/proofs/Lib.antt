@@ -30,7 +30,9 @@ mod Stack
 mod Marking
 mod Changed
 mod Others
+mod Known
 mod Parts
+mod Assembled
 mod Sameness
 mod Renewing
 mod Reaching

@@ -10,8 +10,6 @@ use Rattle.std.proofs.lemmas.List.Elements.{filter-append, filter_map-append}
 use Rattle.coda_fid.specs.Fid.{same_fid}
 use Rattle.coda_fid.specs.declared.fid.Fid.{Fid}
 use Rattle.coda_fid.proofs.Fids.{same_fid_refl}
-use Rattle.coda_tree.specs.declared.node.NodeKind.{NodeKind}
-use Rattle.coda_tree.specs.declared.node.NodeKind.TheVariants.{File, Link, Dir}
 use Rattle.coda_reslog.specs.declared.change.Held.{Held}
 use Rattle.coda_resolve.specs.declared.why.Mark.{Mark}
 use Rattle.coda_resolve.specs.declared.walking.Taken.{Taken}
@@ -20,14 +18,14 @@ use Rattle.coda_resolve.specs.Settling.{Fate, Same, Marked, Gone, fate, settled_
 use Rattle.coda_resolve.specs.Settled.{IsEverywhere, is_dir}
 use Rattle.coda_resolve.specs.Resolution.{Objects, Replicas, copies_at, fate_at}
 use Rattle.coda_resolve.specs.Placement.{IsIn}
-use Rattle.coda_resolve.specs.Outcome.{next_up, mark_by}
+use Rattle.coda_resolve.specs.Outcome.{mark_by}
 use Rattle.coda_resolve.specs.Changes.{is_among, node_of}
 use Rattle.coda_resolve.specs.Renewals.{left_at, AreRenewed}
-use Rattle.coda_resolve.specs.Survey.{HasUpdatesOf, HasNodeOf, AreAlike, StaysAlike, IsFateOf, mark_at, AreOthers}
+use Rattle.coda_resolve.specs.Survey.{HasUpdatesOf, HasNodeOf, AreAlike, StaysAlike, IsFateOf, mark_at, AreOthers, AreOthersBut}
 use Rattle.coda_resolve.specs.Taken.{fids_of, AreFates}
 use Rattle.coda_resolve.proofs.Alike.{alike}
 use Rattle.coda_resolve.proofs.Renewing.{among_last, among_cases, among_before, among_here}
-use Rattle.coda_resolve.proofs.Stack.{one_more_taken, file_next, link_next}
+use Rattle.coda_resolve.proofs.Stack.{one_more_taken}
 use Rattle.coda_resolve.proofs.Twice.{leaf_again}
 
 -- ---- what all replicas hold alike
@@ -54,15 +52,6 @@ stays_alike views f (copy ∷ others) is a =
     } in
     (s, a.1.1.leaf)
 
--- and binds nothing
-pub alike_next : (views : Replicas) (f : Fid) (s : StaysAlike views f) → is_dir s.held.node.kind ≡ false → next_up (fate_at views f) ≡ []
-alike_next views f s leaf = by s.held.node.kind refl
-  where
-    by : (k : NodeKind) → s.held.node.kind ≡ k → next_up (fate_at views f) ≡ []
-    by (File content) is = file_next (fate_at views f) s.held content s.fate is
-    by (Link target) is = link_next (fate_at views f) s.held target s.fate is
-    by (Dir entries) is = absurd (true≢false (sym (ap is_dir is) ∙ leaf))
-
 -- what becomes of an object stays where each copy is that
 pub stays_as : (views : Replicas) (f : Fid) (copies : Copies) (result : Fate) → copies ≡ copies_at views f → result ≡ fate_at views f → IsFateOf result copies → StaysAlike views f
 stays_as views f copies (Same held) is e all = record { held = held; everywhere = subst (IsEverywhere held) is all; fate = sym e }
@@ -72,33 +61,35 @@ stays_as views f copies Gone is e all = absurd all
 -- ---- one object more
 
 -- the mark of what becomes of an object at the replicas
-abbrev mark : Replicas → Fid → Option Mark
+abbrev pub mark : Replicas → Fid → Option Mark
 mark views f = mark_by (copies_at views f) f (fate_at views f)
 
-pub none_others : (views : Replicas) → AreOthers views [] []
-none_others views = record {
+pub none_others : (views : Replicas) (changed : List Fid) → AreOthersBut views changed [] []
+none_others views changed = record {
   fates = tt;
   among = λ f e. e;
-  alike = λ f e n. absurd (true≢false (sym e));
+  alike = λ f e n c. absurd (true≢false (sym e));
   marks = refl;
 }
 
-pub alike_more : (views : Replicas) (fids : List Fid) (others : List Taken) (f : Fid) → StaysAlike views f → AreOthers views fids others → AreOthers views (fids ++ f ∷ []) others
-alike_more views fids others f s are = record {
+-- one that is known
+pub known_more : (views : Replicas) (changed fids : List Fid) (others : List Taken) (f : Fid) → mark views f ≡ None → (is_among changed f ≡ false → StaysAlike views f) → AreOthersBut views changed fids others → AreOthersBut views changed (fids ++ f ∷ []) others
+known_more views changed fids others f none s are = record {
   fates = are.fates;
   among = λ g e. among_before fids f g (are.among g e);
-  alike = λ g e n. ⊎_elim (λ a. are.alike g a n) (λ is. subst (StaysAlike views) (sym is) s) (among_cases fids f g e);
+  alike = λ g e n c. ⊎_elim (λ a. are.alike g a n c) (λ is. subst (StaysAlike views) (sym is) (s (subst (λ h. is_among changed h ≡ false) is c))) (among_cases fids f g e);
   marks = are.marks ∙ sym (filter_map-append (mark views) fids (f ∷ []) ∙ ap (λ more. filter_map (mark views) fids ++ cons_option more []) none ∙ append-nil (filter_map (mark views) fids));
 }
-  where
-    none : mark views f ≡ None
-    none = ap (mark_by (copies_at views f) f) s.fate
 
-pub other_more : (views : Replicas) (fids : List Fid) (others : List Taken) (f : Fid) (result : Fate) → result ≡ fate_at views f → AreOthers views fids others → AreOthers views (fids ++ f ∷ []) (others ++ record { fid = f; fate = result } ∷ [])
-other_more views fids others f result is are = record {
+-- one that stays as all replicas hold it
+pub alike_more : (views : Replicas) (changed fids : List Fid) (others : List Taken) (f : Fid) → StaysAlike views f → AreOthersBut views changed fids others → AreOthersBut views changed (fids ++ f ∷ []) others
+alike_more views changed fids others f s are = known_more views changed fids others f (ap (mark_by (copies_at views f) f) s.fate) (λ c. s) are
+
+pub other_more : (views : Replicas) (changed fids : List Fid) (others : List Taken) (f : Fid) (result : Fate) → result ≡ fate_at views f → AreOthersBut views changed fids others → AreOthersBut views changed (fids ++ f ∷ []) (others ++ record { fid = f; fate = result } ∷ [])
+other_more views changed fids others f result is are = record {
   fates = more.0;
   among = λ g e. ⊎_elim (λ a. among_before fids f g (are.among g a)) (λ same. among_here fids f g same) (among_cases (fids_of others) f g (ap (λ l. is_among l g) (sym more.1) ∙ e));
-  alike = λ g e n. by g (or_parts (is_among (fids_of others) g) (same_fid g f) (sym (among_last (fids_of others) f g) ∙ ap (λ l. is_among l g) (sym more.1) ∙ n)) (among_cases fids f g e);
+  alike = λ g e n c. by g c (or_parts (is_among (fids_of others) g) (same_fid g f) (sym (among_last (fids_of others) f g) ∙ ap (λ l. is_among l g) (sym more.1) ∙ n)) (among_cases fids f g e);
   marks =
       filter_map-append (mark_at views) others (record { fid = f; fate = result } ∷ [])
       ∙ (λ i. are.marks i ++ cons_option (mark_by (copies_at views f) f (is i)) [])
@@ -108,9 +99,9 @@ other_more views fids others f result is are = record {
     more : AreFates views (others ++ record { fid = f; fate = result } ∷ []) × (fids_of (others ++ record { fid = f; fate = result } ∷ []) ≡ fids_of others ++ f ∷ [])
     more = one_more_taken views others (others ++ record { fid = f; fate = result } ∷ []) f result refl are.fates is
 
-    by : (g : Fid) → (is_among (fids_of others) g ≡ false) × (same_fid g f ≡ false) → (is_among fids g ≡ true) ⊎ (g ≡ f) → StaysAlike views g
-    by g n (inl a) = are.alike g a n.0
-    by g n (inr same) = absurd (true≢false (sym (ap (same_fid g) (sym same) ∙ same_fid_refl g) ∙ n.1))
+    by : (g : Fid) → is_among changed g ≡ false → (is_among (fids_of others) g ≡ false) × (same_fid g f ≡ false) → (is_among fids g ≡ true) ⊎ (g ≡ f) → StaysAlike views g
+    by g c n (inl a) = are.alike g a n.0 c
+    by g c n (inr same) = absurd (true≢false (sym (ap (same_fid g) (sym same) ∙ same_fid_refl g) ∙ n.1))
 
 -- ---- what is held anew
 

@@ -12,12 +12,14 @@ ghost use Rattle.coda_resolve.specs.Settling.{dominating, leaf_fate, dir_fate, f
 ghost use Rattle.coda_resolve.specs.Resolution.{copies_at, fate_at};
 ghost use Rattle.coda_resolve.specs.Views.{replicas_of, AreInOrder};
 ghost use Rattle.coda_resolve.specs.Lent.{lent};
+ghost use Rattle.coda_resolve.specs.Reading.{AreKnown};
 ghost use Rattle.coda_resolve.specs.Survey.{IsFateOf, IsOutlook};
 
 use crate::causes::dir_fate;
 use crate::copies::{lowest, some_marked, vector_of};
-use crate::hints::Hints;
-use crate::leaves::{all_hold, are_alike};
+use crate::hints::{Hints, meet_all};
+use crate::leaves::all_hold;
+use crate::reading::{Known, is_known_at};
 use crate::updated::includes;
 use crate::view::{View, copies_near};
 use crate::why::Why;
@@ -139,7 +141,11 @@ fn fate_from(
 }
 
 // What becomes of the object with these copies.
-fn fate_of(alloc: Global, views: &[View], copies: &[Option<&Held>]) -> Result<Fate, AllocError>
+pub(crate) fn fate_of(
+    alloc: Global,
+    views: &[View],
+    copies: &[Option<&Held>],
+) -> Result<Fate, AllocError>
     requires { AreInOrder views.now }
     ensures { IfOk result (λ found. found ≡ fate (map option_copied copies.now) (copies_at (replicas_of views.now))) }
 {
@@ -164,7 +170,7 @@ pub(crate) fn fate_near(
     fate_of(alloc, views, &copies)
 }
 
-// What becomes of an object, unless it is a file or link that all replicas hold alike; and whether it stays as all hold it.
+// What becomes of an object, unless it is known already; and whether it stays as all hold it.
 #[derive(Drop)]
 pub(crate) struct Outlook {
     pub(crate) fate: Option<Fate>,
@@ -187,19 +193,22 @@ pub(crate) fn look_ahead(
     alloc: Global,
     views: &[View],
     fid: Fid,
+    known: &Known,
     hints: &mut [Hints],
     when: usize,
 ) -> Result<Outlook, AllocError>
-    requires { AreInOrder views.now }
-    ensures { IfOk result (λ outlook. IsOutlook (replicas_of views.now) fid outlook.fate outlook.stays) }
+    requires order { AreInOrder views.now }
+    requires known { AreKnown (replicas_of views.now) known.now.changed.items known.now.sights.items }
+    ensures { IfOk result (λ outlook. IsOutlook (replicas_of views.now) known.now.changed.items fid outlook.fate outlook.stays) }
 {
-    let copies = copies_near(alloc, views, fid, hints, when)?;
-    if are_alike(&copies) {
+    let place = meet_all(hints, fid, when);
+    if is_known_at(&known.sights, place, fid) {
         return Ok(Outlook {
             fate: None,
             stays: true,
         });
     }
+    let copies = copies_near(alloc, views, fid, hints, when)?;
     let fate = fate_of(alloc, views, &copies)?;
     let stays = stays(&fate, &copies);
     Ok(Outlook {

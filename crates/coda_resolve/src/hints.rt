@@ -134,6 +134,18 @@ pub(crate) fn meet(hints: &mut Hints, fid: Fid, when: usize) -> usize {
     place
 }
 
+// Where the object may well be in each view, which is met then; answers where it may be in the first.
+pub(crate) fn meet_all(all: &mut [Hints], fid: Fid, when: usize) -> usize {
+    let mut first = 0usize;
+    for index in 0..all.len() {
+        let place = meet(&mut all[index], fid, when);
+        if index == 0 {
+            first = place;
+        }
+    }
+    first
+}
+
 // Where the object may well be.
 pub(crate) fn place(hints: Option<&Hints>, fid: Fid) -> usize {
     match hints {

@@ -35,7 +35,7 @@ fn share_node(held: &Held, copies: &[Option<&Held>]) -> bool
 }
 
 // Whether it is a directory.
-fn is_dir(kind: &NodeKind) -> bool
+pub(crate) fn is_dir(kind: &NodeKind) -> bool
     ensures { result ≡ is_dir kind.now }
 {
     match kind {

@@ -12,7 +12,7 @@ ghost use Rattle.coda_resolve.specs.Placement.{IsIn, AreOfOneHistory};
 ghost use Rattle.coda_resolve.specs.Resolution.{Objects, Replicas};
 ghost use Rattle.coda_resolve.specs.Changes.{is_among};
 ghost use Rattle.coda_resolve.specs.Renewals.{IsRenewal, left_at, AreRenewed, is_mark, marked_among, IsPart};
-ghost use Rattle.coda_resolve.specs.Survey.{AreOthers};
+ghost use Rattle.coda_resolve.specs.Survey.{ArePlain, AreOthersBut};
 ghost use Rattle.coda_resolve.specs.Taken.{fids_of, AreFates};
 ghost use Rattle.coda_resolve.specs.Views.{objects_in, objects_of, replicas_of, AreInOrder};
 
@@ -36,9 +36,9 @@ pub(crate) struct Part {
 
 // What is held anew of some objects, and of which of them the node is another.
 #[derive(Drop)]
-struct Renewals {
-    held: BTreeMap<Fid, Held>,
-    touched: Vec<Fid>,
+pub(crate) struct Renewals {
+    pub(crate) held: BTreeMap<Fid, Held>,
+    pub(crate) touched: Vec<Fid>,
 }
 
 // ---- what is held anew
@@ -54,7 +54,7 @@ fn add_where(fids: &mut Vec<Fid>, fid: Fid, so: bool) -> Result<(), AllocError>
 }
 
 // Adds what is held anew of an object, where anything is.
-fn add_renewal(
+pub(crate) fn add_renewal(
     held: &mut BTreeMap<Fid, Held>,
     touched: &mut Vec<Fid>,
     fid: Fid,
@@ -70,21 +70,22 @@ fn add_renewal(
     Ok(())
 }
 
-// What the replica holds anew of the objects.
+// What the replica holds anew, with what it holds anew of the objects.
 fn renewed(
     alloc: Global,
     views: &[View],
     view: &View,
     objects: &[Taken],
     hints: Option<&Hints>,
+    own: Renewals,
 ) -> Result<Renewals, AllocError>
     requires order { AreInOrder views.now }
     requires sorted { is_sorted fid_cmp view.now.held ≡ true }
     requires fates { AreFates (replicas_of views.now) objects.now }
-    ensures { IfOk result (λ renewed. AreRenewed (replicas_of views.now) (objects_of view.now) (fids_of objects.now) renewed.held renewed.touched.items) }
+    ensures { IfOk result (λ renewed. (before : List Fid) → AreRenewed (replicas_of views.now) (objects_of view.now) before own.held own.touched.items → AreRenewed (replicas_of views.now) (objects_of view.now) (before ++ fids_of objects.now) renewed.held renewed.touched.items) }
 {
-    let mut held = BTreeMap::new(alloc);
-    let mut touched = Vec::new(alloc);
+    let mut held = own.held;
+    let mut touched = own.touched;
     for object in objects {
         let near = place(hints, object.fid);
         let own = held_near(view.held.objects(), object.fid, near);
@@ -120,7 +121,7 @@ fn is_mark(fate: &Fate) -> bool
 }
 
 // Those of the objects that all replicas have marked.
-pub(crate) fn marked(alloc: Global, objects: &[Taken]) -> Result<Vec<Fid>, AllocError>
+fn marked(alloc: Global, objects: &[Taken]) -> Result<Vec<Fid>, AllocError>
     ensures { IfOk result (λ fids. fids.items ≡ marked_among objects.now) }
 {
     let mut fids = Vec::new(alloc);
@@ -169,43 +170,56 @@ fn unmet(
     Ok(unmet)
 }
 
-// Whether the object is in one of the sets.
-fn stays(below: &BTreeSet<Fid>, taken: &HashSet<Fid>, fid: Fid) -> bool
-    ensures { result ≡ (has_fid below.now fid || has_hashed taken.now fid) }
-{
-    below.contains(&fid) || taken.contains(&fid)
-}
-
-// Those of the objects that aren't in one of the sets, in their order.
-fn outside(
-    alloc: Global,
-    objects: &[Fid],
-    below: &BTreeSet<Fid>,
-    taken: &HashSet<Fid>,
-) -> Result<Vec<Fid>, AllocError>
-    ensures { IfOk result (λ fids. fids.items ≡ filter (λ f. not (has_fid below.now f || has_hashed taken.now f)) objects.now) }
+// Those of the objects that aren't in the set, in their order.
+fn outside(alloc: Global, objects: &[Fid], set: &HashSet<Fid>) -> Result<Vec<Fid>, AllocError>
+    ensures { IfOk result (λ fids. fids.items ≡ filter (λ f. not (has_hashed set.now f)) objects.now) }
 {
     let mut fids = Vec::new(alloc);
     for fid in objects {
-        add_where(&mut fids, *fid, !stays(below, taken, *fid))?;
+        add_where(&mut fids, *fid, !set.contains(fid))?;
     }
     Ok(fids)
 }
 
-// Those of the objects that are neither in the set nor among those that are taken up, in their order.
-fn gone(
-    alloc: Global,
-    objects: &[Fid],
-    below: &BTreeSet<Fid>,
-    taken: &[Fid],
-) -> Result<Vec<Fid>, AllocError>
-    ensures { IfOk result (λ fids. fids.items ≡ filter (λ f. not (has_fid below.now f || is_among taken.now f)) objects.now) }
+// Those of the objects that aren't among the others, in their order.
+fn apart(alloc: Global, objects: &[Fid], others: &[Fid]) -> Result<Vec<Fid>, AllocError>
+    ensures { IfOk result (λ fids. fids.items ≡ filter (λ f. not (is_among others.now f)) objects.now) }
 {
     if objects.is_empty() {
         return Ok(Vec::new(alloc));
     }
-    let taken = hashed(alloc, taken)?;
-    outside(alloc, objects, below, &taken)
+    let others = hashed(alloc, others)?;
+    outside(alloc, objects, &others)
+}
+
+// Those of the objects that aren't in the set, in their order.
+fn gone(alloc: Global, objects: &[Fid], below: &BTreeSet<Fid>) -> Result<Vec<Fid>, AllocError>
+    ensures { IfOk result (λ fids. fids.items ≡ filter (λ f. not (has_fid below.now f)) objects.now) }
+{
+    let mut fids = Vec::new(alloc);
+    for fid in objects {
+        add_where(&mut fids, *fid, !below.contains(fid))?;
+    }
+    Ok(fids)
+}
+
+// What is held anew, but of none of these objects.
+fn forget(held: &mut BTreeMap<Fid, Held>, objects: &[Fid])
+    ensures { (f : Fid) → get fid_cmp held.new f ≡ cond (is_among objects.now f) None (get fid_cmp held.old f) }
+{
+    for fid in objects {
+        let _ = held.remove(fid);
+    }
+}
+
+// What is held anew of those objects that are taken up: the others of the replica are these.
+fn without(alloc: Global, own: Renewals, others: &[Fid]) -> Result<Renewals, AllocError>
+    ensures { IfOk result (λ left. (views : Replicas) (view : Objects) (objects : List Fid) → AreRenewed views view objects own.held own.touched.items → AreRenewed views view (filter (λ f. not (is_among others.now f)) objects) left.held left.touched.items) }
+{
+    let mut held = own.held;
+    forget(&mut held, others);
+    let touched = apart(alloc, &own.touched, others)?;
+    Ok(Renewals { held, touched })
 }
 
 // Adds the fids behind the others.
@@ -220,25 +234,30 @@ fn add_all(fids: &mut Vec<Fid>, more: &[Fid]) -> Result<(), AllocError>
 
 // ---- the replica
 
-// What a resolution makes of one of the replicas, from what it takes up, and what all replicas have marked of that.
+// What a resolution makes of one of the replicas, from what it takes up, and from what the replica holds anew of what is known.
 pub(crate) fn part_of(
     alloc: Global,
     views: &[View],
     view: &View,
     survey: &Survey,
-    marked: &[Fid],
+    changed: &[Fid],
     hints: Option<&Hints>,
+    own: Renewals,
 ) -> Result<Part, AllocError>
     requires order { AreInOrder views.now }
     requires sorted { is_sorted fid_cmp view.now.held ≡ true }
-    requires others { AreOthers (replicas_of views.now) survey.now.fids.items survey.now.others.items }
-    requires marked { marked.now ≡ marked_among survey.now.others.items }
+    requires changed { ArePlain (replicas_of views.now) changed.now }
+    requires others { AreOthersBut (replicas_of views.now) changed.now survey.now.fids.items survey.now.others.items }
+    requires own { AreRenewed (replicas_of views.now) (objects_of view.now) changed.now own.held own.touched.items }
     ensures { IfOk result (λ part. (root : Fid) → AreOfOneHistory (replicas_of views.now) root → survey.now.fids.items ≡ taken_up (replicas_of views.now) root → IsIn (objects_of view.now) (replicas_of views.now) → IsPart (replicas_of views.now) root (objects_of view.now) part.change part.touched.items) }
 {
-    let below = below(alloc, view, marked)?;
+    let marked = marked(alloc, &survey.others)?;
+    let below = below(alloc, view, &marked)?;
     let unmet = unmet(alloc, view.held.objects(), hints, &survey.fids)?;
-    let gone = gone(alloc, &unmet, &below, &survey.fids)?;
-    let renewed = renewed(alloc, views, view, &survey.others, hints)?;
+    let others = apart(alloc, &unmet, &survey.fids)?;
+    let gone = gone(alloc, &others, &below)?;
+    let own = without(alloc, own, &others)?;
+    let renewed = renewed(alloc, views, view, &survey.others, hints, own)?;
     let mut touched = renewed.touched;
     add_all(&mut touched, &gone)?;
     let held = in_order(alloc, renewed.held)?;

@@ -1,4 +1,4 @@
-ghost use Rattle.std.specs.Prelude.{◌≡◌, ◌++◌, ◌∷◌, [], ◌||◌, ℕ, List, map, IfOk, OnOk};
+ghost use Rattle.std.specs.Prelude.{◌≡◌, ◌++◌, ◌∷◌, [], ◌||◌, ℕ, List, map, reverse, IfOk, OnOk};
 ghost use Rattle.std.specs.List.{flat_map};
 ghost use Rattle.coda_fid.specs.Fid.{root_of};
 ghost use Rattle.coda_fid.specs.declared.fid.Fid.{Fid};
@@ -11,12 +11,15 @@ ghost use Rattle.coda_resolve.specs.Outcome.{taken_up};
 ghost use Rattle.coda_resolve.specs.Placement.{AreOfOneHistory};
 ghost use Rattle.coda_resolve.specs.Renewals.{IsPart, AreParts, changes_of};
 ghost use Rattle.coda_resolve.specs.Resolution.{Objects, Replicas};
-ghost use Rattle.coda_resolve.specs.Survey.{AreOthers};
+ghost use Rattle.coda_resolve.specs.Reading.{AreAllRenewed};
+ghost use Rattle.coda_resolve.specs.Survey.{ArePlain, AreOthersBut};
 ghost use Rattle.coda_resolve.specs.Views.{replicas_of, volume_of, AreInOrder};
 
+use crate::hints::all_hints;
 use crate::lasts::{Lasts, joined};
 use crate::marks::marks_among;
-use crate::part::{Part, marked, part_of};
+use crate::part::{Part, Renewals, part_of};
+use crate::reading::read;
 use crate::view::View;
 use crate::walking::{Survey, take_up};
 use crate::why::Mark;
@@ -139,18 +142,28 @@ fn add_part(
 }
 
 // What becomes of each replica, from what a resolution takes up.
-fn parts_of(alloc: Global, views: &[View], survey: &Survey) -> Result<Parts, AllocError>
+fn parts_of(
+    alloc: Global,
+    views: &[View],
+    survey: &Survey,
+    changed: &[Fid],
+    mut renewals: Vec<Renewals>,
+) -> Result<Parts, AllocError>
     requires order { AreInOrder views.now }
-    requires others { AreOthers (replicas_of views.now) survey.now.fids.items survey.now.others.items }
+    requires changed { ArePlain (replicas_of views.now) changed.now }
+    requires others { AreOthersBut (replicas_of views.now) changed.now survey.now.fids.items survey.now.others.items }
+    requires renewals { AreAllRenewed (replicas_of views.now) views.now changed.now (reverse renewals.items) }
     ensures servers { IfOk result (λ parts. map (λ (change : ℕ × Change). change.0) parts.changes.items ≡ map (λ (view : View). view.server) views.now) }
     ensures parts { IfOk result (λ parts. (root : Fid) → AreOfOneHistory (replicas_of views.now) root → survey.now.fids.items ≡ taken_up (replicas_of views.now) root → AreParts (replicas_of views.now) root (replicas_of views.now) parts.changes.items parts.touched) }
 {
-    let marked = marked(alloc, &survey.others)?;
     let mut changes = Vec::new(alloc);
     let mut touched = BTreeSet::new(alloc);
     for view in views {
+        let Some(own) = renewals.pop() else {
+            unreachable!()
+        };
         let hints = survey.hints.get(changes.len());
-        let part = part_of(alloc, views, view, survey, &marked, hints)?;
+        let part = part_of(alloc, views, view, survey, changed, hints, own)?;
         add_part(&mut changes, &mut touched, view.server, part)?;
     }
     Ok(Parts { changes, touched })
@@ -183,9 +196,12 @@ pub fn merge(alloc: Global, views: &[View]) -> Result<Outcome, AllocError>
     ensures lasts { IfOk result (λ outcome. outcome.lasts ≡ joined_lasts (flat_map (λ (view : View). view.lasts) views.now)) }
     ensures outcome { IfOk result (λ outcome. AreOfOneHistory (replicas_of views.now) (root_of (volume_of views.now)) → IsOutcome (replicas_of views.now) (root_of (volume_of views.now)) (changes_of outcome.changes) outcome.marks outcome.touched) }
 {
-    let survey = take_up(alloc, views, Fid::root(volume_of(views)))?;
+    let mut hints = all_hints(alloc, views)?;
+    let reading = read(alloc, views, &mut hints)?;
+    let known = reading.known;
+    let survey = take_up(alloc, views, Fid::root(volume_of(views)), &known, hints)?;
     let marks = marks_among(alloc, views, &survey.others)?;
-    let parts = parts_of(alloc, views, &survey)?;
+    let parts = parts_of(alloc, views, &survey, &known.changed, reading.renewals)?;
     let lasts = joined(alloc, views)?;
     let touched = parts.touched.len() as u64;
     Ok(Outcome {

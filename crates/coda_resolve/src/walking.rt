@@ -4,12 +4,14 @@ ghost use Rattle.coda_resolve.specs.Outcome.{next_up, taken_up};
 ghost use Rattle.coda_resolve.specs.Placement.{AreOfOneHistory};
 ghost use Rattle.coda_resolve.specs.Views.{replicas_of, AreInOrder};
 ghost use Rattle.coda_resolve.specs.Resolution.{Replicas, fate_at};
-ghost use Rattle.coda_resolve.specs.Survey.{IsOutlook, AreOthers};
+ghost use Rattle.coda_resolve.specs.Reading.{AreKnown};
+ghost use Rattle.coda_resolve.specs.Survey.{IsOutlook, AreOthersBut};
 ghost use Rattle.coda_resolve.specs.Taken.{fids_of, AreFates};
 
 use crate::doubles::values;
 use crate::fate::{Fate, fate_near, look_ahead};
 use crate::hints::{Hints, all_hints};
+use crate::reading::Known;
 use crate::view::View;
 use coda_fid::Fid;
 use coda_tree::NodeKind;
@@ -80,8 +82,8 @@ pub fn walk(alloc: Global, views: &[View], root: Fid) -> Result<Vec<Taken>, Allo
     Err(AllocError)
 }
 
-// What a resolution takes up, in path order; those of the objects that may change, with what becomes of each; and for each view
-// where its objects may well be, and at which place of the path order each was met.
+// What a resolution takes up, in path order; those of the objects that may change and aren't known, with what becomes of each; and for
+// each view where its objects may well be, and at which place of the path order each was met.
 #[derive(Drop)]
 pub(crate) struct Survey {
     pub(crate) fids: Vec<Fid>,
@@ -91,7 +93,7 @@ pub(crate) struct Survey {
 
 // Adds the object, with what becomes of it, unless it stays as all replicas hold it.
 fn add_other(others: &mut Vec<Taken>, fid: Fid, fate: Fate, stays: bool) -> Result<(), AllocError>
-    ensures { OnOk result ((views : Replicas) (fids : List Fid) → IsOutlook views fid (Some fate) stays → AreOthers views fids others.old.items → AreOthers views (fids ++ fid ∷ []) others.new.items) }
+    ensures { OnOk result ((views : Replicas) (changed fids : List Fid) → IsOutlook views changed fid (Some fate) stays → AreOthersBut views changed fids others.old.items → AreOthersBut views changed (fids ++ fid ∷ []) others.new.items) }
 {
     if stays {
         return Ok(());
@@ -100,7 +102,8 @@ fn add_other(others: &mut Vec<Taken>, fid: Fid, fate: Fate, stays: bool) -> Resu
     Ok(())
 }
 
-// Goes on with a survey: what is taken up next waits, and the object may change unless it stays as all replicas hold it.
+// Goes on with a survey: what is taken up next waits, and the object is among the others unless it is known or stays as all replicas
+// hold it.
 fn go_on(
     alloc: Global,
     others: &mut Vec<Taken>,
@@ -109,8 +112,8 @@ fn go_on(
     fate: Option<Fate>,
     stays: bool,
 ) -> Result<Vec<Fid>, AllocError>
-    ensures next { IfOk result (λ all. (views : Replicas) → IsOutlook views fid fate stays → reverse all.items ≡ next_up (fate_at views fid) ++ reverse stack.items) }
-    ensures others { IfOk result (λ all. (views : Replicas) (fids : List Fid) → IsOutlook views fid fate stays → AreOthers views fids others.old.items → AreOthers views (fids ++ fid ∷ []) others.new.items) }
+    ensures next { IfOk result (λ all. (views : Replicas) (changed : List Fid) → IsOutlook views changed fid fate stays → reverse all.items ≡ next_up (fate_at views fid) ++ reverse stack.items) }
+    ensures others { IfOk result (λ all. (views : Replicas) (changed fids : List Fid) → IsOutlook views changed fid fate stays → AreOthersBut views changed fids others.old.items → AreOthersBut views changed (fids ++ fid ∷ []) others.new.items) }
 {
     let Some(fate) = fate else {
         return Ok(stack);
@@ -120,14 +123,21 @@ fn go_on(
     Ok(stack)
 }
 
-// What a resolution takes up, and what of it may change.
-pub(crate) fn take_up(alloc: Global, views: &[View], root: Fid) -> Result<Survey, AllocError>
-    requires { AreInOrder views.now }
+// What a resolution takes up, and what of it may change, but for what is known.
+pub(crate) fn take_up(
+    alloc: Global,
+    views: &[View],
+    root: Fid,
+    known: &Known,
+    hints: Vec<Hints>,
+) -> Result<Survey, AllocError>
+    requires order { AreInOrder views.now }
+    requires known { AreKnown (replicas_of views.now) known.now.changed.items known.now.sights.items }
     ensures fids { IfOk result (λ survey. AreOfOneHistory (replicas_of views.now) root → survey.fids.items ≡ taken_up (replicas_of views.now) root) }
-    ensures others { IfOk result (λ survey. AreOthers (replicas_of views.now) survey.fids.items survey.others.items) }
+    ensures others { IfOk result (λ survey. AreOthersBut (replicas_of views.now) known.now.changed.items survey.fids.items survey.others.items) }
 {
-    let mut hints = all_hints(alloc, views)?;
-    let mut fids = Vec::new(alloc);
+    let mut hints = hints;
+    let mut fids = Vec::with_capacity(alloc, known.sights.len())?;
     let mut others = Vec::new(alloc);
     let mut stack = vec![in alloc; root]?;
     for _ in 0..u64::MAX {
@@ -138,7 +148,7 @@ pub(crate) fn take_up(alloc: Global, views: &[View], root: Fid) -> Result<Survey
                 hints,
             });
         };
-        let outlook = look_ahead(alloc, views, fid, &mut hints, fids.len())?;
+        let outlook = look_ahead(alloc, views, fid, known, &mut hints, fids.len())?;
         let stays = outlook.stays;
         stack = go_on(alloc, &mut others, stack, fid, outlook.fate, stays)?;
         fids.push(fid)?;

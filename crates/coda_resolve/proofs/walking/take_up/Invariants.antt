@@ -2,7 +2,7 @@ use Rattle.std.proofs.Common.{◌≡◌, ◌++◌, reverse}
 use Rattle.std.specs.List.{flat_map}
 use Rattle.coda_resolve.specs.Placement.{AreOfOneHistory}
 use Rattle.coda_resolve.specs.Outcome.{walk, levels_of, taken_up}
-use Rattle.coda_resolve.specs.Survey.{AreOthers}
+use Rattle.coda_resolve.specs.Survey.{AreOthersBut}
 use Rattle.coda_resolve.specs.Views.{replicas_of}
 use Rattle.coda_resolve.proofs.Stack.{AllBelow}
 use Rattle.coda_resolve.proofs.walking.take_up.Given as goal
@@ -12,5 +12,5 @@ abbrev pub invariant-loop : goal.invariant-loop
 invariant-loop l = record {
   below : AreOfOneHistory (replicas_of l.views) l.fn.root → AllBelow (replicas_of l.views) l.fn.root (reverse l.stack.items);
   all : AreOfOneHistory (replicas_of l.views) l.fn.root → l.fids.items ++ flat_map (walk (levels_of (replicas_of l.views)) (replicas_of l.views)) (reverse l.stack.items) ≡ taken_up (replicas_of l.views) l.fn.root;
-  others : AreOthers (replicas_of l.views) l.fids.items l.others.items;
+  others : AreOthersBut (replicas_of l.views) l.known.changed.items l.fids.items l.others.items;
 }
