@@ -13,21 +13,23 @@ use Rattle.coda_report.specs.Texts.{reply_text}
 use Rattle.coda_stored.specs.Cells.{StoredCell}
 use Rattle.coda_stored.specs.Kept.{IsStoredKept}
 use Rattle.coda_stored.specs.Lines.{is_built, Happens, RecoversClient, RecoversReplica}
-use Rattle.coda_stored.specs.Seen.{seen, mounts_none, IsSeen, Meanwhile}
+use Rattle.coda_stored.specs.Foreign.{MakesOn}
+use Rattle.coda_stored.specs.Seen.{seen, mounts_none, IsSeen, StayAsleep, Meanwhile}
 use Rattle.coda_stored.proofs.Between.{lines_come_between}
 use Rattle.coda_stored.proofs.Seeing.{seen_is_seen}
+use Rattle.coda_stored.proofs.Sleeping.{stays_same}
 use Rattle.coda_stored.specs.Resuming.{Awaited, ClientAgain, VolumeAgain, is_awaited, AreAwaited, opened_as, MakesAgain}
 use Rattle.coda_stored.proofs.Resuming.{cells_are_resumed}
 use Rattle.coda_site.specs.Awaiting.{IsAwaiting, Resumes}
 use Rattle.coda_site.specs.Sites.{IsSite}
-use Rattle.coda_site.specs.Steps.{Admits, Becomes}
+use Rattle.coda_site.specs.Steps.{Admits, Becomes, Mounts}
 use Rattle.coda_site.proofs.Resting.{all_resumed, next_awaited}
 use Rattle.coda_site.proofs.SeenSites.{awaiting_is_seen, still_awaited, still_waits}
 use Rattle.coda_runs.specs.Shows.{CanShow}
 use Rattle.coda_runs.specs.Texts.{text_of}
 use Rattle.coda_runs.proofs.ShownUp.{shows_what_is_up}
 use Rattle.coda_runs.specs.Later.{Later, Waits, Goes, Strays, resumed, LaterGives}
-use Rattle.coda_main.specs.Later.{ShowsNothing, ShowsWaiting, ShowsLater, AnsweredAgain, AnsweredBetween, MachineGives}
+use Rattle.coda_main.specs.Later.{ShowsNothing, ShowsWaiting, ShowsLater, AnsweredAgain, AnsweredBetween, AnsweredElsewhere, MachineGives}
 use Rattle.coda_main.specs.Shows.{Moment, answered_since, CellGives}
 use Rattle.coda_main.specs.Tallies.{IsText}
 use Rattle.coda_main.proofs.Answering.{behind}
@@ -124,12 +126,42 @@ line_answered_between {D} told old new cell next left images said reply text ran
         answers_between told old new cell next left images said reply text range shows printed became.outside became.answered f.0 f.2
         (subst (λ (c : StoredCell). IsSite told new.out new.has c new.site) f.1 became.stands)
 
+-- a line that mounts a disk of an actor that it makes was carried out before the one that is awaited
+pub line_answered_elsewhere : {D : Type 0} (told : D → Told) (old new : Moment D) (cell : StoredCell) (next : Awaited) (left : List Awaited) (images : List (List ℕ)) (said : Line) (reply : Reply) (text : List ℕ) → ShowsWaiting told cell next left images old
+    → (IsSite told old.out old.has (seen cell (next ∷ left)) old.site → Mounts told new.out new.has (seen cell (next ∷ left)) said reply old.answered new.answered new.site)
+    → IsText reply text → AnsweredElsewhere told cell next left images said text old new
+line_answered_elsewhere {D} told old new cell next left images said reply text shows mounts printed =
+    by (mounts (awaiting_is_seen told old.out old.has cell (next ∷ left) (length old.site.servers.items) old.site.areas shows.kept shows.awaited old.site shows.stands))
+  where
+    stays : StayAsleep (next ∷ left) cell cell
+    stays = stays_same (next ∷ left) cell
+
+    made_says : MakesOn (seen cell (next ∷ left)) said reply → ShowsNothing reply
+    made_says (inl failed) = subst ShowsNothing (sym failed) tt
+    made_says (inr (count, opened, free)) = subst ShowsNothing (sym opened) tt
+
+    by : Mounts told new.out new.has (seen cell (next ∷ left)) said reply old.answered new.answered new.site → AnsweredElsewhere told cell next left images said text old new
+    by (inl f) = inl (record {
+      at = f.at;
+      differs = f.differs;
+      printed = text_told reply text (subst ShowsNothing (sym f.refused) tt) printed ∙ ap reply_text f.refused;
+      quiet = ap (drop (length old.answered)) (f.answered ∙ sym (append-nil old.answered)) ∙ behind old.answered [];
+      shows = record {
+        kept = shows.kept;
+        awaited = still_awaited told old.out new.out old.has new.has cell cell (next ∷ left) shows.kept shows.kept stays old.site new.site shows.awaited shows.awaited shows.stands f.stands;
+        stands = still_waits told old.out new.out old.has new.has cell cell (next ∷ left) shows.kept shows.kept stays old.site new.site shows.awaited shows.awaited shows.stands f.stands;
+        images = f.answered ∙ shows.images;
+      };
+    })
+    by (inr made) = inr (reply, text_told reply text (made_says made) printed, made)
+
 -- a line that is built
 pub line_resumes : {D : Type 0} (told : D → Told) (old new : Moment D) (bytes text : List ℕ) (said : Line) → line_of bytes ≡ Ok (Some said) → is_built said ≡ true → CellGives told old bytes text (answered_since old new) new
     → ((cell : StoredCell) (next : Awaited) (left : List Awaited) (images : List (List ℕ)) → is_awaited next said ≡ true → ShowsWaiting told cell next left images old → AnsweredAgain told cell next left images text old new)
     → ((cell : StoredCell) (next : Awaited) (left : List Awaited) (images : List (List ℕ)) → mounts_none (seen cell (next ∷ left)) said ≡ true → ShowsWaiting told cell next left images old → AnsweredBetween told cell next left images said text old new)
+    → ((cell : StoredCell) (next : Awaited) (left : List Awaited) (images : List (List ℕ)) → mounts_none (seen cell (next ∷ left)) said ≡ false → ShowsWaiting told cell next left images old → AnsweredElsewhere told cell next left images said text old new)
     → MachineGives told old bytes text (answered_since old new) new
-line_resumes told old new bytes text said spelled built ran again between = record { ran = ran; later = later }
+line_resumes told old new bytes text said spelled built ran again between elsewhere = record { ran = ran; later = later }
   where
     later : (at : Later) → ShowsLater told at old → (next : Later) × LaterGives at bytes text (answered_since old new) next × ShowsLater told next new
     later (Waits cell next left images) shows = by (is_awaited next said) refl
@@ -141,7 +173,10 @@ line_resumes told old new bytes text said spelled built ran again between = reco
         by false is = else (mounts_none (seen cell (next ∷ left)) said) refl
           where
             else : (b : Bool) → mounts_none (seen cell (next ∷ left)) said ≡ b → (place : Later) × LaterGives (Waits cell next left images) bytes text (answered_since old new) place × ShowsLater told place new
-            else false mounts = (Strays, inr (inr (inr (record { said = said; spelled = spelled; other = is; mounts = mounts; strays = refl }))), tt)
+            else false mounts = elim (elsewhere cell next left images mounts shows) [
+              | inl f ↦ (Waits cell next left images, inr (inr (inr (inl (record { said = said; at = f.at; spelled = spelled; other = is; mounts = mounts; differs = f.differs; printed = f.printed; quiet = f.quiet; stays = refl })))), f.shows)
+              | inr (reply, printed, makes) ↦ (Strays, inr (inr (inr (inr (record { said = said; reply = reply; spelled = spelled; other = is; mounts = mounts; makes = makes; printed = printed; strays = refl })))), tt)
+            ]
             else true none =
                 let a = between cell next left images none shows in
                 (Waits a.found next left (images ++ answered_since old new), inr (inr (inl (record { said = said; reply = a.reply; found = a.found; spelled = spelled; built = built; other = is; mounts = none; does = a.does; printed = a.printed; goes_on = refl }))), a.shows)

@@ -1,5 +1,5 @@
 -- A run over the disks that an earlier run left: what the cell of the code shows of it, and what its report tells.
-use Rattle.std.specs.Prelude.{◌≡◌, ◌≢◌, ℕ, List, [], ◌∷◌, ◌++◌, Option, length}
+use Rattle.std.specs.Prelude.{◌≡◌, ◌⊎◌, ◌≢◌, ℕ, List, [], ◌∷◌, ◌++◌, Option, length}
 use Rattle.coda_disk.specs.Told.{Told}
 use Rattle.coda_engine.specs.Run.{Reports}
 use Rattle.coda_engine.specs.declared.status.Kind.{Kind}
@@ -11,6 +11,7 @@ use Rattle.coda_script.specs.declared.reply.Reply.TheVariants.{ShowVolume, ShowL
 use Rattle.coda_report.specs.Texts.{reply_text}
 use Rattle.coda_cell.specs.Made.{state_of}
 use Rattle.coda_stored.specs.Cells.{StoredCell}
+use Rattle.coda_stored.specs.Foreign.{refused_foreign, IsForeignAt, MakesOn}
 use Rattle.coda_stored.specs.Kept.{IsStoredKept}
 use Rattle.coda_stored.specs.Resuming.{at_rest, Awaited, AreAwaited, MakesAgain}
 use Rattle.coda_stored.specs.Seen.{seen, Meanwhile}
@@ -54,7 +55,7 @@ pub record AnsweredAgain {D : Type 0} (told : D → Told) (cell : StoredCell) (n
   pub quiet : answered_since old new ≡ []
   pub shows : ShowsLater told (resumed found left answered) new
 
--- A line that makes no actor came before the one that is awaited, with a reply of this text, and what it left is shown.
+-- A line that mounts no disk of an actor that it makes came before the one that is awaited, with a reply of this text, and what it left is shown.
 pub record AnsweredBetween {D : Type 0} (told : D → Told) (cell : StoredCell) (next : Awaited) (left : List Awaited) (answered : List (List ℕ)) (said : Line) (text : List ℕ) (old new : Moment D) : Type 0 where
   pub found : StoredCell
   pub reply : Reply
@@ -62,13 +63,29 @@ pub record AnsweredBetween {D : Type 0} (told : D → Told) (cell : StoredCell) 
   pub printed : text ≡ text_of (state_of (seen found (next ∷ left)).made) reply
   pub shows : ShowsLater told (Waits found next left (answered ++ answered_since old new)) new
 
+-- A line that would make an actor on the disk of another one came before the one that is awaited, and was refused for that, with a reply of this text:
+-- what was shown still is.
+pub record RefusedAsForeign {D : Type 0} (told : D → Told) (cell : StoredCell) (next : Awaited) (left : List Awaited) (answered : List (List ℕ)) (said : Line) (text : List ℕ) (old new : Moment D) : Type 0 where
+  pub at : ℕ
+  pub differs : IsForeignAt (seen cell (next ∷ left)) said at
+  pub printed : text ≡ reply_text (refused_foreign at)
+  pub quiet : answered_since old new ≡ []
+  pub shows : ShowsLater told (Waits cell next left answered) new
+
+-- A line that mounts the disk of an actor that it makes came before the one that is awaited, with a reply of this text: it was refused for the disk of
+-- another one, or made the actor.
+abbrev pub AnsweredElsewhere : {D : Type 0} → (D → Told) → StoredCell → Awaited → List Awaited → List (List ℕ) → Line → List ℕ → Moment D → Moment D → Type 0
+AnsweredElsewhere told cell next left answered said text old new =
+    RefusedAsForeign told cell next left answered said text old new ⊎ ((reply : Reply) × (text ≡ reply_text reply) × MakesOn (seen cell (next ∷ left)) said reply)
+
 -- A line ran, and from each place of a later run that old shows, one that new shows may be reached by it.
 pub record MachineGives {D : Type 0} (told : D → Told) (old : Moment D) (bytes text : List ℕ) (outside : List (List ℕ)) (new : Moment D) : Type 0 where
   pub ran : CellGives told old bytes text outside new
   pub later : (at : Later) → ShowsLater told at old → (next : Later) × LaterGives at bytes text outside next × ShowsLater told next new
 
 -- What was read and written is the report of a run over the disks that an earlier run left: lines make its actors again in this order, some of them or
--- all, and each other line does what it does where those were made that came so far, unless one makes an actor out of this order. Unless memory was
+-- all, and each other line does what it does where those were made that came so far, or is refused for the disk of another actor, unless one makes an
+-- actor out of this order. Unless memory was
 -- wanting or the bay at fault, what it reached has run and begins with the histories that there were, the bay answered what the run had of it, and its
 -- disks stand for what was reached; and where all were made again, a further run can go on from it.
 pub record IsReportOfLaterRun {D : Type 0} (told : D → Told) (has : ℕ → Told) (answered_old answered_new : List (List ℕ)) (left_old left_new held_old held_new : Option (List ℕ)) (status : Status) (past : StoredCell) (lines : List Awaited) : Type 0 where

@@ -1,5 +1,5 @@
 -- What is told where a later run makes an actor again is what was found on its disk.
-use Rattle.std.proofs.Common.{◌≡◌, ℕ, false, List, [], ◌∷◌, length, Option, sym, ap, ◌∙◌, subst, inl, inr}
+use Rattle.std.proofs.Common.{◌≡◌, ℕ, true, false, Ok, Some, List, [], ◌∷◌, length, Option, sym, ap, ◌∙◌, subst, inl, inr}
 use Rattle.coda_journal.specs.declared.header.Header.{Header}
 use Rattle.coda_plain.specs.Cell.{Actor}
 use Rattle.coda_plain.specs.Laws.{IsRecovered}
@@ -7,12 +7,16 @@ use Rattle.coda_plain.specs.Moves.{TheClient, TheReplica, Recovers, crashed, rec
 use Rattle.coda_plain.proofs.Following.{client_here, replica_here}
 use Rattle.coda_plain.proofs.Staying.{histories_stay}
 use Rattle.coda_report.specs.Texts.{reply_text}
+use Rattle.coda_script.specs.declared.line.Line.{Line}
+use Rattle.coda_script.specs.Lines.{line_of}
 use Rattle.coda_script.specs.declared.reply.Reply.{Reply}
 use Rattle.coda_script.specs.declared.reply.Reply.TheVariants.{Recovered}
 use Rattle.coda_stored.specs.Cells.{StoredCell, moved}
+use Rattle.coda_stored.specs.Foreign.{IsFreeFor}
 use Rattle.coda_stored.specs.Lines.{IsRefused, RecoversClient, RecoversReplica}
 use Rattle.coda_stored.specs.Resuming.{Awaited, ClientAgain, VolumeAgain, is_awaited, opened_as, MakesAgain}
-use Rattle.coda_runs.specs.Later.{Later, resumed, HasReached, TellsOfFound, TellsOfAwaited, WhatIsMadeAgainIsCounted}
+use Rattle.coda_stored.specs.Seen.{seen, mounts_none}
+use Rattle.coda_runs.specs.Later.{Later, resumed, HasReached, TellsOfFound, TellsOfAwaited, WhatIsMadeAgainIsCounted, WhatOthersHoldIsKept}
 
 -- an actor whose recovery failed is down
 client_fails : (old mid : StoredCell) (client entries : ℕ) (was given : Option Header) (header : Header) → IsRefused old (TheClient client) was header entries given mid → (mid.made.acted.clients client).up ≡ false
@@ -84,5 +88,23 @@ what_is_made_again_is_counted cell next left before said bytes text outside new 
     subst (λ (t : List ℕ). TellsOfAwaited next t cell reached) (sym r.printed) (subst (λ (c : StoredCell). TellsOfAwaited next (reply_text r.reply) cell c) (sym at) (makes_told cell r.found next r.reply r.makes))
 what_is_made_again_is_counted cell next left before said bytes text outside new reached images spelled awaited (inr (inr (inl b))) there =
     absurd (let same = sym spelled ∙ b.spelled in let other : is_awaited next b.said ≡ false = b.other in cc)
-what_is_made_again_is_counted cell next left before said bytes text outside new reached images spelled awaited (inr (inr (inr e))) there =
+what_is_made_again_is_counted cell next left before said bytes text outside new reached images spelled awaited (inr (inr (inr (inl f)))) there =
+    absurd (let same = sym spelled ∙ f.spelled in let other : is_awaited next f.said ≡ false = f.other in cc)
+what_is_made_again_is_counted cell next left before said bytes text outside new reached images spelled awaited (inr (inr (inr (inr e)))) there =
     absurd (let same = sym spelled ∙ e.spelled in let other : is_awaited next e.said ≡ false = e.other in cc)
+
+-- the line that the bytes say is one
+same_line : (bytes : List ℕ) (said other : Line) → line_of bytes ≡ Ok (Some said) → line_of bytes ≡ Ok (Some other) → other ≡ said
+same_line bytes said other first second = (let e : Ok (Some other) ≡ Ok (Some said) = sym second ∙ first in cc)
+
+pub what_others_hold_is_kept : WhatOthersHoldIsKept
+what_others_hold_is_kept cell next left before said bytes text outside new spelled other mounts held (inl silent) = absurd (let e = sym spelled ∙ silent.0 in cc)
+what_others_hold_is_kept cell next left before said bytes text outside new spelled other mounts held (inr (inl r)) =
+    absurd (let same = sym spelled ∙ r.spelled in let awaited : is_awaited next r.said ≡ true = r.awaited in cc)
+what_others_hold_is_kept cell next left before said bytes text outside new spelled other mounts held (inr (inr (inl b))) =
+    (let none : true ≡ false = sym b.mounts ∙ ap (mounts_none (seen cell (next ∷ left))) (same_line bytes said b.said spelled b.spelled) ∙ mounts in absurd (let e = none in cc))
+what_others_hold_is_kept cell next left before said bytes text outside new spelled other mounts held (inr (inr (inr (inl f)))) = inr f.stays
+what_others_hold_is_kept cell next left before said bytes text outside new spelled other mounts held (inr (inr (inr (inr e)))) = elim e.makes [
+  | inl failed ↦ inl (e.printed ∙ ap reply_text failed)
+  | inr (count, opened, free) ↦ absurd (held (subst (IsFreeFor (seen cell (next ∷ left))) (same_line bytes said e.said spelled e.spelled) free))
+]

@@ -47,7 +47,7 @@ found_between past cell new left found stays = record {
 }
 
 -- what is awaited behind the first line
-rest_awaited : (cell : StoredCell) (next : Awaited) (left : List Awaited) (volumes areas : ℕ) → AreAwaited cell volumes areas (next ∷ left) → (more : ℕ) × (sum : ℕ) × AreAwaited cell more sum left
+pub rest_awaited : (cell : StoredCell) (next : Awaited) (left : List Awaited) (volumes areas : ℕ) → AreAwaited cell volumes areas (next ∷ left) → (more : ℕ) × (sum : ℕ) × AreAwaited cell more sum left
 rest_awaited cell (ClientAgain client blocks area) left volumes areas (size, asks, room, once, rest) = (volumes, areas + area, rest)
 rest_awaited cell (VolumeAgain volume server area) left volumes areas (home, asks, place, few, room, once, rest) = (volumes + 1, areas + area, rest)
 
@@ -108,7 +108,8 @@ module _ (past : StoredCell) (lines : List Awaited) (all : MakeAllAgain past lin
         ap (λ (n : ℕ). n + areas_of all_left) stays.areas ∙ sum,
         (awaited.0, awaited.1, lines_come_between.awaited cell b.found awaited.0 awaited.1 all_left b.said b.reply outside awaited.2 b.does),
       )
-  gives_kept_later (Waits cell next left answered) new bytes text outside kept (inr (inr (inr e))) = subst (IsKeptLater past lines) (sym e.strays) tt
+  gives_kept_later (Waits cell next left answered) new bytes text outside kept (inr (inr (inr (inl f)))) = subst (IsKeptLater past lines) (sym f.stays) kept
+  gives_kept_later (Waits cell next left answered) new bytes text outside kept (inr (inr (inr (inr e)))) = subst (IsKeptLater past lines) (sym e.strays) tt
   gives_kept_later (Goes at) new bytes text outside (kept, begins, can) (next, gives, same) =
       subst (IsKeptLater past lines) (sym same) (gives_kept at.cell next.cell bytes text outside kept gives.0, begins_then past at.cell next.cell begins (gives_begins at.cell next.cell bytes text outside gives.0), gives_can at.cell next.cell bytes text outside kept can gives.0)
   gives_kept_later Strays new bytes text outside kept is = subst (IsKeptLater past lines) (sym is) tt

@@ -21,3 +21,5 @@ pub mod Reporting
 pub mod Resumable
 pub mod Later
 pub mod Found
+pub mod Foreign
+pub mod NeverCame

@@ -10,10 +10,11 @@ use Rattle.coda_script.specs.Lines.{line_of}
 use Rattle.coda_report.specs.Texts.{reply_text}
 use Rattle.coda_cell.specs.Made.{state_of}
 use Rattle.coda_stored.specs.Cells.{StoredCell}
+use Rattle.coda_stored.specs.Foreign.{refused_foreign, IsForeignAt, IsFreeFor, MakesOn}
 use Rattle.coda_stored.specs.Kept.{IsStoredKept}
 use Rattle.coda_stored.specs.Laws.{Begins}
 use Rattle.coda_stored.specs.Lines.{is_built, refused_fault}
-use Rattle.coda_stored.specs.Resuming.{at_rest, Awaited, ClientAgain, VolumeAgain, is_awaited, MakesAgain, MakeAllAgain}
+use Rattle.coda_stored.specs.Resuming.{at_rest, Awaited, ClientAgain, VolumeAgain, is_awaited, AreAwaited, MakesAgain, MakeAllAgain}
 use Rattle.coda_runs.specs.Headline.{HasRun, Always}
 use Rattle.coda_stored.specs.Seen.{seen, mounts_none, Meanwhile}
 use Rattle.coda_runs.specs.Shows.{Recorded, RecordGives}
@@ -25,7 +26,7 @@ pub data Later : Type 0 where
   Waits : (cell : StoredCell) (next : Awaited) (left : List Awaited) (answered : List (List ℕ)) → Later
   -- all actors were made again, and the run goes on
   Goes : (at : Recorded) → Later
-  -- a line came that wasn't awaited and mounts the disk of an actor that it makes: nothing is told of what follows
+  -- a line came that wasn't awaited and made an actor on the disk that it found: nothing is told of what follows
   Strays : Later
 
 -- lines are awaited, or the run goes on where none is left
@@ -59,20 +60,36 @@ pub record IsBetween (cell : StoredCell) (next : Awaited) (left : List Awaited) 
   pub printed : text ≡ text_of (state_of (seen found (next ∷ left)).made) reply
   pub goes_on : new ≡ Waits found next left (answered ++ outside)
 
--- The bytes say another line, which makes an actor and mounts its disk.
-pub record IsElsewhere (cell : StoredCell) (next : Awaited) (left : List Awaited) (bytes : List ℕ) (new : Later) : Type 0 where
+-- The bytes say a line that isn't awaited and would make an actor on the disk of another one: it is refused for that, with the first place at which the
+-- headers differ, and nothing changes.
+pub record IsForeign (cell : StoredCell) (next : Awaited) (left : List Awaited) (answered : List (List ℕ)) (bytes text : List ℕ) (outside : List (List ℕ)) (new : Later) : Type 0 where
   pub said : Line
+  pub at : ℕ
   pub spelled : line_of bytes ≡ Ok (Some said)
   pub other : is_awaited next said ≡ false
   pub mounts : mounts_none (seen cell (next ∷ left)) said ≡ false
+  pub differs : IsForeignAt (seen cell (next ∷ left)) said at
+  pub printed : text ≡ reply_text (refused_foreign at)
+  pub quiet : outside ≡ []
+  pub stays : new ≡ Waits cell next left answered
+
+-- The bytes say another line, which makes an actor on the disk that it finds: a call of the disk failed, or the disk was free for it.
+pub record IsElsewhere (cell : StoredCell) (next : Awaited) (left : List Awaited) (bytes text : List ℕ) (new : Later) : Type 0 where
+  pub said : Line
+  pub reply : Reply
+  pub spelled : line_of bytes ≡ Ok (Some said)
+  pub other : is_awaited next said ≡ false
+  pub mounts : mounts_none (seen cell (next ∷ left)) said ≡ false
+  pub makes : MakesOn (seen cell (next ∷ left)) said reply
+  pub printed : text ≡ reply_text reply
   pub strays : new ≡ Strays
 
 -- What a line does in a later run, with this text and these answers of the bay: while lines are awaited, a blank line or a comment does nothing,
--- the one that is awaited makes its actor again, any other that mounts the disk of an actor leads astray, and all others do what they do where only
--- those were made that were made again so far; once all were, each line does what it does in a cell.
+-- the one that is awaited makes its actor again, one that asks for the disk of another actor is refused, any other that makes an actor leads astray, and
+-- all others do what they do where only those were made that were made again so far; once all were, each line does what it does in a cell.
 abbrev pub LaterGives : Later → List ℕ → List ℕ → List (List ℕ) → Later → Type 0
 LaterGives (Waits cell next left answered) bytes text outside new =
-    ((line_of bytes ≡ Ok None) × (text ≡ []) × (outside ≡ []) × (new ≡ Waits cell next left answered)) ⊎ (IsResumed cell next left answered bytes text outside new ⊎ (IsBetween cell next left answered bytes text outside new ⊎ IsElsewhere cell next left bytes new))
+    ((line_of bytes ≡ Ok None) × (text ≡ []) × (outside ≡ []) × (new ≡ Waits cell next left answered)) ⊎ (IsResumed cell next left answered bytes text outside new ⊎ (IsBetween cell next left answered bytes text outside new ⊎ (IsForeign cell next left answered bytes text outside new ⊎ IsElsewhere cell next left bytes text new)))
 LaterGives (Goes at) bytes text outside new = (next : Recorded) × RecordGives at bytes text outside next × (new ≡ Goes next)
 LaterGives Strays bytes text outside new = new ≡ Strays
 
@@ -130,3 +147,16 @@ WhatIsMadeAgainIsCounted =
     (cell : StoredCell) (next : Awaited) (left : List Awaited) (before : List (List ℕ)) (said : Line) (bytes text : List ℕ) (outside : List (List ℕ)) (new : Later) (reached : StoredCell) (images : List (List ℕ))
     → line_of bytes ≡ Ok (Some said) → is_awaited next said ≡ true → LaterGives (Waits cell next left before) bytes text outside new → HasReached new reached images
     → TellsOfAwaited next text cell reached
+
+-- Whoever has entries on a disk keeps it: a line that asks for it under another header leaves everything as it was, unless a call of the disk failed.
+abbrev pub WhatOthersHoldIsKept : Type 0
+WhatOthersHoldIsKept =
+    (cell : StoredCell) (next : Awaited) (left : List Awaited) (before : List (List ℕ)) (said : Line) (bytes text : List ℕ) (outside : List (List ℕ)) (new : Later)
+    → line_of bytes ≡ Ok (Some said) → is_awaited next said ≡ false → mounts_none (seen cell (next ∷ left)) said ≡ false → ¬ IsFreeFor (seen cell (next ∷ left)) said → LaterGives (Waits cell next left before) bytes text outside new
+    → (text ≡ reply_text refused_fault) ⊎ (new ≡ Waits cell next left before)
+
+-- Nobody's own disk is another's: a line that makes an actor again as it was made isn't refused so.
+abbrev pub OwnDisksAreNotForeign : Type 0
+OwnDisksAreNotForeign =
+    (cell : StoredCell) (areas : ℕ) (next : Awaited) (left : List Awaited) (said : Line) (at : ℕ) → IsStoredKept cell → AreAwaited cell (length (seen cell (next ∷ left)).made.servers) areas (next ∷ left)
+    → is_awaited next said ≡ true → IsForeignAt (seen cell (next ∷ left)) said at → ⊥

@@ -9,3 +9,4 @@ pub mod Performed
 pub mod Shown
 pub mod Causes
 pub mod Later
+pub mod NeverCame

@@ -4,8 +4,9 @@ ghost use Rattle.coda_stored.specs.Cells.{nothing_stored};
 ghost use Rattle.coda_runs.specs.Causes.{RefusalsHaveCauses};
 ghost use Rattle.coda_runs.specs.Complete.{ScriptsInGrammarAreClean};
 ghost use Rattle.coda_runs.specs.Headline.{ScriptsRun, ChunksAreDecidedOnce, CertifiedChunksAreApplied, ConflictsNameASentRecord, OperationsAreKept, SettlementsAreDecided, LogsArePending, AcknowledgedEntriesStay, ClientsComeBack, ReplicasComeBack};
-ghost use Rattle.coda_runs.specs.Later.{LaterRunsGoOn, WhatIsMadeAgainIsCounted, WhatRanCanBeResumed};
+ghost use Rattle.coda_runs.specs.Later.{LaterRunsGoOn, OwnDisksAreNotForeign, WhatIsMadeAgainIsCounted, WhatOthersHoldIsKept, WhatRanCanBeResumed};
 ghost use Rattle.coda_runs.specs.Lettered.{RepliesNameLetters, LettersSayWhatIsSo, LettersHaveEnds};
+ghost use Rattle.coda_runs.specs.NeverCame.{WhoNeverCameIsAsItWas};
 ghost use Rattle.coda_runs.specs.Performed.{OperationsArePerformed};
 ghost use Rattle.coda_runs.specs.Runs.{LineGives, LineRefused};
 ghost use Rattle.coda_runs.specs.Shown.{WhatIsShownIsThere};
@@ -166,8 +167,27 @@ pub fn what_is_made_again_is_counted()
     ensures { WhatIsMadeAgainIsCounted }
 {}
 
+/// Where a line in a later run asks for the disk of another actor, which was given another header and holds entries,
+/// it changes nothing, unless a call of the disk failed, as the text then says: a line with the wrong cache, area,
+/// server or order takes nobody's history away.
+pub fn what_others_hold_is_kept()
+    ensures { WhatOthersHoldIsKept }
+{}
+
+/// Nobody's own disk is another's: a line that makes an actor again as it was made, where it is awaited, isn't refused
+/// for the disk of another one.
+pub fn own_disks_are_not_foreign()
+    ensures { OwnDisksAreNotForeign }
+{}
+
 /// Whatever lines ran from an empty cell, there are lines that make again all that they made, as it was and in its
 /// order, so that a later run can go on from it.
 pub fn what_ran_can_be_resumed()
     ensures { WhatRanCanBeResumed }
+{}
+
+/// Whatever lines ran in a later run, whoever is yet to come is as the earlier run left it: with the history that there
+/// was and the entry whose append failed, on a disk as it was.
+pub fn who_never_came_is_as_it_was()
+    ensures { WhoNeverCameIsAsItWas }
 {}

@@ -31,3 +31,4 @@ pub mod Newcomers
 pub mod NewVolumes
 pub mod NewLines
 pub mod Counting
+pub mod Foreigners

@@ -6,20 +6,21 @@ use Rattle.coda_script.specs.declared.line.Line.{Line}
 use Rattle.coda_script.specs.declared.line.Line.TheVariants as line
 use Rattle.coda_script.specs.declared.reply.Reply.{Reply}
 use Rattle.coda_script.specs.declared.reply.Reply.TheVariants.{Opened, Recovered}
+use Rattle.coda_stored.specs.Foreign.{refused_foreign}
 use Rattle.coda_stored.specs.Lines.{refused_fault}
 
--- the actor is made, with so many entries on its disk; or its disk failed
+-- the actor is made, with so many entries on its disk; or its disk failed, or is that of another actor
 abbrev pub SaysOpened : Mounting → Reply → Type 0
 SaysOpened (Entries count) reply = reply ≡ Opened (count ∷ [])
 SaysOpened DiskFault reply = reply ≡ refused_fault
-SaysOpened (Foreign at) reply = Unit {0}
+SaysOpened (Foreign at) reply = reply ≡ refused_foreign at
 SaysOpened Memory reply = ⊥
 
--- the actor is recovered, with so many entries; or its disk failed
+-- the actor is recovered, with so many entries; or its disk failed, or is that of another actor
 abbrev pub SaysRecovered : Mounting → Reply → Type 0
 SaysRecovered (Entries count) reply = reply ≡ Recovered count
 SaysRecovered DiskFault reply = reply ≡ refused_fault
-SaysRecovered (Foreign at) reply = Unit {0}
+SaysRecovered (Foreign at) reply = reply ≡ refused_foreign at
 SaysRecovered Memory reply = ⊥
 
 -- the line crashes an actor, recovers it, or lets its disk fail

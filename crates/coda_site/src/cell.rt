@@ -8,12 +8,12 @@ ghost use Rattle.coda_cell.specs.Made.{state_of};
 ghost use Rattle.coda_cell.specs.State.{ClientState, log_of, new_volume};
 ghost use Rattle.coda_stored.specs.Cells.{StoredCell, nothing_stored};
 ghost use Rattle.coda_stored.specs.Kept.{IsStoredKept};
-ghost use Rattle.coda_stored.specs.Seen.{IsSeen};
+ghost use Rattle.coda_stored.specs.Seen.{mounts_none, IsSeen};
 ghost use Rattle.coda_stored.specs.Lines.{is_built, Happens, client_down, replica_down};
 ghost use Rattle.coda_stored.specs.Resuming.{at_rest, Awaited, is_awaited, AreAwaited, MakeAllAgain};
 ghost use Rattle.coda_site.specs.Awaiting.{IsAwaiting, Resumes};
 ghost use Rattle.coda_site.specs.Sites.{IsSite, IsReady, IsClosable};
-ghost use Rattle.coda_site.specs.Steps.{Admits, Becomes};
+ghost use Rattle.coda_site.specs.Steps.{Admits, Becomes, Mounts};
 ghost use Rattle.coda_site.specs.Totals.{IsCounted, IsFault, has_armed, total, totals};
 ghost use Rattle.coda_disk.specs.Bays.{plus};
 ghost use Rattle.coda_site.specs.Cells.{AreBlank, AreOnDisks};
@@ -100,6 +100,8 @@ impl<B: Bay> Cell<B> {
         ensures again { (cell : StoredCell) (awaited : Awaited) (left : List Awaited) → is_awaited awaited line.now ≡ true → IsStoredKept cell
             → AreAwaited cell (length self.old.site.servers.items) self.old.site.areas (awaited ∷ left) → IsAwaiting B.D.told (B.out self.old.bay) (B.has self.old.bay) cell (awaited ∷ left) self.old.site
             → IfOk result (λ reply. Resumes B.D.told (B.out self.new.bay) (B.has self.new.bay) cell awaited left reply (B.answered self.old.bay) (B.answered self.new.bay) self.new.site) }
+        ensures mounts { (cell : StoredCell) → IsSeen cell → mounts_none cell line.now ≡ false → IsSite B.D.told (B.out self.old.bay) (B.has self.old.bay) cell self.old.site
+            → IfOk result (λ reply. Mounts B.D.told (B.out self.new.bay) (B.has self.new.bay) cell line.now reply (B.answered self.old.bay) (B.answered self.new.bay) self.new.site) }
         ensures posted { self.new.site.net.posted ≤ self.old.site.net.posted + 1 }
         ensures later { B.faults self.old.bay ≤ B.faults self.new.bay }
         ensures bay_cause { result ≡ Err CellFault.Bay → Rose (B.faults self.old.bay) (B.faults self.new.bay) }

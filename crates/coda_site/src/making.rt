@@ -3,17 +3,18 @@ ghost use Rattle.std.specs.Prelude.{◌≡◌, ◌≢◌, ◌≤◌, ◌<◌, �
 ghost use Rattle.coda_io.specs.Faults.{Rose};
 ghost use Rattle.coda_crew.specs.declared.fault.CrewFault.TheVariants as crew_faults;
 ghost use Rattle.coda_script.specs.Ranges.{InRange};
+ghost use Rattle.coda_cell.specs.Steps.{alone};
 ghost use Rattle.coda_script.specs.declared.line.Line.TheVariants as line;
 ghost use Rattle.coda_script.specs.declared.reply.Reply.TheVariants as reply;
 ghost use Rattle.coda_stored.specs.Cells.{StoredCell, client_header, replica_header, disk_number};
 ghost use Rattle.coda_stored.specs.Kept.{IsStoredKept};
 ghost use Rattle.coda_stored.specs.Lines.{no_volume, no_client, Happens, MakesVolume};
-ghost use Rattle.coda_stored.specs.Seen.{IsSeen};
+ghost use Rattle.coda_stored.specs.Seen.{IsSeen, mounts_none};
 ghost use Rattle.coda_stored.specs.Resuming.{Awaited, ClientAgain, VolumeAgain, AreAwaited};
 ghost use Rattle.coda_site.specs.Awaiting.{IsAwaiting, Resumes};
 ghost use Rattle.coda_site.specs.Makings.{SaysOpened};
 ghost use Rattle.coda_site.specs.Sites.{IsSite, IsReady, place_in};
-ghost use Rattle.coda_site.specs.Steps.{Becomes};
+ghost use Rattle.coda_site.specs.Steps.{Becomes, Mounts};
 ghost use Rattle.coda_site.specs.Totals.{IsCounted, IsFault, totals};
 ghost use Rattle.coda_site.specs.declared.site.Place.{Place as APlace};
 
@@ -125,6 +126,8 @@ pub fn make_client<B: Bay>(
     ensures again { (cell : StoredCell) (left : List Awaited) → IsStoredKept cell → AreAwaited cell (length site.old.servers.items) site.old.areas (ClientAgain client blocks area ∷ left)
         → IsAwaiting B.D.told (B.out bay.old) (B.has bay.old) cell (ClientAgain client blocks area ∷ left) site.old
         → IfOk result (λ said. Resumes B.D.told (B.out bay.new) (B.has bay.new) cell (ClientAgain client blocks area) left said (B.answered bay.old) (B.answered bay.new) site.new) }
+    ensures mounts { (cell : StoredCell) → IsSeen cell → mounts_none cell (line.Client client blocks (Some area)) ≡ false → IsSite B.D.told (B.out bay.old) (B.has bay.old) cell site.old
+        → IfOk result (λ said. Mounts B.D.told (B.out bay.new) (B.has bay.new) cell (line.Client client blocks (Some area)) said (B.answered bay.old) (B.answered bay.new) site.new) }
     ensures net { site.new.net ≡ site.old.net }
     ensures later { B.faults bay.old ≤ B.faults bay.new }
     ensures bay_cause { result ≡ Err CellFault.Bay → Rose (B.faults bay.old) (B.faults bay.new) }
@@ -199,6 +202,8 @@ pub fn make_volume<B: Bay>(
     ensures again { (cell : StoredCell) (left : List Awaited) → IsStoredKept cell → AreAwaited cell (length site.old.servers.items) site.old.areas (VolumeAgain volume server area ∷ left)
         → IsAwaiting B.D.told (B.out bay.old) (B.has bay.old) cell (VolumeAgain volume server area ∷ left) site.old
         → IfOk result (λ said. Resumes B.D.told (B.out bay.new) (B.has bay.new) cell (VolumeAgain volume server area) left said (B.answered bay.old) (B.answered bay.new) site.new) }
+    ensures mounts { (cell : StoredCell) (servers : List ℕ) → alone servers ≡ server → IsSeen cell → mounts_none cell (line.Volume volume servers (Some area)) ≡ false → IsSite B.D.told (B.out bay.old) (B.has bay.old) cell site.old
+        → IfOk result (λ said. Mounts B.D.told (B.out bay.new) (B.has bay.new) cell (line.Volume volume servers (Some area)) said (B.answered bay.old) (B.answered bay.new) site.new) }
     ensures net { site.new.net ≡ site.old.net }
     ensures later { B.faults bay.old ≤ B.faults bay.new }
     ensures bay_cause { result ≡ Err CellFault.Bay → Rose (B.faults bay.old) (B.faults bay.new) }

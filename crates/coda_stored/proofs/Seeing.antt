@@ -1,11 +1,13 @@
 -- A cell that is kept, and what is seen of it, is one that is seen.
-use Rattle.std.proofs.Common.{◌≡◌, ℕ, Bool, true, false, List, Option, Some, None, refl, ap}
+use Rattle.std.proofs.Common.{◌≡◌, ℕ, ◌==◌, Bool, true, false, cond, List, [], ◌∷◌, Option, Some, None, refl, ap}
+use Rattle.coda_actors.specs.Plain.{PlainActor, Unmade}
 use Rattle.coda_plain.specs.Cell.{ClientEntry, Actor}
 use Rattle.coda_plain.specs.Decisions.{ReplicaEntry}
-use Rattle.coda_stored.specs.Cells.{Side, StoredCell}
+use Rattle.coda_record.specs.declared.entry.ReplicaEntry.{ReplicaEntry as KeptEntry}
+use Rattle.coda_stored.specs.Cells.{Side, StoredCell, plain_replica}
 use Rattle.coda_stored.specs.Kept.{IsClientSide, IsReplicaSide, IsStoredKept}
-use Rattle.coda_stored.specs.Resuming.{Awaited, awaits_client, awaits_volume}
-use Rattle.coda_stored.specs.Seen.{asleep, home_unless, seen, IsClientSeen, IsReplicaSeen, IsSeen}
+use Rattle.coda_stored.specs.Resuming.{Awaited, ClientAgain, VolumeAgain, awaits_client, awaits_volume}
+use Rattle.coda_stored.specs.Seen.{asleep, home_unless, idle_until, seen, IsClientSeen, IsReplicaSeen, IsSeen}
 
 client_seen : (client : ℕ) (o : Option ℕ) (b : Bool) (actor : Actor ClientEntry) (side : Side) → IsClientSide client o actor side → IsClientSeen client (home_unless b o) actor (asleep b side)
 client_seen client o true actor side is = refl
@@ -22,6 +24,24 @@ pub home_seen : (b : Bool) (o : Option ℕ) (server : ℕ) → home_unless b o �
 home_seen true o server is = cc
 home_seen false o server is = (refl, is)
 
+-- no crash left anything of the disk of a client that no line made yet
+none_left : (client : ℕ) (o : Option ℕ) (b : Bool) (actor : Actor ClientEntry) (side : Side) → IsClientSide client o actor side → home_unless b o ≡ None → (asleep b side).left ≡ None
+none_left client o true actor side is none = refl
+none_left client None false actor side is none = ap (λ (s : Side). s.left) is.0
+none_left client (Some blocks) false actor side is none = cc
+
+-- nor of one that nobody asks for
+none_asked : (cell : StoredCell) → IsStoredKept cell → (left : List Awaited) (number : ℕ) → ((idle_until cell left number).life ≡ Unmade) × ((idle_until cell left number).left ≡ None)
+none_asked cell kept [] number = (ap (λ (a : PlainActor KeptEntry). a.life) (kept.idle number), ap (λ (a : PlainActor KeptEntry). a.left) (kept.idle number))
+none_asked cell kept (ClientAgain client blocks area ∷ left) number = none_asked cell kept left number
+none_asked cell kept (VolumeAgain volume server area ∷ left) number = by (number == cell.places volume) (none_asked cell kept left number)
+  where
+    by : (b : Bool) → ((idle_until cell left number).life ≡ Unmade) × ((idle_until cell left number).left ≡ None)
+        → ((cond b (plain_replica volume (cell.made.acted.replicas server volume) (asleep true (cell.replicas volume))) (idle_until cell left number)).life ≡ Unmade)
+        × ((cond b (plain_replica volume (cell.made.acted.replicas server volume) (asleep true (cell.replicas volume))) (idle_until cell left number)).left ≡ None)
+    by true rest = (refl, refl)
+    by false rest = rest
+
 pub seen_is_seen : (cell : StoredCell) (left : List Awaited) → IsStoredKept cell → IsSeen (seen cell left)
 seen_is_seen cell left kept = record {
   replicas_up = kept.replicas_up;
@@ -31,6 +51,8 @@ seen_is_seen cell left kept = record {
   placed = λ volume server home. let p = kept.placed volume server (home_seen (awaits_volume left volume) (cell.made.homes volume) server home).1 in (p.0, p.2);
   apart = λ volume other server home first second same. kept.apart volume other server home (home_seen (awaits_volume left volume) (cell.made.homes volume) server first).1 (home_seen (awaits_volume left other) (cell.made.homes other) home second).1 same;
   alone = kept.alone;
+  unmade = λ client none. none_left client (cell.made.sizes client) (awaits_client left client) (cell.made.acted.clients client) (cell.clients client) (kept.clients client) none;
+  idle = none_asked cell kept left;
 }
 
 pub kept_is_seen : (cell : StoredCell) → IsStoredKept cell → IsSeen cell
@@ -42,4 +64,6 @@ kept_is_seen cell kept = record {
   placed = λ volume server home. let p = kept.placed volume server home in (p.0, p.2);
   apart = kept.apart;
   alone = kept.alone;
+  unmade = λ client none. none_left client (cell.made.sizes client) false (cell.made.acted.clients client) (cell.clients client) (kept.clients client) none;
+  idle = none_asked cell kept [];
 }

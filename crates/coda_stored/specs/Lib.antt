@@ -5,6 +5,7 @@ pub mod Kept
 pub mod Laws
 pub mod Resuming
 pub mod Seen
+pub mod Foreign
 pub mod Absent
 pub mod Makers
 pub mod Patient

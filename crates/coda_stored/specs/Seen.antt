@@ -1,6 +1,6 @@
 -- A cell as it is seen while lines are yet to make some of its actors again, and what other lines do in it meanwhile.
 use Rattle.std.specs.Prelude.{◌≡◌, ◌⊎◌, ◌==◌, ℕ, ◌-◌, Bool, true, false, is_some, if◌then◌else◌, List, [], ◌∷◌, take, length, Option, Some, None}
-use Rattle.coda_actors.specs.Plain.{PlainActor}
+use Rattle.coda_actors.specs.Plain.{PlainActor, Unmade}
 use Rattle.coda_plain.specs.Cell.{ClientEntry, Actor, Joins, found}
 use Rattle.coda_plain.specs.Decisions.{ReplicaEntry}
 use Rattle.coda_plain.specs.Histories.{In}
@@ -95,8 +95,8 @@ abbrev pub IsReplicaSeen : ℕ → Option ℕ → (ℕ → Actor ReplicaEntry) �
 IsReplicaSeen volume None actors side = side.asked ≡ None
 IsReplicaSeen volume (Some server) actors side = IsReplicaSide volume (Some server) actors side
 
--- What holds of a cell as it is seen, and of one that is kept: the histories are sound, also of actors that no line made yet; and of those
--- that one made, what holds of a cell that is kept.
+-- What holds of a cell as it is seen, and of one that is kept: the histories are sound, also of actors that no line made yet; of those that one
+-- made, what holds of a cell that is kept; and of no disk that nobody asks for is it known what a crash left.
 pub record IsSeen (cell : StoredCell) : Type 0 where
   pub replicas_up : (server volume : ℕ) → (cell.made.acted.replicas server volume).up ≡ true → (cell.made.acted.replicas server volume).failed ≡ None
   pub sound : (joins : Joins) → IsSound (whole cell.made joins).acted
@@ -105,6 +105,8 @@ pub record IsSeen (cell : StoredCell) : Type 0 where
   pub placed : (volume server : ℕ) → cell.made.homes volume ≡ Some server → (before : ℕ) × (cell.places volume ≡ disk_number before server)
   pub apart : (volume other server home : ℕ) → cell.made.homes volume ≡ Some server → cell.made.homes other ≡ Some home → cell.places volume ≡ cell.places other → volume ≡ other
   pub alone : (server volume : ℕ) (entry : ReplicaEntry) → In entry (found true (cell.made.acted.replicas server volume)) → IsDecision entry
+  pub unmade : (client : ℕ) → cell.made.sizes client ≡ None → (cell.clients client).left ≡ None
+  pub idle : (number : ℕ) → ((cell.idle number).life ≡ Unmade) × ((cell.idle number).left ≡ None)
 
 -- What holds of lines that come between: each that mounts no disk of an actor that it makes does in the cell that is whole what it does in the cell as it is seen, or
 -- nothing; what it leaves is kept, and begins with the histories that there were; and the lines that are to come can make their actors again.

@@ -1,12 +1,16 @@
-use Rattle.std.proofs.Common.{rules, ◌≡◌, ℕ, Some, is_some, sym, ap, subst, ◌∙◌}
+use Rattle.std.proofs.Common.{rules, ◌≡◌, ℕ, false, Some, is_some, sym, ap, subst, ◌∙◌}
 use Rattle.std.proofs.lemmas.Result.{IfOk-weaker}
 use Rattle.coda_script.specs.declared.line.Line.{Line}
 use Rattle.coda_script.specs.declared.line.Line.TheVariants as line
 use Rattle.coda_script.specs.declared.reply.Reply.{Reply}
 use Rattle.coda_cell.specs.Steps.{alone}
+use Rattle.coda_actors.specs.Plain.{HasOther}
+use Rattle.coda_stored.specs.Cells.{client_header, replica_header}
+use Rattle.coda_stored.specs.Foreign.{next_disk, IsFree}
+use Rattle.coda_site.proofs.Foreigners.{mounts_as}
 use Rattle.coda_stored.specs.Lines.{area_of, no_volume, no_client, Happens, MakesVolume, MakesClient}
 use Rattle.coda_stored.specs.Seen.{mounts_none}
-use Rattle.coda_site.specs.Steps.{Becomes}
+use Rattle.coda_site.specs.Steps.{Becomes, Mounts}
 use Rattle.coda_site.proofs.Becomings.{becomes_as}
 use Rattle.coda_site.proofs.SentChunks.{windowed}
 use Rattle.coda_site.proofs.cell.Cell.step.Goals as goal
@@ -67,3 +71,44 @@ returns-in-Volume-clause-does g c = λ cell may is.
     (becomes_as told out has own (Happens cell said) reply old new site
     (λ outside left made. subst (λ (area : ℕ). MakesVolume cell volume (alone servers) area reply outside left) area_is (subst (λ (server : ℕ). MakesVolume cell volume server c.unwrap_or.result reply outside left) server_is made)) becomes))
     (c.make_volume.ensures.does cell may.0 (λ fits. may.1 (ap (mounts_none cell) c.in-Volume.is ∙ ap (λ (area : ℕ). is_some (no_volume cell volume area)) (sym area_is) ∙ fits)) is)
+
+pub returns-in-Client-clause-mounts : goal.returns-in-Client-clause-mounts
+returns-in-Client-clause-mounts g c = λ cell seen mounts is.
+    let told = g.B.D.Disk.told in
+    let out = g.B.Bay.out c.make_client.new.bay in
+    let has = g.B.Bay.has c.make_client.new.bay in
+    let old = g.B.Bay.answered c.args.self.now.bay in
+    let new = g.B.Bay.answered c.make_client.new.bay in
+    let site = c.make_client.new.site in
+    let client = c.in-Client.client in
+    let blocks = c.in-Client.blocks in
+    let area_is : c.unwrap_or-in-Client.result ≡ area_of c.in-Client.area = c.unwrap_or-in-Client.ensures in
+    let none : mounts_none cell (line.Client client blocks (Some c.unwrap_or-in-Client.result)) ≡ false =
+    ap (λ (area : ℕ). is_some (no_client cell client area)) area_is ∙ ap (mounts_none cell) (sym c.in-Client.is) ∙ mounts in
+    IfOk-weaker c.make_client.result (λ (reply : Reply). Mounts told out has cell (line.Client client blocks (Some c.unwrap_or-in-Client.result)) reply old new site) (λ (reply : Reply). Mounts told out has cell c.args.line.now reply old new site)
+    (λ reply did. subst (λ (l : Line). Mounts told out has cell l reply old new site) (sym c.in-Client.is)
+    (mounts_as told out has cell (line.Client client blocks (Some c.unwrap_or-in-Client.result)) (line.Client client blocks c.in-Client.area) reply old new site
+    (λ at differs. subst (λ (area : ℕ). HasOther (client_header client blocks area) (cell.clients client).given at) area_is differs)
+    (λ free. subst (λ (area : ℕ). IsFree (client_header client blocks area) (cell.clients client).given (cell.made.acted.clients client).history) area_is free) did))
+    (c.make_client.ensures.mounts cell seen none is)
+
+pub returns-in-Volume-clause-mounts : goal.returns-in-Volume-clause-mounts
+returns-in-Volume-clause-mounts g c = λ cell seen mounts is.
+    let told = g.B.D.Disk.told in
+    let out = g.B.Bay.out c.make_volume.new.bay in
+    let has = g.B.Bay.has c.make_volume.new.bay in
+    let old = g.B.Bay.answered c.args.self.now.bay in
+    let new = g.B.Bay.answered c.make_volume.new.bay in
+    let site = c.make_volume.new.site in
+    let volume = c.in-Volume.volume in
+    let servers = c.in-Volume.servers in
+    let server_is : alone servers ≡ c.alone.result = sym (let e : c.alone.result ≡ alone servers = search rules in e) in
+    let area_is : c.unwrap_or.result ≡ area_of c.in-Volume.area = c.unwrap_or.ensures in
+    let none : mounts_none cell (line.Volume volume servers (Some c.unwrap_or.result)) ≡ false =
+    ap (λ (area : ℕ). is_some (no_volume cell volume area)) area_is ∙ ap (mounts_none cell) (sym c.in-Volume.is) ∙ mounts in
+    IfOk-weaker c.make_volume.result (λ (reply : Reply). Mounts told out has cell (line.Volume volume servers (Some c.unwrap_or.result)) reply old new site) (λ (reply : Reply). Mounts told out has cell c.args.line.now reply old new site)
+    (λ reply did. subst (λ (l : Line). Mounts told out has cell l reply old new site) (sym c.in-Volume.is)
+    (mounts_as told out has cell (line.Volume volume servers (Some c.unwrap_or.result)) (line.Volume volume servers c.in-Volume.area) reply old new site
+    (λ at differs. subst (λ (area : ℕ). HasOther (replica_header volume (alone servers) area) (next_disk cell (alone servers)).header at) area_is differs)
+    (λ free. subst (λ (area : ℕ). IsFree (replica_header volume (alone servers) area) (next_disk cell (alone servers)).header (next_disk cell (alone servers)).history) area_is free) did))
+    (c.make_volume.ensures.mounts cell servers server_is seen none is)

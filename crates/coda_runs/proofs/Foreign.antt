@@ -1,0 +1,79 @@
+-- The disk of an actor isn't another's to the line that makes it again.
+use Rattle.std.proofs.Common.{◌≡◌, ℕ, ◌==◌, ◌&&◌, Bool, true, false, cond, List, ◌∷◌, length, Option, Some, None, refl, sym, ap, ◌∙◌, subst}
+use Rattle.std.specs.Prelude.{get_or}
+use Rattle.std.proofs.lemmas.Bool.{eqb-true, eq-eqb}
+use Rattle.coda_actors.specs.Plain.{HasOther}
+use Rattle.coda_journal.specs.Header.{marks}
+use Rattle.coda_journal.specs.declared.header.Header.{Header}
+use Rattle.coda_plain.specs.Cell.{Actor}
+use Rattle.coda_script.specs.declared.line.Line.TheVariants as line
+use Rattle.coda_cell.specs.Steps.{is_alone, alone}
+use Rattle.coda_stored.specs.Cells.{Side, StoredCell, plain_replica, client_header, replica_header, disk_number}
+use Rattle.coda_stored.specs.Foreign.{IsForeignAt}
+use Rattle.coda_stored.specs.Kept.{IsClientSide, IsReplicaSide, IsGiven, IsStoredKept}
+use Rattle.coda_stored.specs.Lines.{area_of}
+use Rattle.coda_stored.specs.Resuming.{Awaited, ClientAgain, VolumeAgain, is_awaited, awaits_client, AreAwaited}
+use Rattle.coda_stored.specs.Seen.{asleep, idle_until, seen}
+use Rattle.coda_runs.specs.Later.{OwnDisksAreNotForeign}
+
+both : (a b : Bool) → (a && b) ≡ true → (a ≡ true) × (b ≡ true)
+both true b is = (refl, is)
+both false b is = cc
+
+-- the header that a disk was given, if any, is the one that its actor asks for
+same_header : {E : Type 0} (given : Option Header) (header asked : Header) (at : ℕ) (actor : Actor E) → IsGiven given asked actor → asked ≡ header → HasOther header given at → ⊥
+same_header None header asked at actor is same other = other
+same_header (Some h) header asked at actor is same other = (let e : marks h ≡ marks header = ap marks (is ∙ same) in other.2.other (λ i. get_or (e i) other.0 0))
+
+given_asleep : (b : Bool) (side : Side) → (asleep b side).given ≡ side.given
+given_asleep true side = refl
+given_asleep false side = refl
+
+module _ (cell : StoredCell) (kept : IsStoredKept cell) (areas : ℕ) (left : List Awaited) (at : ℕ) where
+  own_client : (client blocks area number cache : ℕ) (size : Option ℕ) (volumes : ℕ) → AreAwaited cell volumes areas (ClientAgain client blocks area ∷ left) → is_awaited (ClientAgain client blocks area) (line.Client number cache size) ≡ true
+      → IsForeignAt (seen cell (ClientAgain client blocks area ∷ left)) (line.Client number cache size) at → ⊥
+  own_client client blocks area number cache size volumes (there, asks, room, once, rest) is foreign =
+      let parts = both (number == client) ((cache == blocks) && (area_of size == area)) is in
+      let more = both (cache == blocks) (area_of size == area) parts.1 in
+      let number_is = eqb-true number client parts.0 in
+      let cache_is = eqb-true cache blocks more.0 in
+      let area_is = eqb-true (area_of size) area more.1 in
+      let known = subst (λ (o : Option ℕ). IsClientSide client o (cell.made.acted.clients client) (cell.clients client)) there (kept.clients client) in
+      let same : client_header client blocks known.0 ≡ client_header client blocks area = (let e : Some (client_header client blocks known.0) ≡ Some (client_header client blocks area) = sym known.6 ∙ asks.0 in cc) in
+      let other : HasOther (client_header number cache (area_of size)) (cell.clients number).given at =
+      subst (λ (o : Option Header). HasOther (client_header number cache (area_of size)) o at) (given_asleep (awaits_client (ClientAgain client blocks area ∷ left) number) (cell.clients number)) foreign in
+      let here : HasOther (client_header client blocks area) (cell.clients client).given at =
+      subst (λ (n : ℕ). HasOther (client_header n blocks area) (cell.clients n).given at) number_is
+      (subst (λ (c : ℕ). HasOther (client_header number c area) (cell.clients number).given at) cache_is
+      (subst (λ (a : ℕ). HasOther (client_header number cache a) (cell.clients number).given at) area_is other)) in
+      same_header (cell.clients client).given (client_header client blocks area) (client_header client blocks known.0) at (cell.made.acted.clients client) known.7 same here
+
+  own_volume : (volume server area number : ℕ) (servers : List ℕ) (size : Option ℕ) → AreAwaited cell (length (seen cell (VolumeAgain volume server area ∷ left)).made.servers) areas (VolumeAgain volume server area ∷ left)
+      → is_awaited (VolumeAgain volume server area) (line.Volume number servers size) ≡ true → IsForeignAt (seen cell (VolumeAgain volume server area ∷ left)) (line.Volume number servers size) at → ⊥
+  own_volume volume server area number servers size (there, asks, place, few, room, once, rest) is foreign =
+      let first = both (is_alone servers) ((number == volume) && ((alone servers == server) && (area_of size == area))) is in
+      let parts = both (number == volume) ((alone servers == server) && (area_of size == area)) first.1 in
+      let more = both (alone servers == server) (area_of size == area) parts.1 in
+      let number_is = eqb-true number volume parts.0 in
+      let server_is = eqb-true (alone servers) server more.0 in
+      let area_is = eqb-true (area_of size) area more.1 in
+      let count = length (seen cell (VolumeAgain volume server area ∷ left)).made.servers in
+      let known = subst (λ (o : Option ℕ). IsReplicaSide volume o (λ s. cell.made.acted.replicas s volume) (cell.replicas volume)) there (kept.replicas volume) in
+      let same : replica_header volume server known.0 ≡ replica_header volume server area = (let e : Some (replica_header volume server known.0) ≡ Some (replica_header volume server area) = sym known.5 ∙ asks.0 in cc) in
+      let disk_of = λ (s : ℕ). (idle_until cell (VolumeAgain volume server area ∷ left) (disk_number count s)).disk.header in
+      let named : HasOther (replica_header volume server area) (disk_of server) at =
+      subst (λ (s : ℕ). HasOther (replica_header volume s area) (disk_of s) at) server_is
+      (subst (λ (n : ℕ). HasOther (replica_header n (alone servers) area) (disk_of (alone servers)) at) number_is
+      (subst (λ (a : ℕ). HasOther (replica_header number (alone servers) a) (disk_of (alone servers)) at) area_is foreign)) in
+      let held : disk_of server ≡ (cell.replicas volume).given =
+      ap (λ (b : Bool). (cond b (plain_replica volume (cell.made.acted.replicas server volume) (asleep true (cell.replicas volume))) (idle_until cell left (disk_number count server))).disk.header) (eq-eqb (disk_number count server) (cell.places volume) (sym place)) in
+      same_header (cell.replicas volume).given (replica_header volume server area) (replica_header volume server known.0) at (cell.made.acted.replicas server volume) known.6 same
+      (subst (λ (o : Option Header). HasOther (replica_header volume server area) o at) held named)
+
+pub own_disks_are_not_foreign : OwnDisksAreNotForeign
+own_disks_are_not_foreign cell areas (ClientAgain client blocks area) left (line.Client number cache size) at kept are is foreign =
+    own_client cell kept areas left at client blocks area number cache size (length (seen cell (ClientAgain client blocks area ∷ left)).made.servers) are is foreign
+own_disks_are_not_foreign cell areas (VolumeAgain volume server area) left (line.Volume number servers size) at kept are is foreign = own_volume cell kept areas left at volume server area number servers size are is foreign
+own_disks_are_not_foreign cell areas (ClientAgain client blocks area) left (line.Volume number servers size) at kept are is foreign = cc
+own_disks_are_not_foreign cell areas (VolumeAgain volume server area) left (line.Client number cache size) at kept are is foreign = cc
+own_disks_are_not_foreign cell areas next left said at kept are is foreign = foreign

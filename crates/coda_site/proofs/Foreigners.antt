@@ -1,0 +1,192 @@
+-- Lines that mount the disk of an actor that they make, whatever the disk holds.
+use Rattle.std.proofs.Common.{◌≡◌, ◌≢◌, inl, inr, ℕ, ◌+◌, ◌*◌, ◌-◌, ◌<◌, ◌≤◌, ◌==◌, arith, Bool, true, false, cond, List, length, Option, Some, None, IfSome, option_map, refl, sym, ap, subst, ◌∙◌}
+use Rattle.std.proofs.lemmas.Bool.{cases_eq, eqb-true}
+use Rattle.std.specs.BTreeMap.{BTreeMap}
+use Rattle.coda_disk.specs.Told.{Told}
+use Rattle.coda_journal.specs.declared.header.Header.{Header}
+use Rattle.coda_actors.specs.Clients.{client_form}
+use Rattle.coda_actors.specs.Fits.{Fits}
+use Rattle.coda_actors.specs.Plain.{PlainActor, HasOther, Opens as OpenDeed}
+use Rattle.coda_actors.specs.Replicas.{replica_form}
+use Rattle.coda_actors.specs.Slots.{is_made, IsOpened}
+use Rattle.coda_actors.specs.declared.slot.Mounting.{Mounting}
+use Rattle.coda_actors.specs.declared.slot.Mounting.TheVariants.{Entries, Foreign, DiskFault, Memory}
+use Rattle.coda_actors.specs.declared.slot.Slot.{Slot}
+use Rattle.coda_crew.specs.Crews.{slot_at, FitsAll, Takes, LeavesBe}
+use Rattle.coda_crew.proofs.Lifts.{left_fits}
+use Rattle.coda_plain.specs.Cell.{ClientEntry, Actor}
+use Rattle.coda_record.specs.declared.entry.ReplicaEntry.{ReplicaEntry as KeptEntry}
+use Rattle.coda_replica.specs.declared.replica.Replica.{Replica}
+use Rattle.coda_script.specs.declared.line.Line.{Line}
+use Rattle.coda_script.specs.declared.line.Line.TheVariants as line
+use Rattle.coda_script.specs.declared.reply.Reply.{Reply}
+use Rattle.coda_cell.specs.Cells.{IsNetwork}
+use Rattle.coda_cell.specs.Steps.{alone}
+use Rattle.coda_matching.specs.Clients.{payload_by}
+use Rattle.coda_venus.specs.declared.venus.Venus.{Venus}
+use Rattle.coda_stored.specs.Cells.{StoredCell, client_header, replica_header, disk_number}
+use Rattle.coda_stored.specs.Foreign.{next_disk, IsForeignAt, IsFree, IsFreeFor}
+use Rattle.coda_stored.specs.Seen.{IsSeen}
+use Rattle.coda_site.specs.Makings.{SaysOpened}
+use Rattle.coda_site.specs.Sites.{is_client_disk, is_replica_disk, place_in, IsReady, IsSite}
+use Rattle.coda_site.specs.Steps.{Mounts}
+use Rattle.coda_site.specs.declared.site.Place.{Place}
+use Rattle.coda_site.specs.declared.site.Site.{Site}
+use Rattle.coda_site.proofs.ClientLines.{nil_mapped}
+use Rattle.coda_site.proofs.ClientSites.{with_clients, plain_clients}
+
+-- ---- clients
+
+module _ {D : Type 0} (told : D → Told) (out out1 : ℕ → Bool) (has has1 : ℕ → Told) (cell : StoredCell) (seen : IsSeen cell) (site : Site D) (is : IsSite told out has cell site) (n blocks area : ℕ) (absent : cell.made.sizes n ≡ None)
+    (slots : BTreeMap ℕ (Slot (Venus D) D)) (be : LeavesBe is_replica_disk out out1 has has1) where
+  abbrev header : Header
+  header = client_header n blocks area
+
+  abbrev actor : Actor ClientEntry
+  actor = cell.made.acted.clients n
+
+  abbrev said : Line
+  said = line.Client n blocks (Some area)
+
+  -- the disk of another actor stays what it is
+  client_stays : (at : ℕ) (takes : Takes (client_form told) told is_client_disk (plain_clients cell) n (OpenDeed header (Foreign at)) out1 has1 slots) (k : ℕ) → takes.0 k ≡ plain_clients cell k
+  client_stays at takes k = elim (cases_eq k n) [
+    | inl e ↦ subst (λ (m : ℕ). takes.0 m ≡ plain_clients cell m) (sym e) here
+    | inr other ↦ takes.1.1 k other
+  ]
+    where
+      here : takes.0 n ≡ plain_clients cell n
+      here = (let step = takes.1.0 in λ i. record { disk = step.1.1 i; life = (step.2 ∙ sym step.0) i; left = (step.3 ∙ sym (seen.unmade n absent)) i })
+
+  pub client_mounts : (mounting : Mounting) (reply : Reply) (answered : List (List ℕ)) (slot : Slot (Venus D) D) (new : Site D) → SaysOpened mounting reply → Takes (client_form told) told is_client_disk (plain_clients cell) n (OpenDeed header mounting) out1 has1 slots
+      → IsOpened (client_form told) mounting slot → (is_made slot ≡ false → new ≡ with_clients site slots) → Mounts told out1 has1 cell said reply answered answered new
+  client_mounts (Entries count) reply answered slot new says takes opened left =
+      let free : IsFree header (cell.clients n).given actor.history = elim takes.1.0.1.0.was [
+        | inl given ↦ inl given
+        | inr none ↦ inr (nil_mapped payload_by actor.history none.0)
+      ] in
+      inr (inr (count, says, free))
+  client_mounts DiskFault reply answered slot new says takes opened left = inr (inl says)
+  client_mounts (Foreign at) reply answered slot new says takes opened left = inl (record {
+    at = at;
+    refused = says;
+    differs = takes.1.0.1.0;
+    answered = refl;
+    stands = subst (IsSite told out1 has1 cell) (sym (left opened)) (record {
+      clock = is.clock;
+      servers = is.servers;
+      homes = is.homes;
+      places = is.places;
+      areas = is.areas;
+      clients = λ k of. subst (Fits (client_form told) told (out1 k) (has1 k) (slot_at slots k)) (client_stays at takes k) (takes.2 k of);
+      replicas = (is.replicas.0, record { placed = is.replicas.1.placed; others = is.replicas.1.others }, left_fits (replica_form told) told is_replica_disk out out1 has has1 site.replicas is.replicas.0 be is.replicas.2);
+      net = is.net;
+    });
+  })
+  client_mounts Memory reply answered slot new says takes opened left = absurd says
+
+-- ---- volumes
+
+-- a site as it was before a volume was noted, with other slots
+pub record IsAsBefore {D : Type 0} (old : Site D) (slots : BTreeMap ℕ (Slot (Replica D) D)) (new : Site D) : Type 0 where
+  pub servers : new.servers.items ≡ old.servers.items
+  pub places : (k : ℕ) → place_in new k ≡ place_in old k
+  pub clock : new.clock ≡ old.clock
+  pub areas : new.areas ≡ old.areas
+  pub clients : new.clients ≡ old.clients
+  pub replicas : new.replicas ≡ slots
+  pub net : new.net ≡ old.net
+
+-- what was noted of a volume that wasn't there, and is taken back
+pub place_back : {D : Type 0} (site : Site D) (volume : ℕ) → place_in site volume ≡ None → (k : ℕ) → cond (k == volume) None (place_in site k) ≡ place_in site k
+place_back site volume absent k = by (k == volume) refl
+  where
+    by : (b : Bool) → (k == volume) ≡ b → cond b None (place_in site k) ≡ place_in site k
+    by true e = sym absent ∙ ap (place_in site) (sym (eqb-true k volume e))
+    by false e = refl
+
+module _ {D : Type 0} (told : D → Told) (out out1 : ℕ → Bool) (has has1 : ℕ → Told) (cell : StoredCell) (seen : IsSeen cell) (site : Site D) (is : IsSite told out has cell site) (ready : IsReady told out site) (volume server area : ℕ)
+    (slots : BTreeMap ℕ (Slot (Replica D) D)) (be : LeavesBe is_client_disk out out1 has has1) where
+  abbrev asked : Header
+  asked = replica_header volume server area
+
+  abbrev disk : ℕ
+  disk = disk_number (length cell.made.servers) server
+
+  abbrev plain : ℕ → PlainActor KeptEntry
+  plain = is.replicas.0
+
+  -- no volume that was made has the next disk
+  apart : (v s : ℕ) → cell.made.homes v ≡ Some s → cell.places v ≢ disk
+  apart v s home same = by (place_in site v) (sym (is.homes v) ∙ home) (is.places v) (ready.places v)
+    where
+      by : (o : Option Place) → option_map (λ (p : Place). p.server) o ≡ Some s → IfSome o (λ p. cell.places v ≡ p.disk) → IfSome o (λ p. (256 ≤ p.disk) × (p.disk < 256 + 8 * length site.servers.items) × (1 ≤ p.server) × (p.server ≤ 8)) → ⊥
+      by None none place range = cc
+      by (Some p) some place range =
+          let count = length cell.made.servers in
+          let below : p.disk < 256 + 8 * count = subst (λ (l : List ℕ). p.disk < 256 + 8 * length l) (sym is.servers) range.1 in
+          let at : 256 + 8 * count + (server - 1) ≡ p.disk = sym same ∙ place in
+          omega (arith, below, at)
+
+  idle_is : plain disk ≡ cell.idle disk
+  idle_is = is.replicas.1.others disk apart
+
+  volume_stays : (at : ℕ) (takes : Takes (replica_form told) told is_replica_disk plain disk (OpenDeed asked (Foreign at)) out1 has1 slots) (k : ℕ) → takes.0 k ≡ plain k
+  volume_stays at takes k = elim (cases_eq k disk) [
+    | inl e ↦ subst (λ (m : ℕ). takes.0 m ≡ plain m) (sym e) here
+    | inr other ↦ takes.1.1 k other
+  ]
+    where
+      none_left : (plain disk).left ≡ None
+      none_left = ap (λ (p : PlainActor KeptEntry). p.left) idle_is ∙ (seen.idle disk).1
+
+      here : takes.0 disk ≡ plain disk
+      here = (let step = takes.1.0 in λ i. record { disk = step.1.1 i; life = (step.2 ∙ sym step.0) i; left = (step.3 ∙ sym none_left) i })
+
+  module _ (servers : List ℕ) (same : alone servers ≡ server) where
+    abbrev volume_line : Line
+    volume_line = line.Volume volume servers (Some area)
+
+    pub volume_mounts : (mounting : Mounting) (reply : Reply) (answered : List (List ℕ)) (slot : Slot (Replica D) D) (new : Site D) → SaysOpened mounting reply → Takes (replica_form told) told is_replica_disk plain disk (OpenDeed asked mounting) out1 has1 slots
+        → IsOpened (replica_form told) mounting slot → (is_made slot ≡ false → IsAsBefore site slots new) → Mounts told out1 has1 cell volume_line reply answered answered new
+    volume_mounts (Entries count) reply answered slot new says takes opened left =
+        let free : IsFree asked (next_disk cell server).header (next_disk cell server).history = elim takes.1.0.1.0.was [
+          | inl given ↦ inl (ap (λ (p : PlainActor KeptEntry). p.disk.header) (sym idle_is) ∙ given)
+          | inr none ↦ inr (ap (λ (p : PlainActor KeptEntry). p.disk.history) (sym idle_is) ∙ none.0)
+        ] in
+        inr (inr (count, says, subst (λ (s : ℕ). IsFree (replica_header volume s area) (next_disk cell s).header (next_disk cell s).history) (sym same) free))
+    volume_mounts DiskFault reply answered slot new says takes opened left = inr (inl says)
+    volume_mounts (Foreign at) reply answered slot new says takes opened left =
+        let was = left opened in
+        inl (record {
+          at = at;
+          refused = says;
+          differs = subst (λ (s : ℕ). HasOther (replica_header volume s area) (next_disk cell s).header at) (sym same) (subst (λ (p : PlainActor KeptEntry). HasOther asked p.disk.header at) idle_is takes.1.0.1.0);
+          answered = refl;
+          stands = record {
+            clock = is.clock ∙ sym was.clock;
+            servers = is.servers ∙ sym was.servers;
+            homes = λ v. is.homes v ∙ ap (option_map (λ (p : Place). p.server)) (sym (was.places v));
+            places = λ v. subst (λ (o : Option Place). IfSome o (λ p. cell.places v ≡ p.disk)) (sym (was.places v)) (is.places v);
+            areas = is.areas ∙ sym was.areas;
+            clients = subst (λ (c : BTreeMap ℕ (Slot _ D)). FitsAll (client_form told) told is_client_disk out1 has1 c (plain_clients cell)) (sym was.clients)
+                (left_fits (client_form told) told is_client_disk out out1 has has1 site.clients (plain_clients cell) be is.clients);
+            replicas = (
+              plain,
+              is.replicas.1,
+              subst (λ r. FitsAll (replica_form told) told is_replica_disk out1 has1 r plain) (sym was.replicas)
+                  (λ k of. subst (Fits (replica_form told) told (out1 k) (has1 k) (slot_at slots k)) (volume_stays at takes k) (takes.2 k of)),
+            );
+            net = subst (IsNetwork cell.made.links cell.made.waiting cell.made.acted.posted) (sym was.net) is.net;
+          };
+        })
+    volume_mounts Memory reply answered slot new says takes opened left = absurd says
+
+-- ---- lines
+
+-- the line may be said otherwise
+pub mounts_as : {D : Type 0} (told : D → Told) (out : ℕ → Bool) (has : ℕ → Told) (cell : StoredCell) (named said : Line) (reply : Reply) (old new : List (List ℕ)) (site : Site D)
+    → ((at : ℕ) → IsForeignAt cell named at → IsForeignAt cell said at) → (IsFreeFor cell named → IsFreeFor cell said) → Mounts told out has cell named reply old new site → Mounts told out has cell said reply old new site
+mounts_as told out has cell named said reply old new site differs free (inl f) = inl (record { at = f.at; refused = f.refused; differs = differs f.at f.differs; answered = f.answered; stands = f.stands })
+mounts_as told out has cell named said reply old new site differs free (inr (inl failed)) = inr (inl failed)
+mounts_as told out has cell named said reply old new site differs free (inr (inr (count, opened, is))) = inr (inr (count, opened, free is))
