@@ -11,6 +11,15 @@ use coda_text::{put_byte, put_printed};
 use coda_tree::{Entries, Node, NodeKind, Volume};
 use std::alloc::{AllocError, Global};
 
+// How many entries are read ahead of their lines.
+const AHEAD: usize = 64;
+
+// How many entries a narrow directory has at most.
+const NARROW: usize = 1024;
+
+// The bytes of a line beside its path and content, about.
+const LINE: usize = 64;
+
 /// A directory whose entries are being shown.
 #[derive(Clone, Copy)]
 pub struct Frame<'a> {
@@ -135,6 +144,38 @@ fn show_object<'a>(
     }
 }
 
+// The bytes that an object's line takes beside its path, about.
+fn room_of(node: &Node) -> usize {
+    match &node.kind {
+        NodeKind::File(content) => content.len().saturating_add(LINE),
+        NodeKind::Link(target) => target.len().saturating_add(LINE),
+        NodeKind::Dir(_) => LINE,
+    }
+}
+
+// The bytes that the lines of the next entries take beside their paths, about.
+fn room_ahead(volume: &Volume, entries: &Entries, from: usize) -> usize {
+    let mut room = 0usize;
+    for index in from..entries.len().min(from.saturating_add(AHEAD)) {
+        if let Some((_, fid)) = entries.at(index) {
+            room = room.saturating_add(volume.get(fid).map_or(0, room_of));
+        }
+    }
+    room
+}
+
+// Makes room for the lines of the next entries, where their turn comes. Their objects are read one right behind the other
+// here, so that memory that is far away answers for many at a time, and isn't waited for line by line. To find an entry
+// takes a step for each page before it, so only narrow directories are read ahead.
+fn make_room(out: &mut String, volume: &Volume, frame: Frame) -> Result<(), AllocError>
+    ensures { OnOk result (string_bytes out.new ≡ string_bytes out.old) }
+{
+    if frame.next % AHEAD == 0 && frame.entries.len() <= NARROW {
+        out.reserve(room_ahead(volume, frame.entries, frame.next))?;
+    }
+    Ok(())
+}
+
 // Takes a turn of the topmost frame, which was taken off: shows its next entry and puts it back, or leaves the directory.
 fn take_turn<'a>(
     out: &mut String,
@@ -154,6 +195,7 @@ fn take_turn<'a>(
     if frame.next >= frame.entries.len() {
         return Ok(());
     }
+    make_room(out, volume, frame)?;
     let (name, fid) = frame.entries.at(frame.next).unwrap();
     frames.push(Frame {
         entries: frame.entries,

@@ -32,7 +32,7 @@ returns-clause-turn c =
     let own = own_line m (levels - length c.push.new.self.items) here c.unwrap.result.1 in
     of_both c.show_object.result c.show_object.ensures.line c.show_object.ensures.turns (λ line left. (
       own,
-      line,
+      line ∙ ap (λ (t : List ℕ). t ++ own) c.in_ok-make_room.ensures,
       turn_done m levels c.args.path.now.items here c.args.frames.now.items c.push.new.self.items c.show_object.new.frames.items c.args.frame _ (c.unwrap.result.0.now, c.unwrap.result.1) (sym (rw c.unwrap.ensures at c.at.ensures.pair))
           refl refl refl (nest_left c.args.path.now.items c.args.frame (reverse c.args.frames.now.items) c.requires).0
           (c.deref.ensures.value ∙ c.in_ok-push_name.ensures ∙ ap (λ (p : List ℕ). p ++ 47 ∷ c.unwrap.result.0.now) c.truncate.ensures.items)
