@@ -8,15 +8,17 @@ use Rattle.coda_plain.proofs.Following.{client_here, replica_here}
 use Rattle.coda_plain.proofs.Staying.{histories_stay}
 use Rattle.coda_report.specs.Texts.{reply_text}
 use Rattle.coda_script.specs.declared.line.Line.{Line}
+use Rattle.coda_script.specs.declared.line.Line.TheVariants as line
+use Rattle.coda_cell.specs.Steps.{alone}
 use Rattle.coda_script.specs.Lines.{line_of}
 use Rattle.coda_script.specs.declared.reply.Reply.{Reply}
 use Rattle.coda_script.specs.declared.reply.Reply.TheVariants.{Recovered}
-use Rattle.coda_stored.specs.Cells.{StoredCell, moved}
-use Rattle.coda_stored.specs.Foreign.{IsFreeFor}
-use Rattle.coda_stored.specs.Lines.{IsRefused, RecoversClient, RecoversReplica}
+use Rattle.coda_stored.specs.Cells.{StoredCell, client_header, replica_header, moved}
+use Rattle.coda_stored.specs.Foreign.{next_disk, IsFree, IsFreeFor}
+use Rattle.coda_stored.specs.Lines.{area_of, IsRefused, RecoversClient, RecoversReplica}
 use Rattle.coda_stored.specs.Resuming.{Awaited, ClientAgain, VolumeAgain, is_awaited, opened_as, MakesAgain}
 use Rattle.coda_stored.specs.Seen.{seen, mounts_none}
-use Rattle.coda_runs.specs.Later.{Later, resumed, HasReached, TellsOfFound, TellsOfAwaited, WhatIsMadeAgainIsCounted, WhatOthersHoldIsKept}
+use Rattle.coda_runs.specs.Later.{Later, resumed, HasReached, TellsOfFound, TellsOfAwaited, WhatIsMadeAgainIsCounted, IsHeldByAnother, FindsAnother, WhatOthersHoldIsKept}
 
 -- an actor whose recovery failed is down
 client_fails : (old mid : StoredCell) (client entries : ℕ) (was given : Option Header) (header : Header) → IsRefused old (TheClient client) was header entries given mid → (mid.made.acted.clients client).up ≡ false
@@ -97,6 +99,18 @@ what_is_made_again_is_counted cell next left before said bytes text outside new 
 same_line : (bytes : List ℕ) (said other : Line) → line_of bytes ≡ Ok (Some said) → line_of bytes ≡ Ok (Some other) → other ≡ said
 same_line bytes said other first second = (let e : Ok (Some other) ≡ Ok (Some said) = sym second ∙ first in cc)
 
+-- a disk that another one holds isn't free
+not_free : {Entry : Type 0} (asked : Header) (given : Option Header) (entries : List Entry) → IsHeldByAnother asked given entries → IsFree asked given entries → ⊥
+not_free asked given entries held (inl same) = held.2 (let e : Some held.0 ≡ Some asked = sym held.1 ∙ same in cc)
+not_free asked given entries held (inr none) = held.3 none
+
+not_free_for : (cell : StoredCell) (said : Line) → FindsAnother cell said → IsFreeFor cell said → ⊥
+not_free_for cell (line.Client client blocks area) held free = not_free (client_header client blocks (area_of area)) (cell.clients client).given (cell.made.acted.clients client).history held free
+not_free_for cell (line.Volume volume servers area) held free =
+    let disk = next_disk cell (alone servers) in
+    not_free (replica_header volume (alone servers) (area_of area)) disk.header disk.history held free
+not_free_for cell said held free = held
+
 pub what_others_hold_is_kept : WhatOthersHoldIsKept
 what_others_hold_is_kept cell next left before said bytes text outside new spelled other mounts held (inl silent) = absurd (let e = sym spelled ∙ silent.0 in cc)
 what_others_hold_is_kept cell next left before said bytes text outside new spelled other mounts held (inr (inl r)) =
@@ -106,5 +120,5 @@ what_others_hold_is_kept cell next left before said bytes text outside new spell
 what_others_hold_is_kept cell next left before said bytes text outside new spelled other mounts held (inr (inr (inr (inl f)))) = inr f.stays
 what_others_hold_is_kept cell next left before said bytes text outside new spelled other mounts held (inr (inr (inr (inr e)))) = elim e.makes [
   | inl failed ↦ inl (e.printed ∙ ap reply_text failed)
-  | inr (count, opened, free) ↦ absurd (held (subst (IsFreeFor (seen cell (next ∷ left))) (same_line bytes said e.said spelled e.spelled) free))
+  | inr (count, opened, free) ↦ absurd (not_free_for (seen cell (next ∷ left)) said held (subst (IsFreeFor (seen cell (next ∷ left))) (same_line bytes said e.said spelled e.spelled) free))
 ]

@@ -1,19 +1,22 @@
 -- Runs over the disks that an earlier run left.
-use Rattle.std.specs.Prelude.{◌≡◌, ◌⊎◌, ◌+◌, ℕ, true, false, List, [], ◌∷◌, ◌++◌, length, Some, None, Ok}
+use Rattle.std.specs.Prelude.{◌≡◌, ◌≢◌, ◌⊎◌, ◌+◌, ℕ, true, false, Option, List, [], ◌∷◌, ◌++◌, length, Some, None, Ok}
 use Rattle.coda_engine.specs.Run.{Runs}
+use Rattle.coda_journal.specs.declared.header.Header.{Header}
 use Rattle.coda_plain.specs.Cell.{Actor}
 use Rattle.coda_plain.specs.Laws.{IsRecovered}
 use Rattle.coda_script.specs.declared.line.Line.{Line}
+use Rattle.coda_script.specs.declared.line.Line.TheVariants as line
 use Rattle.coda_script.specs.declared.reply.Reply.{Reply}
 use Rattle.coda_script.specs.declared.reply.Reply.TheVariants.{Opened}
 use Rattle.coda_script.specs.Lines.{line_of}
 use Rattle.coda_report.specs.Texts.{reply_text}
 use Rattle.coda_cell.specs.Made.{state_of}
-use Rattle.coda_stored.specs.Cells.{StoredCell}
-use Rattle.coda_stored.specs.Foreign.{refused_foreign, IsForeignAt, IsFreeFor, MakesOn}
+use Rattle.coda_cell.specs.Steps.{alone}
+use Rattle.coda_stored.specs.Cells.{StoredCell, client_header, replica_header, disk_number}
+use Rattle.coda_stored.specs.Foreign.{refused_foreign, IsForeignAt, MakesOn}
 use Rattle.coda_stored.specs.Kept.{IsStoredKept}
 use Rattle.coda_stored.specs.Laws.{Begins}
-use Rattle.coda_stored.specs.Lines.{is_built, refused_fault}
+use Rattle.coda_stored.specs.Lines.{is_built, area_of, refused_fault}
 use Rattle.coda_stored.specs.Resuming.{at_rest, Awaited, ClientAgain, VolumeAgain, is_awaited, AreAwaited, MakesAgain, MakeAllAgain}
 use Rattle.coda_runs.specs.Headline.{HasRun, Always}
 use Rattle.coda_stored.specs.Seen.{seen, mounts_none, Meanwhile}
@@ -148,11 +151,21 @@ WhatIsMadeAgainIsCounted =
     → line_of bytes ≡ Ok (Some said) → is_awaited next said ≡ true → LaterGives (Waits cell next left before) bytes text outside new → HasReached new reached images
     → TellsOfAwaited next text cell reached
 
+-- The disk on which a line is to make an actor was given another header than the line asks for, and holds entries.
+abbrev pub IsHeldByAnother : {Entry : Type 0} → Header → Option Header → List Entry → Type 0
+IsHeldByAnother asked given entries = (other : Header) × (given ≡ Some other) × (other ≢ asked) × (entries ≢ [])
+
+abbrev pub FindsAnother : StoredCell → Line → Type 0
+FindsAnother cell (line.Client client blocks area) = IsHeldByAnother (client_header client blocks (area_of area)) (cell.clients client).given (cell.made.acted.clients client).history
+FindsAnother cell (line.Volume volume servers area) =
+    IsHeldByAnother (replica_header volume (alone servers) (area_of area)) (cell.idle (disk_number (length cell.made.servers) (alone servers))).disk.header (cell.idle (disk_number (length cell.made.servers) (alone servers))).disk.history
+FindsAnother cell said = ⊥
+
 -- Whoever has entries on a disk keeps it: a line that asks for it under another header leaves everything as it was, unless a call of the disk failed.
 abbrev pub WhatOthersHoldIsKept : Type 0
 WhatOthersHoldIsKept =
     (cell : StoredCell) (next : Awaited) (left : List Awaited) (before : List (List ℕ)) (said : Line) (bytes text : List ℕ) (outside : List (List ℕ)) (new : Later)
-    → line_of bytes ≡ Ok (Some said) → is_awaited next said ≡ false → mounts_none (seen cell (next ∷ left)) said ≡ false → ¬ IsFreeFor (seen cell (next ∷ left)) said → LaterGives (Waits cell next left before) bytes text outside new
+    → line_of bytes ≡ Ok (Some said) → is_awaited next said ≡ false → mounts_none (seen cell (next ∷ left)) said ≡ false → FindsAnother (seen cell (next ∷ left)) said → LaterGives (Waits cell next left before) bytes text outside new
     → (text ≡ reply_text refused_fault) ⊎ (new ≡ Waits cell next left before)
 
 -- Nobody's own disk is another's: a line that makes an actor again as it was made isn't refused so.
