@@ -10,7 +10,7 @@ use itoa::Buffer;
 use std::alloc::AllocError;
 
 /// The most bytes of a content or a target that are printed.
-const MOST_CONTENT: usize = 64;
+pub(crate) const MOST_CONTENT: usize = 64;
 
 /// Puts a content or a target: its first bytes between quotes, and two dots where there are more.
 pub fn put_content(out: &mut String, bytes: &[u8]) -> Result<(), AllocError>

@@ -5,7 +5,7 @@ ghost use Rattle.coda_report.specs.Volumes.{kind_text, content_text, mark_text, 
 ghost use Rattle.coda_report.specs.Walking.{shown_path, object_head, own_line, turns_below, turns_of, Nest};
 
 use crate::paths::{push_name, shown_path};
-use crate::printing::{put_content, put_fid, put_mode, put_next_number, put_sid};
+use crate::printing::{MOST_CONTENT, put_content, put_fid, put_mode, put_next_number, put_sid};
 use coda_fid::Fid;
 use coda_text::{put_byte, put_printed};
 use coda_tree::{Entries, Node, NodeKind, Volume};
@@ -147,8 +147,8 @@ fn show_object<'a>(
 // The bytes that an object's line takes beside its path, about.
 fn room_of(node: &Node) -> usize {
     match &node.kind {
-        NodeKind::File(content) => content.len().saturating_add(LINE),
-        NodeKind::Link(target) => target.len().saturating_add(LINE),
+        NodeKind::File(content) => content.len().min(MOST_CONTENT) + LINE,
+        NodeKind::Link(target) => target.len().min(MOST_CONTENT) + LINE,
         NodeKind::Dir(_) => LINE,
     }
 }
