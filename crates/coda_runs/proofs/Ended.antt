@@ -22,39 +22,34 @@ use Rattle.coda_cell.specs.State.{put, new_replica, ClientVolume, ClientState, R
 use Rattle.coda_cell.specs.Made.{MadeCell, client_of as made_client, replica_of, state_of, grown, grown_all}
 use Rattle.coda_cell.specs.Messages.{over, posting, going_by, sends_of, ruled_in, taken_in}
 use Rattle.coda_cell.specs.Sending.{Freezing, freezing, Ruling, ruling, Taking, taking, deeds_at, entries_at, answered_to, ruled_on, drained_of, drain}
-use Rattle.coda_cell.specs.Runs.{IsKept}
 use Rattle.coda_cell.specs.Steps.{Doing, Unless, Named, first_missing, on_volume, on_holder, client_named, volume_named, server_named, holder_named, no_room, no_volume, no_client, ByClient, ByBoth, BySend, ByRuling, ByTaking, DoesTask, Comes, link_down, Delivers, Loses, Does}
 use Rattle.coda_cell.specs.Refused.{Refused}
 use Rattle.coda_cell.proofs.Histories.{server_stays}
-use Rattle.coda_cell.proofs.KeptCells.{client_there}
-use Rattle.coda_cell.proofs.KeptLines.{homed}
+use Rattle.coda_cell.proofs.Events.{all_there}
 use Rattle.coda_stored.specs.Cells.{StoredCell, nothing_stored}
-use Rattle.coda_stored.specs.Kept.{IsStoredKept}
-use Rattle.coda_stored.specs.Lines.{Stop}
-use Rattle.coda_stored.proofs.Keeping.{stored_cells_are_kept}
+use Rattle.coda_stored.specs.Lines.{Stop, Happens}
 use Rattle.coda_runs.specs.Runs.{LineGives}
 use Rattle.coda_runs.specs.Lettered.{volume_of, LettersHaveEnds}
 use Rattle.coda_runs.proofs.Coming.{acting, Leaves, Actors, OneVolume, OneClient, ComesTo, Acted, Aside, line_comes}
-use Rattle.coda_runs.proofs.Meeting.{met, met_kept, ShowsAs, Ends, WasDown, DidAll, LackedRoom, HadFault}
-use Rattle.coda_runs.proofs.Running.{gives_kept}
+use Rattle.coda_runs.proofs.Meeting.{met, ShowsAs, Ends, WasDown, DidAll, LackedRoom, HadFault}
 
 -- ---- the ends of letters
 
-abbrev IsThere : MadeCell → Sent → Type 0
+abbrev pub IsThere : MadeCell → Sent → Type 0
 IsThere cell sent = ((blocks : ℕ) × (cell.sizes (client_of sent) ≡ Some blocks)) × (cell.homes (volume_of sent) ≡ Some (server_of sent))
 
-abbrev AllThere : MadeCell → Waiting → Type 0
+abbrev pub AllThere : MadeCell → Waiting → Type 0
 AllThere cell [] = Unit {0}
 AllThere cell (l ∷ waiting) = IsThere cell l.1 × AllThere cell waiting
 
-there_at : (cell : MadeCell) (number : ℕ) (waiting : Waiting) (sent : Sent) → AllThere cell waiting → sent_at number waiting ≡ Some sent → IsThere cell sent
+pub there_at : (cell : MadeCell) (number : ℕ) (waiting : Waiting) (sent : Sent) → AllThere cell waiting → sent_at number waiting ≡ Some sent → IsThere cell sent
 there_at cell number [] sent all e = cc
 there_at cell number (l ∷ waiting) sent all e = elim (nat_eq number l.0) as (λ b. cond b (Some l.1) (sent_at number waiting) ≡ Some sent → IsThere cell sent) [
   | true ↦ λ h. (let same : l.1 ≡ sent = cc in subst (IsThere cell) same all.0)
   | false ↦ λ h. there_at cell number waiting sent all.1 h
 ] e
 
-all_stay : (old new : MadeCell) → ((sent : Sent) → IsThere old sent → IsThere new sent) → (waiting : Waiting) → AllThere old waiting → AllThere new waiting
+pub all_stay : (old new : MadeCell) → ((sent : Sent) → IsThere old sent → IsThere new sent) → (waiting : Waiting) → AllThere old waiting → AllThere new waiting
 all_stay old new stays [] all = tt
 all_stay old new stays (l ∷ waiting) all = (stays l.1 all.0, all_stay old new stays waiting all.1)
 
@@ -133,7 +128,22 @@ posting_fine cell sent (l ∷ going) there = (tt, posting_fine (grown cell (Lost
 
 -- ---- lines
 
-module _ (cell : MadeCell) (kept : IsKept cell) where
+module _ (cell : MadeCell) where
+  -- a client of which the state has something was made, and a server that holds a volume is the volume's own
+  client_made : (client : ℕ) (c : ClientState) → (state_of cell).clients client ≡ Some c → (blocks : ℕ) × (cell.sizes client ≡ Some blocks)
+  client_made client c is = by (cell.sizes client) is
+    where
+      by : (o : Option ℕ) → option_map (made_client client (cell.acted.clients client).history) o ≡ Some c → (blocks : ℕ) × (o ≡ Some blocks)
+      by None e = cc
+      by (Some blocks) e = (blocks, refl)
+
+  home_of : (client volume server : ℕ) → first_missing (on_holder (state_of cell) client volume server) ≡ None → cell.homes volume ≡ Some server
+  home_of client volume server all = by (cell.homes volume) (all_there (client_named (state_of cell) client) (volume_named (state_of cell) volume) (holder_named (state_of cell) server volume) all).2
+    where
+      by : (o : Option ℕ) → option_map_or (λ (r : ReplicaState). r.server == server) (option_map (replica_of (λ s. (cell.acted.replicas s volume).history) volume) o) false ≡ true → o ≡ Some server
+      by None e = cc
+      by (Some home) e = ap Some (sym (server_stays (new_replica home volume) (cell.acted.replicas home volume).history) ∙ eqb-true (replica_of (λ s. (cell.acted.replicas s volume).history) volume home).server server e)
+
   none_fine : (events : List Event) → events ≡ [] → AreFine cell events
   none_fine events none = subst (AreFine cell) (sym none) tt
 
@@ -258,9 +268,9 @@ module _ (cell : MadeCell) (kept : IsKept cell) where
   line_fine (line.Send client volume server window) reply events there does =
       unless_fine (first_missing (on_holder (state_of cell) client volume server)) (BySend (state_of cell) client volume server (unwrap_or window 600)) reply events
       (λ all did.
-      let made = client_there cell kept client did.client did.there in
+      let made = client_made client did.client did.there in
       subst (AreFine cell) (sym did.happened)
-      (sends_fine client volume server made.0 (over (cell.links client server) (freezing cell.clock (unwrap_or window 600) server (did.client.volumes volume))) made.1 (homed cell kept client volume server all))) does
+      (sends_fine client volume server made.0 (over (cell.links client server) (freezing cell.clock (unwrap_or window 600) server (did.client.volumes volume))) made.1 (home_of client volume server all))) does
   line_fine (line.Deliver message) reply events there does = delivers_fine message (sent_at message cell.waiting) reply events there refl does
   line_fine (line.Lose message) reply events there does = loses_fine message (sent_at message cell.waiting) reply events does
   line_fine _ reply events there does = absurd does
@@ -279,12 +289,12 @@ front_fine : (cell : MadeCell) (first rest : List Event) → AreFine cell (first
 front_fine cell [] rest fine = tt
 front_fine cell (event ∷ first) rest fine = (fine.0, front_fine (grown cell event) first rest fine.1)
 
-module _ (old new : StoredCell) (kept : IsStoredKept old) (said : Line) (all : AllThere old.made old.made.waiting) where
+module _ (old new : StoredCell) (said : Line) (all : AllThere old.made old.made.waiting) where
   met_there : (links : ℕ → ℕ → Strength) → AllThere (met old links) (met old links).waiting
   met_there links = all_stay old.made (met old links) (λ sent there. there) old.made.waiting all
 
   met_fine : (links : ℕ → ℕ → Strength) (own : Reply) (events : List Event) → Does (state_of (met old links)) said own events → AreFine (met old links) events
-  met_fine links own events does = line_fine (met old links) (met_kept old links kept) said own events (met_there links) does
+  met_fine links own events does = line_fine (met old links) said own events (met_there links) does
 
   fronts_there : (links : ℕ → ℕ → Strength) (done : List Event) → AreFine (met old links) done → ShowsAs (grown_all (met old links) done) new.made
       → AllThere new.made new.made.waiting
@@ -315,25 +325,26 @@ module _ (old new : StoredCell) (kept : IsStoredKept old) (said : Line) (all : A
   came_there reply (Acted ends) = ended_there reply ends
   came_there reply (Aside isnt whole leaves) = leaves_there leaves
 
+-- whatever a line does, in whatever cell
+pub happens_there : (old new : StoredCell) (said : Line) (reply : Reply) (outside : List (List ℕ)) → AllThere old.made old.made.waiting → Happens old said reply outside new → AllThere new.made new.made.waiting
+happens_there old new said reply outside all happens = came_there old new said all reply (line_comes old reply outside new said happens)
+
 -- ---- runs
 
-gives_there : (old new : StoredCell) (bytes text : List ℕ) (outside : List (List ℕ)) → IsStoredKept old → AllThere old.made old.made.waiting
-    → LineGives old bytes text outside new → AllThere new.made new.made.waiting
-gives_there old new bytes text outside kept all (inl silent) = subst (λ (c : StoredCell). AllThere c.made c.made.waiting) (sym silent.3) all
-gives_there old new bytes text outside kept all (inr x) = came_there old new kept x.said all x.reply (line_comes old x.reply outside new x.said x.happens)
+gives_there : (old new : StoredCell) (bytes text : List ℕ) (outside : List (List ℕ)) → AllThere old.made old.made.waiting → LineGives old bytes text outside new → AllThere new.made new.made.waiting
+gives_there old new bytes text outside all (inl silent) = subst (λ (c : StoredCell). AllThere c.made c.made.waiting) (sym silent.3) all
+gives_there old new bytes text outside all (inr x) = happens_there old new x.said x.reply outside all x.happens
 
-runs_there : (old new : StoredCell) (ls : List (List ℕ)) (report : List ℕ) (outside : List (List ℕ)) → IsStoredKept old → AllThere old.made old.made.waiting
-    → Runs LineGives old ls report outside new → AllThere new.made new.made.waiting
-runs_there old new [] report outside kept all run = subst (λ (c : StoredCell). AllThere c.made c.made.waiting) (sym run.2) all
-runs_there old new (l ∷ more) report outside kept all run =
-    runs_there run.0 new more run.2 run.4 (gives_kept old run.0 l run.1 run.3 kept run.5) (gives_there old run.0 l run.1 run.3 kept all run.5) run.6
+runs_there : (old new : StoredCell) (ls : List (List ℕ)) (report : List ℕ) (outside : List (List ℕ)) → AllThere old.made old.made.waiting → Runs LineGives old ls report outside new → AllThere new.made new.made.waiting
+runs_there old new [] report outside all run = subst (λ (c : StoredCell). AllThere c.made c.made.waiting) (sym run.2) all
+runs_there old new (l ∷ more) report outside all run = runs_there run.0 new more run.2 run.4 (gives_there old run.0 l run.1 run.3 all run.5) run.6
 
 -- ---- the actors that a letter names
 
 all_named : (a b c : Named) → a.there ≡ true → b.there ≡ true → c.there ≡ true → first_missing (a ∷ b ∷ c ∷ []) ≡ None
 all_named a b c p q r = rw (p, q, r) refl
 
-named : (cell : MadeCell) (sent : Sent) → IsThere cell sent → first_missing (on_holder (state_of cell) (client_of sent) (volume_of sent) (server_of sent)) ≡ None
+pub named : (cell : MadeCell) (sent : Sent) → IsThere cell sent → first_missing (on_holder (state_of cell) (client_of sent) (volume_of sent) (server_of sent)) ≡ None
 named cell sent there =
     let s = state_of cell in
     let client = client_of sent in
@@ -347,5 +358,5 @@ named cell sent there =
 
 pub letters_have_ends : LettersHaveEnds
 letters_have_ends ls report outside cell run number sent is =
-    let there = runs_there nothing_stored cell ls report outside stored_cells_are_kept.first tt run in
+    let there = runs_there nothing_stored cell ls report outside tt run in
     named cell.made sent (there_at cell.made number cell.made.waiting sent there is)

@@ -23,3 +23,4 @@ pub mod Later
 pub mod Found
 pub mod Foreign
 pub mod NeverCame
+pub mod WhoCame

@@ -6,7 +6,7 @@ ghost use Rattle.coda_runs.specs.Complete.{ScriptsInGrammarAreClean};
 ghost use Rattle.coda_runs.specs.Headline.{ScriptsRun, ChunksAreDecidedOnce, CertifiedChunksAreApplied, ConflictsNameASentRecord, OperationsAreKept, SettlementsAreDecided, LogsArePending, AcknowledgedEntriesStay, ClientsComeBack, ReplicasComeBack};
 ghost use Rattle.coda_runs.specs.Later.{LaterRunsGoOn, OwnDisksAreNotForeign, WhatIsMadeAgainIsCounted, WhatOthersHoldIsKept, WhatRanCanBeResumed};
 ghost use Rattle.coda_runs.specs.Lettered.{RepliesNameLetters, LettersSayWhatIsSo, LettersHaveEnds};
-ghost use Rattle.coda_runs.specs.NeverCame.{WhoNeverCameIsAsItWas};
+ghost use Rattle.coda_runs.specs.NeverCame.{LettersAreOfThoseWhoCame, WhoNeverCameIsAsItWas};
 ghost use Rattle.coda_runs.specs.Performed.{OperationsArePerformed};
 ghost use Rattle.coda_runs.specs.Runs.{LineGives, LineRefused};
 ghost use Rattle.coda_runs.specs.Shown.{WhatIsShownIsThere};
@@ -190,4 +190,10 @@ pub fn what_ran_can_be_resumed()
 /// was and the entry whose append failed, on a disk as it was.
 pub fn who_never_came_is_as_it_was()
     ensures { WhoNeverCameIsAsItWas }
+{}
+
+/// Whatever lines ran in a later run, no letter that waits is to or from one who is yet to come: its client, its volume
+/// and its server came, so that no letter is refused for an actor that isn't there.
+pub fn letters_are_of_those_who_came()
+    ensures { LettersAreOfThoseWhoCame }
 {}
