@@ -100,16 +100,18 @@ same_line : (bytes : List ℕ) (said other : Line) → line_of bytes ≡ Ok (Som
 same_line bytes said other first second = (let e : Ok (Some other) ≡ Ok (Some said) = sym second ∙ first in cc)
 
 -- a disk that another one holds isn't free
-not_free : {Entry : Type 0} (asked : Header) (given : Option Header) (entries : List Entry) → IsHeldByAnother asked given entries → IsFree asked given entries → ⊥
-not_free asked given entries held (inl same) = held.2 (let e : Some held.0 ≡ Some asked = sym held.1 ∙ same in cc)
-not_free asked given entries held (inr none) = held.3 none
+not_free : {Entry : Type 0} (asked : Header) (given : Option Header) (entries : List Entry) (failed : Option Entry) (count : ℕ) → IsHeldByAnother asked given entries → IsFree asked given entries failed count → ⊥
+not_free asked given entries failed count held (inl (same, found)) = held.2 (let e : Some held.0 ≡ Some asked = sym held.1 ∙ same in cc)
+not_free asked given entries failed count held (inr (none, zero)) = held.3 none
 
-not_free_for : (cell : StoredCell) (said : Line) → FindsAnother cell said → IsFreeFor cell said → ⊥
-not_free_for cell (line.Client client blocks area) held free = not_free (client_header client blocks (area_of area)) (cell.clients client).given (cell.made.acted.clients client).history held free
-not_free_for cell (line.Volume volume servers area) held free =
+not_free_for : (cell : StoredCell) (said : Line) (count : ℕ) → FindsAnother cell said → IsFreeFor cell said count → ⊥
+not_free_for cell (line.Client client blocks area) count held free =
+    let actor = cell.made.acted.clients client in
+    not_free (client_header client blocks (area_of area)) (cell.clients client).given actor.history actor.failed count held free
+not_free_for cell (line.Volume volume servers area) count held free =
     let disk = next_disk cell (alone servers) in
-    not_free (replica_header volume (alone servers) (area_of area)) disk.header disk.history held free
-not_free_for cell said held free = held
+    not_free (replica_header volume (alone servers) (area_of area)) disk.header disk.history disk.failed count held free
+not_free_for cell said count held free = held
 
 pub what_others_hold_is_kept : WhatOthersHoldIsKept
 what_others_hold_is_kept cell next left before said bytes text outside new spelled other mounts held (inl silent) = absurd (let e = sym spelled ∙ silent.0 in cc)
@@ -120,5 +122,5 @@ what_others_hold_is_kept cell next left before said bytes text outside new spell
 what_others_hold_is_kept cell next left before said bytes text outside new spelled other mounts held (inr (inr (inr (inl f)))) = inr f.stays
 what_others_hold_is_kept cell next left before said bytes text outside new spelled other mounts held (inr (inr (inr (inr e)))) = elim e.makes [
   | inl failed ↦ inl (e.printed ∙ ap reply_text failed)
-  | inr (count, opened, free) ↦ absurd (not_free_for (seen cell (next ∷ left)) said held (subst (IsFreeFor (seen cell (next ∷ left))) (same_line bytes said e.said spelled e.spelled) free))
+  | inr (count, opened, free) ↦ absurd (not_free_for (seen cell (next ∷ left)) said count held (subst (λ (l : Line). IsFreeFor (seen cell (next ∷ left)) l count) (same_line bytes said e.said spelled e.spelled) free))
 ]

@@ -1,12 +1,13 @@
 -- Lines that mount the disk of an actor that they make, whatever the disk holds.
-use Rattle.std.proofs.Common.{◌≡◌, ◌≢◌, inl, inr, ℕ, ◌+◌, ◌*◌, ◌-◌, ◌<◌, ◌≤◌, ◌==◌, arith, Bool, true, false, cond, List, length, Option, Some, None, IfSome, option_map, refl, sym, ap, subst, ◌∙◌}
+use Rattle.std.proofs.Common.{◌≡◌, ◌≢◌, inl, inr, ℕ, ◌+◌, ◌*◌, ◌-◌, ◌<◌, ◌≤◌, ◌==◌, arith, Bool, true, false, cond, ◌⊎◌, List, [], ◌∷◌, ◌++◌, map, length, Option, Some, None, IfSome, option_map, refl, sym, ap, subst, ◌∙◌}
 use Rattle.std.proofs.lemmas.Bool.{cases_eq, eqb-true}
+use Rattle.std.proofs.lemmas.List.{length-append, length-map}
 use Rattle.std.specs.BTreeMap.{BTreeMap}
 use Rattle.coda_disk.specs.Told.{Told}
 use Rattle.coda_journal.specs.declared.header.Header.{Header}
 use Rattle.coda_actors.specs.Clients.{client_form}
 use Rattle.coda_actors.specs.Fits.{Fits}
-use Rattle.coda_actors.specs.Plain.{PlainActor, HasOther, Opens as OpenDeed}
+use Rattle.coda_actors.specs.Plain.{PlainDisk, PlainActor, Joins, HasOther, Opens as OpenDeed}
 use Rattle.coda_actors.specs.Replicas.{replica_form}
 use Rattle.coda_actors.specs.Slots.{is_made, IsOpened}
 use Rattle.coda_actors.specs.declared.slot.Mounting.{Mounting}
@@ -25,7 +26,7 @@ use Rattle.coda_cell.specs.Steps.{alone}
 use Rattle.coda_matching.specs.Clients.{payload_by}
 use Rattle.coda_venus.specs.declared.venus.Venus.{Venus}
 use Rattle.coda_stored.specs.Cells.{StoredCell, client_header, replica_header, disk_number}
-use Rattle.coda_stored.specs.Foreign.{next_disk, IsForeignAt, IsFree, IsFreeFor}
+use Rattle.coda_stored.specs.Foreign.{next_disk, IsForeignAt, AreFound, IsFree, IsFreeFor}
 use Rattle.coda_stored.specs.Seen.{IsSeen}
 use Rattle.coda_site.specs.Makings.{SaysOpened}
 use Rattle.coda_site.specs.Sites.{is_client_disk, is_replica_disk, place_in, IsReady, IsSite}
@@ -34,6 +35,33 @@ use Rattle.coda_site.specs.declared.site.Place.{Place}
 use Rattle.coda_site.specs.declared.site.Site.{Site}
 use Rattle.coda_site.proofs.ClientLines.{nil_mapped}
 use Rattle.coda_site.proofs.ClientSites.{with_clients, plain_clients}
+
+-- ---- what is found on a disk
+
+-- the entries that a mounting found are those of the disk, or these and the one whose append failed
+found_entries : {Entry : Type 0} (header : Header) (old new : PlainDisk Entry) → Joins header old new → (count : ℕ) → count ≡ length new.history → AreFound old.history old.failed count
+found_entries header old new joins count counted = by joins.history
+  where
+    by : (new.history ≡ old.history) ⊎ ((entry : _) × (old.failed ≡ Some entry) × (new.history ≡ old.history ++ entry ∷ [])) → AreFound old.history old.failed count
+    by (inl same) = inl (counted ∙ ap length same)
+    by (inr (entry, failed, more)) = inr (entry, failed, counted ∙ ap length more ∙ length-append old.history (entry ∷ []))
+
+-- the disk was free for it, and these are counted
+found_free : {Entry : Type 0} (header : Header) (old new : PlainDisk Entry) → Joins header old new → (count : ℕ) → count ≡ length new.history → IsFree header old.header old.history old.failed count
+found_free header old new joins count counted = elim joins.was [
+  | inl given ↦ inl (given, found_entries header old new joins count counted)
+  | inr none ↦ inr (none.0, counted ∙ ap length none.1)
+]
+
+-- the entries of a client's journal are as many as those of its history
+found_by_journal : (entries : List ClientEntry) (failed : Option ClientEntry) (count : ℕ) → AreFound (map payload_by entries) (option_map payload_by failed) count → AreFound entries failed count
+found_by_journal entries failed count (inl same) = inl (same ∙ length-map entries payload_by)
+found_by_journal entries None count (inr (entry, is, more)) = absurd (let no : None ≡ Some entry = is in cc)
+found_by_journal entries (Some last) count (inr (entry, is, more)) = inr (last, refl, more ∙ ap (λ n. n + 1) (length-map entries payload_by))
+
+free_by_journal : (header : Header) (given : Option Header) (entries : List ClientEntry) (failed : Option ClientEntry) (count : ℕ) → IsFree header given (map payload_by entries) (option_map payload_by failed) count → IsFree header given entries failed count
+free_by_journal header given entries failed count (inl (same, found)) = inl (same, found_by_journal entries failed count found)
+free_by_journal header given entries failed count (inr (none, zero)) = inr (nil_mapped payload_by entries none, zero)
 
 -- ---- clients
 
@@ -61,11 +89,8 @@ module _ {D : Type 0} (told : D → Told) (out out1 : ℕ → Bool) (has has1 : 
   pub client_mounts : (mounting : Mounting) (reply : Reply) (answered : List (List ℕ)) (slot : Slot (Venus D) D) (new : Site D) → SaysOpened mounting reply → Takes (client_form told) told is_client_disk (plain_clients cell) n (OpenDeed header mounting) out1 has1 slots
       → IsOpened (client_form told) mounting slot → (is_made slot ≡ false → new ≡ with_clients site slots) → Mounts told out1 has1 cell said reply answered answered new
   client_mounts (Entries count) reply answered slot new says takes opened left =
-      let free : IsFree header (cell.clients n).given actor.history = elim takes.1.0.1.0.was [
-        | inl given ↦ inl given
-        | inr none ↦ inr (nil_mapped payload_by actor.history none.0)
-      ] in
-      inr (inr (count, says, free))
+      let free = found_free header (plain_clients cell n).disk (takes.0 n).disk takes.1.0.1.0 count takes.1.0.1.1 in
+      inr (inr (count, says, free_by_journal header (cell.clients n).given actor.history actor.failed count free))
   client_mounts DiskFault reply answered slot new says takes opened left = inr (inl says)
   client_mounts (Foreign at) reply answered slot new says takes opened left = inl (record {
     at = at;
@@ -150,11 +175,10 @@ module _ {D : Type 0} (told : D → Told) (out out1 : ℕ → Bool) (has has1 : 
     pub volume_mounts : (mounting : Mounting) (reply : Reply) (answered : List (List ℕ)) (slot : Slot (Replica D) D) (new : Site D) → SaysOpened mounting reply → Takes (replica_form told) told is_replica_disk plain disk (OpenDeed asked mounting) out1 has1 slots
         → IsOpened (replica_form told) mounting slot → (is_made slot ≡ false → IsAsBefore site slots new) → Mounts told out1 has1 cell volume_line reply answered answered new
     volume_mounts (Entries count) reply answered slot new says takes opened left =
-        let free : IsFree asked (next_disk cell server).header (next_disk cell server).history = elim takes.1.0.1.0.was [
-          | inl given ↦ inl (ap (λ (p : PlainActor KeptEntry). p.disk.header) (sym idle_is) ∙ given)
-          | inr none ↦ inr (ap (λ (p : PlainActor KeptEntry). p.disk.history) (sym idle_is) ∙ none.0)
-        ] in
-        inr (inr (count, says, subst (λ (s : ℕ). IsFree (replica_header volume s area) (next_disk cell s).header (next_disk cell s).history) (sym same) free))
+        let found = found_free asked (plain disk).disk (takes.0 disk).disk takes.1.0.1.0 count takes.1.0.1.1 in
+        let free : IsFree asked (next_disk cell server).header (next_disk cell server).history (next_disk cell server).failed count =
+        subst (λ (p : PlainActor KeptEntry). IsFree asked p.disk.header p.disk.history p.disk.failed count) idle_is found in
+        inr (inr (count, says, subst (λ (s : ℕ). IsFree (replica_header volume s area) (next_disk cell s).header (next_disk cell s).history (next_disk cell s).failed count) (sym same) free))
     volume_mounts DiskFault reply answered slot new says takes opened left = inr (inl says)
     volume_mounts (Foreign at) reply answered slot new says takes opened left =
         let was = left opened in
@@ -186,7 +210,7 @@ module _ {D : Type 0} (told : D → Told) (out out1 : ℕ → Bool) (has has1 : 
 
 -- the line may be said otherwise
 pub mounts_as : {D : Type 0} (told : D → Told) (out : ℕ → Bool) (has : ℕ → Told) (cell : StoredCell) (named said : Line) (reply : Reply) (old new : List (List ℕ)) (site : Site D)
-    → ((at : ℕ) → IsForeignAt cell named at → IsForeignAt cell said at) → (IsFreeFor cell named → IsFreeFor cell said) → Mounts told out has cell named reply old new site → Mounts told out has cell said reply old new site
+    → ((at : ℕ) → IsForeignAt cell named at → IsForeignAt cell said at) → ((count : ℕ) → IsFreeFor cell named count → IsFreeFor cell said count) → Mounts told out has cell named reply old new site → Mounts told out has cell said reply old new site
 mounts_as told out has cell named said reply old new site differs free (inl f) = inl (record { at = f.at; refused = f.refused; differs = differs f.at f.differs; answered = f.answered; stands = f.stands })
 mounts_as told out has cell named said reply old new site differs free (inr (inl failed)) = inr (inl failed)
-mounts_as told out has cell named said reply old new site differs free (inr (inr (count, opened, is))) = inr (inr (count, opened, free is))
+mounts_as told out has cell named said reply old new site differs free (inr (inr (count, opened, is))) = inr (inr (count, opened, free count is))

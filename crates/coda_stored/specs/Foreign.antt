@@ -1,5 +1,5 @@
 -- Lines that are to make an actor on a disk that an earlier run made for another one.
-use Rattle.std.specs.Prelude.{◌≡◌, ◌⊎◌, ℕ, List, [], ◌∷◌, length, Option, Some}
+use Rattle.std.specs.Prelude.{◌≡◌, ◌⊎◌, ℕ, ◌+◌, List, [], ◌∷◌, length, Option, Some}
 use Rattle.coda_actors.specs.Plain.{PlainDisk, HasOther}
 use Rattle.coda_journal.specs.declared.header.Header.{Header}
 use Rattle.coda_record.specs.declared.entry.ReplicaEntry.{ReplicaEntry as KeptEntry}
@@ -27,16 +27,23 @@ IsForeignAt cell (line.Client client blocks area) at = HasOther (client_header c
 IsForeignAt cell (line.Volume volume servers area) at = HasOther (replica_header volume (alone servers) (area_of area)) (next_disk cell (alone servers)).header at
 IsForeignAt cell said at = ⊥
 
--- a disk was given the header that is asked for, or holds no entries
-abbrev pub IsFree : {Entry : Type 0} → Header → Option Header → List Entry → Type 0
-IsFree header given entries = (given ≡ Some header) ⊎ (entries ≡ [])
+-- so many entries are found on a disk: those that it holds, or these and the one whose append failed
+abbrev pub AreFound : {Entry : Type 0} → List Entry → Option Entry → ℕ → Type 0
+AreFound {Entry} entries failed count = (count ≡ length entries) ⊎ ((entry : Entry) × (failed ≡ Some entry) × (count ≡ length entries + 1))
 
--- the disk on which a line is to make an actor is free for it
-abbrev pub IsFreeFor : StoredCell → Line → Type 0
-IsFreeFor cell (line.Client client blocks area) = IsFree (client_header client blocks (area_of area)) (cell.clients client).given (cell.made.acted.clients client).history
-IsFreeFor cell (line.Volume volume servers area) = IsFree (replica_header volume (alone servers) (area_of area)) (next_disk cell (alone servers)).header (next_disk cell (alone servers)).history
-IsFreeFor cell said = ⊥
+-- A disk was given the header that is asked for, and its entries are found; or it holds none, and none is found.
+abbrev pub IsFree : {Entry : Type 0} → Header → Option Header → List Entry → Option Entry → ℕ → Type 0
+IsFree header given entries failed count = ((given ≡ Some header) × AreFound entries failed count) ⊎ ((entries ≡ []) × (count ≡ 0))
 
--- A line made an actor on the disk that it found: a call of the disk failed, and the actor is down; or the disk was free for it.
+-- the disk on which a line is to make an actor is free for it, and so many entries are found there
+abbrev pub IsFreeFor : StoredCell → Line → ℕ → Type 0
+IsFreeFor cell (line.Client client blocks area) count =
+    IsFree (client_header client blocks (area_of area)) (cell.clients client).given (cell.made.acted.clients client).history (cell.made.acted.clients client).failed count
+IsFreeFor cell (line.Volume volume servers area) count =
+    IsFree (replica_header volume (alone servers) (area_of area)) (next_disk cell (alone servers)).header (next_disk cell (alone servers)).history (next_disk cell (alone servers)).failed count
+IsFreeFor cell said count = ⊥
+
+-- A line made an actor on the disk that it found: a call of the disk failed, and the actor is down; or the disk was free for it, and the entries that were
+-- found there are counted.
 abbrev pub MakesOn : StoredCell → Line → Reply → Type 0
-MakesOn cell said reply = (reply ≡ refused_fault) ⊎ ((count : ℕ) × (reply ≡ Opened (count ∷ [])) × IsFreeFor cell said)
+MakesOn cell said reply = (reply ≡ refused_fault) ⊎ ((count : ℕ) × (reply ≡ Opened (count ∷ [])) × IsFreeFor cell said count)

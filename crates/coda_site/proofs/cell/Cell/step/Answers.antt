@@ -89,7 +89,7 @@ returns-in-Client-clause-mounts g c = λ cell seen mounts is.
     (λ reply did. subst (λ (l : Line). Mounts told out has cell l reply old new site) (sym c.in-Client.is)
     (mounts_as told out has cell (line.Client client blocks (Some c.unwrap_or-in-Client.result)) (line.Client client blocks c.in-Client.area) reply old new site
     (λ at differs. subst (λ (area : ℕ). HasOther (client_header client blocks area) (cell.clients client).given at) area_is differs)
-    (λ free. subst (λ (area : ℕ). IsFree (client_header client blocks area) (cell.clients client).given (cell.made.acted.clients client).history) area_is free) did))
+    (λ count free. subst (λ (area : ℕ). IsFree (client_header client blocks area) (cell.clients client).given (cell.made.acted.clients client).history (cell.made.acted.clients client).failed count) area_is free) did))
     (c.make_client.ensures.mounts cell seen none is)
 
 pub returns-in-Volume-clause-mounts : goal.returns-in-Volume-clause-mounts
@@ -110,5 +110,5 @@ returns-in-Volume-clause-mounts g c = λ cell seen mounts is.
     (λ reply did. subst (λ (l : Line). Mounts told out has cell l reply old new site) (sym c.in-Volume.is)
     (mounts_as told out has cell (line.Volume volume servers (Some c.unwrap_or.result)) (line.Volume volume servers c.in-Volume.area) reply old new site
     (λ at differs. subst (λ (area : ℕ). HasOther (replica_header volume (alone servers) area) (next_disk cell (alone servers)).header at) area_is differs)
-    (λ free. subst (λ (area : ℕ). IsFree (replica_header volume (alone servers) area) (next_disk cell (alone servers)).header (next_disk cell (alone servers)).history) area_is free) did))
+    (λ count free. subst (λ (area : ℕ). IsFree (replica_header volume (alone servers) area) (next_disk cell (alone servers)).header (next_disk cell (alone servers)).history (next_disk cell (alone servers)).failed count) area_is free) did))
     (c.make_volume.ensures.mounts cell servers server_is seen none is)
