@@ -92,6 +92,15 @@ fn put_answered(alloc: Global, bench: &mut Bench, line: &[u8], kind: Kind, whole
 pub fn answered(alloc: Global, text: &[u8], kind: Kind) -> Result<Vec<u8>, AllocError> {
     let mut bench = Bench::new(alloc)?;
     let mut whole = Vec::new(alloc);
+    for line in odd_lines(alloc, text)? {
+        put_answered(alloc, &mut bench, line, kind, &mut whole);
+    }
+    Ok(whole)
+}
+
+/// The first line of a text, the third, and so on.
+pub fn odd_lines(alloc: Global, text: &[u8]) -> Result<Vec<&[u8]>, AllocError> {
+    let mut odd = Vec::new(alloc);
     let mut is_odd = true;
     for line in text
         .strip_suffix(b"\n")
@@ -99,9 +108,9 @@ pub fn answered(alloc: Global, text: &[u8], kind: Kind) -> Result<Vec<u8>, Alloc
         .split(|byte| *byte == b'\n')
     {
         if is_odd {
-            put_answered(alloc, &mut bench, line, kind, &mut whole);
+            odd.push(line)?;
         }
         is_odd = !is_odd;
     }
-    Ok(whole)
+    Ok(odd)
 }

@@ -1,5 +1,5 @@
 //! The worked rows. Each file of a folder has a script, with its report in a file beside it, or lines of a script, or
-//! calls, each with what must be answered on the line below. The program goes through the folder in the order of
+//! calls, each with what must be answered, or what a trace must have of it, on the line below. The program goes through the folder in the order of
 //! names, and prints how each row compares.
 #![tactic(auto)]
 
@@ -12,10 +12,12 @@ mod outlets;
 mod repeats;
 mod scripts;
 mod texts;
+mod traces;
 
 use crate::answers::{Kind, answered};
 use crate::repeats::repeated;
 use crate::texts::comparison;
+use crate::traces::traced;
 use anyhow::{Context, Result};
 use std::{env, fs, io};
 
@@ -51,11 +53,19 @@ fn lines(rt: &HostRuntime, folder: &str, name: &str, ending: &str, kind: Kind) -
     Ok(comparison(rt.alloc(), name, &wanted, &found)?)
 }
 
+// How a row of lines with their steps compares.
+fn steps(rt: &HostRuntime, folder: &str, name: &str) -> Result<String> {
+    let wanted = contents(rt, folder, name, "trace")?;
+    let found = traced(rt.alloc(), &wanted)?;
+    Ok(comparison(rt.alloc(), name, &wanted, &found)?)
+}
+
 // How the row of a file compares, where the file is one of a row.
 fn row(rt: &HostRuntime, folder: &str, file: &str) -> Result<Option<String>> {
     let (name, ending) = file.rsplit_once('.').unwrap_or((file, ""));
     let kind = match ending {
         "coda" => return Ok(Some(script(rt, folder, name)?)),
+        "trace" => return Ok(Some(steps(rt, folder, name)?)),
         "lines" => Kind::Said,
         "words" => Kind::Words,
         "calls" => Kind::Calls,

@@ -5,8 +5,6 @@ mod copying;
 mod event;
 mod laws;
 mod operations;
-#[cfg(test)]
-mod tests;
 mod traced;
 
 pub use event::{Event, Note};

@@ -1,6 +1,6 @@
 use Rattle.std.proofs.Common.{◌≤◌, length}
 use Rattle.coda_site.specs.Sites.{IsReady, IsClosable}
-use Rattle.coda_trace.proofs.tests.is_run.Given as goal
+use Rattle.coda_rows.proofs.traces.carry_out.Given as goal
 
 abbrev pub invariant-loop-number : goal.invariant-loop-number
 invariant-loop-number g l = record {
