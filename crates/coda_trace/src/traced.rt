@@ -110,15 +110,22 @@ impl<B: Bay> TracedCell<B> {
         ensures steps { (start cell : StoredCell) (images : List (List ℕ)) → IsStoredKept cell → IsSite B.D.told (B.out self.old.cell.bay) (B.has self.old.cell.bay) cell self.old.cell.site
             → AreSteps start self.old.events.items images cell → IfOk result (λ _. GoesOn B.D.told (B.out self.new.cell.bay) (B.has self.new.cell.bay) start self.new.events.items images (B.answered self.old.cell.bay) (B.answered self.new.cell.bay) self.new.cell.site) }
     {
-        let line_copy = copy_line(line)?;
         self.events.reserve(1)?;
-        let reply = self.cell.step(line)?;
-        let event = Event {
-            line: line_copy,
-            note: note_of(&reply),
-        };
-        self.events.push_reserved(event);
-        Ok(reply)
+        let line_copy = copy_line(line)?;
+        match self.cell.step(line) {
+            Ok(reply) => {
+                let event = Event {
+                    line: line_copy,
+                    note: note_of(&reply),
+                };
+                self.events.push_reserved(event);
+                Ok(reply)
+            }
+            Err(fault) => {
+                drop(line_copy);
+                Err(fault)
+            }
+        }
     }
 
     /// The trace: the lines that were carried out, in their order, each with what its step tells of disks.
