@@ -1,6 +1,6 @@
 //! The worked rows. Each file of a folder has a script, with its report in a file beside it, or lines of a script, or
-//! calls, each with what must be answered, or what a trace must have of it, on the line below. The program goes through the folder in the order of
-//! names, and prints how each row compares.
+//! calls, each with what must be answered, or what a trace must have of it, on the line below. The program goes through
+//! the folder in the order of names, and prints how each row compares.
 #![tactic(auto)]
 
 mod answers;
