@@ -159,7 +159,8 @@ impl Disk for FileDisk {
     }
 }
 
-/// Disks in the files `coda-disks/disk-N` of the current folder, with a count of its errors. A crash opens the file again.
+/// Disks in the files `coda-disks/disk-N` of the current folder, with a count of its errors. A disk that is out is locked, so a second
+/// program can't take it, which it counts as an error. A crash opens the file again.
 #[derive(Drop)]
 pub struct FileBay<R> {
     alloc: Global,
@@ -187,7 +188,8 @@ impl<R> FileBay<R> {
     }
 }
 
-// Opens the file of a number. The folder and the file are made where they are missing.
+// Opens the file of a number, and locks it: two programs in one folder would write over each other's entries. The lock ends with the
+// handle, so also where the program is killed. The folder and the file are made where they are missing.
 fn open<R: Files<File = File>>(alloc: Global, files: &R, number: u32) -> io::Result<FileDisk>
     ensures { IfOk result (λ d. IsRested d.faults d.arms d.passes) }
 {
@@ -198,6 +200,7 @@ fn open<R: Files<File = File>>(alloc: Global, files: &R, number: u32) -> io::Res
         .write(true)
         .create(true)
         .open(files, &path)?;
+    file.try_lock()?;
     // That the folder has the file outlives a crash of the machine once the folder is synced.
     fs::open(files, "coda-disks")?.sync_all()?;
     Ok(FileDisk::new(number, file))
@@ -261,7 +264,10 @@ impl<R: Files<File = File>> Bay for FileBay<R> {
     fn crash(&mut self, disk: FileDisk, _choice: u64) -> Result<FileDisk, BayFault> {
         self.disk_faults = self.disk_faults.saturating_add(disk.faults());
         self.disk_arms = self.disk_arms.saturating_add(disk.arms());
-        match open(self.alloc, &self.files, disk.number()) {
+        let number = disk.number();
+        // What the old handle has locked can't be opened again before it is closed.
+        drop(disk);
+        match open(self.alloc, &self.files, number) {
             Ok(again) => Ok(again),
             Err(_) => {
                 self.faults = self.faults.saturating_add(1);
