@@ -22,7 +22,6 @@ use Rattle.coda_actors.specs.declared.slot.Slot.TheVariants.{Vacant, Spare, Stop
 use Rattle.coda_crew.specs.Crews.{slot_at, KeepsOtherSlots, FitsAll, OutAt}
 use Rattle.coda_plain.specs.Cell.{ClientEntry, Actor}
 use Rattle.coda_plain.specs.Moves.{AtClient, with_client, fallen}
-use Rattle.coda_plain.proofs.Soundness.{none_joins}
 use Rattle.coda_replica.proofs.Reading.{blocks_append}
 use Rattle.coda_venus.specs.History.{Payload, payload_of, payloads_of}
 use Rattle.coda_venus.specs.Standing.{IsUp, StandsFor}
@@ -100,9 +99,9 @@ none_mapped f None is = refl
 none_mapped f (Some x) is = cc
 
 module _ {D : Type 0} (told : D → Told) (out : ℕ → Bool) (has : ℕ → Told) (cell : StoredCell) (kept : IsSeen cell) where
-  -- the deeds of a client of a cell that is kept are lawful
+  -- the deeds of a client are lawful
   pub lawful_deeds : (n : ℕ) (header : Header) (venus : Venus D) → IsUp told header venus (journal_by (cell.made.acted.clients n).history) → IsClientHistory header (cell.made.acted.clients n).history
-  lawful_deeds n header venus up = record { journal = up.lawful; deeds = λ volume. ((kept.sound none_joins).agree none_joins).lawful n volume }
+  lawful_deeds n header venus up = record { journal = up.lawful; deeds = kept.lawful n }
 
   -- a slot that holds a client that is up, by what the slot and the disks stand for
   pub up_from : (slots : BTreeMap ℕ (Slot (Venus D) D)) (n : ℕ) (header : Header) (venus : Venus D) → FitsAll (client_form told) told is_client_disk out has slots (plain_clients cell) → is_client_disk n ≡ true

@@ -26,7 +26,7 @@ use Rattle.coda_cell.specs.Steps.{alone}
 use Rattle.coda_matching.specs.Clients.{payload_by}
 use Rattle.coda_venus.specs.declared.venus.Venus.{Venus}
 use Rattle.coda_stored.specs.Cells.{StoredCell, client_header, replica_header, disk_number}
-use Rattle.coda_stored.specs.Foreign.{next_disk, IsForeignAt, AreFound, IsFree, IsFreeFor}
+use Rattle.coda_stored.specs.Foreign.{next_disk, IsForeignAt, AreCounted, IsFree, IsFreeFor}
 use Rattle.coda_stored.specs.Seen.{IsSeen}
 use Rattle.coda_site.specs.Makings.{SaysOpened}
 use Rattle.coda_site.specs.Sites.{is_client_disk, is_replica_disk, place_in, IsReady, IsSite}
@@ -39,10 +39,10 @@ use Rattle.coda_site.proofs.ClientSites.{with_clients, plain_clients}
 -- ---- what is found on a disk
 
 -- the entries that a mounting found are those of the disk, or these and the one whose append failed
-found_entries : {Entry : Type 0} (header : Header) (old new : PlainDisk Entry) → Joins header old new → (count : ℕ) → count ≡ length new.history → AreFound old.history old.failed count
+found_entries : {Entry : Type 0} (header : Header) (old new : PlainDisk Entry) → Joins header old new → (count : ℕ) → count ≡ length new.history → AreCounted old.history old.failed count
 found_entries header old new joins count counted = by joins.history
   where
-    by : (new.history ≡ old.history) ⊎ ((entry : _) × (old.failed ≡ Some entry) × (new.history ≡ old.history ++ entry ∷ [])) → AreFound old.history old.failed count
+    by : (new.history ≡ old.history) ⊎ ((entry : _) × (old.failed ≡ Some entry) × (new.history ≡ old.history ++ entry ∷ [])) → AreCounted old.history old.failed count
     by (inl same) = inl (counted ∙ ap length same)
     by (inr (entry, failed, more)) = inr (entry, failed, counted ∙ ap length more ∙ length-append old.history (entry ∷ []))
 
@@ -54,7 +54,7 @@ found_free header old new joins count counted = elim joins.was [
 ]
 
 -- the entries of a client's journal are as many as those of its history
-found_by_journal : (entries : List ClientEntry) (failed : Option ClientEntry) (count : ℕ) → AreFound (map payload_by entries) (option_map payload_by failed) count → AreFound entries failed count
+found_by_journal : (entries : List ClientEntry) (failed : Option ClientEntry) (count : ℕ) → AreCounted (map payload_by entries) (option_map payload_by failed) count → AreCounted entries failed count
 found_by_journal entries failed count (inl same) = inl (same ∙ length-map entries payload_by)
 found_by_journal entries None count (inr (entry, is, more)) = absurd (let no : None ≡ Some entry = is in cc)
 found_by_journal entries (Some last) count (inr (entry, is, more)) = inr (last, refl, more ∙ ap (λ n. n + 1) (length-map entries payload_by))

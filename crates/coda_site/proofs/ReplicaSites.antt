@@ -22,7 +22,6 @@ use Rattle.coda_plain.specs.Decisions.{ReplicaEntry, AreDecisions}
 use Rattle.coda_plain.specs.Histories.{In}
 use Rattle.coda_plain.specs.Moves.{AtReplica, with_replica, fallen}
 use Rattle.coda_plain.proofs.Lists.{told_push}
-use Rattle.coda_plain.proofs.Soundness.{none_joins}
 use Rattle.coda_record.specs.declared.entry.ReplicaEntry.{ReplicaEntry as KeptEntry}
 use Rattle.coda_replica.specs.History.{payload_of, payloads_of}
 use Rattle.coda_replica.proofs.Reading.{blocks_append}
@@ -177,7 +176,7 @@ module _ {D : Type 0} (told : D → Told) (out : ℕ → Bool) (has : ℕ → To
         let own = header_is s.header life.0 in
         let clean = kept.replicas_up place.server volume life.1 in
         let stands : IsUp told s.header s.actor (journal_at s.header.number actor_there.history) = subst (λ (n : ℕ). IsUp told s.header s.actor (journal_at n actor_there.history)) (sym own.0) s.fits.up in
-        let ruled : AreDecisions volume actor_there.history = ((kept.sound none_joins).agree none_joins).ruled place.server volume in (
+        let ruled : AreDecisions volume actor_there.history = kept.ruled place.server volume in (
           s.header,
           s.actor,
           record {

@@ -2,7 +2,10 @@
 use Rattle.std.proofs.Common.{◌≡◌, ℕ, ◌==◌, Bool, true, false, cond, List, [], ◌∷◌, Option, Some, None, refl, ap}
 use Rattle.coda_actors.specs.Plain.{PlainActor, Unmade}
 use Rattle.coda_plain.specs.Cell.{ClientEntry, Actor}
-use Rattle.coda_plain.specs.Decisions.{ReplicaEntry}
+use Rattle.coda_plain.specs.Decisions.{ReplicaEntry, AreDecisions}
+use Rattle.coda_plain.specs.Deeds.{AreLawful}
+use Rattle.coda_plain.specs.Moves.{done_on}
+use Rattle.coda_plain.proofs.Soundness.{none_joins}
 use Rattle.coda_record.specs.declared.entry.ReplicaEntry.{ReplicaEntry as KeptEntry}
 use Rattle.coda_stored.specs.Cells.{Side, StoredCell, plain_replica}
 use Rattle.coda_stored.specs.Kept.{IsClientSide, IsReplicaSide, IsStoredKept}
@@ -42,10 +45,18 @@ none_asked cell kept (VolumeAgain volume server area ∷ left) number = by (numb
     by true rest = (refl, refl)
     by false rest = rest
 
+-- each history of a cell that is kept is lawful by itself
+lawful_in : (cell : StoredCell) → IsStoredKept cell → (client volume : ℕ) → AreLawful (done_on cell.made.acted client volume)
+lawful_in cell kept client volume = ((kept.kept none_joins).sound.agree none_joins).lawful client volume
+
+ruled_in : (cell : StoredCell) → IsStoredKept cell → (server volume : ℕ) → AreDecisions volume (cell.made.acted.replicas server volume).history
+ruled_in cell kept server volume = ((kept.kept none_joins).sound.agree none_joins).ruled server volume
+
 pub seen_is_seen : (cell : StoredCell) (left : List Awaited) → IsStoredKept cell → IsSeen (seen cell left)
 seen_is_seen cell left kept = record {
   replicas_up = kept.replicas_up;
-  sound = λ joins. (kept.kept joins).sound;
+  lawful = lawful_in cell kept;
+  ruled = ruled_in cell kept;
   clients = λ client. client_seen client (cell.made.sizes client) (awaits_client left client) (cell.made.acted.clients client) (cell.clients client) (kept.clients client);
   replicas = λ volume. replica_seen volume (cell.made.homes volume) (awaits_volume left volume) (λ server. cell.made.acted.replicas server volume) (cell.replicas volume) (kept.replicas volume);
   placed = λ volume server home. let p = kept.placed volume server (home_seen (awaits_volume left volume) (cell.made.homes volume) server home).1 in (p.0, p.2);
@@ -58,7 +69,8 @@ seen_is_seen cell left kept = record {
 pub kept_is_seen : (cell : StoredCell) → IsStoredKept cell → IsSeen cell
 kept_is_seen cell kept = record {
   replicas_up = kept.replicas_up;
-  sound = λ joins. (kept.kept joins).sound;
+  lawful = lawful_in cell kept;
+  ruled = ruled_in cell kept;
   clients = λ client. client_seen client (cell.made.sizes client) false (cell.made.acted.clients client) (cell.clients client) (kept.clients client);
   replicas = λ volume. replica_seen volume (cell.made.homes volume) false (λ server. cell.made.acted.replicas server volume) (cell.replicas volume) (kept.replicas volume);
   placed = λ volume server home. let p = kept.placed volume server home in (p.0, p.2);

@@ -28,12 +28,12 @@ IsForeignAt cell (line.Volume volume servers area) at = HasOther (replica_header
 IsForeignAt cell said at = ⊥
 
 -- so many entries are found on a disk: those that it holds, or these and the one whose append failed
-abbrev pub AreFound : {Entry : Type 0} → List Entry → Option Entry → ℕ → Type 0
-AreFound {Entry} entries failed count = (count ≡ length entries) ⊎ ((entry : Entry) × (failed ≡ Some entry) × (count ≡ length entries + 1))
+abbrev pub AreCounted : {Entry : Type 0} → List Entry → Option Entry → ℕ → Type 0
+AreCounted {Entry} entries failed count = (count ≡ length entries) ⊎ ((entry : Entry) × (failed ≡ Some entry) × (count ≡ length entries + 1))
 
 -- A disk was given the header that is asked for, and its entries are found; or it holds none, and none is found.
 abbrev pub IsFree : {Entry : Type 0} → Header → Option Header → List Entry → Option Entry → ℕ → Type 0
-IsFree header given entries failed count = ((given ≡ Some header) × AreFound entries failed count) ⊎ ((entries ≡ []) × (count ≡ 0))
+IsFree header given entries failed count = ((given ≡ Some header) × AreCounted entries failed count) ⊎ ((entries ≡ []) × (count ≡ 0))
 
 -- the disk on which a line is to make an actor is free for it, and so many entries are found there
 abbrev pub IsFreeFor : StoredCell → Line → ℕ → Type 0

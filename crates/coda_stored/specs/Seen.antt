@@ -1,10 +1,11 @@
 -- A cell as it is seen while lines are yet to make some of its actors again, and what other lines do in it meanwhile.
 use Rattle.std.specs.Prelude.{◌≡◌, ◌⊎◌, ◌==◌, ℕ, ◌-◌, Bool, true, false, is_some, if◌then◌else◌, List, [], ◌∷◌, take, length, Option, Some, None}
 use Rattle.coda_actors.specs.Plain.{PlainActor, Unmade}
-use Rattle.coda_plain.specs.Cell.{ClientEntry, Actor, Joins, found}
-use Rattle.coda_plain.specs.Decisions.{ReplicaEntry}
+use Rattle.coda_plain.specs.Cell.{ClientEntry, Actor, found}
+use Rattle.coda_plain.specs.Decisions.{ReplicaEntry, AreDecisions}
+use Rattle.coda_plain.specs.Deeds.{AreLawful}
 use Rattle.coda_plain.specs.Histories.{In}
-use Rattle.coda_plain.specs.Sound.{IsSound}
+use Rattle.coda_plain.specs.Moves.{done_on}
 use Rattle.coda_record.specs.declared.entry.ReplicaEntry.{ReplicaEntry as KeptEntry}
 use Rattle.coda_script.specs.Ranges.{InRange}
 use Rattle.coda_script.specs.declared.line.Line.{Line}
@@ -12,7 +13,7 @@ use Rattle.coda_script.specs.declared.line.Line.TheVariants as line
 use Rattle.coda_script.specs.declared.reply.Reply.{Reply}
 use Rattle.coda_matching.specs.Replicas.{IsDecision}
 use Rattle.coda_stored.specs.Cells.{Side, StoredCell, disk_number, plain_replica}
-use Rattle.coda_stored.specs.Kept.{whole, IsClientSide, IsReplicaSide, IsStoredKept}
+use Rattle.coda_stored.specs.Kept.{IsClientSide, IsReplicaSide, IsStoredKept}
 use Rattle.coda_stored.specs.Laws.{Begins}
 use Rattle.coda_stored.specs.Lines.{area_of, no_volume, no_client, Happens}
 use Rattle.coda_stored.specs.Resuming.{Awaited, ClientAgain, VolumeAgain, awaits_client, awaits_volume, servers_of, AreAwaited}
@@ -95,11 +96,13 @@ abbrev pub IsReplicaSeen : ℕ → Option ℕ → (ℕ → Actor ReplicaEntry) �
 IsReplicaSeen volume None actors side = side.asked ≡ None
 IsReplicaSeen volume (Some server) actors side = IsReplicaSide volume (Some server) actors side
 
--- What holds of a cell as it is seen, and of one that is kept: the histories are sound, also of actors that no line made yet; of those that one
--- made, what holds of a cell that is kept; and of no disk that nobody asks for is it known what a crash left.
+-- What holds of a cell as it is seen, and of one that is kept. Each history is lawful by itself, also that of an actor that no line made yet, whatever others
+-- hold: so lines do what they do wherever actors stand. Of those that a line made, what holds of the disks of a cell that is kept; and of no disk that nobody
+-- asks for is it known what a crash left.
 pub record IsSeen (cell : StoredCell) : Type 0 where
   pub replicas_up : (server volume : ℕ) → (cell.made.acted.replicas server volume).up ≡ true → (cell.made.acted.replicas server volume).failed ≡ None
-  pub sound : (joins : Joins) → IsSound (whole cell.made joins).acted
+  pub lawful : (client volume : ℕ) → AreLawful (done_on cell.made.acted client volume)
+  pub ruled : (server volume : ℕ) → AreDecisions volume (cell.made.acted.replicas server volume).history
   pub clients : (client : ℕ) → IsClientSeen client (cell.made.sizes client) (cell.made.acted.clients client) (cell.clients client)
   pub replicas : (volume : ℕ) → IsReplicaSeen volume (cell.made.homes volume) (λ server. cell.made.acted.replicas server volume) (cell.replicas volume)
   pub placed : (volume server : ℕ) → cell.made.homes volume ≡ Some server → (before : ℕ) × (cell.places volume ≡ disk_number before server)
