@@ -86,6 +86,19 @@ module _ {D : Type 0} (told : D → Told) (out out1 : ℕ → Bool) (has has1 : 
       here : takes.0 n ≡ plain_clients cell n
       here = (let step = takes.1.0 in λ i. record { disk = step.1.1 i; life = (step.2 ∙ sym step.0) i; left = (step.3 ∙ sym (seen.unmade n absent)) i })
 
+  -- the site where its disk is another's
+  pub foreign_client_site : (at : ℕ) → Takes (client_form told) told is_client_disk (plain_clients cell) n (OpenDeed header (Foreign at)) out1 has1 slots → IsSite told out1 has1 cell (with_clients site slots)
+  foreign_client_site at takes = record {
+    clock = is.clock;
+    servers = is.servers;
+    homes = is.homes;
+    places = is.places;
+    areas = is.areas;
+    clients = λ k of. subst (Fits (client_form told) told (out1 k) (has1 k) (slot_at slots k)) (client_stays at takes k) (takes.2 k of);
+    replicas = (is.replicas.0, record { placed = is.replicas.1.placed; others = is.replicas.1.others }, left_fits (replica_form told) told is_replica_disk out out1 has has1 site.replicas is.replicas.0 be is.replicas.2);
+    net = is.net;
+  }
+
   pub client_mounts : (mounting : Mounting) (reply : Reply) (answered : List (List ℕ)) (slot : Slot (Venus D) D) (new : Site D) → SaysOpened mounting reply → Takes (client_form told) told is_client_disk (plain_clients cell) n (OpenDeed header mounting) out1 has1 slots
       → IsOpened (client_form told) mounting slot → (is_made slot ≡ false → new ≡ with_clients site slots) → Mounts told out1 has1 cell said reply answered answered new
   client_mounts (Entries count) reply answered slot new says takes opened left =
@@ -97,16 +110,7 @@ module _ {D : Type 0} (told : D → Told) (out out1 : ℕ → Bool) (has has1 : 
     refused = says;
     differs = takes.1.0.1.0;
     answered = refl;
-    stands = subst (IsSite told out1 has1 cell) (sym (left opened)) (record {
-      clock = is.clock;
-      servers = is.servers;
-      homes = is.homes;
-      places = is.places;
-      areas = is.areas;
-      clients = λ k of. subst (Fits (client_form told) told (out1 k) (has1 k) (slot_at slots k)) (client_stays at takes k) (takes.2 k of);
-      replicas = (is.replicas.0, record { placed = is.replicas.1.placed; others = is.replicas.1.others }, left_fits (replica_form told) told is_replica_disk out out1 has has1 site.replicas is.replicas.0 be is.replicas.2);
-      net = is.net;
-    });
+    stands = subst (IsSite told out1 has1 cell) (sym (left opened)) (foreign_client_site at takes);
   })
   client_mounts Memory reply answered slot new says takes opened left = absurd says
 
@@ -142,7 +146,7 @@ module _ {D : Type 0} (told : D → Told) (out out1 : ℕ → Bool) (has has1 : 
   plain = is.replicas.0
 
   -- no volume that was made has the next disk
-  apart : (v s : ℕ) → cell.made.homes v ≡ Some s → cell.places v ≢ disk
+  pub apart : (v s : ℕ) → cell.made.homes v ≡ Some s → cell.places v ≢ disk
   apart v s home same = by (place_in site v) (sym (is.homes v) ∙ home) (is.places v) (ready.places v)
     where
       by : (o : Option Place) → option_map (λ (p : Place). p.server) o ≡ Some s → IfSome o (λ p. cell.places v ≡ p.disk) → IfSome o (λ p. (256 ≤ p.disk) × (p.disk < 256 + 8 * length site.servers.items) × (1 ≤ p.server) × (p.server ≤ 8)) → ⊥
@@ -153,7 +157,7 @@ module _ {D : Type 0} (told : D → Told) (out out1 : ℕ → Bool) (has has1 : 
           let at : 256 + 8 * count + (server - 1) ≡ p.disk = sym same ∙ place in
           omega (arith, below, at)
 
-  idle_is : plain disk ≡ cell.idle disk
+  pub idle_is : plain disk ≡ cell.idle disk
   idle_is = is.replicas.1.others disk apart
 
   volume_stays : (at : ℕ) (takes : Takes (replica_form told) told is_replica_disk plain disk (OpenDeed asked (Foreign at)) out1 has1 slots) (k : ℕ) → takes.0 k ≡ plain k
@@ -167,6 +171,25 @@ module _ {D : Type 0} (told : D → Told) (out out1 : ℕ → Bool) (has has1 : 
 
       here : takes.0 disk ≡ plain disk
       here = (let step = takes.1.0 in λ i. record { disk = step.1.1 i; life = (step.2 ∙ sym step.0) i; left = (step.3 ∙ sym none_left) i })
+
+  -- the site where it is another volume's
+  pub foreign_volume_site : (at : ℕ) → Takes (replica_form told) told is_replica_disk plain disk (OpenDeed asked (Foreign at)) out1 has1 slots → (new : Site D) → IsAsBefore site slots new → IsSite told out1 has1 cell new
+  foreign_volume_site at takes new was = record {
+    clock = is.clock ∙ sym was.clock;
+    servers = is.servers ∙ sym was.servers;
+    homes = λ v. is.homes v ∙ ap (option_map (λ (p : Place). p.server)) (sym (was.places v));
+    places = λ v. subst (λ (o : Option Place). IfSome o (λ p. cell.places v ≡ p.disk)) (sym (was.places v)) (is.places v);
+    areas = is.areas ∙ sym was.areas;
+    clients = subst (λ (c : BTreeMap ℕ (Slot _ D)). FitsAll (client_form told) told is_client_disk out1 has1 c (plain_clients cell)) (sym was.clients)
+        (left_fits (client_form told) told is_client_disk out out1 has has1 site.clients (plain_clients cell) be is.clients);
+    replicas = (
+      plain,
+      is.replicas.1,
+      subst (λ r. FitsAll (replica_form told) told is_replica_disk out1 has1 r plain) (sym was.replicas)
+          (λ k of. subst (Fits (replica_form told) told (out1 k) (has1 k) (slot_at slots k)) (volume_stays at takes k) (takes.2 k of)),
+    );
+    net = subst (IsNetwork cell.made.links cell.made.waiting cell.made.acted.posted) (sym was.net) is.net;
+  }
 
   module _ (servers : List ℕ) (same : alone servers ≡ server) where
     abbrev volume_line : Line
@@ -187,22 +210,7 @@ module _ {D : Type 0} (told : D → Told) (out out1 : ℕ → Bool) (has has1 : 
           refused = says;
           differs = subst (λ (s : ℕ). HasOther (replica_header volume s area) (next_disk cell s).header at) (sym same) (subst (λ (p : PlainActor KeptEntry). HasOther asked p.disk.header at) idle_is takes.1.0.1.0);
           answered = refl;
-          stands = record {
-            clock = is.clock ∙ sym was.clock;
-            servers = is.servers ∙ sym was.servers;
-            homes = λ v. is.homes v ∙ ap (option_map (λ (p : Place). p.server)) (sym (was.places v));
-            places = λ v. subst (λ (o : Option Place). IfSome o (λ p. cell.places v ≡ p.disk)) (sym (was.places v)) (is.places v);
-            areas = is.areas ∙ sym was.areas;
-            clients = subst (λ (c : BTreeMap ℕ (Slot _ D)). FitsAll (client_form told) told is_client_disk out1 has1 c (plain_clients cell)) (sym was.clients)
-                (left_fits (client_form told) told is_client_disk out out1 has has1 site.clients (plain_clients cell) be is.clients);
-            replicas = (
-              plain,
-              is.replicas.1,
-              subst (λ r. FitsAll (replica_form told) told is_replica_disk out1 has1 r plain) (sym was.replicas)
-                  (λ k of. subst (Fits (replica_form told) told (out1 k) (has1 k) (slot_at slots k)) (volume_stays at takes k) (takes.2 k of)),
-            );
-            net = subst (IsNetwork cell.made.links cell.made.waiting cell.made.acted.posted) (sym was.net) is.net;
-          };
+          stands = foreign_volume_site at takes new was;
         })
     volume_mounts Memory reply answered slot new says takes opened left = absurd says
 

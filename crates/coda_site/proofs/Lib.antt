@@ -22,6 +22,7 @@ pub mod ClientLines
 pub mod ReplicaLines
 pub mod Makes
 pub mod MakingLines
+pub mod NotedVolumes
 pub mod VolumeLines
 pub mod ResumedClients
 pub mod ResumedVolumes
@@ -32,3 +33,4 @@ pub mod NewVolumes
 pub mod NewLines
 pub mod Counting
 pub mod Foreigners
+pub mod Finding

@@ -38,7 +38,7 @@ use Rattle.coda_site.proofs.ClientLines.{never_foreign}
 use Rattle.coda_site.proofs.Makes.{up_made}
 use Rattle.coda_site.proofs.ReplicaLines.{kept_long, found_at, joined_in, ruler_put_twice}
 use Rattle.coda_site.proofs.ReplicaSites.{with_ruler, ruler_here}
-use Rattle.coda_site.proofs.VolumeLines.{IsNoted}
+use Rattle.coda_site.proofs.NotedVolumes.{IsNoted}
 
 -- what a mounting makes of a replica that is made again, which is what a recovery makes of it
 record FoundReplica (cell : StoredCell) (server volume : ℕ) (reply : Reply) (new : PlainActor KeptEntry) : Type 0 where

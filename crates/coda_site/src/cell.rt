@@ -10,10 +10,11 @@ ghost use Rattle.coda_stored.specs.Cells.{StoredCell, nothing_stored};
 ghost use Rattle.coda_stored.specs.Kept.{IsStoredKept};
 ghost use Rattle.coda_stored.specs.Seen.{mounts_none, IsSeen};
 ghost use Rattle.coda_stored.specs.Lines.{is_built, Happens, client_down, replica_down};
+ghost use Rattle.coda_stored.specs.Mounted.{Shelf, HoldsShelf};
 ghost use Rattle.coda_stored.specs.Resuming.{at_rest, Awaited, is_awaited, AreAwaited, MakeAllAgain};
 ghost use Rattle.coda_site.specs.Awaiting.{IsAwaiting, Resumes};
 ghost use Rattle.coda_site.specs.Sites.{IsSite, IsReady, IsClosable};
-ghost use Rattle.coda_site.specs.Steps.{Admits, Becomes, Mounts};
+ghost use Rattle.coda_site.specs.Steps.{Admits, Becomes, Mounts, Finds};
 ghost use Rattle.coda_site.specs.Totals.{IsCounted, IsFault, has_armed, total, totals};
 ghost use Rattle.coda_disk.specs.Bays.{plus};
 ghost use Rattle.coda_site.specs.Cells.{AreBlank, AreOnDisks};
@@ -102,6 +103,8 @@ impl<B: Bay> Cell<B> {
             → IfOk result (λ reply. Resumes B.D.told (B.out self.new.bay) (B.has self.new.bay) cell awaited left reply (B.answered self.old.bay) (B.answered self.new.bay) self.new.site) }
         ensures mounts { (cell : StoredCell) → IsSeen cell → mounts_none cell line.now ≡ false → IsSite B.D.told (B.out self.old.bay) (B.has self.old.bay) cell self.old.site
             → IfOk result (λ reply. Mounts B.D.told (B.out self.new.bay) (B.has self.new.bay) cell line.now reply (B.answered self.old.bay) (B.answered self.new.bay) self.new.site) }
+        ensures finds { (cell : StoredCell) (shelf : Shelf) → IsSeen cell → mounts_none cell line.now ≡ false → HoldsShelf cell line.now shelf → IsSite B.D.told (B.out self.old.bay) (B.has self.old.bay) cell self.old.site
+            → IfOk result (λ reply. Finds B.D.told (B.out self.new.bay) (B.has self.new.bay) cell shelf line.now reply (B.answered self.old.bay) (B.answered self.new.bay) self.new.site) }
         ensures posted { self.new.site.net.posted ≤ self.old.site.net.posted + 1 }
         ensures later { B.faults self.old.bay ≤ B.faults self.new.bay }
         ensures bay_cause { result ≡ Err CellFault.Bay → Rose (B.faults self.old.bay) (B.faults self.new.bay) }

@@ -6,6 +6,7 @@ pub mod Laws
 pub mod Resuming
 pub mod Seen
 pub mod Foreign
+pub mod Mounted
 pub mod Absent
 pub mod Makers
 pub mod Patient

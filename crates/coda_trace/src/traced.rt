@@ -9,10 +9,11 @@ ghost use Rattle.coda_stored.specs.Cells.{StoredCell, nothing_stored};
 ghost use Rattle.coda_stored.specs.Kept.{IsStoredKept};
 ghost use Rattle.coda_stored.specs.Seen.{mounts_none, IsSeen};
 ghost use Rattle.coda_stored.specs.Lines.{is_built, Happens, client_down, replica_down};
+ghost use Rattle.coda_stored.specs.Mounted.{Shelf, HoldsShelf};
 ghost use Rattle.coda_stored.specs.Resuming.{at_rest, Awaited, is_awaited, AreAwaited, MakeAllAgain};
 ghost use Rattle.coda_site.specs.Awaiting.{IsAwaiting, Resumes};
 ghost use Rattle.coda_site.specs.Sites.{IsSite, IsReady, IsClosable};
-ghost use Rattle.coda_site.specs.Steps.{Admits, Becomes, Mounts};
+ghost use Rattle.coda_site.specs.Steps.{Admits, Becomes, Mounts, Finds};
 ghost use Rattle.coda_site.specs.Totals.{IsCounted, IsFault, has_armed, total, totals};
 ghost use Rattle.coda_disk.specs.Bays.{plus};
 ghost use Rattle.coda_site.specs.Cells.{AreBlank, AreOnDisks};
@@ -97,6 +98,8 @@ impl<B: Bay> TracedCell<B> {
             → IfOk result (λ reply. Resumes B.D.told (B.out self.new.cell.bay) (B.has self.new.cell.bay) cell awaited left reply (B.answered self.old.cell.bay) (B.answered self.new.cell.bay) self.new.cell.site) }
         ensures mounts { (cell : StoredCell) → IsSeen cell → mounts_none cell line.now ≡ false → IsSite B.D.told (B.out self.old.cell.bay) (B.has self.old.cell.bay) cell self.old.cell.site
             → IfOk result (λ reply. Mounts B.D.told (B.out self.new.cell.bay) (B.has self.new.cell.bay) cell line.now reply (B.answered self.old.cell.bay) (B.answered self.new.cell.bay) self.new.cell.site) }
+        ensures finds { (cell : StoredCell) (shelf : Shelf) → IsSeen cell → mounts_none cell line.now ≡ false → HoldsShelf cell line.now shelf → IsSite B.D.told (B.out self.old.cell.bay) (B.has self.old.cell.bay) cell self.old.cell.site
+            → IfOk result (λ reply. Finds B.D.told (B.out self.new.cell.bay) (B.has self.new.cell.bay) cell shelf line.now reply (B.answered self.old.cell.bay) (B.answered self.new.cell.bay) self.new.cell.site) }
         ensures posted { self.new.cell.site.net.posted ≤ self.old.cell.site.net.posted + 1 }
         ensures later { B.faults self.old.cell.bay ≤ B.faults self.new.cell.bay }
         ensures bay_cause { result ≡ Err CellFault.Bay → Rose (B.faults self.old.cell.bay) (B.faults self.new.cell.bay) }

@@ -11,6 +11,7 @@ use Rattle.coda_script.specs.declared.line.Line.TheVariants as line
 use Rattle.coda_cell.specs.Refused.{AlreadyThere, CellFull}
 use Rattle.coda_stored.specs.Cells.{client_header}
 use Rattle.coda_stored.specs.Lines.{Happens, Opens, no_client, with_client}
+use Rattle.coda_stored.specs.Mounted.{ClientFinds}
 use Rattle.coda_stored.specs.Resuming.{ClientAgain}
 use Rattle.coda_site.specs.Awaiting.{Resumes}
 use Rattle.coda_site.specs.Sites.{is_client_disk, is_replica_disk, IsReady}
@@ -19,6 +20,7 @@ use Rattle.coda_site.proofs.Becomings.{becomes_as}
 use Rattle.coda_site.proofs.ClientLines.{stays_becomes}
 use Rattle.coda_site.proofs.ClientSites.{plain_clients}
 use Rattle.coda_site.proofs.Closing.{client_alone, out_over}
+use Rattle.coda_site.proofs.Finding.{client_finds}
 use Rattle.coda_site.proofs.Foreigners.{client_mounts}
 use Rattle.coda_site.proofs.Makes.{unless_none, with_clients_and_areas, unless_some, client_already, client_full, client_fits, clients_opened, none_there, no_room_left, room_left, few_areas}
 use Rattle.coda_site.proofs.MakingLines.{opens_client, client_is_made}
@@ -223,6 +225,53 @@ returns-after-is_made-clause-mounts g c = λ cell seen mounts is.
     let says = said_ok _ c.opened.result reply e c.opened.ensures.says in
     subst (λ (a : List (List ℕ)). Mounts told out1 has1 cell said reply before a c.if-is_made.site) (sym c.in-Ok.ensures.answered)
     (client_mounts told out out1 has has1 cell seen site is n blocks area none c.open.new.slots be mounting reply before (slot_at c.open.new.slots number) c.if-is_made.site says takes c.in-Ok.ensures.opened
+    (λ unmade. elim c.if-is_made.branch [
+      | then-is_made w ↦ absurd (false≢true (sym unmade ∙ sym c.is_made.ensures ∙ w.if-is_made.true))
+      | else-is_made w ↦ w.site-is
+    ])))
+
+pub returns-then-has_client-clause-finds : goal.returns-then-has_client-clause-finds
+returns-then-has_client-clause-finds g c = λ cell seen mounts is.
+    let n = c.args.client in
+    let there : is_some (cell.made.sizes n) ≡ true = sym (client_made g.B.D.Disk.told (g.B.Bay.out c.args.bay.now) (g.B.Bay.has c.args.bay.now) cell seen c.args.site.now is n c.has_client.ensures.disk) ∙ sym c.has_client.ensures.there ∙ c.if-has_client.true in
+    absurd (false≢true (sym mounts ∙ ap is_some (client_already cell n c.args.area there)))
+
+pub returns-then-site-from-gt-MOST_AREAS-clause-finds : goal.returns-then-site-from-gt-MOST_AREAS-clause-finds
+returns-then-site-from-gt-MOST_AREAS-clause-finds g c = λ cell seen mounts is.
+    let n = c.args.client in
+    let absent : is_some (cell.made.sizes n) ≡ false = sym (client_made g.B.D.Disk.told (g.B.Bay.out c.args.bay.now) (g.B.Bay.has c.args.bay.now) cell seen c.args.site.now is n c.has_client.ensures.disk) ∙ sym c.has_client.ensures.there ∙ c.if-has_client.false in
+    let full : nat_lt 512 (cell.areas + c.args.area) ≡ true = no_room_left c.args.site.now.areas cell.areas c.args.area c.from.result is.areas c.from.ensures c.if-site-from-gt-MOST_AREAS.true in
+    absurd (false≢true (sym mounts ∙ ap is_some (client_full cell n c.args.area absent full)))
+
+pub returns-after-is_made-clause-finds : goal.returns-after-is_made-clause-finds
+returns-after-is_made-clause-finds g c = λ cell seen mounts is.
+    let told = g.B.D.Disk.told in
+    let out = g.B.Bay.out c.args.bay.now in
+    let has = g.B.Bay.has c.args.bay.now in
+    let out1 = g.B.Bay.out c.open.new.bay in
+    let has1 = g.B.Bay.has c.open.new.bay in
+    let site = c.args.site.now in
+    let n = c.args.client in
+    let blocks = c.args.blocks in
+    let area = c.args.area in
+    let number = c.from-number.result in
+    let mounting = c.in-Ok.mounting in
+    let before = g.B.Bay.answered c.args.bay.now in
+    let absent : is_some (cell.made.sizes n) ≡ false = sym (client_made told out has cell seen site is n c.has_client.ensures.disk) ∙ sym c.has_client.ensures.there ∙ c.if-has_client.false in
+    let none = none_there (cell.made.sizes n) absent in
+    let own : is_client_disk number ≡ true = subst (λ (m : ℕ). is_client_disk m ≡ true) (sym c.from-number.ensures) c.has_client.ensures.disk in
+    let be = others_left is_replica_disk out out1 has has1 number (client_alone number own) c.in-Ok.ensures.others c.in-Ok.ensures.keeps in
+    let took = c.in-Ok.ensures.step is_client_disk (plain_clients cell) is.clients own in
+    let takes = subst (λ (m : ℕ). Takes (client_form told) told is_client_disk (plain_clients cell) m (OpenDeed (client_header n blocks area) mounting) out1 has1 c.open.new.slots) c.from-number.ensures
+    (subst (λ (h : Header). Takes (client_form told) told is_client_disk (plain_clients cell) number (OpenDeed h mounting) out1 has1 c.open.new.slots) c.client_header-header.ensures took) in
+    if_ok _ c.opened.result (λ reply e.
+    let says = said_ok _ c.opened.result reply e c.opened.ensures.says in
+    subst (λ (a : List (List ℕ)). Becomes told out1 has1 (ClientFinds cell n blocks area) reply before a c.if-is_made.site) (sym c.in-Ok.ensures.answered)
+    (client_finds told out out1 has has1 cell seen site is n blocks area none c.open.new.slots be mounting reply before (slot_at c.open.new.slots number) c.if-is_made.site says takes c.in-Ok.ensures.opened
+    (λ made. elim c.if-is_made.branch [
+      | then-is_made w ↦ w.site-is ∙ ap (λ (a : ℕ). with_clients_and_areas site c.open.new.slots (site.areas + a)) w.from-then-is_made.ensures
+      | else-is_made w ↦ absurd (false≢true (sym w.if-is_made.false ∙ c.is_made.ensures ∙ made))
+    ])
     (λ unmade. elim c.if-is_made.branch [
       | then-is_made w ↦ absurd (false≢true (sym unmade ∙ sym c.is_made.ensures ∙ w.if-is_made.true))
       | else-is_made w ↦ w.site-is

@@ -1,4 +1,4 @@
-use Rattle.std.proofs.Common.{◌≡◌, ◌+◌, ◌≤◌, ◌<◌, ◌==◌, ℕ, List, true, false, cond, length, Some, sym, ap, subst, ◌∙◌, arith}
+use Rattle.std.proofs.Common.{◌≡◌, ◌≢◌, ◌⊎◌, ◌+◌, ◌≤◌, ◌<◌, ◌==◌, ℕ, List, true, false, cond, length, Some, None, sym, ap, subst, ◌∙◌, arith}
 use Rattle.std.proofs.lemmas.Bool.{false≢true}
 use Rattle.std.specs.Prelude.{nat_lt, nat_le, ◌||◌, is_some}
 use Rattle.coda_journal.specs.declared.header.Header.{Header}
@@ -12,7 +12,8 @@ use Rattle.coda_script.specs.declared.line.Line.TheVariants as line
 use Rattle.coda_script.specs.declared.reply.Reply.{Reply}
 use Rattle.coda_cell.specs.Refused.{AlreadyThere, CellFull}
 use Rattle.coda_stored.specs.Cells.{replica_header, disk_number}
-use Rattle.coda_stored.specs.Lines.{MakesVolume, Opens, no_volume, with_volume}
+use Rattle.coda_stored.specs.Lines.{MakesVolume, Opens, refused_fault, no_volume, with_volume}
+use Rattle.coda_stored.specs.Mounted.{VolumeFinds}
 use Rattle.coda_stored.specs.Resuming.{VolumeAgain}
 use Rattle.coda_site.specs.Awaiting.{Resumes}
 use Rattle.coda_site.specs.Makings.{SaysOpened}
@@ -22,11 +23,13 @@ use Rattle.coda_site.specs.declared.site.Place.{Place}
 use Rattle.coda_site.proofs.Becomings.{becomes_as}
 use Rattle.coda_site.proofs.ClientLines.{stays_becomes}
 use Rattle.coda_site.proofs.Closing.{replica_alone, out_over}
+use Rattle.coda_site.proofs.Finding.{volume_finds}
 use Rattle.coda_site.proofs.Foreigners.{IsAsBefore, place_back, volume_mounts}
 use Rattle.coda_site.proofs.Makes.{unless_none, unless_some, volume_already, volume_full, volume_fits, none_there, no_room_left, room_left, few_areas, many_volumes, full_of_areas, has_room, replica_number, volume_opened, volume_forgotten, forgotten_place, next_unmade}
 use Rattle.coda_site.proofs.ResumedVolumes.{volume_absent, resume_volume, replica_made_again}
 use Rattle.coda_site.proofs.Stages.{if_ok, said_ok}
-use Rattle.coda_site.proofs.VolumeLines.{some_home, IsNoted, opens_volume, replica_is_made}
+use Rattle.coda_site.proofs.NotedVolumes.{some_home, IsNoted}
+use Rattle.coda_site.proofs.VolumeLines.{opens_volume, replica_is_made}
 use Rattle.coda_site.proofs.making.make_volume.Goals.{then-is_made, else-is_made, then-len-ge-MOST_VOLUMES-via-then-len-ge-MOST_VOLUMES, then-len-ge-MOST_VOLUMES-via-else-len-ge-MOST_VOLUMES+then-site-from-gt-MOST_AREAS}
 use Rattle.coda_site.proofs.Counting.{replica_opened, same_slots}
 use Rattle.coda_site.specs.Totals.{Counts, IsCounted, IsFault, totals}
@@ -328,6 +331,84 @@ returns-after-is_made-clause-mounts g c = λ cell servers same seen mounts is.
     let says = said_ok (λ (said : Reply). SaysOpened mounting said) c.opened.result reply e c.opened.ensures.says in
     subst (λ (a : List (List ℕ)). Mounts told out1 has1 cell said reply before a c.if-is_made.site) (sym c.in-Ok.ensures.answered)
     (volume_mounts told out out1 has has1 cell seen site is c.requires.ready volume server area c.open.new.slots be servers same mounting reply before (slot_at c.open.new.slots number) c.if-is_made.site says takes c.in-Ok.ensures.opened
+    (λ unmade. elim c.if-is_made.branch [
+      | then-is_made w ↦ absurd (false≢true (sym unmade ∙ sym c.is_made.ensures ∙ w.if-is_made.true))
+      | else-is_made w ↦ (
+          let gone = w.forget.ensures in
+          subst (IsAsBefore site c.open.new.slots) (sym w.site-is) (record {
+            servers = gone.servers site.servers.items server told_of.servers;
+            places = λ k. gone.places k ∙ forgotten_place (k == volume) (Some (record { server = server; disk = number })) (place_in site k) (place_in noted k) (noted_places k) ∙ place_back site volume none k;
+            clock = ap (λ s. s.clock) gone.others ∙ ap (λ s. s.clock) told_of.others;
+            areas = ap (λ s. s.areas) gone.others ∙ ap (λ s. s.areas) told_of.others;
+            clients = ap (λ s. s.clients) gone.others ∙ ap (λ s. s.clients) told_of.others;
+            replicas = ap (λ s. s.replicas) gone.others;
+            net = ap (λ s. s.net) gone.others ∙ ap (λ s. s.net) told_of.others;
+          }))
+    ])))
+
+pub returns-then-contains_key-clause-finds : goal.returns-then-contains_key-clause-finds
+returns-then-contains_key-clause-finds g c = λ cell shelf seen mounts shelved is.
+    let volume = c.args.volume in
+    let there : is_some (cell.made.homes volume) ≡ true = ap is_some (is.homes volume) ∙ some_home (place_in c.args.site.now volume) ∙ sym c.if-contains_key.ensures in
+    absurd (false≢true (sym mounts ∙ ap is_some (volume_already cell volume c.args.area there)))
+
+pub returns-then-len-ge-MOST_VOLUMES-clause-finds : goal.returns-then-len-ge-MOST_VOLUMES-clause-finds
+returns-then-len-ge-MOST_VOLUMES-clause-finds g c = λ cell shelf seen mounts shelved is.
+    let volume = c.args.volume in
+    let area = c.args.area in
+    let site = c.args.site.now in
+    let absent : is_some (cell.made.homes volume) ≡ false = ap is_some (is.homes volume) ∙ some_home (place_in site volume) ∙ sym c.if-contains_key.ensures in
+    let many : length cell.made.servers ≡ c.len.result = ap length is.servers ∙ sym site.servers.ok.0 ∙ sym c.len.ensures in
+    let full : (nat_le 64 (length cell.made.servers) || nat_lt 512 (cell.areas + area)) ≡ true = elim c.then-len-ge-MOST_VOLUMES.branch [
+      | then-len-ge-MOST_VOLUMES-via-then-len-ge-MOST_VOLUMES w ↦ many_volumes (length cell.made.servers) c.len.result (nat_lt 512 (cell.areas + area)) many w.if-len-ge-MOST_VOLUMES.true
+      | then-len-ge-MOST_VOLUMES-via-else-len-ge-MOST_VOLUMES+then-site-from-gt-MOST_AREAS w ↦ full_of_areas (nat_le 64 (length cell.made.servers)) (nat_lt 512 (cell.areas + area)) (no_room_left site.areas cell.areas area w.from.result is.areas w.from.ensures w.if-site-from-gt-MOST_AREAS.true)
+    ] in
+    absurd (false≢true (sym mounts ∙ ap is_some (volume_full cell volume area absent full)))
+
+pub returns-after-is_made-clause-finds : goal.returns-after-is_made-clause-finds
+returns-after-is_made-clause-finds g c = λ cell shelf seen mounts shelved is.
+    let told = g.B.D.Disk.told in
+    let out = g.B.Bay.out c.args.bay.now in
+    let has = g.B.Bay.has c.args.bay.now in
+    let out1 = g.B.Bay.out c.open.new.bay in
+    let has1 = g.B.Bay.has c.open.new.bay in
+    let site = c.args.site.now in
+    let volume = c.args.volume in
+    let server = c.args.server in
+    let area = c.args.area in
+    let number = c.disk_number-disk.result in
+    let mounting = c.in-Ok.mounting in
+    let before = g.B.Bay.answered c.args.bay.now in
+    let noted = c.note.new.site in
+    let told_of = c.in_ok-note.ensures in
+    let disk : ℕ = disk_number (length cell.made.servers) server in
+    let number_is : number ≡ disk = c.disk_number-disk.ensures ∙ ap (λ (m : ℕ). disk_number m server) (c.len-2.ensures ∙ site.servers.ok.0) ∙ ap (λ (l : List ℕ). disk_number (length l) server) (sym is.servers) in
+    let own : is_replica_disk number ≡ true = subst (λ (m : ℕ). is_replica_disk m ≡ true) (sym number_is) (replica_number (length cell.made.servers) server) in
+    let be = others_left is_client_disk out out1 has has1 number (replica_alone number own) c.in-Ok.ensures.others c.in-Ok.ensures.keeps in
+    let replicas : noted.replicas ≡ site.replicas = ap (λ s. s.replicas) told_of.others in
+    let plain = is.replicas.0 in
+    let took = c.in-Ok.ensures.step is_replica_disk plain (subst (λ r. FitsAll (replica_form told) told is_replica_disk out has r plain) (sym replicas) is.replicas.2) own in
+    let takes = subst (λ (m : ℕ). Takes (replica_form told) told is_replica_disk plain m (OpenDeed (replica_header volume server area) mounting) out1 has1 c.open.new.slots) number_is
+    (subst (λ (h : Header). Takes (replica_form told) told is_replica_disk plain number (OpenDeed h mounting) out1 has1 c.open.new.slots) c.replica_header-header.ensures took) in
+    let none = none_there (place_in site volume) (sym c.if-contains_key.ensures) in
+    let absent : cell.made.homes volume ≡ None = none_there (cell.made.homes volume) (ap is_some (is.homes volume) ∙ some_home (place_in site volume) ∙ sym c.if-contains_key.ensures) in
+    let noted_places : (k : ℕ) → place_in noted k ≡ cond (k == volume) (Some (record { server = server; disk = number })) (place_in site k) = told_of.places in
+    let is_noted : IsNoted site volume (record { server = server; disk = disk }) noted = record {
+      servers = told_of.servers;
+      places = λ k. told_of.places k ∙ ap (λ (m : ℕ). cond (k == volume) (Some (record { server = server; disk = m })) (place_in site k)) number_is;
+      clock = ap (λ s. s.clock) told_of.others;
+      areas = ap (λ s. s.areas) told_of.others;
+      clients = ap (λ s. s.clients) told_of.others;
+      net = ap (λ s. s.net) told_of.others;
+    } in
+    if_ok _ c.opened.result (λ reply e.
+    let says = said_ok (λ (said : Reply). SaysOpened mounting said) c.opened.result reply e c.opened.ensures.says in
+    subst (λ (a : List (List ℕ)). Becomes told out1 has1 (VolumeFinds cell shelf volume server area) reply before a c.if-is_made.site ⊎ ((shelf.volume ≢ volume) × (reply ≡ refused_fault))) (sym c.in-Ok.ensures.answered)
+    (volume_finds told out out1 has has1 cell seen site is c.requires.ready volume server area absent shelf shelved c.open.new.slots be noted is_noted mounting reply before (slot_at c.open.new.slots number) c.if-is_made.site says takes c.in-Ok.ensures.opened
+    (λ made. elim c.if-is_made.branch [
+      | then-is_made w ↦ w.site-is ∙ ap (λ (a : ℕ). record noted { replicas = c.open.new.slots; areas = noted.areas + a }) w.from-then-is_made.ensures
+      | else-is_made w ↦ absurd (false≢true (sym w.if-is_made.false ∙ c.is_made.ensures ∙ made))
+    ])
     (λ unmade. elim c.if-is_made.branch [
       | then-is_made w ↦ absurd (false≢true (sym unmade ∙ sym c.is_made.ensures ∙ w.if-is_made.true))
       | else-is_made w ↦ (

@@ -1,0 +1,253 @@
+-- What lines that make actors leave on the disks that they find.
+use Rattle.std.proofs.Common.{◌≡◌, ◌≢◌, inl, inr, ◌⊎◌, ℕ, suc, ◌+◌, ◌==◌, ◌&&◌, Bool, true, false, cond, List, [], ◌∷◌, append-nil, length, Option, Some, None, option_map, refl, sym, ap, subst, ◌∙◌}
+use Rattle.std.proofs.lemmas.Bool.{cases_eq, eq-eqb, ne_eqb, and_right}
+use Rattle.std.proofs.lemmas.List.{length-map}
+use Rattle.std.specs.BTreeMap.{BTreeMap}
+use Rattle.coda_disk.specs.Told.{Told}
+use Rattle.coda_journal.specs.declared.header.Header.{Header}
+use Rattle.coda_actors.specs.Clients.{client_form}
+use Rattle.coda_actors.specs.Plain.{PlainActor, Step, Joins, HasOther, Opens as OpenDeed}
+use Rattle.coda_actors.specs.Replicas.{replica_form}
+use Rattle.coda_actors.specs.Slots.{is_made, IsOpened}
+use Rattle.coda_actors.specs.declared.slot.Mounting.{Mounting}
+use Rattle.coda_actors.specs.declared.slot.Mounting.TheVariants.{Entries, Foreign, DiskFault, Memory}
+use Rattle.coda_actors.specs.declared.slot.Slot.{Slot}
+use Rattle.coda_crew.specs.Crews.{FitsAll, Takes, LeavesBe}
+use Rattle.coda_plain.specs.Cell.{ClientEntry, Actor}
+use Rattle.coda_plain.specs.Decisions.{ReplicaEntry}
+use Rattle.coda_plain.specs.Moves.{crashed, recovered}
+use Rattle.coda_record.specs.declared.entry.ReplicaEntry.{ReplicaEntry as KeptEntry}
+use Rattle.coda_replica.specs.declared.replica.Replica.{Replica}
+use Rattle.coda_script.specs.declared.line.Line.{Line}
+use Rattle.coda_script.specs.declared.line.Line.TheVariants as line
+use Rattle.coda_script.specs.declared.reply.Reply.{Reply}
+use Rattle.coda_script.specs.declared.reply.Reply.TheVariants.{Opened}
+use Rattle.coda_cell.specs.Steps.{alone}
+use Rattle.coda_matching.specs.Clients.{payload_by, journal_by}
+use Rattle.coda_matching.specs.Replicas.{journal_at}
+use Rattle.coda_venus.specs.History.{Payload}
+use Rattle.coda_venus.specs.declared.venus.Venus.{Venus}
+use Rattle.coda_stored.specs.Cells.{StoredCell, plain_client, plain_replica, client_header, replica_header, disk_number}
+use Rattle.coda_stored.specs.Lines.{refused_fault}
+use Rattle.coda_stored.specs.Mounted.{Shelf, plain_shelf, IsShelved, asking, with_replica_as, making_client, making_volume, ClientFinds, VolumeFinds}
+use Rattle.coda_stored.specs.Seen.{IsSeen}
+use Rattle.coda_site.specs.Makings.{SaysOpened}
+use Rattle.coda_site.specs.Sites.{is_client_disk, is_replica_disk, place_in, IsReady, IsSite}
+use Rattle.coda_site.specs.Steps.{Becomes}
+use Rattle.coda_site.specs.declared.site.Place.{Place}
+use Rattle.coda_site.specs.declared.site.Site.{Site}
+use Rattle.coda_site.proofs.ClientLines.{client_site, found_by, nil_mapped}
+use Rattle.coda_site.proofs.ClientSites.{with_clients, plain_clients}
+use Rattle.coda_site.proofs.Foreigners.{IsAsBefore, foreign_client_site, foreign_volume_site, apart, idle_is}
+use Rattle.coda_site.proofs.Makes.{up_made}
+use Rattle.coda_site.proofs.MakingLines.{with_client_area}
+use Rattle.coda_site.proofs.NotedVolumes.{IsNoted, made_site}
+use Rattle.coda_site.proofs.ReplicaLines.{kept_long, found_at, joined_in}
+use Rattle.coda_site.proofs.ReplicaSites.{ruler_here}
+
+-- ---- clients
+
+module _ {D : Type 0} (told : D → Told) (out out1 : ℕ → Bool) (has has1 : ℕ → Told) (cell : StoredCell) (seen : IsSeen cell) (site : Site D) (is : IsSite told out has cell site) (n blocks area : ℕ) (absent : cell.made.sizes n ≡ None)
+    (slots : BTreeMap ℕ (Slot (Venus D) D)) (be : LeavesBe is_replica_disk out out1 has has1) where
+  abbrev header : Header
+  header = client_header n blocks area
+
+  abbrev actor : Actor ClientEntry
+  actor = cell.made.acted.clients n
+
+  abbrev given : Option Header
+  given = (cell.clients n).given
+
+  abbrev Opening : Mounting → Type 0
+  Opening mounting = Takes (client_form told) told is_client_disk (plain_clients cell) n (OpenDeed header mounting) out1 has1 slots
+
+  -- the client that was made is this one, on a disk with this header
+  made_client : (next : Actor ClientEntry) (has_now : Option Header) (new : ℕ → PlainActor Payload) → FitsAll (client_form told) told is_client_disk out1 has1 slots new → new n ≡ plain_client next (asking header has_now)
+      → ((k : ℕ) → k ≢ n → new k ≡ plain_clients cell k) → IsSite told out1 has1 (making_client cell n blocks area next has_now) (with_client_area site slots area)
+  made_client next has_now new fits here else =
+      let s = client_site told out out1 has has1 cell site n next (asking header has_now) slots new is be fits here else in
+      record {
+        clock = s.clock;
+        servers = s.servers;
+        homes = s.homes;
+        places = s.places;
+        areas = ap (λ (a : ℕ). a + area) is.areas;
+        clients = s.clients;
+        replicas = (s.replicas.0, record { placed = s.replicas.1.placed; others = s.replicas.1.others }, s.replicas.2);
+        net = s.net;
+      }
+
+  pub client_finds : (mounting : Mounting) (reply : Reply) (answered : List (List ℕ)) (slot : Slot (Venus D) D) (new : Site D) → SaysOpened mounting reply → Opening mounting → IsOpened (client_form told) mounting slot
+      → (is_made slot ≡ true → new ≡ with_client_area site slots area) → (is_made slot ≡ false → new ≡ with_clients site slots) → Becomes told out1 has1 (ClientFinds cell n blocks area) reply answered answered new
+  client_finds (Entries count) reply answered slot new says takes opened made unmade =
+      let step = takes.1.0 in
+      let joined = step.1.0 in
+      let found = found_by header given actor (takes.0 n).disk joined in
+      let next = recovered found.0 actor in
+      let here : takes.0 n ≡ plain_client next (asking header (Some header)) = λ i. record {
+        disk = record { header = joined.given i; history = found.1 i; failed = joined.failed i };
+        life = step.2 i;
+        left = step.3 i;
+      } in
+      let own : (given ≡ Some header) ⊎ (next.history ≡ []) = elim joined.was [ inl same ↦ inl same | inr none ↦ inr (nil_mapped payload_by next.history (sym found.1 ∙ none.1)) ] in
+      let many : count ≡ length next.history = step.1.1 ∙ ap length found.1 ∙ length-map next.history payload_by in
+      record {
+        outside = [];
+        left = making_client cell n blocks area next (Some header);
+        happens = inr (inl (found.0, own, says ∙ ap (λ (m : ℕ). Opened (m ∷ [])) many, refl, refl));
+        answered = sym (append-nil answered);
+        stands = subst (IsSite told out1 has1 (making_client cell n blocks area next (Some header))) (sym (made (up_made (client_form told) slot opened))) (made_client next (Some header) takes.0 takes.2 here takes.1.1);
+      }
+  client_finds DiskFault reply answered slot new says takes opened made unmade =
+      let step = takes.1.0 in
+      elim step.1 [
+        | inl same ↦ (
+            let next = crashed actor in
+            let here : takes.0 n ≡ plain_client next (asking header given) = λ i. record { disk = same i; life = step.2 i; left = step.3 i } in
+            record {
+              outside = [];
+              left = making_client cell n blocks area next given;
+              happens = inr (inr (inl (says, refl, refl)));
+              answered = sym (append-nil answered);
+              stands = subst (IsSite told out1 has1 (making_client cell n blocks area next given)) (sym (made opened.0)) (made_client next given takes.0 takes.2 here takes.1.1);
+            })
+        | inr fresh ↦ (
+            let next = crashed (recovered false actor) in
+            let here : takes.0 n ≡ plain_client next (asking header (Some header)) = λ i. record {
+              disk = (fresh.1 ∙ (λ j. record { header = Some header; history = sym fresh.0 j; failed = None })) i;
+              life = step.2 i;
+              left = step.3 i;
+            } in
+            record {
+              outside = [];
+              left = making_client cell n blocks area next (Some header);
+              happens = inr (inr (inr (nil_mapped payload_by actor.history fresh.0, says, refl, refl)));
+              answered = sym (append-nil answered);
+              stands = subst (IsSite told out1 has1 (making_client cell n blocks area next (Some header))) (sym (made opened.0)) (made_client next (Some header) takes.0 takes.2 here takes.1.1);
+            })
+      ]
+  client_finds (Foreign at) reply answered slot new says takes opened made unmade = record {
+    outside = [];
+    left = cell;
+    happens = inl (at, takes.1.0.1.0, says, refl, refl);
+    answered = sym (append-nil answered);
+    stands = subst (IsSite told out1 has1 cell) (sym (unmade opened)) (foreign_client_site told out out1 has has1 cell seen site is n blocks area absent slots be at takes);
+  }
+  client_finds Memory reply answered slot new says takes opened made unmade = absurd says
+
+-- ---- volumes
+
+nil_by_length : {A : Type 0} (l : List A) → length l ≡ 0 → l ≡ []
+nil_by_length [] none = refl
+nil_by_length (a ∷ l) none = (let no : suc (length l) ≡ 0 = none in cc)
+
+module _ {D : Type 0} (told : D → Told) (out out1 : ℕ → Bool) (has has1 : ℕ → Told) (cell : StoredCell) (seen : IsSeen cell) (site : Site D) (is : IsSite told out has cell site) (ready : IsReady told out site) (volume server area : ℕ)
+    (absent : cell.made.homes volume ≡ None) (shelf : Shelf) (shelved : IsShelved cell server shelf) (slots : BTreeMap ℕ (Slot (Replica D) D)) (be : LeavesBe is_client_disk out out1 has has1) (noted : Site D) where
+  abbrev asked : Header
+  asked = replica_header volume server area
+
+  abbrev disk : ℕ
+  disk = disk_number (length cell.made.servers) server
+
+  abbrev plain : ℕ → PlainActor KeptEntry
+  plain = is.replicas.0
+
+  abbrev held : Actor ReplicaEntry
+  held = shelf.actor
+
+  old_is : plain disk ≡ plain_shelf shelf
+  old_is = idle_is told out out1 has has1 cell seen site is ready volume server area slots be ∙ shelved.there
+
+  module _ (is_noted : IsNoted site volume (record { server = server; disk = disk }) noted) where
+    made_volume : (next : Actor ReplicaEntry) (given : Option Header) (new : ℕ → PlainActor KeptEntry) → FitsAll (replica_form told) told is_replica_disk out1 has1 slots new → new disk ≡ plain_replica volume next (asking asked given)
+        → ((k : ℕ) → k ≢ disk → new k ≡ plain k) → IsSite told out1 has1 (making_volume cell volume server area next given) (record noted { replicas = slots; areas = noted.areas + area })
+    made_volume next given new fits at else =
+        made_site told out out1 has has1 cell site is volume server area absent slots be noted (apart told out out1 has has1 cell seen site is ready volume server area slots be) is_noted (asking asked given) next
+        (with_replica_as cell server volume next).made.acted.replicas new (ruler_here cell server volume next)
+        (λ s v other. λ i. cond (and_right (s == server) (v == volume) (ne_eqb v volume other) i) next (cell.made.acted.replicas s v)) fits at else
+
+    abbrev Opening : Mounting → Type 0
+    Opening mounting = Takes (replica_form told) told is_replica_disk plain disk (OpenDeed asked mounting) out1 has1 slots
+
+    -- what it finds, or that the disk of another volume failed
+    abbrev Found : Reply → List (List ℕ) → Site D → Type 0
+    Found reply answered new = Becomes told out1 has1 (VolumeFinds cell shelf volume server area) reply answered answered new ⊎ ((shelf.volume ≢ volume) × (reply ≡ refused_fault))
+
+    step_of : (mounting : Mounting) (new : PlainActor KeptEntry) → Step (replica_form told) (plain disk) (OpenDeed asked mounting) new → Step (replica_form told) (plain_shelf shelf) (OpenDeed asked mounting) new
+    step_of mounting new step = subst (λ (p : PlainActor KeptEntry). Step (replica_form told) p (OpenDeed asked mounting) new) old_is step
+
+    entries_found : (count : ℕ) (reply : Reply) (answered : List (List ℕ)) (new : Site D) → SaysOpened (Entries count) reply → Opening (Entries count) → new ≡ record noted { replicas = slots; areas = noted.areas + area } → Found reply answered new
+    entries_found count reply answered new says takes made =
+        let step = step_of (Entries count) (takes.0 disk) takes.1.0 in
+        let joined = step.1.0 in
+        let found = found_at asked shelf.volume shelf.given held (takes.0 disk).disk joined in
+        let next = recovered found.0 held in
+        let alone_in = λ e i. joined_in held found.0 e shelved.alone i in
+        let long = kept_long shelf.volume [] next.history alone_in in
+        let own : ((shelf.given ≡ Some asked) × (volume ≡ shelf.volume)) ⊎ (next.history ≡ []) = elim joined.was [
+          | inl same ↦ inl (same, shelved.named asked same)
+          | inr none ↦ inr (nil_by_length next.history (sym long ∙ ap length (sym found.1 ∙ none.1)))
+        ] in
+        let journal : (takes.0 disk).disk.history ≡ journal_at volume next.history = found.1 ∙ (elim own [
+          | inl same ↦ ap (λ (v : ℕ). journal_at v next.history) (sym same.1)
+          | inr none ↦ ap (journal_at shelf.volume) none ∙ sym (ap (journal_at volume) none)
+        ]) in
+        let at : takes.0 disk ≡ plain_replica volume next (asking asked (Some asked)) = λ i. record { disk = record { header = joined.given i; history = journal i; failed = joined.failed i }; life = step.2 i; left = step.3 i } in
+        inl (record {
+          outside = [];
+          left = making_volume cell volume server area next (Some asked);
+          happens = inr (inl (found.0, (elim own [ inl same ↦ inl same.0 | inr none ↦ inr none ]), says ∙ ap (λ (m : ℕ). Opened (m ∷ [])) (step.1.1 ∙ ap length found.1 ∙ long), refl, refl));
+          answered = sym (append-nil answered);
+          stands = subst (IsSite told out1 has1 (making_volume cell volume server area next (Some asked))) (sym made) (made_volume next (Some asked) takes.0 takes.2 at takes.1.1);
+        })
+
+    fault_found : (reply : Reply) (answered : List (List ℕ)) (new : Site D) → SaysOpened DiskFault reply → Opening DiskFault → new ≡ record noted { replicas = slots; areas = noted.areas + area } → Found reply answered new
+    fault_found reply answered new says takes made =
+        let step = step_of DiskFault (takes.0 disk) takes.1.0 in
+        elim step.1 [
+          | inl same ↦ (elim (cases_eq shelf.volume volume) [
+              | inl own ↦ (
+                  let next = crashed held in
+                  let at : takes.0 disk ≡ plain_replica volume next (asking asked shelf.given) = λ i. record {
+                    disk = (same ∙ ap (λ (v : ℕ). (plain_replica v next (asking asked shelf.given)).disk) own) i;
+                    life = step.2 i;
+                    left = step.3 i;
+                  } in
+                  inl (record {
+                    outside = [];
+                    left = making_volume cell volume server area next shelf.given;
+                    happens = inr (inr (inl (says, refl, refl)));
+                    answered = sym (append-nil answered);
+                    stands = subst (IsSite told out1 has1 (making_volume cell volume server area next shelf.given)) (sym made) (made_volume next shelf.given takes.0 takes.2 at takes.1.1);
+                  }))
+              | inr other ↦ inr (other, says)
+            ])
+          | inr fresh ↦ (
+              let next = crashed (recovered false held) in
+              let none : held.history ≡ [] = nil_by_length held.history (sym (kept_long shelf.volume [] held.history (λ e i. joined_in held false e shelved.alone i)) ∙ ap length fresh.0) in
+              let at : takes.0 disk ≡ plain_replica volume next (asking asked (Some asked)) = λ i. record {
+                disk = (fresh.1 ∙ (λ j. record { header = Some asked; history = sym (ap (journal_at volume) none) j; failed = None })) i;
+                life = step.2 i;
+                left = step.3 i;
+              } in
+              inl (record {
+                outside = [];
+                left = making_volume cell volume server area next (Some asked);
+                happens = inr (inr (inr (none, says, refl, refl)));
+                answered = sym (append-nil answered);
+                stands = subst (IsSite told out1 has1 (making_volume cell volume server area next (Some asked))) (sym made) (made_volume next (Some asked) takes.0 takes.2 at takes.1.1);
+              }))
+        ]
+
+    pub volume_finds : (mounting : Mounting) (reply : Reply) (answered : List (List ℕ)) (slot : Slot (Replica D) D) (new : Site D) → SaysOpened mounting reply → Opening mounting → IsOpened (replica_form told) mounting slot
+        → (is_made slot ≡ true → new ≡ record noted { replicas = slots; areas = noted.areas + area }) → (is_made slot ≡ false → IsAsBefore site slots new) → Found reply answered new
+    volume_finds (Entries count) reply answered slot new says takes opened made unmade = entries_found count reply answered new says takes (made (up_made (replica_form told) slot opened))
+    volume_finds DiskFault reply answered slot new says takes opened made unmade = fault_found reply answered new says takes (made opened.0)
+    volume_finds (Foreign at) reply answered slot new says takes opened made unmade = inl (record {
+      outside = [];
+      left = cell;
+      happens = inl (at, (step_of (Foreign at) (takes.0 disk) takes.1.0).1.0, says, refl, refl);
+      answered = sym (append-nil answered);
+      stands = foreign_volume_site told out out1 has has1 cell seen site is ready volume server area slots be at takes new (unmade opened);
+    })
+    volume_finds Memory reply answered slot new says takes opened made unmade = absurd says

@@ -1,0 +1,113 @@
+-- What a line that makes an actor does on the disk that it finds, whoever's that is.
+use Rattle.std.specs.Prelude.{◌≡◌, ◌≢◌, ◌⊎◌, ℕ, Bool, true, false, List, [], ◌∷◌, length, Option, Some, None}
+use Rattle.coda_actors.specs.Plain.{PlainActor, HasOther}
+use Rattle.coda_journal.specs.declared.header.Header.{Header}
+use Rattle.coda_plain.specs.Cell.{ClientEntry, Actor, found}
+use Rattle.coda_plain.specs.Decisions.{ReplicaEntry}
+use Rattle.coda_plain.specs.Histories.{In}
+use Rattle.coda_plain.specs.Moves.{crashed, recovered}
+use Rattle.coda_plain.specs.Moves as plain
+use Rattle.coda_record.specs.declared.entry.ReplicaEntry.{ReplicaEntry as KeptEntry}
+use Rattle.coda_script.specs.declared.line.Line.{Line}
+use Rattle.coda_script.specs.declared.line.Line.TheVariants as line
+use Rattle.coda_script.specs.declared.reply.Reply.{Reply}
+use Rattle.coda_script.specs.declared.reply.Reply.TheVariants.{Opened}
+use Rattle.coda_cell.specs.Steps.{alone}
+use Rattle.coda_matching.specs.Replicas.{IsDecision}
+use Rattle.coda_stored.specs.Cells.{Side, StoredCell, client_header, replica_header, disk_number, plain_replica}
+use Rattle.coda_stored.specs.Foreign.{refused_foreign}
+use Rattle.coda_stored.specs.Lines.{area_of, refused_fault, Becoming, with_client, with_volume}
+
+-- ---- disks of replicas
+
+-- What a disk holds that is of no volume that was made: the header that it was last given, if any, and the history of a volume's replica, with the
+-- entry whose append failed.
+pub record Shelf : Type 0 where
+  pub volume : ℕ
+  pub given : Option Header
+  pub actor : Actor ReplicaEntry
+
+-- as the disk has it, and nobody asks for it
+abbrev pub plain_shelf : Shelf → PlainActor KeptEntry
+plain_shelf shelf = plain_replica shelf.volume shelf.actor (record { given = shelf.given; asked = None; left = None })
+
+-- The disk of the volume that is made next on this server holds this: decisions of the volume that its header names.
+pub record IsShelved (cell : StoredCell) (server : ℕ) (shelf : Shelf) : Type 0 where
+  pub there : cell.idle (disk_number (length cell.made.servers) server) ≡ plain_shelf shelf
+  pub named : (header : Header) → shelf.given ≡ Some header → header.number ≡ shelf.volume
+  pub alone : (entry : ReplicaEntry) → In entry (found true shelf.actor) → IsDecision entry
+
+-- ---- how it ends
+
+-- a reply, and the cell behind it; the bay answers no image
+abbrev pub LeavesCell : StoredCell → Reply → Becoming
+LeavesCell left said reply outside new = (reply ≡ said) × (outside ≡ []) × (new ≡ left)
+
+-- The disk was given another header than the one that is asked for: the line is refused for the first place at which they differ, and nothing changes.
+abbrev pub IsRefusedFor : Header → Option Header → StoredCell → Becoming
+IsRefusedFor header given old reply outside new = (at : ℕ) × HasOther header given at × LeavesCell old (refused_foreign at) reply outside new
+
+-- a cell in which an actor was made, by what it is then and the header that its disk has
+abbrev pub Making : Type 0 → Type 0
+Making E = Actor E → Option Header → StoredCell
+
+-- The disk was given the header that is asked for, or nothing is found on it: the actor is up, with the history of its disk, or that one with the entry whose
+-- append failed, and the reply counts it.
+abbrev pub IsFound : {E : Type 0} → Header → Option Header → Actor E → Making E → Becoming
+IsFound header given actor make reply outside new =
+    (joins : Bool) × ((given ≡ Some header) ⊎ ((recovered joins actor).history ≡ []))
+    × LeavesCell (make (recovered joins actor) (Some header)) (Opened (length (recovered joins actor).history ∷ [])) reply outside new
+
+-- A call of the disk failed, and the actor is down. The disk is as it was; or it held no entries, and was given the header.
+abbrev pub IsFaulty : {E : Type 0} → Header → Option Header → Actor E → Making E → Becoming
+IsFaulty header given actor make reply outside new =
+    LeavesCell (make (crashed actor) given) refused_fault reply outside new
+    ⊎ ((actor.history ≡ []) × LeavesCell (make (crashed (recovered false actor)) (Some header)) refused_fault reply outside new)
+
+-- a disk that holds this history, under a header that it was given, is mounted under another for an actor that is made
+abbrev pub FindsDisk : {E : Type 0} → Header → Option Header → Actor E → Making E → StoredCell → Becoming
+FindsDisk header given actor make old reply outside new =
+    IsRefusedFor header given old reply outside new ⊎ (IsFound header given actor make reply outside new ⊎ IsFaulty header given actor make reply outside new)
+
+-- ---- lines
+
+-- what is known of the disk of an actor that was made
+abbrev pub asking : Header → Option Header → Side
+asking header given = record { given = given; asked = Some header; left = None }
+
+-- a cell with another client of a number, or another replica of a volume at a server
+abbrev pub with_client_as : StoredCell → ℕ → Actor ClientEntry → StoredCell
+with_client_as cell client actor = record cell { made = record cell.made { acted = plain.with_client cell.made.acted client actor } }
+
+abbrev pub with_replica_as : StoredCell → ℕ → ℕ → Actor ReplicaEntry → StoredCell
+with_replica_as cell server volume actor = record cell { made = record cell.made { acted = plain.with_replica cell.made.acted server volume actor } }
+
+abbrev pub making_client : StoredCell → ℕ → ℕ → ℕ → Making ClientEntry
+making_client cell client blocks area actor given = with_client (with_client_as cell client actor) client blocks area (asking (client_header client blocks area) given)
+
+abbrev pub making_volume : StoredCell → ℕ → ℕ → ℕ → Making ReplicaEntry
+making_volume cell volume server area actor given = with_volume (with_replica_as cell server volume actor) volume server area (asking (replica_header volume server area) given)
+
+-- A client is made on its disk, which may hold the history of one that was made before.
+abbrev pub ClientFinds : StoredCell → ℕ → ℕ → ℕ → Becoming
+ClientFinds old client blocks area = FindsDisk (client_header client blocks area) (old.clients client).given (old.made.acted.clients client) (making_client old client blocks area) old
+
+-- A volume is made on the next disk of its server, which holds what the shelf says.
+abbrev pub VolumeFinds : StoredCell → Shelf → ℕ → ℕ → ℕ → Becoming
+VolumeFinds old shelf volume server area = FindsDisk (replica_header volume server area) shelf.given shelf.actor (making_volume old volume server area) old
+
+-- what a line does that makes an actor, where its disk holds what the shelf says, if it is a replica's
+abbrev pub LineFinds : StoredCell → Shelf → Line → Becoming
+LineFinds old shelf (line.Client client blocks area) = ClientFinds old client blocks (area_of area)
+LineFinds old shelf (line.Volume volume servers area) = VolumeFinds old shelf volume (alone servers) (area_of area)
+LineFinds old shelf said = λ reply outside new. ⊥
+
+-- what the shelf says is so
+abbrev pub HoldsShelf : StoredCell → Line → Shelf → Type 0
+HoldsShelf cell (line.Volume volume servers area) shelf = IsShelved cell (alone servers) shelf
+HoldsShelf cell said shelf = Unit {0}
+
+-- the disk on which a line makes a volume is another volume's
+abbrev pub IsOthers : Shelf → Line → Type 0
+IsOthers shelf (line.Volume volume servers area) = shelf.volume ≢ volume
+IsOthers shelf said = ⊥
