@@ -15,3 +15,4 @@ pub mod Between
 pub mod Absent
 pub mod Makers
 pub mod Patient
+pub mod Mounted

@@ -38,11 +38,11 @@ server_range volume (Some home) actors side server e (area, sized, one, some, fe
     same : Some home ≡ Some server → home ≡ server
     same e = cc
 
-new_replicas : (volume : ℕ) (o : Option ℕ) (actors : ℕ → Actor ReplicaEntry) (side : Side) → o ≡ None → IsReplicaSide volume o actors side → (server : ℕ) → actors server ≡ new_actor
+pub new_replicas : (volume : ℕ) (o : Option ℕ) (actors : ℕ → Actor ReplicaEntry) (side : Side) → o ≡ None → IsReplicaSide volume o actors side → (server : ℕ) → actors server ≡ new_actor
 new_replicas volume None actors side e is = is.1
 new_replicas volume (Some home) actors side e is = cc
 
-new_client : (client : ℕ) (o : Option ℕ) (actor : Actor ClientEntry) (side : Side) → o ≡ None → IsClientSide client o actor side → actor ≡ new_actor
+pub new_client : (client : ℕ) (o : Option ℕ) (actor : Actor ClientEntry) (side : Side) → o ≡ None → IsClientSide client o actor side → actor ≡ new_actor
 new_client client None actor side e is = is.1
 new_client client (Some blocks) actor side e is = cc
 

@@ -2,10 +2,11 @@
 use Rattle.std.specs.Prelude.{◌≡◌, ◌≢◌, ◌⊎◌, ℕ, Bool, true, false, List, [], ◌∷◌, length, Option, Some, None}
 use Rattle.coda_actors.specs.Plain.{PlainActor, HasOther}
 use Rattle.coda_journal.specs.declared.header.Header.{Header}
-use Rattle.coda_plain.specs.Cell.{ClientEntry, Actor, found}
+use Rattle.coda_plain.specs.Cell.{ClientEntry, Actor, new_actor, found}
 use Rattle.coda_plain.specs.Decisions.{ReplicaEntry}
 use Rattle.coda_plain.specs.Histories.{In}
-use Rattle.coda_plain.specs.Moves.{crashed, recovered}
+use Rattle.coda_plain.specs.Logs.{BeginsWith}
+use Rattle.coda_plain.specs.Moves.{TheClient, TheReplica, crashed, recovered}
 use Rattle.coda_plain.specs.Moves as plain
 use Rattle.coda_record.specs.declared.entry.ReplicaEntry.{ReplicaEntry as KeptEntry}
 use Rattle.coda_script.specs.declared.line.Line.{Line}
@@ -16,7 +17,8 @@ use Rattle.coda_cell.specs.Steps.{alone}
 use Rattle.coda_matching.specs.Replicas.{IsDecision}
 use Rattle.coda_stored.specs.Cells.{Side, StoredCell, client_header, replica_header, disk_number, plain_replica}
 use Rattle.coda_stored.specs.Foreign.{refused_foreign}
-use Rattle.coda_stored.specs.Lines.{area_of, refused_fault, Becoming, with_client, with_volume}
+use Rattle.coda_stored.specs.Kept.{IsStoredKept}
+use Rattle.coda_stored.specs.Lines.{area_of, refused_fault, Becoming, Opens, with_client, with_volume}
 
 -- ---- disks of replicas
 
@@ -111,3 +113,21 @@ HoldsShelf cell said shelf = Unit {0}
 abbrev pub IsOthers : Shelf → Line → Type 0
 IsOthers shelf (line.Volume volume servers area) = shelf.volume ≢ volume
 IsOthers shelf said = ⊥
+
+-- ---- what holds of it
+
+-- a disk that was never given a header, and holds nothing
+abbrev pub blank : ℕ → Shelf
+blank volume = record { volume = volume; given = None; actor = new_actor }
+
+-- Nobody loses an entry by it: each client begins with the history that it had, and a volume that is made with what its disk holds. And in a cell that is kept an
+-- actor that was never made is made as on a disk that holds nothing.
+pub record WhatIsFoundWasThere : Type 0 where
+  pub clients : (old new : StoredCell) (client blocks area : ℕ) (reply : Reply) (outside : List (List ℕ)) → ClientFinds old client blocks area reply outside new
+      → (other : ℕ) → BeginsWith (new.made.acted.clients other).history (old.made.acted.clients other).history
+  pub volumes : (old new : StoredCell) (shelf : Shelf) (volume server area : ℕ) (reply : Reply) (outside : List (List ℕ)) → VolumeFinds old shelf volume server area reply outside new
+      → (new ≡ old) ⊎ BeginsWith (new.made.acted.replicas server volume).history shelf.actor.history
+  pub new_clients : (old new : StoredCell) (client blocks area : ℕ) (reply : Reply) (outside : List (List ℕ)) → IsStoredKept old → old.made.sizes client ≡ None → ClientFinds old client blocks area reply outside new
+      → Opens old (client_header client blocks area) (with_client old client blocks area) (TheClient client) reply outside new
+  pub new_volumes : (old new : StoredCell) (volume server area : ℕ) (reply : Reply) (outside : List (List ℕ)) → IsStoredKept old → old.made.homes volume ≡ None → VolumeFinds old (blank volume) volume server area reply outside new
+      → Opens old (replica_header volume server area) (with_volume old volume server area) (TheReplica server volume) reply outside new

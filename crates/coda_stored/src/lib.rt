@@ -3,6 +3,7 @@
 
 ghost use Rattle.coda_stored.specs.Absent.{AbsentActorsAreRefused};
 ghost use Rattle.coda_stored.specs.Makers.{MakersMakeAgain};
+ghost use Rattle.coda_stored.specs.Mounted.{WhatIsFoundWasThere};
 ghost use Rattle.coda_stored.specs.Patient.{ThoseToComeStay};
 ghost use Rattle.coda_stored.specs.Resuming.{CellsAreResumed};
 ghost use Rattle.coda_stored.specs.Seen.{LinesComeBetween};
@@ -65,4 +66,11 @@ pub fn makers_make_again()
 /// that makes another actor again and behind any that comes between.
 pub fn those_to_come_stay()
     ensures { ThoseToComeStay }
+{}
+
+/// A law of later runs: whoever's the disk is on which a line makes an actor, nobody loses an entry by it: each client begins
+/// with the history that it had, and a volume that is made with what its disk holds; and an actor that was never made is made
+/// as on a disk that holds nothing.
+pub fn what_is_found_was_there()
+    ensures { WhatIsFoundWasThere }
 {}
