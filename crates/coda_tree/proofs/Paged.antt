@@ -1,5 +1,6 @@
 -- What a search through pages and a change of one of them make of all pairs.
 use Rattle.std.proofs.Common.{◌≡◌, ◌≢◌, ◌==◌, ℕ, zero, suc, ◌+◌, ◌-◌, ◌<◌, ◌≤◌, Bool, true, false, cond, not, [], ◌∷◌, ◌++◌, length, get_or, set, take, drop, Option, Some, None, is_some, IsSome, Ok, Err, Result, OnOk, OnErr, refl, sym, ap, ◌∙◌, subst, inl, inr, arith}
+use Rattle.std.specs.declared.cmp.Ordering.{Ordering}
 use Rattle.std.specs.declared.cmp.Ordering.TheVariants.{Less, Equal, Greater}
 use Rattle.std.specs.Global.{Vec}
 use Rattle.std.specs.List.{AllByRecursion, remove, insert}
@@ -111,6 +112,9 @@ below_first x (page ∷ pages) zero filled lt h = first_below x page.items (all_
     first_below x (e ∷ es) a lt h = (e, λ name. refl, lt_less _ (and_true _ _ h).0)
 below_first x (page ∷ pages) (suc i) filled lt h = below_first x pages i filled.1 (omega (arith, lt)) (below_back x page.items (all_pairs pages) h)
 
+less_not_greater : (o : Ordering) → o ≡ Less → o ≡ Greater → ⊥
+less_not_greater o less greater = let both : Less ≡ Greater = sym less ∙ greater in absurd cc
+
 less_than : (x y name : Name) → name_cmp x y ≡ Less → name_cmp y name ≢ Greater → name_cmp x name ≡ Less
 less_than x y name less most =
     elim (name_cmp y name) as (λ o. name_cmp y name ≡ o → name_cmp x name ≡ Less) [
@@ -127,6 +131,24 @@ all_less (e ∷ b) pages i name filled lt up most =
       less_than e.0 first.0.0 name first.2 (λ over. most (first.1 name ∙ over)),
       all_less b pages i name filled lt (and_true _ _ up).1 most,
     )
+
+-- ---- the last name of a page
+
+below_at : (x : Name) (es : Pairs) (i : ℕ) (d : Name × Fid) → below_all name_cmp x es ≡ true → i < length es → name_cmp x (get_or es i d).0 ≡ Less
+below_at x [] i d h lt = absurd (omega (arith, lt))
+below_at x (e ∷ es) zero d h lt = lt_less _ (and_true _ _ h).0
+below_at x (e ∷ es) (suc i) d h lt = below_at x es i d (and_true _ _ h).1 (omega (arith, lt))
+
+-- where one of sorted names stands before a name, the first one does
+pub first_before : (es : Pairs) (i : ℕ) (d : Name × Fid) (name : Name) → is_sorted name_cmp es ≡ true → i < length es → name_cmp (get_or es i d).0 name ≡ Less → first_cmp es name ≢ Greater
+first_before [] i d name up lt less = absurd (omega (arith, lt))
+first_before (e ∷ es) zero d name up lt less = λ over. absurd (less_not_greater _ less over)
+first_before (e ∷ es) (suc i) d name up lt less = λ over. absurd (less_not_greater _ (nat_list_cmp_total.trans e.0 (get_or es i d).0 name (below_at e.0 es i d (and_true _ _ up).0 (omega (arith, lt))) less) over)
+
+pub sorted_at : (pages : Pages) (i : ℕ) → is_sorted name_cmp (all_pairs pages) ≡ true → is_sorted name_cmp (pairs_at pages i) ≡ true
+sorted_at [] i up = refl
+sorted_at (page ∷ pages) zero up = sorted_front page.items (all_pairs pages) up
+sorted_at (page ∷ pages) (suc i) up = sorted_at pages i (sorted_tail page.items (all_pairs pages) up)
 
 -- ---- all pairs, around a page for a name
 

@@ -111,6 +111,29 @@ pub(crate) fn page_for(pages: &[Vec<(Name, Fid)>], guide: &Guide, name: &Name) -
     page_between(pages, name, 0, pages.len())
 }
 
+// Whether the last name of sorted pairs stands before a name; then so do all.
+fn ends_before(page: &[(Name, Fid)], name: &Name) -> bool
+    requires { IsTrue (is_sorted name_cmp page.now) }
+    ensures { result ≡ true → first_cmp page.now name.now ≢ Greater }
+{
+    let count = page.len();
+    count > 0 && page[count - 1].0.compare(name).is_lt()
+}
+
+// The page that has a name if any has it. Where there is no guide, the last name of all is looked at first: names often come
+// in order, and the first name of the last page is far away from it.
+fn page_of(pages: &[Vec<(Name, Fid)>], guide: &Guide, name: &Name) -> usize
+    requires some { 0 < length pages.now }
+    requires sorted { IsTrue (is_sorted name_cmp (all_pairs pages.now)) }
+    ensures { IsPageFor pages.now name.now result }
+{
+    let last = pages.len() - 1;
+    if last > 0 && !guide.is_kept() && ends_before(&pages[last], name) {
+        return last;
+    }
+    page_for(pages, guide, name)
+}
+
 // What the name is bound to in sorted pairs.
 pub(crate) fn find_in(page: &[(Name, Fid)], name: &Name) -> Option<Fid>
     requires { IsTrue (is_sorted name_cmp page.now) }
@@ -290,7 +313,7 @@ pub(crate) fn put(
     if pages.is_empty() {
         return put_first(pages, name, fid);
     }
-    let at = page_for(pages, guide, &name);
+    let at = page_of(pages, guide, &name);
     if pages[at].len() < FULL {
         put_at(pages, at, name, fid)
     } else {
@@ -337,7 +360,7 @@ pub(crate) fn find(pages: &[Vec<(Name, Fid)>], guide: &Guide, name: &Name) -> Op
     if pages.is_empty() {
         return None;
     }
-    let at = page_for(pages, guide, name);
+    let at = page_of(pages, guide, name);
     find_in(&pages[at], name)
 }
 
