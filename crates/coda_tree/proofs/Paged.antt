@@ -15,7 +15,7 @@ use Rattle.std.proofs.lemmas.Map.Lookups.{exact_bytes}
 use Rattle.coda_fid.specs.Name.{name_cmp}
 use Rattle.coda_fid.specs.declared.fid.Fid.{Fid}
 use Rattle.coda_tree.specs.Bindings.{Name, Pairs, Bindings, IsIndexOf, IsGapFor}
-use Rattle.coda_tree.specs.Pages.{Pages, all_pairs, AreFilled, pairs_at, with_pairs, first_cmp, IsPageFor, without, ChangesPage, IsPaged}
+use Rattle.coda_tree.specs.Pages.{Pages, all_pairs, AreFilled, pairs_at, with_pairs, first_cmp, LastsTo, IsPageFor, without, ChangesPage, IsPaged}
 use Rattle.coda_tree.proofs.Booleans.{and_true, and_both, lt_less, to_T, from_T}
 use Rattle.coda_tree.proofs.Order.{apart, name_cases}
 use Rattle.coda_tree.proofs.Pairs.{turn, none_below, before, tail_at, get_pairs, entries_seen}
@@ -149,6 +149,31 @@ pub sorted_at : (pages : Pages) (i : ℕ) → is_sorted name_cmp (all_pairs page
 sorted_at [] i up = refl
 sorted_at (page ∷ pages) zero up = sorted_front page.items (all_pairs pages) up
 sorted_at (page ∷ pages) (suc i) up = sorted_at pages i (sorted_tail page.items (all_pairs pages) up)
+
+below_rest : (es a : Pairs) (k : ℕ) (d : Name × Fid) → is_sorted name_cmp (es ++ a) ≡ true → k < length es → below_all name_cmp (get_or es k d).0 a ≡ true
+below_rest [] a k d up lt = absurd (omega (arith, lt))
+below_rest (e ∷ es) a zero d up lt = below_back e.0 es a (and_true _ _ up).0
+below_rest (e ∷ es) a (suc k) d up lt = below_rest es a k d (and_true _ _ up).1 (omega (arith, lt))
+
+-- what is above a name that isn't below another is above that one
+greater_than : (x y name : Name) → name_cmp x y ≡ Less → name_cmp x name ≢ Less → name_cmp y name ≡ Greater
+greater_than x y name less most =
+    elim (name_cmp x name) as (λ o. name_cmp x name ≡ o → name_cmp y name ≡ Greater) [
+      | Less ↦ λ under. absurd (most under)
+      | Equal ↦ λ tied. subst (λ z. name_cmp y z ≡ Greater) (exact_bytes x name tied) (turn x y Less less)
+      | Greater ↦ λ over. turn name y Less (nat_list_cmp_total.trans name x y (turn x name Greater over) less)
+    ] refl
+
+-- where a page lasts to a name, the next one begins after it
+pub next_after : (pages : Pages) (i : ℕ) (name : Name) → AreFilled pages → is_sorted name_cmp (all_pairs pages) ≡ true → i + 1 < length pages → LastsTo (pairs_at pages i) name → first_cmp (pairs_at pages (i + 1)) name ≡ Greater
+next_after [] i name filled up lt lasts = absurd (omega (arith, lt))
+next_after (page ∷ pages) zero name filled up lt lasts =
+    let x = (get_or page.items lasts.0 lasts.1).0 in
+    let first = below_first x pages 0 filled.1 (omega (arith, lt)) (below_rest page.items (all_pairs pages) lasts.0 lasts.1 up lasts.2) in
+    first.1 name ∙ greater_than x first.0.0 name first.2 lasts.3
+next_after (page ∷ pages) (suc i) name filled up lt lasts =
+    let next : suc (i + 1) ≡ suc i + 1 = omega arith in
+    subst (λ k. first_cmp (pairs_at (page ∷ pages) k) name ≡ Greater) next (next_after pages i name filled.1 (sorted_tail page.items (all_pairs pages) up) (omega (arith, lt)) lasts)
 
 -- ---- all pairs, around a page for a name
 

@@ -75,11 +75,6 @@ impl Guide {
         }
     }
 
-    // Whether there are fronts.
-    pub(crate) fn is_kept(&self) -> bool {
-        self.fronts.is_some()
-    }
-
     // From which page to before which other a name belongs, if the fronts are those of so many pages.
     pub(crate) fn between(&self, pages: usize, name: &Name) -> Option<(usize, usize)> {
         let fronts = match &self.fronts {
