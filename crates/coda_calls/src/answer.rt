@@ -56,6 +56,18 @@ impl Answer {
         }
     }
 
+    /// Puts a text of lines, each with a bar behind it.
+    pub fn put_lines(&mut self, text: &[u8]) {
+        let text = std::str::from_utf8(text).unwrap_or("no text");
+        for line in text.lines() {
+            self.put(line);
+            self.put("|");
+        }
+        if !text.ends_with('\n') {
+            self.put("and no newline");
+        }
+    }
+
     // The words, or `ok` where there are none.
     fn text(&self) -> &str {
         match self.text.trim_start() {

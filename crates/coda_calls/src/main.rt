@@ -7,11 +7,14 @@ mod answer;
 mod cache;
 mod disk;
 mod files;
+mod generated;
 mod hoard;
 mod journal;
 mod letters;
+mod memory;
 mod promises;
 mod replica;
+mod replies;
 mod resolve;
 mod ring;
 mod spelled;
@@ -34,11 +37,14 @@ enum On {
     Cache,
     Disk,
     Files,
+    Generated,
     Hoard,
     Journal,
     Letters,
+    Memory,
     Promises,
     Replica,
+    Replies,
     Resolution,
     Ring,
     Spelling,
@@ -50,11 +56,14 @@ const FRONTS: &[(&str, On)] = &[
     ("cache", On::Cache),
     ("disk", On::Disk),
     ("files", On::Files),
+    ("generated", On::Generated),
     ("hoard", On::Hoard),
     ("journal", On::Journal),
     ("letters", On::Letters),
+    ("memory", On::Memory),
     ("promises", On::Promises),
     ("replica", On::Replica),
+    ("replies", On::Replies),
     ("resolution", On::Resolution),
     ("ring", On::Ring),
     ("spelling", On::Spelling),
@@ -81,11 +90,14 @@ fn found(rt: &HostRuntime, on: On, text: &str) -> String {
         On::Cache => answered(Cache::new(alloc, 0), alloc, text),
         On::Disk => answered(disk::empty(alloc), alloc, text),
         On::Files => answered(Ok(files::Filed { rt }), alloc, text),
+        On::Generated => answered(Ok(generated::Generated {}), alloc, text),
         On::Hoard => answered(Ok(Hdb::new(alloc)), alloc, text),
         On::Journal => answered(Ok(journal::Image::new(alloc)), alloc, text),
         On::Letters => answered(Ok(letters::Posted::new(alloc)), alloc, text),
+        On::Memory => answered(Ok(memory::Wanting {}), alloc, text),
         On::Promises => answered(Ok(Promises::new(alloc)), alloc, text),
         On::Replica => answered(Decider::new(alloc, 7, 1), alloc, text),
+        On::Replies => answered(Ok(replies::Replies::new(alloc)), alloc, text),
         On::Resolution => answered(resolve::Replicas::new(alloc), alloc, text),
         On::Ring => answered(ring::Logged::new(alloc), alloc, text),
         On::Spelling => answered(Ok(spelled::Spelled {}), alloc, text),
