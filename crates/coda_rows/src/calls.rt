@@ -1,6 +1,7 @@
 // Calls on a volume and on a client's log that no script can make, or not one by one, each with its answer on the line
 // below.
 use crate::operations::{named, number, object, operation, word};
+use crate::texts::put;
 use coda_cancel::LentRecords;
 use coda_certify::{Reason, Verdict, certify, replay};
 use coda_cml::{FreezeFault, Log, LogFault, Segment, SettleFault};
@@ -153,10 +154,6 @@ fn let_go<T: Drop>(_value: T) {}
 // Puts a value behind others, where there is memory.
 fn is_pushed<T: Drop>(values: &mut Vec<T>, value: T) -> bool {
     values.push(value).is_ok()
-}
-
-fn put(out: &mut String, word: &str) {
-    let _ = out.push_str(word);
 }
 
 // `certify OP`: the reason, or `-`.
