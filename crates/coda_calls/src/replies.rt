@@ -2,7 +2,7 @@
 ghost use Rattle.coda_report.specs.Texts.{IsWhole};
 
 use crate::answer::{Answer, Bench, push};
-use crate::words::{named, number, rest, small, tiny, word};
+use crate::words::{count, named, number, rest, small, tiny, word};
 use coda_certify::{Reason, Verdict};
 use coda_fid::{Fid, Name, Path};
 use coda_report::reply_text;
@@ -141,8 +141,8 @@ fn undecided(call: &str) -> Option<Undecided> {
 // The numbers behind the first word.
 fn numbers(alloc: Global, call: &str) -> Vec<u64> {
     let mut numbers = Vec::new(alloc);
-    for word in call.split(' ').skip(1) {
-        let _ = numbers.push(number(word, 0));
+    for at in 1..count(call) {
+        let _ = numbers.push(number(call, at));
     }
     numbers
 }
@@ -150,8 +150,8 @@ fn numbers(alloc: Global, call: &str) -> Vec<u64> {
 // The same, as what a refusal names.
 fn args(alloc: Global, call: &str) -> Args {
     let mut args = Vec::new(alloc);
-    for word in call.split(' ').skip(1) {
-        let _ = args.push(Arg::Number(number(word, 0)));
+    for at in 1..count(call) {
+        let _ = args.push(Arg::Number(number(call, at)));
     }
     Args::from_vec(args)
 }

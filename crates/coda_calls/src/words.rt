@@ -7,6 +7,11 @@ pub fn word(call: &str, at: usize) -> &str {
     call.split(' ').nth(at).unwrap_or("")
 }
 
+/// How many words there are.
+pub fn count(call: &str) -> usize {
+    call.split(' ').count()
+}
+
 /// What stands behind so many words, which may have blanks.
 pub fn rest(call: &str, words: usize) -> &str {
     let mut rest = call;
