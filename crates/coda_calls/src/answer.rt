@@ -14,7 +14,8 @@ pub struct Answer {
 impl Answer {
     /// Puts a word.
     pub fn put(&mut self, word: &str) {
-        let _ = write!(self.text, " {word}");
+        let _ = self.text.push_str(" ");
+        let _ = self.text.push_str(word);
     }
 
     /// Puts a number.
@@ -56,6 +57,18 @@ impl Answer {
         }
     }
 
+    /// Puts a text of lines, each with a bar behind it.
+    pub fn put_lines(&mut self, text: &[u8]) {
+        let text = std::str::from_utf8(text).unwrap_or("no text");
+        for line in text.lines() {
+            self.put(line);
+            self.put("|");
+        }
+        if !text.ends_with('\n') {
+            self.put("and no newline");
+        }
+    }
+
     // The words, or `ok` where there are none.
     fn text(&self) -> &str {
         match self.text.trim_start() {
@@ -79,6 +92,11 @@ pub fn renew<T: Drop, E: Drop>(value: &mut T, made: Result<T, E>) {
     }
 }
 
+/// Puts a value in place of another, which is let go here.
+pub fn set<T: Drop>(value: &mut T, made: T) {
+    *value = made;
+}
+
 /// What calls are on.
 pub trait Bench: Drop {
     /// Makes a call, and puts its answer. One that puts nothing is answered `ok`.
@@ -92,8 +110,9 @@ fn put_answered<B: Bench>(bench: &mut B, alloc: Global, call: &str, whole: &mut 
         text: String::new(alloc),
     };
     bench.answer(call, &mut out);
-    let answer = out.text();
-    let _ = write!(whole, "{call}\n{answer}\n");
+    for part in [call, "\n", out.text(), "\n"] {
+        let _ = whole.push_str(part);
+    }
 }
 
 /// The calls of a text, each with the answer to it below.

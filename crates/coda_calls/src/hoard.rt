@@ -1,5 +1,5 @@
 // Calls on a hoard database.
-use crate::answer::{Answer, Bench};
+use crate::answer::{Answer, Bench, set};
 use crate::words::{named, number, small, word};
 use coda_fid::Path;
 use coda_hdb::{Expand, Hdb, HdbEntry, HdbFault};
@@ -80,7 +80,7 @@ impl Bench for Hdb {
     fn answer(&mut self, call: &str, out: &mut Answer) {
         let (volume, path) = (small(call, 1), word(call, 2));
         match named(CALLS, call) {
-            Some(Call::New) => *self = Hdb::new(out.alloc),
+            Some(Call::New) => set(self, Hdb::new(out.alloc)),
             Some(Call::Add) => add(self, volume, path, number(call, 3).min(1_000) as u16, out),
             Some(Call::AddAll) => add_all(self, volume, out),
             Some(Call::Remove) => remove(self, volume, path, out),

@@ -1,7 +1,7 @@
 // Calls on the letters of client 1 for server 1, and on their link.
 ghost use Rattle.std.specs.Prelude.{◌≡◌, ◌≤◌, IfOk, length};
 
-use crate::answer::{Answer, Bench};
+use crate::answer::{Answer, Bench, set};
 use crate::words::{named, number, tiny, word};
 use coda_fid::Bytes;
 use coda_net::{Letter, Net, NetFault};
@@ -143,7 +143,7 @@ impl Bench for Posted {
     fn answer(&mut self, call: &str, out: &mut Answer) {
         let first = number(call, 1);
         match named(CALLS, call) {
-            Some(Call::New) => *self = Posted::new(out.alloc),
+            Some(Call::New) => set(self, Posted::new(out.alloc)),
             Some(Call::Post) => put_outcome(out, self.post_all(out.alloc, call, true)),
             Some(Call::Keep) => put_outcome(out, self.post_all(out.alloc, call, false)),
             Some(Call::Find) => self.put_found(call, out),

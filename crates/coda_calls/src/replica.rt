@@ -131,8 +131,8 @@ fn fresh(alloc: Global) -> Option<Replica<MemDisk>> {
     Some(replica)
 }
 
-// The creation of the file `a` in the root, as operation 1.
-fn first_creation(alloc: Global) -> Result<Record, NameFault>
+/// The creation of the file `a` in the root, as operation 1 of client 1.
+pub fn first_creation(alloc: Global) -> Result<Record, NameFault>
     ensures { IfOk result (λ r. HasSpelling (some_records four) (r ∷ [])) }
 {
     let name = Name::read(alloc, b"a")?;

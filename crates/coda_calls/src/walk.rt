@@ -1,5 +1,5 @@
 // Calls on items that a walk weighs, and on a queue of them.
-use crate::answer::{Answer, Bench, push};
+use crate::answer::{Answer, Bench, push, set};
 use crate::words::{named, number, object, objects, optional_object, small, word};
 use coda_walk::{Item, Queue, plan, who_goes};
 use std::alloc::Global;
@@ -122,7 +122,7 @@ impl Walk {
 impl Bench for Walk {
     fn answer(&mut self, call: &str, out: &mut Answer) {
         match named(CALLS, call) {
-            Some(Call::New) => *self = Walk::new(out.alloc),
+            Some(Call::New) => set(self, Walk::new(out.alloc)),
             Some(Call::Item) => push(&mut self.items, item(call)),
             Some(Call::Plan) => put_plan(&self.items, call, out),
             Some(Call::WhoGoes) => put_who_goes(&self.items, call, out),

@@ -7,6 +7,20 @@ pub fn word(call: &str, at: usize) -> &str {
     call.split(' ').nth(at).unwrap_or("")
 }
 
+/// How many words there are.
+pub fn count(call: &str) -> usize {
+    call.split(' ').count()
+}
+
+/// What stands behind so many words, which may have blanks.
+pub fn rest(call: &str, words: usize) -> &str {
+    let mut rest = call;
+    for _ in 0..words {
+        rest = rest.split_once(' ').map_or("", |pair| pair.1);
+    }
+    rest
+}
+
 /// What a table has for the first word, if it has anything.
 pub fn named<T: Copy>(table: &[(&str, T)], call: &str) -> Option<T> {
     let name = word(call, 0);

@@ -8,6 +8,3 @@ mod law;
 pub use fault::GenFault;
 pub use generator::script;
 pub use law::longer_scripts_begin_with_shorter_ones;
-
-#[cfg(test)]
-mod tests;

@@ -1,9 +1,9 @@
 // Lines of a row, each with what is made of it on the line below.
 use crate::calls::Bench;
-use coda_script::{LineFault, read_line};
+use crate::texts::put;
+use coda_script::{Line, LineFault, read_line};
 use coda_text::{TextFault, Token, printed, tokens, unquote};
 use std::alloc::{AllocError, Global};
-use std::fmt;
 
 /// What is made of the lines.
 #[derive(Clone, Copy)]
@@ -19,23 +19,25 @@ pub enum Kind {
 /// More bytes than any line of a row has.
 const MOST_BYTES: usize = 4_000_000;
 
-// Puts the debug text of a value.
-fn put_shown<T: fmt::Debug + Drop>(out: &mut String, shown: T) {
-    let _ = write!(out, "{shown:?}");
-}
-
-// Puts what a line says, as the debug text of its value; nothing; or its first wrong column and what is wrong there.
-fn put_said(alloc: Global, line: &[u8], out: &mut String) {
-    match read_line(alloc, line) {
-        Ok(Some(said)) => put_shown(out, said),
+// Puts the debug text of what a line says; nothing; or its first wrong column and what is wrong there.
+fn put_reading(said: &Result<Option<Line>, LineFault>, out: &mut String) {
+    match said {
+        Ok(Some(said)) => {
+            let _ = write!(out, "{said:?}");
+        }
         Ok(None) => {}
         Err(LineFault::BadLine { column, kind }) => {
             let _ = write!(out, "{column} {kind}");
         }
-        Err(LineFault::Memory) => {
-            let _ = out.push_str("no memory");
-        }
+        Err(LineFault::Memory) => put(out, "no memory"),
     }
+}
+
+// Puts what a line says.
+fn put_said(alloc: Global, line: &[u8], out: &mut String) {
+    let said = read_line(alloc, line);
+    put_reading(&said, out);
+    drop(said);
 }
 
 // Puts a word: its span, and in angles the bytes that it stands for, as they are printed.
@@ -58,9 +60,7 @@ fn put_words(alloc: Global, line: &[u8], out: &mut String) {
         Err(TextFault::BadWord { start, end }) => {
             let _ = write!(out, "no word {start} {end}");
         }
-        Err(TextFault::Memory) => {
-            let _ = out.push_str("no memory");
-        }
+        Err(TextFault::Memory) => put(out, "no memory"),
     }
 }
 
@@ -69,7 +69,7 @@ fn put_answer(alloc: Global, bench: &mut Bench, line: &[u8], kind: Kind, out: &m
     match kind {
         Kind::Said => {
             if line.len() > MOST_BYTES {
-                let _ = out.push_str("too long");
+                put(out, "too long");
             } else {
                 put_said(alloc, line, out);
             }
@@ -90,7 +90,7 @@ fn put_answered(alloc: Global, bench: &mut Bench, line: &[u8], kind: Kind, whole
 
 /// The odd lines of a text, each with what is made of it on the line below.
 pub fn answered(alloc: Global, text: &[u8], kind: Kind) -> Result<Vec<u8>, AllocError> {
-    let mut bench = Bench::new(alloc)?;
+    let mut bench = Bench::new(alloc, 1)?;
     let mut whole = Vec::new(alloc);
     for line in odd_lines(alloc, text)? {
         put_answered(alloc, &mut bench, line, kind, &mut whole);

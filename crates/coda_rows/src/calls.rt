@@ -1,6 +1,7 @@
 // Calls on a volume and on a client's log that no script can make, or not one by one, each with its answer on the line
 // below.
 use crate::operations::{named, number, object, operation, word};
+use crate::texts::put;
 use coda_cancel::LentRecords;
 use coda_certify::{Reason, Verdict, certify, replay};
 use coda_cml::{FreezeFault, Log, LogFault, Segment, SettleFault};
@@ -150,13 +151,16 @@ fn put_appended(outcome: Result<(), LogFault>, out: &mut String) {
 // Lets a value go. The drop of a large enum is proved once by this, and not in each function that owns one.
 fn let_go<T: Drop>(_value: T) {}
 
+// Puts a value in place of another, where there was memory for it. The other is let go here.
+fn renew<T: Drop>(value: &mut T, made: Result<T, AllocError>) {
+    if let Ok(made) = made {
+        *value = made;
+    }
+}
+
 // Puts a value behind others, where there is memory.
 fn is_pushed<T: Drop>(values: &mut Vec<T>, value: T) -> bool {
     values.push(value).is_ok()
-}
-
-fn put(out: &mut String, word: &str) {
-    let _ = out.push_str(word);
 }
 
 // `certify OP`: the reason, or `-`.
@@ -239,24 +243,16 @@ fn replay_log(alloc: Global, volume: &mut Volume, log: &Log, out: &mut String) {
 }
 
 impl Bench {
-    /// A volume of number 7, and an empty log.
-    pub fn new(alloc: Global) -> Result<Bench, AllocError> {
+    /// A volume of number 7, and an empty log, to which the operation of this number is appended first.
+    pub fn new(alloc: Global, next: u64) -> Result<Bench, AllocError> {
         let volume = Volume::new(alloc, 7)?;
         Ok(Bench {
             volume,
             run: Vec::new(alloc),
             log: Log::new(alloc),
-            next: 1,
+            next,
             now: 0,
         })
-    }
-
-    // `new N`: of which the operation that is appended first has this number.
-    fn renew(&mut self, alloc: Global, next: u64) {
-        if let Ok(made) = Bench::new(alloc) {
-            *self = made;
-            self.next = next;
-        }
     }
 
     // `replay C`: client C's run, which is empty then.
@@ -317,7 +313,7 @@ impl Bench {
     /// Puts the answer to a call.
     pub fn answer(&mut self, alloc: Global, call: &str, out: &mut String) {
         match named(CALLS, call) {
-            Some(Call::New) => self.renew(alloc, number(call, 1)),
+            Some(Call::New) => renew(self, Bench::new(alloc, number(call, 1))),
             Some(Call::Replay) => self.replay(alloc, number(call, 1).min(255) as u8, out),
             Some(Call::ReplayLog) => replay_log(alloc, &mut self.volume, &self.log, out),
             Some(Call::Mark) => mark(&mut self.volume, object(call, 1)),

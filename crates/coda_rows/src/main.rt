@@ -16,72 +16,134 @@ mod traces;
 
 use crate::answers::{Kind, answered};
 use crate::repeats::repeated;
-use crate::texts::comparison;
+use crate::texts::{compare, put};
 use crate::traces::traced;
-use anyhow::{Context, Result};
-use std::{env, fs, io};
+use std::fs::{self, DirEntry};
+use std::{env, io};
+
+// Puts the name of an entry of a folder.
+fn put_name(rt: &HostRuntime, names: &mut Vec<String>, entry: &DirEntry) {
+    if let Ok(name) = entry.file_name().to_string(rt.alloc()) {
+        let _ = names.push(name);
+    }
+}
 
 // The names of the files of a folder, by their bytes.
-fn names_in(rt: &HostRuntime, folder: &str) -> io::Result<Vec<String>> {
+fn names_in(rt: &HostRuntime, folder: &str) -> Vec<String> {
     let mut names = Vec::new(rt.alloc());
-    for entry in fs::read_dir(rt, folder)? {
-        names.push(entry?.file_name().to_string(rt.alloc())?)?;
+    if let Ok(entries) = fs::read_dir(rt, folder) {
+        for entry in entries {
+            if let Ok(entry) = entry {
+                put_name(rt, &mut names, &entry);
+            }
+        }
     }
-    names.sort()?;
-    Ok(names)
+    let _ = names.sort();
+    names
 }
 
-// A file, with its repetitions written out.
-fn contents(rt: &HostRuntime, folder: &str, name: &str, ending: &str) -> Result<Vec<u8>> {
-    let path = format!(in rt.alloc(); "{folder}/{name}.{ending}")?;
-    let bytes = fs::read(rt, path.as_str()).with_context(|| path.as_str())?;
-    Ok(repeated(rt.alloc(), &bytes))
+// The path of a file.
+fn path_of(rt: &HostRuntime, folder: &str, name: &str, ending: &str) -> String {
+    let mut path = String::new(rt.alloc());
+    for part in [folder, "/", name, ".", ending] {
+        put(&mut path, part);
+    }
+    path
 }
 
-// How a script's row compares.
-fn script(rt: &HostRuntime, folder: &str, name: &str) -> Result<String> {
-    let text = contents(rt, folder, name, "coda")?;
-    let report = contents(rt, folder, name, "report")?;
-    let (wanted, found) = scripts::run(rt.alloc(), &text, &report)?;
-    Ok(comparison(rt.alloc(), name, &wanted, &found)?)
+// A file, with its repetitions written out. One that can't be read is a text that no row comes to.
+fn contents(rt: &HostRuntime, folder: &str, name: &str, ending: &str) -> Vec<u8> {
+    let path = path_of(rt, folder, name, ending);
+    match fs::read(rt, path.as_str()) {
+        Ok(bytes) => repeated(rt.alloc(), &bytes),
+        Err(_) => repeated(rt.alloc(), b"a file that can't be read\n"),
+    }
 }
 
-// How a row of answered lines compares.
-fn lines(rt: &HostRuntime, folder: &str, name: &str, ending: &str, kind: Kind) -> Result<String> {
-    let wanted = contents(rt, folder, name, ending)?;
-    let found = answered(rt.alloc(), &wanted, kind)?;
-    Ok(comparison(rt.alloc(), name, &wanted, &found)?)
+// Puts how a script's row compares.
+fn compare_script(rt: &HostRuntime, folder: &str, name: &str, told: &mut String) {
+    let text = contents(rt, folder, name, "coda");
+    let report = contents(rt, folder, name, "report");
+    match scripts::run(rt.alloc(), &text, &report) {
+        Ok((wanted, found)) => compare(&wanted, &found, told),
+        Err(_) => put(told, "can't be run"),
+    }
 }
 
-// How a row of lines with their steps compares.
-fn steps(rt: &HostRuntime, folder: &str, name: &str) -> Result<String> {
-    let wanted = contents(rt, folder, name, "trace")?;
-    let found = traced(rt.alloc(), &wanted)?;
-    Ok(comparison(rt.alloc(), name, &wanted, &found)?)
+// Puts how a row of answered lines compares.
+fn compare_lines(rt: &HostRuntime, wanted: &[u8], kind: Kind, told: &mut String) {
+    match answered(rt.alloc(), wanted, kind) {
+        Ok(found) => compare(wanted, &found, told),
+        Err(_) => put(told, "has no memory"),
+    }
 }
 
-// How the row of a file compares, where the file is one of a row.
-fn row(rt: &HostRuntime, folder: &str, file: &str) -> Result<Option<String>> {
-    let (name, ending) = file.rsplit_once('.').unwrap_or((file, ""));
-    let kind = match ending {
-        "coda" => return Ok(Some(script(rt, folder, name)?)),
-        "trace" => return Ok(Some(steps(rt, folder, name)?)),
-        "lines" => Kind::Said,
-        "words" => Kind::Words,
-        "calls" => Kind::Calls,
-        _ => return Ok(None),
+// Puts how a row of lines with their steps compares.
+fn compare_steps(rt: &HostRuntime, wanted: &[u8], told: &mut String) {
+    match traced(rt.alloc(), wanted) {
+        Ok(found) => compare(wanted, &found, told),
+        Err(_) => put(told, "has no memory"),
+    }
+}
+
+/// What a file is.
+#[derive(Clone, Copy)]
+enum Row {
+    Script,
+    Steps,
+    Lines(Kind),
+}
+
+// By the ending of its name.
+const ENDINGS: &[(&str, Row)] = &[
+    ("coda", Row::Script),
+    ("trace", Row::Steps),
+    ("lines", Row::Lines(Kind::Said)),
+    ("words", Row::Lines(Kind::Words)),
+    ("calls", Row::Lines(Kind::Calls)),
+];
+
+// Puts how the row of a file compares.
+fn compare_row(
+    rt: &HostRuntime,
+    folder: &str,
+    name: &str,
+    ending: &str,
+    row: Row,
+    told: &mut String,
+) {
+    match row {
+        Row::Script => compare_script(rt, folder, name, told),
+        Row::Steps => compare_steps(rt, &contents(rt, folder, name, ending), told),
+        Row::Lines(kind) => compare_lines(rt, &contents(rt, folder, name, ending), kind, told),
+    }
+}
+
+// The folder that the command line names, or the current one.
+fn folder(rt: &HostRuntime) -> String {
+    match env::args(rt) {
+        Ok(mut words) => words.nth(1).unwrap_or(String::new(rt.alloc())),
+        Err(_) => String::new(rt.alloc()),
+    }
+}
+
+fn main(rt: HostRuntime) -> io::Result<()> {
+    let named = folder(&rt);
+    let folder = if named.is_empty() {
+        "."
+    } else {
+        named.as_str()
     };
-    Ok(Some(lines(rt, folder, name, ending, kind)?))
-}
-
-fn main(rt: HostRuntime) -> Result<()> {
-    let folder = match env::args(&rt)?.nth(1) {
-        Some(folder) => folder,
-        None => ".".to_string(rt.alloc())?,
-    };
-    for file in names_in(&rt, folder.as_str())? {
-        if let Some(told) = row(&rt, folder.as_str(), file.as_str())? {
-            println!(rt; "{told}")?;
+    let files = names_in(&rt, folder);
+    for file in &files {
+        let (name, ending) = file
+            .as_str()
+            .rsplit_once('.')
+            .unwrap_or((file.as_str(), ""));
+        if let Some(row) = operations::named(ENDINGS, ending) {
+            let mut told = String::new(rt.alloc());
+            compare_row(&rt, folder, name, ending, row, &mut told);
+            println!(rt; "{name} {told}")?;
         }
     }
     Ok(())

@@ -23,20 +23,34 @@ fn line(text: &[u8], at: usize) -> &str {
     std::str::from_utf8(line).unwrap_or("bytes that are no text")
 }
 
-/// `NAME ok` where both texts are the same; else the first line in which they differ, both sides.
-pub fn comparison(
-    alloc: Global,
-    name: &str,
-    wanted: &[u8],
-    found: &[u8],
-) -> Result<String, AllocError> {
-    if wanted == found {
-        return format!(in alloc; "{name} ok");
-    }
+/// Puts a word. Where there is no memory, it lacks.
+pub fn put(out: &mut String, word: &str) {
+    let _ = out.push_str(word);
+}
+
+// How many lines two texts have in common, before the first in which they differ.
+fn common_lines(wanted: &[u8], found: &[u8]) -> usize {
     let pairs = wanted.iter().zip(found.iter());
     let same = pairs.take_while(|pair| pair.0 == pair.1);
-    let at = same.filter(|pair| *pair.0 == b'\n').count();
+    same.filter(|pair| *pair.0 == b'\n').count()
+}
+
+// Puts the first line in which two texts differ, both sides.
+fn put_difference(wanted: &[u8], found: &[u8], out: &mut String) {
+    let at = common_lines(wanted, found);
     let number = at.saturating_add(1);
-    let (wanted, found) = (line(wanted, at), line(found, at));
-    format!(in alloc; "{name} differs at line {number}\n    wanted: {wanted}\n    found:  {found}")
+    let _ = write!(out, "differs at line {number}");
+    put(out, "\n    wanted: ");
+    put(out, line(wanted, at));
+    put(out, "\n    found:  ");
+    put(out, line(found, at));
+}
+
+/// Puts `ok` where both texts are the same; else the first line in which they differ, both sides.
+pub fn compare(wanted: &[u8], found: &[u8], out: &mut String) {
+    if wanted == found {
+        put(out, "ok");
+    } else {
+        put_difference(wanted, found, out);
+    }
 }
