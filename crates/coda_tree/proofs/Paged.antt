@@ -1,6 +1,5 @@
 -- What a search through pages and a change of one of them make of all pairs.
 use Rattle.std.proofs.Common.{◌≡◌, ◌≢◌, ◌==◌, ℕ, zero, suc, ◌+◌, ◌-◌, ◌<◌, ◌≤◌, Bool, true, false, cond, not, [], ◌∷◌, ◌++◌, length, get_or, set, take, drop, Option, Some, None, is_some, IsSome, Ok, Err, Result, OnOk, OnErr, refl, sym, ap, ◌∙◌, subst, inl, inr, arith}
-use Rattle.std.specs.declared.cmp.Ordering.{Ordering}
 use Rattle.std.specs.declared.cmp.Ordering.TheVariants.{Less, Equal, Greater}
 use Rattle.std.specs.Global.{Vec}
 use Rattle.std.specs.List.{AllByRecursion, remove, insert}
@@ -15,7 +14,7 @@ use Rattle.std.proofs.lemmas.Map.Lookups.{exact_bytes}
 use Rattle.coda_fid.specs.Name.{name_cmp}
 use Rattle.coda_fid.specs.declared.fid.Fid.{Fid}
 use Rattle.coda_tree.specs.Bindings.{Name, Pairs, Bindings, IsIndexOf, IsGapFor}
-use Rattle.coda_tree.specs.Pages.{Pages, all_pairs, AreFilled, pairs_at, with_pairs, first_cmp, LastsTo, IsPageFor, without, ChangesPage, IsPaged}
+use Rattle.coda_tree.specs.Pages.{Pages, all_pairs, AreFilled, pairs_at, with_pairs, first_cmp, IsPageFor, without, ChangesPage, IsPaged}
 use Rattle.coda_tree.proofs.Booleans.{and_true, and_both, lt_less, to_T, from_T}
 use Rattle.coda_tree.proofs.Order.{apart, name_cases}
 use Rattle.coda_tree.proofs.Pairs.{turn, none_below, before, tail_at, get_pairs, entries_seen}
@@ -112,9 +111,6 @@ below_first x (page ∷ pages) zero filled lt h = first_below x page.items (all_
     first_below x (e ∷ es) a lt h = (e, λ name. refl, lt_less _ (and_true _ _ h).0)
 below_first x (page ∷ pages) (suc i) filled lt h = below_first x pages i filled.1 (omega (arith, lt)) (below_back x page.items (all_pairs pages) h)
 
-less_not_greater : (o : Ordering) → o ≡ Less → o ≡ Greater → ⊥
-less_not_greater o less greater = let both : Less ≡ Greater = sym less ∙ greater in absurd cc
-
 less_than : (x y name : Name) → name_cmp x y ≡ Less → name_cmp y name ≢ Greater → name_cmp x name ≡ Less
 less_than x y name less most =
     elim (name_cmp y name) as (λ o. name_cmp y name ≡ o → name_cmp x name ≡ Less) [
@@ -131,49 +127,6 @@ all_less (e ∷ b) pages i name filled lt up most =
       less_than e.0 first.0.0 name first.2 (λ over. most (first.1 name ∙ over)),
       all_less b pages i name filled lt (and_true _ _ up).1 most,
     )
-
--- ---- the last name of a page
-
-below_at : (x : Name) (es : Pairs) (i : ℕ) (d : Name × Fid) → below_all name_cmp x es ≡ true → i < length es → name_cmp x (get_or es i d).0 ≡ Less
-below_at x [] i d h lt = absurd (omega (arith, lt))
-below_at x (e ∷ es) zero d h lt = lt_less _ (and_true _ _ h).0
-below_at x (e ∷ es) (suc i) d h lt = below_at x es i d (and_true _ _ h).1 (omega (arith, lt))
-
--- where one of sorted names stands before a name, the first one does
-pub first_before : (es : Pairs) (i : ℕ) (d : Name × Fid) (name : Name) → is_sorted name_cmp es ≡ true → i < length es → name_cmp (get_or es i d).0 name ≡ Less → first_cmp es name ≢ Greater
-first_before [] i d name up lt less = absurd (omega (arith, lt))
-first_before (e ∷ es) zero d name up lt less = λ over. absurd (less_not_greater _ less over)
-first_before (e ∷ es) (suc i) d name up lt less = λ over. absurd (less_not_greater _ (nat_list_cmp_total.trans e.0 (get_or es i d).0 name (below_at e.0 es i d (and_true _ _ up).0 (omega (arith, lt))) less) over)
-
-pub sorted_at : (pages : Pages) (i : ℕ) → is_sorted name_cmp (all_pairs pages) ≡ true → is_sorted name_cmp (pairs_at pages i) ≡ true
-sorted_at [] i up = refl
-sorted_at (page ∷ pages) zero up = sorted_front page.items (all_pairs pages) up
-sorted_at (page ∷ pages) (suc i) up = sorted_at pages i (sorted_tail page.items (all_pairs pages) up)
-
-below_rest : (es a : Pairs) (k : ℕ) (d : Name × Fid) → is_sorted name_cmp (es ++ a) ≡ true → k < length es → below_all name_cmp (get_or es k d).0 a ≡ true
-below_rest [] a k d up lt = absurd (omega (arith, lt))
-below_rest (e ∷ es) a zero d up lt = below_back e.0 es a (and_true _ _ up).0
-below_rest (e ∷ es) a (suc k) d up lt = below_rest es a k d (and_true _ _ up).1 (omega (arith, lt))
-
--- what is above a name that isn't below another is above that one
-greater_than : (x y name : Name) → name_cmp x y ≡ Less → name_cmp x name ≢ Less → name_cmp y name ≡ Greater
-greater_than x y name less most =
-    elim (name_cmp x name) as (λ o. name_cmp x name ≡ o → name_cmp y name ≡ Greater) [
-      | Less ↦ λ under. absurd (most under)
-      | Equal ↦ λ tied. subst (λ z. name_cmp y z ≡ Greater) (exact_bytes x name tied) (turn x y Less less)
-      | Greater ↦ λ over. turn name y Less (nat_list_cmp_total.trans name x y (turn x name Greater over) less)
-    ] refl
-
--- where a page lasts to a name, the next one begins after it
-pub next_after : (pages : Pages) (i : ℕ) (name : Name) → AreFilled pages → is_sorted name_cmp (all_pairs pages) ≡ true → i + 1 < length pages → LastsTo (pairs_at pages i) name → first_cmp (pairs_at pages (i + 1)) name ≡ Greater
-next_after [] i name filled up lt lasts = absurd (omega (arith, lt))
-next_after (page ∷ pages) zero name filled up lt lasts =
-    let x = (get_or page.items lasts.0 lasts.1).0 in
-    let first = below_first x pages 0 filled.1 (omega (arith, lt)) (below_rest page.items (all_pairs pages) lasts.0 lasts.1 up lasts.2) in
-    first.1 name ∙ greater_than x first.0.0 name first.2 lasts.3
-next_after (page ∷ pages) (suc i) name filled up lt lasts =
-    let next : suc (i + 1) ≡ suc i + 1 = omega arith in
-    subst (λ k. first_cmp (pairs_at (page ∷ pages) k) name ≡ Greater) next (next_after pages i name filled.1 (sorted_tail page.items (all_pairs pages) up) (omega (arith, lt)) lasts)
 
 -- ---- all pairs, around a page for a name
 

@@ -1,5 +1,5 @@
 -- Pairs in pages, one after the other.
-use Rattle.std.specs.Prelude.{◌≡◌, ◌≢◌, ℕ, Bool, zero, suc, ◌+◌, ◌<◌, List, [], ◌∷◌, ◌++◌, length, get_or, IsTrue, not}
+use Rattle.std.specs.Prelude.{◌≡◌, ◌≢◌, ℕ, Bool, zero, suc, ◌+◌, ◌<◌, List, [], ◌∷◌, ◌++◌, length, IsTrue, not}
 use Rattle.std.specs.declared.cmp.Ordering.{Ordering}
 use Rattle.std.specs.declared.cmp.Ordering.TheVariants.{Less, Greater}
 use Rattle.std.specs.Global.{Vec}
@@ -43,10 +43,6 @@ any_binds fid pairs = list_any (λ pair. same_fid pair.1 fid) pairs
 abbrev pub first_cmp : Pairs → Name → Ordering
 first_cmp [] name = Less
 first_cmp (pair ∷ pairs) name = name_cmp pair.0 name
-
--- one of the names is this one or a greater one
-abbrev pub LastsTo : Pairs → Name → Type 0
-LastsTo pairs name = (i : ℕ) × (d : Name × Fid) × (i < length pairs) × (name_cmp (get_or pairs i d).0 name ≢ Less)
 
 -- a page that has the name if any has it: it begins at or before the name, unless it is the first, and the next one after it
 pub record IsPageFor (pages : Pages) (name : Name) (i : ℕ) : Type 0 where

@@ -4,7 +4,7 @@ ghost use Rattle.std.specs.declared.cmp.Ordering.TheVariants.{Greater};
 ghost use Rattle.std.specs.FinMap.Entries.{is_sorted, find, put};
 ghost use Rattle.coda_fid.specs.Name.{name_cmp};
 ghost use Rattle.coda_tree.specs.Bindings.{IsIndexOf, IsGapFor};
-ghost use Rattle.coda_tree.specs.Pages.{all_pairs, any_binds, AreFilled, pairs_at, with_pairs, first_cmp, LastsTo, IsPageFor, without, ChangesPage};
+ghost use Rattle.coda_tree.specs.Pages.{all_pairs, any_binds, AreFilled, pairs_at, with_pairs, first_cmp, IsPageFor, without, ChangesPage};
 
 use crate::guide::Guide;
 use coda_fid::{Fid, Name};
@@ -109,57 +109,6 @@ pub(crate) fn page_for(pages: &[Vec<(Name, Fid)>], guide: &Guide, name: &Name) -
         }
     }
     page_between(pages, name, 0, pages.len())
-}
-
-// Whether the last name of sorted pairs stands before a name; then so do all.
-fn ends_before(page: &[(Name, Fid)], name: &Name) -> bool
-    requires { IsTrue (is_sorted name_cmp page.now) }
-    ensures { result ≡ true → first_cmp page.now name.now ≢ Greater }
-{
-    let count = page.len();
-    count > 0 && page[count - 1].0.compare(name).is_lt()
-}
-
-// Whether a name stands at or before the last name of sorted pairs.
-fn ends_by(page: &[(Name, Fid)], name: &Name) -> bool
-    ensures { result ≡ true → LastsTo page.now name.now }
-{
-    let count = page.len();
-    count > 0 && !page[count - 1].0.compare(name).is_lt()
-}
-
-// Whether a page has a name if any has it: it begins at or before the name, and ends at or behind it.
-fn spans(pages: &[Vec<(Name, Fid)>], name: &Name, at: usize) -> bool
-    requires there { at < length pages.now }
-    requires sorted { IsTrue (is_sorted name_cmp (all_pairs pages.now)) }
-    requires filled { AreFilled pages.now }
-    ensures { result ≡ true → IsPageFor pages.now name.now at }
-{
-    begins_by(pages, name, at) && ends_by(&pages[at], name)
-}
-
-// The page that has a name if any has it. A name is searched for in its page from the end on, so to look at the last name
-// there costs nothing, and the first name of another page is far away. Where there is no guide, names often come in order.
-fn page_of(pages: &[Vec<(Name, Fid)>], guide: &Guide, name: &Name) -> usize
-    requires some { 0 < length pages.now }
-    requires sorted { IsTrue (is_sorted name_cmp (all_pairs pages.now)) }
-    requires filled { AreFilled pages.now }
-    ensures { IsPageFor pages.now name.now result }
-{
-    let last = pages.len() - 1;
-    match guide.between(pages.len(), name) {
-        Some((from, _)) => {
-            if from <= last && spans(pages, name, from) {
-                return from;
-            }
-        }
-        None => {
-            if last > 0 && ends_before(&pages[last], name) {
-                return last;
-            }
-        }
-    }
-    page_for(pages, guide, name)
 }
 
 // What the name is bound to in sorted pairs.
@@ -341,7 +290,7 @@ pub(crate) fn put(
     if pages.is_empty() {
         return put_first(pages, name, fid);
     }
-    let at = page_of(pages, guide, &name);
+    let at = page_for(pages, guide, &name);
     if pages[at].len() < FULL {
         put_at(pages, at, name, fid)
     } else {
@@ -388,7 +337,7 @@ pub(crate) fn find(pages: &[Vec<(Name, Fid)>], guide: &Guide, name: &Name) -> Op
     if pages.is_empty() {
         return None;
     }
-    let at = page_of(pages, guide, name);
+    let at = page_for(pages, guide, name);
     find_in(&pages[at], name)
 }
 
