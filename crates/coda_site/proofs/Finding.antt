@@ -94,7 +94,7 @@ module _ {D : Type 0} (told : D → Told) (out out1 : ℕ → Bool) (has has1 : 
       record {
         outside = [];
         left = making_client cell n blocks area next (Some header);
-        happens = inr (inl (found.0, own, says ∙ ap (λ (m : ℕ). Opened (m ∷ [])) many, refl, refl));
+        happens = inr (inl (found.0, own, (says ∙ ap (λ (m : ℕ). Opened (m ∷ [])) many, refl, refl)));
         answered = sym (append-nil answered);
         stands = subst (IsSite told out1 has1 (making_client cell n blocks area next (Some header))) (sym (made (up_made (client_form told) slot opened))) (made_client next (Some header) takes.0 takes.2 here takes.1.1);
       }
@@ -121,7 +121,7 @@ module _ {D : Type 0} (told : D → Told) (out out1 : ℕ → Bool) (has has1 : 
             record {
               outside = [];
               left = making_client cell n blocks area next (Some header);
-              happens = inr (inr (inr (nil_mapped payload_by actor.history fresh.0, says, refl, refl)));
+              happens = inr (inr (inr (nil_mapped payload_by actor.history fresh.0, (says, refl, refl))));
               answered = sym (append-nil answered);
               stands = subst (IsSite told out1 has1 (making_client cell n blocks area next (Some header))) (sym (made opened.0)) (made_client next (Some header) takes.0 takes.2 here takes.1.1);
             })
@@ -129,7 +129,7 @@ module _ {D : Type 0} (told : D → Told) (out out1 : ℕ → Bool) (has has1 : 
   client_finds (Foreign at) reply answered slot new says takes opened made unmade = record {
     outside = [];
     left = cell;
-    happens = inl (at, takes.1.0.1.0, says, refl, refl);
+    happens = inl (at, takes.1.0.1.0, (says, refl, refl));
     answered = sym (append-nil answered);
     stands = subst (IsSite told out1 has1 cell) (sym (unmade opened)) (foreign_client_site told out out1 has has1 cell seen site is n blocks area absent slots be at takes);
   }
@@ -196,7 +196,7 @@ module _ {D : Type 0} (told : D → Told) (out out1 : ℕ → Bool) (has has1 : 
         inl (record {
           outside = [];
           left = making_volume cell volume server area next (Some asked);
-          happens = inr (inl (found.0, (elim own [ inl same ↦ inl same.0 | inr none ↦ inr none ]), says ∙ ap (λ (m : ℕ). Opened (m ∷ [])) (step.1.1 ∙ ap length found.1 ∙ long), refl, refl));
+          happens = inr (inl (found.0, (elim own [ inl same ↦ inl same.0 | inr none ↦ inr none ]), (says ∙ ap (λ (m : ℕ). Opened (m ∷ [])) (step.1.1 ∙ ap length found.1 ∙ long), refl, refl)));
           answered = sym (append-nil answered);
           stands = subst (IsSite told out1 has1 (making_volume cell volume server area next (Some asked))) (sym made) (made_volume next (Some asked) takes.0 takes.2 at takes.1.1);
         })
@@ -233,7 +233,7 @@ module _ {D : Type 0} (told : D → Told) (out out1 : ℕ → Bool) (has has1 : 
               inl (record {
                 outside = [];
                 left = making_volume cell volume server area next (Some asked);
-                happens = inr (inr (inr (none, says, refl, refl)));
+                happens = inr (inr (inr (none, (says, refl, refl))));
                 answered = sym (append-nil answered);
                 stands = subst (IsSite told out1 has1 (making_volume cell volume server area next (Some asked))) (sym made) (made_volume next (Some asked) takes.0 takes.2 at takes.1.1);
               }))
@@ -246,7 +246,7 @@ module _ {D : Type 0} (told : D → Told) (out out1 : ℕ → Bool) (has has1 : 
     volume_finds (Foreign at) reply answered slot new says takes opened made unmade = inl (record {
       outside = [];
       left = cell;
-      happens = inl (at, (step_of (Foreign at) (takes.0 disk) takes.1.0).1.0, says, refl, refl);
+      happens = inl (at, (step_of (Foreign at) (takes.0 disk) takes.1.0).1.0, (says, refl, refl));
       answered = sym (append-nil answered);
       stands = foreign_volume_site told out out1 has has1 cell seen site is ready volume server area slots be at takes new (unmade opened);
     })

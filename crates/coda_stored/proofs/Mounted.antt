@@ -1,5 +1,5 @@
 -- What lines that make actors find was there before.
-use Rattle.std.proofs.Common.{◌≡◌, ℕ, ◌==◌, ◌&&◌, Bool, true, false, cond, List, [], ◌∷◌, Option, Some, None, refl, sym, ap, ◌∙◌, subst, inl, inr, ◌⊎◌}
+use Rattle.std.proofs.Common.{◌≡◌, ℕ, ◌==◌, ◌&&◌, Bool, true, false, cond, List, Option, Some, None, refl, sym, ap, ◌∙◌, subst, inl, inr, ◌⊎◌}
 use Rattle.std.proofs.lemmas.Bool.{eqb-true, eq-eqb, and_parts}
 use Rattle.coda_actors.specs.Plain.{HasOther}
 use Rattle.coda_journal.specs.declared.header.Header.{Header}
@@ -9,9 +9,9 @@ use Rattle.coda_plain.specs.Logs.{BeginsWith}
 use Rattle.coda_plain.specs.Moves.{TheClient, TheReplica, crashed, recovered}
 use Rattle.coda_script.specs.declared.reply.Reply.{Reply}
 use Rattle.coda_stored.specs.Cells.{Side, StoredCell, client_header, replica_header}
-use Rattle.coda_stored.specs.Kept.{IsClientSide, IsReplicaSide, IsStoredKept}
+use Rattle.coda_stored.specs.Kept.{IsClientSide, IsStoredKept}
 use Rattle.coda_stored.specs.Lines.{Opens, with_client, with_volume}
-use Rattle.coda_stored.specs.Mounted.{Shelf, IsFound, IsFaulty, FindsDisk, asking, with_client_as, with_replica_as, making_client, making_volume, ClientFinds, VolumeFinds, blank, WhatIsFoundWasThere}
+use Rattle.coda_stored.specs.Mounted.{Shelf, IsFound, IsFaulty, FindsDisk, asking, with_client_as, with_replica_as, making_client, making_volume, ClientFinds, VolumeFinds, WhatIsFoundWasThere}
 use Rattle.coda_stored.proofs.Making.{new_client, new_replicas}
 use Rattle.coda_stored.proofs.Remaining.{same_entries, joined_entries}
 
@@ -47,10 +47,10 @@ same_replica old server volume actor same = λ i. record old { made = record old
 -- what is found begins with what the disk holds, or nothing changes
 found_begins : {E : Type 0} (header : Header) (given : Option Header) (actor : Actor E) (make : Actor E → Option Header → StoredCell) (old new : StoredCell) (reply : Reply) (outside : List (List ℕ)) → FindsDisk header given actor make old reply outside new
     → (new ≡ old) ⊎ ((next : Actor E) × (now : Option Header) × (new ≡ make next now) × BeginsWith next.history actor.history)
-found_begins header given actor make old new reply outside (inl (at, other, replied, out, is)) = inl is
-found_begins header given actor make old new reply outside (inr (inl (joins, own, replied, out, is))) = inr (recovered joins actor, Some header, is, joined_entries actor.history joins actor.failed)
+found_begins header given actor make old new reply outside (inl (at, other, (replied, out, is))) = inl is
+found_begins header given actor make old new reply outside (inr (inl (joins, own, (replied, out, is)))) = inr (recovered joins actor, Some header, is, joined_entries actor.history joins actor.failed)
 found_begins header given actor make old new reply outside (inr (inr (inl (replied, out, is)))) = inr (crashed actor, given, is, same_entries actor.history)
-found_begins header given actor make old new reply outside (inr (inr (inr (none, replied, out, is)))) = inr (crashed (recovered false actor), Some header, is, same_entries actor.history)
+found_begins header given actor make old new reply outside (inr (inr (inr (none, (replied, out, is))))) = inr (crashed (recovered false actor), Some header, is, same_entries actor.history)
 
 clients_begin : (old new : StoredCell) (client blocks area : ℕ) (reply : Reply) (outside : List (List ℕ)) → ClientFinds old client blocks area reply outside new
     → (other : ℕ) → BeginsWith (new.made.acted.clients other).history (old.made.acted.clients other).history
@@ -93,18 +93,18 @@ found_nothing header given actor make old new reply outside none is (inr (inr fa
 module _ (old new : StoredCell) (reply : Reply) (outside : List (List ℕ)) (kept : IsStoredKept old) where
   client_opens : (client blocks area : ℕ) → old.made.acted.clients client ≡ new_actor → IsFound (client_header client blocks area) None new_actor (making_client old client blocks area) reply outside new ⊎ IsFaulty (client_header client blocks area) None new_actor (making_client old client blocks area) reply outside new
       → Opens old (client_header client blocks area) (with_client old client blocks area) (TheClient client) reply outside new
-  client_opens client blocks area is (inl (true, own, replied, out, same)) = (out, inl (replied, same ∙ ap (λ (c : StoredCell). with_client c client blocks area (asking (client_header client blocks area) (Some (client_header client blocks area)))) (same_client old client new_actor (sym is))))
-  client_opens client blocks area is (inl (false, own, replied, out, same)) = (out, inl (replied, same ∙ ap (λ (c : StoredCell). with_client c client blocks area (asking (client_header client blocks area) (Some (client_header client blocks area)))) (same_client old client new_actor (sym is))))
+  client_opens client blocks area is (inl (true, own, (replied, out, same))) = (out, inl (replied, same ∙ ap (λ (c : StoredCell). with_client c client blocks area (asking (client_header client blocks area) (Some (client_header client blocks area)))) (same_client old client new_actor (sym is))))
+  client_opens client blocks area is (inl (false, own, (replied, out, same))) = (out, inl (replied, same ∙ ap (λ (c : StoredCell). with_client c client blocks area (asking (client_header client blocks area) (Some (client_header client blocks area)))) (same_client old client new_actor (sym is))))
   client_opens client blocks area is (inr (inl (replied, out, same))) = (out, inr (None, inl refl, replied, same ∙ ap (λ (a : Actor ClientEntry). making_client old client blocks area (crashed a) None) (sym is)))
-  client_opens client blocks area is (inr (inr (none, replied, out, same))) =
+  client_opens client blocks area is (inr (inr (none, (replied, out, same)))) =
       (out, inr (Some (client_header client blocks area), inr refl, replied, same ∙ ap (λ (a : Actor ClientEntry). making_client old client blocks area (crashed a) (Some (client_header client blocks area))) (sym is)))
 
   volume_opens : (volume server area : ℕ) → old.made.acted.replicas server volume ≡ new_actor → IsFound (replica_header volume server area) None new_actor (making_volume old volume server area) reply outside new ⊎ IsFaulty (replica_header volume server area) None new_actor (making_volume old volume server area) reply outside new
       → Opens old (replica_header volume server area) (with_volume old volume server area) (TheReplica server volume) reply outside new
-  volume_opens volume server area is (inl (true, own, replied, out, same)) = (out, inl (replied, same ∙ ap (λ (c : StoredCell). with_volume c volume server area (asking (replica_header volume server area) (Some (replica_header volume server area)))) (same_replica old server volume new_actor (sym is))))
-  volume_opens volume server area is (inl (false, own, replied, out, same)) = (out, inl (replied, same ∙ ap (λ (c : StoredCell). with_volume c volume server area (asking (replica_header volume server area) (Some (replica_header volume server area)))) (same_replica old server volume new_actor (sym is))))
+  volume_opens volume server area is (inl (true, own, (replied, out, same))) = (out, inl (replied, same ∙ ap (λ (c : StoredCell). with_volume c volume server area (asking (replica_header volume server area) (Some (replica_header volume server area)))) (same_replica old server volume new_actor (sym is))))
+  volume_opens volume server area is (inl (false, own, (replied, out, same))) = (out, inl (replied, same ∙ ap (λ (c : StoredCell). with_volume c volume server area (asking (replica_header volume server area) (Some (replica_header volume server area)))) (same_replica old server volume new_actor (sym is))))
   volume_opens volume server area is (inr (inl (replied, out, same))) = (out, inr (None, inl refl, replied, same ∙ ap (λ (a : Actor ReplicaEntry). making_volume old volume server area (crashed a) None) (sym is)))
-  volume_opens volume server area is (inr (inr (none, replied, out, same))) =
+  volume_opens volume server area is (inr (inr (none, (replied, out, same)))) =
       (out, inr (Some (replica_header volume server area), inr refl, replied, same ∙ ap (λ (a : Actor ReplicaEntry). making_volume old volume server area (crashed a) (Some (replica_header volume server area))) (sym is)))
 
 given_none : (client : ℕ) (o : Option ℕ) (actor : Actor ClientEntry) (side : Side) → o ≡ None → IsClientSide client o actor side → side.given ≡ None

@@ -25,7 +25,7 @@ module _ {E : Type 0} where
   then_entries : (xs ys zs : List E) → BeginsWith ys xs → BeginsWith zs ys → BeginsWith zs xs
   then_entries xs ys zs a b = (a.0 ++ b.0, b.1 ∙ ap (λ l. l ++ b.0) a.1 ∙ append_assoc xs a.0 b.0)
 
-  joined_entries : (history : List E) (joins : Bool) (failed : Option E) → BeginsWith (joined_to history joins failed) history
+  pub joined_entries : (history : List E) (joins : Bool) (failed : Option E) → BeginsWith (joined_to history joins failed) history
   joined_entries history true (Some e) = (e ∷ [], refl)
   joined_entries history true None = same_entries history
   joined_entries history false failed = same_entries history
