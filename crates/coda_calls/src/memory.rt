@@ -1,6 +1,6 @@
 // What becomes of an operation of a client and of a decision of a replica, each on a disk, where they find no memory:
-// nothing changes, and the same call is done afterwards, once. Where there is memory, they are done at once. `.ci/memory`
-// lets each allocation fail in turn.
+// nothing changes, and the same call is done afterwards, once. Where there is memory, they are done at once.
+// `.ci/memory` lets each allocation fail in turn.
 ghost use Rattle.std.specs.Prelude.{◌≡◌, IfSome};
 ghost use Rattle.coda_fid.specs.Name.{AreNames};
 ghost use Rattle.coda_record.specs.Entries.{node as a_node};
