@@ -1,12 +1,12 @@
 -- What lines that make actors leave on the disks that they find.
-use Rattle.std.proofs.Common.{◌≡◌, ◌≢◌, inl, inr, ◌⊎◌, ℕ, suc, ◌+◌, ◌==◌, ◌&&◌, Bool, true, false, cond, List, [], ◌∷◌, append-nil, length, Option, Some, None, option_map, refl, sym, ap, subst, ◌∙◌}
-use Rattle.std.proofs.lemmas.Bool.{cases_eq, eq-eqb, ne_eqb, and_right}
+use Rattle.std.proofs.Common.{◌≡◌, ◌≢◌, inl, inr, ◌⊎◌, ℕ, suc, ◌+◌, ◌==◌, Bool, true, false, cond, List, [], ◌∷◌, append-nil, length, Option, Some, None, refl, sym, ap, subst, ◌∙◌}
+use Rattle.std.proofs.lemmas.Bool.{cases_eq, ne_eqb, and_right}
 use Rattle.std.proofs.lemmas.List.{length-map}
 use Rattle.std.specs.BTreeMap.{BTreeMap}
 use Rattle.coda_disk.specs.Told.{Told}
 use Rattle.coda_journal.specs.declared.header.Header.{Header}
 use Rattle.coda_actors.specs.Clients.{client_form}
-use Rattle.coda_actors.specs.Plain.{PlainActor, Step, Joins, HasOther, Opens as OpenDeed}
+use Rattle.coda_actors.specs.Plain.{PlainActor, Step, Opens as OpenDeed}
 use Rattle.coda_actors.specs.Replicas.{replica_form}
 use Rattle.coda_actors.specs.Slots.{is_made, IsOpened}
 use Rattle.coda_actors.specs.declared.slot.Mounting.{Mounting}
@@ -18,12 +18,9 @@ use Rattle.coda_plain.specs.Decisions.{ReplicaEntry}
 use Rattle.coda_plain.specs.Moves.{crashed, recovered}
 use Rattle.coda_record.specs.declared.entry.ReplicaEntry.{ReplicaEntry as KeptEntry}
 use Rattle.coda_replica.specs.declared.replica.Replica.{Replica}
-use Rattle.coda_script.specs.declared.line.Line.{Line}
-use Rattle.coda_script.specs.declared.line.Line.TheVariants as line
 use Rattle.coda_script.specs.declared.reply.Reply.{Reply}
 use Rattle.coda_script.specs.declared.reply.Reply.TheVariants.{Opened}
-use Rattle.coda_cell.specs.Steps.{alone}
-use Rattle.coda_matching.specs.Clients.{payload_by, journal_by}
+use Rattle.coda_matching.specs.Clients.{payload_by}
 use Rattle.coda_matching.specs.Replicas.{journal_at}
 use Rattle.coda_venus.specs.History.{Payload}
 use Rattle.coda_venus.specs.declared.venus.Venus.{Venus}
@@ -32,9 +29,8 @@ use Rattle.coda_stored.specs.Lines.{refused_fault}
 use Rattle.coda_stored.specs.Mounted.{Shelf, plain_shelf, IsShelved, asking, with_replica_as, making_client, making_volume, ClientFinds, VolumeFinds}
 use Rattle.coda_stored.specs.Seen.{IsSeen}
 use Rattle.coda_site.specs.Makings.{SaysOpened}
-use Rattle.coda_site.specs.Sites.{is_client_disk, is_replica_disk, place_in, IsReady, IsSite}
+use Rattle.coda_site.specs.Sites.{is_client_disk, is_replica_disk, IsReady, IsSite}
 use Rattle.coda_site.specs.Steps.{Becomes}
-use Rattle.coda_site.specs.declared.site.Place.{Place}
 use Rattle.coda_site.specs.declared.site.Site.{Site}
 use Rattle.coda_site.proofs.ClientLines.{client_site, found_by, nil_mapped}
 use Rattle.coda_site.proofs.ClientSites.{with_clients, plain_clients}
@@ -58,8 +54,8 @@ module _ {D : Type 0} (told : D → Told) (out out1 : ℕ → Bool) (has has1 : 
   abbrev given : Option Header
   given = (cell.clients n).given
 
-  abbrev Opening : Mounting → Type 0
-  Opening mounting = Takes (client_form told) told is_client_disk (plain_clients cell) n (OpenDeed header mounting) out1 has1 slots
+  abbrev ClientOpening : Mounting → Type 0
+  ClientOpening mounting = Takes (client_form told) told is_client_disk (plain_clients cell) n (OpenDeed header mounting) out1 has1 slots
 
   -- the client that was made is this one, on a disk with this header
   made_client : (next : Actor ClientEntry) (has_now : Option Header) (new : ℕ → PlainActor Payload) → FitsAll (client_form told) told is_client_disk out1 has1 slots new → new n ≡ plain_client next (asking header has_now)
@@ -77,7 +73,7 @@ module _ {D : Type 0} (told : D → Told) (out out1 : ℕ → Bool) (has has1 : 
         net = s.net;
       }
 
-  pub client_finds : (mounting : Mounting) (reply : Reply) (answered : List (List ℕ)) (slot : Slot (Venus D) D) (new : Site D) → SaysOpened mounting reply → Opening mounting → IsOpened (client_form told) mounting slot
+  pub client_finds : (mounting : Mounting) (reply : Reply) (answered : List (List ℕ)) (slot : Slot (Venus D) D) (new : Site D) → SaysOpened mounting reply → ClientOpening mounting → IsOpened (client_form told) mounting slot
       → (is_made slot ≡ true → new ≡ with_client_area site slots area) → (is_made slot ≡ false → new ≡ with_clients site slots) → Becomes told out1 has1 (ClientFinds cell n blocks area) reply answered answered new
   client_finds (Entries count) reply answered slot new says takes opened made unmade =
       let step = takes.1.0 in
@@ -166,8 +162,8 @@ module _ {D : Type 0} (told : D → Told) (out out1 : ℕ → Bool) (has has1 : 
         (with_replica_as cell server volume next).made.acted.replicas new (ruler_here cell server volume next)
         (λ s v other. λ i. cond (and_right (s == server) (v == volume) (ne_eqb v volume other) i) next (cell.made.acted.replicas s v)) fits at else
 
-    abbrev Opening : Mounting → Type 0
-    Opening mounting = Takes (replica_form told) told is_replica_disk plain disk (OpenDeed asked mounting) out1 has1 slots
+    abbrev VolumeOpening : Mounting → Type 0
+    VolumeOpening mounting = Takes (replica_form told) told is_replica_disk plain disk (OpenDeed asked mounting) out1 has1 slots
 
     -- what it finds, or that the disk of another volume failed
     abbrev Found : Reply → List (List ℕ) → Site D → Type 0
@@ -176,14 +172,13 @@ module _ {D : Type 0} (told : D → Told) (out out1 : ℕ → Bool) (has has1 : 
     step_of : (mounting : Mounting) (new : PlainActor KeptEntry) → Step (replica_form told) (plain disk) (OpenDeed asked mounting) new → Step (replica_form told) (plain_shelf shelf) (OpenDeed asked mounting) new
     step_of mounting new step = subst (λ (p : PlainActor KeptEntry). Step (replica_form told) p (OpenDeed asked mounting) new) old_is step
 
-    entries_found : (count : ℕ) (reply : Reply) (answered : List (List ℕ)) (new : Site D) → SaysOpened (Entries count) reply → Opening (Entries count) → new ≡ record noted { replicas = slots; areas = noted.areas + area } → Found reply answered new
+    entries_found : (count : ℕ) (reply : Reply) (answered : List (List ℕ)) (new : Site D) → SaysOpened (Entries count) reply → VolumeOpening (Entries count) → new ≡ record noted { replicas = slots; areas = noted.areas + area } → Found reply answered new
     entries_found count reply answered new says takes made =
         let step = step_of (Entries count) (takes.0 disk) takes.1.0 in
         let joined = step.1.0 in
         let found = found_at asked shelf.volume shelf.given held (takes.0 disk).disk joined in
         let next = recovered found.0 held in
-        let alone_in = λ e i. joined_in held found.0 e shelved.alone i in
-        let long = kept_long shelf.volume [] next.history alone_in in
+        let long = kept_long shelf.volume [] next.history (λ e i. joined_in held found.0 e shelved.alone i) in
         let own : ((shelf.given ≡ Some asked) × (volume ≡ shelf.volume)) ⊎ (next.history ≡ []) = elim joined.was [
           | inl same ↦ inl (same, shelved.named asked same)
           | inr none ↦ inr (nil_by_length next.history (sym long ∙ ap length (sym found.1 ∙ none.1)))
@@ -201,7 +196,7 @@ module _ {D : Type 0} (told : D → Told) (out out1 : ℕ → Bool) (has has1 : 
           stands = subst (IsSite told out1 has1 (making_volume cell volume server area next (Some asked))) (sym made) (made_volume next (Some asked) takes.0 takes.2 at takes.1.1);
         })
 
-    fault_found : (reply : Reply) (answered : List (List ℕ)) (new : Site D) → SaysOpened DiskFault reply → Opening DiskFault → new ≡ record noted { replicas = slots; areas = noted.areas + area } → Found reply answered new
+    fault_found : (reply : Reply) (answered : List (List ℕ)) (new : Site D) → SaysOpened DiskFault reply → VolumeOpening DiskFault → new ≡ record noted { replicas = slots; areas = noted.areas + area } → Found reply answered new
     fault_found reply answered new says takes made =
         let step = step_of DiskFault (takes.0 disk) takes.1.0 in
         elim step.1 [
@@ -239,7 +234,7 @@ module _ {D : Type 0} (told : D → Told) (out out1 : ℕ → Bool) (has has1 : 
               }))
         ]
 
-    pub volume_finds : (mounting : Mounting) (reply : Reply) (answered : List (List ℕ)) (slot : Slot (Replica D) D) (new : Site D) → SaysOpened mounting reply → Opening mounting → IsOpened (replica_form told) mounting slot
+    pub volume_finds : (mounting : Mounting) (reply : Reply) (answered : List (List ℕ)) (slot : Slot (Replica D) D) (new : Site D) → SaysOpened mounting reply → VolumeOpening mounting → IsOpened (replica_form told) mounting slot
         → (is_made slot ≡ true → new ≡ record noted { replicas = slots; areas = noted.areas + area }) → (is_made slot ≡ false → IsAsBefore site slots new) → Found reply answered new
     volume_finds (Entries count) reply answered slot new says takes opened made unmade = entries_found count reply answered new says takes (made (up_made (replica_form told) slot opened))
     volume_finds DiskFault reply answered slot new says takes opened made unmade = fault_found reply answered new says takes (made opened.0)
