@@ -1,10 +1,9 @@
 -- Lines that make volumes.
-use Rattle.std.proofs.Common.{◌≡◌, ◌≢◌, inl, inr, ℕ, ◌+◌, ◌*◌, ◌-◌, ◌≤◌, ◌<◌, ◌==◌, ◌&&◌, arith, Bool, true, false, cond, List, [], ◌∷◌, ◌++◌, append-nil, length, Option, Some, None, is_some, IfSome, option_map, refl, sym, ap, subst, ◌∙◌}
-use Rattle.std.proofs.lemmas.Bool.{cases_eq, eq-eqb, ne_eqb, and_right}
+use Rattle.std.proofs.Common.{◌≡◌, ◌≢◌, inl, inr, ℕ, ◌+◌, ◌*◌, ◌-◌, ◌≤◌, ◌<◌, ◌==◌, ◌&&◌, arith, Bool, true, cond, List, [], ◌∷◌, append-nil, length, Option, Some, None, refl, sym, ap, subst, ◌∙◌}
+use Rattle.std.proofs.lemmas.Bool.{eq-eqb, ne_eqb, and_right}
 use Rattle.std.specs.BTreeMap.{BTreeMap}
 use Rattle.coda_disk.specs.Told.{Told}
 use Rattle.coda_journal.specs.declared.header.Header.{Header}
-use Rattle.coda_actors.specs.Clients.{client_form}
 use Rattle.coda_actors.specs.Slots.{is_made, IsOpened}
 use Rattle.coda_actors.specs.Plain.{PlainDisk, PlainActor, Step, Opens as OpenDeed}
 use Rattle.coda_actors.specs.Replicas.{replica_form}
@@ -12,7 +11,6 @@ use Rattle.coda_actors.specs.declared.slot.Mounting.{Mounting}
 use Rattle.coda_actors.specs.declared.slot.Mounting.TheVariants.{Entries, Foreign, DiskFault, Memory}
 use Rattle.coda_actors.specs.declared.slot.Slot.{Slot}
 use Rattle.coda_crew.specs.Crews.{FitsAll, Takes, LeavesBe}
-use Rattle.coda_crew.proofs.Lifts.{left_fits}
 use Rattle.coda_plain.specs.Cell.{Actor}
 use Rattle.coda_plain.specs.Decisions.{ReplicaEntry}
 use Rattle.coda_plain.specs.Moves.{TheReplica, Crashes, crashed}
@@ -20,13 +18,11 @@ use Rattle.coda_record.specs.declared.entry.ReplicaEntry.{ReplicaEntry as KeptEn
 use Rattle.coda_replica.specs.declared.replica.Replica.{Replica}
 use Rattle.coda_script.specs.declared.reply.Reply.{Reply}
 use Rattle.coda_script.specs.declared.reply.Reply.TheVariants.{Opened}
-use Rattle.coda_cell.specs.Cells.{IsNetwork}
-use Rattle.coda_cell.specs.State.{put}
-use Rattle.coda_stored.specs.Cells.{Side, StoredCell, plain_client, plain_replica, replica_header, disk_number, unmade, moved}
+use Rattle.coda_stored.specs.Cells.{Side, StoredCell, plain_replica, replica_header, disk_number, unmade, moved}
 use Rattle.coda_stored.specs.Kept.{IsStoredKept, IsReplicaSide}
 use Rattle.coda_stored.specs.Lines.{IsTried, Opens, with_volume}
 use Rattle.coda_site.specs.Makings.{SaysOpened}
-use Rattle.coda_site.specs.Sites.{is_client_disk, is_replica_disk, place_in, IsSite}
+use Rattle.coda_site.specs.Sites.{is_client_disk, is_replica_disk, IsSite}
 use Rattle.coda_site.specs.Steps.{Becomes}
 use Rattle.coda_site.specs.declared.site.Place.{Place}
 use Rattle.coda_site.specs.declared.site.Site.{Site}
