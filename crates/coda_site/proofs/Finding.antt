@@ -201,22 +201,22 @@ module _ {D : Type 0} (told : D → Told) (out out1 : ℕ → Bool) (has has1 : 
         let step = step_of DiskFault (takes.0 disk) takes.1.0 in
         elim step.1 [
           | inl same ↦ (elim (cases_eq shelf.volume volume) [
-              | inl own ↦ (
-                  let next = crashed held in
-                  let at : takes.0 disk ≡ plain_replica volume next (asking asked shelf.given) = λ i. record {
-                    disk = (same ∙ ap (λ (v : ℕ). (plain_replica v next (asking asked shelf.given)).disk) own) i;
-                    life = step.2 i;
-                    left = step.3 i;
-                  } in
-                  inl (record {
-                    outside = [];
-                    left = making_volume cell volume server area next shelf.given;
-                    happens = inr (inr (inl (says, refl, refl)));
-                    answered = sym (append-nil answered);
-                    stands = subst (IsSite told out1 has1 (making_volume cell volume server area next shelf.given)) (sym made) (made_volume next shelf.given takes.0 takes.2 at takes.1.1);
-                  }))
-              | inr other ↦ inr (other, says)
-            ])
+            | inl own ↦ (
+                let next = crashed held in
+                let at : takes.0 disk ≡ plain_replica volume next (asking asked shelf.given) = λ i. record {
+                  disk = (same ∙ ap (λ (v : ℕ). (plain_replica v next (asking asked shelf.given)).disk) own) i;
+                  life = step.2 i;
+                  left = step.3 i;
+                } in
+                inl (record {
+                  outside = [];
+                  left = making_volume cell volume server area next shelf.given;
+                  happens = inr (inr (inl (says, refl, refl)));
+                  answered = sym (append-nil answered);
+                  stands = subst (IsSite told out1 has1 (making_volume cell volume server area next shelf.given)) (sym made) (made_volume next shelf.given takes.0 takes.2 at takes.1.1);
+                }))
+            | inr other ↦ inr (other, says)
+          ])
           | inr fresh ↦ (
               let next = crashed (recovered false held) in
               let none : held.history ≡ [] = nil_by_length held.history (sym (kept_long shelf.volume [] held.history (λ e i. joined_in held false e shelved.alone i)) ∙ ap length fresh.0) in

@@ -119,7 +119,7 @@ what_is_found_was_there = record {
       let side = kept.clients client in
       let is = new_client client (old.made.sizes client) (old.made.acted.clients client) (old.clients client) none side in
       client_opens old new reply outside kept client blocks area is
-          (found_nothing (client_header client blocks area) (old.clients client).given (old.made.acted.clients client) (making_client old client blocks area) old new reply outside (given_none client (old.made.sizes client) (old.made.acted.clients client) (old.clients client) none side) is finds);
+      (found_nothing (client_header client blocks area) (old.clients client).given (old.made.acted.clients client) (making_client old client blocks area) old new reply outside (given_none client (old.made.sizes client) (old.made.acted.clients client) (old.clients client) none side) is finds);
   new_volumes = λ old new volume server area reply outside kept none finds.
       let is = new_replicas volume (old.made.homes volume) (λ s. old.made.acted.replicas s volume) (old.replicas volume) none (kept.replicas volume) server in
       volume_opens old new reply outside kept volume server area is (found_nothing (replica_header volume server area) None new_actor (making_volume old volume server area) old new reply outside refl refl finds);
