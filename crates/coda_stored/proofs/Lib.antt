@@ -16,3 +16,5 @@ pub mod Absent
 pub mod Makers
 pub mod Patient
 pub mod Mounted
+pub mod Idling
+pub mod HeldClients

@@ -19,6 +19,8 @@ use Rattle.coda_stored.specs.Laws.{Begins}
 use Rattle.coda_stored.specs.Lines.{IsRefused, RecoversClient, RecoversReplica, with_client_side, with_replica_side, recovered_side}
 use Rattle.coda_stored.specs.Resuming.{stopped, forgotten, at_rest, Awaited, ClientAgain, VolumeAgain, AsksAgain, AreAwaited, with_area, MakesAgain, CellsAreResumed}
 use Rattle.coda_stored.proofs.Disks.{recovers_client, recovers_replica}
+use Rattle.coda_stored.proofs.Idling.{recovers_client_idle, recovers_replica_idle}
+use Rattle.coda_stored.proofs.Sides.{actors_kept, with_idle}
 use Rattle.coda_stored.proofs.Remaining.{same_entries, recovers_client_begins, recovers_replica_begins}
 
 -- ---- a cell without letters
@@ -54,7 +56,7 @@ quiet_kept cell kept = record {
     };
   };
   up = record { clients = kept.up.clients; replicas = kept.up.replicas };
-  made = record { numbered = kept.made.numbered; clients = kept.made.clients; volumes = kept.made.volumes; replicas = kept.made.replicas };
+  made = record { numbered = kept.made.numbered; clients = kept.made.clients; replicas = kept.made.replicas };
   holding = λ client blocks e. let h = kept.holding client blocks e in record { bound = h.bound; within = h.within; made = h.made; kept = h.kept };
   letters = record { numbered = tt; pooled = tt };
 }
@@ -115,6 +117,7 @@ rest_begins : (cell : StoredCell) → Begins (at_rest cell) cell
 rest_begins cell = record {
   clients = λ client. begins_stopped (cell.made.sizes client) (cell.made.acted.clients client);
   replicas = λ server volume. begins_stopped (cell.made.homes volume) (cell.made.acted.replicas server volume);
+  learned = refl;
 }
 
 -- ---- an actor is made again
@@ -134,12 +137,12 @@ area_kept cell area kept = record {
 
 lines_kept : (old new : StoredCell) (volumes areas : ℕ) (awaited : Awaited) (left : List Awaited) (reply : Reply) → IsStoredKept old → AreAwaited old volumes areas (awaited ∷ left) → MakesAgain old awaited reply new → IsStoredKept new
 lines_kept old new volumes areas (ClientAgain client blocks area) left reply kept awaited (said, mid, did, is, same) =
-    subst IsStoredKept (sym same) (area_kept mid area (recovers_client old kept said [] mid client blocks awaited.0 did))
+    subst IsStoredKept (sym same) (area_kept mid area (with_idle old mid kept (recovers_client old (actors_kept old kept) said [] mid client blocks awaited.0 did) (recovers_client_idle old said [] mid client did)))
 lines_kept old new volumes areas (VolumeAgain volume server area) left reply kept awaited (said, mid, did, is, same) =
-    subst IsStoredKept (sym same) (area_kept mid area (recovers_replica old kept said [] mid server volume awaited.0 did))
+    subst IsStoredKept (sym same) (area_kept mid area (with_idle old mid kept (recovers_replica old (actors_kept old kept) said [] mid server volume awaited.0 did) (recovers_replica_idle old said [] mid server volume did)))
 
 area_begins : (old mid : StoredCell) (area : ℕ) → Begins mid old → Begins (with_area mid area) old
-area_begins old mid area begins = record { clients = begins.clients; replicas = begins.replicas }
+area_begins old mid area begins = record { clients = begins.clients; replicas = begins.replicas; learned = begins.learned }
 
 lines_begin : (old new : StoredCell) (awaited : Awaited) (reply : Reply) → MakesAgain old awaited reply new → Begins new old
 lines_begin old new (ClientAgain client blocks area) reply (said, mid, did, is, same) =
