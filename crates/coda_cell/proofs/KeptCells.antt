@@ -61,7 +61,7 @@ pub cells_are_kept : CellsAreKept
 cells_are_kept = record { first = first_kept; orderly = orderly }
 
 -- a client that did nothing holds nothing
-nothing_holding : (cell : PlainCell) (client blocks : ℕ) (history : List ClientEntry) → history ≡ [] → IsHolding cell (client_of client history blocks)
+pub nothing_holding : (cell : PlainCell) (client blocks : ℕ) (history : List ClientEntry) → history ≡ [] → IsHolding cell (client_of client history blocks)
 nothing_holding cell client blocks history none = subst (λ h. IsHolding cell (client_of client h blocks)) (sym none) (record {
   bound = λ f p is. (let no : None ≡ Some p = sym (finite.get-empty fid_cmp f) ∙ is in cc);
   within = λ dir fid name is. (let no : None ≡ Some fid = ap (λ o. child_of o name) (sym (finite.get-empty fid_cmp dir)) ∙ is in cc);

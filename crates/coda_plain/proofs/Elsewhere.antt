@@ -43,7 +43,7 @@ chunks_from deeds (deed ∷ more) f =
 
 module _ (old new : ℕ → List ClientEntry) (begins : (client : ℕ) → BeginsWith (new client) (old client)) (lawful : (client volume : ℕ) → AreLawful (deeds_of volume (new client))) where
   -- what the client did behind
-  behind : (client volume : ℕ) → List Deed
+  abbrev behind : (client volume : ℕ) → List Deed
   behind client volume = deeds_of volume (begins client).0
 
   deeds_are : (client volume : ℕ) → deeds_of volume (new client) ≡ deeds_of volume (old client) ++ behind client volume

@@ -1,6 +1,6 @@
 -- Cells over disks that earlier runs left are kept, whoever comes.
 use Rattle.std.proofs.Common.{◌≡◌, ◌≢◌, ◌⊎◌, ℕ, ◌+◌, ◌<◌, ◌≤◌, ◌==◌, ◌||◌, ◌-◌, Bool, true, false, cond, List, [], ◌∷◌, ◌++◌, length, take, Option, Some, None, is_some, refl, sym, ap, ◌∙◌, subst, inl, inr, arith}
-use Rattle.std.proofs.lemmas.Bool.{eqb-true, eqb-false, eq-eqb, ne_eqb, cases_Bool, cases_eq, or_false}
+use Rattle.std.proofs.lemmas.Bool.{eqb-true, eqb-false, eq-eqb, ne_eqb, cases_Bool, cases_eq}
 use Rattle.coda_actors.specs.Plain.{PlainActor, Unmade}
 use Rattle.coda_journal.specs.declared.header.Header.{Header}
 use Rattle.coda_plain.specs.Cell.{ClientEntry, Actor, new_actor, PlainCell, Joins, found, found_in}
@@ -53,7 +53,7 @@ shelf_stays old new number begins kept same is = record {
 
 -- ---- clients alone are awaited
 
-no_volumes : (left : List Awaited) → AreClients left → (volume : ℕ) → awaits_volume left volume ≡ false
+pub no_volumes : (left : List Awaited) → AreClients left → (volume : ℕ) → awaits_volume left volume ≡ false
 no_volumes [] are volume = refl
 no_volumes (ClientAgain client blocks area ∷ left) are volume = no_volumes left are volume
 no_volumes (VolumeAgain v server area ∷ left) are volume = absurd are
@@ -68,12 +68,12 @@ idle_same cell [] are number = refl
 idle_same cell (ClientAgain client blocks area ∷ left) are number = idle_same cell left are number
 idle_same cell (VolumeAgain v server area ∷ left) are number = absurd are
 
-take_all : (l : List ℕ) → take (length l - 0) l ≡ l
+take_all : (l : List ℕ) → take (length l) l ≡ l
 take_all [] = refl
 take_all (x ∷ l) = ap (λ t. x ∷ t) (take_all l)
 
 pub servers_same : (servers : List ℕ) (left : List Awaited) → AreClients left → servers_before servers left ≡ servers
-servers_same servers left are = ap (λ (l : List ℕ). take (length servers - length l) servers) (no_servers left are) ∙ take_all servers
+servers_same servers left are = ap (λ (l : List ℕ). take (length servers - length l) servers) (no_servers left are) ∙ ap (λ n. take n servers) (let all : length servers - 0 ≡ length servers = omega arith in all) ∙ take_all servers
 
 -- ---- lines that mount no disk of an actor that they make
 

@@ -173,28 +173,28 @@ module _ (old : StoredCell) (kept : IsCellKept old) (client blocks area : ℕ) (
     pub actor : Actor ClientEntry
     pub given : Option Header
     pub is : new ≡ making_client old client blocks area actor given
-    pub kept : IsCellKept new
+    pub keeps : IsCellKept new
     pub begins : BeginsWith actor.history was.history
 
   -- whatever it finds, but for a fault of the disk of another
   pub client_finds : (reply : Reply) (outside : List (List ℕ)) (new : StoredCell) → ClientFinds old client blocks area reply outside new
       → (new ≡ old) ⊎ (IsMadeOn new ⊎ ((reply ≡ refused_fault) × IsAnothers header (old.clients client).given))
-  client_finds reply outside new (inl refused) = inl refused.2.2.2
+  client_finds reply outside new (inl refused) = inl refused.2.2
   client_finds reply outside new (inr (inl (joins, is, said))) = inr (inl (record {
     actor = recovered joins was;
     given = Some header;
     is = said.2;
-    kept = subst IsCellKept (sym said.2) (found_kept joins is);
+    keeps = subst IsCellKept (sym said.2) (found_kept joins is);
     begins = joined_entries was.history joins was.failed;
   }))
   client_finds reply outside new (inr (inr (inr (none, said)))) = inr (inl (record {
     actor = crashed (recovered false was);
     given = Some header;
     is = said.2;
-    kept = subst IsCellKept (sym said.2) (emptied_kept none);
+    keeps = subst IsCellKept (sym said.2) (emptied_kept none);
     begins = same_entries was.history;
   }))
   client_finds reply outside new (inr (inr (inl said))) = elim (judged (old.made.sizes client) (old.clients client).given (old.clients client) refl (kept.clients client)) [
-    | inl own ↦ inr (inl (record { actor = crashed was; given = (old.clients client).given; is = said.2; kept = subst IsCellKept (sym said.2) (crashed_kept own); begins = same_entries was.history }))
+    | inl own ↦ inr (inl (record { actor = crashed was; given = (old.clients client).given; is = said.2; keeps = subst IsCellKept (sym said.2) (crashed_kept own); begins = same_entries was.history }))
     | inr another ↦ inr (inr (said.0, another))
   ]

@@ -8,12 +8,13 @@ use Rattle.coda_plain.specs.Decisions.{ReplicaEntry}
 use Rattle.coda_plain.specs.Deeds.{Settlement, settlement_at, settlements_of}
 use Rattle.coda_plain.specs.Elsewhere.{DoesFit, without_replicas, IsLearned}
 use Rattle.coda_plain.specs.Histories.{In}
+use Rattle.coda_plain.specs.Logs.{BeginsWith}
 use Rattle.coda_plain.specs.Sound.{DoAgree}
 use Rattle.coda_plain.proofs.Elsewhere.{deeds_append, told_begins, replicas_stand_elsewhere}
 use Rattle.coda_plain.proofs.Lists.{in_left, in_right}
 use Rattle.coda_plain.proofs.Soundness.{none_joins}
 use Rattle.coda_record.specs.declared.entry.ReplicaEntry.{ReplicaEntry as KeptEntry}
-use Rattle.coda_cell.specs.Runs.{IsKept}
+use Rattle.coda_cell.specs.Runs.{AreNumbered, ArePooled, IsKept}
 use Rattle.coda_matching.specs.Replicas.{IsDecision}
 use Rattle.coda_stored.specs.Cells.{Side, StoredCell, replica_header, plain_replica}
 use Rattle.coda_stored.specs.Held.{IsLabelled, IsShelfKept, unhoused, clients_among, unmade_from, AreClients, IsHeld}
@@ -80,7 +81,7 @@ module _ (cell : StoredCell) (kept : IsStoredKept cell) (lines : List Awaited) (
         up = record { clients = k.up.clients; replicas = λ s v. refl };
         made = record { numbered = k.made.numbered; clients = k.made.clients; replicas = λ s v e. nothing_found (joins.replicas s v) };
         holding = λ client blocks e. let h = k.holding client blocks e in record { bound = h.bound; within = h.within; made = h.made; kept = h.kept };
-        letters = record { numbered = subst (λ w. _) (sym silent) tt; pooled = subst (λ w. _) (sym silent) tt };
+        letters = record { numbered = subst (AreNumbered 0 cell.made.acted.posted) (sym silent) tt; pooled = subst (ArePooled (whole first.made joins).acted) (sym silent) tt };
       }
 
   pub actors : IsCellKept first
@@ -172,3 +173,6 @@ held_first past lines kept again =
       kept = actors (at_rest past) rested lines refl refl;
       shelves = shelves (at_rest past) rested lines refl refl again.each;
     }
+
+pub clients_begin : (past : StoredCell) (lines : List Awaited) (client : ℕ) → BeginsWith ((unmade_from past lines).made.acted.clients client).history (past.made.acted.clients client).history
+clients_begin past lines client = (cells_are_resumed.begins past).clients client

@@ -172,23 +172,23 @@ module _ (old : StoredCell) (kept : IsCellKept old) (volume server area : ℕ) (
     pub actor : Actor ReplicaEntry
     pub given : Option Header
     pub is : new ≡ making_volume old volume server area actor given
-    pub kept : IsCellKept new
+    pub keeps : IsCellKept new
 
   pub volume_finds : (shelf : Shelf) → IsOwnShelf shelf → (reply : Reply) (outside : List (List ℕ)) (new : StoredCell) → VolumeFinds old shelf volume server area reply outside new
       → (new ≡ old) ⊎ (IsMadeOn shelf new ⊎ ((reply ≡ refused_fault) × IsAnothers header shelf.given))
-  volume_finds shelf own reply outside new (inl refused) = inl refused.2.2.2
+  volume_finds shelf own reply outside new (inl refused) = inl refused.2.2
   volume_finds shelf own reply outside new (inr (inl (joins, is, said))) = inr (inl (record {
     actor = recovered joins shelf.actor;
     given = Some header;
     is = said.2;
-    kept = subst IsCellKept (sym said.2) (made_kept (recovered joins shelf.actor) (Some header) (λ up. refl) (alone_recovered shelf.actor joins own.alone) refl (λ b.
+    keeps = subst IsCellKept (sym said.2) (made_kept (recovered joins shelf.actor) (Some header) (λ up. refl) (alone_recovered shelf.actor joins own.alone) refl (λ b.
     subst (DoesFit (λ client. (old.made.acted.clients client).history) server volume) (sym (found_recovered b joins shelf.actor)) (elim is [ inl given ↦ own.fits given joins | inr nothing ↦ fits_nothing _ nothing ])));
   }))
   volume_finds shelf own reply outside new (inr (inr (inr (nothing, said)))) = inr (inl (record {
     actor = crashed (recovered false shelf.actor);
     given = Some header;
     is = said.2;
-    kept = subst IsCellKept (sym said.2) (made_kept (crashed (recovered false shelf.actor)) (Some header) (λ up. cc) (alone_crashed (recovered false shelf.actor) (alone_recovered shelf.actor false own.alone)) refl
+    keeps = subst IsCellKept (sym said.2) (made_kept (crashed (recovered false shelf.actor)) (Some header) (λ up. cc) (alone_crashed (recovered false shelf.actor) (alone_recovered shelf.actor false own.alone)) refl
     (λ b. fits_nothing _ (found_nothing b (crashed (recovered false shelf.actor)) nothing refl)));
   }))
   volume_finds shelf own reply outside new (inr (inr (inl said))) = elim own.judged [
@@ -196,7 +196,7 @@ module _ (old : StoredCell) (kept : IsCellKept old) (volume server area : ℕ) (
       actor = crashed shelf.actor;
       given = shelf.given;
       is = said.2;
-      kept = subst IsCellKept (sym said.2) (made_kept (crashed shelf.actor) shelf.given (λ up. cc) (alone_crashed shelf.actor own.alone)
+      keeps = subst IsCellKept (sym said.2) (made_kept (crashed shelf.actor) shelf.given (λ up. cc) (alone_crashed shelf.actor own.alone)
       (subst (λ g. IsGiven g header (crashed shelf.actor)) (sym given) ((own.empty given).0, (own.empty given).1, refl))
       (λ b. fits_nothing _ (found_nothing b (crashed shelf.actor) (own.empty given).0 (own.empty given).1)));
     }))
@@ -204,7 +204,7 @@ module _ (old : StoredCell) (kept : IsCellKept old) (volume server area : ℕ) (
       actor = crashed shelf.actor;
       given = shelf.given;
       is = said.2;
-      kept = subst IsCellKept (sym said.2) (made_kept (crashed shelf.actor) shelf.given (λ up. cc) (alone_crashed shelf.actor own.alone)
+      keeps = subst IsCellKept (sym said.2) (made_kept (crashed shelf.actor) shelf.given (λ up. cc) (alone_crashed shelf.actor own.alone)
       (subst (λ g. IsGiven g header (crashed shelf.actor)) (sym given) refl) (own.fits given));
     }))
     | inr another ↦ inr (inr (said.0, another))

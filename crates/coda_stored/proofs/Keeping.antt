@@ -51,11 +51,11 @@ first_stored = record {
 
 -- ---- ranges
 
-area_range : (area : Option ℕ) → IfSome area (IsBetween 1 64) → IsArea (area_of area)
+pub area_range : (area : Option ℕ) → IfSome area (IsBetween 1 64) → IsArea (area_of area)
 area_range None is = (omega arith, omega arith)
 area_range (Some area) is = is
 
-server_alone : (servers : List ℕ) → AreServers servers → IsServer (alone servers)
+pub server_alone : (servers : List ℕ) → AreServers servers → IsServer (alone servers)
 server_alone [] is = absurd is
 server_alone (server ∷ servers) is = is.0
 

@@ -18,3 +18,7 @@ pub mod Patient
 pub mod Mounted
 pub mod Idling
 pub mod HeldClients
+pub mod HeldVolumes
+pub mod HeldFirst
+pub mod Held
+pub mod HeldFinds

@@ -18,11 +18,11 @@ use Rattle.coda_stored.proofs.Wholes.{whole_crashed_client, whole_crashed_replic
 
 -- ---- small steps
 
-not_there : (there full : Bool) → no_room there full ≡ None → there ≡ false
+pub not_there : (there full : Bool) → no_room there full ≡ None → there ≡ false
 not_there true full e = cc
 not_there false full e = refl
 
-is_none : (o : Option ℕ) → is_some o ≡ false → o ≡ None
+pub is_none : (o : Option ℕ) → is_some o ≡ false → o ≡ None
 is_none None e = refl
 is_none (Some n) e = cc
 

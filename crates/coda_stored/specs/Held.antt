@@ -16,7 +16,7 @@ use Rattle.coda_cell.specs.Steps.{alone}
 use Rattle.coda_matching.specs.Replicas.{IsDecision}
 use Rattle.coda_stored.specs.Cells.{StoredCell, no_side, client_header, replica_header}
 use Rattle.coda_stored.specs.Kept.{IsCellKept, IsStoredKept}
-use Rattle.coda_stored.specs.Lines.{area_of, refused_fault, Happens, is_built}
+use Rattle.coda_stored.specs.Lines.{area_of, refused_fault, Happens}
 use Rattle.coda_stored.specs.Mounted.{Shelf, plain_shelf, HoldsShelf, LineFinds, IsOthers}
 use Rattle.coda_stored.specs.Resuming.{at_rest, Awaited, ClientAgain, VolumeAgain, MakeAllAgain}
 use Rattle.coda_stored.specs.Seen.{seen, idle_until, mounts_none, IsSeen}
@@ -111,6 +111,6 @@ pub record HeldCellsAreKept : Type 0 where
   pub first : (past : StoredCell) (lines : List Awaited) → IsStoredKept past → MakeAllAgain past lines → IsHeld (unmade_from past lines)
   pub clients_begin : (past : StoredCell) (lines : List Awaited) (client : ℕ) → BeginsWith ((unmade_from past lines).made.acted.clients client).history (past.made.acted.clients client).history
   pub lines : (old new : StoredCell) (said : Line) (reply : Reply) (outside : List (List ℕ)) → IsHeld old → InRange said → mounts_none old said ≡ true → Happens old said reply outside new → IsHeld new
-  pub finds : (old : StoredCell) (said : Line) → IsHeld old → InRange said → is_built said ≡ true → mounts_none old said ≡ false → DoesFind old said
+  pub finds : (old : StoredCell) (said : Line) → IsHeld old → InRange said → mounts_none old said ≡ false → DoesFind old said
   pub seen : (cell : StoredCell) → IsHeld cell → IsSeen cell
   pub promised : (cell : StoredCell) → IsHeld cell → (joins : Joins) → ArePromised (found_in cell.made.acted joins)
