@@ -1,14 +1,8 @@
 -- What a line that ran says of a run over the disks that an earlier run left, whatever it makes again.
-use Rattle.std.proofs.Common.{◌≡◌, ◌≢◌, ◌⊎◌, ℕ, ◌-◌, Bool, true, false, List, [], ◌∷◌, ◌++◌, length, take, Option, Some, None, Ok, option_map, refl, sym, ap, ◌∙◌, subst, inl, inr}
+use Rattle.std.proofs.Common.{◌≡◌, ℕ, Bool, true, false, List, ◌++◌, length, Option, refl, sym, ap, ◌∙◌, subst, inl, inr}
 use Rattle.std.specs.Prelude.{drop}
-use Rattle.std.proofs.lemmas.List.{append-nil}
 use Rattle.coda_disk.specs.Told.{Told}
-use Rattle.coda_actors.specs.Clients.{client_form}
-use Rattle.coda_actors.specs.Fits.{Fits}
-use Rattle.coda_actors.specs.Plain.{PlainActor}
-use Rattle.coda_crew.specs.Crews.{slot_at}
 use Rattle.coda_journal.specs.declared.header.Header.{Header}
-use Rattle.coda_record.specs.declared.entry.ReplicaEntry.{ReplicaEntry as KeptEntry}
 use Rattle.coda_script.specs.declared.line.Line.{Line}
 use Rattle.coda_script.specs.declared.line.Line.TheVariants as line
 use Rattle.coda_script.specs.declared.reply.Reply.{Reply}
@@ -16,29 +10,20 @@ use Rattle.coda_script.specs.Ranges.{InRange}
 use Rattle.coda_cell.specs.Made.{state_of}
 use Rattle.coda_plain.specs.Cell.{Actor}
 use Rattle.coda_report.specs.Texts.{reply_text}
-use Rattle.coda_stored.specs.Cells.{StoredCell, plain_client}
-use Rattle.coda_stored.specs.Held.{unhoused, clients_among, unmade_from, AreClients, IsHeld, DoesFind}
-use Rattle.coda_stored.specs.Kept.{IsStoredKept}
+use Rattle.coda_stored.specs.Cells.{StoredCell}
+use Rattle.coda_stored.specs.Held.{DoesFind}
 use Rattle.coda_stored.specs.Lines.{Happens}
 use Rattle.coda_stored.specs.Mounted.{Shelf, HoldsShelf, Making, FindsDisk, LineFinds, IsOthers}
 use Rattle.coda_stored.specs.Lines.{refused_fault}
-use Rattle.coda_stored.specs.Resuming.{at_rest, Awaited, ClientAgain, VolumeAgain, awaits_client, awaits_volume, servers_of, AreAwaited, MakeAllAgain}
-use Rattle.coda_stored.specs.Seen.{asleep, home_unless, servers_before, idle_until, seen, mounts_none, IsSeen}
-use Rattle.coda_stored.proofs.Held.{idle_same}
+use Rattle.coda_stored.specs.Seen.{mounts_none, IsSeen}
 use Rattle.coda_stored.proofs.HeldFinds.{held_cells_are_kept}
-use Rattle.coda_stored.proofs.HeldFirst.{all_clients}
-use Rattle.coda_stored.proofs.Resuming.{cells_are_resumed}
-use Rattle.coda_site.specs.Awaiting.{IsAwaiting}
-use Rattle.coda_site.specs.Sites.{AreReplicas, IsSite, place_in}
+use Rattle.coda_site.specs.Sites.{IsSite}
 use Rattle.coda_site.specs.Steps.{Admits, Becomes, Finds}
-use Rattle.coda_site.specs.declared.site.Place.{Place}
-use Rattle.coda_site.specs.declared.site.Site.{Site}
-use Rattle.coda_site.proofs.SeenSites.{awaiting_is_seen}
-use Rattle.coda_runs.specs.Held.{Holding, Holds, Fails, HeldGives}
+use Rattle.coda_runs.specs.Held.{Holds, Fails}
 use Rattle.coda_runs.specs.Shows.{Recorded, CanShow}
 use Rattle.coda_runs.specs.Texts.{text_of}
 use Rattle.coda_runs.proofs.ShownUp.{shows_what_is_up}
-use Rattle.coda_main.specs.Held.{ShowsHeld, ShowsHolding, AnsweredHeld}
+use Rattle.coda_main.specs.Held.{ShowsHeld, AnsweredHeld}
 use Rattle.coda_main.specs.Later.{ShowsNothing}
 use Rattle.coda_main.specs.Shows.{Moment, answered_since}
 use Rattle.coda_main.specs.Tallies.{IsText}
@@ -144,73 +129,3 @@ module _ {D : Type 0} (told : D → Told) (old new : Moment D) (at : Recorded) (
       by : (b : Bool) → mounts_none at.cell said ≡ b → AnsweredHeld told at said text old new
       by true e = done e (does at.cell (sees, λ mounts. (let wrong : true ≡ false = sym e ∙ mounts in cc)) shows.stands) shown
       by false e = (let f = held_cells_are_kept.finds at.cell said shows.held range e in finding e f (finds at.cell f.shelf sees e f.holds shows.stands) printed)
-
--- ---- the beginning
-
-same_clients : (lines : List Awaited) (client : ℕ) → awaits_client (clients_among lines) client ≡ awaits_client lines client
-same_clients [] client = refl
-same_clients (ClientAgain number blocks area ∷ lines) client = ap (λ b. _) (same_clients lines client)
-same_clients (VolumeAgain volume server area ∷ lines) client = same_clients lines client
-
-no_home : (b : Bool) → home_unless b None ≡ None
-no_home true = refl
-no_home false = refl
-
--- of a list from which all is taken nothing is left
-none_before : (servers : List ℕ) → take (length servers - length servers) servers ≡ []
-none_before servers = ap (λ n. take n servers) (let zero : length servers - length servers ≡ 0 = omega arith in zero)
-
-module _ {D : Type 0} (told : D → Told) (out : ℕ → Bool) (has : ℕ → Told) (past : StoredCell) (lines : List Awaited) (kept : IsStoredKept past) (again : MakeAllAgain past lines) (site : Site D) (waits : IsAwaiting told out has (at_rest past) lines site) where
-  abbrev rested : StoredCell
-  rested = at_rest past
-
-  abbrev start : StoredCell
-  start = unmade_from past lines
-
-  -- what it stands for as lines are awaited
-  before : IsSite told out has (seen rested lines) site
-  before = awaiting_is_seen told out has rested lines 0 0 (cells_are_resumed.rests past kept) again.each site waits
-
-  -- no volume was made
-  none_made : (volume : ℕ) → home_unless (awaits_volume lines volume) (rested.made.homes volume) ≡ None
-  none_made volume = by (rested.made.homes volume) refl
-    where
-      by : (o : Option ℕ) → rested.made.homes volume ≡ o → home_unless (awaits_volume lines volume) o ≡ None
-      by None e = no_home (awaits_volume lines volume)
-      by (Some server) e = ap (λ b. home_unless b (Some server)) (again.volumes volume server e)
-
-  no_servers_yet : [] ≡ site.servers.items
-  no_servers_yet = sym (ap (λ l. servers_before l lines) again.servers ∙ none_before (servers_of lines)) ∙ before.servers
-
-  none_placed : (volume : ℕ) → None ≡ option_map (λ (p : Place). p.server) (place_in site volume)
-  none_placed volume = sym (none_made volume) ∙ before.homes volume
-
-  start_clients : (client : ℕ) → plain_client (rested.made.acted.clients client) (asleep (awaits_client lines client) (rested.clients client)) ≡ plain_client (start.made.acted.clients client) (start.clients client)
-  start_clients client = ap (λ b. plain_client (rested.made.acted.clients client) (asleep b (rested.clients client))) (sym (same_clients lines client))
-
-  -- the disks stand for a cell in which no line has made anything
-  pub start_stands : IsSite told out has start site
-  start_stands = record {
-    clock = before.clock;
-    servers = no_servers_yet;
-    homes = λ volume. no_home (awaits_volume (clients_among lines) volume) ∙ none_placed volume;
-    places = before.places;
-    areas = before.areas;
-    clients = λ k own. subst (Fits (client_form told) told (out k) (has k) (slot_at site.clients k)) (start_clients k) (before.clients k own);
-    replicas = (before.replicas.0, are, before.replicas.2);
-    net = before.net;
-  }
-    where
-      nowhere : (b : Bool) (server : ℕ) → home_unless b None ≡ Some server → ⊥
-      nowhere true server e = cc
-      nowhere false server e = cc
-
-      are : AreReplicas start before.replicas.0
-      are = record {
-        placed = λ volume server home. absurd (nowhere (awaits_volume (clients_among lines) volume) server home);
-        others = λ number none. before.replicas.1.others number (λ volume server home place. (let no : None ≡ Some server = sym (none_made volume) ∙ home in cc))
-            ∙ sym (idle_same (unhoused rested lines) (clients_among lines) (all_clients lines) number);
-      }
-
-  pub start_shown : (images answered : List (List ℕ)) → answered ≡ images → ShowsHeld told (record { cell = start; answered = images }) (record { out = out; has = has; answered = answered; site = site })
-  start_shown images answered same = record { held = held_cells_are_kept.first past lines kept again; stands = start_stands; answered = same }

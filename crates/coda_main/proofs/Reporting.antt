@@ -18,9 +18,9 @@ use Rattle.coda_main.specs.Lines.{IsBadLine}
 use Rattle.coda_main.specs.Reported.{IsReportOfLines, IsReportOfRun}
 use Rattle.coda_stored.specs.Kept.{IsStoredKept}
 use Rattle.coda_stored.specs.Resuming.{at_rest, Awaited, AreAwaited, MakeAllAgain}
-use Rattle.coda_stored.specs.Held.{unmade_from}
+use Rattle.coda_stored.specs.Held.{IsHeld, begun_from}
 use Rattle.coda_runs.specs.Held.{Holding, Holds, Fails, HeldGives}
-use Rattle.coda_runs.proofs.Held.{held_runs_go_on}
+use Rattle.coda_runs.proofs.Held.{held_runs_go_on, what_ran_is_held}
 use Rattle.coda_main.specs.Held.{ShowsHeld, ShowsHolding, HeldRefuses, IsReportOfHeldRun}
 use Rattle.coda_runs.specs.Later.{Later, Waits, Goes, Strays, resumed, LaterGives, HasReached, HasGoneOn, CanBeResumed}
 use Rattle.coda_runs.specs.Runs.{LineGives, LineRefused}
@@ -71,6 +71,9 @@ module _ {D M : Type 0} (new old : M) (told : D → Told) (at : M → Moment D) 
         resumable = λ memory bay.
             let ran = reports_ran LineGives LineRefused nothing_stored run.cell left_old left_new held_old held_new outside status memory bay run.reports in
             (always_kept ran.lines ran.report ran.outside run.cell ran.runs, what_ran_can_be_resumed ran.lines ran.report ran.outside run.cell ran.runs);
+        held = λ memory bay.
+            let ran = reports_ran LineGives LineRefused nothing_stored run.cell left_old left_new held_old held_new outside status memory bay run.reports in
+            what_ran_is_held ran.lines ran.report ran.outside run.cell ran.runs;
         own = λ memory bay.
             let ran = reports_ran LineGives LineRefused nothing_stored run.cell left_old left_new held_old held_new outside status memory bay run.reports in
             scripts_learn_of_their_own ran.lines ran.report ran.outside run.cell ran.runs;
@@ -114,22 +117,21 @@ module _ {D M : Type 0} (new old : M) (told : D → Told) (at : M → Moment D) 
       on_disks ready Strays there cell images reached = absurd reached
 
   -- What a run over the disks that an earlier run left tells, whatever it makes again, where the bay, once all is given back, stands for what was reached.
-  pub reported_held : (has : ℕ → Told) (before after : List (List ℕ)) (past : StoredCell) (lines : List Awaited) → IsStoredKept past → MakeAllAgain past lines → MayGoOn told (at old)
-      → ShowsHeld told (record { cell = unmade_from past lines; answered = before }) (at old)
+  pub reported_held : (has : ℕ → Told) (before after : List (List ℕ)) (past : StoredCell) (held : IsHeld past) → MayGoOn told (at old) → ShowsHeld told (record { cell = begun_from past held; answered = before }) (at old)
       → after ≡ (at new).answered → (MayGoOn told (at new) → (cell : StoredCell) → IsSite told (at new).out (at new).has cell (at new).site → AreOnDisks told has cell)
-      → IsReportOfHeldRun told has before after left_old left_new held_old held_new status past lines
-  reported_held has before after past lines kept all start shows last_same closes = record {
+      → IsReportOfHeldRun told has before after left_old left_new held_old held_new status past held
+  reported_held has before after past held start shows last_same closes = record {
     end = shown.0;
     outside = outside;
     reports = shown.1;
     goes_on = λ memory bay reached is.
         let there = on_disks (goes_on start memory bay) shown.0 (shown.2 memory bay) reached is in
         let ran = reports_ran HeldGives HeldRefuses first shown.0 left_old left_new held_old held_new outside status memory bay shown.1 in
-        (held_runs_go_on past lines before ran.lines ran.report ran.outside reached kept all (subst (λ (h : Holding). Runs HeldGives first ran.lines ran.report ran.outside h) is ran.runs), there.0, there.1);
+        (held_runs_go_on past held before ran.lines ran.report ran.outside reached (subst (λ (h : Holding). Runs HeldGives first ran.lines ran.report ran.outside h) is ran.runs), there.0, there.1);
   }
     where
       first : Holding
-      first = Holds (record { cell = unmade_from past lines; answered = before })
+      first = Holds (record { cell = begun_from past held; answered = before })
 
       shown : (end : Holding) × Reports HeldGives HeldRefuses first end left_old left_new held_old held_new outside status × (status ≢ Memory → status ≢ BayFault → ShowsHolding told end (at new))
       shown = reports_shown (held_shown told at counts) first old new left_old left_new held_old held_new outside status shows reports

@@ -7,8 +7,7 @@ use Rattle.coda_engine.specs.declared.status.Status.{Status}
 use Rattle.coda_engine.specs.declared.status.Status.TheVariants.{BayFault, Memory}
 use Rattle.coda_script.specs.declared.line.Line.{Line}
 use Rattle.coda_stored.specs.Cells.{StoredCell}
-use Rattle.coda_stored.specs.Held.{unmade_from, IsHeld}
-use Rattle.coda_stored.specs.Resuming.{Awaited}
+use Rattle.coda_stored.specs.Held.{IsHeld, begun_from}
 use Rattle.coda_site.specs.Cells.{AreOnDisks}
 use Rattle.coda_site.specs.Sites.{IsSite}
 use Rattle.coda_runs.specs.Held.{Holding, Holds, Fails, HeldAnswers, HeldGives, HasHeld}
@@ -40,8 +39,8 @@ pub record AnsweredHeld {D : Type 0} (told : D → Told) (at : Recorded) (said :
 -- What was read and written is the report of a run over the disks that an earlier run left, in which each line that makes an actor does it on the disk that it finds. Unless
 -- memory was wanting or the bay at fault, what it reached keeps what is promised of it, the bay answered what the run had of it, and its disks stand for what was reached;
 -- only where a call of a disk failed on which an actor was to be made, and which is another's, is nothing told of what follows.
-pub record IsReportOfHeldRun {D : Type 0} (told : D → Told) (has : ℕ → Told) (answered_old answered_new : List (List ℕ)) (left_old left_new held_old held_new : Option (List ℕ)) (status : Status) (past : StoredCell) (lines : List Awaited) : Type 0 where
+pub record IsReportOfHeldRun {D : Type 0} (told : D → Told) (has : ℕ → Told) (answered_old answered_new : List (List ℕ)) (left_old left_new held_old held_new : Option (List ℕ)) (status : Status) (past : StoredCell) (held : IsHeld past) : Type 0 where
   pub end : Holding
   pub outside : List (List ℕ)
-  pub reports : Reports HeldGives HeldRefuses (Holds (record { cell = unmade_from past lines; answered = answered_old })) end left_old left_new held_old held_new outside status
+  pub reports : Reports HeldGives HeldRefuses (Holds (record { cell = begun_from past held; answered = answered_old })) end left_old left_new held_old held_new outside status
   pub goes_on : status ≢ Memory → status ≢ BayFault → (at : Recorded) → end ≡ Holds at → HasHeld past at.cell × (answered_new ≡ at.answered) × AreOnDisks told has at.cell

@@ -21,7 +21,8 @@ pub use coda_runs::{
     refusals_have_causes, replicas_come_back, replies_name_letters, reports_tell_of_runs,
     scripts_in_the_grammar_are_clean, scripts_learn_of_their_own, scripts_run, settlements_are_decided, verdicts_thaw,
     what_is_made_again_is_counted, what_is_shown_is_there, what_is_shown_is_up,
-    what_others_hold_is_kept, what_ran_can_be_resumed, who_never_came_is_as_it_was,
+    what_others_hold_is_kept, what_ran_can_be_resumed, what_ran_is_held,
+    who_never_came_is_as_it_was,
 };
 pub use laws::{
     cached_is_held, counted_replies_are_told, good_lines_run_over_any_bay, one_status_over_all_bays,

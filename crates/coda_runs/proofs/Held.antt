@@ -10,18 +10,19 @@ use Rattle.coda_script.specs.Lines.{line_of}
 use Rattle.coda_cell.specs.Made.{client_of, state_of}
 use Rattle.coda_cell.specs.State.{ClientState}
 use Rattle.coda_stored.specs.Cells.{StoredCell}
-use Rattle.coda_stored.specs.Held.{unmade_from, IsHeld}
-use Rattle.coda_stored.specs.Kept.{whole, IsCellKept, IsStoredKept}
+use Rattle.coda_stored.specs.Held.{IsHeld, begun_from}
+use Rattle.coda_stored.specs.Kept.{whole, IsCellKept}
 use Rattle.coda_stored.specs.Mounted.{Shelf, LineFinds}
-use Rattle.coda_stored.specs.Resuming.{Awaited, awaits_client, MakeAllAgain}
+use Rattle.coda_stored.specs.Resuming.{Awaited, awaits_client}
 use Rattle.coda_stored.specs.Seen.{home_unless, seen, mounts_none}
 use Rattle.coda_stored.proofs.HeldFinds.{held_cells_are_kept}
 use Rattle.coda_stored.proofs.Mounted.{what_is_found_was_there}
 use Rattle.coda_stored.proofs.Remaining.{entries_stay, same_entries, then_entries}
 use Rattle.coda_runs.specs.Headline.{IsOfPending}
-use Rattle.coda_runs.specs.Held.{Holding, Holds, Fails, HeldAnswers, HeldGives, HasHeld, HeldRunsGoOn}
+use Rattle.coda_runs.specs.Held.{Holding, Holds, Fails, HeldAnswers, HeldGives, HasHeld, HeldRunsGoOn, WhatRanIsHeld}
 use Rattle.coda_runs.specs.Shows.{Recorded}
-use Rattle.coda_runs.proofs.Running.{of_pending, read_in_range}
+use Rattle.coda_runs.proofs.Resumable.{what_ran_can_be_resumed}
+use Rattle.coda_runs.proofs.Running.{of_pending, read_in_range, always_kept}
 
 -- ---- what each line leaves
 
@@ -81,13 +82,16 @@ held_pending : (cell : StoredCell) → IsHeld cell → (client volume : ℕ) (c 
 held_pending cell held = subst (λ (x : StoredCell). (client volume : ℕ) (c : ClientState) → (state_of x.made).clients client ≡ Some c → IsOfPending x.made client volume c) (sym held.is) (seen_pending held.behind held.left held.kept)
 
 pub held_runs_go_on : HeldRunsGoOn
-held_runs_go_on past lines before ls report outside at kept again run =
-    let start = unmade_from past lines in
+held_runs_go_on past held before ls report outside at run =
+    let start = begun_from past held in
     let went : GoesOn past at.cell = runs_on past (Holds (record { cell = start; answered = before })) (Holds at) ls report outside
-        (record { held = held_cells_are_kept.first past lines kept again; begins = held_cells_are_kept.clients_begin past lines }) run in
+        (record { held = held_cells_are_kept.begun past held; begins = held_cells_are_kept.clients past held }) run in
     record {
       held = went.held;
       promised = held_cells_are_kept.promised at.cell went.held;
       begins = went.begins;
       logs = held_pending at.cell went.held;
     }
+
+pub what_ran_is_held : WhatRanIsHeld
+what_ran_is_held ls report outside cell run = (let can = what_ran_can_be_resumed ls report outside cell run in held_cells_are_kept.kept cell can.lines (always_kept ls report outside cell run) can.again)

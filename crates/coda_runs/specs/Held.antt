@@ -11,13 +11,11 @@ use Rattle.coda_report.specs.Texts.{reply_text}
 use Rattle.coda_cell.specs.Made.{state_of}
 use Rattle.coda_cell.specs.State.{ClientState}
 use Rattle.coda_stored.specs.Cells.{StoredCell}
-use Rattle.coda_stored.specs.Held.{unmade_from, IsHeld, IsForeignDisk}
-use Rattle.coda_stored.specs.Kept.{IsStoredKept}
+use Rattle.coda_stored.specs.Held.{IsHeld, begun_from, IsForeignDisk}
 use Rattle.coda_stored.specs.Lines.{is_built, refused_fault, Happens}
 use Rattle.coda_stored.specs.Mounted.{Shelf, HoldsShelf, LineFinds}
-use Rattle.coda_stored.specs.Resuming.{Awaited, MakeAllAgain}
 use Rattle.coda_stored.specs.Seen.{mounts_none}
-use Rattle.coda_runs.specs.Headline.{IsOfPending}
+use Rattle.coda_runs.specs.Headline.{IsOfPending, Always}
 use Rattle.coda_runs.specs.Shows.{Recorded}
 use Rattle.coda_runs.specs.Texts.{text_of}
 
@@ -76,8 +74,12 @@ pub record HasHeld (past cell : StoredCell) : Type 0 where
   pub begins : (client : ℕ) → BeginsWith (cell.made.acted.clients client).history (past.made.acted.clients client).history
   pub logs : (client volume : ℕ) (c : ClientState) → (state_of cell.made).clients client ≡ Some c → IsOfPending cell.made client volume c
 
--- So is whatever such a run reached, whatever its lines are and in whatever order they make actors.
+-- So is whatever such a run reached over the disks of a cell that is held, whatever its lines are and in whatever order they make actors.
 abbrev pub HeldRunsGoOn : Type 0
 HeldRunsGoOn =
-    (past : StoredCell) (lines : List Awaited) (before : List (List ℕ)) (ls : List (List ℕ)) (report : List ℕ) (outside : List (List ℕ)) (at : Recorded) → IsStoredKept past → MakeAllAgain past lines
-    → Runs HeldGives (Holds (record { cell = unmade_from past lines; answered = before })) ls report outside (Holds at) → HasHeld past at.cell
+    (past : StoredCell) (held : IsHeld past) (before : List (List ℕ)) (ls : List (List ℕ)) (report : List ℕ) (outside : List (List ℕ)) (at : Recorded)
+    → Runs HeldGives (Holds (record { cell = begun_from past held; answered = before })) ls report outside (Holds at) → HasHeld past at.cell
+
+-- What any run of a cell from nothing left is held, so that such a run can begin over its disks.
+abbrev pub WhatRanIsHeld : Type 0
+WhatRanIsHeld = Always IsHeld

@@ -4,7 +4,7 @@ ghost use Rattle.coda_stored.specs.Cells.{nothing_stored};
 ghost use Rattle.coda_runs.specs.Causes.{RefusalsHaveCauses};
 ghost use Rattle.coda_runs.specs.Complete.{ScriptsInGrammarAreClean};
 ghost use Rattle.coda_runs.specs.Headline.{ScriptsLearnOfTheirOwn, ScriptsRun, ChunksAreDecidedOnce, CertifiedChunksAreApplied, ConflictsNameASentRecord, OperationsAreKept, SettlementsAreDecided, LogsArePending, AcknowledgedEntriesStay, ClientsComeBack, ReplicasComeBack};
-ghost use Rattle.coda_runs.specs.Held.{HeldRunsGoOn};
+ghost use Rattle.coda_runs.specs.Held.{HeldRunsGoOn, WhatRanIsHeld};
 ghost use Rattle.coda_runs.specs.Later.{LaterRunsGoOn, OwnDisksAreNotForeign, WhatIsMadeAgainIsCounted, WhatOthersHoldIsKept, WhatRanCanBeResumed};
 ghost use Rattle.coda_runs.specs.Lettered.{RepliesNameLetters, LettersSayWhatIsSo, LettersHaveEnds};
 ghost use Rattle.coda_runs.specs.NeverCame.{LettersAreOfThoseWhoCame, WhoNeverCameIsAsItWas};
@@ -210,4 +210,9 @@ pub fn held_runs_go_on()
 /// Whatever lines ran from an empty cell, clients learned of none but its own replicas.
 pub fn scripts_learn_of_their_own()
     ensures { ScriptsLearnOfTheirOwn }
+{}
+
+/// Whatever lines ran from an empty cell, a run can begin over the disks that it left, whatever that one makes again.
+pub fn what_ran_is_held()
+    ensures { WhatRanIsHeld }
 {}

@@ -24,7 +24,7 @@ use Rattle.coda_cell.specs.State.{put}
 use Rattle.coda_cell.specs.Steps.{alone}
 use Rattle.coda_matching.specs.Replicas.{IsDecision}
 use Rattle.coda_stored.specs.Cells.{Side, StoredCell, client_header, replica_header, disk_number, plain_replica}
-use Rattle.coda_stored.specs.Held.{IsLabelled, IsShelfKept, AreClients, IsHeld, IsAnothers, IsForeignDisk}
+use Rattle.coda_stored.specs.Held.{IsShelfKept, AreClients, AreHomes, AreNamed, IsHeld}
 use Rattle.coda_stored.specs.Kept.{IsClientSide, IsReplicaSide, IsCellKept}
 use Rattle.coda_stored.specs.Laws.{Begins}
 use Rattle.coda_stored.specs.Lines.{area_of, Happens}
@@ -75,7 +75,35 @@ take_all (x ∷ l) = ap (λ t. x ∷ t) (take_all l)
 pub servers_same : (servers : List ℕ) (left : List Awaited) → AreClients left → servers_before servers left ≡ servers
 servers_same servers left are = ap (λ (l : List ℕ). take (length servers - length l) servers) (no_servers left are) ∙ ap (λ n. take n servers) (let all : length servers - 0 ≡ length servers = omega arith in all) ∙ take_all servers
 
+-- ---- what is seen while clients are yet to come
+
+-- only these clients weren't made, and nobody asks for their disks
+abbrev pub among : StoredCell → List Awaited → StoredCell
+among cell left = record cell {
+  made = record cell.made { sizes = λ client. home_unless (awaits_client left client) (cell.made.sizes client) };
+  clients = λ client. asleep (awaits_client left client) (cell.clients client);
+}
+
+pub seen_among : (cell : StoredCell) (left : List Awaited) → AreClients left → seen cell left ≡ among cell left
+seen_among cell left are = λ i. record (among cell left) {
+  made = record (among cell left).made {
+    servers = servers_same cell.made.servers left are i;
+    homes = λ volume. home_unless (no_volumes left are volume i) (cell.made.homes volume);
+  };
+  replicas = λ volume. asleep (no_volumes left are volume i) (cell.replicas volume);
+  idle = λ number. idle_same cell left are number i;
+}
+
+pub given_asleep : (b : Bool) (side : Side) → (asleep b side).given ≡ side.given
+given_asleep true side = refl
+given_asleep false side = refl
+
 -- ---- lines that mount no disk of an actor that they make
+
+homes_stay : (old new : StoredCell) (names : List Awaited) → new.made.homes ≡ old.made.homes → AreHomes old names → AreHomes new names
+homes_stay old new [] same homes = tt
+homes_stay old new (ClientAgain client blocks area ∷ names) same homes = homes_stay old new names same homes
+homes_stay old new (VolumeAgain volume server area ∷ names) same homes = (ap (λ (f : ℕ → Option ℕ). f volume) same ∙ homes.0, homes_stay old new names same homes.1)
 
 pub held_lines : (old new : StoredCell) (said : Line) (reply : Reply) (outside : List (List ℕ)) → IsHeld old → InRange said → mounts_none old said ≡ true → Happens old said reply outside new → IsHeld new
 held_lines old new said reply outside held range none does =
@@ -93,6 +121,12 @@ held_lines old new said reply outside held range none does =
       is = mid.1;
       kept = kept;
       shelves = λ number. shelf_stays held.behind mid.0 number (meanwhile_begins held.behind mid.0 held.left said reply outside mid.2).clients kept (meanwhile_idle held.behind reply outside mid.0 held.left said mid.2) (held.shelves number);
+      names = held.names;
+      named = record {
+        clients = λ client blocks e. held.named.clients client blocks (ap (λ (f : ℕ → Option ℕ). f client) (sym mid.2.stays.sizes) ∙ e);
+        volumes = λ volume server e. held.named.volumes volume server (ap (λ (f : ℕ → Option ℕ). f volume) (sym mid.2.stays.homes) ∙ e);
+        homes = homes_stay held.behind mid.0 held.names mid.2.stays.homes held.named.homes;
+      };
     }
 
 -- ---- what is seen

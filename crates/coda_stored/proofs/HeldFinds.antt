@@ -19,42 +19,19 @@ use Rattle.coda_cell.specs.Steps.{alone, no_room}
 use Rattle.coda_matching.specs.Replicas.{IsDecision, entry_at, journal_at}
 use Rattle.coda_plain.specs.Moves.{crashed, recovered}
 use Rattle.coda_stored.specs.Cells.{Side, StoredCell, client_header, replica_header, disk_number, first_in}
-use Rattle.coda_stored.specs.Held.{IsLabelled, IsShelfKept, AreClients, IsHeld, IsAnothers, IsForeignDisk, DoesFind, HeldCellsAreKept}
+use Rattle.coda_stored.specs.Held.{IsLabelled, IsShelfKept, AreClients, IsHeld, AreHomes, AreNamed, IsAnothers, IsForeignDisk, DoesFind, HeldCellsAreKept}
 use Rattle.coda_stored.specs.Kept.{IsCellKept}
 use Rattle.coda_stored.specs.Lines.{area_of, no_volume, is_built, refused_fault}
 use Rattle.coda_stored.specs.Mounted.{Shelf, plain_shelf, blank, Making, FindsDisk, making_client, making_volume, ClientFinds, VolumeFinds, IsShelved}
 use Rattle.coda_stored.specs.Resuming.{Awaited, ClientAgain, VolumeAgain, awaits_client, awaits_volume}
 use Rattle.coda_stored.specs.Seen.{asleep, home_unless, seen, mounts_none}
-use Rattle.coda_stored.proofs.Held.{shelf_stays, no_volumes, idle_same, servers_same, held_lines, held_seen, held_promised}
+use Rattle.coda_stored.proofs.Held.{shelf_stays, among, seen_among, given_asleep, held_lines, held_seen, held_promised}
 use Rattle.coda_stored.proofs.HeldClients.{IsMadeOn as IsClientMade, client_finds}
-use Rattle.coda_stored.proofs.HeldFirst.{held_first, clients_begin}
+use Rattle.coda_stored.proofs.HeldFirst.{held_first, held_begun, clients_begin}
 use Rattle.coda_stored.proofs.HeldVolumes.{IsOwnShelf, IsMadeOn as IsVolumeMade, volume_finds, nothing_fits}
 use Rattle.coda_stored.proofs.Keeping.{area_range, server_alone}
 use Rattle.coda_stored.proofs.Making.{not_there, is_none}
 use Rattle.coda_stored.proofs.Remaining.{same_entries}
-
--- ---- what is seen while clients are yet to come
-
--- only these clients weren't made, and nobody asks for their disks
-abbrev among : StoredCell → List Awaited → StoredCell
-among cell left = record cell {
-  made = record cell.made { sizes = λ client. home_unless (awaits_client left client) (cell.made.sizes client) };
-  clients = λ client. asleep (awaits_client left client) (cell.clients client);
-}
-
-seen_among : (cell : StoredCell) (left : List Awaited) → AreClients left → seen cell left ≡ among cell left
-seen_among cell left are = λ i. record (among cell left) {
-  made = record (among cell left).made {
-    servers = servers_same cell.made.servers left are i;
-    homes = λ volume. home_unless (no_volumes left are volume i) (cell.made.homes volume);
-  };
-  replicas = λ volume. asleep (no_volumes left are volume i) (cell.replicas volume);
-  idle = λ number. idle_same cell left are number i;
-}
-
-given_asleep : (b : Bool) (side : Side) → (asleep b side).given ≡ side.given
-given_asleep true side = refl
-given_asleep false side = refl
 
 -- ---- a client that comes
 
@@ -132,6 +109,16 @@ finds_behind header given other actor make made old behind see same makes reply 
 finds_behind header given other actor make made old behind see same makes reply outside new (inr (inr (inr (nothing, said)))) =
     inr (made (crashed (recovered false actor)) (Some header), inr (inr (inr (nothing, (said.0, said.1, refl)))), said.2 ∙ makes (crashed (recovered false actor)) (Some header))
 
+-- ---- what is named
+
+homes_more : (old new : StoredCell) (names : List Awaited) → ((v s : ℕ) → old.made.homes v ≡ Some s → new.made.homes v ≡ Some s) → AreHomes old names → AreHomes new names
+homes_more old new [] more homes = tt
+homes_more old new (ClientAgain client blocks area ∷ names) more homes = homes_more old new names more homes
+homes_more old new (VolumeAgain volume server area ∷ names) more homes = (more volume server homes.0, homes_more old new names more homes.1)
+
+homes_same : (old new : StoredCell) (names : List Awaited) → new.made.homes ≡ old.made.homes → AreHomes old names → AreHomes new names
+homes_same old new names same homes = homes_more old new names (λ v s e. ap (λ (f : ℕ → Option ℕ). f v) same ∙ e) homes
+
 -- ---- clients
 
 module _ (old : StoredCell) (held : IsHeld old) (client blocks : ℕ) (area : Option ℕ) (range : InRange (line.Client client blocks area)) where
@@ -164,8 +151,13 @@ module _ (old : StoredCell) (held : IsHeld old) (client blocks : ℕ) (area : Op
     is = is ∙ sym (seen_among mid later (without_clients client held.left held.clients));
     kept = made.keeps;
     shelves = λ number. shelf_stays held.behind mid number begins made.keeps (ap (λ (c : StoredCell). c.idle) made.is) (held.shelves number);
+    names = ClientAgain client blocks size ∷ held.names;
+    named = subst (λ (m : StoredCell). AreNamed m (ClientAgain client blocks size ∷ held.names)) (sym made.is) (record { clients = named_client; volumes = held.named.volumes; homes = homes_same held.behind (making_client held.behind client blocks size made.actor made.given) held.names refl held.named.homes });
   }
     where
+      named_client : (c b : ℕ) → cond (c == client) (Some blocks) (held.behind.made.sizes c) ≡ Some b → ((c == client) || awaits_client held.names c) ≡ true
+      named_client c b e = elim (c == client) as (λ x. cond x (Some blocks) (held.behind.made.sizes c) ≡ Some b → (x || awaits_client held.names c) ≡ true) [ true ↦ λ f. refl | false ↦ λ f. held.named.clients c b f ] e
+
       begins : (c : ℕ) → BeginsWith (mid.made.acted.clients c).history (held.behind.made.acted.clients c).history
       begins c = subst (λ (m : StoredCell). BeginsWith (m.made.acted.clients c).history (held.behind.made.acted.clients c).history) (sym made.is)
           (elim (c == client) as (λ b. (c == client) ≡ b → BeginsWith (cond b made.actor (held.behind.made.acted.clients c)).history (held.behind.made.acted.clients c).history) [
@@ -181,6 +173,8 @@ module _ (old : StoredCell) (held : IsHeld old) (client blocks : ℕ) (area : Op
     is = is ∙ sym (seen_among held.behind later (without_clients client held.left held.clients));
     kept = held.kept;
     shelves = held.shelves;
+    names = held.names;
+    named = held.named;
   }
 
   client_kept : (reply : Reply) (outside : List (List ℕ)) (new : StoredCell) → ClientFinds old client blocks size reply outside new
@@ -298,8 +292,8 @@ module _ (old : StoredCell) (held : IsHeld old) (volume : ℕ) (servers : List �
   volume_behind shelf reply outside new finds = finds_behind header shelf.given shelf.given shelf.actor (making_volume old volume server mebibytes) (making_volume held.behind volume server mebibytes) old held.behind (λ cell. among cell held.left) refl
       (λ a g. ap (λ (c : StoredCell). making_volume c volume server mebibytes a g) old_among) reply outside new finds
 
-  volume_held : (new mid : StoredCell) → new ≡ among mid held.left → IsCellKept mid → mid.idle ≡ held.behind.idle → mid.made.acted.clients ≡ held.behind.made.acted.clients → IsHeld new
-  volume_held new mid is kept same clients = record {
+  volume_held : (new mid : StoredCell) → new ≡ among mid held.left → IsCellKept mid → mid.idle ≡ held.behind.idle → mid.made.acted.clients ≡ held.behind.made.acted.clients → (names : List Awaited) → AreNamed mid names → IsHeld new
+  volume_held new mid is kept same clients names named = record {
     behind = mid;
     left = held.left;
     clients = held.clients;
@@ -307,14 +301,30 @@ module _ (old : StoredCell) (held : IsHeld old) (volume : ℕ) (servers : List �
     kept = kept;
     shelves = λ number. shelf_stays held.behind mid number (λ c. subst (λ (a : Actor ClientEntry). BeginsWith a.history (held.behind.made.acted.clients c).history) (sym (ap (λ (f : ℕ → Actor ClientEntry). f c) clients)) (same_entries (held.behind.made.acted.clients c).history))
         kept same (held.shelves number);
+    names = names;
+    named = named;
   }
+
+  abbrev names_more : List Awaited
+  names_more = VolumeAgain volume server mebibytes ∷ held.names
+
+  -- the volume is named too
+  named_more : (mid : StoredCell) (actor : Actor ReplicaEntry) (given : Option Header) → mid ≡ making_volume held.behind volume server mebibytes actor given → AreNamed mid names_more
+  named_more mid actor given is = subst (λ (m : StoredCell). AreNamed m names_more) (sym is) (record {
+    clients = held.named.clients;
+    volumes = λ v s e. elim (v == volume) as (λ x. cond x (Some server) (held.behind.made.homes v) ≡ Some s → (x || awaits_volume held.names v) ≡ true) [ true ↦ λ f. refl | false ↦ λ f. held.named.volumes v s f ] e;
+    homes = (ap (λ b. cond b (Some server) (held.behind.made.homes volume)) (eq-eqb volume volume refl), homes_more held.behind (making_volume held.behind volume server mebibytes actor given) held.names (λ v s e. elsewhere v s e) held.named.homes);
+  })
+    where
+      elsewhere : (v s : ℕ) → held.behind.made.homes v ≡ Some s → cond (v == volume) (Some server) (held.behind.made.homes v) ≡ Some s
+      elsewhere v s e = ap (λ b. cond b (Some server) (held.behind.made.homes v)) (ne_eqb v volume (λ same. (let no : None ≡ Some s = sym none_home ∙ ap held.behind.made.homes (sym same) ∙ e in cc))) ∙ e
 
   volume_kept : (shelf : Shelf) → IsOwn shelf → (reply : Reply) (outside : List (List ℕ)) (new : StoredCell) → VolumeFinds old shelf volume server mebibytes reply outside new → IsHeld new ⊎ ((reply ≡ refused_fault) × IsForeignDisk old shelf said)
   volume_kept shelf own reply outside new finds = elim (volume_behind shelf reply outside new finds) [
     | inl same ↦ inl (subst IsHeld (sym same) held)
     | inr (mid, behind, is) ↦ elim (volume_finds held.behind held.kept volume server mebibytes none_home (area_range area range.2) range.0.0 (server_alone servers range.1).0 (server_alone servers range.1).1 shelf own reply outside mid behind) [
-      | inl unchanged ↦ inl (volume_held new mid is (subst IsCellKept (sym unchanged) held.kept) (ap (λ (c : StoredCell). c.idle) unchanged) (ap (λ (c : StoredCell). c.made.acted.clients) unchanged))
-      | inr (inl made) ↦ inl (volume_held new mid is made.keeps (ap (λ (c : StoredCell). c.idle) made.is) (ap (λ (c : StoredCell). c.made.acted.clients) made.is))
+      | inl unchanged ↦ inl (volume_held new mid is (subst IsCellKept (sym unchanged) held.kept) (ap (λ (c : StoredCell). c.idle) unchanged) (ap (λ (c : StoredCell). c.made.acted.clients) unchanged) held.names (subst (λ (c : StoredCell). AreNamed c held.names) (sym unchanged) held.named))
+      | inr (inl made) ↦ inl (volume_held new mid is made.keeps (ap (λ (c : StoredCell). c.idle) made.is) (ap (λ (c : StoredCell). c.made.acted.clients) made.is) names_more (named_more mid made.actor made.given made.is))
       | inr (inr (fault, another)) ↦ inr (fault, another)
     ]
   ]
@@ -330,4 +340,4 @@ held_finds old (line.Client client blocks area) held range mounts = client_does_
 held_finds old _ held range mounts = cc
 
 pub held_cells_are_kept : HeldCellsAreKept
-held_cells_are_kept = record { first = held_first; clients_begin = clients_begin; lines = held_lines; finds = held_finds; seen = held_seen; promised = held_promised }
+held_cells_are_kept = record { kept = held_first; begun = held_begun; clients = clients_begin; lines = held_lines; finds = held_finds; seen = held_seen; promised = held_promised }

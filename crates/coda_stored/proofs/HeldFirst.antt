@@ -1,5 +1,5 @@
 -- What a run begins with over the disks that an earlier one left: its replicas stand by themselves.
-use Rattle.std.proofs.Common.{◌≡◌, ◌≢◌, ◌⊎◌, ℕ, ◌+◌, ◌==◌, Bool, true, false, cond, List, [], ◌∷◌, ◌++◌, Option, Some, None, refl, sym, ap, ◌∙◌, subst, inl, inr}
+use Rattle.std.proofs.Common.{◌≡◌, ◌≢◌, ◌⊎◌, ℕ, ◌+◌, ◌==◌, ◌||◌, Bool, true, false, cond, List, [], ◌∷◌, ◌++◌, Option, Some, None, refl, sym, ap, ◌∙◌, subst, inl, inr}
 use Rattle.std.proofs.lemmas.Bool.{cases_Bool}
 use Rattle.coda_actors.specs.Plain.{PlainActor}
 use Rattle.coda_journal.specs.declared.header.Header.{Header}
@@ -16,13 +16,16 @@ use Rattle.coda_plain.proofs.Soundness.{none_joins}
 use Rattle.coda_record.specs.declared.entry.ReplicaEntry.{ReplicaEntry as KeptEntry}
 use Rattle.coda_cell.specs.Runs.{AreNumbered, ArePooled, IsKept}
 use Rattle.coda_matching.specs.Replicas.{IsDecision}
-use Rattle.coda_stored.specs.Cells.{Side, StoredCell, replica_header, plain_replica}
-use Rattle.coda_stored.specs.Held.{IsLabelled, IsShelfKept, unhoused, clients_among, unmade_from, AreClients, IsHeld}
+use Rattle.coda_stored.specs.Cells.{Side, StoredCell, unmade, replica_header, plain_replica}
+use Rattle.coda_stored.specs.Held.{IsLabelled, IsShelfKept, unhoused, clients_among, AreClients, AreHomes, IsHeld, begun_from}
 use Rattle.coda_stored.specs.Kept.{found_up, whole, IsGiven, IsReplicaSide, IsCellKept, IsStoredKept}
 use Rattle.coda_stored.specs.Mounted.{Shelf, plain_shelf, blank}
-use Rattle.coda_stored.specs.Resuming.{at_rest, Awaited, ClientAgain, VolumeAgain, AreAwaited, MakeAllAgain}
+use Rattle.coda_stored.specs.Resuming.{at_rest, Awaited, ClientAgain, VolumeAgain, awaits_client, AreAwaited, MakeAllAgain}
 use Rattle.coda_stored.specs.Seen.{asleep, idle_until}
-use Rattle.coda_stored.proofs.Resuming.{cells_are_resumed}
+use Rattle.coda_stored.proofs.Held.{shelf_stays}
+use Rattle.coda_stored.proofs.Makers.{makers_make_again}
+use Rattle.coda_stored.proofs.Resuming.{actors_rest, cells_are_resumed}
+use Rattle.coda_stored.proofs.Sides.{actors_kept}
 
 pub all_clients : (lines : List Awaited) → AreClients (clients_among lines)
 all_clients [] = tt
@@ -52,7 +55,7 @@ settled_most volume false actor s i = by actor.failed refl
     by (Some entry) e = subst (λ f. In s (settlements_of (deeds_of volume (found true (record actor { failed = f }))))) (sym e)
         (subst (λ ds. In s (settlements_of ds)) (sym (deeds_append volume actor.history (entry ∷ []))) (told_begins settlement_at (deeds_of volume actor.history) (deeds_of volume (entry ∷ [])) s i))
 
-module _ (cell : StoredCell) (kept : IsStoredKept cell) (lines : List Awaited) (still : cell.made.acted.pool ≡ λ message. None) (silent : cell.made.waiting ≡ []) where
+module _ (cell : StoredCell) (kept : IsCellKept cell) (others : (number : ℕ) → IsShelfKept cell number) (lines : List Awaited) (still : cell.made.acted.pool ≡ λ message. None) (silent : cell.made.waiting ≡ []) where
   abbrev first : StoredCell
   first = unhoused cell lines
 
@@ -107,16 +110,6 @@ module _ (cell : StoredCell) (kept : IsStoredKept cell) (lines : List Awaited) (
     alone : (entry : ReplicaEntry) → In entry (found true shelf.actor) → IsDecision entry
     fits : (joins : Bool) → DoesFit (λ client. (cell.made.acted.clients client).history) server shelf.volume (found joins shelf.actor)
 
-  blank_shelf : (plain : PlainActor KeptEntry) → plain ≡ plain_shelf (blank 0) → IsShelf plain
-  blank_shelf plain is = record {
-    shelf = blank 0;
-    server = 0;
-    there = is;
-    labelled = inl (refl, refl, refl);
-    alone = λ entry i. absurd i;
-    fits = λ joins. subst (DoesFit (λ client. (cell.made.acted.clients client).history) 0 0) (sym (nothing_found joins)) (replicas_stand_elsewhere.nothing (λ client. (cell.made.acted.clients client).history) 0 0);
-  }
-
   -- the disk of a volume's replica has its header
   label_is : (volume server : ℕ) (o : Option ℕ) (actors : ℕ → Actor ReplicaEntry) (side : Side) → o ≡ Some server → IsReplicaSide volume o actors side
       → IsLabelled (record { volume = volume; given = side.given; actor = actors server }) server
@@ -149,30 +142,83 @@ module _ (cell : StoredCell) (kept : IsStoredKept cell) (lines : List Awaited) (
       home_same : (o : Option ℕ) (other : ℕ) → o ≡ Some other → o ≡ Some server → other ≡ server
       home_same o other a b = (let same : Some other ≡ Some server = sym a ∙ b in cc)
 
-  shelf_at : (some : List Awaited) (volumes areas : ℕ) → AreAwaited cell volumes areas some → (number : ℕ) → IsShelf (idle_until cell some number)
-  shelf_at [] volumes areas are number = blank_shelf (cell.idle number) (kept.idle number)
-  shelf_at (ClientAgain client blocks area ∷ some) volumes areas (size, asks, room, once, rest) number = (let s = shelf_at some volumes (areas + area) rest number in
-      record { shelf = s.shelf; server = s.server; there = s.there; labelled = s.labelled; alone = s.alone; fits = s.fits })
-  shelf_at (VolumeAgain volume server area ∷ some) volumes areas (home, asks, place, few, room, once, rest) number =
+  shelf_at : (some : List Awaited) → AreHomes cell some → (number : ℕ) → IsShelf (idle_until cell some number)
+  shelf_at [] are number = (let s = others number in record { shelf = s.shelf; server = s.server; there = s.there; labelled = s.labelled; alone = s.alone; fits = s.fits })
+  shelf_at (ClientAgain client blocks area ∷ some) are number = (let s = shelf_at some are number in record { shelf = s.shelf; server = s.server; there = s.there; labelled = s.labelled; alone = s.alone; fits = s.fits })
+  shelf_at (VolumeAgain volume server area ∷ some) (home, rest) number =
       elim (number == cell.places volume) as (λ b. IsShelf (cond b (plain_replica volume (cell.made.acted.replicas server volume) (asleep true (cell.replicas volume))) (idle_until cell some number))) [
         | true ↦ volume_shelf volume server home
-        | false ↦ shelf_at some (volumes + 1) (areas + area) rest number
+        | false ↦ shelf_at some rest number
       ]
 
-  pub shelves : AreAwaited cell 0 0 lines → (number : ℕ) → IsShelfKept first number
-  shelves are number = (let s = shelf_at lines 0 0 are number in record { shelf = s.shelf; server = s.server; there = s.there; labelled = s.labelled; alone = s.alone; fits = s.fits })
+  pub shelves : AreHomes cell lines → (number : ℕ) → IsShelfKept first number
+  shelves are number = (let s = shelf_at lines are number in record { shelf = s.shelf; server = s.server; there = s.there; labelled = s.labelled; alone = s.alone; fits = s.fits })
 
-pub held_first : (past : StoredCell) (lines : List Awaited) → IsStoredKept past → MakeAllAgain past lines → IsHeld (unmade_from past lines)
-held_first past lines kept again =
-    let rested = cells_are_resumed.rests past kept in
+-- ---- cells that are held
+
+-- a disk that holds nothing
+blank_shelf : (cell : StoredCell) (number : ℕ) → cell.idle number ≡ unmade → IsShelfKept cell number
+blank_shelf cell number is = record {
+  shelf = blank 0;
+  server = 0;
+  there = is;
+  labelled = inl (refl, refl, refl);
+  alone = λ entry i. absurd i;
+  fits = λ joins. subst (DoesFit (λ client. (cell.made.acted.clients client).history) 0 0) (sym (nothing_found joins)) (replicas_stand_elsewhere.nothing (λ client. (cell.made.acted.clients client).history) 0 0);
+}
+
+-- the volumes that are awaited were made on their servers
+awaited_homes : (cell : StoredCell) (volumes areas : ℕ) (lines : List Awaited) → AreAwaited (at_rest cell) volumes areas lines → AreHomes cell lines
+awaited_homes cell volumes areas [] are = tt
+awaited_homes cell volumes areas (ClientAgain client blocks area ∷ lines) (size, asks, room, once, rest) = awaited_homes cell volumes (areas + area) lines rest
+awaited_homes cell volumes areas (VolumeAgain volume server area ∷ lines) (home, asks, place, few, room, once, rest) = (home, awaited_homes cell (volumes + 1) (areas + area) lines rest)
+
+pub held_first : (cell : StoredCell) (lines : List Awaited) → IsStoredKept cell → MakeAllAgain cell lines → IsHeld cell
+held_first cell lines kept again = record {
+  behind = cell;
+  left = [];
+  clients = tt;
+  is = sym (makers_make_again.whole cell);
+  kept = actors_kept cell kept;
+  shelves = λ number. blank_shelf cell number (kept.idle number);
+  names = lines;
+  named = record { clients = again.clients; volumes = again.volumes; homes = awaited_homes cell 0 0 lines again.each };
+}
+
+-- the clients alone are named once no volume is made
+names_clients : (cell : StoredCell) (lines some : List Awaited) → AreHomes (unhoused cell lines) (clients_among some)
+names_clients cell lines [] = tt
+names_clients cell lines (ClientAgain client blocks area ∷ some) = names_clients cell lines some
+names_clients cell lines (VolumeAgain volume server area ∷ some) = names_clients cell lines some
+
+pub same_clients : (lines : List Awaited) (client : ℕ) → awaits_client (clients_among lines) client ≡ awaits_client lines client
+same_clients [] client = refl
+same_clients (ClientAgain number blocks area ∷ lines) client = ap (λ b. (client == number) || b) (same_clients lines client)
+same_clients (VolumeAgain volume server area ∷ lines) client = same_clients lines client
+
+homes_rest : (cell : StoredCell) (lines : List Awaited) → AreHomes cell lines → AreHomes (at_rest cell) lines
+homes_rest cell [] homes = tt
+homes_rest cell (ClientAgain client blocks area ∷ lines) homes = homes_rest cell lines homes
+homes_rest cell (VolumeAgain volume server area ∷ lines) homes = (homes.0, homes_rest cell lines homes.1)
+
+pub held_begun : (cell : StoredCell) (held : IsHeld cell) → IsHeld (begun_from cell held)
+held_begun cell held =
+    let rested = actors_rest held.behind held.kept in
+    let others : (number : ℕ) → IsShelfKept (at_rest held.behind) number = λ number. shelf_stays held.behind (at_rest held.behind) number (cells_are_resumed.begins held.behind).clients rested refl (held.shelves number) in
     record {
-      behind = unhoused (at_rest past) lines;
-      left = clients_among lines;
-      clients = all_clients lines;
+      behind = unhoused (at_rest held.behind) held.names;
+      left = clients_among held.names;
+      clients = all_clients held.names;
       is = refl;
-      kept = actors (at_rest past) rested lines refl refl;
-      shelves = shelves (at_rest past) rested lines refl refl again.each;
+      kept = actors (at_rest held.behind) rested others held.names refl refl;
+      shelves = shelves (at_rest held.behind) rested others held.names refl refl (homes_rest held.behind held.names held.named.homes);
+      names = clients_among held.names;
+      named = record {
+        clients = λ client blocks e. same_clients held.names client ∙ held.named.clients client blocks e;
+        volumes = λ volume server e. cc;
+        homes = names_clients (at_rest held.behind) held.names held.names;
+      };
     }
 
-pub clients_begin : (past : StoredCell) (lines : List Awaited) (client : ℕ) → BeginsWith ((unmade_from past lines).made.acted.clients client).history (past.made.acted.clients client).history
-clients_begin past lines client = (cells_are_resumed.begins past).clients client
+pub clients_begin : (cell : StoredCell) (held : IsHeld cell) (client : ℕ) → BeginsWith ((begun_from cell held).made.acted.clients client).history (cell.made.acted.clients client).history
+clients_begin cell held client = subst (λ (c : StoredCell). BeginsWith ((begun_from cell held).made.acted.clients client).history (c.made.acted.clients client).history) (sym held.is) ((cells_are_resumed.begins held.behind).clients client)

@@ -14,7 +14,7 @@ use Rattle.coda_cell.specs.Runs.{IsKept}
 use Rattle.coda_cell.specs.State.{put}
 use Rattle.coda_matching.specs.Replicas.{IsDecision}
 use Rattle.coda_stored.specs.Cells.{Side, StoredCell, moved}
-use Rattle.coda_stored.specs.Kept.{found_up, whole, IsGiven, IsClientSide, IsReplicaSide, IsStoredKept}
+use Rattle.coda_stored.specs.Kept.{found_up, whole, IsGiven, IsClientSide, IsReplicaSide, IsCellKept, IsStoredKept}
 use Rattle.coda_stored.specs.Laws.{Begins}
 use Rattle.coda_stored.specs.Lines.{IsRefused, RecoversClient, RecoversReplica, with_client_side, with_replica_side, recovered_side}
 use Rattle.coda_stored.specs.Resuming.{stopped, forgotten, at_rest, Awaited, ClientAgain, VolumeAgain, AsksAgain, AreAwaited, with_area, MakesAgain, CellsAreResumed}
@@ -96,8 +96,8 @@ whole_rests cell joins = λ i. record (quiet (whole cell.made joins)) {
   };
 }
 
-rests : (cell : StoredCell) → IsStoredKept cell → IsStoredKept (at_rest cell)
-rests cell kept = record {
+pub actors_rest : (cell : StoredCell) → IsCellKept cell → IsCellKept (at_rest cell)
+actors_rest cell kept = record {
   clients_up = λ client up. none_failed (cell.made.sizes client) (cell.made.acted.clients client) (kept.clients_up client) up;
   replicas_up = λ server volume up. none_failed (cell.made.homes volume) (cell.made.acted.replicas server volume) (kept.replicas_up server volume) up;
   kept = λ joins. subst IsKept (sym (whole_rests cell joins)) (quiet_kept (whole cell.made joins) (kept.kept joins));
@@ -105,9 +105,11 @@ rests cell kept = record {
   replicas = λ volume. replica_rests volume (cell.made.homes volume) (λ server. cell.made.acted.replicas server volume) (cell.replicas volume) (kept.replicas volume);
   placed = kept.placed;
   apart = kept.apart;
-  idle = kept.idle;
   alone = λ server volume. alone_stopped (cell.made.homes volume) (cell.made.acted.replicas server volume) (kept.alone server volume);
 }
+
+rests : (cell : StoredCell) → IsStoredKept cell → IsStoredKept (at_rest cell)
+rests cell kept = with_idle cell (at_rest cell) kept (actors_rest cell (actors_kept cell kept)) refl
 
 begins_stopped : {E : Type 0} (o : Option ℕ) (actor : Actor E) → BeginsWith (stopped o actor).history actor.history
 begins_stopped None actor = same_entries actor.history

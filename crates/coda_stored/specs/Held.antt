@@ -18,7 +18,7 @@ use Rattle.coda_stored.specs.Cells.{StoredCell, no_side, client_header, replica_
 use Rattle.coda_stored.specs.Kept.{IsCellKept, IsStoredKept}
 use Rattle.coda_stored.specs.Lines.{area_of, refused_fault, Happens}
 use Rattle.coda_stored.specs.Mounted.{Shelf, plain_shelf, HoldsShelf, LineFinds, IsOthers}
-use Rattle.coda_stored.specs.Resuming.{at_rest, Awaited, ClientAgain, VolumeAgain, MakeAllAgain}
+use Rattle.coda_stored.specs.Resuming.{at_rest, Awaited, ClientAgain, VolumeAgain, awaits_client, awaits_volume, MakeAllAgain}
 use Rattle.coda_stored.specs.Seen.{seen, idle_until, mounts_none, IsSeen}
 
 -- ---- disks that stand by themselves
@@ -61,8 +61,7 @@ clients_among [] = []
 clients_among (ClientAgain client blocks area ∷ left) = ClientAgain client blocks area ∷ clients_among left
 clients_among (VolumeAgain volume server area ∷ left) = clients_among left
 
--- A run over the disks that another run left begins with a cell in which no line has made anything: each client has the history of its disk, and each disk of a replica
--- stands by itself.
+-- A cell as its disks have it, in which no line has made anything: its clients and volumes are those that these lines name.
 abbrev pub unmade_from : StoredCell → List Awaited → StoredCell
 unmade_from past lines = seen (unhoused (at_rest past) lines) (clients_among lines)
 
@@ -74,8 +73,20 @@ AreClients [] = Unit {0}
 AreClients (ClientAgain client blocks area ∷ left) = AreClients left
 AreClients (VolumeAgain volume server area ∷ left) = ⊥
 
--- What holds of a cell over disks that stand by themselves: it is what is seen of one whose actors are kept, while some of its clients are yet to come; and what the
--- other disks hold is kept.
+-- the volumes among them were made on these servers
+abbrev pub AreHomes : StoredCell → List Awaited → Type 0
+AreHomes cell [] = Unit {0}
+AreHomes cell (ClientAgain client blocks area ∷ lines) = AreHomes cell lines
+AreHomes cell (VolumeAgain volume server area ∷ lines) = (cell.made.homes volume ≡ Some server) × AreHomes cell lines
+
+-- The lines name all that was made: each client, and each volume with its server.
+pub record AreNamed (cell : StoredCell) (lines : List Awaited) : Type 0 where
+  pub clients : (client blocks : ℕ) → cell.made.sizes client ≡ Some blocks → awaits_client lines client ≡ true
+  pub volumes : (volume server : ℕ) → cell.made.homes volume ≡ Some server → awaits_volume lines volume ≡ true
+  pub homes : AreHomes cell lines
+
+-- What holds of a cell over disks that stand by themselves: it is what is seen of one whose actors are kept, while some of its clients are yet to come; what the other
+-- disks hold is kept; and some lines name all that was made.
 pub record IsHeld (cell : StoredCell) : Type 0 where
   pub behind : StoredCell
   pub left : List Awaited
@@ -83,6 +94,13 @@ pub record IsHeld (cell : StoredCell) : Type 0 where
   pub is : cell ≡ seen behind left
   pub kept : IsCellKept behind
   pub shelves : (number : ℕ) → IsShelfKept behind number
+  pub names : List Awaited
+  pub named : AreNamed behind names
+
+-- A run over the disks that such a cell left begins with a cell in which no line has made anything: each client has the history of its disk, and each disk of a replica
+-- stands by itself.
+abbrev pub begun_from : (cell : StoredCell) → IsHeld cell → StoredCell
+begun_from cell held = unmade_from held.behind held.names
 
 -- ---- lines
 
@@ -104,12 +122,13 @@ pub record DoesFind (old : StoredCell) (said : Line) : Type 0 where
   pub kept : (reply : Reply) (outside : List (List ℕ)) (new : StoredCell) → LineFinds old shelf said reply outside new → IsHeld new ⊎ ((reply ≡ refused_fault) × IsForeignDisk old shelf said)
   pub others : IsOthers shelf said → IsForeignDisk old shelf said
 
--- What holds of cells over disks that earlier runs left, in whatever order lines make actors on them. What such a run begins with is held, and has all that the disks
--- have; each line that mounts no disk of an actor that it makes does in it what it does in any cell, and one that mounts such a disk finds what stands there; both leave
+-- What holds of cells over disks that earlier runs left, in whatever order lines make actors on them. A cell that is kept is held, if lines make again all that it has; what
+-- a run begins with over the disks of a cell that is held is held, and each client has the history that it had, on a disk as it was; each line that mounts no disk of an actor that it makes does in it what it does in any cell, and one that mounts such a disk finds what stands there; both leave
 -- a cell that is held. Its histories keep what is promised, and no client loses an entry.
 pub record HeldCellsAreKept : Type 0 where
-  pub first : (past : StoredCell) (lines : List Awaited) → IsStoredKept past → MakeAllAgain past lines → IsHeld (unmade_from past lines)
-  pub clients_begin : (past : StoredCell) (lines : List Awaited) (client : ℕ) → BeginsWith ((unmade_from past lines).made.acted.clients client).history (past.made.acted.clients client).history
+  pub kept : (cell : StoredCell) (lines : List Awaited) → IsStoredKept cell → MakeAllAgain cell lines → IsHeld cell
+  pub begun : (cell : StoredCell) (held : IsHeld cell) → IsHeld (begun_from cell held)
+  pub clients : (cell : StoredCell) (held : IsHeld cell) (client : ℕ) → BeginsWith ((begun_from cell held).made.acted.clients client).history (cell.made.acted.clients client).history
   pub lines : (old new : StoredCell) (said : Line) (reply : Reply) (outside : List (List ℕ)) → IsHeld old → InRange said → mounts_none old said ≡ true → Happens old said reply outside new → IsHeld new
   pub finds : (old : StoredCell) (said : Line) → IsHeld old → InRange said → mounts_none old said ≡ false → DoesFind old said
   pub seen : (cell : StoredCell) → IsHeld cell → IsSeen cell
