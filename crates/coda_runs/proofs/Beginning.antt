@@ -11,7 +11,7 @@ use Rattle.coda_runs.specs.Headline.{AcknowledgedEntriesStay}
 pub begins_same : (cell : StoredCell) → Begins cell cell
 begins_same cell = record { clients = λ client. ([], sym (append-nil _)); replicas = λ server volume. ([], sym (append-nil _)); learned = refl }
 
-then_begins : {E : Type 0} → (xs ys zs : List E) → BeginsWith ys xs → BeginsWith zs ys → BeginsWith zs xs
+pub then_begins : {E : Type 0} → (xs ys zs : List E) → BeginsWith ys xs → BeginsWith zs ys → BeginsWith zs xs
 then_begins xs ys zs a b = (a.0 ++ b.0, b.1 ∙ ap (λ l. l ++ b.0) a.1 ∙ append_assoc xs a.0 b.0)
 
 pub begins_then : (old mid new : StoredCell) → Begins mid old → Begins new mid → Begins new old

@@ -17,7 +17,8 @@ use Rattle.coda_stored.specs.Resuming.{Awaited, awaits_client}
 use Rattle.coda_stored.specs.Seen.{home_unless, seen, mounts_none}
 use Rattle.coda_stored.proofs.HeldFinds.{held_cells_are_kept}
 use Rattle.coda_stored.proofs.Mounted.{what_is_found_was_there}
-use Rattle.coda_stored.proofs.Remaining.{entries_stay, same_entries, then_entries}
+use Rattle.coda_stored.proofs.Remaining.{entries_stay, same_entries}
+use Rattle.coda_runs.proofs.Beginning.{then_begins}
 use Rattle.coda_runs.specs.Headline.{IsOfPending}
 use Rattle.coda_runs.specs.Held.{Holding, Holds, Fails, HeldAnswers, HeldGives, HasHeld, HeldRunsGoOn, WhatRanIsHeld}
 use Rattle.coda_runs.specs.Shows.{Recorded}
@@ -47,7 +48,7 @@ finds_begin old new shelf _ reply outside finds client = absurd finds
 goes_then : (start old new : StoredCell) → GoesOn start old → IsHeld new → ((client : ℕ) → BeginsWith (new.made.acted.clients client).history (old.made.acted.clients client).history) → GoesOn start new
 goes_then start old new goes held begins = record {
   held = held;
-  begins = λ client. then_entries (start.made.acted.clients client).history (old.made.acted.clients client).history (new.made.acted.clients client).history (goes.begins client) (begins client);
+  begins = λ client. then_begins (start.made.acted.clients client).history (old.made.acted.clients client).history (new.made.acted.clients client).history (goes.begins client) (begins client);
 }
 
 answered_on : (start : StoredCell) (at : Recorded) (bytes text : List ℕ) (outside : List (List ℕ)) (said : Line) (new : Holding) → line_of bytes ≡ Ok (Some said) → GoesOn start at.cell → HeldAnswers at said text outside new → GoesOnAt start new
