@@ -139,7 +139,7 @@ dropped_goes rs o = go (cancels o.op rs)
     go true = refl
     go false = refl
 
-undropped_few : (gone : Op → Bool) (rs : List Record) → length (undropped gone rs) ≤ length rs
+pub undropped_few : (gone : Op → Bool) (rs : List Record) → length (undropped gone rs) ≤ length rs
 undropped_few gone [] = omega arith
 undropped_few gone (r ∷ rs) = go (gone r.op) (undropped_few gone rs)
   where
@@ -147,7 +147,7 @@ undropped_few gone (r ∷ rs) = go (gone r.op) (undropped_few gone rs)
     go true h = omega (arith, h)
     go false h = omega (arith, h)
 
-undropped_light : (gone : Op → Bool) (rs : List Record) → total_weight (undropped gone rs) ≤ total_weight rs
+pub undropped_light : (gone : Op → Bool) (rs : List Record) → total_weight (undropped gone rs) ≤ total_weight rs
 undropped_light gone [] = omega arith
 undropped_light gone (r ∷ rs) = go (gone r.op) (undropped_light gone rs)
   where
@@ -181,12 +181,6 @@ module _ (rs : List Record) (o : Record) where
       let two = total-append left own in
       let one = own_weight in
       omega (arith, size, two, one, h)
-
-  pub length_added : (gone : ℕ) → gone + length left ≡ length rs → length rs - gone + length own ≡ length (add rs o)
-  length_added gone h =
-      let size = (size_after rs o).0 in
-      let two = length-append left own in
-      omega (arith, size, two, h)
 
   own_length : length own ≤ 1
   own_length = go (cancels o.op rs)

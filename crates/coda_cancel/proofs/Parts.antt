@@ -1,19 +1,18 @@
 -- The index of a list's front and of the others.
-use Rattle.std.proofs.Common.{◌≡◌, ℕ, suc, ◌+◌, ◌<◌, Bool, true, false, not, ◌&&◌, ◌||◌, ◌==◌, List, [], ◌∷◌, ◌++◌, length, take, drop, get_or, refl, sym, ap, ◌∙◌, subst}
+use Rattle.std.proofs.Common.{◌≡◌, ℕ, ◌+◌, ◌<◌, Bool, true, false, not, ◌&&◌, ◌||◌, ◌==◌, List, [], ◌∷◌, ◌++◌, length, take, get_or, refl, sym, ap, ◌∙◌, subst}
 use Rattle.std.specs.BTreeSet.{BTreeSet}
 use Rattle.std.proofs.lemmas.Bool.{true≢false, false≢true}
-use Rattle.std.proofs.lemmas.List.{append_assoc, take_more, take-append-drop}
-use Rattle.std.proofs.Common.{drop-cons}
+use Rattle.std.proofs.lemmas.List.{append_assoc, take_more}
 use Rattle.coda_fid.specs.declared.fid.Fid.{Fid}
 use Rattle.coda_fid.specs.declared.op.Record.{Record}
 use Rattle.coda_cancel.specs.declared.mentions.Mention.{Mention}
 use Rattle.coda_cancel.specs.Dropping.{mentioning}
 use Rattle.coda_cancel.specs.Numbers.{AreAbove, IsRising}
-use Rattle.coda_cancel.specs.Mentions.{has, tells, is_mentioned, IsIndexOf, Gains, Loses, AreFresh}
+use Rattle.coda_cancel.specs.Mentions.{has, tells, is_mentioned, IsIndexOf, Gains, Loses}
 use Rattle.coda_cancel.specs.Shelved.{is_numbered}
 use Rattle.coda_cancel.proofs.Places.{somewhere}
 use Rattle.coda_cancel.proofs.Walks.{mentioned-append}
-use Rattle.coda_cancel.proofs.Indexed.{front_silent, back_silent, numbered_at}
+use Rattle.coda_cancel.proofs.Indexed.{back_silent}
 
 abbrev In : Type 0
 In = Fid → ℕ → Bool
@@ -26,13 +25,6 @@ mentioned_more : (i : ℕ) (rs : List Record) (d : Record) (f : Fid) (n : ℕ) �
 mentioned_more i rs d f n l = ap (λ l. is_mentioned l f n) (take_more rs i d l) ∙ mentioned-append (take i rs) (get_or rs i d ∷ []) f n ∙ ap (λ b. is_mentioned (take i rs) f n || b) (or_none (tells (get_or rs i d) f n))
 
 module _ (old s n : In) (rs : List Record) (i : ℕ) (d : Record) (l : i < length rs) where
-  pub noted_more : Gains old s (is_mentioned (take i rs)) → Gains s n (tells (get_or rs i d)) → Gains old n (is_mentioned (take (i + 1) rs))
-  noted_more so more f k = more f k ∙ ap (λ b. b || tells (get_or rs i d) f k) (so f k) ∙ go (old f k) (is_mentioned (take i rs) f k) (tells (get_or rs i d) f k) ∙ ap (λ b. old f k || b) (sym (mentioned_more i rs d f k l))
-    where
-      go : (o a b : Bool) → ((o || a) || b) ≡ (o || (a || b))
-      go true a b = refl
-      go false a b = refl
-
   pub forgotten_more : Loses old s (is_mentioned (take i rs)) → Loses s n (tells (get_or rs i d)) → Loses old n (is_mentioned (take (i + 1) rs))
   forgotten_more so more f k = more f k ∙ ap (λ b. b && not (tells (get_or rs i d) f k)) (so f k) ∙ go (old f k) (is_mentioned (take i rs) f k) (tells (get_or rs i d) f k) ∙ ap (λ b. old f k && not b) (sym (mentioned_more i rs d f k l))
     where
@@ -40,17 +32,6 @@ module _ (old s n : In) (rs : List Record) (i : ℕ) (d : Record) (l : i < lengt
       go false a b = refl
       go true true b = refl
       go true false b = refl
-
--- a list with one of its records
-split_at : (i : ℕ) (rs : List Record) (d : Record) → i < length rs → rs ≡ take i rs ++ get_or rs i d ∷ drop (suc i) rs
-split_at i rs d l = sym (take-append-drop i rs) ∙ ap (λ xs. take i rs ++ xs) (drop-cons rs i d l)
-
--- the next record's number isn't there yet
-pub fresh_next : (old s : In) (rs : List Record) (i : ℕ) (d : Record) → i < length rs → IsRising rs → AreFresh old rs → Gains old s (is_mentioned (take i rs)) → (f : Fid) → s f (get_or rs i d).number ≡ false
-fresh_next old s rs i d l rising fresh so f =
-    let r = get_or rs i d in
-    let split = split_at i rs d l in
-    so f r.number ∙ (λ j. fresh f r.number (ap (is_numbered r.number) split ∙ numbered_at (take i rs) r (drop (suc i) rs) r.number refl) j || front_silent (take i rs) r (drop (suc i) rs) f (subst IsRising split rising) j)
 
 -- a number of the front is none of the others
 pub others_silent : (rs os : List Record) (n : ℕ) (f : Fid) → IsRising (rs ++ os) → is_numbered n rs ≡ true → is_mentioned os f n ≡ false
@@ -71,9 +52,6 @@ mentioned_numbered (r ∷ rs) f n h = go (r.number == n) (mentioning f r.op) (me
     go : (x y : Bool) → (is_mentioned rs f n ≡ true → is_numbered n rs ≡ true) → ((x && y) || is_mentioned rs f n) ≡ true → (x || is_numbered n rs) ≡ true
     go true y rest h = refl
     go false y rest h = rest h
-
-pub earlier_fresh : (index : BTreeSet Mention) (rs os : List Record) → IsRising (rs ++ os) → IsIndexOf index os → AreFresh (has index) rs
-earlier_fresh index rs os rising indexed f n there = indexed f n ∙ others_silent rs os n f rising there
 
 pub both_indexed : (index index' : BTreeSet Mention) (rs os : List Record) → IsIndexOf index os → Gains (has index) (has index') (is_mentioned rs) → IsIndexOf index' (rs ++ os)
 both_indexed index index' rs os indexed gains f n = gains f n ∙ ap (λ b. b || is_mentioned rs f n) (indexed f n) ∙ turn (is_mentioned os f n) (is_mentioned rs f n) ∙ sym (mentioned-append rs os f n)

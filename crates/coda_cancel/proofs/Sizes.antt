@@ -1,8 +1,6 @@
 -- A list that an operation was added to, by how many records it has and what they weigh.
-use Rattle.std.proofs.Common.{◌≡◌, ℕ, suc, ◌+◌, ◌-◌, ◌≤◌, ◌<◌, Bool, true, false, cond, ◌&&◌, List, [], ◌∷◌, ◌++◌, Some, None, refl, sym, ap, ◌∙◌, arith, drop, drop-cons, get_or, length, length-append, ◌⊎◌, inl, inr}
-use Rattle.std.proofs.lemmas.List.{drop_all}
+use Rattle.std.proofs.Common.{◌≡◌, ℕ, suc, ◌+◌, Bool, true, false, cond, ◌&&◌, List, [], ◌∷◌, ◌++◌, Some, None, refl, sym, ap, ◌∙◌, arith, length, length-append}
 use Rattle.std.specs.Prelude.{nat_le}
-use Rattle.std.proofs.lemmas.Bool.Decides.{nat_tests}
 use Rattle.coda_fid.specs.declared.fid.Fid.{Fid}
 use Rattle.coda_fid.specs.declared.fid.Sid.{Sid}
 use Rattle.coda_fid.specs.declared.op.Op.{Op}
@@ -65,58 +63,5 @@ size_after rs o = go (cancels o.op rs)
 pub fits_same : (count weight : ℕ) (rs os : List Record) → SameSize rs os → fits count weight rs ≡ fits count weight os
 fits_same count weight rs os h = λ i. nat_le (h.0 i) count && nat_le (h.1 i) weight
 
--- ---- a scan
-
-pub fits_past : (count room : ℕ) (r : Record) (rs : List Record) → 0 < count → weight_of r.op ≤ room → fits (count - 1) (room - weight_of r.op) rs ≡ fits count room (r ∷ rs)
-fits_past count room r rs h l =
-    let one : nat_le (length rs) (count - 1) ≡ nat_le (suc (length rs)) count = grind (arith, nat_tests) in
-    let two : nat_le (total_weight rs) (room - weight_of r.op) ≡ nat_le (weight_of r.op + total_weight rs) room = grind (arith, nat_tests) in
-    λ i. one i && two i
-
 pub fits_added : (count weight : ℕ) (rs : List Record) (o : Record) → fits count weight (undropped (goes (cancels o.op rs) o.op) rs ++ new_last (cancels o.op rs) o) ≡ fits count weight (add rs o)
 fits_added count weight rs o = sym (fits_same count weight (add rs o) (undropped (goes (cancels o.op rs) o.op) rs ++ new_last (cancels o.op rs) o) (size_after rs o))
-
--- what a scan of a list relies on, once it went past some records
-abbrev pub Scanned : ℕ → ℕ → ℕ → ℕ → List Record → Record → Bool → ℕ → Type 0
-Scanned most_count most_weight count room rs o b i = fits count room (undropped (goes b o.op) (drop i rs) ++ new_last b o) ≡ fits most_count most_weight (undropped (goes b o.op) rs ++ new_last b o)
-
-pub too_much : (count room : ℕ) (r : Record) (rs : List Record) → (count ≡ 0) ⊎ (room < weight_of r.op) → fits count room (r ∷ rs) ≡ false
-too_much count room r rs (inl h) = let e : nat_le (suc (length rs)) count ≡ false = grind (arith, nat_tests) in ap (λ b. b && nat_le (weight_of r.op + total_weight rs) room) e
-too_much count room r rs (inr h) = let e : nat_le (weight_of r.op + total_weight rs) room ≡ false = grind (arith, nat_tests) in go (nat_le (suc (length rs)) count) (nat_le (weight_of r.op + total_weight rs) room) e
-  where
-    go : (a b : Bool) → b ≡ false → (a && b) ≡ false
-    go true b e = e
-    go false b e = refl
-
--- a scan stops at a record for which there is no room
-pub scan_stops : (most_count most_weight count room : ℕ) (rs : List Record) (o : Record) (b : Bool) (i : ℕ) (r : Record) → r ≡ get_or rs i r → i < length rs → b ≡ cancels o.op rs →
-    Scanned most_count most_weight count room rs o b i → goes b o.op r.op ≡ false → (count ≡ 0) ⊎ (room < weight_of r.op) → false ≡ fits most_count most_weight (add rs o)
-scan_stops most_count most_weight count room rs o b i r is l c h g out =
-    let found : drop i rs ≡ r ∷ drop (suc i) rs = drop-cons rs i r l ∙ ap (λ x. x ∷ drop (suc i) rs) (sym is) in
-    let left : fits count room (undropped (goes b o.op) (drop i rs) ++ new_last b o) ≡ false =
-    ap (λ l. fits count room (undropped (goes b o.op) l ++ new_last b o)) found
-    ∙ ap (λ x. fits count room (cond x (undropped (goes b o.op) (drop (suc i) rs)) (r ∷ undropped (goes b o.op) (drop (suc i) rs)) ++ new_last b o)) g
-    ∙ too_much count room r (undropped (goes b o.op) (drop (suc i) rs) ++ new_last b o) out in
-    sym left ∙ h ∙ ap (λ x. fits most_count most_weight (undropped (goes x o.op) rs ++ new_last x o)) c ∙ fits_added most_count most_weight rs o
-
--- at its end the new record is left
-pub scan_ends : (most_count most_weight count room : ℕ) (rs : List Record) (o : Record) (b : Bool) (i : ℕ) → length rs ≤ i → b ≡ cancels o.op rs →
-    Scanned most_count most_weight count room rs o b i → fits count room (new_last b o) ≡ fits most_count most_weight (add rs o)
-scan_ends most_count most_weight count room rs o b i l c h =
-    ap (λ l. fits count room (undropped (goes b o.op) l ++ new_last b o)) (sym (drop_all i rs l))
-    ∙ h ∙ ap (λ x. fits most_count most_weight (undropped (goes x o.op) rs ++ new_last x o)) c ∙ fits_added most_count most_weight rs o
-
-pub fits_one : (count room : ℕ) (o : Record) → 0 < count → fits count room (o ∷ []) ≡ nat_le (weight_of o.op) room
-fits_one count room o h =
-    let one : nat_le 1 count ≡ true = grind (arith, nat_tests) in
-    let sum : weight_of o.op + 0 ≡ weight_of o.op = omega arith in
-    (λ i. one i && nat_le (sum i) room)
-
-pub fits_none : (count room : ℕ) (o : Record) → count ≡ 0 → fits count room (o ∷ []) ≡ false
-fits_none count room o h = too_much count room o [] (inl h)
-
-pub fits_nothing : (count room : ℕ) → true ≡ fits count room []
-fits_nothing count room =
-    let one : true ≡ nat_le 0 count = grind (arith, nat_tests) in
-    let two : true ≡ nat_le 0 room = grind (arith, nat_tests) in
-    λ i. one i && two i

@@ -11,7 +11,6 @@ use Rattle.coda_fid.specs.declared.op.Record.{Record}
 use Rattle.coda_fid.specs.Fid.{fid_cmp, same_fid}
 use Rattle.coda_cancel.specs.declared.mentions.Mention.{Mention}
 use Rattle.coda_cancel.specs.Dropping.{mentioning}
-use Rattle.coda_cancel.specs.Shelved.{is_numbered}
 
 -- an object that a record of the number mentions
 abbrev pub mention : Fid → ℕ → Mention
@@ -124,7 +123,3 @@ abbrev pub AreAhead : Index → Fid → Option ℕ → List Mention → Type 0
 AreAhead index fid after mentions =
     IsStrictlySortedBy mention_cmp mentions × AllByRecursion (λ m. IsLeBy mention_cmp (mention fid (number_after after)) m) mentions
     × ((number : ℕ) → is_upto after number ≡ false → among mentions fid number ≡ has index fid number)
-
--- none of the numbers of these records is there
-abbrev pub AreFresh : (Fid → ℕ → Bool) → List Record → Type 0
-AreFresh old recs = (fid : Fid) (number : ℕ) → is_numbered number recs ≡ true → old fid number ≡ false

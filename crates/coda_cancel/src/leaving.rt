@@ -37,17 +37,6 @@ impl Leaving {
     {
         if self.cancelled { 0 } else { rec.weight() }
     }
-
-    /// Whether those left, so many, and the operation, unless it isn't put there, are so many at most.
-    pub(crate) fn are_few(&self, left: usize, count: usize) -> bool
-        ensures { (rec : Record) → result ≡ nat_le (left + length (new_last self.now.cancelled rec)) count }
-    {
-        if self.cancelled {
-            left <= count
-        } else {
-            left < count
-        }
-    }
 }
 
 /// Whether so much and some more weigh a limit at most.
@@ -58,7 +47,7 @@ pub(crate) fn is_light(kept: u64, added: u64, weight: u64) -> bool
 }
 
 // Whether a record goes where the operation is added.
-fn goes(op: &Op, cancelled: bool, fid: Fid, earlier: &Op) -> bool
+pub(crate) fn goes(op: &Op, cancelled: bool, fid: Fid, earlier: &Op) -> bool
     requires { object (carried op.now) ≡ fid }
     ensures { result ≡ goes cancelled op.now earlier.now }
 {

@@ -3,15 +3,19 @@
 
 mod adding;
 mod dropping;
+mod entering;
 mod handing;
+mod indexing;
 mod join;
 mod leaving;
 mod lent;
 mod mentions;
+mod scanning;
 mod shelf;
 mod tail;
 mod undoing;
 
+pub use entering::AddFault;
 pub use join::Join;
 pub use lent::LentRecords;
-pub use tail::{AddFault, Tail};
+pub use tail::Tail;

@@ -85,6 +85,14 @@ fn take_all(index: &mut BTreeSet<Mention>, fids: &[Fid], number: u64)
     }
 }
 
+/// Puts in what a record mentions, until memory is wanted.
+pub(crate) fn put_record(index: &mut BTreeSet<Mention>, rec: &Record) -> Result<(), AllocError>
+    ensures { OnOk result (Gains (has index.old) (has index.new) (tells rec.now)) }
+{
+    let (fids, count) = fids(&rec.op);
+    put_all(index, &fids[..count], rec.number)
+}
+
 /// Puts in what a record mentions; where memory is wanted, nothing. No record of its number is there.
 pub(crate) fn note(index: &mut BTreeSet<Mention>, rec: &Record) -> Result<(), AllocError>
     requires { (fid : Fid) → has index.old fid rec.now.number ≡ false }

@@ -1,44 +1,43 @@
 ghost use Rattle.std.specs.Prelude.{◌≡◌, ◌≤◌, ◌<◌, ◌^◌, true, [], ◌++◌, take, drop, length, ◌+◌, IfOk, OnOk, OnErr, IfErr, IfSome};
 ghost use Rattle.coda_fid.specs.declared.op.Record.{Record};
-ghost use Rattle.coda_cancel.specs.Cancel.{add, added};
+ghost use Rattle.coda_cancel.specs.Cancel.{add, added, cancels};
 ghost use Rattle.coda_cancel.specs.Numbers.{AreBelow, IsRising, dropped, least};
 ghost use Rattle.coda_cancel.specs.Joins.{joins_of};
-ghost use Rattle.coda_cancel.specs.Mentions.{has, is_mentioned, AreFresh, Gains, IsIndexOf, IsSame, Loses};
+ghost use Rattle.coda_cancel.specs.Mentions.{has, is_mentioned, IsIndexOf, IsSame, Loses};
+ghost use Rattle.coda_cancel.specs.Passing.{goes, undropped};
 ghost use Rattle.coda_cancel.specs.Weights.{fits, total_weight};
 
 use crate::Join;
-use crate::adding::{add_each, add_reserved};
+use crate::adding::add_each;
+use crate::entering::{AddFault, add_bare, add_indexed};
+use crate::indexing::{index_of, note_all};
 use crate::leaving::{is_light, leaving_with, weigh, weigh_light};
 use crate::lent::LentRecords;
-use crate::mentions::{Mention, forget, note};
+use crate::mentions::{Mention, forget};
+use crate::scanning::{Staying, staying_among};
 use crate::shelf::Shelf;
-use coda_fid::Record;
+use coda_fid::{Op, Record};
 use std::alloc::{AllocError, Global};
 use std::collections::BTreeSet;
 use std::marker::Model;
 use std::mem;
-use thiserror::Error;
 
-/// Why an operation was not added.
-#[derive(Debug, Drop, Error)]
-pub enum AddFault {
-    /// There was no memory for its record, which comes back.
-    #[error("out of memory for a record of the log")]
-    Memory(Record),
-}
+/// The most records that are without an index.
+const MOST_UNINDEXED: usize = 64;
 
 /// The records of a log that were not sent yet, in the order of their numbers.
 ///
 /// An operation that is added drops the earlier ones that it makes needless (Kistler and
 /// Satyanarayanan 1992). Contracts see the list of the records.
 ///
-/// Beside the records there is an index of them by the objects that they mention, and what they weigh together. So an
-/// operation is added at the cost of the records that mention its object.
+/// Beside the records there is what they weigh together, and an index of them by the objects that they mention, so that
+/// an operation is added at the cost of the records that mention its object. Creations, and renames that replace
+/// nothing, look for nothing in it: so it is made where another operation is added, or where there are many records.
 #[derive(Debug, Drop)]
 pub struct Tail {
     alloc: Global,
     shelf: Shelf,
-    index: BTreeSet<Mention>,
+    index: Option<BTreeSet<Mention>>,
     weight: u64,
 }
 
@@ -62,7 +61,7 @@ impl Tail {
         Tail {
             alloc,
             shelf: Shelf::new(alloc),
-            index: BTreeSet::new(alloc),
+            index: None,
             weight: 0,
         }
     }
@@ -109,7 +108,7 @@ impl Tail {
         ensures err { OnErr result (self.new ≡ self.old) }
     {
         let front = self.shelf.take_front(count)?;
-        forget_front(self.alloc, &mut self.index, &front, &self.shelf);
+        self.index = forget_front(self.index.take(), &front, &self.shelf);
         self.weight -= weigh_light(&front);
         Ok(front)
     }
@@ -120,7 +119,8 @@ impl Tail {
     /// and Setattrs of it, leaves nothing of the object and is not put there.
     ///
     /// Answers the least number that was dropped. The number of the operation is above those here.
-    /// Costs the records that mention its object, by the logarithm of how many there are.
+    /// Costs the records that mention its object, by the logarithm of how many there are; and where there is no index yet,
+    /// those that there are, which are few.
     ///
     /// # Errors
     ///
@@ -132,16 +132,19 @@ impl Tail {
         ensures memory { IfErr result (λ fault. fault ≡ AddFault.Memory rec) }
         ensures err { OnErr result (self.new ≡ self.old) }
     {
-        let gone = leaving_with(&self.shelf, &self.index, &rec.op);
-        let Some(weight) = (self.weight - gone.weight).checked_add(gone.added(&rec)) else {
-            return Err(AddFault::Memory(rec));
-        };
-        if self.shelf.reserve(1).is_err() || note(&mut self.index, &rec).is_err() {
-            return Err(AddFault::Memory(rec));
+        if self.index.is_none() && self.shelf.len() < MOST_UNINDEXED && rec.op.carried().is_none() {
+            return add_bare(&mut self.shelf, &mut self.weight, rec);
         }
-        add_reserved(&mut self.shelf, &mut self.index, rec, gone);
-        self.weight = weight;
-        Ok(gone.least)
+        let mut index = match self.index.take() {
+            Some(index) => index,
+            None => match index_of(self.alloc, self.shelf.records()) {
+                Ok(index) => index,
+                Err(_) => return Err(AddFault::Memory(rec)),
+            },
+        };
+        let added = add_indexed(&mut self.shelf, &mut index, &mut self.weight, rec);
+        self.index = Some(index);
+        added
     }
 
     /// Adds the records to those of an earlier part of the log in turn, which is left empty.
@@ -163,14 +166,24 @@ impl Tail {
             return Err(AllocError);
         };
         let mut joins = Vec::with_capacity(self.alloc, self.shelf.len())?;
-        let mut index = copy_index(&self.index)?;
-        note_all(&mut index, earlier)?;
+        let mut index = self.whole_index()?;
+        note_all(&mut index, LentRecords::of(earlier))?;
         let mut shelf = Shelf::of(self.alloc, earlier, self.shelf.len())?;
         let later = mem::replace(&mut self.shelf, Shelf::new(self.alloc)).into_records();
         self.weight = add_each(&mut shelf, &mut index, later, &mut joins, weight);
         self.shelf = shelf;
-        self.index = index;
+        self.index = Some(index);
         Ok(joins)
+    }
+
+    // The index of the records, in memory of its own.
+    fn whole_index(&self) -> Result<BTreeSet<Mention>, AllocError>
+        ensures { IfOk result (λ index. IsIndexOf index self.now) }
+    {
+        match &self.index {
+            Some(index) => copy_index(index),
+            None => index_of(self.alloc, self.shelf.records()),
+        }
     }
 
     // What records of an earlier part weigh, if that and what these weigh is below 2^64 together.
@@ -191,15 +204,32 @@ impl Tail {
         self.shelf.len() < count && is_light(self.weight, rec.weight(), weight)
     }
 
-    // Whether the operation fits, by the records that go.
+    // Which records stay where the operation is added.
+    fn staying(&self, op: &Op) -> Staying
+        ensures cancelled { result.cancelled ≡ cancels op.now self.now }
+        ensures count { result.count ≡ length (undropped (goes result.cancelled op.now) self.now) }
+        ensures weight { result.weight ≡ total_weight (undropped (goes result.cancelled op.now) self.now) }
+    {
+        let all = self.weight;
+        match &self.index {
+            Some(index) => {
+                let gone = leaving_with(&self.shelf, index, op);
+                Staying {
+                    cancelled: gone.cancelled,
+                    count: self.shelf.len() - gone.count,
+                    weight: all - gone.weight,
+                }
+            }
+            None => staying_among(&self.shelf, op, all),
+        }
+    }
+
+    // Whether the operation fits, by the records that stay.
     fn fits_with(&self, rec: &Record, count: usize, weight: u64) -> bool
         ensures { result ≡ fits count weight (add self.now rec.now) }
     {
-        let all = self.weight;
-        let gone = leaving_with(&self.shelf, &self.index, &rec.op);
-        let left = self.shelf.len() - gone.count;
-        let kept = all - gone.weight;
-        gone.are_few(left, count) && is_light(kept, gone.added(rec), weight)
+        let staying = self.staying(&rec.op);
+        staying.are_few(count) && is_light(staying.weight, staying.added(rec), weight)
     }
 
     /// Whether there would be so many records at most, and they would weigh so much at most, if the
@@ -215,7 +245,10 @@ impl Tail {
         ensures { IfOk result (λ tail. tail ≡ self.now) }
     {
         let shelf = self.shelf.copy(self.alloc)?;
-        let index = copy_index(&self.index)?;
+        let index = match &self.index {
+            Some(index) => Some(copy_index(index)?),
+            None => None,
+        };
         Ok(Tail {
             alloc: self.alloc,
             shelf,
@@ -232,29 +265,22 @@ fn copy_index(index: &BTreeSet<Mention>) -> Result<BTreeSet<Mention>, AllocError
     index.clone()
 }
 
-// Puts in what records mention whose numbers aren't there, until memory is wanted.
-fn note_all(index: &mut BTreeSet<Mention>, records: &[Record]) -> Result<(), AllocError>
-    requires rising { IsRising records.now }
-    requires fresh { AreFresh (has index.old) records.now }
-    ensures { OnOk result (Gains (has index.old) (has index.new) (is_mentioned records.now)) }
-{
-    for record in records {
-        note(index, record)?;
-    }
-    Ok(())
-}
-
-// Takes out what the records at the front mention, where these are left. Where none is left, nothing is mentioned.
-fn forget_front(alloc: Global, index: &mut BTreeSet<Mention>, front: &[Record], rest: &Shelf)
+// The index of the others, where records at the front are left out. Where there are no others, none is kept.
+fn forget_front(
+    index: Option<BTreeSet<Mention>>,
+    front: &[Record],
+    rest: &Shelf,
+) -> Option<BTreeSet<Mention>>
     requires rising { IsRising (front.now ++ rest.now.records) }
-    requires indexed { IsIndexOf index.old (front.now ++ rest.now.records) }
-    ensures { IsIndexOf index.new rest.now.records }
+    requires indexed { IfSome index (λ index. IsIndexOf index (front.now ++ rest.now.records)) }
+    ensures { IfSome result (λ index. IsIndexOf index rest.now.records) }
 {
+    let mut index = index?;
     if rest.len() == 0 {
-        *index = BTreeSet::new(alloc);
-    } else {
-        forget_all(index, front);
+        return None;
     }
+    forget_all(&mut index, front);
+    Some(index)
 }
 
 // Takes out what records mention.

@@ -12,7 +12,7 @@ use coda_fid::{Fid, Op};
 use std::collections::BTreeSet;
 
 // Whether an operation mentions the object, and is no Store or Setattr of it.
-fn is_other(op: &Op, fid: Fid) -> bool
+pub(crate) fn is_other(op: &Op, fid: Fid) -> bool
     ensures { result ≡ is_other fid op.now }
 {
     op.mentions(fid) && !writes(op, fid)

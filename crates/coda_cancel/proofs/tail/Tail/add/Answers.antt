@@ -1,46 +1,36 @@
-use Rattle.std.proofs.Common.{◌≡◌, ◌+◌, ◌∷◌, ◌++◌, [], Some, sym, ap, ◌∙◌, subst, arith}
-use Rattle.std.proofs.lemmas.List.{append-nil}
+use Rattle.std.proofs.Common.{◌≡◌, not, false, List, Option, Some, None, Result, Ok, Err, OnOk, OnErr, IfSome, is_some, sym, ap, ◌∙◌, subst}
+use Rattle.std.proofs.lemmas.Bool.{true≢false}
+use Rattle.coda_fid.specs.declared.op.Record.{Record}
 use Rattle.coda_cancel.specs.Cancel.{add}
-use Rattle.coda_cancel.specs.Numbers.{AreBelow, IsRising, numbers, least, dropped}
-use Rattle.coda_cancel.specs.Mentions.{is_mentioned, CoversUpTo, IsIndexOf}
-use Rattle.coda_cancel.specs.Passing.{goes, new_last, undropped}
-use Rattle.coda_cancel.specs.Weights.{total_weight}
-use Rattle.coda_cancel.proofs.Rising.{rising_push, rising_add}
-use Rattle.coda_cancel.proofs.Mentioned.{ok_at}
-use Rattle.coda_cancel.proofs.Entered.{below_silent, pushed_indexed, added_indexed, dropped_goes, weight_added}
+use Rattle.coda_cancel.specs.Numbers.{AreBelow, IsRising}
+use Rattle.coda_cancel.proofs.Rising.{rising_add}
 use Rattle.coda_cancel.proofs.tail.Tail.add.Goals as goal
 
-pub note-requires : goal.note-requires
-note-requires c f = c.self.invariant.indexed f c.args.rec.number ∙ below_silent c.args.rec.number c.self.inside.shelf.records f (subst (AreBelow c.args.rec.number) (sym c.self.view_is) c.requires)
+-- whether it was added or not, the numbers rise
+still_rising : {T E : Type 0} (r : Result T E) (new rs : List Record) (o : Record) → OnOk r (new ≡ add rs o) → OnErr r (new ≡ rs) → IsRising rs → AreBelow o.number rs → IsRising new
+still_rising (Ok x) new rs o ok err rising below = subst IsRising (sym ok) (rising_add rs o rising below)
+still_rising (Err e) new rs o ok err rising below = subst IsRising (sym err) rising
 
-pub add_reserved-requires-clause-indexed : goal.add_reserved-requires-clause-indexed
-add_reserved-requires-clause-indexed c f n h =
-    let gains = ok_at c.note.result (sym c.is_err-else-is_err.ensures.value ∙ c.if-is_err-2.false) c.note.ensures.ok in
-    pushed_indexed c.self.inside.index c.note.new.index c.self.inside.shelf.records c.args.rec c.self.invariant.indexed gains f n
-    ∙ ap (λ l. is_mentioned (l ++ c.args.rec ∷ []) f n) (sym c.reserve.ensures.records)
+of_none : {T : Type 0} (P : T → Type 0) (o : Option T) → is_some o ≡ false → IfSome o P
+of_none P (Some x) h = absurd (true≢false h)
+of_none P None h = tt
+
+pub invariant_of-self : goal.invariant_of-self
+invariant_of-self c =
+    let rs = c.self.inside.shelf.records in
+    let below = subst (AreBelow c.args.rec.number) (sym c.self.view_is) c.requires in
+    record {
+      rising = still_rising c.add_bare.result c.add_bare.new.shelf.records rs c.args.rec c.add_bare.ensures.ok c.add_bare.ensures.err c.self.invariant.rising below;
+      indexed = of_none _ c.self.inside.index (c.is_none.ensures ∙ ap not c.if-is_none.true);
+      weighed = c.add_bare.ensures.weighed;
+    }
 
 pub invariant_of-self-2 : goal.invariant_of-self-2
 invariant_of-self-2 c =
     let rs = c.self.inside.shelf.records in
-    let rec = c.args.rec in
-    let step : c.add_reserved.new.shelf.records ≡ add rs rec = c.add_reserved.ensures.records ∙ ap (λ l. add l rec) c.reserve.ensures.records in
-    let gains = ok_at c.note.result (sym c.is_err-else-is_err.ensures.value ∙ c.if-is_err-2.false) c.note.ensures.ok in
-    let below = subst (AreBelow rec.number) (sym c.self.view_is) c.requires in
-    let gone = c.leaving_with-gone.ensures in
-    let goneweight = subst (λ b. c.leaving_with-gone.result.weight + total_weight (undropped (goes b rec.op) rs) ≡ total_weight rs) gone.cancelled gone.weight in
-    let own = c.added.ensures ∙ ap (λ b. total_weight (new_last b rec)) gone.cancelled in
-    let sum = weight_added rs rec c.leaving_with-gone.result.weight goneweight in
-    let same = ap total_weight step in
-    let weight = c.in-Some.ensures in
+    let below = subst (AreBelow c.args.rec.number) (sym c.self.view_is) c.requires in
     record {
-      rising = subst IsRising (sym step) (rising_add rs rec c.self.invariant.rising below);
-      indexed = subst (IsIndexOf c.add_reserved.new.index) (append-nil (add rs rec) ∙ sym step)
-          (added_indexed c.note.new.index rs rec [] (rising_push rs rec c.self.invariant.rising below) (pushed_indexed c.self.inside.index c.note.new.index rs rec c.self.invariant.indexed gains) c.add_reserved.new.index (subst (CoversUpTo (Some rec.number) c.add_reserved.new.index) step c.add_reserved.ensures.indexed) c.add_reserved.ensures.beyond);
-      weighed = omega (arith, own, sum, same, weight, c.self.invariant.weighed);
+      rising = still_rising c.add_indexed-added.result c.add_indexed-added.new.shelf.records rs c.args.rec c.add_indexed-added.ensures.ok c.add_indexed-added.ensures.err c.self.invariant.rising below;
+      indexed = c.add_indexed-added.ensures.indexed;
+      weighed = c.add_indexed-added.ensures.weighed;
     }
-
-pub returns-clause-least : goal.returns-clause-least
-returns-clause-least c =
-    let rs = c.self.inside.shelf.records in
-    let gone = c.leaving_with-gone.ensures in
-    gone.least ∙ ap (λ b. least (numbers (goes b c.args.rec.op) rs)) gone.cancelled ∙ ap least (dropped_goes rs c.args.rec) ∙ ap (λ l. least (dropped l c.args.rec)) c.self.view_is

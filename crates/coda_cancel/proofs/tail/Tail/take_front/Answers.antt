@@ -1,4 +1,4 @@
-use Rattle.std.proofs.Common.{◌≡◌, ◌+◌, ◌++◌, take, drop, sym, ap, ◌∙◌, subst, arith}
+use Rattle.std.proofs.Common.{◌≡◌, ◌+◌, ◌++◌, take, drop, IfSome, sym, ap, ◌∙◌, subst, arith}
 use Rattle.std.proofs.lemmas.List.{take-append-drop}
 use Rattle.coda_cancel.specs.Numbers.{IsRising}
 use Rattle.coda_cancel.specs.Mentions.{IsIndexOf}
@@ -19,7 +19,9 @@ forget_front-requires-clause-indexed c =
     let rs = c.self.inside.shelf.records in
     let k = c.args.count in
     let front : c.deref.result.now ≡ take k rs = c.deref.ensures.value ∙ c.in_ok-front.ensures.front in
-    subst (IsIndexOf c.self.inside.index) (sym (take-append-drop k rs) ∙ (λ i. sym front i ++ sym c.in_ok-front.ensures.rest i)) c.self.invariant.indexed
+    let parts = sym (take-append-drop k rs) ∙ (λ i. sym front i ++ sym c.in_ok-front.ensures.rest i) in
+    subst (λ index. IfSome index (λ index. IsIndexOf index (c.deref.result.now ++ c.take_front.new.self.records))) (sym c.take.ensures.value)
+    (subst (λ l. IfSome c.self.inside.index (λ index. IsIndexOf index l)) parts c.self.invariant.indexed)
 
 pub weigh_light-requires : goal.weigh_light-requires
 weigh_light-requires c =
