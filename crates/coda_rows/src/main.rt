@@ -16,17 +16,9 @@ mod traces;
 use crate::answers::{Kind, answered};
 use crate::calls::words::named;
 use crate::repeats::repeated;
-use crate::texts::{compare, put, put_all};
+use crate::texts::{compare, push_word, put, put_all};
 use crate::traces::traced;
-use std::fs::{self, DirEntry};
-use std::{env, io};
-
-// Puts the name of an entry of a folder.
-fn put_name(rt: &HostRuntime, names: &mut Vec<String>, entry: &DirEntry) {
-    if let Ok(name) = entry.file_name().to_string(rt.alloc()) {
-        let _ = names.push(name);
-    }
-}
+use std::{env, fs, io};
 
 // The names of the files of a folder, by their bytes.
 fn names_in(rt: &HostRuntime, folder: &str) -> Vec<String> {
@@ -34,7 +26,7 @@ fn names_in(rt: &HostRuntime, folder: &str) -> Vec<String> {
     if let Ok(entries) = fs::read_dir(rt, folder) {
         for entry in entries {
             if let Ok(entry) = entry {
-                put_name(rt, &mut names, &entry);
+                push_word(rt.alloc(), &mut names, entry.file_name());
             }
         }
     }

@@ -5,7 +5,7 @@ ghost use Rattle.std.specs.BTreeMap.{get};
 ghost use Rattle.coda_disk.specs.Places.{is_out};
 
 use crate::disks::bay_of;
-use crate::header::Header;
+use crate::header::{Header, status_of};
 use crate::outlets::{Outlet, Pieces};
 use crate::texts::{put_parts, runs};
 use coda_disk::MemBay;
@@ -50,7 +50,7 @@ fn outcome(
         → (k : ℕ) → is_out (get nat_cmp bay.new.places k) ≡ false) }
 {
     let bytes = script.to_vec(alloc)?;
-    let header = Header::read(alloc, script)?;
+    let header = Header::read(alloc, script);
     let source = MemSource::new(bytes, header.failing_reads);
     let mut source = Pieces::new(source, header.piece.min(65_536) as usize);
     let sink = MemSink::new(Vec::new(alloc), header.failing_writes);
@@ -64,20 +64,16 @@ fn outcome(
 }
 
 // What must be written: the report of each run, with the run's ending behind it.
-fn wanted_of(
-    alloc: Global,
-    scripts: &[Vec<u8>],
-    reports: &[Vec<u8>],
-) -> Result<Vec<u8>, AllocError> {
+fn wanted_of(alloc: Global, scripts: &[Vec<u8>], reports: &[Vec<u8>]) -> Vec<u8> {
     let mut wanted = Vec::new(alloc);
     if scripts.len() != reports.len() {
         put_parts(&mut wanted, &[b"a row has a report for each of its runs\n"]);
     }
     for (script, report) in scripts.iter().zip(reports.iter()) {
-        wanted.extend_from_slice(report)?;
-        put_ending(&mut wanted, Header::read(alloc, script)?.status);
+        put_parts(&mut wanted, &[report]);
+        put_ending(&mut wanted, status_of(alloc, script));
     }
-    Ok(wanted)
+    wanted
 }
 
 // The bay of the first run.
@@ -87,7 +83,7 @@ fn first_bay(alloc: Global, scripts: &[Vec<u8>]) -> Result<MemBay, AllocError>
     let first = Header::read(
         alloc,
         scripts.first().map_or(&[], |script| script.as_slice()),
-    )?;
+    );
     bay_of(alloc, first.failing_bay, first.disks)
 }
 
@@ -106,20 +102,11 @@ fn found_of(alloc: Global, scripts: &[Vec<u8>]) -> Result<Vec<u8>, AllocError> {
     Ok(found)
 }
 
-// The report that must be written, and the one that was.
-fn both(
-    alloc: Global,
-    scripts: &[Vec<u8>],
-    reports: &[Vec<u8>],
-) -> Result<(Vec<u8>, Vec<u8>), AllocError> {
-    let found = found_of(alloc, scripts)?;
-    Ok((wanted_of(alloc, scripts, reports)?, found))
-}
-
 /// Runs a script, or several over one bay, by their headers: the report that must be written, and the one that was,
 /// with each run's ending behind what it wrote.
 pub fn run(alloc: Global, script: &[u8], report: &[u8]) -> Result<(Vec<u8>, Vec<u8>), AllocError> {
     let scripts = runs(alloc, script)?;
     let reports = runs(alloc, report)?;
-    both(alloc, &scripts, &reports)
+    let found = found_of(alloc, &scripts)?;
+    Ok((wanted_of(alloc, &scripts, &reports), found))
 }

@@ -28,6 +28,13 @@ pub fn put(out: &mut String, word: &str) {
     let _ = out.push_str(word);
 }
 
+/// Puts a word behind others, likewise.
+pub fn push_word(alloc: Global, words: &mut Vec<String>, word: &str) {
+    let mut copy = String::new(alloc);
+    put(&mut copy, word);
+    let _ = words.push(copy);
+}
+
 /// Puts words, likewise.
 pub fn put_all(out: &mut String, words: &[&str]) {
     for word in words {

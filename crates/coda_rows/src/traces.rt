@@ -77,7 +77,7 @@ fn carry_out<B: Bay>(alloc: Global, cell: &mut TracedCell<B>, lines: &[&[u8]])
 fn put_steps(alloc: Global, lines: &[&[u8]], steps: &[Event], whole: &mut Vec<u8>) {
     for (line, step) in lines.iter().zip(steps.iter()) {
         if let Ok(told) = format!(in alloc; "{step:?}") {
-            put_parts(whole, &[line, b"\n", told.as_bytes(), b"\n"]);
+            put_parts(whole, &[*line, b"\n", told.as_bytes(), b"\n"]);
         }
     }
 }

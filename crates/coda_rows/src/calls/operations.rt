@@ -1,6 +1,6 @@
 // Operations as they are written in calls on a volume. An object goes by a number: 0 is the root of volume 7, and n its
 // object 7.1.n.
-use crate::calls::words::{name, named, number, word};
+use crate::calls::words::{name, named, number, tiny, word};
 use coda_fid::{Attrs, Bytes, Fid, Name, Op, Over, Sid};
 use std::alloc::Global;
 
@@ -42,10 +42,10 @@ pub fn object(call: &str, at: usize) -> Fid {
 
 // The version at a place, as `client.number`.
 fn version(call: &str, at: usize) -> Sid {
-    let (client, number) = word(call, at).split_once('.').unwrap_or(("", ""));
+    let (client, place) = word(call, at).split_once('.').unwrap_or(("", ""));
     Sid {
-        client: client.parse::<u8>().unwrap_or(0),
-        number: number.parse::<u64>().unwrap_or(0),
+        client: tiny(client, 0),
+        number: number(place, 0),
     }
 }
 

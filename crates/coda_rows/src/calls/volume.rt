@@ -307,7 +307,8 @@ impl VolumeAndLog {
 
 impl Bench for VolumeAndLog {
     fn answer(&mut self, call: &str, out: &mut Answer) {
-        let (alloc, out) = (out.alloc, &mut out.text);
+        let alloc = out.alloc;
+        let out = &mut out.text;
         match named(CALLS, call) {
             Some(Call::New) => renew(self, VolumeAndLog::new(alloc, number(call, 1))),
             Some(Call::Replay) => self.replay(alloc, tiny(call, 1), out),
