@@ -82,8 +82,8 @@ fn put_steps(alloc: Global, lines: &[&[u8]], steps: &[Event], whole: &mut Vec<u8
     }
 }
 
-/// The odd lines of a text, carried out in a cell over an empty bay, each with what the trace has of its step on the line
-/// below, as the debug text of that; none behind one that isn't answered.
+/// The odd lines of a text, carried out in a cell over an empty bay, each with what the trace has of its step on the
+/// line below, as the debug text of that; none behind one that isn't answered.
 pub fn traced(alloc: Global, text: &[u8]) -> Result<Vec<u8>, AllocError> {
     let lines = odd_lines(alloc, text)?;
     let mut cell = TracedCell::new(alloc, MemBay::new(alloc, Vec::new(alloc)));
