@@ -1,6 +1,5 @@
 // Lines of a row, each with what is made of it on the line below.
-use crate::calls::Bench;
-use crate::texts::put;
+use crate::texts::{put, put_parts};
 use coda_script::{Line, LineFault, read_line};
 use coda_text::{TextFault, Token, printed, tokens, unquote};
 use std::alloc::{AllocError, Global};
@@ -12,8 +11,6 @@ pub enum Kind {
     Said,
     /// Its words.
     Words,
-    /// It is a call, and this its answer.
-    Calls,
 }
 
 /// More bytes than any line of a row has.
@@ -65,7 +62,7 @@ fn put_words(alloc: Global, line: &[u8], out: &mut String) {
 }
 
 // Puts what is made of a line.
-fn put_answer(alloc: Global, bench: &mut Bench, line: &[u8], kind: Kind, out: &mut String) {
+fn put_answer(alloc: Global, line: &[u8], kind: Kind, out: &mut String) {
     match kind {
         Kind::Said => {
             if line.len() > MOST_BYTES {
@@ -75,25 +72,21 @@ fn put_answer(alloc: Global, bench: &mut Bench, line: &[u8], kind: Kind, out: &m
             }
         }
         Kind::Words => put_words(alloc, line, out),
-        Kind::Calls => bench.answer(alloc, std::str::from_utf8(line).unwrap_or(""), out),
     }
 }
 
 // Puts a line, and what is made of it below.
-fn put_answered(alloc: Global, bench: &mut Bench, line: &[u8], kind: Kind, whole: &mut Vec<u8>) {
+fn put_answered(alloc: Global, line: &[u8], kind: Kind, whole: &mut Vec<u8>) {
     let mut out = String::new(alloc);
-    put_answer(alloc, bench, line, kind, &mut out);
-    for part in [line, b"\n", out.as_bytes(), b"\n"] {
-        let _ = whole.extend_from_slice(part);
-    }
+    put_answer(alloc, line, kind, &mut out);
+    put_parts(whole, &[line, b"\n", out.as_bytes(), b"\n"]);
 }
 
 /// The odd lines of a text, each with what is made of it on the line below.
 pub fn answered(alloc: Global, text: &[u8], kind: Kind) -> Result<Vec<u8>, AllocError> {
-    let mut bench = Bench::new(alloc, 1)?;
     let mut whole = Vec::new(alloc);
     for line in odd_lines(alloc, text)? {
-        put_answered(alloc, &mut bench, line, kind, &mut whole);
+        put_answered(alloc, line, kind, &mut whole);
     }
     Ok(whole)
 }

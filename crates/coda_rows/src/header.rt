@@ -1,6 +1,8 @@
 // What the first lines of a script, which are comments, ask of its run.
+use crate::calls::words::number;
 use crate::disks::{DiskLine, place_of};
-use std::alloc::{AllocError, Global};
+use crate::texts::push_word;
+use std::alloc::Global;
 
 /// How a script is run, and how its run must end.
 #[derive(Drop)]
@@ -60,26 +62,25 @@ fn said(line: &str) -> Option<(Says, &str)> {
     None
 }
 
-/// The number at the front of a text, and 0 where there is none.
-pub fn number_in(text: &str) -> u64 {
-    let word = text.split(' ').next().unwrap_or("");
-    word.parse::<u64>().unwrap_or(0)
-}
-
 // Words behind a blank each.
-fn words_of(alloc: Global, text: &str) -> Result<Vec<String>, AllocError> {
+fn words_of(alloc: Global, text: &str) -> Vec<String> {
     let mut words = Vec::new(alloc);
     for word in text.split(' ').skip(1) {
-        words.push(word.to_string(alloc)?)?;
+        push_word(alloc, &mut words, word);
     }
-    Ok(words)
+    words
+}
+
+/// What the header of a script says of how its run must end.
+pub fn status_of(alloc: Global, script: &[u8]) -> &str {
+    Header::read(alloc, script).status
 }
 
 impl<'a> Header<'a> {
     /// Reads the header of a script.
-    pub fn read(alloc: Global, script: &'a [u8]) -> Result<Header<'a>, AllocError> {
+    pub fn read(alloc: Global, script: &'a [u8]) -> Header<'a> {
         let mut header = Header {
-            words: words_of(alloc, " run")?,
+            words: words_of(alloc, " run"),
             failing_reads: Vec::new(alloc),
             failing_writes: Vec::new(alloc),
             piece: u64::MAX,
@@ -96,7 +97,7 @@ impl<'a> Header<'a> {
             }
             header.put_line(alloc, text);
         }
-        Ok(header)
+        header
     }
 
     fn put_line(&mut self, alloc: Global, line: &'a str) {
@@ -107,10 +108,10 @@ impl<'a> Header<'a> {
 
     // Takes a line of the header.
     fn put(&mut self, alloc: Global, says: Says, rest: &'a str) {
-        let number = number_in(rest);
+        let number = number(rest, 0);
         match says {
             Says::Status => self.status = rest,
-            Says::Words => self.words = words_of(alloc, rest).unwrap_or(Vec::new(alloc)),
+            Says::Words => self.words = words_of(alloc, rest),
             Says::SourceFails => put_call(&mut self.failing_reads, number),
             Says::SinkFails => put_call(&mut self.failing_writes, number),
             Says::SinkTakes => self.room = Some(number),
@@ -132,11 +133,11 @@ fn put_call(calls: &mut Vec<u64>, number: u64) {
 }
 
 // Takes what a line says of the disk of this number: that a call of it fails, or what bytes it has.
-fn put_disk(alloc: Global, disks: &mut Vec<DiskLine>, number: u32, rest: &str) {
-    let place = place_of(alloc, disks, number);
+fn put_disk(alloc: Global, disks: &mut Vec<DiskLine>, of: u32, rest: &str) {
+    let place = place_of(alloc, disks, of);
     if let Some(disk) = disks.get_mut(place) {
         if let Some((_, call)) = rest.split_once(" fails at call ") {
-            put_call(&mut disk.failing, number_in(call));
+            put_call(&mut disk.failing, number(call, 0));
         } else if let Some((_, digits)) = rest.split_once(" has ") {
             disk.put_bytes(alloc, digits);
         }

@@ -7,7 +7,6 @@ mod answers;
 mod calls;
 mod disks;
 mod header;
-mod operations;
 mod outlets;
 mod repeats;
 mod scripts;
@@ -15,18 +14,11 @@ mod texts;
 mod traces;
 
 use crate::answers::{Kind, answered};
+use crate::calls::words::named;
 use crate::repeats::repeated;
-use crate::texts::{compare, put};
+use crate::texts::{compare, push_word, put, put_all};
 use crate::traces::traced;
-use std::fs::{self, DirEntry};
-use std::{env, io};
-
-// Puts the name of an entry of a folder.
-fn put_name(rt: &HostRuntime, names: &mut Vec<String>, entry: &DirEntry) {
-    if let Ok(name) = entry.file_name().to_string(rt.alloc()) {
-        let _ = names.push(name);
-    }
-}
+use std::{env, fs, io};
 
 // The names of the files of a folder, by their bytes.
 fn names_in(rt: &HostRuntime, folder: &str) -> Vec<String> {
@@ -34,7 +26,7 @@ fn names_in(rt: &HostRuntime, folder: &str) -> Vec<String> {
     if let Ok(entries) = fs::read_dir(rt, folder) {
         for entry in entries {
             if let Ok(entry) = entry {
-                put_name(rt, &mut names, &entry);
+                push_word(rt.alloc(), &mut names, entry.file_name());
             }
         }
     }
@@ -45,9 +37,7 @@ fn names_in(rt: &HostRuntime, folder: &str) -> Vec<String> {
 // The path of a file.
 fn path_of(rt: &HostRuntime, folder: &str, name: &str, ending: &str) -> String {
     let mut path = String::new(rt.alloc());
-    for part in [folder, "/", name, ".", ending] {
-        put(&mut path, part);
-    }
+    put_all(&mut path, &[folder, "/", name, ".", ending]);
     path
 }
 
@@ -78,6 +68,12 @@ fn compare_lines(rt: &HostRuntime, wanted: &[u8], kind: Kind, told: &mut String)
     }
 }
 
+// Puts how a row of answered calls compares.
+fn compare_calls(rt: &HostRuntime, name: &str, wanted: &[u8], told: &mut String) {
+    let text = std::str::from_utf8(wanted).unwrap_or("");
+    compare(wanted, calls::answers(rt, name, text).as_bytes(), told);
+}
+
 // Puts how a row of lines with their steps compares.
 fn compare_steps(rt: &HostRuntime, wanted: &[u8], told: &mut String) {
     match traced(rt.alloc(), wanted) {
@@ -92,6 +88,7 @@ enum Row {
     Script,
     Steps,
     Lines(Kind),
+    Calls,
 }
 
 // By the ending of its name.
@@ -100,7 +97,7 @@ const ENDINGS: &[(&str, Row)] = &[
     ("trace", Row::Steps),
     ("lines", Row::Lines(Kind::Said)),
     ("words", Row::Lines(Kind::Words)),
-    ("calls", Row::Lines(Kind::Calls)),
+    ("calls", Row::Calls),
 ];
 
 // Puts how the row of a file compares.
@@ -116,6 +113,7 @@ fn compare_row(
         Row::Script => compare_script(rt, folder, name, told),
         Row::Steps => compare_steps(rt, &contents(rt, folder, name, ending), told),
         Row::Lines(kind) => compare_lines(rt, &contents(rt, folder, name, ending), kind, told),
+        Row::Calls => compare_calls(rt, name, &contents(rt, folder, name, ending), told),
     }
 }
 
@@ -128,11 +126,11 @@ fn folder(rt: &HostRuntime) -> String {
 }
 
 fn main(rt: HostRuntime) -> io::Result<()> {
-    let named = folder(&rt);
-    let folder = if named.is_empty() {
+    let given = folder(&rt);
+    let folder = if given.is_empty() {
         "."
     } else {
-        named.as_str()
+        given.as_str()
     };
     let files = names_in(&rt, folder);
     for file in &files {
@@ -140,7 +138,7 @@ fn main(rt: HostRuntime) -> io::Result<()> {
             .as_str()
             .rsplit_once('.')
             .unwrap_or((file.as_str(), ""));
-        if let Some(row) = operations::named(ENDINGS, ending) {
+        if let Some(row) = named(ENDINGS, ending) {
             let mut told = String::new(rt.alloc());
             compare_row(&rt, folder, name, ending, row, &mut told);
             println!(rt; "{name} {told}")?;

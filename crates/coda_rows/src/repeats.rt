@@ -14,9 +14,9 @@ struct Repetition<'a> {
 
 // What stands before the first byte of this kind, and what behind it.
 fn split_once(text: &[u8], at: u8) -> Option<(&[u8], &[u8])> {
-    let place = text.iter().position(|byte| *byte == at)?;
-    let (before, behind) = text.split_at_checked(place)?;
-    Some((before, behind.get(1..)?))
+    let before = text.split(|byte| *byte == at).next()?;
+    let behind = text.get(before.len() + 1..)?;
+    Some((before, behind))
 }
 
 // The numbers that a repetition goes through.

@@ -28,11 +28,39 @@ pub fn put(out: &mut String, word: &str) {
     let _ = out.push_str(word);
 }
 
+/// Puts a word behind others, likewise.
+pub fn push_word(alloc: Global, words: &mut Vec<String>, word: &str) {
+    let mut copy = String::new(alloc);
+    put(&mut copy, word);
+    let _ = words.push(copy);
+}
+
+/// Puts words, likewise.
+pub fn put_all(out: &mut String, words: &[&str]) {
+    for word in words {
+        put(out, word);
+    }
+}
+
+/// Puts parts of a text, likewise.
+pub fn put_parts(out: &mut Vec<u8>, parts: &[&[u8]]) {
+    for part in parts {
+        let _ = out.extend_from_slice(part);
+    }
+}
+
 // How many lines two texts have in common, before the first in which they differ.
 fn common_lines(wanted: &[u8], found: &[u8]) -> usize {
-    let pairs = wanted.iter().zip(found.iter());
-    let same = pairs.take_while(|pair| pair.0 == pair.1);
-    same.filter(|pair| *pair.0 == b'\n').count()
+    let mut lines: usize = 0;
+    for (byte, other) in wanted.iter().zip(found.iter()) {
+        if byte != other {
+            break;
+        }
+        if *byte == b'\n' {
+            lines = lines.saturating_add(1);
+        }
+    }
+    lines
 }
 
 // Puts the first line in which two texts differ, both sides.
@@ -40,10 +68,15 @@ fn put_difference(wanted: &[u8], found: &[u8], out: &mut String) {
     let at = common_lines(wanted, found);
     let number = at.saturating_add(1);
     let _ = write!(out, "differs at line {number}");
-    put(out, "\n    wanted: ");
-    put(out, line(wanted, at));
-    put(out, "\n    found:  ");
-    put(out, line(found, at));
+    put_all(
+        out,
+        &[
+            "\n    wanted: ",
+            line(wanted, at),
+            "\n    found:  ",
+            line(found, at),
+        ],
+    );
 }
 
 /// Puts `ok` where both texts are the same; else the first line in which they differ, both sides.

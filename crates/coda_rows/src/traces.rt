@@ -4,10 +4,11 @@ ghost use Rattle.coda_script.specs.Ranges.{InRange};
 ghost use Rattle.coda_site.specs.Sites.{IsReady, IsClosable};
 
 use crate::answers::odd_lines;
+use crate::texts::put_parts;
 use coda_disk::{Bay, MemBay};
 use coda_script::{Line, read_line};
 use coda_site::is_built;
-use coda_trace::TracedCell;
+use coda_trace::{Event, TracedCell};
 use std::alloc::{AllocError, Global};
 
 /// More lines than any row has.
@@ -72,18 +73,22 @@ fn carry_out<B: Bay>(alloc: Global, cell: &mut TracedCell<B>, lines: &[&[u8]])
     }
 }
 
-/// The odd lines of a text, carried out in a cell over an empty bay, each with what the trace has of its step on the line
-/// below, as the debug text of that; none behind one that isn't answered.
+// Puts lines, each with the debug text of its step below it.
+fn put_steps(alloc: Global, lines: &[&[u8]], steps: &[Event], whole: &mut Vec<u8>) {
+    for (line, step) in lines.iter().zip(steps.iter()) {
+        if let Ok(told) = format!(in alloc; "{step:?}") {
+            put_parts(whole, &[*line, b"\n", told.as_bytes(), b"\n"]);
+        }
+    }
+}
+
+/// The odd lines of a text, carried out in a cell over an empty bay, each with what the trace has of its step on the
+/// line below, as the debug text of that; none behind one that isn't answered.
 pub fn traced(alloc: Global, text: &[u8]) -> Result<Vec<u8>, AllocError> {
     let lines = odd_lines(alloc, text)?;
     let mut cell = TracedCell::new(alloc, MemBay::new(alloc, Vec::new(alloc)));
     carry_out(alloc, &mut cell, &lines);
     let mut whole = Vec::new(alloc);
-    for (line, step) in lines.iter().zip(cell.trace()) {
-        let told = format!(in alloc; "{step:?}")?;
-        for part in [*line, b"\n", told.as_bytes(), b"\n"] {
-            whole.extend_from_slice(part)?;
-        }
-    }
+    put_steps(alloc, &lines, cell.trace(), &mut whole);
     Ok(whole)
 }

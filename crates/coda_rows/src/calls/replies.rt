@@ -1,8 +1,8 @@
 // Replies, also those that no line has yet, each with its text, in which a bar stands for a newline.
 ghost use Rattle.coda_report.specs.Texts.{IsWhole};
 
-use crate::answer::{Answer, Bench, push};
-use crate::words::{count, named, number, rest, small, tiny, word};
+use crate::calls::answer::{Answer, Bench, push};
+use crate::calls::words::{count, named, number, rest, small, tiny, word};
 use coda_certify::{Reason, Verdict};
 use coda_fid::{Fid, Name, Path};
 use coda_report::reply_text;

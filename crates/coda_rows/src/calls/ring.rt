@@ -1,6 +1,6 @@
 // Calls on the log of a directory's updates.
-use crate::answer::{Answer, Bench, renew};
-use crate::words::{named, number, object_of, size};
+use crate::calls::answer::{Answer, Bench, renew};
+use crate::calls::words::{named, number, object_of, size};
 use coda_fid::Sid;
 use coda_reslog::{ResEntry, ResKind, Ring};
 use std::alloc::{AllocError, Global};

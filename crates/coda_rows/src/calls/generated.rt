@@ -1,6 +1,6 @@
 // Scripts that are generated.
-use crate::answer::{Answer, Bench};
-use crate::words::{named, number};
+use crate::calls::answer::{Answer, Bench};
+use crate::calls::words::{named, number};
 use coda_gen::{GenFault, script};
 
 /// What is generated stands in the call.

@@ -1,6 +1,6 @@
 // Calls on a hoard database.
-use crate::answer::{Answer, Bench, set};
-use crate::words::{named, number, small, word};
+use crate::calls::answer::{Answer, Bench, set};
+use crate::calls::words::{named, number, small, word};
 use coda_fid::Path;
 use coda_hdb::{Expand, Hdb, HdbEntry, HdbFault};
 

@@ -1,6 +1,6 @@
 // Calls on items that a walk weighs, and on a queue of them.
-use crate::answer::{Answer, Bench, push, set};
-use crate::words::{named, number, object, objects, optional_object, small, word};
+use crate::calls::answer::{Answer, Bench, push, set};
+use crate::calls::words::{named, number, object, objects, optional_object, small, word};
 use coda_walk::{Item, Queue, plan, who_goes};
 use std::alloc::Global;
 use std::collections::BTreeSet;

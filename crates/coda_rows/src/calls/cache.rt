@@ -2,8 +2,8 @@
 ghost use Rattle.std.specs.Prelude.{◌≡◌, ◌<◌, ◌^◌, IfOk};
 ghost use Rattle.coda_tree.specs.Blocks.{blocks_of};
 
-use crate::answer::{Answer, Bench, renew};
-use crate::words::{named, object, objects, optional_object, small, tiny};
+use crate::calls::answer::{Answer, Bench, renew};
+use crate::calls::words::{named, object, objects, optional_object, small, tiny};
 use coda_cache::{Cache, CacheFault};
 use coda_fid::{Bytes, Fid, Sid};
 use coda_tree::{Node, NodeKind};

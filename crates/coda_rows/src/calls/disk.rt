@@ -1,6 +1,6 @@
 // Calls on a disk in memory.
-use crate::answer::{Answer, Bench, renew};
-use crate::words::{bytes, named, number};
+use crate::calls::answer::{Answer, Bench, renew};
+use crate::calls::words::{bytes, named, number};
 use coda_disk::{Bay, BayFault, Disk, DiskFault, MemBay, MemDisk};
 use std::alloc::{AllocError, Global};
 use std::mem;

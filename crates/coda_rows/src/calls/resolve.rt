@@ -1,8 +1,8 @@
 // Calls on replicas that are to be resolved.
 ghost use Rattle.coda_resolve.specs.Views.{AreInOrder};
 
-use crate::answer::{Answer, Bench, push, renew};
-use crate::words::{name, named, number, object, object_of, tiny, word};
+use crate::calls::answer::{Answer, Bench, push, renew};
+use crate::calls::words::{name, named, number, object, object_of, tiny, word};
 use coda_certify::Verdict;
 use coda_fid::{Bytes, Fid, Sid};
 use coda_record::Last;

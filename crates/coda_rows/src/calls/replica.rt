@@ -5,9 +5,9 @@ ghost use Rattle.coda_record.specs.Form.{four};
 ghost use Rattle.coda_record.specs.Spelling.{HasSpelling};
 ghost use Rattle.coda_record.specs.Table.{records as some_records};
 
-use crate::answer::{Answer, Bench, renew};
-use crate::spelled::put_decision;
-use crate::words::{named, number, small, tiny, word};
+use crate::calls::answer::{Answer, Bench, renew};
+use crate::calls::spelled::put_decision;
+use crate::calls::words::{named, number, small, tiny, word};
 use coda_actors::{Mounting, Slot, give_back, give_up, open};
 use coda_disk::{MemBay, MemDisk};
 use coda_fid::{Fid, Name, NameFault, Op, Record, Sid};

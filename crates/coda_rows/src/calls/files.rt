@@ -1,8 +1,8 @@
 // Calls on disks that are files, in the folder `coda-disks`.
-use crate::answer::{Answer, Bench};
-use crate::disk::put_contents;
-use crate::journal::HEADER;
-use crate::words::{named, size, small, word};
+use crate::calls::answer::{Answer, Bench};
+use crate::calls::disk::put_contents;
+use crate::calls::journal::HEADER;
+use crate::calls::words::{named, size, small, word};
 use coda_disk::{Bay, Disk, FileBay, FileDisk};
 use coda_journal::{Frame, Journal, JournalFault};
 use std::fs::{self, OpenOptions};

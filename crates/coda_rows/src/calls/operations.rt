@@ -1,5 +1,6 @@
-// Operations as they are written in rows of calls. An object goes by a number: 0 is the root of volume 7, and n its
+// Operations as they are written in calls on a volume. An object goes by a number: 0 is the root of volume 7, and n its
 // object 7.1.n.
+use crate::calls::words::{name, named, number, tiny, word};
 use coda_fid::{Attrs, Bytes, Fid, Name, Op, Over, Sid};
 use std::alloc::Global;
 
@@ -28,27 +29,6 @@ const KINDS: &[(&str, Kind)] = &[
     ("chown", Kind::Chown),
 ];
 
-/// The word at a place, and nothing behind the last.
-pub fn word(call: &str, at: usize) -> &str {
-    call.split(' ').nth(at).unwrap_or("")
-}
-
-/// What a table has for the first word, if it has anything.
-pub fn named<T: Copy>(table: &[(&str, T)], call: &str) -> Option<T> {
-    let name = word(call, 0);
-    for row in table {
-        if row.0 == name {
-            return Some(row.1);
-        }
-    }
-    None
-}
-
-/// The number at a place, and 0 where there is none.
-pub fn number(call: &str, at: usize) -> u64 {
-    word(call, at).parse::<u64>().unwrap_or(0)
-}
-
 /// The object at a place.
 pub fn object(call: &str, at: usize) -> Fid {
     let number = number(call, at).min(4_294_967_295) as u32;
@@ -62,15 +42,11 @@ pub fn object(call: &str, at: usize) -> Fid {
 
 // The version at a place, as `client.number`.
 fn version(call: &str, at: usize) -> Sid {
-    let (client, number) = word(call, at).split_once('.').unwrap_or(("", ""));
+    let (client, place) = word(call, at).split_once('.').unwrap_or(("", ""));
     Sid {
-        client: client.parse::<u8>().unwrap_or(0),
-        number: number.parse::<u64>().unwrap_or(0),
+        client: tiny(client, 0),
+        number: number(place, 0),
     }
-}
-
-fn name(alloc: Global, call: &str, at: usize) -> Option<Name> {
-    Name::read(alloc, word(call, at).as_bytes()).ok()
 }
 
 // What stands behind a rename: `FID PRE` of the replaced object, or nothing.

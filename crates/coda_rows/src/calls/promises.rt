@@ -1,6 +1,6 @@
 // Calls on the promises of a server.
-use crate::answer::{Answer, Bench};
-use crate::words::{named, object, objects, tiny};
+use crate::calls::answer::{Answer, Bench};
+use crate::calls::words::{named, object, objects, tiny};
 use coda_callback::Promises;
 
 #[derive(Clone, Copy)]

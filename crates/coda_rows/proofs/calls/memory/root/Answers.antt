@@ -10,7 +10,7 @@ use Rattle.coda_record.specs.Form.{four}
 use Rattle.coda_record.specs.Spelling.{HasSpelling}
 use Rattle.coda_record.specs.Table as table
 use Rattle.coda_spelling.proofs.SpelledParts.{both_true}
-use Rattle.coda_calls.proofs.memory.root.Goals as goal
+use Rattle.coda_rows.proofs.calls.memory.root.Goals as goal
 
 pairs_none : (es : List (Name × Fid)) → es ≡ [] → HasSpelling pairs es
 unfolding pairs

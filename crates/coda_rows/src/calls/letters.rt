@@ -1,8 +1,8 @@
 // Calls on the letters of client 1 for server 1, and on their link.
 ghost use Rattle.std.specs.Prelude.{◌≡◌, ◌≤◌, IfOk, length};
 
-use crate::answer::{Answer, Bench, set};
-use crate::words::{named, number, tiny, word};
+use crate::calls::answer::{Answer, Bench, set};
+use crate::calls::words::{named, number, tiny, word};
 use coda_fid::Bytes;
 use coda_net::{Letter, Net, NetFault};
 use coda_state::Link;

@@ -1,4 +1,5 @@
 // Calls, each with its answer on the line below.
+use crate::texts::put_all;
 use coda_fid::Fid;
 use std::alloc::{AllocError, Global};
 
@@ -8,7 +9,8 @@ use std::alloc::{AllocError, Global};
 pub struct Answer {
     /// The allocator, for what a call takes.
     pub alloc: Global,
-    text: String,
+    /// The words, with a blank before each, or before each but the first.
+    pub text: String,
 }
 
 impl Answer {
@@ -110,9 +112,7 @@ fn put_answered<B: Bench>(bench: &mut B, alloc: Global, call: &str, whole: &mut 
         text: String::new(alloc),
     };
     bench.answer(call, &mut out);
-    for part in [call, "\n", out.text(), "\n"] {
-        let _ = whole.push_str(part);
-    }
+    put_all(whole, &[call, "\n", out.text(), "\n"]);
 }
 
 /// The calls of a text, each with the answer to it below.

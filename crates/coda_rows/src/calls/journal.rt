@@ -1,7 +1,7 @@
 // Calls on the journal of a disk in memory, that of the replica of volume 0x01020304 at server 3, of group 7, in
 // an area of 1 MiB.
-use crate::answer::{Answer, Bench};
-use crate::words::{bytes, named, number, size};
+use crate::calls::answer::{Answer, Bench};
+use crate::calls::words::{bytes, named, number, size};
 use coda_disk::{Disk, MemDisk};
 use coda_journal::{Frame, Header, Journal, Kind, MountFault};
 use std::alloc::{AllocError, Global};

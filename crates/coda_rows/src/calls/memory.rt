@@ -8,9 +8,9 @@ ghost use Rattle.coda_record.specs.Form.{four};
 ghost use Rattle.coda_record.specs.Spelling.{HasSpelling};
 ghost use Rattle.coda_record.specs.Table.{records as some_records};
 
-use crate::answer::{Answer, Bench};
-use crate::replica::first_creation;
-use crate::words::named;
+use crate::calls::answer::{Answer, Bench};
+use crate::calls::replica::first_creation;
+use crate::calls::words::named;
 use coda_disk::MemDisk;
 use coda_fid::{Fid, Path, Record, Sid};
 use coda_journal::{Header, Kind};

@@ -1,6 +1,6 @@
 // Bytes that are read as a message, as the entries of a client, or as an entry of a replica.
-use crate::answer::{Answer, Bench};
-use crate::words::{bytes, named};
+use crate::calls::answer::{Answer, Bench};
+use crate::calls::words::{bytes, named};
 use coda_certify::Reason;
 use coda_fid::Bytes;
 use coda_record::{
