@@ -141,7 +141,6 @@ module _ (cell : MadeCell) (kept : IsKept cell) (volume server : ℕ) (homed : c
   decision_made = record {
     numbered = kept.made.numbered;
     clients = kept.made.clients;
-   
     replicas = λ s w e. elim (cases_Bool ((s == server) && (w == volume))) [
       | inl at ↦ (let both = and_parts (s == server) (w == volume) at in absurd (e (ap cell.homes (eqb-true w volume both.1) ∙ homed ∙ ap Some (sym (eqb-true s server both.0)))))
       | inr off ↦ ap (λ b. (cond b (grown_actor decided (cell.acted.replicas server volume)) (cell.acted.replicas s w)).history) off ∙ kept.made.replicas s w e

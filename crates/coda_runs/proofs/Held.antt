@@ -86,7 +86,7 @@ pub held_runs_go_on : HeldRunsGoOn
 held_runs_go_on past held before ls report outside at run =
     let start = begun_from past held in
     let went : GoesOn past at.cell = runs_on past (Holds (record { cell = start; answered = before })) (Holds at) ls report outside
-        (record { held = held_cells_are_kept.begun past held; begins = held_cells_are_kept.clients past held }) run in
+    (record { held = held_cells_are_kept.begun past held; begins = held_cells_are_kept.clients past held }) run in
     record {
       held = went.held;
       promised = held_cells_are_kept.promised at.cell went.held;

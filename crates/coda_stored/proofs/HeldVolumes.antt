@@ -95,7 +95,7 @@ housed_kept cell server volume entries kept none fit = record {
         let h = found_in cell.acted joins in
         let clients_are : (λ client. (cell.acted.clients client).history) ≡ h.clients = λ i. λ client. sym (found_history (joins.clients client) (cell.acted.clients client) (no_failure client)) i in
         let came = replicas_stand_elsewhere.comes h cell.acted.pool server volume entries (kept.sound.agree joins)
-            (λ other. found_history (joins.replicas other volume) (cell.acted.replicas other volume) (none_failed other volume) ∙ nothing_there other) (subst (λ f. DoesFit f server volume entries) clients_are fit) in
+        (λ other. found_history (joins.replicas other volume) (cell.acted.replicas other volume) (none_failed other volume) ∙ nothing_there other) (subst (λ f. DoesFit f server volume entries) clients_are fit) in
         let at : (s v : ℕ) → cond ((s == server) && (v == volume)) entries (found (joins.replicas s v) (cell.acted.replicas s v)) ≡ found (joins.replicas s v) (cond ((s == server) && (v == volume)) next (cell.acted.replicas s v)) =
         λ s v. elim ((s == server) && (v == volume)) as (λ b. cond b entries (found (joins.replicas s v) (cell.acted.replicas s v)) ≡ found (joins.replicas s v) (cond b next (cell.acted.replicas s v))) [
           | true ↦ sym (found_history (joins.replicas s v) next refl)
@@ -182,14 +182,14 @@ module _ (old : StoredCell) (kept : IsCellKept old) (volume server area : ℕ) (
     given = Some header;
     is = said.2;
     keeps = subst IsCellKept (sym said.2) (made_kept (recovered joins shelf.actor) (Some header) (λ up. refl) (alone_recovered shelf.actor joins own.alone) refl (λ b.
-    subst (DoesFit (λ client. (old.made.acted.clients client).history) server volume) (sym (found_recovered b joins shelf.actor)) (elim is [ inl given ↦ own.fits given joins | inr nothing ↦ fits_nothing _ nothing ])));
+        subst (DoesFit (λ client. (old.made.acted.clients client).history) server volume) (sym (found_recovered b joins shelf.actor)) (elim is [ inl given ↦ own.fits given joins | inr nothing ↦ fits_nothing _ nothing ])));
   }))
   volume_finds shelf own reply outside new (inr (inr (inr (nothing, said)))) = inr (inl (record {
     actor = crashed (recovered false shelf.actor);
     given = Some header;
     is = said.2;
     keeps = subst IsCellKept (sym said.2) (made_kept (crashed (recovered false shelf.actor)) (Some header) (λ up. cc) (alone_crashed (recovered false shelf.actor) (alone_recovered shelf.actor false own.alone)) refl
-    (λ b. fits_nothing _ (found_nothing b (crashed (recovered false shelf.actor)) nothing refl)));
+        (λ b. fits_nothing _ (found_nothing b (crashed (recovered false shelf.actor)) nothing refl)));
   }))
   volume_finds shelf own reply outside new (inr (inr (inl said))) = elim own.judged [
     | inl (inl given) ↦ inr (inl (record {
@@ -197,15 +197,15 @@ module _ (old : StoredCell) (kept : IsCellKept old) (volume server area : ℕ) (
       given = shelf.given;
       is = said.2;
       keeps = subst IsCellKept (sym said.2) (made_kept (crashed shelf.actor) shelf.given (λ up. cc) (alone_crashed shelf.actor own.alone)
-      (subst (λ g. IsGiven g header (crashed shelf.actor)) (sym given) ((own.empty given).0, (own.empty given).1, refl))
-      (λ b. fits_nothing _ (found_nothing b (crashed shelf.actor) (own.empty given).0 (own.empty given).1)));
+          (subst (λ g. IsGiven g header (crashed shelf.actor)) (sym given) ((own.empty given).0, (own.empty given).1, refl))
+          (λ b. fits_nothing _ (found_nothing b (crashed shelf.actor) (own.empty given).0 (own.empty given).1)));
     }))
     | inl (inr given) ↦ inr (inl (record {
       actor = crashed shelf.actor;
       given = shelf.given;
       is = said.2;
       keeps = subst IsCellKept (sym said.2) (made_kept (crashed shelf.actor) shelf.given (λ up. cc) (alone_crashed shelf.actor own.alone)
-      (subst (λ g. IsGiven g header (crashed shelf.actor)) (sym given) refl) (own.fits given));
+          (subst (λ g. IsGiven g header (crashed shelf.actor)) (sym given) refl) (own.fits given));
     }))
     | inr another ↦ inr (inr (said.0, another))
   ]
