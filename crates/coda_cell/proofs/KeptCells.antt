@@ -82,9 +82,6 @@ volume_left cell volume server kept none = record {
   shown = volume_grown cell volume server (λ s. kept.made.replicas s volume (nowhere s));
 }
   where
-    unmade : (v : ℕ) → cond (v == volume) (Some server) (cell.homes v) ≡ None → (P : ℕ → Type 0) → ((w : ℕ) → cell.homes w ≡ None → P w) → P v
-    unmade v e P h = elim (v == volume) as (λ b. (v == volume) ≡ b → cond b (Some server) (cell.homes v) ≡ None → P v) [ true ↦ λ same f. cc | false ↦ λ other f. h v f ] refl e
-
     nowhere : (s : ℕ) → cell.homes volume ≢ Some s
     nowhere s is = (let no : None ≡ Some s = sym none ∙ is in cc)
 

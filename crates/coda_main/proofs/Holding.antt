@@ -13,8 +13,7 @@ use Rattle.coda_report.specs.Texts.{reply_text}
 use Rattle.coda_stored.specs.Cells.{StoredCell}
 use Rattle.coda_stored.specs.Held.{DoesFind}
 use Rattle.coda_stored.specs.Lines.{Happens}
-use Rattle.coda_stored.specs.Mounted.{Shelf, HoldsShelf, Making, FindsDisk, LineFinds, IsOthers}
-use Rattle.coda_stored.specs.Lines.{refused_fault}
+use Rattle.coda_stored.specs.Mounted.{Shelf, HoldsShelf, Making, FindsDisk, LineFinds}
 use Rattle.coda_stored.specs.Seen.{mounts_none, IsSeen}
 use Rattle.coda_stored.proofs.HeldFinds.{held_cells_are_kept}
 use Rattle.coda_site.specs.Sites.{IsSite}

@@ -1,11 +1,11 @@
 -- Replicas whose disks stand elsewhere go and come.
-use Rattle.std.proofs.Common.{◌≡◌, ◌≢◌, ℕ, ◌<◌, ◌≤◌, ◌==◌, ◌&&◌, Bool, true, false, cond, List, [], ◌∷◌, ◌++◌, append_assoc, append-nil, Option, None, refl, sym, ap, ◌∙◌, subst, inl, inr, ◌⊎◌, arith}
+use Rattle.std.proofs.Common.{◌≡◌, ◌≢◌, ℕ, ◌<◌, ◌≤◌, ◌==◌, ◌&&◌, Bool, true, false, cond, List, [], ◌∷◌, ◌++◌, append_assoc, append-nil, Option, None, refl, sym, ap, ◌∙◌, subst, inl, inr, arith}
 use Rattle.std.proofs.lemmas.Bool.{eqb-true, eq-eqb, cases_Bool, and_parts, false≢true}
 use Rattle.coda_fid.specs.declared.fid.Fid.{Fid}
 use Rattle.coda_tree.specs.Volume.{has}
 use Rattle.coda_certify.specs.declared.verdict.Verdict.{Verdict}
 use Rattle.coda_plain.specs.Histories.{told, DoFollow, In}
-use Rattle.coda_plain.specs.Deeds.{Deed, IsMade, course_of, Chunk, chunk_at, chunks_of, Settlement, settlements_of, MayDo, AreLawful}
+use Rattle.coda_plain.specs.Deeds.{Deed, IsMade, course_of, Chunk, chunk_at, chunks_of, Settlement, MayDo, AreLawful}
 use Rattle.coda_plain.specs.Decisions.{ReplicaEntry, Decision, decisions_of, nodes_of, last_of, AreDecisions}
 use Rattle.coda_plain.specs.Cell.{ClientEntry, deed_on, deeds_of, Letter, Histories}
 use Rattle.coda_plain.specs.Logs.{BeginsWith}

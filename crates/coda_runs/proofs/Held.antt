@@ -1,5 +1,5 @@
 -- What is reached over the disks that an earlier run left.
-use Rattle.std.proofs.Common.{◌≡◌, ℕ, Bool, true, false, List, [], ◌∷◌, ◌++◌, append_assoc, append-nil, option_map, Option, Some, None, Ok, refl, sym, ap, ◌∙◌, subst, inl, inr}
+use Rattle.std.proofs.Common.{◌≡◌, ℕ, Bool, true, false, List, [], ◌∷◌, option_map, Option, Some, Ok, sym, subst, inl, inr}
 use Rattle.coda_engine.specs.Run.{Runs}
 use Rattle.coda_plain.specs.Logs.{BeginsWith}
 use Rattle.coda_plain.proofs.Soundness.{none_joins}
@@ -14,13 +14,13 @@ use Rattle.coda_stored.specs.Held.{IsHeld, begun_from}
 use Rattle.coda_stored.specs.Kept.{whole, IsCellKept}
 use Rattle.coda_stored.specs.Mounted.{Shelf, LineFinds}
 use Rattle.coda_stored.specs.Resuming.{Awaited, awaits_client}
-use Rattle.coda_stored.specs.Seen.{home_unless, seen, mounts_none}
+use Rattle.coda_stored.specs.Seen.{home_unless, seen}
 use Rattle.coda_stored.proofs.HeldFinds.{held_cells_are_kept}
 use Rattle.coda_stored.proofs.Mounted.{what_is_found_was_there}
 use Rattle.coda_stored.proofs.Remaining.{entries_stay, same_entries}
 use Rattle.coda_runs.proofs.Beginning.{then_begins}
 use Rattle.coda_runs.specs.Headline.{IsOfPending}
-use Rattle.coda_runs.specs.Held.{Holding, Holds, Fails, HeldAnswers, HeldGives, HasHeld, HeldRunsGoOn, WhatRanIsHeld}
+use Rattle.coda_runs.specs.Held.{Holding, Holds, Fails, HeldAnswers, HeldGives, HeldRunsGoOn, WhatRanIsHeld}
 use Rattle.coda_runs.specs.Shows.{Recorded}
 use Rattle.coda_runs.proofs.Resumable.{what_ran_can_be_resumed}
 use Rattle.coda_runs.proofs.Running.{of_pending, read_in_range, always_kept}

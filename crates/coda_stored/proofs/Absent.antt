@@ -6,8 +6,7 @@ use Rattle.std.proofs.lemmas.Bool.{eq-eqb, ne_eqb}
 use Rattle.std.proofs.lemmas.List.{length-append}
 use Rattle.std.proofs.Math.Seq.{take-append_seam}
 use Rattle.coda_plain.specs.Decisions.{ReplicaEntry}
-use Rattle.coda_plain.specs.Moves.{Append, Who, TheClient, TheReplica}
-use Rattle.coda_journal.specs.declared.header.Header.{Header}
+use Rattle.coda_plain.specs.Moves.{Append}
 use Rattle.coda_script.specs.declared.line.Task.{Task}
 use Rattle.coda_script.specs.declared.line.Task.TheVariants as task
 use Rattle.coda_script.specs.declared.line.Line.{Line}
@@ -17,11 +16,11 @@ use Rattle.coda_cell.specs.Made.{replica_of, state_of}
 use Rattle.coda_cell.specs.Refused.{Refused, NoSuchActor}
 use Rattle.coda_cell.specs.Refusing.{refusal}
 use Rattle.coda_cell.specs.State.{ReplicaState, new_replica, CellState, Event, Entered}
-use Rattle.coda_cell.specs.Steps.{Named, client_named, volume_named, server_named, holder_named, first_missing, Doing, Unless, alone, DoesTask, Does}
+use Rattle.coda_cell.specs.Steps.{Named, client_named, volume_named, server_named, holder_named, first_missing, Doing, Unless, DoesTask, Does}
 use Rattle.coda_cell.proofs.Histories.{server_stays}
 use Rattle.coda_stored.specs.Absent.{Mention, OfClient, OfVolume, OfServer, OfReplica, number_of, in_volume, in_replica, task_names, line_names, IsThere, IsAbsent, AreThere, AbsentActorsAreRefused}
-use Rattle.coda_stored.specs.Cells.{Side, StoredCell, client_header, replica_header, after, after_all}
-use Rattle.coda_stored.specs.Lines.{client_down, replica_down, all_there, is_down_for, task_down, meets, task_meets, EndsBy, Acts, Becoming, Stays, Unless as UnlessStored, UnlessDown, Opens, area_of, no_volume, no_client, with_volume, with_client, CrashesClient, CrashesReplica, IsRefused, RecoversClient, RecoversReplica, DoesUp, Happens}
+use Rattle.coda_stored.specs.Cells.{Side, StoredCell, after_all}
+use Rattle.coda_stored.specs.Lines.{client_down, replica_down, all_there, is_down_for, task_down, meets, task_meets, EndsBy, Acts, Becoming, Stays, Unless as UnlessStored, UnlessDown, DoesUp, Happens}
 use Rattle.coda_stored.specs.Resuming.{Awaited, awaits_client, awaits_volume, servers_of}
 use Rattle.coda_stored.specs.Seen.{asleep, home_unless, servers_before, seen, StayAsleep, Meanwhile}
 use Rattle.coda_stored.proofs.Idling.{happens_idle}

@@ -1,15 +1,8 @@
 -- Cells over disks that earlier runs left are kept, whoever comes.
-use Rattle.std.proofs.Common.{◌≡◌, ◌≢◌, ◌⊎◌, ℕ, ◌+◌, ◌<◌, ◌≤◌, ◌==◌, ◌||◌, ◌-◌, Bool, true, false, cond, List, [], ◌∷◌, ◌++◌, length, take, Option, Some, None, is_some, refl, sym, ap, ◌∙◌, subst, inl, inr, arith}
-use Rattle.std.proofs.lemmas.Bool.{eqb-true, eqb-false, eq-eqb, ne_eqb, cases_Bool, cases_eq}
+use Rattle.std.proofs.Common.{◌≡◌, ℕ, ◌-◌, Bool, true, false, List, [], ◌∷◌, length, take, Option, None, refl, sym, ap, ◌∙◌, subst, inl, inr, arith}
 use Rattle.coda_actors.specs.Plain.{PlainActor, Unmade}
-use Rattle.coda_journal.specs.declared.header.Header.{Header}
-use Rattle.coda_plain.specs.Cell.{ClientEntry, Actor, new_actor, PlainCell, Joins, found, found_in}
-use Rattle.coda_plain.specs.Decisions.{ReplicaEntry}
-use Rattle.coda_plain.specs.Deeds.{AreLawful}
-use Rattle.coda_plain.specs.Elsewhere.{DoesFit}
-use Rattle.coda_plain.specs.Histories.{In}
+use Rattle.coda_plain.specs.Cell.{Joins, found, found_in}
 use Rattle.coda_plain.specs.Logs.{BeginsWith}
-use Rattle.coda_plain.specs.Moves.{done_on}
 use Rattle.coda_plain.specs.Promises.{ArePromised}
 use Rattle.coda_plain.specs.Sound.{IsSound}
 use Rattle.coda_plain.proofs.Elsewhere.{replicas_stand_elsewhere}
@@ -20,17 +13,14 @@ use Rattle.coda_script.specs.Ranges.{InRange}
 use Rattle.coda_script.specs.declared.line.Line.{Line}
 use Rattle.coda_script.specs.declared.line.Line.TheVariants as line
 use Rattle.coda_script.specs.declared.reply.Reply.{Reply}
-use Rattle.coda_cell.specs.State.{put}
 use Rattle.coda_cell.specs.Steps.{alone}
-use Rattle.coda_matching.specs.Replicas.{IsDecision}
-use Rattle.coda_stored.specs.Cells.{Side, StoredCell, client_header, replica_header, disk_number, plain_replica}
-use Rattle.coda_stored.specs.Held.{IsShelfKept, AreClients, AreHomes, AreNamed, IsHeld}
-use Rattle.coda_stored.specs.Kept.{IsClientSide, IsReplicaSide, IsCellKept}
-use Rattle.coda_stored.specs.Laws.{Begins}
-use Rattle.coda_stored.specs.Lines.{area_of, Happens}
+use Rattle.coda_stored.specs.Cells.{Side, StoredCell}
+use Rattle.coda_stored.specs.Held.{IsShelfKept, AreClients, AreHomes, IsHeld}
+use Rattle.coda_stored.specs.Kept.{IsCellKept}
+use Rattle.coda_stored.specs.Lines.{Happens}
 use Rattle.coda_stored.specs.Mounted.{Shelf, plain_shelf}
 use Rattle.coda_stored.specs.Resuming.{Awaited, ClientAgain, VolumeAgain, awaits_client, awaits_volume, servers_of}
-use Rattle.coda_stored.specs.Seen.{asleep, home_unless, servers_before, idle_until, seen, mounts_none, IsClientSeen, IsReplicaSeen, IsSeen}
+use Rattle.coda_stored.specs.Seen.{asleep, home_unless, servers_before, idle_until, seen, mounts_none, IsSeen}
 use Rattle.coda_stored.proofs.Absent.{meanwhile_idle}
 use Rattle.coda_stored.proofs.Between.{meanwhile_begins}
 use Rattle.coda_stored.proofs.Keeping.{stored_cells_are_kept}

@@ -1,34 +1,31 @@
 -- A line finds the disk on which it makes an actor, where disks stand by themselves.
-use Rattle.std.proofs.Common.{◌≡◌, ◌≢◌, ◌⊎◌, ℕ, ◌+◌, ◌≤◌, ◌<◌, ◌==◌, ◌||◌, Bool, true, false, cond, List, [], ◌∷◌, ◌++◌, length, Option, Some, None, is_some, refl, sym, ap, ◌∙◌, subst, inl, inr, arith}
-use Rattle.std.proofs.lemmas.Bool.{eqb-true, eq-eqb, ne_eqb, cases_Bool, cases_eq}
+use Rattle.std.proofs.Common.{◌≡◌, ◌≢◌, ◌⊎◌, ℕ, ◌==◌, ◌||◌, true, false, cond, List, [], ◌∷◌, length, Option, Some, None, is_some, refl, sym, ap, ◌∙◌, subst, inl, inr, arith}
+use Rattle.std.proofs.lemmas.Bool.{eqb-true, eq-eqb, ne_eqb, cases_eq}
 use Rattle.std.specs.Option.{option_and_then}
-use Rattle.coda_actors.specs.Plain.{PlainActor, Unmade}
+use Rattle.coda_actors.specs.Plain.{Unmade}
 use Rattle.coda_journal.specs.declared.header.Header.{Header}
-use Rattle.coda_plain.specs.Cell.{ClientEntry, Actor, new_actor, found}
+use Rattle.coda_plain.specs.Cell.{ClientEntry, Actor, found}
 use Rattle.coda_plain.specs.Decisions.{ReplicaEntry}
 use Rattle.coda_plain.specs.Elsewhere.{DoesFit}
-use Rattle.coda_plain.specs.Histories.{In}
 use Rattle.coda_plain.specs.Logs.{BeginsWith}
-use Rattle.coda_record.specs.declared.entry.ReplicaEntry.{ReplicaEntry as KeptEntry}
 use Rattle.coda_script.specs.Ranges.{InRange}
 use Rattle.coda_script.specs.declared.line.Line.{Line}
 use Rattle.coda_script.specs.declared.line.Line.TheVariants as line
 use Rattle.coda_script.specs.declared.reply.Reply.{Reply}
-use Rattle.coda_cell.specs.State.{put}
-use Rattle.coda_cell.specs.Steps.{alone, no_room}
-use Rattle.coda_matching.specs.Replicas.{IsDecision, entry_at, journal_at}
+use Rattle.coda_cell.specs.Steps.{alone}
+use Rattle.coda_matching.specs.Replicas.{entry_at, journal_at}
 use Rattle.coda_plain.specs.Moves.{crashed, recovered}
 use Rattle.coda_stored.specs.Cells.{Side, StoredCell, client_header, replica_header, disk_number, first_in}
-use Rattle.coda_stored.specs.Held.{IsLabelled, IsShelfKept, AreClients, IsHeld, AreHomes, AreNamed, IsAnothers, IsForeignDisk, DoesFind, HeldCellsAreKept}
+use Rattle.coda_stored.specs.Held.{IsShelfKept, AreClients, IsHeld, AreHomes, AreNamed, IsAnothers, IsForeignDisk, DoesFind, HeldCellsAreKept}
 use Rattle.coda_stored.specs.Kept.{IsCellKept}
-use Rattle.coda_stored.specs.Lines.{area_of, no_volume, is_built, refused_fault}
+use Rattle.coda_stored.specs.Lines.{area_of, no_volume, refused_fault}
 use Rattle.coda_stored.specs.Mounted.{Shelf, plain_shelf, blank, Making, FindsDisk, making_client, making_volume, ClientFinds, VolumeFinds, IsShelved}
 use Rattle.coda_stored.specs.Resuming.{Awaited, ClientAgain, VolumeAgain, awaits_client, awaits_volume}
 use Rattle.coda_stored.specs.Seen.{asleep, home_unless, seen, mounts_none}
 use Rattle.coda_stored.proofs.Held.{shelf_stays, among, seen_among, given_asleep, held_lines, held_seen, held_promised}
 use Rattle.coda_stored.proofs.HeldClients.{IsMadeOn as IsClientMade, client_finds}
 use Rattle.coda_stored.proofs.HeldFirst.{held_first, held_begun, clients_begin}
-use Rattle.coda_stored.proofs.HeldVolumes.{IsOwnShelf, IsMadeOn as IsVolumeMade, volume_finds, nothing_fits}
+use Rattle.coda_stored.proofs.HeldVolumes.{IsOwnShelf, volume_finds}
 use Rattle.coda_stored.proofs.Keeping.{area_range, server_alone}
 use Rattle.coda_stored.proofs.Making.{not_there, is_none}
 use Rattle.coda_stored.proofs.Remaining.{same_entries}

@@ -1,12 +1,11 @@
 -- What a run begins with over the disks that an earlier one left: its replicas stand by themselves.
-use Rattle.std.proofs.Common.{◌≡◌, ◌≢◌, ◌⊎◌, ℕ, ◌+◌, ◌==◌, ◌||◌, Bool, true, false, cond, List, [], ◌∷◌, ◌++◌, Option, Some, None, refl, sym, ap, ◌∙◌, subst, inl, inr}
-use Rattle.std.proofs.lemmas.Bool.{cases_Bool}
+use Rattle.std.proofs.Common.{◌≡◌, ℕ, ◌+◌, ◌==◌, ◌||◌, Bool, true, false, cond, List, [], ◌∷◌, Option, Some, None, refl, sym, ap, ◌∙◌, subst, inl, inr}
 use Rattle.coda_actors.specs.Plain.{PlainActor}
 use Rattle.coda_journal.specs.declared.header.Header.{Header}
-use Rattle.coda_plain.specs.Cell.{ClientEntry, deeds_of, Actor, new_actor, Joins, found, Histories, found_in}
+use Rattle.coda_plain.specs.Cell.{ClientEntry, deeds_of, Actor, new_actor, Joins, found, found_in}
 use Rattle.coda_plain.specs.Decisions.{ReplicaEntry}
 use Rattle.coda_plain.specs.Deeds.{Settlement, settlement_at, settlements_of}
-use Rattle.coda_plain.specs.Elsewhere.{DoesFit, without_replicas, IsLearned}
+use Rattle.coda_plain.specs.Elsewhere.{DoesFit, IsLearned}
 use Rattle.coda_plain.specs.Histories.{In}
 use Rattle.coda_plain.specs.Logs.{BeginsWith}
 use Rattle.coda_plain.specs.Sound.{DoAgree}

@@ -1,14 +1,13 @@
 -- A volume is made on the disk that it finds, which stood by itself.
 use Rattle.std.proofs.Common.{◌≡◌, ◌≢◌, ◌⊎◌, ℕ, ◌+◌, ◌≤◌, ◌==◌, ◌&&◌, Bool, true, false, cond, List, [], ◌∷◌, ◌++◌, Option, Some, None, refl, sym, ap, ◌∙◌, subst, inl, inr}
-use Rattle.std.proofs.lemmas.Bool.{eqb-true, eq-eqb, cases_eq, and_parts}
+use Rattle.std.proofs.lemmas.Bool.{eqb-true, eq-eqb, and_parts}
 use Rattle.coda_journal.specs.declared.header.Header.{Header}
 use Rattle.coda_script.specs.declared.reply.Reply.{Reply}
 use Rattle.coda_letters.specs.Sent.{Sent, ChunkSent, AnswerSent, Waiting}
-use Rattle.coda_plain.specs.Cell.{ClientEntry, Actor, new_actor, PlainCell, Joins, found, found_in}
+use Rattle.coda_plain.specs.Cell.{ClientEntry, Actor, PlainCell, Joins, found, found_in}
 use Rattle.coda_plain.specs.Decisions.{ReplicaEntry}
 use Rattle.coda_plain.specs.Elsewhere.{DoesFit}
 use Rattle.coda_plain.specs.Histories.{In}
-use Rattle.coda_plain.specs.Logs.{BeginsWith}
 use Rattle.coda_plain.specs.Moves.{crashed, recovered}
 use Rattle.coda_plain.specs.Moves as plain
 use Rattle.coda_plain.specs.Sound.{DoAgree}
@@ -19,12 +18,12 @@ use Rattle.coda_cell.specs.Runs.{IsSaid, ArePooled, IsKept}
 use Rattle.coda_cell.specs.State.{put}
 use Rattle.coda_matching.specs.Replicas.{IsDecision}
 use Rattle.coda_stored.specs.Cells.{StoredCell, replica_header}
-use Rattle.coda_stored.specs.Held.{IsLabelled, IsShelfKept, IsAnothers}
+use Rattle.coda_stored.specs.Held.{IsAnothers}
 use Rattle.coda_stored.specs.Kept.{found_up, whole, IsGiven, IsArea, IsCellKept}
 use Rattle.coda_stored.specs.Lines.{refused_fault}
 use Rattle.coda_stored.specs.Mounted.{Shelf, asking, making_volume, VolumeFinds}
 use Rattle.coda_stored.proofs.Making.{volume_sided}
-use Rattle.coda_stored.proofs.Remaining.{same_entries, joined_entries}
+use Rattle.coda_stored.proofs.Remaining.{joined_entries}
 use Rattle.coda_stored.proofs.Sides.{clean_in, sided_in, stored_kept, clean_replica, alone_crashed, alone_recovered}
 
 -- ---- a cell without disks
