@@ -58,7 +58,7 @@ module _ (now window client volume : ℕ) (v : ClientVolume) (r : ReplicaState) 
       ∙ ap (λ (a : Answer). let s : Said = Ok (Drained (v.chunks + 1) a) in s) (replied (verdict_of (decision r.tree.nodes client f.span)))
 
 pub drains_are_decided : DrainsAreDecided
-drains_are_decided cell client volume now window c r kept is at none free few =
+drains_are_decided cell client volume now window c r kept own is at none free few =
     let there = client_there cell kept client c is in
     let home = replica_there cell kept volume r at in
     let history = (cell.acted.clients client).history in
@@ -69,5 +69,5 @@ drains_are_decided cell client volume now window c r kept is at none free few =
     let chunks = ap (λ (v : ClientVolume). v.chunks) volume_is ∙ (shown deeds law).chunks in
     let last : (r.lasts client).number ≡ (c.volumes volume).chunks =
     ap (λ (x : ReplicaState). (x.lasts client).number) (sym home.2) ∙ ap (λ (l : Last). l.number) (lasts_are home.0 volume (cell.acted.replicas home.0 volume).history client)
-    ∙ last_decided cell kept client volume home.0 home.1 thawed ∙ sym chunks in
+    ∙ last_decided cell kept client volume home.0 home.1 own thawed ∙ sym chunks in
     said_is now window client volume (c.volumes volume) r none free few (eq-eqb ((c.volumes volume).chunks + 1) ((r.lasts client).number + 1) (ap (λ n. n + 1) (sym last)))

@@ -29,7 +29,7 @@ module _ (cell : MadeCell) (kept : IsKept cell) where
       ap pending (volumes_are client blocks (cell.acted.clients client).history volume) ∙ pending_are (done_on cell.acted client volume) (lawful client volume)
 
   pub steady : (client volume : ℕ) → IsSteady (pending_of (done_on cell.acted client volume))
-  steady client volume = ((sound_cells_are_promised cell.acted kept.sound none_joins).kept client volume).steady
+  steady client volume = ((sound_cells_are_promised cell.acted kept.sound none_joins).listed client volume).steady
 
   orderly_client : (client blocks : ℕ) → cell.sizes client ≡ Some blocks → IsOrderly (client_of client (cell.acted.clients client).history blocks)
   orderly_client client blocks there = record {
@@ -52,7 +52,7 @@ pub first_kept : IsKept nothing_made
 first_kept = record {
   sound = runs_are_sound [] empty_cell refl;
   up = record { clients = λ client. refl; replicas = λ server volume. refl };
-  made = record { numbered = λ client blocks e. cc; clients = λ client e. refl; volumes = λ client volume e. refl; replicas = λ server volume e. refl };
+  made = record { numbered = λ client blocks e. cc; clients = λ client e. refl; replicas = λ server volume e. refl };
   holding = λ client blocks e. cc;
   letters = record { numbered = tt; pooled = tt };
 }
@@ -61,7 +61,7 @@ pub cells_are_kept : CellsAreKept
 cells_are_kept = record { first = first_kept; orderly = orderly }
 
 -- a client that did nothing holds nothing
-nothing_holding : (cell : PlainCell) (client blocks : ℕ) (history : List ClientEntry) → history ≡ [] → IsHolding cell (client_of client history blocks)
+pub nothing_holding : (cell : PlainCell) (client blocks : ℕ) (history : List ClientEntry) → history ≡ [] → IsHolding cell (client_of client history blocks)
 nothing_holding cell client blocks history none = subst (λ h. IsHolding cell (client_of client h blocks)) (sym none) (record {
   bound = λ f p is. (let no : None ≡ Some p = sym (finite.get-empty fid_cmp f) ∙ is in cc);
   within = λ dir fid name is. (let no : None ≡ Some fid = ap (λ o. child_of o name) (sym (finite.get-empty fid_cmp dir)) ∙ is in cc);
@@ -75,7 +75,7 @@ volume_left cell volume server kept none = record {
   kept = record {
     sound = kept.sound;
     up = kept.up;
-    made = record { numbered = kept.made.numbered; clients = kept.made.clients; volumes = λ client v e. unmade v e (λ w. done_on cell.acted client w ≡ []) (kept.made.volumes client); replicas = elsewhere };
+    made = record { numbered = kept.made.numbered; clients = kept.made.clients; replicas = elsewhere };
     holding = kept.holding;
     letters = record { numbered = kept.letters.numbered; pooled = kept.letters.pooled };
   };
@@ -100,7 +100,7 @@ client_left cell client blocks kept none some = record {
   kept = record {
     sound = kept.sound;
     up = kept.up;
-    made = record { numbered = numbered; clients = unmade; volumes = kept.made.volumes; replicas = kept.made.replicas };
+    made = record { numbered = numbered; clients = unmade; replicas = kept.made.replicas };
     holding = holding;
     letters = record { numbered = kept.letters.numbered; pooled = kept.letters.pooled };
   };
@@ -125,13 +125,13 @@ client_left cell client blocks kept none some = record {
 pub ticked_left : (cell : MadeCell) (seconds : ℕ) → IsKept cell → IsLeft cell (Ticked seconds ∷ [])
 ticked_left cell seconds kept = record {
   moved = refl;
-  kept = record { sound = kept.sound; up = kept.up; made = record { numbered = kept.made.numbered; clients = kept.made.clients; volumes = kept.made.volumes; replicas = kept.made.replicas }; holding = kept.holding; letters = record { numbered = kept.letters.numbered; pooled = kept.letters.pooled } };
+  kept = record { sound = kept.sound; up = kept.up; made = record { numbered = kept.made.numbered; clients = kept.made.clients; replicas = kept.made.replicas }; holding = kept.holding; letters = record { numbered = kept.letters.numbered; pooled = kept.letters.pooled } };
   shown = refl;
 }
 
 pub linked_left : (cell : MadeCell) (client server : ℕ) (strength : Strength) → IsKept cell → IsLeft cell (LinkSet client server strength ∷ [])
 linked_left cell client server strength kept = record {
   moved = refl;
-  kept = record { sound = kept.sound; up = kept.up; made = record { numbered = kept.made.numbered; clients = kept.made.clients; volumes = kept.made.volumes; replicas = kept.made.replicas }; holding = kept.holding; letters = record { numbered = kept.letters.numbered; pooled = kept.letters.pooled } };
+  kept = record { sound = kept.sound; up = kept.up; made = record { numbered = kept.made.numbered; clients = kept.made.clients; replicas = kept.made.replicas }; holding = kept.holding; letters = record { numbered = kept.letters.numbered; pooled = kept.letters.pooled } };
   shown = refl;
 }

@@ -97,7 +97,6 @@ module _ (cell : MadeCell) (number blocks : ℕ) (kept : IsKept cell) (there : c
     made = record {
       numbered = λ client b e. kept.made.numbered client b (ap (λ f. f client) (sym more.sizes) ∙ e);
       clients = λ client e. ap (λ (a : Actor ClientEntry). a.history) (more.others client (not_this client e)) ∙ kept.made.clients client (ap (λ f. f client) (sym more.sizes) ∙ e);
-      volumes = λ client volume e. done client volume ∙ kept.made.volumes client volume (ap (λ f. f volume) (sym more.homes) ∙ e);
       replicas = λ server volume e. ap (λ f. (f server volume).history) more.replicas ∙ kept.made.replicas server volume (λ is. e (ap (λ f. f volume) more.homes ∙ is));
     }
 
@@ -213,7 +212,6 @@ module _ (cell : MadeCell) (number blocks : ℕ) (kept : IsKept cell) (there : c
   operation_made = record {
     numbered = kept.made.numbered;
     clients = λ c e. ap (λ (a : Actor ClientEntry). a.history) (one.others c (λ same. let no : Some blocks ≡ None = sym (ap cell.sizes same ∙ there) ∙ e in cc)) ∙ kept.made.clients c e;
-    volumes = by_place (λ c w ds. cell.homes w ≡ None → ds ≡ []) (λ e. let no : Some home ≡ None = sym homed ∙ e in cc) kept.made.volumes;
     replicas = kept.made.replicas;
   }
 

@@ -69,7 +69,6 @@ module _ (cell : MadeCell) (number blocks : ℕ) (kept : IsKept cell) (there : c
   made = record {
     numbered = kept.made.numbered;
     clients = λ c e. ap (λ (a : Actor ClientEntry). a.history) (one.others c (λ same. let no : Some blocks ≡ None = sym (ap cell.sizes same ∙ there) ∙ e in cc)) ∙ kept.made.clients c e;
-    volumes = by_place (λ c w ds. cell.homes w ≡ None → ds ≡ []) (λ e. let no : Some server ≡ None = sym homed ∙ e in cc) kept.made.volumes;
     replicas = kept.made.replicas;
   }
 
@@ -142,7 +141,7 @@ module _ (cell : MadeCell) (kept : IsKept cell) (volume server : ℕ) (homed : c
   decision_made = record {
     numbered = kept.made.numbered;
     clients = kept.made.clients;
-    volumes = kept.made.volumes;
+   
     replicas = λ s w e. elim (cases_Bool ((s == server) && (w == volume))) [
       | inl at ↦ (let both = and_parts (s == server) (w == volume) at in absurd (e (ap cell.homes (eqb-true w volume both.1) ∙ homed ∙ ap Some (sym (eqb-true s server both.0)))))
       | inr off ↦ ap (λ b. (cond b (grown_actor decided (cell.acted.replicas server volume)) (cell.acted.replicas s w)).history) off ∙ kept.made.replicas s w e

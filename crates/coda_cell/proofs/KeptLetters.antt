@@ -58,7 +58,7 @@ posted_left cell sent kept may said = record {
   kept = record {
     sound = moves_keep_sound cell.acted (Posts (plain_letter sent)) may kept.sound;
     up = record { clients = kept.up.clients; replicas = kept.up.replicas };
-    made = record { numbered = kept.made.numbered; clients = kept.made.clients; volumes = kept.made.volumes; replicas = kept.made.replicas };
+    made = record { numbered = kept.made.numbered; clients = kept.made.clients; replicas = kept.made.replicas };
     holding = λ c b e. (let h = kept.holding c b e in record { bound = h.bound; within = h.within; made = h.made; kept = h.kept });
     letters = record {
       numbered = numbered_more 0 cell.acted.posted cell.waiting sent (omega arith) kept.letters.numbered;
@@ -112,7 +112,7 @@ lost_left cell message kept = record {
   kept = record {
     sound = moves_keep_sound cell.acted (Loses message) tt kept.sound;
     up = record { clients = kept.up.clients; replicas = kept.up.replicas };
-    made = record { numbered = kept.made.numbered; clients = kept.made.clients; volumes = kept.made.volumes; replicas = kept.made.replicas };
+    made = record { numbered = kept.made.numbered; clients = kept.made.clients; replicas = kept.made.replicas };
     holding = λ c b e. (let h = kept.holding c b e in record { bound = h.bound; within = h.within; made = h.made; kept = h.kept });
     letters = record {
       numbered = numbered_lost cell.acted message 0 cell.acted.posted cell.waiting kept.letters.numbered;

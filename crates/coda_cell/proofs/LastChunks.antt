@@ -1,9 +1,9 @@
--- Where a client has no chunk frozen, the volume's server decided its last one last.
+-- Where a client has no chunk frozen, and learned of no other replicas, the volume's server decided its last one last.
 use Rattle.std.proofs.Common.{◌≡◌, ◌≢◌, ℕ, ◌≤◌, ◌==◌, List, [], ◌∷◌, ◌++◌, Some, None, refl, sym, ap, ◌∙◌, subst, inl, inr, ◌⊎◌, arith}
 use Rattle.std.proofs.lemmas.Bool.{eqb-true, eq-eqb, false≢true, cases_Bool}
 use Rattle.coda_certify.specs.declared.verdict.Verdict.{Verdict}
 use Rattle.coda_plain.specs.Histories.{In}
-use Rattle.coda_plain.specs.Deeds.{Deed, Operated, Froze, Settled, Gaveup, course_of, Chunk, chunk_at, chunks_of, MayDo, AreLawful}
+use Rattle.coda_plain.specs.Deeds.{Deed, Operated, Froze, Settled, Gaveup, course_of, Chunk, chunk_at, chunks_of, Settlement, MayDo, AreLawful}
 use Rattle.coda_plain.specs.Decisions.{ReplicaEntry, Decided, Resolved, Kept, kept_after, kept_of, last_of, Decision, decision_at, decisions_of, MayDecide, AreDecisions}
 use Rattle.coda_plain.specs.Moves.{done_on}
 use Rattle.coda_plain.specs.Sound.{IsDecided}
@@ -76,8 +76,8 @@ module _ (cell : MadeCell) (kept : IsKept cell) (client volume server : ℕ) (ho
       let is = decided.number_is in
       omega (arith, low, here, is)
 
-  pub last_decided : (course_of (done_on cell.acted client volume)).cut ≡ None → (last_of volume (cell.acted.replicas server volume).history client).number ≡ (course_of (done_on cell.acted client volume)).chunks
-  last_decided thawed =
+  pub last_decided : cell.acted.learned client volume ≡ [] → (course_of (done_on cell.acted client volume)).cut ≡ None → (last_of volume (cell.acted.replicas server volume).history client).number ≡ (course_of (done_on cell.acted client volume)).chunks
+  last_decided own thawed =
       let agree = kept.sound.agree none_joins in
       let deeds = done_on cell.acted client volume in
       let law = agree.lawful client volume in
@@ -86,7 +86,8 @@ module _ (cell : MadeCell) (kept : IsKept cell) (client volume server : ℕ) (ho
         | inl none ↦ omega (arith, none, most)
         | inr l ↦ elim ((fated deeds law).fate l.0 l.1) [
           | inl way ↦ (let no : Some way.0.0 ≡ None = sym way.0.1 ∙ thawed in cc)
-          | inr s ↦ (let low = settled_reached l.0.number s.verdict (agree.settled client volume (record { number = l.0.number; verdict = s.verdict }) s.there) in
+          | inr s ↦ (let told : Settlement = record { number = l.0.number; verdict = s.verdict } in
+              let low = settled_reached l.0.number s.verdict (elim (agree.settled client volume told s.there) [ inl decided ↦ decided | inr elsewhere ↦ absurd (subst (In told) own elsewhere) ]) in
               let is = l.2 in
               omega (arith, low, is, most))
         ]

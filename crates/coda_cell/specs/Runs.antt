@@ -10,7 +10,7 @@ use Rattle.coda_script.specs.declared.reply.Reply.{Reply}
 use Rattle.coda_script.specs.declared.reply.Reply.TheVariants.{Drained}
 use Rattle.coda_plain.specs.Decisions.{decision}
 use Rattle.coda_plain.specs.Cell.{PlainCell}
-use Rattle.coda_plain.specs.Moves.{done_on, Moved}
+use Rattle.coda_plain.specs.Moves.{Moved, done_on}
 use Rattle.coda_plain.specs.Sound.{IsSound}
 use Rattle.coda_cell.specs.Asking.{Said}
 use Rattle.coda_cell.specs.Sending.{frozen_now, drained}
@@ -27,12 +27,11 @@ pub record AreUp (cell : PlainCell) : Type 0 where
   pub clients : (client : ℕ) → (cell.clients client).up ≡ true
   pub replicas : (server volume : ℕ) → (cell.replicas server volume).up ≡ true
 
--- a client that wasn't made did nothing, nobody did anything on a volume that wasn't made, a server decided nothing on a volume that was
--- made elsewhere or not at all, and no client has the number 0
+-- a client that wasn't made did nothing, a server decided nothing on a volume that was made elsewhere or not at all, and no client has the
+-- number 0
 pub record AreMade (cell : MadeCell) : Type 0 where
   pub numbered : (client blocks : ℕ) → cell.sizes client ≡ Some blocks → client ≢ 0
   pub clients : (client : ℕ) → cell.sizes client ≡ None → (cell.acted.clients client).history ≡ []
-  pub volumes : (client volume : ℕ) → cell.homes volume ≡ None → done_on cell.acted client volume ≡ []
   pub replicas : (server volume : ℕ) → cell.homes volume ≢ Some server → (cell.acted.replicas server volume).history ≡ []
 
 -- the numbers of letters rise, above one and up to another
@@ -93,10 +92,10 @@ pub record CellsAreKept : Type 0 where
 abbrev pub decided_as : ℕ → ℕ → ℕ → ClientVolume → ReplicaState → Said
 decided_as now window client v r = Ok (Drained (v.chunks + 1) (reply.Decided (verdict_of (decision r.tree.nodes client (frozen_now now window r.server v).span))))
 
--- In a cell that is kept, where a client has no chunk of a volume frozen and may freeze one, a drain is answered by the verdict on it:
--- by that of all its operations, where they certify, and else by that of what is sent of them.
+-- In a cell that is kept, where a client has no chunk of a volume frozen and may freeze one, and learned of no replica that is none of the cell's, a drain
+-- is answered by the verdict on it: by that of all its operations, where they certify, and else by that of what is sent of them.
 abbrev pub DrainsAreDecided : Type 0
 DrainsAreDecided =
-    (cell : MadeCell) (client volume now window : ℕ) (c : ClientState) (r : ReplicaState) → IsKept cell → (state_of cell).clients client ≡ Some c → (state_of cell).replicas volume ≡ Some r
+    (cell : MadeCell) (client volume now window : ℕ) (c : ClientState) (r : ReplicaState) → IsKept cell → cell.acted.learned client volume ≡ [] → (state_of cell).clients client ≡ Some c → (state_of cell).replicas volume ≡ Some r
     → (c.volumes volume).frozen ≡ None → freeze_refusal None now window (segments_of (c.volumes volume).back) ≡ None → (c.volumes volume).chunks < 4294967295
     → (drained now window client volume (c.volumes volume) r).said ≡ decided_as now window client (c.volumes volume) r

@@ -4,7 +4,7 @@ use Rattle.std.specs.Prelude.{Option}
 use Rattle.coda_disk.specs.Bays.{plus}
 use Rattle.coda_disk.specs.Told.{Told}
 use Rattle.coda_engine.proofs.Simulation.{reports_shown}
-use Rattle.coda_engine.specs.Run.{Reports}
+use Rattle.coda_engine.specs.Run.{Runs, Reports}
 use Rattle.coda_engine.specs.declared.status.Status.{Status}
 use Rattle.coda_engine.specs.declared.status.Status.TheVariants.{Usage, BayFault, Memory}
 use Rattle.coda_stored.specs.Cells.{StoredCell, nothing_stored}
@@ -18,11 +18,15 @@ use Rattle.coda_main.specs.Lines.{IsBadLine}
 use Rattle.coda_main.specs.Reported.{IsReportOfLines, IsReportOfRun}
 use Rattle.coda_stored.specs.Kept.{IsStoredKept}
 use Rattle.coda_stored.specs.Resuming.{at_rest, Awaited, AreAwaited, MakeAllAgain}
+use Rattle.coda_stored.specs.Held.{IsHeld, begun_from}
+use Rattle.coda_runs.specs.Held.{Holding, Holds, Fails, HeldGives}
+use Rattle.coda_runs.proofs.Held.{held_runs_go_on, what_ran_is_held}
+use Rattle.coda_main.specs.Held.{ShowsHeld, ShowsHolding, HeldRefuses, IsReportOfHeldRun}
 use Rattle.coda_runs.specs.Later.{Later, Waits, Goes, Strays, resumed, LaterGives, HasReached, HasGoneOn, CanBeResumed}
 use Rattle.coda_runs.specs.Runs.{LineGives, LineRefused}
 use Rattle.coda_runs.proofs.Later.{later_runs_go_on}
 use Rattle.coda_runs.proofs.Resumable.{what_ran_can_be_resumed}
-use Rattle.coda_runs.proofs.Running.{always_kept}
+use Rattle.coda_runs.proofs.Running.{always_kept, scripts_learn_of_their_own}
 use Rattle.coda_main.specs.Later.{ShowsLater, LaterRefuses, MachineGives, IsReportOfLaterRun}
 use Rattle.coda_main.specs.Shows.{Moment, Shows, MayGoOn}
 use Rattle.coda_main.proofs.Reaching.{reports_ran}
@@ -30,7 +34,10 @@ use Rattle.coda_site.specs.Totals.{Counts}
 use Rattle.coda_main.specs.Counting.{CountsLine}
 use Rattle.coda_main.specs.Tallies.{Tally, no_tally, TalliedCell, TalliedGives, TalliedRefuses}
 use Rattle.coda_main.proofs.Tallying.{IsTallied, both_shown, records_shown, cells_tallied, tallied_of}
-use Rattle.coda_main.proofs.Showing.{cells_go_on, lines_good, later_shown}
+use Rattle.coda_main.proofs.Showing.{cells_go_on, lines_good, later_shown, held_shown}
+
+same_place : (a b : Recorded) → Holds a ≡ Holds b → a ≡ b
+same_place a b e = cc
 
 module _ {D M : Type 0} (new old : M) (told : D → Told) (at : M → Moment D) (counts : M → Counts) (left_old left_new held_old held_new : Option (List ℕ)) (outside : List (List ℕ)) (status : Status)
     (reports : Reports (λ old line text outside new. MachineGives told (at old) line text outside (at new) × CountsLine told (at old) (counts old) line text outside (at new) (counts new)) (λ m line column kind. IsBadLine line column kind) old new left_old left_new held_old held_new outside status) where
@@ -64,6 +71,12 @@ module _ {D M : Type 0} (new old : M) (told : D → Told) (at : M → Moment D) 
         resumable = λ memory bay.
             let ran = reports_ran LineGives LineRefused nothing_stored run.cell left_old left_new held_old held_new outside status memory bay run.reports in
             (always_kept ran.lines ran.report ran.outside run.cell ran.runs, what_ran_can_be_resumed ran.lines ran.report ran.outside run.cell ran.runs);
+        held = λ memory bay.
+            let ran = reports_ran LineGives LineRefused nothing_stored run.cell left_old left_new held_old held_new outside status memory bay run.reports in
+            what_ran_is_held ran.lines ran.report ran.outside run.cell ran.runs;
+        own = λ memory bay.
+            let ran = reports_ran LineGives LineRefused nothing_stored run.cell left_old left_new held_old held_new outside status memory bay run.reports in
+            scripts_learn_of_their_own ran.lines ran.report ran.outside run.cell ran.runs;
         tally = both.0.1;
         tallied = λ memory bay.
             subst (λ (t : TalliedCell). Reports TalliedGives TalliedRefuses (tallied_of entry) t left_old left_new held_old held_new outside status) (tallies.2 memory bay ∙ ap (λ (c : StoredCell). record { cell = c; tally = both.0.1 }) (same memory bay)) tallies.1;
@@ -102,6 +115,31 @@ module _ {D M : Type 0} (new old : M) (told : D → Told) (at : M → Moment D) 
           (last_same ∙ there.images ∙ sym reached.1, subst (AreOnDisks told has) (sym reached.0) (waits ready found _ _ (next ∷ left) there.kept there.awaited there.stands))
       on_disks ready (Goes stored) there cell images reached = (last_same ∙ there.answered ∙ sym reached.1, subst (AreOnDisks told has) (sym reached.0) (closes ready stored.cell there.stands))
       on_disks ready Strays there cell images reached = absurd reached
+
+  -- What a run over the disks that an earlier run left tells, whatever it makes again, where the bay, once all is given back, stands for what was reached.
+  pub reported_held : (has : ℕ → Told) (before after : List (List ℕ)) (past : StoredCell) (held : IsHeld past) → MayGoOn told (at old) → ShowsHeld told (record { cell = begun_from past held; answered = before }) (at old)
+      → after ≡ (at new).answered → (MayGoOn told (at new) → (cell : StoredCell) → IsSite told (at new).out (at new).has cell (at new).site → AreOnDisks told has cell)
+      → IsReportOfHeldRun told has before after left_old left_new held_old held_new status past held
+  reported_held has before after past held start shows last_same closes = record {
+    end = shown.0;
+    outside = outside;
+    reports = shown.1;
+    goes_on = λ memory bay reached is.
+        let there = on_disks (goes_on start memory bay) shown.0 (shown.2 memory bay) reached is in
+        let ran = reports_ran HeldGives HeldRefuses first shown.0 left_old left_new held_old held_new outside status memory bay shown.1 in
+        (held_runs_go_on past held before ran.lines ran.report ran.outside reached (subst (λ (h : Holding). Runs HeldGives first ran.lines ran.report ran.outside h) is ran.runs), there.0, there.1);
+  }
+    where
+      first : Holding
+      first = Holds (record { cell = begun_from past held; answered = before })
+
+      shown : (end : Holding) × Reports HeldGives HeldRefuses first end left_old left_new held_old held_new outside status × (status ≢ Memory → status ≢ BayFault → ShowsHolding told end (at new))
+      shown = reports_shown (held_shown told at counts) first old new left_old left_new held_old held_new outside status shows reports
+
+      on_disks : MayGoOn told (at new) → (end : Holding) → ShowsHolding told end (at new) → (reached : Recorded) → end ≡ Holds reached → (after ≡ reached.answered) × AreOnDisks told has reached.cell
+      on_disks ready (Holds stored) there reached is = (let same : stored ≡ reached = same_place stored reached is in
+          (last_same ∙ there.answered ∙ ap (λ (r : Recorded). r.answered) same, subst (λ (r : Recorded). AreOnDisks told has r.cell) same (closes ready stored.cell there.stands)))
+      on_disks ready Fails there reached is = cc
 
   -- What it tells whatever the disks hold.
   pub reported_lines : IsReportOfLines left_old left_new held_old held_new status

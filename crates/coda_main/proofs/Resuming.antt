@@ -25,10 +25,12 @@ use Rattle.coda_site.specs.Sites.{IsSite}
 use Rattle.coda_site.specs.Steps.{Admits, Becomes, Mounts}
 use Rattle.coda_site.proofs.Resting.{all_resumed, next_awaited}
 use Rattle.coda_site.proofs.SeenSites.{awaiting_is_seen, still_awaited, still_waits}
-use Rattle.coda_runs.specs.Shows.{CanShow}
+use Rattle.coda_runs.specs.Held.{Holding, Holds, Fails, HeldGives}
+use Rattle.coda_runs.specs.Shows.{Recorded, CanShow}
 use Rattle.coda_runs.specs.Texts.{text_of}
 use Rattle.coda_runs.proofs.ShownUp.{shows_what_is_up}
 use Rattle.coda_runs.specs.Later.{Later, Waits, Goes, Strays, resumed, LaterGives}
+use Rattle.coda_main.specs.Held.{ShowsHeld, ShowsHolding, AnsweredHeld}
 use Rattle.coda_main.specs.Later.{ShowsNothing, ShowsWaiting, ShowsLater, AnsweredAgain, AnsweredBetween, AnsweredElsewhere, MachineGives}
 use Rattle.coda_main.specs.Shows.{Moment, answered_since, CellGives}
 use Rattle.coda_main.specs.Tallies.{IsText}
@@ -36,7 +38,7 @@ use Rattle.coda_main.proofs.Answering.{behind}
 
 -- ---- replies
 
-text_told : (reply : Reply) (text : List ℕ) → ShowsNothing reply → IsText reply text → text ≡ reply_text reply
+pub text_told : (reply : Reply) (text : List ℕ) → ShowsNothing reply → IsText reply text → text ≡ reply_text reply
 text_told (ShowVolume server volume) text none is = absurd none
 text_told (ShowLog client volume) text none is = absurd none
 text_told reply text none is = is
@@ -160,8 +162,9 @@ pub line_resumes : {D : Type 0} (told : D → Told) (old new : Moment D) (bytes 
     → ((cell : StoredCell) (next : Awaited) (left : List Awaited) (images : List (List ℕ)) → is_awaited next said ≡ true → ShowsWaiting told cell next left images old → AnsweredAgain told cell next left images text old new)
     → ((cell : StoredCell) (next : Awaited) (left : List Awaited) (images : List (List ℕ)) → mounts_none (seen cell (next ∷ left)) said ≡ true → ShowsWaiting told cell next left images old → AnsweredBetween told cell next left images said text old new)
     → ((cell : StoredCell) (next : Awaited) (left : List Awaited) (images : List (List ℕ)) → mounts_none (seen cell (next ∷ left)) said ≡ false → ShowsWaiting told cell next left images old → AnsweredElsewhere told cell next left images said text old new)
+    → ((at : Recorded) → ShowsHeld told at old → AnsweredHeld told at said text old new)
     → MachineGives told old bytes text (answered_since old new) new
-line_resumes told old new bytes text said spelled built ran again between elsewhere = record { ran = ran; later = later }
+line_resumes told old new bytes text said spelled built ran again between elsewhere finds = record { ran = ran; later = later; held = held }
   where
     later : (at : Later) → ShowsLater told at old → (next : Later) × LaterGives at bytes text (answered_since old new) next × ShowsLater told next new
     later (Waits cell next left images) shows = by (is_awaited next said) refl
@@ -183,14 +186,22 @@ line_resumes told old new bytes text said spelled built ran again between elsewh
     later (Goes at) shows = (let g = ran.gives at shows in (Goes g.0, (g.0, g.1, refl), g.2))
     later Strays shows = (Strays, refl, tt)
 
+    held : (at : Holding) → ShowsHolding told at old → (next : Holding) × HeldGives at bytes text (answered_since old new) next × ShowsHolding told next new
+    held (Holds at) shows = (let a = finds at shows in (a.next, inr (said, spelled, built, a.answers), a.shows))
+    held Fails shows = (Fails, refl, tt)
+
 -- a line that says nothing
 pub silent_resumes : {D : Type 0} (told : D → Told) (now : Moment D) (bytes text : List ℕ) → line_of bytes ≡ Ok None → text ≡ [] → CellGives told now bytes text [] now → MachineGives told now bytes text [] now
-silent_resumes told now bytes text silent none ran = record { ran = ran; later = later }
+silent_resumes told now bytes text silent none ran = record { ran = ran; later = later; held = held }
   where
     later : (at : Later) → ShowsLater told at now → (next : Later) × LaterGives at bytes text [] next × ShowsLater told next now
     later (Waits cell next left images) shows = (Waits cell next left images, inl (silent, none, refl, refl), shows)
     later (Goes at) shows = (let g = ran.gives at shows in (Goes g.0, (g.0, g.1, refl), g.2))
     later Strays shows = (Strays, refl, tt)
+
+    held : (at : Holding) → ShowsHolding told at now → (next : Holding) × HeldGives at bytes text [] next × ShowsHolding told next now
+    held (Holds at) shows = (Holds at, inl (silent, none, refl, refl), shows)
+    held Fails shows = (Fails, refl, tt)
 
 -- ---- the beginning
 

@@ -18,8 +18,10 @@ use Rattle.coda_stored.specs.Seen.{seen, Meanwhile}
 use Rattle.coda_site.specs.Awaiting.{IsAwaiting}
 use Rattle.coda_site.specs.Cells.{AreOnDisks}
 use Rattle.coda_runs.specs.Later.{Later, Waits, Goes, Strays, resumed, LaterGives, HasReached, HasGoneOn, CanBeResumed}
+use Rattle.coda_runs.specs.Held.{Holding, HeldGives}
 use Rattle.coda_runs.specs.Shows.{Recorded}
 use Rattle.coda_runs.specs.Texts.{text_of}
+use Rattle.coda_main.specs.Held.{ShowsHolding}
 use Rattle.coda_main.specs.Lines.{IsBadLine}
 use Rattle.coda_main.specs.Shows.{Moment, Shows, answered_since, CellGives}
 
@@ -78,10 +80,12 @@ abbrev pub AnsweredElsewhere : {D : Type 0} → (D → Told) → StoredCell → 
 AnsweredElsewhere told cell next left answered said text old new =
     RefusedAsForeign told cell next left answered said text old new ⊎ ((reply : Reply) × (text ≡ reply_text reply) × MakesOn (seen cell (next ∷ left)) said reply)
 
--- A line ran, and from each place of a later run that old shows, one that new shows may be reached by it.
+-- A line ran, and from each place of a later run that old shows, one that new shows may be reached by it; and so from each place of a run over the disks of an earlier one,
+-- whatever it makes again.
 pub record MachineGives {D : Type 0} (told : D → Told) (old : Moment D) (bytes text : List ℕ) (outside : List (List ℕ)) (new : Moment D) : Type 0 where
   pub ran : CellGives told old bytes text outside new
   pub later : (at : Later) → ShowsLater told at old → (next : Later) × LaterGives at bytes text outside next × ShowsLater told next new
+  pub held : (at : Holding) → ShowsHolding told at old → (next : Holding) × HeldGives at bytes text outside next × ShowsHolding told next new
 
 -- What was read and written is the report of a run over the disks that an earlier run left: lines make its actors again in this order, some of them or
 -- all, and each other line does what it does where those were made that came so far, or is refused for the disk of another actor, unless one makes an

@@ -8,6 +8,7 @@ ghost use Rattle.coda_runs.specs.Shows.{Recorded};
 ghost use Rattle.coda_stored.specs.Cells.{StoredCell};
 ghost use Rattle.coda_stored.specs.Resuming.{Awaited, is_awaited};
 ghost use Rattle.coda_stored.specs.Seen.{seen, mounts_none};
+ghost use Rattle.coda_main.specs.Held.{ShowsHeld, AnsweredHeld};
 ghost use Rattle.coda_main.specs.Later.{ShowsWaiting, AnsweredAgain, AnsweredBetween, AnsweredElsewhere};
 ghost use Rattle.coda_script.specs.declared.reply.Reply.{Reply};
 ghost use Rattle.coda_site.specs.Totals.{IsCounted, IsFault, has_armed, total, totals};
@@ -100,6 +101,8 @@ fn answer<B: Bay>(alloc: Global, cell: &mut Cell<B>, said: &Line) -> Result<Vec<
     ensures elsewhere { IfOk result (λ text. (stored : StoredCell) (next : Awaited) (left : List Awaited) (images : List (List ℕ)) → mounts_none (seen stored (next ∷ left)) said.now ≡ false
         → ShowsWaiting B.D.told stored next left images (moment (B.out cell.old.bay) (B.has cell.old.bay) (B.answered cell.old.bay) cell.old.site)
         → AnsweredElsewhere B.D.told stored next left images said.now text.items (moment (B.out cell.old.bay) (B.has cell.old.bay) (B.answered cell.old.bay) cell.old.site) (moment (B.out cell.new.bay) (B.has cell.new.bay) (B.answered cell.new.bay) cell.new.site)) }
+    ensures held { IfOk result (λ text. (at : Recorded) → ShowsHeld B.D.told at (moment (B.out cell.old.bay) (B.has cell.old.bay) (B.answered cell.old.bay) cell.old.site)
+        → AnsweredHeld B.D.told at said.now text.items (moment (B.out cell.old.bay) (B.has cell.old.bay) (B.answered cell.old.bay) cell.old.site) (moment (B.out cell.new.bay) (B.has cell.new.bay) (B.answered cell.new.bay) cell.new.site)) }
     ensures counts { IfOk result (λ text. (reply : Reply) × IsText reply text.items × IsCounted (IsFault (Ok reply)) (has_armed said.now (Ok reply)) (totals B.D.told B.D.faults B.D.arms (B.disk_faults cell.old.bay) (B.disk_arms cell.old.bay) cell.old.site) (totals B.D.told B.D.faults B.D.arms (B.disk_faults cell.new.bay) (B.disk_arms cell.new.bay) cell.new.site)
         × ((plain : Recorded) → Shows B.D.told plain (moment (B.out cell.old.bay) (B.has cell.old.bay) (B.answered cell.old.bay) cell.old.site) → (a : Answered B.D.told plain said.now text.items (moment (B.out cell.old.bay) (B.has cell.old.bay) (B.answered cell.old.bay) cell.old.site) (moment (B.out cell.new.bay) (B.has cell.new.bay) (B.answered cell.new.bay) cell.new.site)) × (a.reply ≡ reply))) }
     ensures stopped { IfErr result StopsWithin }

@@ -3,9 +3,11 @@ ghost use Rattle.std.specs.Prelude.{◌≡◌, ◌≢◌, ◌↔◌, ◌≤◌, 
 ghost use Rattle.std.specs.String.{string_bytes};
 ghost use Rattle.coda_io.specs.Faults.{Rose};
 ghost use Rattle.coda_stored.specs.Cells.{StoredCell};
+ghost use Rattle.coda_stored.specs.Held.{IsHeld};
 ghost use Rattle.coda_stored.specs.Kept.{IsStoredKept};
 ghost use Rattle.coda_stored.specs.Resuming.{Awaited, MakeAllAgain};
 ghost use Rattle.coda_site.specs.Cells.{AreBlank, AreOnDisks};
+ghost use Rattle.coda_main.specs.Held.{IsReportOfHeldRun};
 ghost use Rattle.coda_main.specs.Later.{IsReportOfLaterRun};
 ghost use Rattle.coda_disk.specs.Bays.{plus};
 ghost use Rattle.coda_main.specs.Reported.{IsReportOfLines, IsReportOfRun};
@@ -32,6 +34,8 @@ fn run_and_close<S: Source, K: Sink, B: Bay + Drop>(
     ensures report { AreBlank (B.has bay) → IsReportOfRun B.D.told (B.has result.1) (B.answered bay) (B.answered result.1) (B.disk_faults bay) (B.disk_faults result.1) (B.disk_arms bay) (B.disk_arms result.1) (S.left source.old) (S.left source.new) (K.held sink.old) (K.held sink.new) result.0 }
     ensures later { (past : StoredCell) (lines : List Awaited) → IsStoredKept past → MakeAllAgain past lines → AreOnDisks B.D.told (B.has bay) past
         → IsReportOfLaterRun B.D.told (B.has result.1) (B.answered bay) (B.answered result.1) (S.left source.old) (S.left source.new) (K.held sink.old) (K.held sink.new) result.0 past lines }
+    ensures held { (past : StoredCell) (held : IsHeld past) → AreOnDisks B.D.told (B.has bay) past
+        → IsReportOfHeldRun B.D.told (B.has result.1) (B.answered bay) (B.answered result.1) (S.left source.old) (S.left source.new) (K.held sink.old) (K.held sink.new) result.0 past held }
     ensures lines { IsReportOfLines (S.left source.old) (S.left source.new) (K.held sink.old) (K.held sink.new) result.0 }
     ensures disks { IsReportOfDisks (B.disk_faults bay) (B.disk_faults result.1) (B.disk_arms bay) (B.disk_arms result.1) (S.left source.old) (S.left source.new) (K.held sink.old) (K.held sink.new) result.0 }
     ensures disk_faults_later { plus (B.disk_faults bay) 0 ≤ B.disk_faults result.1 }
@@ -62,6 +66,8 @@ fn run_lent<'a, S: Source, K: Sink, B: Bay>(
     ensures report { AreBlank (B.has lent.entry.bay.now) → IsReportOfRun B.D.told (B.has result.1.bay.now) (B.answered lent.entry.bay.now) (B.answered result.1.bay.now) (B.disk_faults lent.entry.bay.now) (B.disk_faults result.1.bay.now) (B.disk_arms lent.entry.bay.now) (B.disk_arms result.1.bay.now) (S.left source.old) (S.left source.new) (K.held sink.old) (K.held sink.new) result.0 }
     ensures later { (past : StoredCell) (lines : List Awaited) → IsStoredKept past → MakeAllAgain past lines → AreOnDisks B.D.told (B.has lent.entry.bay.now) past
         → IsReportOfLaterRun B.D.told (B.has result.1.bay.now) (B.answered lent.entry.bay.now) (B.answered result.1.bay.now) (S.left source.old) (S.left source.new) (K.held sink.old) (K.held sink.new) result.0 past lines }
+    ensures held { (past : StoredCell) (held : IsHeld past) → AreOnDisks B.D.told (B.has lent.entry.bay.now) past
+        → IsReportOfHeldRun B.D.told (B.has result.1.bay.now) (B.answered lent.entry.bay.now) (B.answered result.1.bay.now) (S.left source.old) (S.left source.new) (K.held sink.old) (K.held sink.new) result.0 past held }
     ensures lines { IsReportOfLines (S.left source.old) (S.left source.new) (K.held sink.old) (K.held sink.new) result.0 }
     ensures disks { IsReportOfDisks (B.disk_faults lent.entry.bay.now) (B.disk_faults result.1.bay.now) (B.disk_arms lent.entry.bay.now) (B.disk_arms result.1.bay.now) (S.left source.old) (S.left source.new) (K.held sink.old) (K.held sink.new) result.0 }
     ensures disk_faults_later { plus (B.disk_faults lent.entry.bay.now) 0 ≤ B.disk_faults result.1.bay.now }
@@ -88,7 +94,9 @@ fn run_lent<'a, S: Source, K: Sink, B: Bay>(
 ///
 /// Where the disks held what an earlier run left, take lines that make again all that was made there, as it was: the run goes
 /// on from what those of them find that come, the histories that there were, each perhaps with the entry whose append failed,
-/// and all other lines meet those actors alone that came so far.
+/// and all other lines meet those actors alone that came so far. And whatever lines come, in whatever order: each that makes an
+/// actor does it on the disk that it finds, and what follows keeps what is promised, as long as no call of a disk fails on
+/// which a line was to make an actor and which is another's.
 ///
 /// Over any bay, the status is that of the lines: each line that ran is built or says nothing, and one that ended the
 /// run is refused. Unless memory was wanting or the bay at fault, the bay has all its disks again, its sum of their
@@ -103,6 +111,8 @@ pub fn run_script<S: Source, K: Sink, B: Bay>(
     ensures report { AreBlank (B.has bay.old) → IsReportOfRun B.D.told (B.has bay.new) (B.answered bay.old) (B.answered bay.new) (B.disk_faults bay.old) (B.disk_faults bay.new) (B.disk_arms bay.old) (B.disk_arms bay.new) (S.left source.old) (S.left source.new) (K.held sink.old) (K.held sink.new) result }
     ensures later { (past : StoredCell) (lines : List Awaited) → IsStoredKept past → MakeAllAgain past lines → AreOnDisks B.D.told (B.has bay.old) past
         → IsReportOfLaterRun B.D.told (B.has bay.new) (B.answered bay.old) (B.answered bay.new) (S.left source.old) (S.left source.new) (K.held sink.old) (K.held sink.new) result past lines }
+    ensures held { (past : StoredCell) (held : IsHeld past) → AreOnDisks B.D.told (B.has bay.old) past
+        → IsReportOfHeldRun B.D.told (B.has bay.new) (B.answered bay.old) (B.answered bay.new) (S.left source.old) (S.left source.new) (K.held sink.old) (K.held sink.new) result past held }
     ensures lines { IsReportOfLines (S.left source.old) (S.left source.new) (K.held sink.old) (K.held sink.new) result }
     ensures disks { IsReportOfDisks (B.disk_faults bay.old) (B.disk_faults bay.new) (B.disk_arms bay.old) (B.disk_arms bay.new) (S.left source.old) (S.left source.new) (K.held sink.old) (K.held sink.new) result }
     ensures disk_faults_later { plus (B.disk_faults bay.old) 0 ≤ B.disk_faults bay.new }
@@ -136,6 +146,8 @@ pub fn coda<S: Source, K: Sink, B: Bay>(
         → IsReportOfRun B.D.told (B.has bay.new) (B.answered bay.old) (B.answered bay.new) (B.disk_faults bay.old) (B.disk_faults bay.new) (B.disk_arms bay.old) (B.disk_arms bay.new) (S.left source.old) (S.left source.new) (K.held sink.old) (K.held sink.new) result }
     ensures later { IsRun (map string_bytes words.now) → (past : StoredCell) (lines : List Awaited) → IsStoredKept past → MakeAllAgain past lines → AreOnDisks B.D.told (B.has bay.old) past
         → IsReportOfLaterRun B.D.told (B.has bay.new) (B.answered bay.old) (B.answered bay.new) (S.left source.old) (S.left source.new) (K.held sink.old) (K.held sink.new) result past lines }
+    ensures held { IsRun (map string_bytes words.now) → (past : StoredCell) (held : IsHeld past) → AreOnDisks B.D.told (B.has bay.old) past
+        → IsReportOfHeldRun B.D.told (B.has bay.new) (B.answered bay.old) (B.answered bay.new) (S.left source.old) (S.left source.new) (K.held sink.old) (K.held sink.new) result past held }
     ensures lines { IsRun (map string_bytes words.now) → IsReportOfLines (S.left source.old) (S.left source.new) (K.held sink.old) (K.held sink.new) result }
     ensures disks { IsRun (map string_bytes words.now) → IsReportOfDisks (B.disk_faults bay.old) (B.disk_faults bay.new) (B.disk_arms bay.old) (B.disk_arms bay.new) (S.left source.old) (S.left source.new) (K.held sink.old) (K.held sink.new) result }
     ensures disk_faults_later { plus (B.disk_faults bay.old) 0 ≤ B.disk_faults bay.new }

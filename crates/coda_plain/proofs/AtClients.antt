@@ -132,10 +132,10 @@ module _ (h : Histories) (pool : ℕ → Option Letter) (a : DoAgree h pool) (cl
     reached = λ s v c. at c v (λ ds. (last_of v (h.replicas s v) c).number ≤ (course_of ds).chunks) (a.reached s v c)
         (λ here. let low = a.reached s v c in let more = chunks_more (deeds_in h c v) deed (may_at c v here) in omega (arith, low, more));
     kept = a.kept;
-    settled = λ c v s. at c v (λ ds. In s (settlements_of ds) → IsDecided h.replicas v c s.number s.verdict) (a.settled c v s)
+    settled = λ c v s. at c v (λ ds. In s (settlements_of ds) → IsDecided h.replicas v c s.number s.verdict ⊎ In s (h.learned c v)) (a.settled c v s)
         (λ here i. elim (told_last settlement_at (deeds_in h c v) deed s i) [
           | inl old ↦ a.settled c v s old
-          | inr new ↦ settled_at h.replicas v c (deeds_in h c v) deed s (ruled_at c v here) new
+          | inr new ↦ inl (settled_at h.replicas v c (deeds_in h c v) deed s (ruled_at c v here) new)
         ]);
     sent = λ m c s v number e. let old = a.sent m c s v number e in (old.0, still_frozen c v number s old.0 old.1);
     answered = a.answered;

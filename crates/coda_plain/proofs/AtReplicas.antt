@@ -120,7 +120,7 @@ module _ (h : Histories) (pool : ℕ → Option Letter) (a : DoAgree h pool) (re
               (kept_at h pool a replicas s v c entry (mets s v more.0) (stays v c)
               (λ d i. subst (λ (es : List ReplicaEntry). In d (decisions_of v es)) (sym more.1) (told_new (decision_at v) (h.replicas s v) entry d i))))
         ];
-        settled = λ c v s i. stays v c s.number s.verdict (a.settled c v s i);
+        settled = λ c v s i. elim (a.settled c v s i) [ inl decided ↦ inl (stays v c s.number s.verdict decided) | inr told ↦ inr told ];
         sent = a.sent;
         answered = λ m s c v n verdict e. stays v c n verdict (a.answered m s c v n verdict e);
       }

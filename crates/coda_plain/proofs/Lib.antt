@@ -18,3 +18,4 @@ pub mod Running
 pub mod Example
 pub mod Parting
 pub mod Following
+pub mod Elsewhere

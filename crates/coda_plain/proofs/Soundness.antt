@@ -321,18 +321,22 @@ fresh_root_is volume fid m = elim (fid_cases fid (root_of volume)) [
   | inr off ↦ absurd (false≢true (sym (ap is_some (get_else fids_total exact_fids map.empty (root_of volume) fresh_root fid off ∙ map.get-empty fid_cmp fid)) ∙ m))
 ]
 
+-- what a fresh volume holds was made
+pub root_made : (volume : ℕ) (deeds : List Deed) (fid : Fid) → has (fresh volume).nodes fid ≡ true → IsMade volume deeds fid
+root_made volume deeds fid m = let is = fresh_root_is volume fid m in (ap (λ (f : Fid). f.volume) is, inl (ap (λ (f : Fid). f.vnode) is))
+
 empty_sound : IsSound empty_cell
 empty_sound = record {
   clients_up = λ c up. refl;
   replicas_up = λ s v up. refl;
   agree = λ joins.
-      let nothing : Histories = record { clients = λ c. []; replicas = λ s v. [] } in
-      let is : nothing ≡ found_in empty_cell joins = λ i. record { clients = λ c. sym (empty_joined (joins.clients c)) i; replicas = λ s v. sym (empty_joined (joins.replicas s v)) i } in
+      let nothing : Histories = record { clients = λ c. []; replicas = λ s v. []; learned = λ c v. [] } in
+      let is : nothing ≡ found_in empty_cell joins = λ i. record { clients = λ c. sym (empty_joined (joins.clients c)) i; replicas = λ s v. sym (empty_joined (joins.replicas s v)) i; learned = λ c v. [] } in
       subst (λ (h : Histories). DoAgree h empty_cell.pool) is (record {
         lawful = λ c v. tt;
         ruled = λ s v. tt;
         made = λ c v rec i. absurd i;
-        held = λ s v fid m. let is = fresh_root_is v fid m in (ap (λ (f : Fid). f.volume) is, inl (ap (λ (f : Fid). f.vnode) is));
+        held = λ s v fid m. root_made v [] fid m;
         frozen = λ s v d i. absurd i;
         reached = λ s v c. omega arith;
         kept = λ s v c some. (let no : ⊥ = omega (arith, some) in absurd no);

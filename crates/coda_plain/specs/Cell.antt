@@ -1,9 +1,9 @@
--- The plain cell: the history of each actor, the entry whose append failed, and the letters in the pool.
+-- The plain cell: the history of each actor, the entry whose append failed, the letters in the pool, and what clients learned elsewhere.
 use Rattle.std.specs.Prelude.{ℕ, Bool, true, false, ◌==◌, if◌then◌else◌, Option, Some, None, List, [], ◌∷◌, ◌++◌}
 use Rattle.coda_fid.specs.declared.fid.Fid.{Fid}
 use Rattle.coda_tree.specs.declared.node.Node.{Node}
 use Rattle.coda_certify.specs.declared.verdict.Verdict.{Verdict}
-use Rattle.coda_plain.specs.Deeds.{Deed}
+use Rattle.coda_plain.specs.Deeds.{Deed, Settlement}
 use Rattle.coda_plain.specs.Decisions.{ReplicaEntry}
 
 -- an entry of a client's history
@@ -39,18 +39,21 @@ pub record Actor (E : Type 0) : Type 0 where
   pub failed : Option E
   pub up : Bool
 
+-- The actors, the letters and how many were posted; and of each client and volume what the client learned of chunks that were decided by replicas which are
+-- none of this cell's: their disks stand where no line has made the volume again.
 pub record PlainCell : Type 0 where
   pub clients : ℕ → Actor ClientEntry
   pub replicas : ℕ → ℕ → Actor ReplicaEntry
   pub pool : ℕ → Option Letter
   pub posted : ℕ
+  pub learned : ℕ → ℕ → List Settlement
 
 -- an actor that did nothing
 abbrev pub new_actor : {E : Type 0} → Actor E
 new_actor = record { history = []; failed = None; up = true }
 
 abbrev pub empty_cell : PlainCell
-empty_cell = record { clients = λ client. new_actor; replicas = λ server volume. new_actor; pool = λ message. None; posted = 0 }
+empty_cell = record { clients = λ client. new_actor; replicas = λ server volume. new_actor; pool = λ message. None; posted = 0; learned = λ client volume. [] }
 
 -- ---- the histories that recoveries may find
 
@@ -63,10 +66,11 @@ joined_to history false failed = history
 abbrev pub found : {E : Type 0} → Bool → Actor E → List E
 found joins actor = joined_to actor.history joins actor.failed
 
--- the histories of all actors
+-- the histories of all actors, and what clients learned of replicas that are none of these
 pub record Histories : Type 0 where
   pub clients : ℕ → List ClientEntry
   pub replicas : ℕ → ℕ → List ReplicaEntry
+  pub learned : ℕ → ℕ → List Settlement
 
 -- which of the failed entries join
 pub record Joins : Type 0 where
@@ -77,4 +81,5 @@ abbrev pub found_in : PlainCell → Joins → Histories
 found_in cell joins = record {
   clients = λ client. found (joins.clients client) (cell.clients client);
   replicas = λ server volume. found (joins.replicas server volume) (cell.replicas server volume);
+  learned = cell.learned;
 }

@@ -34,10 +34,11 @@ LogsGoOn = (deeds : List Deed) (deed : Deed) → AreLawful deeds → MayDo deeds
 abbrev pub IsRecovered : {E : Type 0} → Actor E → List E → Type 0
 IsRecovered {E} old history = (history ≡ old.history) ⊎ ((entry : E) × (old.failed ≡ Some entry) × (history ≡ old.history ++ entry ∷ []))
 
--- Whatever happens, no history loses an entry that it has: each begins with what it was.
+-- Whatever happens, no history loses an entry that it has: each begins with what it was. What was learned of other replicas is what it was.
 pub record HistoriesStay : Type 0 where
   pub clients : (moves : List Move) (old new : PlainCell) → Moved old moves new → (client : ℕ) → BeginsWith (new.clients client).history (old.clients client).history
   pub replicas : (moves : List Move) (old new : PlainCell) → Moved old moves new → (server volume : ℕ) → BeginsWith (new.replicas server volume).history (old.replicas server volume).history
+  pub learned : (moves : List Move) (old new : PlainCell) → Moved old moves new → new.learned ≡ old.learned
   pub client_recovers : (cell : PlainCell) (client : ℕ) (joins : Bool) → IsRecovered (cell.clients client) ((after cell (Recovers (TheClient client) joins)).clients client).history
   pub replica_recovers : (cell : PlainCell) (server volume : ℕ) (joins : Bool) → IsRecovered (cell.replicas server volume) ((after cell (Recovers (TheReplica server volume) joins)).replicas server volume).history
 

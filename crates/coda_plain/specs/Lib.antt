@@ -7,3 +7,4 @@ pub mod Logs
 pub mod Sound
 pub mod Laws
 pub mod Promises
+pub mod Elsewhere

@@ -1,5 +1,5 @@
 -- What holds of the histories of a cell together, whichever of the failed entries join.
-use Rattle.std.specs.Prelude.{◌≡◌, ℕ, ◌<◌, ◌≤◌, true, Option, Some, None, List}
+use Rattle.std.specs.Prelude.{◌≡◌, ◌⊎◌, ℕ, ◌<◌, ◌≤◌, true, Option, Some, None, List}
 use Rattle.coda_fid.specs.declared.fid.Fid.{Fid}
 use Rattle.coda_fid.specs.declared.op.Record.{Record}
 use Rattle.coda_tree.specs.Volume.{has}
@@ -43,8 +43,8 @@ pub record DoAgree (h : Histories) (pool : ℕ → Option Letter) : Type 0 where
   -- each last verdict that is kept is that of a decision
   pub kept : (server volume client : ℕ) → 0 < (last_of volume (h.replicas server volume) client).number
       → IsDecided h.replicas volume client (last_of volume (h.replicas server volume) client).number (last_of volume (h.replicas server volume) client).verdict
-  -- each settlement has the verdict of a decision
-  pub settled : (client volume : ℕ) (s : Settlement) → In s (settlements_of (deeds_in h client volume)) → IsDecided h.replicas volume client s.number s.verdict
+  -- each settlement has the verdict of a decision, or was learned of a replica that is none of these
+  pub settled : (client volume : ℕ) (s : Settlement) → In s (settlements_of (deeds_in h client volume)) → IsDecided h.replicas volume client s.number s.verdict ⊎ In s (h.learned client volume)
   -- each letter with a chunk is of one that was frozen for its server
   pub sent : (message client server volume number : ℕ) → pool message ≡ Some (ChunkSent client server volume number) → (span : List Record) × HasFrozen h client volume number server span
   -- each letter with a verdict is of a decision

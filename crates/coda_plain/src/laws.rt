@@ -1,4 +1,5 @@
 // What holds of plain cells and of all their runs.
+ghost use Rattle.coda_plain.specs.Elsewhere.{ReplicasStandElsewhere};
 ghost use Rattle.coda_plain.specs.Laws.{MovesKeepSound, RunsAreSound, SoundCellsArePromised, LogsGoOn, HistoriesStay, NextObjectsAreFresh, FreezesPartTheLog, MovesRun, SomeChunkIsSettled};
 
 /// A law of cells: what may happen keeps one sound.
@@ -49,4 +50,10 @@ pub fn some_chunk_is_settled()
 /// what it leaves of the rest.
 pub fn freezes_part_the_log()
     ensures { FreezesPartTheLog }
+{}
+
+/// A law of replicas whose disks stand where no line has made their volumes: histories agree when such replicas go, what is learned of
+/// them meanwhile stays told, and they agree when one comes again, however far the clients' histories went on.
+pub fn replicas_stand_elsewhere()
+    ensures { ReplicasStandElsewhere }
 {}

@@ -24,3 +24,4 @@ pub mod Found
 pub mod Foreign
 pub mod NeverCame
 pub mod WhoCame
+pub mod Held

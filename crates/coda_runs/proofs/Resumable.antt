@@ -22,7 +22,7 @@ use Rattle.coda_stored.specs.Resuming.{at_rest, Awaited, ClientAgain, VolumeAgai
 use Rattle.coda_stored.proofs.Acting.{UpClient, UpReplica, IsActed, tasks_acted, send_acted, delivers_acted, loses_acted, tick_acted, link_acted, nothing_acted}
 use Rattle.coda_stored.proofs.Entering.{IsBy, AreBy, by_parts}
 use Rattle.coda_stored.proofs.Resuming.{awaited_stay}
-use Rattle.coda_stored.proofs.Sides.{AreClean, clean_in}
+use Rattle.coda_stored.proofs.Sides.{AreClean, actors_kept, clean_in}
 use Rattle.coda_runs.specs.Later.{areas_of, CanBeResumed, WhatRanCanBeResumed}
 use Rattle.coda_runs.specs.Runs.{LineGives}
 use Rattle.coda_runs.proofs.Running.{gives_kept}
@@ -347,7 +347,7 @@ is_none (Some n) e = cc
 
 module _ (old : StoredCell) (kept : IsStoredKept old) (reply : Reply) (outside : List (List ℕ)) (new : StoredCell) (can : CanBeResumed old) where
   clean : AreClean old.made.acted
-  clean = clean_in old kept
+  clean = clean_in old (actors_kept old kept)
 
   unless_can : (o : Option Refused) (own : Becoming) → (o ≡ None → own reply outside new → CanBeResumed new) → Unless old o own reply outside new → CanBeResumed new
   unless_can (Some why) own rest does = subst CanBeResumed (sym does.2) can

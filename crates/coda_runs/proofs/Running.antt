@@ -7,7 +7,8 @@ use Rattle.coda_script.specs.declared.line.Line.{Line}
 use Rattle.coda_script.specs.Lines.{line_of}
 use Rattle.coda_script.specs.Ranges.{InRange}
 use Rattle.coda_script.proofs.WholeLines.{is_found, is_in_range}
-use Rattle.coda_plain.specs.Deeds.{pending_of}
+use Rattle.coda_plain.specs.Deeds.{Settlement, pending_of}
+use Rattle.coda_plain.specs.Histories.{In}
 use Rattle.coda_plain.specs.Logs.{front_by}
 use Rattle.coda_plain.specs.Moves.{done_on}
 use Rattle.coda_plain.specs.Promises.{ArePromised}
@@ -21,8 +22,9 @@ use Rattle.coda_stored.specs.Cells.{StoredCell, nothing_stored}
 use Rattle.coda_stored.specs.Kept.{whole, IsStoredKept}
 use Rattle.coda_stored.specs.Lines.{is_built}
 use Rattle.coda_stored.proofs.Keeping.{stored_cells_are_kept, stored_cells_are_promised}
+use Rattle.coda_runs.proofs.Beginning.{runs_begin}
 use Rattle.coda_runs.specs.Runs.{LineGives, LineRefused}
-use Rattle.coda_runs.specs.Headline.{histories_of, IsOfPending, HasRun, ScriptsRun, ChunksAreDecidedOnce, CertifiedChunksAreApplied, ConflictsNameASentRecord, OperationsAreKept, SettlementsAreDecided, LogsArePending}
+use Rattle.coda_runs.specs.Headline.{histories_of, IsOfPending, HasRun, ScriptsRun, ScriptsLearnOfTheirOwn, ChunksAreDecidedOnce, CertifiedChunksAreApplied, ConflictsNameASentRecord, OperationsAreKept, SettlementsAreDecided, LogsArePending}
 
 -- ---- one line
 
@@ -53,7 +55,7 @@ always_kept ls report outside cell run = runs_kept nothing_stored cell ls report
 
 -- ---- what runs leave
 
-of_pending : (cell : MadeCell) (client volume : ℕ) (c : ClientState) → IsKept cell → (state_of cell).clients client ≡ Some c → IsOfPending cell client volume c
+pub of_pending : (cell : MadeCell) (client volume : ℕ) (c : ClientState) → IsKept cell → (state_of cell).clients client ≡ Some c → IsOfPending cell client volume c
 of_pending cell client volume c kept is =
     let there = client_there cell kept client c is in
     let deeds = done_on cell.acted client volume in
@@ -94,12 +96,18 @@ pub conflicts_name_a_sent_record : ConflictsNameASentRecord
 conflicts_name_a_sent_record ls report outside cell run server volume d refused why decides conflict =
     ((promised ls report outside cell run).just server volume d decides).conflict refused why conflict
 
+pub scripts_learn_of_their_own : ScriptsLearnOfTheirOwn
+scripts_learn_of_their_own ls report outside cell run client volume = ap (λ (f : ℕ → ℕ → List Settlement). f client volume) (runs_begin nothing_stored cell ls report outside run).learned
+
 pub operations_are_kept : OperationsAreKept
-operations_are_kept ls report outside cell run client volume = (promised ls report outside cell run).kept client volume
+operations_are_kept ls report outside cell run client volume = (promised ls report outside cell run).kept client volume (scripts_learn_of_their_own ls report outside cell run client volume)
 
 pub settlements_are_decided : SettlementsAreDecided
 settlements_are_decided ls report outside cell run client volume s i =
-    (((always_kept ls report outside cell run).kept none_joins).sound.agree none_joins).settled client volume s i
+    elim ((((always_kept ls report outside cell run).kept none_joins).sound.agree none_joins).settled client volume s i) [
+      | inl decided ↦ decided
+      | inr told ↦ absurd (subst (In s) (scripts_learn_of_their_own ls report outside cell run client volume) told)
+    ]
 
 pub logs_are_pending : LogsArePending
 logs_are_pending ls report outside cell run client volume c is = (scripts_run ls report outside cell run).logs client volume c is

@@ -29,7 +29,12 @@ abbrev pub histories_of : StoredCell → Histories
 histories_of cell = record {
   clients = λ client. (cell.made.acted.clients client).history;
   replicas = λ server volume. (cell.made.acted.replicas server volume).history;
+  learned = cell.made.acted.learned;
 }
+
+-- clients learned of none but the cell's own replicas
+abbrev pub LearnedOfItsOwn : StoredCell → Type 0
+LearnedOfItsOwn cell = (client volume : ℕ) → cell.made.acted.learned client volume ≡ []
 
 -- A client's log of a volume, of the operations that no chunk applied: the chunk that is on its way is what cancellation leaves of its own
 -- operations, the first of them, and the other records are what it leaves of the rest. No chunk is on its way exactly where none is frozen.
@@ -52,6 +57,10 @@ Always Holds = (ls : List (List ℕ)) (report : List ℕ) (outside : List (List 
 -- Whatever lines ran, the cell is a run from nothing.
 abbrev pub ScriptsRun : Type 0
 ScriptsRun = Always HasRun
+
+-- Whatever lines ran, clients learned of none but the cell's own replicas.
+abbrev pub ScriptsLearnOfTheirOwn : Type 0
+ScriptsLearnOfTheirOwn = Always LearnedOfItsOwn
 
 -- Each chunk of a client on a volume is decided at most once, over all replicas of the volume.
 abbrev pub ChunksAreDecidedOnce : Type 0

@@ -10,3 +10,4 @@ pub mod Shown
 pub mod Causes
 pub mod Later
 pub mod NeverCame
+pub mod Held

@@ -3,7 +3,8 @@ ghost use Rattle.coda_engine.specs.Exact.{CleanScriptsRun, OneStatus};
 ghost use Rattle.coda_stored.specs.Cells.{nothing_stored};
 ghost use Rattle.coda_runs.specs.Causes.{RefusalsHaveCauses};
 ghost use Rattle.coda_runs.specs.Complete.{ScriptsInGrammarAreClean};
-ghost use Rattle.coda_runs.specs.Headline.{ScriptsRun, ChunksAreDecidedOnce, CertifiedChunksAreApplied, ConflictsNameASentRecord, OperationsAreKept, SettlementsAreDecided, LogsArePending, AcknowledgedEntriesStay, ClientsComeBack, ReplicasComeBack};
+ghost use Rattle.coda_runs.specs.Headline.{ScriptsLearnOfTheirOwn, ScriptsRun, ChunksAreDecidedOnce, CertifiedChunksAreApplied, ConflictsNameASentRecord, OperationsAreKept, SettlementsAreDecided, LogsArePending, AcknowledgedEntriesStay, ClientsComeBack, ReplicasComeBack};
+ghost use Rattle.coda_runs.specs.Held.{HeldRunsGoOn, WhatRanIsHeld};
 ghost use Rattle.coda_runs.specs.Later.{LaterRunsGoOn, OwnDisksAreNotForeign, WhatIsMadeAgainIsCounted, WhatOthersHoldIsKept, WhatRanCanBeResumed};
 ghost use Rattle.coda_runs.specs.Lettered.{RepliesNameLetters, LettersSayWhatIsSo, LettersHaveEnds};
 ghost use Rattle.coda_runs.specs.NeverCame.{LettersAreOfThoseWhoCame, WhoNeverCameIsAsItWas};
@@ -196,4 +197,22 @@ pub fn who_never_came_is_as_it_was()
 /// and its server came, so that no letter is refused for an actor that isn't there.
 pub fn letters_are_of_those_who_came()
     ensures { LettersAreOfThoseWhoCame }
+{}
+
+/// Over the disks that an earlier run left, whatever lines come, and in whatever order they make actors: what the run
+/// reaches keeps what is promised, each client begins with the history that its disk had, and each log is what
+/// cancellation leaves of what is pending. A volume that is made on another disk than its own begins anew there, beside
+/// its own disk, and what clients settled with that one stays settled.
+pub fn held_runs_go_on()
+    ensures { HeldRunsGoOn }
+{}
+
+/// Whatever lines ran from an empty cell, clients learned of none but its own replicas.
+pub fn scripts_learn_of_their_own()
+    ensures { ScriptsLearnOfTheirOwn }
+{}
+
+/// Whatever lines ran from an empty cell, a run can begin over the disks that it left, whatever that one makes again.
+pub fn what_ran_is_held()
+    ensures { WhatRanIsHeld }
 {}

@@ -34,3 +34,4 @@ pub mod NewLines
 pub mod Counting
 pub mod Foreigners
 pub mod Finding
+pub mod Begun

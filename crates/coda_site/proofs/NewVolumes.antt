@@ -18,6 +18,7 @@ use Rattle.coda_stored.specs.Cells.{Side, StoredCell, plain_replica, replica_hea
 use Rattle.coda_stored.specs.Kept.{IsArea, IsReplicaSide, IsStoredKept}
 use Rattle.coda_stored.specs.Lines.{Unless, Opens, no_volume, with_volume, refused_fault}
 use Rattle.coda_stored.proofs.Making.{volume_kept}
+use Rattle.coda_stored.proofs.Sides.{actors_kept, with_idle}
 use Rattle.coda_site.specs.Cells.{AreOnDisks}
 use Rattle.coda_site.specs.NewActors.{with_new_volume, NewVolumesMayCome}
 use Rattle.coda_site.specs.Sites.{is_replica_disk, AreReplicas}
@@ -52,9 +53,10 @@ module _ (cell : StoredCell) (volume server area : ℕ) (kept : IsStoredKept cel
 
   came_kept : 1 ≤ volume → IsStoredKept new
   came_kept one = kept_mounted (with_new_volume bare volume server area) (cell.areas + area)
-      (volume_kept bare volume server area refused_fault [] (with_new_volume bare volume server area) (kept_mounted cell 0 kept) sized one from upto
+      (with_idle bare (with_new_volume bare volume server area) (kept_mounted cell 0 kept)
+      (volume_kept bare volume server area refused_fault [] (with_new_volume bare volume server area) (actors_kept bare (kept_mounted cell 0 kept)) sized one from upto
       (subst (λ o. Unless bare o (Opens bare (replica_header volume server area) (with_volume bare volume server area) (TheReplica server volume)) refused_fault [] (with_new_volume bare volume server area)) (sym none_refused)
-      (refl, inr (None, inl refl, refl, refl))))
+      (refl, inr (None, inl refl, refl, refl)))) refl)
 
   -- ---- its disk is no other's, and holds nothing
 

@@ -31,7 +31,7 @@ rest plain = record { disk = plain.disk; life = Unmade; left = None }
 pub rests_at_entry : {A D : Type 0} (form : Form A D) (of : ℕ → Bool) (has : ℕ → Told) (plain : ℕ → PlainActor form.Entry) → StandsAll form of has plain → IsAtEntry form of has (λ k. rest (plain k))
 rests_at_entry form of has plain stands k own = (refl, refl, stands k own)
 
-client_waits : (n : ℕ) (o : Option ℕ) (b : Bool) (actor : Actor ClientEntry) (side : Side) → IsClientSide n o actor side → ((blocks : ℕ) → o ≡ Some blocks → b ≡ true) → rest (plain_client actor side) ≡ plain_client (stopped o actor) (asleep b (forgotten side))
+pub client_waits : (n : ℕ) (o : Option ℕ) (b : Bool) (actor : Actor ClientEntry) (side : Side) → IsClientSide n o actor side → ((blocks : ℕ) → o ≡ Some blocks → b ≡ true) → rest (plain_client actor side) ≡ plain_client (stopped o actor) (asleep b (forgotten side))
 client_waits n None true actor side is waits = refl
 client_waits n None false actor side is waits =
     (λ i. record { disk = (plain_client actor side).disk; life = life_of (sym (ap (λ (s : Side). s.asked) is.0) i) actor.up; left = None })

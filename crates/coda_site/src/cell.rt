@@ -7,6 +7,7 @@ ghost use Rattle.coda_cell.specs.Cells.{volume_at};
 ghost use Rattle.coda_cell.specs.Made.{state_of};
 ghost use Rattle.coda_cell.specs.State.{ClientState, log_of, new_volume};
 ghost use Rattle.coda_stored.specs.Cells.{StoredCell, nothing_stored};
+ghost use Rattle.coda_stored.specs.Held.{IsHeld, begun_from};
 ghost use Rattle.coda_stored.specs.Kept.{IsStoredKept};
 ghost use Rattle.coda_stored.specs.Seen.{mounts_none, IsSeen};
 ghost use Rattle.coda_stored.specs.Lines.{is_built, Happens, client_down, replica_down};
@@ -65,6 +66,7 @@ impl<B: Bay> Cell<B> {
         ensures stands { AreBlank (B.has result.bay) → IsSite B.D.told (B.out result.bay) (B.has result.bay) nothing_stored result.site }
         ensures waits { (cell : StoredCell) (lines : List Awaited) → IsStoredKept cell → MakeAllAgain cell lines → AreOnDisks B.D.told (B.has result.bay) cell
             → IsAwaiting B.D.told (B.out result.bay) (B.has result.bay) (at_rest cell) lines result.site }
+        ensures begins { (cell : StoredCell) (held : IsHeld cell) → AreOnDisks B.D.told (B.has result.bay) cell → IsSite B.D.told (B.out result.bay) (B.has result.bay) (begun_from cell held) result.site }
         ensures counts { totals B.D.told B.D.faults B.D.arms (B.disk_faults result.bay) (B.disk_arms result.bay) result.site ≡ record { faults = plus (B.disk_faults bay) 0; arms = plus (B.disk_arms bay) 0 } }
     {
         let clients = unmade(alloc, &bay);

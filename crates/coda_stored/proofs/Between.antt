@@ -20,7 +20,7 @@ meanwhile_kept old new left said reply outside kept range m = elim m.happens [
   | inr same ↦ subst IsStoredKept (sym same) kept
 ]
 
-meanwhile_begins : (old new : StoredCell) (left : List Awaited) (said : Line) (reply : Reply) (outside : List (List ℕ)) → Meanwhile old left said reply outside new → Begins new old
+pub meanwhile_begins : (old new : StoredCell) (left : List Awaited) (said : Line) (reply : Reply) (outside : List (List ℕ)) → Meanwhile old left said reply outside new → Begins new old
 meanwhile_begins old new left said reply outside m = elim m.happens [
   | inl happens ↦ entries_stay old new said reply outside happens
   | inr same ↦ subst (λ (c : StoredCell). Begins c old) (sym same) (begins_same old)

@@ -11,7 +11,7 @@ use Rattle.coda_cell.specs.Runs.{IsKept}
 use Rattle.coda_cell.specs.Steps.{Named, client_named, holder_named, first_missing}
 use Rattle.coda_cell.specs.Refused.{Refused}
 use Rattle.coda_stored.specs.Cells.{Side, StoredCell, replica_header, moved}
-use Rattle.coda_stored.specs.Kept.{IsGiven, IsClientSide, IsReplicaSide, IsStoredKept}
+use Rattle.coda_stored.specs.Kept.{IsGiven, IsClientSide, IsReplicaSide, IsCellKept}
 use Rattle.coda_stored.specs.Lines.{Becoming, Unless, with_client_side, with_replica_side, CrashesClient, CrashesReplica, recovered_side, IsRefused, RecoversClient, RecoversReplica}
 use Rattle.coda_stored.proofs.Acting.{holder_home}
 use Rattle.coda_stored.proofs.Sides.{clean_in, sided_in, stored_kept, goes_crashed, goes_recovered, alone_crashed, alone_recovered, clean_client, clean_replica, sided_client, sided_replica}
@@ -58,10 +58,10 @@ replica_side volume (Some home) actors old new server there asks goes (area, siz
     same : Some home ≡ Some server → home ≡ server
     same e = cc
 
-module _ (cell : StoredCell) (kept : IsStoredKept cell) where
+module _ (cell : StoredCell) (kept : IsCellKept cell) where
   pub client_sided : (client blocks : ℕ) (side : Side) → cell.made.sizes client ≡ Some blocks → side.asked ≡ (cell.clients client).asked
       → ((header : Header) → (cell.clients client).asked ≡ Some header → IsGiven (cell.clients client).given header (cell.made.acted.clients client) → IsGiven side.given header (cell.made.acted.clients client))
-      → IsStoredKept (with_client_side cell client side)
+      → IsCellKept (with_client_side cell client side)
   client_sided client blocks side there asks goes = stored_kept (with_client_side cell client side) (clean_in cell kept) kept.kept (record {
     clients = λ c. elim (c == client) as (λ b. (c == client) ≡ b → IsClientSide c (cell.made.sizes c) (cell.made.acted.clients c) (cond b side (cell.clients c))) [
       | true ↦ λ e. subst (λ n. IsClientSide n (cell.made.sizes n) (cell.made.acted.clients n) side) (sym (eqb-true c client e))
@@ -71,12 +71,11 @@ module _ (cell : StoredCell) (kept : IsStoredKept cell) where
     replicas = kept.replicas;
     placed = kept.placed;
     apart = kept.apart;
-    idle = kept.idle;
   })
 
   pub replica_sided : (server volume : ℕ) (side : Side) → cell.made.homes volume ≡ Some server → side.asked ≡ (cell.replicas volume).asked
       → ((header : Header) → (cell.replicas volume).asked ≡ Some header → IsGiven (cell.replicas volume).given header (cell.made.acted.replicas server volume) → IsGiven side.given header (cell.made.acted.replicas server volume))
-      → IsStoredKept (with_replica_side cell volume side)
+      → IsCellKept (with_replica_side cell volume side)
   replica_sided server volume side there asks goes = stored_kept (with_replica_side cell volume side) (clean_in cell kept) kept.kept (record {
     clients = kept.clients;
     replicas = λ v. elim (v == volume) as (λ b. (v == volume) ≡ b → IsReplicaSide v (cell.made.homes v) (λ s. cell.made.acted.replicas s v) (cond b side (cell.replicas v))) [
@@ -86,12 +85,11 @@ module _ (cell : StoredCell) (kept : IsStoredKept cell) where
     ] refl;
     placed = kept.placed;
     apart = kept.apart;
-    idle = kept.idle;
   })
 
   -- ---- an actor crashes, or is recovered
 
-  pub client_crashed : (client blocks : ℕ) → cell.made.sizes client ≡ Some blocks → IsStoredKept (moved cell (Crashes (TheClient client)))
+  pub client_crashed : (client blocks : ℕ) → cell.made.sizes client ≡ Some blocks → IsCellKept (moved cell (Crashes (TheClient client)))
   client_crashed client blocks there =
       let clean = clean_in cell kept in
       let sided = sided_in cell kept in
@@ -99,7 +97,7 @@ module _ (cell : StoredCell) (kept : IsStoredKept cell) where
       stored_kept (moved cell (Crashes (TheClient client))) (clean_client cell clean sided client actor (λ up. cc)) (λ joins. subst IsKept (sym (whole_crashed_client cell.made joins client)) (kept.kept joins))
       (sided_client cell clean sided client blocks actor there (goes_crashed (cell.clients client).given (cell.made.acted.clients client)))
 
-  pub replica_crashed : (server volume : ℕ) → cell.made.homes volume ≡ Some server → IsStoredKept (moved cell (Crashes (TheReplica server volume)))
+  pub replica_crashed : (server volume : ℕ) → cell.made.homes volume ≡ Some server → IsCellKept (moved cell (Crashes (TheReplica server volume)))
   replica_crashed server volume there =
       let clean = clean_in cell kept in
       let sided = sided_in cell kept in
@@ -107,7 +105,7 @@ module _ (cell : StoredCell) (kept : IsStoredKept cell) where
       stored_kept (moved cell (Crashes (TheReplica server volume))) (clean_replica cell clean sided server volume actor (λ up. cc) (alone_crashed (cell.made.acted.replicas server volume) (clean.alone server volume))) (λ joins. subst IsKept (sym (whole_crashed_replica cell.made joins server volume)) (kept.kept joins))
       (sided_replica cell clean sided server volume actor there (goes_crashed (cell.replicas volume).given (cell.made.acted.replicas server volume)))
 
-  pub client_recovered : (client blocks : ℕ) (header : Header) (joins : Bool) → cell.made.sizes client ≡ Some blocks → (cell.clients client).given ≡ Some header → IsStoredKept (moved cell (Recovers (TheClient client) joins))
+  pub client_recovered : (client blocks : ℕ) (header : Header) (joins : Bool) → cell.made.sizes client ≡ Some blocks → (cell.clients client).given ≡ Some header → IsCellKept (moved cell (Recovers (TheClient client) joins))
   client_recovered client blocks header joins there given =
       let clean = clean_in cell kept in
       let sided = sided_in cell kept in
@@ -116,7 +114,7 @@ module _ (cell : StoredCell) (kept : IsStoredKept cell) where
       (λ late. subst IsKept (sym (whole_recovered_client cell.made late client joins)) (kept.kept (client_joins late client joins)))
       (sided_client cell clean sided client blocks actor there (goes_recovered (cell.clients client).given header (cell.made.acted.clients client) joins given))
 
-  pub replica_recovered : (server volume : ℕ) (header : Header) (joins : Bool) → cell.made.homes volume ≡ Some server → (cell.replicas volume).given ≡ Some header → IsStoredKept (moved cell (Recovers (TheReplica server volume) joins))
+  pub replica_recovered : (server volume : ℕ) (header : Header) (joins : Bool) → cell.made.homes volume ≡ Some server → (cell.replicas volume).given ≡ Some header → IsCellKept (moved cell (Recovers (TheReplica server volume) joins))
   replica_recovered server volume header joins there given =
       let clean = clean_in cell kept in
       let sided = sided_in cell kept in
@@ -128,8 +126,8 @@ module _ (cell : StoredCell) (kept : IsStoredKept cell) where
 -- ---- lines
 
 -- a refusal, by which nothing changes, or else
-pub unless_kept : (old : StoredCell) (o : Option Refused) (own : Becoming) (reply : Reply) (outside : List (List ℕ)) (new : StoredCell) → IsStoredKept old → (o ≡ None → own reply outside new → IsStoredKept new) → Unless old o own reply outside new → IsStoredKept new
-unless_kept old (Some why) own reply outside new kept rest does = subst IsStoredKept (sym does.2) kept
+pub unless_kept : (old : StoredCell) (o : Option Refused) (own : Becoming) (reply : Reply) (outside : List (List ℕ)) (new : StoredCell) → IsCellKept old → (o ≡ None → own reply outside new → IsCellKept new) → Unless old o own reply outside new → IsCellKept new
+unless_kept old (Some why) own reply outside new kept rest does = subst IsCellKept (sym does.2) kept
 unless_kept old None own reply outside new kept rest does = rest refl does
 
 -- the header that was asked for is given
@@ -140,63 +138,63 @@ is_given o header asked (Some other) actor is e asks = (let same : Some header �
 put_here : {A : Type 0} (f : ℕ → A) (k : ℕ) (x : A) → cond (k == k) x (f k) ≡ x
 put_here f k x = ap (λ b. cond b x (f k)) (eq-eqb k k refl)
 
-module _ (old : StoredCell) (kept : IsStoredKept old) (reply : Reply) (outside : List (List ℕ)) (new : StoredCell) where
-  pub crashes_client : (client blocks : ℕ) → old.made.sizes client ≡ Some blocks → CrashesClient old client reply outside new → IsStoredKept new
-  crashes_client client blocks there does = subst IsStoredKept (sym does.4)
+module _ (old : StoredCell) (kept : IsCellKept old) (reply : Reply) (outside : List (List ℕ)) (new : StoredCell) where
+  pub crashes_client : (client blocks : ℕ) → old.made.sizes client ≡ Some blocks → CrashesClient old client reply outside new → IsCellKept new
+  crashes_client client blocks there does = subst IsCellKept (sym does.4)
       (client_sided (moved old (Crashes (TheClient client))) (client_crashed old kept client blocks there) client blocks (record (old.clients client) { left = Some does.0 }) there refl (λ header asked given. given))
 
-  pub crashes_replica : (server volume : ℕ) → old.made.homes volume ≡ Some server → CrashesReplica old server volume reply outside new → IsStoredKept new
-  crashes_replica server volume there does = subst IsStoredKept (sym does.4)
+  pub crashes_replica : (server volume : ℕ) → old.made.homes volume ≡ Some server → CrashesReplica old server volume reply outside new → IsCellKept new
+  crashes_replica server volume there does = subst IsCellKept (sym does.4)
       (replica_sided (moved old (Crashes (TheReplica server volume))) (replica_crashed old kept server volume there) server volume (record (old.replicas volume) { left = Some does.0 }) there refl (λ header asked given. given))
 
-  client_given : (client blocks : ℕ) (header : Header) (side : Side) → old.made.sizes client ≡ Some blocks → (old.clients client).asked ≡ Some header → side.asked ≡ (old.clients client).asked → side.given ≡ Some header → IsStoredKept (with_client_side old client side)
+  client_given : (client blocks : ℕ) (header : Header) (side : Side) → old.made.sizes client ≡ Some blocks → (old.clients client).asked ≡ Some header → side.asked ≡ (old.clients client).asked → side.given ≡ Some header → IsCellKept (with_client_side old client side)
   client_given client blocks header side there asked asks given =
       client_sided old kept client blocks side there asks (λ other is was. is_given (old.clients client).asked header other side.given (old.made.acted.clients client) asked given is)
 
   client_made_up : (client blocks : ℕ) (header : Header) (joins : Bool) (side : Side) → old.made.sizes client ≡ Some blocks → (old.clients client).asked ≡ Some header → side.asked ≡ (old.clients client).asked → side.given ≡ Some header
-      → IsStoredKept (with_client_side (moved old (Recovers (TheClient client) joins)) client side)
+      → IsCellKept (with_client_side (moved old (Recovers (TheClient client) joins)) client side)
   client_made_up client blocks header joins side there asked asks given =
       client_recovered (with_client_side old client side) (client_given client blocks header side there asked asks given) client blocks header joins there (ap (λ (s : Side). s.given) (put_here old.clients client side) ∙ given)
 
   client_refused : (client blocks : ℕ) (header : Header) (given : Option Header) (mid : StoredCell) (entries : ℕ) → old.made.sizes client ≡ Some blocks → (old.clients client).asked ≡ Some header
-      → IsRefused old (TheClient client) (old.clients client).given header entries given mid → IsStoredKept (with_client_side mid client (record (old.clients client) { given = given }))
+      → IsRefused old (TheClient client) (old.clients client).given header entries given mid → IsCellKept (with_client_side mid client (record (old.clients client) { given = given }))
   client_refused client blocks header given mid entries there asked (inl same) =
-      subst (λ (c : StoredCell). IsStoredKept (with_client_side c client (record (old.clients client) { given = given }))) (sym same.1)
+      subst (λ (c : StoredCell). IsCellKept (with_client_side c client (record (old.clients client) { given = given }))) (sym same.1)
       (client_sided (moved old (Crashes (TheClient client))) (client_crashed old kept client blocks there) client blocks (record (old.clients client) { given = given }) there refl
       (λ other is was. subst (λ g. IsGiven g other ((moved old (Crashes (TheClient client))).made.acted.clients client)) (sym same.0) was))
   client_refused client blocks header given mid entries there asked (inr next) =
-      subst (λ (c : StoredCell). IsStoredKept (with_client_side c client (record (old.clients client) { given = given }))) (sym next.2)
+      subst (λ (c : StoredCell). IsCellKept (with_client_side c client (record (old.clients client) { given = given }))) (sym next.2)
       (client_crashed (with_client_side (moved old (Recovers (TheClient client) false)) client (record (old.clients client) { given = given }))
       (client_made_up client blocks header false (record (old.clients client) { given = given }) there asked refl next.1) client blocks there)
 
-  pub recovers_client : (client blocks : ℕ) → old.made.sizes client ≡ Some blocks → RecoversClient old client reply outside new → IsStoredKept new
+  pub recovers_client : (client blocks : ℕ) → old.made.sizes client ≡ Some blocks → RecoversClient old client reply outside new → IsCellKept new
   recovers_client client blocks there (none, (header, asked, inl did)) =
-      subst IsStoredKept (sym did.3) (client_made_up client blocks header did.0 (recovered_side (old.clients client) header) there asked refl refl)
+      subst IsCellKept (sym did.3) (client_made_up client blocks header did.0 (recovered_side (old.clients client) header) there asked refl refl)
   recovers_client client blocks there (none, (header, asked, inr did)) =
-      subst IsStoredKept (sym did.4) (client_refused client blocks header did.0 did.1 (length (old.made.acted.clients client).history) there asked did.2)
+      subst IsCellKept (sym did.4) (client_refused client blocks header did.0 did.1 (length (old.made.acted.clients client).history) there asked did.2)
 
-  replica_given : (server volume : ℕ) (header : Header) (side : Side) → old.made.homes volume ≡ Some server → (old.replicas volume).asked ≡ Some header → side.asked ≡ (old.replicas volume).asked → side.given ≡ Some header → IsStoredKept (with_replica_side old volume side)
+  replica_given : (server volume : ℕ) (header : Header) (side : Side) → old.made.homes volume ≡ Some server → (old.replicas volume).asked ≡ Some header → side.asked ≡ (old.replicas volume).asked → side.given ≡ Some header → IsCellKept (with_replica_side old volume side)
   replica_given server volume header side there asked asks given =
       replica_sided old kept server volume side there asks (λ other is was. is_given (old.replicas volume).asked header other side.given (old.made.acted.replicas server volume) asked given is)
 
   replica_made_up : (server volume : ℕ) (header : Header) (joins : Bool) (side : Side) → old.made.homes volume ≡ Some server → (old.replicas volume).asked ≡ Some header → side.asked ≡ (old.replicas volume).asked → side.given ≡ Some header
-      → IsStoredKept (with_replica_side (moved old (Recovers (TheReplica server volume) joins)) volume side)
+      → IsCellKept (with_replica_side (moved old (Recovers (TheReplica server volume) joins)) volume side)
   replica_made_up server volume header joins side there asked asks given =
       replica_recovered (with_replica_side old volume side) (replica_given server volume header side there asked asks given) server volume header joins there (ap (λ (s : Side). s.given) (put_here old.replicas volume side) ∙ given)
 
   replica_refused : (server volume : ℕ) (header : Header) (given : Option Header) (mid : StoredCell) (entries : ℕ) → old.made.homes volume ≡ Some server → (old.replicas volume).asked ≡ Some header
-      → IsRefused old (TheReplica server volume) (old.replicas volume).given header entries given mid → IsStoredKept (with_replica_side mid volume (record (old.replicas volume) { given = given }))
+      → IsRefused old (TheReplica server volume) (old.replicas volume).given header entries given mid → IsCellKept (with_replica_side mid volume (record (old.replicas volume) { given = given }))
   replica_refused server volume header given mid entries there asked (inl same) =
-      subst (λ (c : StoredCell). IsStoredKept (with_replica_side c volume (record (old.replicas volume) { given = given }))) (sym same.1)
+      subst (λ (c : StoredCell). IsCellKept (with_replica_side c volume (record (old.replicas volume) { given = given }))) (sym same.1)
       (replica_sided (moved old (Crashes (TheReplica server volume))) (replica_crashed old kept server volume there) server volume (record (old.replicas volume) { given = given }) there refl
       (λ other is was. subst (λ g. IsGiven g other ((moved old (Crashes (TheReplica server volume))).made.acted.replicas server volume)) (sym same.0) was))
   replica_refused server volume header given mid entries there asked (inr next) =
-      subst (λ (c : StoredCell). IsStoredKept (with_replica_side c volume (record (old.replicas volume) { given = given }))) (sym next.2)
+      subst (λ (c : StoredCell). IsCellKept (with_replica_side c volume (record (old.replicas volume) { given = given }))) (sym next.2)
       (replica_crashed (with_replica_side (moved old (Recovers (TheReplica server volume) false)) volume (record (old.replicas volume) { given = given }))
       (replica_made_up server volume header false (record (old.replicas volume) { given = given }) there asked refl next.1) server volume there)
 
-  pub recovers_replica : (server volume : ℕ) → old.made.homes volume ≡ Some server → RecoversReplica old server volume reply outside new → IsStoredKept new
+  pub recovers_replica : (server volume : ℕ) → old.made.homes volume ≡ Some server → RecoversReplica old server volume reply outside new → IsCellKept new
   recovers_replica server volume there (none, (header, asked, inl did)) =
-      subst IsStoredKept (sym did.3) (replica_made_up server volume header did.0 (recovered_side (old.replicas volume) header) there asked refl refl)
+      subst IsCellKept (sym did.3) (replica_made_up server volume header did.0 (recovered_side (old.replicas volume) header) there asked refl refl)
   recovers_replica server volume there (none, (header, asked, inr did)) =
-      subst IsStoredKept (sym did.4) (replica_refused server volume header did.0 did.1 (length (old.made.acted.replicas server volume).history) there asked did.2)
+      subst IsCellKept (sym did.4) (replica_refused server volume header did.0 did.1 (length (old.made.acted.replicas server volume).history) there asked did.2)

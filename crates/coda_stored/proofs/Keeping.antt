@@ -15,13 +15,14 @@ use Rattle.coda_cell.specs.Runs.{IsKept, MakesNumbered}
 use Rattle.coda_cell.specs.Steps.{client_named, holder_named, on_volume, first_missing, alone}
 use Rattle.coda_cell.proofs.KeptCells.{first_kept}
 use Rattle.coda_stored.specs.Cells.{StoredCell, nothing_stored}
-use Rattle.coda_stored.specs.Kept.{whole, IsArea, IsStoredKept}
+use Rattle.coda_stored.specs.Kept.{whole, IsArea, IsCellKept, IsStoredKept}
 use Rattle.coda_stored.specs.Laws.{StoredCellsAreKept, StoredCellsArePromised}
-use Rattle.coda_stored.specs.Lines.{is_down_for, Acts, Becoming, UnlessDown, area_of, CrashesClient, CrashesReplica, RecoversClient, RecoversReplica, Stays, DoesUp}
+use Rattle.coda_stored.specs.Lines.{is_down_for, Acts, Becoming, UnlessDown, area_of, CrashesClient, CrashesReplica, RecoversClient, RecoversReplica, Stays, DoesUp, Happens}
 use Rattle.coda_stored.proofs.Acting.{IsActed, tasks_acted, send_acted, delivers_acted, loses_acted, tick_acted, link_acted, nothing_acted}
 use Rattle.coda_stored.proofs.Disks.{client_size, holder_is, unless_kept, crashes_client, crashes_replica, recovers_client, recovers_replica}
 use Rattle.coda_stored.proofs.Making.{volume_kept, client_kept}
-use Rattle.coda_stored.proofs.Sides.{AreClean, clean_in}
+use Rattle.coda_stored.proofs.Idling.{happens_idle}
+use Rattle.coda_stored.proofs.Sides.{AreClean, actors_kept, with_idle, clean_in}
 use Rattle.coda_stored.proofs.Stopping.{acts_kept}
 use Rattle.coda_stored.proofs.Wholes.{found_same}
 
@@ -50,28 +51,28 @@ first_stored = record {
 
 -- ---- ranges
 
-area_range : (area : Option ℕ) → IfSome area (IsBetween 1 64) → IsArea (area_of area)
+pub area_range : (area : Option ℕ) → IfSome area (IsBetween 1 64) → IsArea (area_of area)
 area_range None is = (omega arith, omega arith)
 area_range (Some area) is = is
 
-server_alone : (servers : List ℕ) → AreServers servers → IsServer (alone servers)
+pub server_alone : (servers : List ℕ) → AreServers servers → IsServer (alone servers)
 server_alone [] is = absurd is
 server_alone (server ∷ servers) is = is.0
 
 -- ---- lines
 
-down_kept : (b : Bool) (old : StoredCell) (own : Becoming) (reply : Reply) (outside : List (List ℕ)) (new : StoredCell) → IsStoredKept old → (b ≡ false → own reply outside new → IsStoredKept new) → UnlessDown b old own reply outside new → IsStoredKept new
-down_kept true old own reply outside new kept rest does = subst IsStoredKept (sym does.2) kept
+down_kept : (b : Bool) (old : StoredCell) (own : Becoming) (reply : Reply) (outside : List (List ℕ)) (new : StoredCell) → IsCellKept old → (b ≡ false → own reply outside new → IsCellKept new) → UnlessDown b old own reply outside new → IsCellKept new
+down_kept true old own reply outside new kept rest does = subst IsCellKept (sym does.2) kept
 down_kept false old own reply outside new kept rest does = rest refl does
 
-module _ (old : StoredCell) (kept : IsStoredKept old) (reply : Reply) (outside : List (List ℕ)) (new : StoredCell) where
+module _ (old : StoredCell) (kept : IsCellKept old) (reply : Reply) (outside : List (List ℕ)) (new : StoredCell) where
   clean : AreClean old.made.acted
   clean = clean_in old kept
 
-  acted_kept : (said : Line) → MakesNumbered said → (acts : Acts old said reply new) → (acts.events ≡ []) ⊎ IsActed old said acts.own acts.events → IsStoredKept new
+  acted_kept : (said : Line) → MakesNumbered said → (acts : Acts old said reply new) → (acts.events ≡ []) ⊎ IsActed old said acts.own acts.events → IsCellKept new
   acted_kept said numbered acts acted = acts_kept old said acts.own reply acts.events new kept numbered acted acts.ends
 
-  does_kept : (said : Line) → InRange said → is_down_for old said ≡ false → DoesUp old said reply outside new → IsStoredKept new
+  does_kept : (said : Line) → InRange said → is_down_for old said ≡ false → DoesUp old said reply outside new → IsCellKept new
   does_kept (line.Volume volume servers area) (numbered, sized, range) down does =
       let server = server_alone servers sized in
       volume_kept old volume (alone servers) (area_of area) reply outside new kept (area_range area range) numbered.0 server.0 server.1 does
@@ -85,8 +86,8 @@ module _ (old : StoredCell) (kept : IsStoredKept old) (reply : Reply) (outside :
       (λ all did. let size = client_size old client all in recovers_client old kept reply outside new client size.0 size.1 did) does
   does_kept (line.RecoverReplica server volume) range down does = unless_kept old (first_missing (holder_named (state_of old.made) server volume ∷ [])) (RecoversReplica old server volume) reply outside new kept
       (λ all did. recovers_replica old kept reply outside new server volume (holder_is old server volume all) did) does
-  does_kept (line.ArmClient client passes) range down does = unless_kept old (first_missing (client_named (state_of old.made) client ∷ [])) (Stays old replies.Accepted) reply outside new kept (λ all did. subst IsStoredKept (sym did.2) kept) does
-  does_kept (line.ArmReplica server volume passes) range down does = unless_kept old (first_missing (holder_named (state_of old.made) server volume ∷ [])) (Stays old replies.Accepted) reply outside new kept (λ all did. subst IsStoredKept (sym did.2) kept) does
+  does_kept (line.ArmClient client passes) range down does = unless_kept old (first_missing (client_named (state_of old.made) client ∷ [])) (Stays old replies.Accepted) reply outside new kept (λ all did. subst IsCellKept (sym did.2) kept) does
+  does_kept (line.ArmReplica server volume passes) range down does = unless_kept old (first_missing (holder_named (state_of old.made) server volume ∷ [])) (Stays old replies.Accepted) reply outside new kept (λ all did. subst IsCellKept (sym did.2) kept) does
   does_kept (line.Link client server strength) range down does = acted_kept (line.Link client server strength) tt does.1 (link_acted old clean does.1.own does.1.events client server strength does.1.does)
   does_kept (line.Tick seconds) range down does = acted_kept (line.Tick seconds) tt does.1 (tick_acted old clean does.1.own does.1.events seconds does.1.does)
   does_kept (line.Task work) range down does = acted_kept (line.Task work) tt does.1 (tasks_acted old clean does.1.own does.1.events work down does.1.does)
@@ -98,10 +99,16 @@ module _ (old : StoredCell) (kept : IsStoredKept old) (reply : Reply) (outside :
   does_kept (line.Lose message) range down does = acted_kept (line.Lose message) tt does.1 (loses_acted old clean does.1.own does.1.events message (sent_at message old.made.waiting) does.1.does does.1.does)
   does_kept _ range down does = absurd does.1.does
 
+happens_kept : (old new : StoredCell) (said : Line) (reply : Reply) (outside : List (List ℕ)) → IsCellKept old → InRange said → Happens old said reply outside new → IsCellKept new
+happens_kept old new said reply outside kept range does = down_kept (is_down_for old said) old (DoesUp old said) reply outside new kept (does_kept old kept reply outside new said range) does
+
 pub stored_cells_are_kept : StoredCellsAreKept
 stored_cells_are_kept = record {
   first = first_stored;
-  lines = λ old new said reply outside kept range does. down_kept (is_down_for old said) old (DoesUp old said) reply outside new kept (does_kept old kept reply outside new said range) does;
+  actors = happens_kept;
+  others = λ old new said reply outside does. happens_idle old reply outside new said (is_down_for old said) does;
+  lines = λ old new said reply outside kept range does.
+      with_idle old new kept (happens_kept old new said reply outside (actors_kept old kept) range does) (happens_idle old reply outside new said (is_down_for old said) does);
 }
 
 -- ---- what is promised

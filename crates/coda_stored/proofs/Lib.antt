@@ -16,3 +16,9 @@ pub mod Absent
 pub mod Makers
 pub mod Patient
 pub mod Mounted
+pub mod Idling
+pub mod HeldClients
+pub mod HeldVolumes
+pub mod HeldFirst
+pub mod Held
+pub mod HeldFinds

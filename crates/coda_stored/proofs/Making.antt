@@ -10,7 +10,7 @@ use Rattle.coda_cell.specs.Runs.{IsKept}
 use Rattle.coda_cell.specs.Steps.{no_room}
 use Rattle.coda_cell.proofs.KeptCells.{volume_left, client_left}
 use Rattle.coda_stored.specs.Cells.{Side, StoredCell, client_header, replica_header, disk_number, moved}
-use Rattle.coda_stored.specs.Kept.{whole, IsGiven, IsArea, IsClientSide, IsReplicaSide, IsStoredKept}
+use Rattle.coda_stored.specs.Kept.{whole, IsGiven, IsArea, IsClientSide, IsReplicaSide, IsCellKept}
 use Rattle.coda_stored.specs.Lines.{Opens, no_volume, no_client, with_volume, with_client as with_client_made, MakesVolume, MakesClient}
 use Rattle.coda_stored.proofs.Disks.{unless_kept}
 use Rattle.coda_stored.proofs.Sides.{AreSided, clean_in, sided_in, stored_kept, acting, clean_client, clean_replica, alone_crashed}
@@ -18,11 +18,11 @@ use Rattle.coda_stored.proofs.Wholes.{whole_crashed_client, whole_crashed_replic
 
 -- ---- small steps
 
-not_there : (there full : Bool) → no_room there full ≡ None → there ≡ false
+pub not_there : (there full : Bool) → no_room there full ≡ None → there ≡ false
 not_there true full e = cc
 not_there false full e = refl
 
-is_none : (o : Option ℕ) → is_some o ≡ false → o ≡ None
+pub is_none : (o : Option ℕ) → is_some o ≡ false → o ≡ None
 is_none None e = refl
 is_none (Some n) e = cc
 
@@ -54,7 +54,7 @@ given_crashed (Some other) header actor new (inr e) = (let same : Some other ≡
 
 -- ---- a volume
 
-module _ (old : StoredCell) (kept : IsStoredKept old) (volume server area : ℕ) (none : old.made.homes volume ≡ None) (sized : IsArea area) (one : 1 ≤ volume) (some : 1 ≤ server) (few : server ≤ 8) where
+module _ (old : StoredCell) (kept : IsCellKept old) (volume server area : ℕ) (none : old.made.homes volume ≡ None) (sized : IsArea area) (one : 1 ≤ volume) (some : 1 ≤ server) (few : server ≤ 8) where
   made_before : (other home : ℕ) → old.made.homes other ≡ Some home → old.places other ≢ disk_number (length old.made.servers) server
   made_before other home there same =
       let before = kept.placed other home there in
@@ -62,7 +62,7 @@ module _ (old : StoredCell) (kept : IsStoredKept old) (volume server area : ℕ)
       numbers_apart before.0 (length old.made.servers) home server before.1 range.0 range.1 some few (sym before.2 ∙ same)
 
   -- with the side that its disk has then, and with other actors but for the replicas of other volumes
-  volume_sided : (side : Side) (acted : PlainCell) → side.asked ≡ Some (replica_header volume server area) → IsGiven side.given (replica_header volume server area) (acted.replicas server volume)
+  pub volume_sided : (side : Side) (acted : PlainCell) → side.asked ≡ Some (replica_header volume server area) → IsGiven side.given (replica_header volume server area) (acted.replicas server volume)
       → ((c : ℕ) → acted.clients c ≡ old.made.acted.clients c) → ((s v : ℕ) → v ≢ volume → acted.replicas s v ≡ old.made.acted.replicas s v) → AreSided (acting (with_volume old volume server area side) acted)
   volume_sided side acted asked given clients replicas = record {
     clients = λ c. subst (λ a. IsClientSide c (old.made.sizes c) a (old.clients c)) (sym (clients c)) (kept.clients c);
@@ -88,7 +88,6 @@ module _ (old : StoredCell) (kept : IsStoredKept old) (volume server area : ℕ)
                 | false ↦ λ second a b same. kept.apart v o s h a b same
               ] refl
         ] refl;
-    idle = kept.idle;
   }
     where
       more : (n : ℕ) → n < length old.made.servers + 1 → n < length (old.made.servers ++ server ∷ [])
@@ -100,12 +99,12 @@ module _ (old : StoredCell) (kept : IsStoredKept old) (volume server area : ℕ)
   kept_volume : (joins : Joins) → IsKept (whole (with_volume old volume server area (old.replicas volume)).made joins)
   kept_volume joins = (volume_left (whole old.made joins) volume server (kept.kept joins) none).kept
 
-  volume_up : (side : Side) → side.asked ≡ Some (replica_header volume server area) → side.given ≡ Some (replica_header volume server area) → IsStoredKept (with_volume old volume server area side)
+  volume_up : (side : Side) → side.asked ≡ Some (replica_header volume server area) → side.given ≡ Some (replica_header volume server area) → IsCellKept (with_volume old volume server area side)
   volume_up side asked given = stored_kept (with_volume old volume server area side) (clean_in old kept) kept_volume
       (volume_sided side old.made.acted asked (subst (λ g. IsGiven g (replica_header volume server area) (old.made.acted.replicas server volume)) (sym given) refl) (λ c. refl) (λ s v other. refl))
 
   volume_down : (side : Side) → side.asked ≡ Some (replica_header volume server area) → (side.given ≡ None) ⊎ (side.given ≡ Some (replica_header volume server area))
-      → IsStoredKept (moved (with_volume old volume server area side) (Crashes (TheReplica server volume)))
+      → IsCellKept (moved (with_volume old volume server area side) (Crashes (TheReplica server volume)))
   volume_down side asked tried =
       let cell = with_volume old volume server area side in
       let actor = crashed (old.made.acted.replicas server volume) in
@@ -120,20 +119,20 @@ module _ (old : StoredCell) (kept : IsStoredKept old) (volume server area : ℕ)
         | false ↦ λ e. refl
       ] refl))
 
-pub volume_kept : (old : StoredCell) (volume server area : ℕ) (reply : Reply) (outside : List (List ℕ)) (new : StoredCell) → IsStoredKept old → IsArea area → 1 ≤ volume → 1 ≤ server → server ≤ 8
-    → MakesVolume old volume server area reply outside new → IsStoredKept new
+pub volume_kept : (old : StoredCell) (volume server area : ℕ) (reply : Reply) (outside : List (List ℕ)) (new : StoredCell) → IsCellKept old → IsArea area → 1 ≤ volume → 1 ≤ server → server ≤ 8
+    → MakesVolume old volume server area reply outside new → IsCellKept new
 volume_kept old volume server area reply outside new kept sized one some few does =
     unless_kept old (no_volume old volume area) (Opens old (replica_header volume server area) (with_volume old volume server area) (TheReplica server volume)) reply outside new kept
     (λ free opens. by (is_none (old.made.homes volume) (not_there (is_some (old.made.homes volume)) _ free)) opens) does
   where
-    by : old.made.homes volume ≡ None → Opens old (replica_header volume server area) (with_volume old volume server area) (TheReplica server volume) reply outside new → IsStoredKept new
-    by none (out, inl up) = subst IsStoredKept (sym up.1) (volume_up old kept volume server area none sized one some few _ refl refl)
-    by none (out, inr down) = subst IsStoredKept (sym down.3) (volume_down old kept volume server area none sized one some few (record { given = down.0; asked = Some (replica_header volume server area); left = None }) refl down.1)
+    by : old.made.homes volume ≡ None → Opens old (replica_header volume server area) (with_volume old volume server area) (TheReplica server volume) reply outside new → IsCellKept new
+    by none (out, inl up) = subst IsCellKept (sym up.1) (volume_up old kept volume server area none sized one some few _ refl refl)
+    by none (out, inr down) = subst IsCellKept (sym down.3) (volume_down old kept volume server area none sized one some few (record { given = down.0; asked = Some (replica_header volume server area); left = None }) refl down.1)
 
 -- ---- a client
 
-module _ (old : StoredCell) (kept : IsStoredKept old) (client blocks area : ℕ) (none : old.made.sizes client ≡ None) (sized : IsArea area) (one : 1 ≤ client) (under : client < 256) (some : 1 ≤ blocks) (few : blocks ≤ 32768) where
-  client_sided : (side : Side) (acted : PlainCell) → side.asked ≡ Some (client_header client blocks area) → IsGiven side.given (client_header client blocks area) (acted.clients client)
+module _ (old : StoredCell) (kept : IsCellKept old) (client blocks area : ℕ) (sized : IsArea area) (one : 1 ≤ client) (under : client < 256) (some : 1 ≤ blocks) (few : blocks ≤ 32768) where
+  pub client_sided : (side : Side) (acted : PlainCell) → side.asked ≡ Some (client_header client blocks area) → IsGiven side.given (client_header client blocks area) (acted.clients client)
       → ((c : ℕ) → c ≢ client → acted.clients c ≡ old.made.acted.clients c) → acted.replicas ≡ old.made.acted.replicas → AreSided (acting (with_client_made old client blocks area side) acted)
   client_sided side acted asked given clients replicas = record {
     clients = λ c. elim (c == client) as (λ b. (c == client) ≡ b → IsClientSide c (cond b (Some blocks) (old.made.sizes c)) (acted.clients c) (cond b side (old.clients c))) [
@@ -143,24 +142,24 @@ module _ (old : StoredCell) (kept : IsStoredKept old) (client blocks area : ℕ)
     replicas = λ v. subst (λ (f : ℕ → ℕ → Actor ReplicaEntry). IsReplicaSide v (old.made.homes v) (λ s. f s v) (old.replicas v)) (sym replicas) (kept.replicas v);
     placed = kept.placed;
     apart = kept.apart;
-    idle = kept.idle;
   }
 
+module _ (old : StoredCell) (kept : IsCellKept old) (client blocks area : ℕ) (none : old.made.sizes client ≡ None) (sized : IsArea area) (one : 1 ≤ client) (under : client < 256) (some : 1 ≤ blocks) (few : blocks ≤ 32768) where
   kept_client : (joins : Joins) → IsKept (whole (with_client_made old client blocks area (old.clients client)).made joins)
   kept_client joins = (client_left (whole old.made joins) client blocks (kept.kept joins) none (λ zero. absurd (omega (arith, one, zero)))).kept
 
-  client_up : (side : Side) → side.asked ≡ Some (client_header client blocks area) → side.given ≡ Some (client_header client blocks area) → IsStoredKept (with_client_made old client blocks area side)
+  client_up : (side : Side) → side.asked ≡ Some (client_header client blocks area) → side.given ≡ Some (client_header client blocks area) → IsCellKept (with_client_made old client blocks area side)
   client_up side asked given = stored_kept (with_client_made old client blocks area side) (clean_in old kept) kept_client
-      (client_sided side old.made.acted asked (subst (λ g. IsGiven g (client_header client blocks area) (old.made.acted.clients client)) (sym given) refl) (λ c other. refl) refl)
+      (client_sided old kept client blocks area sized one under some few side old.made.acted asked (subst (λ g. IsGiven g (client_header client blocks area) (old.made.acted.clients client)) (sym given) refl) (λ c other. refl) refl)
 
   client_down : (side : Side) → side.asked ≡ Some (client_header client blocks area) → (side.given ≡ None) ⊎ (side.given ≡ Some (client_header client blocks area))
-      → IsStoredKept (moved (with_client_made old client blocks area side) (Crashes (TheClient client)))
+      → IsCellKept (moved (with_client_made old client blocks area side) (Crashes (TheClient client)))
   client_down side asked tried =
       let cell = with_client_made old client blocks area side in
       let actor = crashed (old.made.acted.clients client) in
       stored_kept (moved cell (Crashes (TheClient client))) (clean_client old (clean_in old kept) (sided_in old kept) client actor (λ up. cc))
       (λ joins. subst IsKept (sym (whole_crashed_client cell.made joins client)) (kept_client joins))
-      (client_sided side (with_client old.made.acted client actor) asked
+      (client_sided old kept client blocks area sized one under some few side (with_client old.made.acted client actor) asked
       (subst (IsGiven side.given (client_header client blocks area)) (sym (λ i. cond (eq-eqb client client refl i) actor (old.made.acted.clients client)))
       (given_crashed side.given (client_header client blocks area) (old.made.acted.clients client) (new_client client (old.made.sizes client) (old.made.acted.clients client) (old.clients client) none (kept.clients client)) tried))
       (λ c other. elim (c == client) as (λ b. (c == client) ≡ b → cond b actor (old.made.acted.clients c) ≡ old.made.acted.clients c) [
@@ -169,12 +168,12 @@ module _ (old : StoredCell) (kept : IsStoredKept old) (client blocks area : ℕ)
       ] refl)
       refl)
 
-pub client_kept : (old : StoredCell) (client blocks area : ℕ) (reply : Reply) (outside : List (List ℕ)) (new : StoredCell) → IsStoredKept old → IsArea area → 1 ≤ client → client < 256 → 1 ≤ blocks → blocks ≤ 32768
-    → MakesClient old client blocks area reply outside new → IsStoredKept new
+pub client_kept : (old : StoredCell) (client blocks area : ℕ) (reply : Reply) (outside : List (List ℕ)) (new : StoredCell) → IsCellKept old → IsArea area → 1 ≤ client → client < 256 → 1 ≤ blocks → blocks ≤ 32768
+    → MakesClient old client blocks area reply outside new → IsCellKept new
 client_kept old client blocks area reply outside new kept sized one under some few does =
     unless_kept old (no_client old client area) (Opens old (client_header client blocks area) (with_client_made old client blocks area) (TheClient client)) reply outside new kept
     (λ free opens. by (is_none (old.made.sizes client) (not_there (is_some (old.made.sizes client)) _ free)) opens) does
   where
-    by : old.made.sizes client ≡ None → Opens old (client_header client blocks area) (with_client_made old client blocks area) (TheClient client) reply outside new → IsStoredKept new
-    by none (out, inl up) = subst IsStoredKept (sym up.1) (client_up old kept client blocks area none sized one under some few _ refl refl)
-    by none (out, inr down) = subst IsStoredKept (sym down.3) (client_down old kept client blocks area none sized one under some few (record { given = down.0; asked = Some (client_header client blocks area); left = None }) refl down.1)
+    by : old.made.sizes client ≡ None → Opens old (client_header client blocks area) (with_client_made old client blocks area) (TheClient client) reply outside new → IsCellKept new
+    by none (out, inl up) = subst IsCellKept (sym up.1) (client_up old kept client blocks area none sized one under some few _ refl refl)
+    by none (out, inr down) = subst IsCellKept (sym down.3) (client_down old kept client blocks area none sized one under some few (record { given = down.0; asked = Some (client_header client blocks area); left = None }) refl down.1)

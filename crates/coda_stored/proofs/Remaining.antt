@@ -33,12 +33,13 @@ module _ {E : Type 0} where
 -- ---- cells
 
 pub begins_same : (cell : StoredCell) → Begins cell cell
-begins_same cell = record { clients = λ client. same_entries (cell.made.acted.clients client).history; replicas = λ server volume. same_entries (cell.made.acted.replicas server volume).history }
+begins_same cell = record { clients = λ client. same_entries (cell.made.acted.clients client).history; replicas = λ server volume. same_entries (cell.made.acted.replicas server volume).history; learned = refl }
 
 begins_then : (old mid new : StoredCell) → Begins mid old → Begins new mid → Begins new old
 begins_then old mid new a b = record {
   clients = λ client. then_entries (old.made.acted.clients client).history (mid.made.acted.clients client).history (new.made.acted.clients client).history (a.clients client) (b.clients client);
   replicas = λ server volume. then_entries (old.made.acted.replicas server volume).history (mid.made.acted.replicas server volume).history (new.made.acted.replicas server volume).history (a.replicas server volume) (b.replicas server volume);
+  learned = b.learned ∙ a.learned;
 }
 
 begins_is : (old mid new : StoredCell) → Begins mid old → new ≡ mid → Begins new old
@@ -57,6 +58,7 @@ module _ (cell : StoredCell) where
       | false ↦ λ e. same_entries (cell.made.acted.clients c).history
     ] refl;
     replicas = λ server volume. same_entries (cell.made.acted.replicas server volume).history;
+    learned = refl;
   }
 
   replica_begins : (server volume : ℕ) (actor : Actor ReplicaEntry) → BeginsWith actor.history (cell.made.acted.replicas server volume).history → Begins (acting (with_replica cell.made.acted server volume actor)) cell
@@ -67,6 +69,7 @@ module _ (cell : StoredCell) where
           subst (λ n. BeginsWith actor.history (cell.made.acted.replicas n v).history) (sym (eqb-true s server both.0)) (subst (λ n. BeginsWith actor.history (cell.made.acted.replicas server n).history) (sym (eqb-true v volume both.1)) more)
       | false ↦ λ e. same_entries (cell.made.acted.replicas s v).history
     ] refl;
+    learned = refl;
   }
 
   crash_begins : (who : Who) → Begins (moved cell (Crashes who)) cell
@@ -82,14 +85,14 @@ module _ (cell : StoredCell) where
   failure_begins (AtReplica server volume entry) = replica_begins server volume (fallen entry (cell.made.acted.replicas server volume)) (same_entries (cell.made.acted.replicas server volume).history)
 
   event_begins : (event : Event) → Begins (after cell event) cell
-  event_begins (VolumeMade volume server) = record { clients = λ client. same_entries (cell.made.acted.clients client).history; replicas = λ s v. same_entries (cell.made.acted.replicas s v).history }
-  event_begins (ClientMade client blocks) = record { clients = λ c. same_entries (cell.made.acted.clients c).history; replicas = λ s v. same_entries (cell.made.acted.replicas s v).history }
-  event_begins (Ticked seconds) = record { clients = λ c. same_entries (cell.made.acted.clients c).history; replicas = λ s v. same_entries (cell.made.acted.replicas s v).history }
-  event_begins (LinkSet client server strength) = record { clients = λ c. same_entries (cell.made.acted.clients c).history; replicas = λ s v. same_entries (cell.made.acted.replicas s v).history }
+  event_begins (VolumeMade volume server) = record { clients = λ client. same_entries (cell.made.acted.clients client).history; replicas = λ s v. same_entries (cell.made.acted.replicas s v).history; learned = refl }
+  event_begins (ClientMade client blocks) = record { clients = λ c. same_entries (cell.made.acted.clients c).history; replicas = λ s v. same_entries (cell.made.acted.replicas s v).history; learned = refl }
+  event_begins (Ticked seconds) = record { clients = λ c. same_entries (cell.made.acted.clients c).history; replicas = λ s v. same_entries (cell.made.acted.replicas s v).history; learned = refl }
+  event_begins (LinkSet client server strength) = record { clients = λ c. same_entries (cell.made.acted.clients c).history; replicas = λ s v. same_entries (cell.made.acted.replicas s v).history; learned = refl }
   event_begins (Entered (AtClient client entry)) = client_begins client (grown_actor entry (cell.made.acted.clients client)) (entry ∷ [], refl)
   event_begins (Entered (AtReplica server volume entry)) = replica_begins server volume (grown_actor entry (cell.made.acted.replicas server volume)) (entry ∷ [], refl)
-  event_begins (Posted sent) = record { clients = λ c. same_entries (cell.made.acted.clients c).history; replicas = λ s v. same_entries (cell.made.acted.replicas s v).history }
-  event_begins (Lost message) = record { clients = λ c. same_entries (cell.made.acted.clients c).history; replicas = λ s v. same_entries (cell.made.acted.replicas s v).history }
+  event_begins (Posted sent) = record { clients = λ c. same_entries (cell.made.acted.clients c).history; replicas = λ s v. same_entries (cell.made.acted.replicas s v).history; learned = refl }
+  event_begins (Lost message) = record { clients = λ c. same_entries (cell.made.acted.clients c).history; replicas = λ s v. same_entries (cell.made.acted.replicas s v).history; learned = refl }
 
 all_begin : (cell : StoredCell) (events : List Event) → Begins (after_all cell events) cell
 all_begin cell [] = begins_same cell
@@ -129,6 +132,7 @@ module _ (old : StoredCell) (reply : Reply) (outside : List (List ℕ)) (new : S
   aside mid begins is = record {
     clients = λ client. subst (λ (made : MadeCell). BeginsWith (made.acted.clients client).history (old.made.acted.clients client).history) (sym is) (begins.clients client);
     replicas = λ server volume. subst (λ (made : MadeCell). BeginsWith (made.acted.replicas server volume).history (old.made.acted.replicas server volume).history) (sym is) (begins.replicas server volume);
+    learned = ap (λ (made : MadeCell). made.acted.learned) is ∙ begins.learned;
   }
 
   pub recovers_client_begins : (client : ℕ) → RecoversClient old client reply outside new → Begins new old
@@ -141,9 +145,9 @@ module _ (old : StoredCell) (reply : Reply) (outside : List (List ℕ)) (new : S
 
   does_begins : (said : Line) → DoesUp old said reply outside new → Begins new old
   does_begins (line.Volume volume servers area) does = unless_begins (no_volume old volume (area_of area)) _
-      (opens_begins (replica_header volume (alone servers) (area_of area)) (with_volume old volume (alone servers) (area_of area)) (TheReplica (alone servers) volume) (λ side. record { clients = λ c. same_entries (old.made.acted.clients c).history; replicas = λ s v. same_entries (old.made.acted.replicas s v).history })) does
+      (opens_begins (replica_header volume (alone servers) (area_of area)) (with_volume old volume (alone servers) (area_of area)) (TheReplica (alone servers) volume) (λ side. record { clients = λ c. same_entries (old.made.acted.clients c).history; replicas = λ s v. same_entries (old.made.acted.replicas s v).history; learned = refl })) does
   does_begins (line.Client client blocks area) does = unless_begins (no_client old client (area_of area)) _
-      (opens_begins (client_header client blocks (area_of area)) (with_client_made old client blocks (area_of area)) (TheClient client) (λ side. record { clients = λ c. same_entries (old.made.acted.clients c).history; replicas = λ s v. same_entries (old.made.acted.replicas s v).history })) does
+      (opens_begins (client_header client blocks (area_of area)) (with_client_made old client blocks (area_of area)) (TheClient client) (λ side. record { clients = λ c. same_entries (old.made.acted.clients c).history; replicas = λ s v. same_entries (old.made.acted.replicas s v).history; learned = refl })) does
   does_begins (line.CrashClient client choice) does = unless_begins (first_missing (client_named (state_of old.made) client ∷ [])) (CrashesClient old client)
       (λ did. aside (moved old (Crashes (TheClient client))) (crash_begins old (TheClient client)) (ap (λ (c : StoredCell). c.made) did.4)) does
   does_begins (line.CrashReplica server volume choice) does = unless_begins (first_missing (holder_named (state_of old.made) server volume ∷ [])) (CrashesReplica old server volume)

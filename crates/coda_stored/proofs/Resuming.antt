@@ -14,11 +14,13 @@ use Rattle.coda_cell.specs.Runs.{IsKept}
 use Rattle.coda_cell.specs.State.{put}
 use Rattle.coda_matching.specs.Replicas.{IsDecision}
 use Rattle.coda_stored.specs.Cells.{Side, StoredCell, moved}
-use Rattle.coda_stored.specs.Kept.{found_up, whole, IsGiven, IsClientSide, IsReplicaSide, IsStoredKept}
+use Rattle.coda_stored.specs.Kept.{found_up, whole, IsGiven, IsClientSide, IsReplicaSide, IsCellKept, IsStoredKept}
 use Rattle.coda_stored.specs.Laws.{Begins}
 use Rattle.coda_stored.specs.Lines.{IsRefused, RecoversClient, RecoversReplica, with_client_side, with_replica_side, recovered_side}
 use Rattle.coda_stored.specs.Resuming.{stopped, forgotten, at_rest, Awaited, ClientAgain, VolumeAgain, AsksAgain, AreAwaited, with_area, MakesAgain, CellsAreResumed}
 use Rattle.coda_stored.proofs.Disks.{recovers_client, recovers_replica}
+use Rattle.coda_stored.proofs.Idling.{recovers_client_idle, recovers_replica_idle}
+use Rattle.coda_stored.proofs.Sides.{actors_kept, with_idle}
 use Rattle.coda_stored.proofs.Remaining.{same_entries, recovers_client_begins, recovers_replica_begins}
 
 -- ---- a cell without letters
@@ -54,7 +56,7 @@ quiet_kept cell kept = record {
     };
   };
   up = record { clients = kept.up.clients; replicas = kept.up.replicas };
-  made = record { numbered = kept.made.numbered; clients = kept.made.clients; volumes = kept.made.volumes; replicas = kept.made.replicas };
+  made = record { numbered = kept.made.numbered; clients = kept.made.clients; replicas = kept.made.replicas };
   holding = λ client blocks e. let h = kept.holding client blocks e in record { bound = h.bound; within = h.within; made = h.made; kept = h.kept };
   letters = record { numbered = tt; pooled = tt };
 }
@@ -94,8 +96,8 @@ whole_rests cell joins = λ i. record (quiet (whole cell.made joins)) {
   };
 }
 
-rests : (cell : StoredCell) → IsStoredKept cell → IsStoredKept (at_rest cell)
-rests cell kept = record {
+pub actors_rest : (cell : StoredCell) → IsCellKept cell → IsCellKept (at_rest cell)
+actors_rest cell kept = record {
   clients_up = λ client up. none_failed (cell.made.sizes client) (cell.made.acted.clients client) (kept.clients_up client) up;
   replicas_up = λ server volume up. none_failed (cell.made.homes volume) (cell.made.acted.replicas server volume) (kept.replicas_up server volume) up;
   kept = λ joins. subst IsKept (sym (whole_rests cell joins)) (quiet_kept (whole cell.made joins) (kept.kept joins));
@@ -103,9 +105,11 @@ rests cell kept = record {
   replicas = λ volume. replica_rests volume (cell.made.homes volume) (λ server. cell.made.acted.replicas server volume) (cell.replicas volume) (kept.replicas volume);
   placed = kept.placed;
   apart = kept.apart;
-  idle = kept.idle;
   alone = λ server volume. alone_stopped (cell.made.homes volume) (cell.made.acted.replicas server volume) (kept.alone server volume);
 }
+
+rests : (cell : StoredCell) → IsStoredKept cell → IsStoredKept (at_rest cell)
+rests cell kept = with_idle cell (at_rest cell) kept (actors_rest cell (actors_kept cell kept)) refl
 
 begins_stopped : {E : Type 0} (o : Option ℕ) (actor : Actor E) → BeginsWith (stopped o actor).history actor.history
 begins_stopped None actor = same_entries actor.history
@@ -115,6 +119,7 @@ rest_begins : (cell : StoredCell) → Begins (at_rest cell) cell
 rest_begins cell = record {
   clients = λ client. begins_stopped (cell.made.sizes client) (cell.made.acted.clients client);
   replicas = λ server volume. begins_stopped (cell.made.homes volume) (cell.made.acted.replicas server volume);
+  learned = refl;
 }
 
 -- ---- an actor is made again
@@ -134,12 +139,12 @@ area_kept cell area kept = record {
 
 lines_kept : (old new : StoredCell) (volumes areas : ℕ) (awaited : Awaited) (left : List Awaited) (reply : Reply) → IsStoredKept old → AreAwaited old volumes areas (awaited ∷ left) → MakesAgain old awaited reply new → IsStoredKept new
 lines_kept old new volumes areas (ClientAgain client blocks area) left reply kept awaited (said, mid, did, is, same) =
-    subst IsStoredKept (sym same) (area_kept mid area (recovers_client old kept said [] mid client blocks awaited.0 did))
+    subst IsStoredKept (sym same) (area_kept mid area (with_idle old mid kept (recovers_client old (actors_kept old kept) said [] mid client blocks awaited.0 did) (recovers_client_idle old said [] mid client did)))
 lines_kept old new volumes areas (VolumeAgain volume server area) left reply kept awaited (said, mid, did, is, same) =
-    subst IsStoredKept (sym same) (area_kept mid area (recovers_replica old kept said [] mid server volume awaited.0 did))
+    subst IsStoredKept (sym same) (area_kept mid area (with_idle old mid kept (recovers_replica old (actors_kept old kept) said [] mid server volume awaited.0 did) (recovers_replica_idle old said [] mid server volume did)))
 
 area_begins : (old mid : StoredCell) (area : ℕ) → Begins mid old → Begins (with_area mid area) old
-area_begins old mid area begins = record { clients = begins.clients; replicas = begins.replicas }
+area_begins old mid area begins = record { clients = begins.clients; replicas = begins.replicas; learned = begins.learned }
 
 lines_begin : (old new : StoredCell) (awaited : Awaited) (reply : Reply) → MakesAgain old awaited reply new → Begins new old
 lines_begin old new (ClientAgain client blocks area) reply (said, mid, did, is, same) =

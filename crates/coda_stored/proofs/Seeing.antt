@@ -12,12 +12,12 @@ use Rattle.coda_stored.specs.Kept.{IsClientSide, IsReplicaSide, IsStoredKept}
 use Rattle.coda_stored.specs.Resuming.{Awaited, ClientAgain, VolumeAgain, awaits_client, awaits_volume}
 use Rattle.coda_stored.specs.Seen.{asleep, home_unless, idle_until, seen, IsClientSeen, IsReplicaSeen, IsSeen}
 
-client_seen : (client : ℕ) (o : Option ℕ) (b : Bool) (actor : Actor ClientEntry) (side : Side) → IsClientSide client o actor side → IsClientSeen client (home_unless b o) actor (asleep b side)
+pub client_seen : (client : ℕ) (o : Option ℕ) (b : Bool) (actor : Actor ClientEntry) (side : Side) → IsClientSide client o actor side → IsClientSeen client (home_unless b o) actor (asleep b side)
 client_seen client o true actor side is = refl
 client_seen client None false actor side is = ap (λ (s : Side). s.asked) is.0
 client_seen client (Some blocks) false actor side is = is
 
-replica_seen : (volume : ℕ) (o : Option ℕ) (b : Bool) (actors : ℕ → Actor ReplicaEntry) (side : Side) → IsReplicaSide volume o actors side → IsReplicaSeen volume (home_unless b o) actors (asleep b side)
+pub replica_seen : (volume : ℕ) (o : Option ℕ) (b : Bool) (actors : ℕ → Actor ReplicaEntry) (side : Side) → IsReplicaSide volume o actors side → IsReplicaSeen volume (home_unless b o) actors (asleep b side)
 replica_seen volume o true actors side is = refl
 replica_seen volume None false actors side is = ap (λ (s : Side). s.asked) is.0
 replica_seen volume (Some server) false actors side is = is
@@ -28,7 +28,7 @@ home_seen true o server is = cc
 home_seen false o server is = (refl, is)
 
 -- no crash left anything of the disk of a client that no line made yet
-none_left : (client : ℕ) (o : Option ℕ) (b : Bool) (actor : Actor ClientEntry) (side : Side) → IsClientSide client o actor side → home_unless b o ≡ None → (asleep b side).left ≡ None
+pub none_left : (client : ℕ) (o : Option ℕ) (b : Bool) (actor : Actor ClientEntry) (side : Side) → IsClientSide client o actor side → home_unless b o ≡ None → (asleep b side).left ≡ None
 none_left client o true actor side is none = refl
 none_left client None false actor side is none = ap (λ (s : Side). s.left) is.0
 none_left client (Some blocks) false actor side is none = cc

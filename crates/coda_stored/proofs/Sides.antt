@@ -8,8 +8,10 @@ use Rattle.coda_plain.specs.Histories.{In}
 use Rattle.coda_plain.specs.Moves.{with_client, with_replica, grown as grown_actor, fallen, crashed, recovered}
 use Rattle.coda_cell.specs.Runs.{IsKept}
 use Rattle.coda_matching.specs.Replicas.{IsDecision}
-use Rattle.coda_stored.specs.Cells.{Side, StoredCell, unmade}
-use Rattle.coda_stored.specs.Kept.{whole, IsGiven, IsClientSide, IsReplicaSide, IsPlaced, IsStoredKept}
+use Rattle.coda_actors.specs.Plain.{PlainActor}
+use Rattle.coda_record.specs.declared.entry.ReplicaEntry.{ReplicaEntry as KeptEntry}
+use Rattle.coda_stored.specs.Cells.{Side, StoredCell}
+use Rattle.coda_stored.specs.Kept.{whole, IsGiven, IsClientSide, IsReplicaSide, IsPlaced, IsCellKept, IsStoredKept}
 
 -- no append of an actor that is up failed, and replicas decide alone
 pub record AreClean (cell : PlainCell) : Type 0 where
@@ -23,16 +25,32 @@ pub record AreSided (cell : StoredCell) : Type 0 where
   pub replicas : (volume : ℕ) → IsReplicaSide volume (cell.made.homes volume) (λ server. cell.made.acted.replicas server volume) (cell.replicas volume)
   pub placed : (volume server : ℕ) → cell.made.homes volume ≡ Some server → IsPlaced cell volume server
   pub apart : (volume other server home : ℕ) → cell.made.homes volume ≡ Some server → cell.made.homes other ≡ Some home → cell.places volume ≡ cell.places other → volume ≡ other
-  pub idle : (number : ℕ) → cell.idle number ≡ unmade
 
-pub clean_in : (cell : StoredCell) → IsStoredKept cell → AreClean cell.made.acted
+-- the actors of a cell that is kept, and a cell of which no disk of others holds anything
+pub actors_kept : (cell : StoredCell) → IsStoredKept cell → IsCellKept cell
+actors_kept cell kept = record { clients_up = kept.clients_up; replicas_up = kept.replicas_up; kept = kept.kept; clients = kept.clients; replicas = kept.replicas; placed = kept.placed; apart = kept.apart; alone = kept.alone }
+
+pub with_idle : (old new : StoredCell) → IsStoredKept old → IsCellKept new → new.idle ≡ old.idle → IsStoredKept new
+with_idle old new was kept same = record {
+  clients_up = kept.clients_up;
+  replicas_up = kept.replicas_up;
+  kept = kept.kept;
+  clients = kept.clients;
+  replicas = kept.replicas;
+  placed = kept.placed;
+  apart = kept.apart;
+  idle = λ number. ap (λ (f : ℕ → PlainActor KeptEntry). f number) same ∙ was.idle number;
+  alone = kept.alone;
+}
+
+pub clean_in : (cell : StoredCell) → IsCellKept cell → AreClean cell.made.acted
 clean_in cell kept = record { clients = kept.clients_up; replicas = kept.replicas_up; alone = kept.alone }
 
-pub sided_in : (cell : StoredCell) → IsStoredKept cell → AreSided cell
-sided_in cell kept = record { clients = kept.clients; replicas = kept.replicas; placed = kept.placed; apart = kept.apart; idle = kept.idle }
+pub sided_in : (cell : StoredCell) → IsCellKept cell → AreSided cell
+sided_in cell kept = record { clients = kept.clients; replicas = kept.replicas; placed = kept.placed; apart = kept.apart }
 
-pub stored_kept : (cell : StoredCell) → AreClean cell.made.acted → ((joins : Joins) → IsKept (whole cell.made joins)) → AreSided cell → IsStoredKept cell
-stored_kept cell clean kept sided = record { clients_up = clean.clients; replicas_up = clean.replicas; kept = kept; clients = sided.clients; replicas = sided.replicas; placed = sided.placed; apart = sided.apart; idle = sided.idle; alone = clean.alone }
+pub stored_kept : (cell : StoredCell) → AreClean cell.made.acted → ((joins : Joins) → IsKept (whole cell.made joins)) → AreSided cell → IsCellKept cell
+stored_kept cell clean kept sided = record { clients_up = clean.clients; replicas_up = clean.replicas; kept = kept; clients = sided.clients; replicas = sided.replicas; placed = sided.placed; apart = sided.apart; alone = clean.alone }
 
 -- ---- one actor
 
@@ -145,7 +163,6 @@ module _ (cell : StoredCell) (clean : AreClean cell.made.acted) (sided : AreSide
     replicas = sided.replicas;
     placed = sided.placed;
     apart = sided.apart;
-    idle = sided.idle;
   }
 
   -- the replica of a volume that was made is another
@@ -155,7 +172,6 @@ module _ (cell : StoredCell) (clean : AreClean cell.made.acted) (sided : AreSide
     replicas = λ v. replica_goes v (cell.made.homes v) (λ s. cell.made.acted.replicas s v) (λ s. cond ((s == server) && (v == volume)) actor (cell.made.acted.replicas s v)) (cell.replicas v) (same v) (keeps v) (sided.replicas v);
     placed = sided.placed;
     apart = sided.apart;
-    idle = sided.idle;
   }
     where
       same : (v s : ℕ) → cell.made.homes v ≡ None → cond ((s == server) && (v == volume)) actor (cell.made.acted.replicas s v) ≡ cell.made.acted.replicas s v

@@ -11,7 +11,7 @@ use Rattle.coda_cell.specs.Steps.{Does}
 use Rattle.coda_cell.proofs.KeptLines.{lines_keep_fronts}
 use Rattle.coda_cell.proofs.Moving.{grown_both}
 use Rattle.coda_stored.specs.Cells.{StoredCell, after, after_all, failed}
-use Rattle.coda_stored.specs.Kept.{whole, IsStoredKept}
+use Rattle.coda_stored.specs.Kept.{whole, IsCellKept}
 use Rattle.coda_stored.specs.Lines.{Stop, EndsBy}
 use Rattle.coda_stored.proofs.Acting.{UpClient, UpReplica, IsActed}
 use Rattle.coda_stored.proofs.Entering.{IsBy, AreBy, by_parts}
@@ -72,14 +72,14 @@ clean_after cell (Lost message) clean sided by = record { clients = clean.client
 sided_after : (cell : StoredCell) (event : Event) → AreClean cell.made.acted → AreSided cell → IsBy (UpClient cell.made) (UpReplica cell.made) event → AreSided (after cell event)
 sided_after cell (VolumeMade v s) clean sided by = absurd by
 sided_after cell (ClientMade c blocks) clean sided by = absurd by
-sided_after cell (Ticked seconds) clean sided by = record { clients = sided.clients; replicas = sided.replicas; placed = sided.placed; apart = sided.apart; idle = sided.idle }
-sided_after cell (LinkSet c s strength) clean sided by = record { clients = sided.clients; replicas = sided.replicas; placed = sided.placed; apart = sided.apart; idle = sided.idle }
+sided_after cell (Ticked seconds) clean sided by = record { clients = sided.clients; replicas = sided.replicas; placed = sided.placed; apart = sided.apart }
+sided_after cell (LinkSet c s strength) clean sided by = record { clients = sided.clients; replicas = sided.replicas; placed = sided.placed; apart = sided.apart }
 sided_after cell (Entered (AtClient client entry)) clean sided by =
     sided_client cell clean sided client by.1.0 (grown_actor entry (cell.made.acted.clients client)) by.1.1 (goes_grown (cell.clients client).given (cell.made.acted.clients client) entry by.0 (clean.clients client))
 sided_after cell (Entered (AtReplica server volume entry)) clean sided by =
     sided_replica cell clean sided server volume (grown_actor entry (cell.made.acted.replicas server volume)) by.0.1 (goes_grown (cell.replicas volume).given (cell.made.acted.replicas server volume) entry by.0.0 (clean.replicas server volume))
-sided_after cell (Posted sent) clean sided by = record { clients = sided.clients; replicas = sided.replicas; placed = sided.placed; apart = sided.apart; idle = sided.idle }
-sided_after cell (Lost message) clean sided by = record { clients = sided.clients; replicas = sided.replicas; placed = sided.placed; apart = sided.apart; idle = sided.idle }
+sided_after cell (Posted sent) clean sided by = record { clients = sided.clients; replicas = sided.replicas; placed = sided.placed; apart = sided.apart }
+sided_after cell (Lost message) clean sided by = record { clients = sided.clients; replicas = sided.replicas; placed = sided.placed; apart = sided.apart }
 
 whole_after : (cell : StoredCell) (joins : Joins) (event : Event) → AreClean cell.made.acted → IsBy (UpClient cell.made) (UpReplica cell.made) event → whole (after cell event).made joins ≡ grown (whole cell.made joins) event
 whole_after cell joins (VolumeMade v s) clean by = refl
@@ -129,7 +129,7 @@ whole_failed cell joins (AtReplica server volume entry) clean by = whole_failed_
 
 -- ---- how events end
 
-module _ (old : StoredCell) (kept : IsStoredKept old) (said : Line) (own : Reply) (events : List Event) (numbered : MakesNumbered said) (acted : IsActed old said own events) where
+module _ (old : StoredCell) (kept : IsCellKept old) (said : Line) (own : Reply) (events : List Event) (numbered : MakesNumbered said) (acted : IsActed old said own events) where
   -- each front of them leaves a cell that is kept
   front_kept : (done rest : List Event) → events ≡ done ++ rest → (joins : Joins) → IsKept (grown_all (whole old.made joins) done)
   front_kept done rest is joins =
@@ -141,12 +141,12 @@ module _ (old : StoredCell) (kept : IsStoredKept old) (said : Line) (own : Reply
   front_behind done rest is =
       behind_all old done (clean_in old kept) (sided_in old kept) (by_parts (UpClient old.made) (UpReplica old.made) done rest (subst (AreBy (UpClient old.made) (UpReplica old.made)) is acted.by)).0
 
-  front_stored : (done rest : List Event) → events ≡ done ++ rest → IsStoredKept (after_all old done)
+  front_stored : (done rest : List Event) → events ≡ done ++ rest → IsCellKept (after_all old done)
   front_stored done rest is =
       let behind = front_behind done rest is in
       stored_kept (after_all old done) behind.clean (λ joins. subst IsKept (sym (behind.found joins)) (front_kept done rest is joins)) behind.sided
 
-  failed_stored : (stop : Stop events) → IsStoredKept (failed (after_all old stop.done) stop.next)
+  failed_stored : (stop : Stop events) → IsCellKept (failed (after_all old stop.done) stop.next)
   failed_stored stop =
       let behind = front_behind stop.done (Entered stop.next ∷ stop.rest) stop.is in
       let mid = after_all old stop.done in
@@ -163,10 +163,10 @@ module _ (old : StoredCell) (kept : IsStoredKept old) (said : Line) (own : Reply
         | inr same ↦ subst IsKept (sym (behind.found joins) ∙ sym same) (front_kept stop.done (Entered stop.next ∷ stop.rest) stop.is joins)
       ]
 
-  pub ends_kept : (reply : Reply) (new : StoredCell) → EndsBy old events own reply new → IsStoredKept new
-  ends_kept reply new (inl all) = subst IsStoredKept (sym all.2) (front_stored events [] (sym (append-nil events)))
-  ends_kept reply new (inr (inl full)) = subst IsStoredKept (sym full.4) (front_stored full.0.done (Entered full.0.next ∷ full.0.rest) full.0.is)
-  ends_kept reply new (inr (inr fault)) = subst IsStoredKept (sym fault.3) (failed_stored fault.0)
+  pub ends_kept : (reply : Reply) (new : StoredCell) → EndsBy old events own reply new → IsCellKept new
+  ends_kept reply new (inl all) = subst IsCellKept (sym all.2) (front_stored events [] (sym (append-nil events)))
+  ends_kept reply new (inr (inl full)) = subst IsCellKept (sym full.4) (front_stored full.0.done (Entered full.0.next ∷ full.0.rest) full.0.is)
+  ends_kept reply new (inr (inr fault)) = subst IsCellKept (sym fault.3) (failed_stored fault.0)
 
 -- where nothing happens, the cell stays
 none_stops : (events : List Event) → events ≡ [] → Stop events → ⊥
@@ -182,6 +182,6 @@ nothing_ends old events own reply new none (inr (inl full)) = absurd (none_stops
 nothing_ends old events own reply new none (inr (inr fault)) = absurd (none_stops events none fault.0)
 
 -- a line that acts keeps a cell
-pub acts_kept : (old : StoredCell) (said : Line) (own reply : Reply) (events : List Event) (new : StoredCell) → IsStoredKept old → MakesNumbered said → (events ≡ []) ⊎ IsActed old said own events → EndsBy old events own reply new → IsStoredKept new
-acts_kept old said own reply events new kept numbered (inl none) ends = subst IsStoredKept (sym (nothing_ends old events own reply new none ends)) kept
+pub acts_kept : (old : StoredCell) (said : Line) (own reply : Reply) (events : List Event) (new : StoredCell) → IsCellKept old → MakesNumbered said → (events ≡ []) ⊎ IsActed old said own events → EndsBy old events own reply new → IsCellKept new
+acts_kept old said own reply events new kept numbered (inl none) ends = subst IsCellKept (sym (nothing_ends old events own reply new none ends)) kept
 acts_kept old said own reply events new kept numbered (inr acted) ends = ends_kept old kept said own events numbered acted reply new ends

@@ -161,7 +161,7 @@ pub kept_relinked : (cell : MadeCell) (links : ℕ → ℕ → Strength) → IsK
 kept_relinked cell links kept = record {
   sound = kept.sound;
   up = kept.up;
-  made = record { numbered = kept.made.numbered; clients = kept.made.clients; volumes = kept.made.volumes; replicas = kept.made.replicas };
+  made = record { numbered = kept.made.numbered; clients = kept.made.clients; replicas = kept.made.replicas };
   holding = kept.holding;
   letters = record { numbered = kept.letters.numbered; pooled = kept.letters.pooled };
 }

@@ -12,21 +12,25 @@ use Rattle.coda_script.specs.declared.reply.Reply.{Reply}
 use Rattle.coda_script.specs.declared.reply.Reply.TheVariants.{Recovered}
 use Rattle.coda_stored.specs.Cells.{StoredCell, nothing_stored}
 use Rattle.coda_stored.specs.Lines.{Happens, client_payloads, replica_payloads}
-use Rattle.coda_stored.specs.Kept.{IsStoredKept}
+use Rattle.coda_stored.specs.Kept.{IsCellKept, IsStoredKept}
 
--- In a cell that is kept, each line whose numbers are in their ranges leaves one that is kept, wherever a disk stops it; and the first one is kept.
+-- In a cell that is kept, each line whose numbers are in their ranges leaves one that is kept, wherever a disk stops it; and the first one is kept. The actors
+-- are kept so whatever stands on disks of others, which no line touches.
 pub record StoredCellsAreKept : Type 0 where
   pub first : IsStoredKept nothing_stored
+  pub actors : (old new : StoredCell) (said : Line) (reply : Reply) (outside : List (List ℕ)) → IsCellKept old → InRange said → Happens old said reply outside new → IsCellKept new
+  pub others : (old new : StoredCell) (said : Line) (reply : Reply) (outside : List (List ℕ)) → Happens old said reply outside new → new.idle ≡ old.idle
   pub lines : (old new : StoredCell) (said : Line) (reply : Reply) (outside : List (List ℕ)) → IsStoredKept old → InRange said → Happens old said reply outside new → IsStoredKept new
 
 -- Of a cell that is kept the histories are a run from nothing: whichever of the entries join whose appends failed, they keep what is promised.
 abbrev pub StoredCellsArePromised : Type 0
 StoredCellsArePromised = (cell : StoredCell) → IsStoredKept cell → IsRun empty_cell cell.made.acted
 
--- the histories of a cell begin with those of another
+-- the histories of a cell begin with those of another, and what was learned of replicas that are none of the cell's is what it was
 pub record Begins (new old : StoredCell) : Type 0 where
   pub clients : (client : ℕ) → BeginsWith (new.made.acted.clients client).history (old.made.acted.clients client).history
   pub replicas : (server volume : ℕ) → BeginsWith (new.made.acted.replicas server volume).history (old.made.acted.replicas server volume).history
+  pub learned : new.made.acted.learned ≡ old.made.acted.learned
 
 -- Whatever a line does, no entry that was acknowledged is lost: each history begins with what it was.
 abbrev pub EntriesStay : Type 0

@@ -10,3 +10,4 @@ pub mod Mounted
 pub mod Absent
 pub mod Makers
 pub mod Patient
+pub mod Held

@@ -41,6 +41,7 @@ at_rest cell = record {
       replicas = λ server volume. stopped (cell.made.homes volume) (cell.made.acted.replicas server volume);
       pool = λ message. None;
       posted = 0;
+      learned = cell.made.acted.learned;
     };
   };
   areas = 0;

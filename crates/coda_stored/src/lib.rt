@@ -2,6 +2,7 @@
 #![tactic(auto)]
 
 ghost use Rattle.coda_stored.specs.Absent.{AbsentActorsAreRefused};
+ghost use Rattle.coda_stored.specs.Held.{HeldCellsAreKept};
 ghost use Rattle.coda_stored.specs.Makers.{MakersMakeAgain};
 ghost use Rattle.coda_stored.specs.Mounted.{WhatIsFoundWasThere};
 ghost use Rattle.coda_stored.specs.Patient.{ThoseToComeStay};
@@ -73,4 +74,11 @@ pub fn those_to_come_stay()
 /// as on a disk that holds nothing.
 pub fn what_is_found_was_there()
     ensures { WhatIsFoundWasThere }
+{}
+
+/// A law of cells over disks that earlier runs left, whoever of their actors comes again, in whatever order, and beside whichever new
+/// ones: what each line leaves is kept, whatever disk it finds, unless that one was given another header and a call of it failed; and
+/// the histories keep what is promised.
+pub fn held_cells_are_kept()
+    ensures { HeldCellsAreKept }
 {}

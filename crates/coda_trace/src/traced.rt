@@ -6,6 +6,7 @@ ghost use Rattle.coda_cell.specs.Cells.{volume_at};
 ghost use Rattle.coda_cell.specs.Made.{state_of};
 ghost use Rattle.coda_cell.specs.State.{ClientState, log_of, new_volume};
 ghost use Rattle.coda_stored.specs.Cells.{StoredCell, nothing_stored};
+ghost use Rattle.coda_stored.specs.Held.{IsHeld, begun_from};
 ghost use Rattle.coda_stored.specs.Kept.{IsStoredKept};
 ghost use Rattle.coda_stored.specs.Seen.{mounts_none, IsSeen};
 ghost use Rattle.coda_stored.specs.Lines.{is_built, Happens, client_down, replica_down};
@@ -68,6 +69,7 @@ impl<B: Bay> TracedCell<B> {
         ensures stands { AreBlank (B.has result.cell.bay) → IsSite B.D.told (B.out result.cell.bay) (B.has result.cell.bay) nothing_stored result.cell.site }
         ensures waits { (cell : StoredCell) (lines : List Awaited) → IsStoredKept cell → MakeAllAgain cell lines → AreOnDisks B.D.told (B.has result.cell.bay) cell
             → IsAwaiting B.D.told (B.out result.cell.bay) (B.has result.cell.bay) (at_rest cell) lines result.cell.site }
+        ensures begins { (cell : StoredCell) (held : IsHeld cell) → AreOnDisks B.D.told (B.has result.cell.bay) cell → IsSite B.D.told (B.out result.cell.bay) (B.has result.cell.bay) (begun_from cell held) result.cell.site }
         ensures counts { totals B.D.told B.D.faults B.D.arms (B.disk_faults result.cell.bay) (B.disk_arms result.cell.bay) result.cell.site ≡ record { faults = plus (B.disk_faults bay) 0; arms = plus (B.disk_arms bay) 0 } }
         ensures untraced { result.events.items ≡ [] }
     {

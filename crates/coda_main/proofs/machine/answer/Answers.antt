@@ -4,6 +4,7 @@ use Rattle.coda_stored.specs.Seen.{seen}
 use Rattle.coda_main.specs.Tallies.{IsText}
 use Rattle.coda_main.specs.Shows.{moment}
 use Rattle.coda_main.proofs.Answering.{line_replied}
+use Rattle.coda_main.proofs.Holding.{line_answered_held}
 use Rattle.coda_main.proofs.Resuming.{line_answered_again, line_answered_between, line_answered_elsewhere}
 use Rattle.coda_main.proofs.machine.answer.Goals as goal
 
@@ -58,3 +59,13 @@ returns-in-Ok-text_of-clause-elsewhere g c = λ stored next left images mounts s
     let same : c.into_vec.result.items ≡ c.in-Ok-text_of.text = search rules in
     line_answered_elsewhere g.B.D.Disk.told before behind stored next left images c.args.said.now c.in-Ok.reply c.into_vec.result.items shows (c.in-Ok.ensures.mounts (seen stored (next ∷ left)) (seen_is_seen stored (next ∷ left) shows.kept) mounts)
     (subst (IsText c.in-Ok.reply) (sym same) c.in-Ok-text_of.ensures.said)
+
+pub returns-in-Ok-text_of-clause-held : goal.returns-in-Ok-text_of-clause-held
+returns-in-Ok-text_of-clause-held g c = λ at shows.
+    let old = c.args.cell.now in
+    let new = c.step.new.self in
+    let before = moment (g.B.Bay.out old.bay) (g.B.Bay.has old.bay) (g.B.Bay.answered old.bay) old.site in
+    let behind = moment (g.B.Bay.out new.bay) (g.B.Bay.has new.bay) (g.B.Bay.answered new.bay) new.site in
+    let same : c.into_vec.result.items ≡ c.in-Ok-text_of.text = search rules in
+    line_answered_held g.B.D.Disk.told before behind at c.args.said.now c.in-Ok.reply c.into_vec.result.items c.requires.range shows c.in-Ok.ensures.does c.in-Ok.ensures.finds
+    (λ cell seen stands can. same ∙ c.in-Ok-text_of.ensures.printed cell seen stands can) (subst (IsText c.in-Ok.reply) (sym same) c.in-Ok-text_of.ensures.said)

@@ -1,12 +1,13 @@
 use Rattle.std.proofs.Common.{sym, ap, subst, ◌≡◌, ◌≤◌, ℕ, arith}
 use Rattle.coda_stored.specs.Resuming.{at_rest}
+use Rattle.coda_stored.proofs.HeldFinds.{held_cells_are_kept}
 use Rattle.coda_stored.proofs.Resuming.{cells_are_resumed}
 use Rattle.coda_site.specs.Cells.{AreBlank, AreOnDisks}
 use Rattle.coda_disk.specs.Bays.{plus}
 use Rattle.coda_site.specs.Totals.{totals}
 use Rattle.coda_main.specs.Shows.{moment}
 use Rattle.coda_main.proofs.Tallying.{reported_disks}
-use Rattle.coda_main.proofs.Reporting.{goes_on, reported, reported_later, reported_lines}
+use Rattle.coda_main.proofs.Reporting.{goes_on, reported, reported_later, reported_held, reported_lines}
 use Rattle.coda_main.proofs.Resuming.{waits_first}
 use Rattle.coda_main.proofs.top.run_and_close.Goals as goal
 
@@ -54,3 +55,13 @@ told_later old new start end first last later = omega (arith, first, last, later
 pub returns-clause-disk_faults_later : goal.returns-clause-disk_faults_later
 returns-clause-disk_faults_later g c =
     told_later (g.B.Bay.disk_faults c.args.bay) (g.B.Bay.disk_faults c.close.result) _ _ (ap (λ t. t.faults) c.new.ensures.counts) c.close.ensures.faults_out c.run-status.ensures.follows.2
+
+pub returns-clause-held : goal.returns-clause-held
+returns-clause-held g c = λ past held disks.
+    let start = c.new.ensures in
+    let report = c.run-status.ensures.report in
+    let told = g.B.D.Disk.told in
+    reported_held c.run-status.new.machine (record { cell = c.new.result }) told (λ m. moment (g.B.Bay.out m.cell.bay) (g.B.Bay.has m.cell.bay) (g.B.Bay.answered m.cell.bay) m.cell.site) (λ m. totals g.B.D.Disk.told g.B.D.Disk.faults g.B.D.Disk.arms (g.B.Bay.disk_faults m.cell.bay) (g.B.Bay.disk_arms m.cell.bay) m.cell.site) _ _ _ _ report.0 c.run-status.result report.1
+    (g.B.Bay.has c.close.result) (g.B.Bay.answered c.args.bay) (g.B.Bay.answered c.close.result) past held start.ready
+    (record { held = held_cells_are_kept.begun past held; stands = start.begins past held (subst (λ bay. AreOnDisks told (g.B.Bay.has bay) past) (sym start.bay) disks); answered = ap g.B.Bay.answered start.bay })
+    c.close.ensures.answered (λ ready cell stands. c.close.ensures.stands cell ready stands)

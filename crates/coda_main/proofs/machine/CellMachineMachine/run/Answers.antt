@@ -9,9 +9,9 @@ use Rattle.coda_main.proofs.Resuming.{line_resumes, silent_resumes}
 use Rattle.coda_main.proofs.machine.CellMachineMachine.run.Goals as goal
 
 -- what holds of a value where there is one, and what holds then
-of_value : {A E : Type 0} (P R S T U Q : A → Type 0) (X : Type 0) (r : Result A E) → IfOk r P → IfOk r R → IfOk r S → IfOk r T → IfOk r U → OnOk r X → ((x : A) → P x → R x → S x → T x → U x → X → Q x) → IfOk r Q
-of_value P R S T U Q X (Ok x) is also more yet last on then_ = then_ x is also more yet last on
-of_value P R S T U Q X (Err e) is also more yet last on then_ = tt
+of_value : {A E : Type 0} (P R S T U V Q : A → Type 0) (X : Type 0) (r : Result A E) → IfOk r P → IfOk r R → IfOk r S → IfOk r T → IfOk r U → IfOk r V → OnOk r X → ((x : A) → P x → R x → S x → T x → U x → V x → X → Q x) → IfOk r Q
+of_value P R S T U V Q X (Ok x) is also more yet then_so last on then_ = then_ x is also more yet then_so last on
+of_value P R S T U V Q X (Err e) is also more yet then_so last on then_ = tt
 
 pub returns-in-Ok-Some-clause-ok : goal.returns-in-Ok-Some-clause-ok
 returns-in-Ok-Some-clause-ok g c =
@@ -23,10 +23,10 @@ returns-in-Ok-Some-clause-ok g c =
     let new_counts = totals g.B.D.Disk.told g.B.D.Disk.faults g.B.D.Disk.arms (g.B.Bay.disk_faults new.bay) (g.B.Bay.disk_arms new.bay) new.site in
     let spelled : line_of c.args.line.now ≡ Ok (Some c.in-Ok-Some.said) = search rules in
     let built : is_built c.in-Ok-Some.said ≡ true = search rules in
-    of_value _ _ _ _ _ _ _ c.answer-text.result c.answer-text.ensures.answered c.answer-text.ensures.counts c.answer-text.ensures.again c.answer-text.ensures.between c.answer-text.ensures.elsewhere c.answer-text.ensures.goes_on (λ text answers counts again between elsewhere goes_on. (
+    of_value _ _ _ _ _ _ _ _ c.answer-text.result c.answer-text.ensures.answered c.answer-text.ensures.counts c.answer-text.ensures.again c.answer-text.ensures.between c.answer-text.ensures.elsewhere c.answer-text.ensures.held c.answer-text.ensures.goes_on (λ text answers counts again between elsewhere finds goes_on. (
       answered_since before behind,
       (
-        line_resumes g.B.D.Disk.told before behind c.args.line.now text.items c.in-Ok-Some.said spelled built (line_gives g.B.D.Disk.told before behind c.args.line.now text.items c.in-Ok-Some.said spelled built goes_on answers) again between elsewhere,
+        line_resumes g.B.D.Disk.told before behind c.args.line.now text.items c.in-Ok-Some.said spelled built (line_gives g.B.D.Disk.told before behind c.args.line.now text.items c.in-Ok-Some.said spelled built goes_on answers) again between elsewhere finds,
         line_counts g.B.D.Disk.told before behind old_counts new_counts c.args.line.now text.items c.in-Ok-Some.said counts.0 spelled built counts.1 counts.2 counts.3,
       ),
     ))
