@@ -10,10 +10,11 @@ use Rattle.coda_script.specs.Ranges.{InRange}
 use Rattle.coda_cell.specs.Made.{state_of}
 use Rattle.coda_plain.specs.Cell.{Actor}
 use Rattle.coda_report.specs.Texts.{reply_text}
-use Rattle.coda_stored.specs.Cells.{StoredCell}
+use Rattle.coda_cell.specs.Steps.{alone}
+use Rattle.coda_stored.specs.Cells.{StoredCell, client_header, replica_header}
 use Rattle.coda_stored.specs.Held.{DoesFind}
-use Rattle.coda_stored.specs.Lines.{Happens}
-use Rattle.coda_stored.specs.Mounted.{Shelf, HoldsShelf, Making, FindsDisk, LineFinds}
+use Rattle.coda_stored.specs.Lines.{area_of, Happens}
+use Rattle.coda_stored.specs.Mounted.{Shelf, HoldsShelf, Making, FindsDisk, LineFinds, making_client, making_volume}
 use Rattle.coda_stored.specs.Seen.{mounts_none, IsSeen}
 use Rattle.coda_stored.proofs.HeldFinds.{held_cells_are_kept}
 use Rattle.coda_site.specs.Sites.{IsSite}
@@ -39,8 +40,10 @@ disk_says header given actor make old reply outside new (inr (inr (inl faulty)))
 disk_says header given actor make old reply outside new (inr (inr (inr faulty))) = subst ShowsNothing (sym faulty.1.0) tt
 
 line_says : (old : StoredCell) (shelf : Shelf) (said : Line) (reply : Reply) (outside : List (List ℕ)) (new : StoredCell) → LineFinds old shelf said reply outside new → ShowsNothing reply
-line_says old shelf (line.Client client blocks area) reply outside new finds = disk_says _ _ _ _ old reply outside new finds
-line_says old shelf (line.Volume volume servers area) reply outside new finds = disk_says _ _ _ _ old reply outside new finds
+line_says old shelf (line.Client client blocks area) reply outside new finds =
+    disk_says (client_header client blocks (area_of area)) (old.clients client).given (old.made.acted.clients client) (making_client old client blocks (area_of area)) old reply outside new finds
+line_says old shelf (line.Volume volume servers area) reply outside new finds =
+    disk_says (replica_header volume (alone servers) (area_of area)) shelf.given shelf.actor (making_volume old volume (alone servers) (area_of area)) old reply outside new finds
 line_says old shelf _ reply outside new finds = absurd finds
 
 -- ---- a line

@@ -1,5 +1,5 @@
 -- The disks that a cell left which is held, before any line makes an actor on them.
-use Rattle.std.proofs.Common.{◌≡◌, ◌≢◌, ℕ, ◌-◌, ◌||◌, Bool, true, false, cond, List, [], ◌∷◌, Option, Some, None, refl, sym, ap, ◌∙◌, subst, inl, inr}
+use Rattle.std.proofs.Common.{◌≡◌, ◌≢◌, ℕ, ◌-◌, ◌||◌, Bool, true, false, cond, List, [], ◌∷◌, Option, Some, None, refl, sym, ap, ◌∙◌, subst, inl, inr, length, take, arith}
 use Rattle.std.proofs.lemmas.Bool.{cases_eq, eq-eqb, ne_eqb}
 use Rattle.coda_actors.specs.Plain.{PlainActor}
 use Rattle.coda_plain.specs.Cell.{ClientEntry, Actor}
@@ -8,7 +8,7 @@ use Rattle.coda_record.specs.declared.entry.ReplicaEntry.{ReplicaEntry as KeptEn
 use Rattle.coda_stored.specs.Cells.{Side, StoredCell, plain_client, plain_replica}
 use Rattle.coda_stored.specs.Held.{unhoused, clients_among, unmade_from, AreHomes, IsHeld}
 use Rattle.coda_stored.specs.Mounted.{Shelf, plain_shelf}
-use Rattle.coda_stored.specs.Resuming.{stopped, forgotten, at_rest, Awaited, ClientAgain, VolumeAgain, awaits_client, awaits_volume}
+use Rattle.coda_stored.specs.Resuming.{stopped, forgotten, at_rest, Awaited, ClientAgain, VolumeAgain, awaits_client, awaits_volume, servers_of}
 use Rattle.coda_stored.specs.Seen.{asleep, home_unless, servers_before, idle_until}
 use Rattle.coda_stored.proofs.Held.{among, seen_among, idle_same}
 use Rattle.coda_stored.proofs.HeldFirst.{all_clients, same_clients}
@@ -17,7 +17,7 @@ use Rattle.coda_site.proofs.Resting.{rest, client_waits}
 
 -- no server has a volume
 pub servers_begun : (left : List Awaited) → servers_before [] left ≡ []
-servers_begun left = refl
+servers_begun left = ap (λ (n : ℕ). take n []) (let none : 0 - length (servers_of left) ≡ 0 = omega arith in none)
 
 pub home_begun : (b : Bool) → home_unless b None ≡ None
 home_begun true = refl
