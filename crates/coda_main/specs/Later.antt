@@ -11,7 +11,8 @@ use Rattle.coda_script.specs.declared.reply.Reply.TheVariants.{ShowVolume, ShowL
 use Rattle.coda_report.specs.Texts.{reply_text}
 use Rattle.coda_cell.specs.Made.{state_of}
 use Rattle.coda_stored.specs.Cells.{StoredCell}
-use Rattle.coda_stored.specs.Foreign.{refused_foreign, IsForeignAt, MakesOn}
+use Rattle.coda_stored.specs.Foreign.{IsForeignAt, MakesOn}
+use Rattle.coda_stored.specs.Lines.{refused_foreign}
 use Rattle.coda_stored.specs.Kept.{IsStoredKept}
 use Rattle.coda_stored.specs.Resuming.{at_rest, Awaited, AreAwaited, MakesAgain}
 use Rattle.coda_stored.specs.Seen.{seen, Meanwhile}

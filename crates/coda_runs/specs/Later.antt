@@ -13,10 +13,10 @@ use Rattle.coda_report.specs.Texts.{reply_text}
 use Rattle.coda_cell.specs.Made.{state_of}
 use Rattle.coda_cell.specs.Steps.{alone}
 use Rattle.coda_stored.specs.Cells.{StoredCell, client_header, replica_header, disk_number}
-use Rattle.coda_stored.specs.Foreign.{refused_foreign, IsForeignAt, MakesOn}
+use Rattle.coda_stored.specs.Foreign.{IsForeignAt, MakesOn}
 use Rattle.coda_stored.specs.Kept.{IsStoredKept}
 use Rattle.coda_stored.specs.Laws.{Begins}
-use Rattle.coda_stored.specs.Lines.{is_built, area_of, refused_fault}
+use Rattle.coda_stored.specs.Lines.{is_built, area_of, refused_fault, refused_foreign}
 use Rattle.coda_stored.specs.Resuming.{at_rest, Awaited, ClientAgain, VolumeAgain, is_awaited, AreAwaited, MakesAgain, MakeAllAgain}
 use Rattle.coda_runs.specs.Headline.{HasRun, Always}
 use Rattle.coda_stored.specs.Seen.{seen, mounts_none, Meanwhile}

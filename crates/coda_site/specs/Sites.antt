@@ -16,7 +16,7 @@ use Rattle.coda_crew.specs.Crews.{slot_at, FitsAll, OutAll, OwnAll, IsOutIfHeld}
 use Rattle.coda_record.specs.declared.entry.ReplicaEntry.{ReplicaEntry as KeptEntry}
 use Rattle.coda_cell.specs.Cells.{IsNetwork}
 use Rattle.coda_cell.specs.Steps.{Named}
-use Rattle.coda_stored.specs.Cells.{StoredCell, plain_client, plain_replica}
+use Rattle.coda_stored.specs.Cells.{StoredCell, plain_client, standing}
 use Rattle.coda_site.specs.declared.site.Site.{Site}
 use Rattle.coda_site.specs.declared.site.Place.{Place}
 
@@ -35,9 +35,10 @@ place_in site volume = tree.get nat_cmp site.places volume
 
 -- ---- what a site stands for
 
--- The replicas of a cell by the numbers of their disks: each volume's at its place, and no line made any other, which is what its disk holds.
+-- The replicas of a cell by the numbers of their disks: each volume's at its place, be it on its own disk or on another's; and no line made any other, which is
+-- what its disk holds.
 pub record AreReplicas (cell : StoredCell) (plain : ℕ → PlainActor KeptEntry) : Type 0 where
-  pub placed : (volume server : ℕ) → cell.made.homes volume ≡ Some server → plain (cell.places volume) ≡ plain_replica volume (cell.made.acted.replicas server volume) (cell.replicas volume)
+  pub placed : (volume server : ℕ) → cell.made.homes volume ≡ Some server → plain (cell.places volume) ≡ standing cell server volume
   pub others : (number : ℕ) → ((volume server : ℕ) → cell.made.homes volume ≡ Some server → cell.places volume ≢ number) → plain number ≡ cell.idle number
 
 -- The site, with the disks that the bay has and those that are out, stands for the cell.

@@ -4,10 +4,10 @@ use Rattle.coda_disk.specs.Told.{Told}
 use Rattle.coda_script.specs.declared.line.Line.{Line}
 use Rattle.coda_script.specs.declared.reply.Reply.{Reply}
 use Rattle.coda_stored.specs.Cells.{StoredCell}
-use Rattle.coda_stored.specs.Foreign.{refused_foreign, IsForeignAt, MakesOn}
+use Rattle.coda_stored.specs.Foreign.{IsForeignAt, MakesOn}
 use Rattle.coda_stored.specs.Kept.{IsStoredKept}
-use Rattle.coda_stored.specs.Lines.{refused_fault, Becoming}
-use Rattle.coda_stored.specs.Mounted.{Shelf, LineFinds, IsOthers}
+use Rattle.coda_stored.specs.Lines.{refused_foreign, Becoming}
+use Rattle.coda_stored.specs.Mounted.{Shelf, LineFinds}
 use Rattle.coda_stored.specs.Seen.{mounts_none, IsSeen}
 use Rattle.coda_site.specs.Sites.{IsSite}
 use Rattle.coda_site.specs.declared.site.Site.{Site}
@@ -38,7 +38,6 @@ pub record IsRefusedAsForeign {D : Type 0} (told : D → Told) (out : ℕ → Bo
 abbrev pub Mounts : {D : Type 0} → (D → Told) → (ℕ → Bool) → (ℕ → Told) → StoredCell → Line → Reply → List (List ℕ) → List (List ℕ) → Site D → Type 0
 Mounts told out has cell said reply old new site = IsRefusedAsForeign told out has cell said reply old new site ⊎ MakesOn cell said reply
 
--- A line makes an actor on the disk that it finds, or is refused for it, and the site stands for the cell that it leaves; but where the disk is another
--- volume's and a call of it failed, only that is told.
+-- A line makes an actor on the disk that it finds, or is refused for it, or a call of the disk fails, and the site stands for the cell that it leaves.
 abbrev pub Finds : {D : Type 0} → (D → Told) → (ℕ → Bool) → (ℕ → Told) → StoredCell → Shelf → Line → Reply → List (List ℕ) → List (List ℕ) → Site D → Type 0
-Finds told out has cell shelf said reply old new site = Becomes told out has (LineFinds cell shelf said) reply old new site ⊎ (IsOthers shelf said × (reply ≡ refused_fault))
+Finds told out has cell shelf said reply old new site = Becomes told out has (LineFinds cell shelf said) reply old new site

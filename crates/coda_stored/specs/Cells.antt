@@ -1,9 +1,9 @@
 -- A cell whose actors stand on disks.
-use Rattle.std.specs.Prelude.{ℕ, ◌+◌, ◌*◌, ◌-◌, ◌^◌, Bool, true, false, List, [], ◌∷◌, Option, Some, None}
+use Rattle.std.specs.Prelude.{◌≡◌, ◌≢◌, ℕ, ◌+◌, ◌*◌, ◌-◌, ◌^◌, Bool, true, false, List, [], ◌∷◌, Option, Some, None}
 use Rattle.std.specs.Option.{option_map, option_and_then}
 use Rattle.coda_journal.specs.declared.header.Header.{Header}
 use Rattle.coda_journal.specs.declared.header.Kind.TheVariants.{Client as OfClient, Replica as OfReplica}
-use Rattle.coda_actors.specs.Plain.{PlainActor, Life, Unmade, Down, Up}
+use Rattle.coda_actors.specs.Plain.{PlainDisk, PlainActor, Life, Unmade, Down, Up}
 use Rattle.coda_plain.specs.Cell.{ClientEntry, Actor}
 use Rattle.coda_plain.specs.Decisions.{ReplicaEntry}
 use Rattle.coda_plain.specs.Moves.{Append, Move, Fails, after as after_move}
@@ -15,34 +15,41 @@ use Rattle.coda_matching.specs.Clients.{journal_by, payload_by}
 use Rattle.coda_matching.specs.Replicas.{journal_at, entry_at}
 
 -- What a cell knows of an actor's disk beside the actor's history: the header that the disk was last given, if any; the header that the
--- actor's line asked for, where it was made; and the image that its last crash left, until a recovery.
+-- actor's line asked for, where it was made; the image that its last crash left, until a recovery; and whether the disk is another's: a line
+-- made the actor on a disk that was given another header, and a call of it failed.
 pub record Side : Type 0 where
   pub given : Option Header
   pub asked : Option Header
   pub left : Option (List ℕ)
+  pub foreign : Bool
 
 -- an actor that no line made, whose disk holds nothing
 abbrev pub no_side : Side
-no_side = record { given = None; asked = None; left = None }
+no_side = record { given = None; asked = None; left = None; foreign = false }
 
 -- A cell on disks: what was made in it, with the histories of its actors, of which some may be down; how many MiB the areas of their disks
--- have; the number of the disk of each volume that was made; what is known of the disk of each client, and of the replica of each volume; and
--- what the disks of replicas hold, by their numbers, that are of no volume that was made.
+-- have; the number of the disk of each volume that was made; what is known of the disk of each client, and of the replica of each volume; what the
+-- disk of each volume holds whose replica was made on the disk of another; and what the disks of replicas hold, by their numbers, that are of no
+-- volume that was made.
 pub record StoredCell : Type 0 where
   pub made : MadeCell
   pub areas : ℕ
   pub places : ℕ → ℕ
   pub clients : ℕ → Side
   pub replicas : ℕ → Side
+  pub others : ℕ → PlainDisk KeptEntry
   pub idle : ℕ → PlainActor KeptEntry
 
--- an actor that no line made, on a disk that holds nothing
+-- a disk that holds nothing, and an actor that no line made, on such a disk
+abbrev pub empty_disk : {Entry : Type 0} → PlainDisk Entry
+empty_disk = record { header = None; history = []; failed = None }
+
 abbrev pub unmade : {Entry : Type 0} → PlainActor Entry
-unmade = record { disk = record { header = None; history = []; failed = None }; life = Unmade; left = None }
+unmade = record { disk = empty_disk; life = Unmade; left = None }
 
 -- nothing was made, and the disks hold nothing
 abbrev pub nothing_stored : StoredCell
-nothing_stored = record { made = nothing_made; areas = 0; places = λ volume. 0; clients = λ client. no_side; replicas = λ volume. no_side; idle = λ number. unmade }
+nothing_stored = record { made = nothing_made; areas = 0; places = λ volume. 0; clients = λ client. no_side; replicas = λ volume. no_side; others = λ volume. empty_disk; idle = λ number. unmade }
 
 -- ---- the actors
 
@@ -77,7 +84,20 @@ plain_replica volume actor side = record {
   left = side.left;
 }
 
+-- the same actor on a disk that is another's
+abbrev pub on_disk : {Entry : Type 0} → Bool → PlainDisk Entry → PlainActor Entry → PlainActor Entry
+on_disk false other actor = actor
+on_disk true other actor = record actor { disk = other }
+
+-- the replica of a volume that was made, on its disk or on that of another
+abbrev pub standing : StoredCell → ℕ → ℕ → PlainActor KeptEntry
+standing cell server volume = on_disk (cell.replicas volume).foreign (cell.others volume) (plain_replica volume (cell.made.acted.replicas server volume) (cell.replicas volume))
+
 -- ---- headers
+
+-- a disk was given another header than the one that is asked for
+abbrev pub IsAnothers : Header → Option Header → Type 0
+IsAnothers header given = (other : Header) × (given ≡ Some other) × (other ≢ header)
 
 -- the header that a client's line asks for: areas have 8 MiB where none is given
 abbrev pub client_header : ℕ → ℕ → ℕ → Header

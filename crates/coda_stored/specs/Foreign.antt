@@ -5,17 +5,11 @@ use Rattle.coda_journal.specs.declared.header.Header.{Header}
 use Rattle.coda_record.specs.declared.entry.ReplicaEntry.{ReplicaEntry as KeptEntry}
 use Rattle.coda_script.specs.declared.line.Line.{Line}
 use Rattle.coda_script.specs.declared.line.Line.TheVariants as line
-use Rattle.coda_script.specs.declared.refusal.Refusal.TheVariants as named
-use Rattle.coda_script.specs.declared.reply.Arg.TheVariants.{Number}
 use Rattle.coda_script.specs.declared.reply.Reply.{Reply}
-use Rattle.coda_script.specs.declared.reply.Reply.TheVariants.{Opened, Refused}
+use Rattle.coda_script.specs.declared.reply.Reply.TheVariants.{Opened}
 use Rattle.coda_cell.specs.Steps.{alone}
 use Rattle.coda_stored.specs.Cells.{StoredCell, client_header, replica_header, disk_number}
 use Rattle.coda_stored.specs.Lines.{area_of, refused_fault}
-
--- the reply to a line whose disk is that of another actor, which its byte at this place tells first
-abbrev pub refused_foreign : ℕ → Reply
-refused_foreign at = Refused named.Foreign (Number at ∷ [])
 
 -- the disk of the replica of the volume that is made next on a server
 abbrev pub next_disk : StoredCell → ℕ → PlainDisk KeptEntry

@@ -1,6 +1,7 @@
 -- Cells over disks that earlier runs left: whoever of their actors comes again, in whatever order, and beside whichever new ones.
-use Rattle.std.specs.Prelude.{◌≡◌, ◌≢◌, ◌⊎◌, ℕ, Bool, true, false, List, [], ◌∷◌, ◌++◌, Option, Some, None}
-use Rattle.coda_journal.specs.declared.header.Header.{Header}
+use Rattle.std.specs.Prelude.{◌≡◌, ◌⊎◌, ℕ, Bool, true, false, List, [], ◌∷◌, ◌++◌, Option, Some, None}
+use Rattle.coda_actors.specs.Plain.{PlainDisk, PlainActor, Unmade}
+use Rattle.coda_record.specs.declared.entry.ReplicaEntry.{ReplicaEntry as KeptEntry}
 use Rattle.coda_plain.specs.Cell.{deeds_of, new_actor, found, Joins, found_in}
 use Rattle.coda_plain.specs.Decisions.{ReplicaEntry}
 use Rattle.coda_plain.specs.Deeds.{settlements_of}
@@ -10,16 +11,14 @@ use Rattle.coda_plain.specs.Logs.{BeginsWith}
 use Rattle.coda_plain.specs.Promises.{ArePromised}
 use Rattle.coda_script.specs.Ranges.{InRange}
 use Rattle.coda_script.specs.declared.line.Line.{Line}
-use Rattle.coda_script.specs.declared.line.Line.TheVariants as line
 use Rattle.coda_script.specs.declared.reply.Reply.{Reply}
-use Rattle.coda_cell.specs.Steps.{alone}
 use Rattle.coda_matching.specs.Replicas.{IsDecision}
-use Rattle.coda_stored.specs.Cells.{StoredCell, no_side, client_header, replica_header}
+use Rattle.coda_stored.specs.Cells.{StoredCell, no_side, replica_header}
 use Rattle.coda_stored.specs.Kept.{IsCellKept, IsStoredKept}
-use Rattle.coda_stored.specs.Lines.{area_of, refused_fault, Happens}
-use Rattle.coda_stored.specs.Mounted.{Shelf, plain_shelf, HoldsShelf, LineFinds, IsOthers}
+use Rattle.coda_stored.specs.Lines.{Happens}
+use Rattle.coda_stored.specs.Mounted.{Shelf, plain_shelf, HoldsShelf, LineFinds}
 use Rattle.coda_stored.specs.Resuming.{at_rest, Awaited, ClientAgain, VolumeAgain, awaits_client, awaits_volume, MakeAllAgain}
-use Rattle.coda_stored.specs.Seen.{seen, idle_until, mounts_none, IsSeen}
+use Rattle.coda_stored.specs.Seen.{own_client, own_replica, IsBeside, seen, idle_until, mounts_none, IsSeen}
 
 -- ---- disks that stand by themselves
 
@@ -27,12 +26,11 @@ use Rattle.coda_stored.specs.Seen.{seen, idle_until, mounts_none, IsSeen}
 abbrev pub IsLabelled : Shelf → ℕ → Type 0
 IsLabelled shelf server = ((shelf.given ≡ None) × (shelf.actor.history ≡ []) × (shelf.actor.failed ≡ None)) ⊎ ((area : ℕ) × (shelf.given ≡ Some (replica_header shelf.volume server area)))
 
--- What the disk of a number holds, where it is of no volume that was made: a replica decided alone what is there, and it fits what clients did, with the entry whose
--- append failed and without it.
-pub record IsShelfKept (cell : StoredCell) (number : ℕ) : Type 0 where
+-- What a disk holds for which nobody asks: a replica decided alone what is there, and it fits what clients did, with the entry whose append failed and without it.
+pub record IsShelfKept (cell : StoredCell) (plain : PlainActor KeptEntry) : Type 0 where
   pub shelf : Shelf
   pub server : ℕ
-  pub there : cell.idle number ≡ plain_shelf shelf
+  pub there : plain ≡ plain_shelf shelf
   pub labelled : IsLabelled shelf server
   pub alone : (entry : ReplicaEntry) → In entry (found true shelf.actor) → IsDecision entry
   pub fits : (joins : Bool) → DoesFit (λ client. (cell.made.acted.clients client).history) server shelf.volume (found joins shelf.actor)
@@ -85,15 +83,28 @@ pub record AreNamed (cell : StoredCell) (lines : List Awaited) : Type 0 where
   pub volumes : (volume server : ℕ) → cell.made.homes volume ≡ Some server → awaits_volume lines volume ≡ true
   pub homes : AreHomes cell lines
 
--- What holds of a cell over disks that stand by themselves: it is what is seen of one whose actors are kept, while some of its clients are yet to come; what the other
--- disks hold is kept; and some lines name all that was made.
+-- a cell as if each actor that was made on the disk of another had its own
+abbrev pub owned : StoredCell → StoredCell
+owned cell = record cell { clients = λ client. own_client (cell.clients client); replicas = λ volume. own_replica (cell.replicas volume) }
+
+-- a disk that an actor that is down has not, for which nobody else asks either
+abbrev pub lying_disk : PlainDisk KeptEntry → PlainActor KeptEntry
+lying_disk disk = record { disk = disk; life = Unmade; left = None }
+
+-- What holds of a cell over disks that stand by themselves: it is what is seen of one whose actors are kept, as if those that were made on the disk of another had
+-- their own, while some of its clients are yet to come; what the other disks hold is kept, and what those hold that an actor was made on; and some lines name all
+-- that was made.
 pub record IsHeld (cell : StoredCell) : Type 0 where
   pub behind : StoredCell
   pub left : List Awaited
   pub clients : AreClients left
   pub is : cell ≡ seen behind left
-  pub kept : IsCellKept behind
-  pub shelves : (number : ℕ) → IsShelfKept behind number
+  pub kept : IsCellKept (owned behind)
+  pub clients_beside : (client : ℕ) → IsBeside (behind.clients client)
+  pub clients_down : (client : ℕ) → (behind.clients client).foreign ≡ true → (behind.made.acted.clients client).up ≡ false
+  pub replicas_beside : (volume : ℕ) → IsBeside (behind.replicas volume)
+  pub shelves : (number : ℕ) → IsShelfKept behind (behind.idle number)
+  pub others : (volume : ℕ) → (behind.replicas volume).foreign ≡ true → IsShelfKept behind (lying_disk (behind.others volume))
   pub names : List Awaited
   pub named : AreNamed behind names
 
@@ -104,27 +115,16 @@ begun_from cell held = unmade_from held.behind held.names
 
 -- ---- lines
 
--- a disk was given another header than the one that is asked for
-abbrev pub IsAnothers : Header → Option Header → Type 0
-IsAnothers header given = (other : Header) × (given ≡ Some other) × (other ≢ header)
-
--- The disk on which a line is to make an actor is another's.
-abbrev pub IsForeignDisk : StoredCell → Shelf → Line → Type 0
-IsForeignDisk cell shelf (line.Client client blocks area) = IsAnothers (client_header client blocks (area_of area)) (cell.clients client).given
-IsForeignDisk cell shelf (line.Volume volume servers area) = IsAnothers (replica_header volume (alone servers) (area_of area)) shelf.given
-IsForeignDisk cell shelf said = ⊥
-
--- A line finds a disk on which it makes an actor, or is refused for what it finds there: what follows is kept, unless the disk was given another header and a call of
--- it failed.
+-- A line finds a disk on which it makes an actor, or is refused for what it finds there, or a call of the disk fails: what follows is kept, whoever's the disk is.
 pub record DoesFind (old : StoredCell) (said : Line) : Type 0 where
   pub shelf : Shelf
   pub holds : HoldsShelf old said shelf
-  pub kept : (reply : Reply) (outside : List (List ℕ)) (new : StoredCell) → LineFinds old shelf said reply outside new → IsHeld new ⊎ ((reply ≡ refused_fault) × IsForeignDisk old shelf said)
-  pub others : IsOthers shelf said → IsForeignDisk old shelf said
+  pub kept : (reply : Reply) (outside : List (List ℕ)) (new : StoredCell) → LineFinds old shelf said reply outside new → IsHeld new
 
--- What holds of cells over disks that earlier runs left, in whatever order lines make actors on them. A cell that is kept is held, if lines make again all that it has; what
--- a run begins with over the disks of a cell that is held is held, and each client has the history that it had, on a disk as it was; each line that mounts no disk of an actor that it makes does in it what it does in any cell, and one that mounts such a disk finds what stands there; both leave
--- a cell that is held. Its histories keep what is promised, and no client loses an entry.
+-- What holds of cells over disks that earlier runs left, in whatever order lines make actors on them. A cell that is kept is held, if lines make again all
+-- that it has; what a run begins with over the disks of a cell that is held is held, and each client has the history that it had, on a disk as it was; each
+-- line that mounts no disk of an actor that it makes does in it what it does in any cell, and one that mounts such a disk finds what stands there; both
+-- leave a cell that is held. Its histories keep what is promised, and no client loses an entry.
 pub record HeldCellsAreKept : Type 0 where
   pub kept : (cell : StoredCell) (lines : List Awaited) → IsStoredKept cell → MakeAllAgain cell lines → IsHeld cell
   pub begun : (cell : StoredCell) (held : IsHeld cell) → IsHeld (begun_from cell held)

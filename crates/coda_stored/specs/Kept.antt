@@ -55,7 +55,7 @@ IsPlaced cell volume server = (before : ℕ) × (before < length cell.made.serve
 
 -- What holds of the actors of a cell on disks between two lines, whatever stands on disks of others: no append of an actor that is up failed; whichever of the
 -- failed entries join, the cell is kept that would be found if all its actors were recovered; each disk has the header that its actor asks for, and a number of
--- its own; and replicas decide alone, also by an entry whose append failed: no resolution left them anything.
+-- its own, and none is another's; and replicas decide alone, also by an entry whose append failed: no resolution left them anything.
 pub record IsCellKept (cell : StoredCell) : Type 0 where
   pub clients_up : (client : ℕ) → (cell.made.acted.clients client).up ≡ true → (cell.made.acted.clients client).failed ≡ None
   pub replicas_up : (server volume : ℕ) → (cell.made.acted.replicas server volume).up ≡ true → (cell.made.acted.replicas server volume).failed ≡ None
@@ -64,6 +64,8 @@ pub record IsCellKept (cell : StoredCell) : Type 0 where
   pub replicas : (volume : ℕ) → IsReplicaSide volume (cell.made.homes volume) (λ server. cell.made.acted.replicas server volume) (cell.replicas volume)
   pub placed : (volume server : ℕ) → cell.made.homes volume ≡ Some server → IsPlaced cell volume server
   pub apart : (volume other server home : ℕ) → cell.made.homes volume ≡ Some server → cell.made.homes other ≡ Some home → cell.places volume ≡ cell.places other → volume ≡ other
+  pub clients_own : (client : ℕ) → (cell.clients client).foreign ≡ false
+  pub replicas_own : (volume : ℕ) → (cell.replicas volume).foreign ≡ false
   pub alone : (server volume : ℕ) (entry : ReplicaEntry) → In entry (found true (cell.made.acted.replicas server volume)) → IsDecision entry
 
 -- What holds of a cell on disks between two lines: its actors are kept, and no disk of others holds anything.
@@ -75,5 +77,7 @@ pub record IsStoredKept (cell : StoredCell) : Type 0 where
   pub replicas : (volume : ℕ) → IsReplicaSide volume (cell.made.homes volume) (λ server. cell.made.acted.replicas server volume) (cell.replicas volume)
   pub placed : (volume server : ℕ) → cell.made.homes volume ≡ Some server → IsPlaced cell volume server
   pub apart : (volume other server home : ℕ) → cell.made.homes volume ≡ Some server → cell.made.homes other ≡ Some home → cell.places volume ≡ cell.places other → volume ≡ other
+  pub clients_own : (client : ℕ) → (cell.clients client).foreign ≡ false
+  pub replicas_own : (volume : ℕ) → (cell.replicas volume).foreign ≡ false
   pub idle : (number : ℕ) → cell.idle number ≡ unmade
   pub alone : (server volume : ℕ) (entry : ReplicaEntry) → In entry (found true (cell.made.acted.replicas server volume)) → IsDecision entry

@@ -15,11 +15,12 @@ use Rattle.coda_stored.specs.Lines.{Happens, client_payloads, replica_payloads}
 use Rattle.coda_stored.specs.Kept.{IsCellKept, IsStoredKept}
 
 -- In a cell that is kept, each line whose numbers are in their ranges leaves one that is kept, wherever a disk stops it; and the first one is kept. The actors
--- are kept so whatever stands on disks of others, which no line touches.
+-- are kept so whatever stands on disks of others, which no line touches, also where an actor was made on one.
 pub record StoredCellsAreKept : Type 0 where
   pub first : IsStoredKept nothing_stored
   pub actors : (old new : StoredCell) (said : Line) (reply : Reply) (outside : List (List ℕ)) → IsCellKept old → InRange said → Happens old said reply outside new → IsCellKept new
   pub others : (old new : StoredCell) (said : Line) (reply : Reply) (outside : List (List ℕ)) → Happens old said reply outside new → new.idle ≡ old.idle
+  pub elsewhere : (old new : StoredCell) (said : Line) (reply : Reply) (outside : List (List ℕ)) → Happens old said reply outside new → new.others ≡ old.others
   pub lines : (old new : StoredCell) (said : Line) (reply : Reply) (outside : List (List ℕ)) → IsStoredKept old → InRange said → Happens old said reply outside new → IsStoredKept new
 
 -- Of a cell that is kept the histories are a run from nothing: whichever of the entries join whose appends failed, they keep what is promised.

@@ -2,6 +2,7 @@
 -- it.
 use Rattle.std.specs.Prelude.{◌≡◌, ◌⊎◌, ◌+◌, ℕ, Bool, true, false, ◌||◌, ◌&&◌, not, nat_le, nat_lt, is_some, if◌then◌else◌, List, [], ◌∷◌, ◌++◌, length, Option, Some, None, IfSome}
 use Rattle.std.specs.Option.{option_map, option_map_or, unwrap_or}
+use Rattle.coda_actors.specs.Plain.{PlainDisk, HasOther}
 use Rattle.coda_journal.specs.Image.{IsUnmade, ReadsAs}
 use Rattle.coda_journal.specs.Open.{MayBe}
 use Rattle.coda_journal.specs.declared.header.Header.{Header}
@@ -9,6 +10,7 @@ use Rattle.coda_letters.specs.Sent.{Sent, ChunkSent, AnswerSent, sent_at}
 use Rattle.coda_plain.specs.Cell.{ClientEntry}
 use Rattle.coda_plain.specs.Decisions.{ReplicaEntry}
 use Rattle.coda_plain.specs.Moves.{Append, Who, TheClient, TheReplica, Crashes, Recovers}
+use Rattle.coda_record.specs.declared.entry.ReplicaEntry.{ReplicaEntry as KeptEntry}
 use Rattle.coda_replica.specs.History.{payload_of as replica_payload_of, payloads_of as replica_payloads_of}
 use Rattle.coda_script.specs.declared.line.Strength.{Strength}
 use Rattle.coda_script.specs.declared.line.Strength.TheVariants.{Strong, Weak, Down as LinkIsDown}
@@ -17,6 +19,7 @@ use Rattle.coda_script.specs.declared.line.Task.TheVariants as task
 use Rattle.coda_script.specs.declared.line.Line.{Line}
 use Rattle.coda_script.specs.declared.line.Line.TheVariants as line
 use Rattle.coda_script.specs.declared.refusal.Refusal.TheVariants as named
+use Rattle.coda_script.specs.declared.reply.Arg.TheVariants.{Number}
 use Rattle.coda_script.specs.declared.reply.Reply.{Reply}
 use Rattle.coda_script.specs.declared.reply.Reply.TheVariants.{Opened, Accepted, Crashed, Recovered, Refused}
 use Rattle.coda_venus.specs.History.{payload_of, payloads_of}
@@ -27,7 +30,7 @@ use Rattle.coda_cell.specs.Refused.{Refused as Refusal}
 use Rattle.coda_cell.specs.Steps.{Does, Named, client_named, server_named, holder_named, on_volume, on_holder, first_missing, no_room, is_alone, alone, is_plain, is_built_task}
 use Rattle.coda_matching.specs.Clients.{journal_by, payload_by}
 use Rattle.coda_matching.specs.Replicas.{journal_at}
-use Rattle.coda_stored.specs.Cells.{Side, StoredCell, client_header, replica_header, disk_number, failed_at, after, after_all, moved, failed}
+use Rattle.coda_stored.specs.Cells.{Side, StoredCell, standing, client_header, replica_header, disk_number, after, after_all, moved, failed}
 use Rattle.coda_stored.specs.Room.{Lacks, Fits}
 
 -- ---- refusals that come with disks
@@ -40,6 +43,10 @@ refused_full = Refused named.JournalFull []
 
 abbrev pub refused_fault : Reply
 refused_fault = Refused named.DiskFault []
+
+-- the disk is that of another actor, which its byte at this place tells first
+abbrev pub refused_foreign : ℕ → Reply
+refused_foreign at = Refused named.Foreign (Number at ∷ [])
 
 -- ---- which lines are built
 
@@ -191,12 +198,16 @@ Naming old names own = Unless old (first_missing names) own
 abbrev pub IsTried : Option Header → Header → Option Header → Type 0
 IsTried old header new = (new ≡ old) ⊎ (new ≡ Some header)
 
+-- what is known of the disk of an actor that was made
+abbrev pub asking : Header → Option Header → Side
+asking header given = record { given = given; asked = Some header; left = None; foreign = false }
+
 -- A disk that holds nothing is mounted for an actor that is made: it is up, and has no entries; or a call of its disk failed, and it is down.
 abbrev pub Opens : StoredCell → Header → (Side → StoredCell) → Who → Becoming
 Opens old header make who reply outside new =
     (outside ≡ [])
-    × (((reply ≡ Opened (0 ∷ [])) × (new ≡ make (record { given = Some header; asked = Some header; left = None })))
-    ⊎ ((given : Option Header) × IsTried None header given × (reply ≡ refused_fault) × (new ≡ moved (make (record { given = given; asked = Some header; left = None })) (Crashes who))))
+    × (((reply ≡ Opened (0 ∷ [])) × (new ≡ make (asking header (Some header))))
+    ⊎ ((given : Option Header) × IsTried None header given × (reply ≡ refused_fault) × (new ≡ moved (make (asking header given)) (Crashes who))))
 
 -- the MiB of an area: 8 where none is given
 abbrev pub area_of : Option ℕ → ℕ
@@ -241,6 +252,10 @@ client_payloads history = payloads_of (journal_by history)
 abbrev pub replica_payloads : ℕ → List ReplicaEntry → List (List ℕ)
 replica_payloads volume history = replica_payloads_of (journal_at volume history)
 
+-- what the disk of a volume's replica holds, whoever's it is
+abbrev pub replica_disk : StoredCell → ℕ → ℕ → PlainDisk KeptEntry
+replica_disk cell server volume = (standing cell server volume).disk
+
 -- a cell with something else known of the disk of a client, or of the replica of a volume
 abbrev pub with_client_side : StoredCell → ℕ → Side → StoredCell
 with_client_side cell client side = record cell { clients = put cell.clients client side }
@@ -260,7 +275,7 @@ CrashesClient old client reply outside new =
 abbrev pub CrashesReplica : StoredCell → ℕ → ℕ → Becoming
 CrashesReplica old server volume reply outside new =
     (image : List ℕ)
-    × MayHave (old.replicas volume).given (replica_payloads volume (old.made.acted.replicas server volume).history) (option_map replica_payload_of (failed_at volume (old.made.acted.replicas server volume))) image
+    × MayHave (replica_disk old server volume).header (replica_payloads_of (replica_disk old server volume).history) (option_map replica_payload_of (replica_disk old server volume).failed) image
     × (reply ≡ Crashed) × (outside ≡ image ∷ [])
     × (new ≡ with_replica_side (moved old (Crashes (TheReplica server volume))) volume (record (old.replicas volume) { left = Some image }))
 
@@ -268,23 +283,36 @@ CrashesReplica old server volume reply outside new =
 
 -- what is known of a disk once its actor is recovered under a header
 abbrev pub recovered_side : Side → Header → Side
-recovered_side side header = record side { given = Some header; left = None }
+recovered_side side header = record side { given = Some header; left = None; foreign = false }
 
--- A recovery that failed: the actor is down. Where no entry was there, the disk may have been given the header, and then no entry is there.
-abbrev pub IsRefused : StoredCell → Who → Option Header → Header → ℕ → Option Header → StoredCell → Type 0
-IsRefused old who was header entries given mid =
-    ((given ≡ was) × (mid ≡ moved old (Crashes who))) ⊎ ((entries ≡ 0) × (given ≡ Some header) × (mid ≡ moved (moved old (Recovers who false)) (Crashes who)))
+-- A disk may be taken under this header that was given it before, or that holds no entries: nobody loses any by it.
+abbrev pub MayTake : {Entry : Type 0} → Header → Option Header → List Entry → Type 0
+MayTake header given entries = (given ≡ Some header) ⊎ (entries ≡ [])
+
+-- A recovery at which a call of the disk failed: the actor is down. Where no entry was there, the disk may have been given the header, and then no
+-- entry is there.
+abbrev pub IsRefused : StoredCell → Who → Side → Header → ℕ → Side → StoredCell → Type 0
+IsRefused old who side header entries tried mid =
+    ((tried ≡ side) × (mid ≡ moved old (Crashes who)))
+    ⊎ ((entries ≡ 0) × (tried ≡ record side { given = Some header; foreign = false }) × (mid ≡ moved (moved old (Recovers who false)) (Crashes who)))
+
+-- A recovery from a disk that is another's: it was given another header than the actor asks for, and this is the first place at which they differ. The
+-- disk stays as it is, and the actor is down.
+abbrev pub IsRefusedAs : StoredCell → Who → Header → Option Header → Reply → StoredCell → Type 0
+IsRefusedAs old who header given reply new = (at : ℕ) × HasOther header given at × (reply ≡ refused_foreign at) × (new ≡ moved old (Crashes who))
 
 -- A client is recovered from its disk: its history is the one that was there, or that one with the entry whose append failed, and the image that
--- its last crash left reads as this history. Or a call of the disk failed.
+-- its last crash left reads as this history. Or a call of the disk failed, or the disk is another's.
 abbrev pub RecoversClient : StoredCell → ℕ → Becoming
 RecoversClient old client reply outside new =
     (outside ≡ []) × ((header : Header) × ((old.clients client).asked ≡ Some header) × (
     ((joins : Bool) × (reply ≡ Recovered (length ((moved old (Recovers (TheClient client) joins)).made.acted.clients client).history))
     × IfSome (old.clients client).left (ReadsAs header (client_payloads ((moved old (Recovers (TheClient client) joins)).made.acted.clients client).history))
-    × (new ≡ with_client_side (moved old (Recovers (TheClient client) joins)) client (recovered_side (old.clients client) header)))
-    ⊎ ((given : Option Header) × (mid : StoredCell) × IsRefused old (TheClient client) (old.clients client).given header (length (old.made.acted.clients client).history) given mid
-    × (reply ≡ refused_fault) × (new ≡ with_client_side mid client (record (old.clients client) { given = given })))))
+    × (new ≡ with_client_side (moved old (Recovers (TheClient client) joins)) client (recovered_side (old.clients client) header))
+    × MayTake header (old.clients client).given ((moved old (Recovers (TheClient client) joins)).made.acted.clients client).history)
+    ⊎ ((tried : Side) × (mid : StoredCell) × IsRefused old (TheClient client) (old.clients client) header (length (old.made.acted.clients client).history) tried mid
+    × (reply ≡ refused_fault) × (new ≡ with_client_side mid client tried))
+    ⊎ IsRefusedAs old (TheClient client) header (old.clients client).given reply new))
 
 -- the server's replica of a volume likewise
 abbrev pub RecoversReplica : StoredCell → ℕ → ℕ → Becoming
@@ -292,9 +320,11 @@ RecoversReplica old server volume reply outside new =
     (outside ≡ []) × ((header : Header) × ((old.replicas volume).asked ≡ Some header) × (
     ((joins : Bool) × (reply ≡ Recovered (length ((moved old (Recovers (TheReplica server volume) joins)).made.acted.replicas server volume).history))
     × IfSome (old.replicas volume).left (ReadsAs header (replica_payloads volume ((moved old (Recovers (TheReplica server volume) joins)).made.acted.replicas server volume).history))
-    × (new ≡ with_replica_side (moved old (Recovers (TheReplica server volume) joins)) volume (recovered_side (old.replicas volume) header)))
-    ⊎ ((given : Option Header) × (mid : StoredCell) × IsRefused old (TheReplica server volume) (old.replicas volume).given header (length (old.made.acted.replicas server volume).history) given mid
-    × (reply ≡ refused_fault) × (new ≡ with_replica_side mid volume (record (old.replicas volume) { given = given })))))
+    × (new ≡ with_replica_side (moved old (Recovers (TheReplica server volume) joins)) volume (recovered_side (old.replicas volume) header))
+    × MayTake header (replica_disk old server volume).header (replica_disk old server volume).history)
+    ⊎ ((tried : Side) × (mid : StoredCell) × IsRefused old (TheReplica server volume) (old.replicas volume) header (length (replica_disk old server volume).history) tried mid
+    × (reply ≡ refused_fault) × (new ≡ with_replica_side mid volume tried))
+    ⊎ IsRefusedAs old (TheReplica server volume) header (replica_disk old server volume).header reply new))
 
 -- ---- every line
 

@@ -48,6 +48,7 @@ at_rest cell = record {
   places = cell.places;
   clients = λ client. forgotten (cell.clients client);
   replicas = λ volume. forgotten (cell.replicas volume);
+  others = cell.others;
   idle = cell.idle;
 }
 

@@ -1,6 +1,7 @@
 -- A cell as it is seen while lines are yet to make some of its actors again, and what other lines do in it meanwhile.
 use Rattle.std.specs.Prelude.{◌≡◌, ◌⊎◌, ◌==◌, ℕ, ◌-◌, Bool, true, false, is_some, if◌then◌else◌, List, [], ◌∷◌, take, length, Option, Some, None}
 use Rattle.coda_actors.specs.Plain.{PlainActor, Unmade}
+use Rattle.coda_journal.specs.declared.header.Header.{Header}
 use Rattle.coda_plain.specs.Cell.{ClientEntry, Actor, found}
 use Rattle.coda_plain.specs.Decisions.{ReplicaEntry, AreDecisions}
 use Rattle.coda_plain.specs.Deeds.{AreLawful}
@@ -12,7 +13,7 @@ use Rattle.coda_script.specs.declared.line.Line.{Line}
 use Rattle.coda_script.specs.declared.line.Line.TheVariants as line
 use Rattle.coda_script.specs.declared.reply.Reply.{Reply}
 use Rattle.coda_matching.specs.Replicas.{IsDecision}
-use Rattle.coda_stored.specs.Cells.{Side, StoredCell, disk_number, plain_replica}
+use Rattle.coda_stored.specs.Cells.{Side, StoredCell, no_side, on_disk, plain_replica, disk_number, IsAnothers}
 use Rattle.coda_stored.specs.Kept.{IsClientSide, IsReplicaSide, IsStoredKept}
 use Rattle.coda_stored.specs.Laws.{Begins}
 use Rattle.coda_stored.specs.Lines.{area_of, no_volume, no_client, Happens}
@@ -22,7 +23,7 @@ use Rattle.coda_stored.specs.Resuming.{Awaited, ClientAgain, VolumeAgain, awaits
 
 -- what is known of the disk of an actor that a line is yet to make again: nobody asks for it
 abbrev pub asleep : Bool → Side → Side
-asleep true side = record { given = side.given; asked = None; left = None }
+asleep true side = record no_side { given = side.given }
 asleep false side = side
 
 -- the home of a volume, or the size of a client's cache, once a line made it again
@@ -34,12 +35,16 @@ home_unless false home = home
 abbrev pub servers_before : List ℕ → List Awaited → List ℕ
 servers_before servers left = take (length servers - length (servers_of left)) servers
 
+-- what the disk of a volume's replica holds while nobody asks for it
+abbrev pub lying : StoredCell → ℕ → ℕ → PlainActor KeptEntry
+lying cell server volume = on_disk (cell.replicas volume).foreign (cell.others volume) (plain_replica volume (cell.made.acted.replicas server volume) (asleep true (cell.replicas volume)))
+
 -- what the disks of replicas hold, by their numbers, that are of no volume that was made: of one that is to be made again, its replica
 abbrev pub idle_until : StoredCell → List Awaited → ℕ → PlainActor KeptEntry
 idle_until cell [] number = cell.idle number
 idle_until cell (ClientAgain client blocks area ∷ left) number = idle_until cell left number
 idle_until cell (VolumeAgain volume server area ∷ left) number =
-    if number == cell.places volume then plain_replica volume (cell.made.acted.replicas server volume) (asleep true (cell.replicas volume)) else idle_until cell left number
+    if number == cell.places volume then lying cell server volume else idle_until cell left number
 
 -- A cell as it is seen before these lines make its actors again: they weren't made, and nobody asks for their disks.
 abbrev pub seen : StoredCell → List Awaited → StoredCell
@@ -53,6 +58,7 @@ seen cell left = record {
   places = cell.places;
   clients = λ client. asleep (awaits_client left client) (cell.clients client);
   replicas = λ volume. asleep (awaits_volume left volume) (cell.replicas volume);
+  others = cell.others;
   idle = idle_until cell left;
 }
 
@@ -86,19 +92,36 @@ pub record Meanwhile (old : StoredCell) (left : List Awaited) (said : Line) (rep
 
 -- ---- what holds of a cell that is seen
 
--- what is known of the disk of a client: where no line made it, that nobody asks for it
+-- the header that a disk was given, or another one in its place where the disk is another's
+abbrev pub own_given : Bool → Option Header → Option Header → Option Header
+own_given true instead given = instead
+own_given false instead given = given
+
+-- What is known of the disk of a client, as if it were its own: it was given the header that the client asks for.
+abbrev pub own_client : Side → Side
+own_client side = record side { given = own_given side.foreign side.asked side.given; foreign = false }
+
+-- The same of the replica of a volume: its own disk was given no header yet.
+abbrev pub own_replica : Side → Side
+own_replica side = record side { given = own_given side.foreign None side.given; foreign = false }
+
+-- a disk that is another's was given another header than its actor asks for
+abbrev pub IsBeside : Side → Type 0
+IsBeside side = side.foreign ≡ true → (header : Header) × (side.asked ≡ Some header) × IsAnothers header side.given
+
+-- What is known of the disk of a client: where no line made it, that nobody asks for it; and where it is another's, that the client is down.
 abbrev pub IsClientSeen : ℕ → Option ℕ → Actor ClientEntry → Side → Type 0
-IsClientSeen client None actor side = side.asked ≡ None
-IsClientSeen client (Some blocks) actor side = IsClientSide client (Some blocks) actor side
+IsClientSeen client None actor side = (side.asked ≡ None) × (side.foreign ≡ false)
+IsClientSeen client (Some blocks) actor side = IsClientSide client (Some blocks) actor (own_client side) × IsBeside side × (side.foreign ≡ true → actor.up ≡ false)
 
 -- the same of the replica of a volume
 abbrev pub IsReplicaSeen : ℕ → Option ℕ → (ℕ → Actor ReplicaEntry) → Side → Type 0
-IsReplicaSeen volume None actors side = side.asked ≡ None
-IsReplicaSeen volume (Some server) actors side = IsReplicaSide volume (Some server) actors side
+IsReplicaSeen volume None actors side = (side.asked ≡ None) × (side.foreign ≡ false)
+IsReplicaSeen volume (Some server) actors side = IsReplicaSide volume (Some server) actors (own_replica side) × IsBeside side
 
 -- What holds of a cell as it is seen, and of one that is kept. Each history is lawful by itself, also that of an actor that no line made yet, whatever others
--- hold: so lines do what they do wherever actors stand. Of those that a line made, what holds of the disks of a cell that is kept; and of no disk that nobody
--- asks for is it known what a crash left.
+-- hold: so lines do what they do wherever actors stand. Of those that a line made, what holds of the disks of a cell that is kept, unless they are another's; and
+-- of no disk that nobody asks for is it known what a crash left.
 pub record IsSeen (cell : StoredCell) : Type 0 where
   pub replicas_up : (server volume : ℕ) → (cell.made.acted.replicas server volume).up ≡ true → (cell.made.acted.replicas server volume).failed ≡ None
   pub lawful : (client volume : ℕ) → AreLawful (done_on cell.made.acted client volume)
