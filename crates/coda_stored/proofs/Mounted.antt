@@ -78,7 +78,7 @@ volumes_begin old new shelf volume server area reply outside finds =
       | inr (inr (others, is)) ↦ inr (inr (others, ap (λ (c : StoredCell). (standing c server volume).disk) is ∙ stays))
     ]
   where
-    abbrev side : Side
+    side : Side
     side = asking_elsewhere (replica_header volume server area) shelf.given
 
     stays : (standing (volume_elsewhere old shelf volume server area) server volume).disk ≡ (plain_shelf shelf).disk

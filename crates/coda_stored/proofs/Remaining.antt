@@ -104,6 +104,11 @@ ends_begin old events own reply new (inr (inl full)) = begins_is old (after_all 
 ends_begin old events own reply new (inr (inr fault)) =
     begins_is old (failed (after_all old fault.0.done) fault.0.next) new (begins_then old (after_all old fault.0.done) (failed (after_all old fault.0.done) fault.0.next) (all_begin old fault.0.done) (failure_begins (after_all old fault.0.done) fault.0.next)) fault.3
 
+-- the side that a recovery that failed leaves asks for the same header, and what a crash left is as it was
+pub tried_asks : (cell : StoredCell) (who : Who) (side : Side) (header : Header) (entries : ℕ) (tried : Side) (mid : StoredCell) → IsRefused cell who side header entries tried mid → (tried.asked ≡ side.asked) × (tried.left ≡ side.left)
+tried_asks cell who side header entries tried mid (inl same) = (ap (λ (s : Side). s.asked) same.0, ap (λ (s : Side). s.left) same.0)
+tried_asks cell who side header entries tried mid (inr next) = (ap (λ (s : Side). s.asked) next.1, ap (λ (s : Side). s.left) next.1)
+
 -- ---- lines
 
 module _ (old : StoredCell) (reply : Reply) (outside : List (List ℕ)) (new : StoredCell) where

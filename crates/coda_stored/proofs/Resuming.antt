@@ -21,7 +21,7 @@ use Rattle.coda_stored.specs.Resuming.{stopped, forgotten, at_rest, Awaited, Cli
 use Rattle.coda_stored.proofs.Disks.{recovers_client, recovers_replica}
 use Rattle.coda_stored.proofs.Idling.{recovers_client_idle, recovers_replica_idle}
 use Rattle.coda_stored.proofs.Sides.{actors_kept, with_idle}
-use Rattle.coda_stored.proofs.Remaining.{same_entries, recovers_client_begins, recovers_replica_begins}
+use Rattle.coda_stored.proofs.Remaining.{same_entries, recovers_client_begins, recovers_replica_begins, tried_asks}
 
 -- ---- a cell without letters
 
@@ -245,11 +245,6 @@ both_aside old (TheReplica server volume) = record { sizes = refl; homes = refl;
 refused_aside : (old : StoredCell) (who : Who) (side : Side) (header : Header) (entries : ℕ) (tried : Side) (mid : StoredCell) → IsRefused old who side header entries tried mid → IsAside mid old
 refused_aside old who side header entries tried mid (inl same) = subst (λ (c : StoredCell). IsAside c old) (sym same.1) (crash_aside old who)
 refused_aside old who side header entries tried mid (inr next) = subst (λ (c : StoredCell). IsAside c old) (sym next.2) (both_aside old who)
-
--- the side that a recovery that failed leaves asks for the same header, and what a crash left is as it was
-tried_asks : (old : StoredCell) (who : Who) (side : Side) (header : Header) (entries : ℕ) (tried : Side) (mid : StoredCell) → IsRefused old who side header entries tried mid → (tried.asked ≡ side.asked) × (tried.left ≡ side.left)
-tried_asks old who side header entries tried mid (inl same) = (ap (λ (s : Side). s.asked) same.0, ap (λ (s : Side). s.left) same.0)
-tried_asks old who side header entries tried mid (inr next) = (ap (λ (s : Side). s.asked) next.1, ap (λ (s : Side). s.left) next.1)
 
 -- what an actor that is made again leaves of what was made, and of the areas
 pub record StaysAgain (new old : StoredCell) (area : ℕ) : Type 0 where
