@@ -14,12 +14,11 @@ use Rattle.coda_cell.specs.Steps.{alone}
 use Rattle.coda_stored.specs.Cells.{StoredCell, client_header, replica_header}
 use Rattle.coda_stored.specs.Held.{DoesFind}
 use Rattle.coda_stored.specs.Lines.{area_of, Happens}
-use Rattle.coda_stored.specs.Mounted.{Shelf, HoldsShelf, Making, FindsDisk, LineFinds, making_client, making_volume}
+use Rattle.coda_stored.specs.Mounted.{Shelf, HoldsShelf, Making, FindsDisk, LineFinds, making_client, making_volume, client_elsewhere, volume_elsewhere}
 use Rattle.coda_stored.specs.Seen.{mounts_none, IsSeen}
 use Rattle.coda_stored.proofs.HeldFinds.{held_cells_are_kept}
 use Rattle.coda_site.specs.Sites.{IsSite}
 use Rattle.coda_site.specs.Steps.{Admits, Becomes, Finds}
-use Rattle.coda_runs.specs.Held.{Holds, Fails}
 use Rattle.coda_runs.specs.Shows.{Recorded, CanShow}
 use Rattle.coda_runs.specs.Texts.{text_of}
 use Rattle.coda_runs.proofs.ShownUp.{shows_what_is_up}
@@ -33,17 +32,18 @@ use Rattle.coda_main.proofs.Resuming.{text_told}
 -- ---- replies
 
 -- a line that finds a disk shows nothing
-disk_says : {E : Type 0} (header : Header) (given : Option Header) (actor : Actor E) (make : Making E) (old : StoredCell) (reply : Reply) (outside : List (List ℕ)) (new : StoredCell) → FindsDisk header given actor make old reply outside new → ShowsNothing reply
-disk_says header given actor make old reply outside new (inl refused) = subst ShowsNothing (sym refused.2.0) tt
-disk_says header given actor make old reply outside new (inr (inl found)) = subst ShowsNothing (sym found.2.0) tt
-disk_says header given actor make old reply outside new (inr (inr (inl faulty))) = subst ShowsNothing (sym faulty.0) tt
-disk_says header given actor make old reply outside new (inr (inr (inr faulty))) = subst ShowsNothing (sym faulty.1.0) tt
+disk_says : {E : Type 0} (header : Header) (given : Option Header) (actor : Actor E) (make : Making E) (elsewhere old : StoredCell) (reply : Reply) (outside : List (List ℕ)) (new : StoredCell) → FindsDisk header given actor make elsewhere old reply outside new → ShowsNothing reply
+disk_says header given actor make elsewhere old reply outside new (inl refused) = subst ShowsNothing (sym refused.2.0) tt
+disk_says header given actor make elsewhere old reply outside new (inr (inl found)) = subst ShowsNothing (sym found.2.0) tt
+disk_says header given actor make elsewhere old reply outside new (inr (inr (inl fault))) = subst ShowsNothing (sym fault.1.0) tt
+disk_says header given actor make elsewhere old reply outside new (inr (inr (inr (inl fault)))) = subst ShowsNothing (sym fault.1.0) tt
+disk_says header given actor make elsewhere old reply outside new (inr (inr (inr (inr fault)))) = subst ShowsNothing (sym fault.1.0) tt
 
 line_says : (old : StoredCell) (shelf : Shelf) (said : Line) (reply : Reply) (outside : List (List ℕ)) (new : StoredCell) → LineFinds old shelf said reply outside new → ShowsNothing reply
 line_says old shelf (line.Client client blocks area) reply outside new finds =
-    disk_says (client_header client blocks (area_of area)) (old.clients client).given (old.made.acted.clients client) (making_client old client blocks (area_of area)) old reply outside new finds
+    disk_says (client_header client blocks (area_of area)) (old.clients client).given (old.made.acted.clients client) (making_client old client blocks (area_of area)) (client_elsewhere old client blocks (area_of area)) old reply outside new finds
 line_says old shelf (line.Volume volume servers area) reply outside new finds =
-    disk_says (replica_header volume (alone servers) (area_of area)) shelf.given shelf.actor (making_volume old volume (alone servers) (area_of area)) old reply outside new finds
+    disk_says (replica_header volume (alone servers) (area_of area)) shelf.given shelf.actor (making_volume old volume (alone servers) (area_of area)) (volume_elsewhere old shelf volume (alone servers) (area_of area)) old reply outside new finds
 line_says old shelf _ reply outside new finds = absurd finds
 
 -- ---- a line
@@ -65,7 +65,7 @@ module _ {D : Type 0} (told : D → Told) (old new : Moment D) (at : Recorded) (
       let held = held_cells_are_kept.lines at.cell became.left said reply became.outside shows.held range mounts became.happens in
       let same = since became.outside became.answered in
       record {
-        next = Holds (record { cell = became.left; answered = at.answered ++ answered_since old new });
+        next = record { cell = became.left; answered = at.answered ++ answered_since old new };
         answers = inl (record {
           reply = reply;
           found = became.left;
@@ -78,49 +78,24 @@ module _ {D : Type 0} (told : D → Told) (old new : Moment D) (at : Recorded) (
       }
 
   finding : (mounts : mounts_none at.cell said ≡ false) (f : DoesFind at.cell said) → Finds told new.out new.has at.cell f.shelf said reply old.answered new.answered new.site → IsText reply text → AnsweredHeld told at said text old new
-  finding mounts f (inl became) printed =
+  finding mounts f became printed =
       let same = since became.outside became.answered in
-      elim (f.kept reply became.outside became.left became.happens) [
-        | inl held ↦ record {
-          next = Holds (record { cell = became.left; answered = at.answered ++ answered_since old new });
-          answers = inr (inl (record {
-            reply = reply;
-            found = became.left;
-            shelf = f.shelf;
-            mounts = mounts;
-            holds = f.holds;
-            finds = subst (λ (l : List (List ℕ)). LineFinds at.cell f.shelf said reply l became.left) (sym same) became.happens;
-            held = held;
-            printed = text_told reply text (line_says at.cell f.shelf said reply became.outside became.left became.happens) printed;
-            goes_on = refl;
-          }));
-          shows = record { held = held; stands = became.stands; answered = answered_then became.outside became.answered };
-        }
-        | inr (fault, foreign) ↦ record {
-          next = Fails;
-          answers = inr (inr (record {
-            shelf = f.shelf;
-            mounts = mounts;
-            holds = f.holds;
-            foreign = foreign;
-            printed = text_told reply text (subst ShowsNothing (sym fault) tt) printed ∙ ap reply_text fault;
-            ends = refl;
-          }));
-          shows = tt;
-        }
-      ]
-  finding mounts f (inr (others, fault)) printed = record {
-    next = Fails;
-    answers = inr (inr (record {
-      shelf = f.shelf;
-      mounts = mounts;
-      holds = f.holds;
-      foreign = f.others others;
-      printed = text_told reply text (subst ShowsNothing (sym fault) tt) printed ∙ ap reply_text fault;
-      ends = refl;
-    }));
-    shows = tt;
-  }
+      let held = f.kept reply became.outside became.left became.happens in
+      record {
+        next = record { cell = became.left; answered = at.answered ++ answered_since old new };
+        answers = inr (record {
+          reply = reply;
+          found = became.left;
+          shelf = f.shelf;
+          mounts = mounts;
+          holds = f.holds;
+          finds = subst (λ (l : List (List ℕ)). LineFinds at.cell f.shelf said reply l became.left) (sym same) became.happens;
+          held = held;
+          printed = text_told reply text (line_says at.cell f.shelf said reply became.outside became.left became.happens) printed;
+          goes_on = refl;
+        });
+        shows = record { held = held; stands = became.stands; answered = answered_then became.outside became.answered };
+      }
 
   -- a line that is built was carried out
   pub line_answered_held : ((stored : StoredCell) → Admits stored said → IsSite told old.out old.has stored old.site → Becomes told new.out new.has (Happens stored said) reply old.answered new.answered new.site)

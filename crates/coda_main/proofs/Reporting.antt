@@ -19,9 +19,9 @@ use Rattle.coda_main.specs.Reported.{IsReportOfLines, IsReportOfRun}
 use Rattle.coda_stored.specs.Kept.{IsStoredKept}
 use Rattle.coda_stored.specs.Resuming.{at_rest, Awaited, AreAwaited, MakeAllAgain}
 use Rattle.coda_stored.specs.Held.{IsHeld, begun_from}
-use Rattle.coda_runs.specs.Held.{Holding, Holds, Fails, HeldGives}
+use Rattle.coda_runs.specs.Held.{HeldGives}
 use Rattle.coda_runs.proofs.Held.{held_runs_go_on, what_ran_is_held}
-use Rattle.coda_main.specs.Held.{ShowsHeld, ShowsHolding, HeldRefuses, IsReportOfHeldRun}
+use Rattle.coda_main.specs.Held.{ShowsHeld, HeldRefuses, IsReportOfHeldRun}
 use Rattle.coda_runs.specs.Later.{Later, Waits, Goes, Strays, resumed, LaterGives, HasReached, HasGoneOn, CanBeResumed}
 use Rattle.coda_runs.specs.Runs.{LineGives, LineRefused}
 use Rattle.coda_runs.proofs.Later.{later_runs_go_on}
@@ -35,9 +35,6 @@ use Rattle.coda_main.specs.Counting.{CountsLine}
 use Rattle.coda_main.specs.Tallies.{Tally, no_tally, TalliedCell, TalliedGives, TalliedRefuses}
 use Rattle.coda_main.proofs.Tallying.{IsTallied, both_shown, records_shown, cells_tallied, tallied_of}
 use Rattle.coda_main.proofs.Showing.{cells_go_on, lines_good, later_shown, held_shown}
-
-same_place : (a b : Recorded) → Holds a ≡ Holds b → a ≡ b
-same_place a b e = cc
 
 module _ {D M : Type 0} (new old : M) (told : D → Told) (at : M → Moment D) (counts : M → Counts) (left_old left_new held_old held_new : Option (List ℕ)) (outside : List (List ℕ)) (status : Status)
     (reports : Reports (λ old line text outside new. MachineGives told (at old) line text outside (at new) × CountsLine told (at old) (counts old) line text outside (at new) (counts new)) (λ m line column kind. IsBadLine line column kind) old new left_old left_new held_old held_new outside status) where
@@ -124,22 +121,17 @@ module _ {D M : Type 0} (new old : M) (told : D → Told) (at : M → Moment D) 
     end = shown.0;
     outside = outside;
     reports = shown.1;
-    goes_on = λ memory bay reached is.
-        let there = on_disks (goes_on start memory bay) shown.0 (shown.2 memory bay) reached is in
+    goes_on = λ memory bay.
+        let there = shown.2 memory bay in
         let ran = reports_ran HeldGives HeldRefuses first shown.0 left_old left_new held_old held_new outside status memory bay shown.1 in
-        (held_runs_go_on past held before ran.lines ran.report ran.outside reached (subst (λ (h : Holding). Runs HeldGives first ran.lines ran.report ran.outside h) is ran.runs), there.0, there.1);
+        (held_runs_go_on past held before ran.lines ran.report ran.outside shown.0 ran.runs, last_same ∙ there.answered, closes (goes_on start memory bay) shown.0.cell there.stands);
   }
     where
-      first : Holding
-      first = Holds (record { cell = begun_from past held; answered = before })
+      first : Recorded
+      first = record { cell = begun_from past held; answered = before }
 
-      shown : (end : Holding) × Reports HeldGives HeldRefuses first end left_old left_new held_old held_new outside status × (status ≢ Memory → status ≢ BayFault → ShowsHolding told end (at new))
+      shown : (end : Recorded) × Reports HeldGives HeldRefuses first end left_old left_new held_old held_new outside status × (status ≢ Memory → status ≢ BayFault → ShowsHeld told end (at new))
       shown = reports_shown (held_shown told at counts) first old new left_old left_new held_old held_new outside status shows reports
-
-      on_disks : MayGoOn told (at new) → (end : Holding) → ShowsHolding told end (at new) → (reached : Recorded) → end ≡ Holds reached → (after ≡ reached.answered) × AreOnDisks told has reached.cell
-      on_disks ready (Holds stored) there reached is = (let same : stored ≡ reached = same_place stored reached is in
-          (last_same ∙ there.answered ∙ ap (λ (r : Recorded). r.answered) same, subst (λ (r : Recorded). AreOnDisks told has r.cell) same (closes ready stored.cell there.stands)))
-      on_disks ready Fails there reached is = cc
 
   -- What it tells whatever the disks hold.
   pub reported_lines : IsReportOfLines left_old left_new held_old held_new status

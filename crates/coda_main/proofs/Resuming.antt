@@ -25,12 +25,12 @@ use Rattle.coda_site.specs.Sites.{IsSite}
 use Rattle.coda_site.specs.Steps.{Admits, Becomes, Mounts}
 use Rattle.coda_site.proofs.Resting.{all_resumed, next_awaited}
 use Rattle.coda_site.proofs.SeenSites.{awaiting_is_seen, still_awaited, still_waits}
-use Rattle.coda_runs.specs.Held.{Holding, Holds, Fails, HeldGives}
+use Rattle.coda_runs.specs.Held.{HeldGives}
 use Rattle.coda_runs.specs.Shows.{Recorded, CanShow}
 use Rattle.coda_runs.specs.Texts.{text_of}
 use Rattle.coda_runs.proofs.ShownUp.{shows_what_is_up}
 use Rattle.coda_runs.specs.Later.{Later, Waits, Goes, Strays, resumed, LaterGives}
-use Rattle.coda_main.specs.Held.{ShowsHeld, ShowsHolding, AnsweredHeld}
+use Rattle.coda_main.specs.Held.{ShowsHeld, AnsweredHeld}
 use Rattle.coda_main.specs.Later.{ShowsNothing, ShowsWaiting, ShowsLater, AnsweredAgain, AnsweredBetween, AnsweredElsewhere, MachineGives}
 use Rattle.coda_main.specs.Shows.{Moment, answered_since, CellGives}
 use Rattle.coda_main.specs.Tallies.{IsText}
@@ -45,16 +45,18 @@ text_told reply text none is = is
 
 client_says : (old mid : StoredCell) (client : ℕ) (said : Reply) → RecoversClient old client said [] mid → ShowsNothing (opened_as said)
 client_says old mid client said (none, (header, asked, inl did)) = subst (λ (r : Reply). ShowsNothing (opened_as r)) (sym did.1) tt
-client_says old mid client said (none, (header, asked, inr did)) = subst (λ (r : Reply). ShowsNothing (opened_as r)) (sym did.3) tt
+client_says old mid client said (none, (header, asked, inr (inr foreign))) = subst (λ (r : Reply). ShowsNothing (opened_as r)) (sym foreign.2) tt
+client_says old mid client said (none, (header, asked, inr (inl did))) = subst (λ (r : Reply). ShowsNothing (opened_as r)) (sym did.3) tt
 
 replica_says : (old mid : StoredCell) (server volume : ℕ) (said : Reply) → RecoversReplica old server volume said [] mid → ShowsNothing (opened_as said)
 replica_says old mid server volume said (none, (header, asked, inl did)) = subst (λ (r : Reply). ShowsNothing (opened_as r)) (sym did.1) tt
-replica_says old mid server volume said (none, (header, asked, inr did)) = subst (λ (r : Reply). ShowsNothing (opened_as r)) (sym did.3) tt
+replica_says old mid server volume said (none, (header, asked, inr (inr foreign))) = subst (λ (r : Reply). ShowsNothing (opened_as r)) (sym foreign.2) tt
+replica_says old mid server volume said (none, (header, asked, inr (inl did))) = subst (λ (r : Reply). ShowsNothing (opened_as r)) (sym did.3) tt
 
 -- a line that makes an actor again shows nothing
 again_says : (old new : StoredCell) (awaited : Awaited) (reply : Reply) → MakesAgain old awaited reply new → ShowsNothing reply
-again_says old new (ClientAgain client blocks area) reply (said, mid, did, is, same) = subst ShowsNothing (sym is) (client_says old mid client said did)
-again_says old new (VolumeAgain volume server area) reply (said, mid, did, is, same) = subst ShowsNothing (sym is) (replica_says old mid server volume said did)
+again_says old new (ClientAgain client blocks area) reply (said, mid, did, is, same, own) = subst ShowsNothing (sym is) (client_says old mid client said did)
+again_says old new (VolumeAgain volume server area) reply (said, mid, did, is, same, own) = subst ShowsNothing (sym is) (replica_says old mid server volume said did)
 
 -- ---- lines
 
@@ -186,9 +188,8 @@ line_resumes told old new bytes text said spelled built ran again between elsewh
     later (Goes at) shows = (let g = ran.gives at shows in (Goes g.0, (g.0, g.1, refl), g.2))
     later Strays shows = (Strays, refl, tt)
 
-    held : (at : Holding) → ShowsHolding told at old → (next : Holding) × HeldGives at bytes text (answered_since old new) next × ShowsHolding told next new
-    held (Holds at) shows = (let a = finds at shows in (a.next, inr (said, spelled, built, a.answers), a.shows))
-    held Fails shows = (Fails, refl, tt)
+    held : (at : Recorded) → ShowsHeld told at old → (next : Recorded) × HeldGives at bytes text (answered_since old new) next × ShowsHeld told next new
+    held at shows = (let a = finds at shows in (a.next, inr (said, spelled, built, a.answers), a.shows))
 
 -- a line that says nothing
 pub silent_resumes : {D : Type 0} (told : D → Told) (now : Moment D) (bytes text : List ℕ) → line_of bytes ≡ Ok None → text ≡ [] → CellGives told now bytes text [] now → MachineGives told now bytes text [] now
@@ -199,9 +200,8 @@ silent_resumes told now bytes text silent none ran = record { ran = ran; later =
     later (Goes at) shows = (let g = ran.gives at shows in (Goes g.0, (g.0, g.1, refl), g.2))
     later Strays shows = (Strays, refl, tt)
 
-    held : (at : Holding) → ShowsHolding told at now → (next : Holding) × HeldGives at bytes text [] next × ShowsHolding told next now
-    held (Holds at) shows = (Holds at, inl (silent, none, refl, refl), shows)
-    held Fails shows = (Fails, refl, tt)
+    held : (at : Recorded) → ShowsHeld told at now → (next : Recorded) × HeldGives at bytes text [] next × ShowsHeld told next now
+    held at shows = (at, inl (silent, none, refl, refl), shows)
 
 -- ---- the beginning
 

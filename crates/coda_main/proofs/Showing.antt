@@ -1,9 +1,10 @@
 -- The cell of the code goes on, and the lines that it ran are good.
 use Rattle.coda_disk.specs.Told.{Told}
 use Rattle.coda_engine.proofs.Simulation.{Simulates}
-use Rattle.coda_runs.specs.Held.{Holding, HeldGives}
+use Rattle.coda_runs.specs.Held.{HeldGives}
+use Rattle.coda_runs.specs.Shows.{Recorded}
 use Rattle.coda_runs.specs.Later.{Later, LaterGives}
-use Rattle.coda_main.specs.Held.{ShowsHolding, HeldRefuses}
+use Rattle.coda_main.specs.Held.{ShowsHeld, HeldRefuses}
 use Rattle.coda_main.specs.Lines.{IsBadLine, AnyGives, AnyRefuses}
 use Rattle.coda_site.specs.Totals.{Counts}
 use Rattle.coda_main.specs.Later.{ShowsLater, LaterRefuses, MachineGives}
@@ -29,7 +30,7 @@ module _ {D M : Type 0} (told : D → Told) (at : M → Moment D) (counts : M �
     refusal = λ l m line column kind shows refuses. refuses;
   }
 
-  pub held_shown : Simulates (λ (h : Holding) (m : M). ShowsHolding told h (at m)) HeldGives HeldRefuses (λ old line text outside new. MachineGives told (at old) line text outside (at new) × CountsLine told (at old) (counts old) line text outside (at new) (counts new)) (λ m line column kind. IsBadLine line column kind)
+  pub held_shown : Simulates (λ (h : Recorded) (m : M). ShowsHeld told h (at m)) HeldGives HeldRefuses (λ old line text outside new. MachineGives told (at old) line text outside (at new) × CountsLine told (at old) (counts old) line text outside (at new) (counts new)) (λ m line column kind. IsBadLine line column kind)
   held_shown = record {
     step = λ h m m' line text outside shows ran. ran.0.held h shows;
     refusal = λ h m line column kind shows refuses. refuses;

@@ -10,7 +10,7 @@ use Rattle.coda_stored.specs.Cells.{StoredCell}
 use Rattle.coda_stored.specs.Held.{IsHeld, begun_from}
 use Rattle.coda_site.specs.Cells.{AreOnDisks}
 use Rattle.coda_site.specs.Sites.{IsSite}
-use Rattle.coda_runs.specs.Held.{Holding, Holds, Fails, HeldAnswers, HeldGives, HasHeld}
+use Rattle.coda_runs.specs.Held.{HeldAnswers, HeldGives, HasHeld}
 use Rattle.coda_runs.specs.Shows.{Recorded}
 use Rattle.coda_main.specs.Lines.{IsBadLine}
 use Rattle.coda_main.specs.Shows.{Moment, answered_since}
@@ -21,26 +21,21 @@ pub record ShowsHeld {D : Type 0} (told : D → Told) (at : Recorded) (now : Mom
   pub stands : IsSite told now.out now.has at.cell now.site
   pub answered : now.answered ≡ at.answered
 
--- where such a run stands, as the site and the bay have it
-abbrev pub ShowsHolding : {D : Type 0} → (D → Told) → Holding → Moment D → Type 0
-ShowsHolding told (Holds at) now = ShowsHeld told at now
-ShowsHolding told Fails now = Unit {0}
-
 -- such a run refuses what any run does
-abbrev pub HeldRefuses : Holding → List ℕ → ℕ → Kind → Type 0
+abbrev pub HeldRefuses : Recorded → List ℕ → ℕ → Kind → Type 0
 HeldRefuses old bytes column kind = IsBadLine bytes column kind
 
 -- a line was carried out with a reply of this text, and what it left is shown
 pub record AnsweredHeld {D : Type 0} (told : D → Told) (at : Recorded) (said : Line) (text : List ℕ) (old new : Moment D) : Type 0 where
-  pub next : Holding
+  pub next : Recorded
   pub answers : HeldAnswers at said text (answered_since old new) next
-  pub shows : ShowsHolding told next new
+  pub shows : ShowsHeld told next new
 
--- What was read and written is the report of a run over the disks that an earlier run left, in which each line that makes an actor does it on the disk that it finds. Unless
--- memory was wanting or the bay at fault, what it reached keeps what is promised of it, the bay answered what the run had of it, and its disks stand for what was reached;
--- only where a call of a disk failed on which an actor was to be made, and which is another's, is nothing told of what follows.
+-- What was read and written is the report of a run over the disks that an earlier run left, in which each line that makes an actor does it on the disk
+-- that it finds, whoever's that is. Unless memory was wanting or the bay at fault, what it reached keeps what is promised of it, the bay answered what
+-- the run had of it, and its disks stand for what was reached.
 pub record IsReportOfHeldRun {D : Type 0} (told : D → Told) (has : ℕ → Told) (answered_old answered_new : List (List ℕ)) (left_old left_new held_old held_new : Option (List ℕ)) (status : Status) (past : StoredCell) (held : IsHeld past) : Type 0 where
-  pub end : Holding
+  pub end : Recorded
   pub outside : List (List ℕ)
-  pub reports : Reports HeldGives HeldRefuses (Holds (record { cell = begun_from past held; answered = answered_old })) end left_old left_new held_old held_new outside status
-  pub goes_on : status ≢ Memory → status ≢ BayFault → (at : Recorded) → end ≡ Holds at → HasHeld past at.cell × (answered_new ≡ at.answered) × AreOnDisks told has at.cell
+  pub reports : Reports HeldGives HeldRefuses (record { cell = begun_from past held; answered = answered_old }) end left_old left_new held_old held_new outside status
+  pub goes_on : status ≢ Memory → status ≢ BayFault → HasHeld past end.cell × (answered_new ≡ end.answered) × AreOnDisks told has end.cell

@@ -19,10 +19,10 @@ use Rattle.coda_stored.specs.Seen.{seen, Meanwhile}
 use Rattle.coda_site.specs.Awaiting.{IsAwaiting}
 use Rattle.coda_site.specs.Cells.{AreOnDisks}
 use Rattle.coda_runs.specs.Later.{Later, Waits, Goes, Strays, resumed, LaterGives, HasReached, HasGoneOn, CanBeResumed}
-use Rattle.coda_runs.specs.Held.{Holding, HeldGives}
+use Rattle.coda_runs.specs.Held.{HeldGives}
 use Rattle.coda_runs.specs.Shows.{Recorded}
 use Rattle.coda_runs.specs.Texts.{text_of}
-use Rattle.coda_main.specs.Held.{ShowsHolding}
+use Rattle.coda_main.specs.Held.{ShowsHeld}
 use Rattle.coda_main.specs.Lines.{IsBadLine}
 use Rattle.coda_main.specs.Shows.{Moment, Shows, answered_since, CellGives}
 
@@ -86,7 +86,7 @@ AnsweredElsewhere told cell next left answered said text old new =
 pub record MachineGives {D : Type 0} (told : D → Told) (old : Moment D) (bytes text : List ℕ) (outside : List (List ℕ)) (new : Moment D) : Type 0 where
   pub ran : CellGives told old bytes text outside new
   pub later : (at : Later) → ShowsLater told at old → (next : Later) × LaterGives at bytes text outside next × ShowsLater told next new
-  pub held : (at : Holding) → ShowsHolding told at old → (next : Holding) × HeldGives at bytes text outside next × ShowsHolding told next new
+  pub held : (at : Recorded) → ShowsHeld told at old → (next : Recorded) × HeldGives at bytes text outside next × ShowsHeld told next new
 
 -- What was read and written is the report of a run over the disks that an earlier run left: lines make its actors again in this order, some of them or
 -- all, and each other line does what it does where those were made that came so far, or is refused for the disk of another actor, unless one makes an

@@ -14,8 +14,8 @@ use Rattle.coda_cell.specs.Made.{MadeCell, state_of, grown}
 use Rattle.coda_cell.specs.Refusing.{refusal}
 use Rattle.coda_cell.specs.Steps.{client_named, holder_named, first_missing, no_room, alone}
 use Rattle.coda_cell.specs.Refused.{Refused as Refusal}
-use Rattle.coda_stored.specs.Cells.{StoredCell, client_header, replica_header}
-use Rattle.coda_stored.specs.Lines.{is_down_for, Becoming, Unless, UnlessDown, Opens, no_volume, no_client, with_volume, with_client, area_of, IsRefused, CrashesClient, CrashesReplica, RecoversClient, RecoversReplica, Stays, Happens, refused_down, refused_fault}
+use Rattle.coda_stored.specs.Cells.{StoredCell, client_header, replica_header, Side}
+use Rattle.coda_stored.specs.Lines.{is_down_for, Becoming, Unless, UnlessDown, Opens, no_volume, no_client, with_volume, with_client, area_of, IsRefused, CrashesClient, CrashesReplica, RecoversClient, RecoversReplica, Stays, Happens, refused_down, refused_fault, refused_foreign}
 use Rattle.coda_runs.proofs.Meeting.{Ends, line_ends}
 
 -- a cell whose histories are others
@@ -90,10 +90,10 @@ module _ (old : StoredCell) (reply : Reply) (outside : List (List ℕ)) (new : S
   client_left client blocks area none (out, inr down) =
       (whole refused_fault tt down.2, OneClient client blocks (after_move old.made.acted (Crashes (TheClient client))) none (ap (λ (c : StoredCell). c.made) down.3))
 
-  refused_left : (who : Who) (was : Option Header) (header : Header) (entries : ℕ) (given : Option Header) (mid : StoredCell)
-      → IsRefused old who was header entries given mid → new.made ≡ mid.made → Leaves old.made new.made
-  refused_left who was header entries given mid (inl same) is = Actors (after_move old.made.acted (Crashes who)) (is ∙ ap (λ (c : StoredCell). c.made) same.1)
-  refused_left who was header entries given mid (inr next) is =
+  refused_left : (who : Who) (side : Side) (header : Header) (entries : ℕ) (tried : Side) (mid : StoredCell)
+      → IsRefused old who side header entries tried mid → new.made ≡ mid.made → Leaves old.made new.made
+  refused_left who side header entries tried mid (inl same) is = Actors (after_move old.made.acted (Crashes who)) (is ∙ ap (λ (c : StoredCell). c.made) same.1)
+  refused_left who side header entries tried mid (inr next) is =
       Actors (after_move (after_move old.made.acted (Recovers who false)) (Crashes who)) (is ∙ ap (λ (c : StoredCell). c.made) next.2)
 
   crashes_client_left : (client : ℕ) → CrashesClient old client reply outside new → IsLeft old reply new
@@ -106,13 +106,17 @@ module _ (old : StoredCell) (reply : Reply) (outside : List (List ℕ)) (new : S
   recovers_client_left : (client : ℕ) → RecoversClient old client reply outside new → IsLeft old reply new
   recovers_client_left client (none, (header, asked, inl did)) =
       (whole (Recovered _) tt did.1, Actors (after_move old.made.acted (Recovers (TheClient client) did.0)) (ap (λ (c : StoredCell). c.made) did.3))
-  recovers_client_left client (none, (header, asked, inr did)) =
+  recovers_client_left client (none, (header, asked, inr (inr (at, differs, did)))) =
+      (whole (refused_foreign at) tt did.0, Actors (after_move old.made.acted (Crashes (TheClient client))) (ap (λ (c : StoredCell). c.made) did.1))
+  recovers_client_left client (none, (header, asked, inr (inl did))) =
       (whole refused_fault tt did.3, refused_left (TheClient client) _ header _ did.0 did.1 did.2 (ap (λ (c : StoredCell). c.made) did.4))
 
   recovers_replica_left : (server volume : ℕ) → RecoversReplica old server volume reply outside new → IsLeft old reply new
   recovers_replica_left server volume (none, (header, asked, inl did)) =
       (whole (Recovered _) tt did.1, Actors (after_move old.made.acted (Recovers (TheReplica server volume) did.0)) (ap (λ (c : StoredCell). c.made) did.3))
-  recovers_replica_left server volume (none, (header, asked, inr did)) =
+  recovers_replica_left server volume (none, (header, asked, inr (inr (at, differs, did)))) =
+      (whole (refused_foreign at) tt did.0, Actors (after_move old.made.acted (Crashes (TheReplica server volume))) (ap (λ (c : StoredCell). c.made) did.1))
+  recovers_replica_left server volume (none, (header, asked, inr (inl did))) =
       (whole refused_fault tt did.3, refused_left (TheReplica server volume) _ header _ did.0 did.1 did.2 (ap (λ (c : StoredCell). c.made) did.4))
 
   -- ---- every line

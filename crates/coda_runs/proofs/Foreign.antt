@@ -8,12 +8,12 @@ use Rattle.coda_journal.specs.declared.header.Header.{Header}
 use Rattle.coda_plain.specs.Cell.{Actor}
 use Rattle.coda_script.specs.declared.line.Line.TheVariants as line
 use Rattle.coda_cell.specs.Steps.{is_alone, alone}
-use Rattle.coda_stored.specs.Cells.{Side, StoredCell, plain_replica, client_header, replica_header, disk_number}
+use Rattle.coda_stored.specs.Cells.{Side, StoredCell, plain_replica, client_header, replica_header, disk_number, on_disk}
 use Rattle.coda_stored.specs.Foreign.{IsForeignAt}
 use Rattle.coda_stored.specs.Kept.{IsClientSide, IsReplicaSide, IsGiven, IsStoredKept}
 use Rattle.coda_stored.specs.Lines.{area_of}
 use Rattle.coda_stored.specs.Resuming.{Awaited, ClientAgain, VolumeAgain, is_awaited, awaits_client, AreAwaited}
-use Rattle.coda_stored.specs.Seen.{asleep, idle_until, seen}
+use Rattle.coda_stored.specs.Seen.{asleep, idle_until, seen, lying}
 use Rattle.coda_runs.specs.Later.{OwnDisksAreNotForeign}
 
 both : (a b : Bool) → (a && b) ≡ true → (a ≡ true) × (b ≡ true)
@@ -66,7 +66,8 @@ module _ (cell : StoredCell) (kept : IsStoredKept cell) (areas : ℕ) (left : Li
       (subst (λ (n : ℕ). HasOther (replica_header n (alone servers) area) (disk_of (alone servers)) at) number_is
       (subst (λ (a : ℕ). HasOther (replica_header number (alone servers) a) (disk_of (alone servers)) at) area_is foreign)) in
       let held : disk_of server ≡ (cell.replicas volume).given =
-      ap (λ (b : Bool). (cond b (plain_replica volume (cell.made.acted.replicas server volume) (asleep true (cell.replicas volume))) (idle_until cell left (disk_number count server))).disk.header) (eq-eqb (disk_number count server) (cell.places volume) (sym place)) in
+      ap (λ (b : Bool). (cond b (lying cell server volume) (idle_until cell left (disk_number count server))).disk.header) (eq-eqb (disk_number count server) (cell.places volume) (sym place))
+      ∙ ap (λ (b : Bool). (on_disk b (cell.others volume) (plain_replica volume (cell.made.acted.replicas server volume) (asleep true (cell.replicas volume)))).disk.header) (kept.replicas_own volume) in
       same_header (cell.replicas volume).given (replica_header volume server area) (replica_header volume server known.0) at (cell.made.acted.replicas server volume) known.6 same
       (subst (λ (o : Option Header). HasOther (replica_header volume server area) o at) held named)
 

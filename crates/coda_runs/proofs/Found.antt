@@ -13,32 +13,32 @@ use Rattle.coda_cell.specs.Steps.{alone}
 use Rattle.coda_script.specs.Lines.{line_of}
 use Rattle.coda_script.specs.declared.reply.Reply.{Reply}
 use Rattle.coda_script.specs.declared.reply.Reply.TheVariants.{Recovered}
-use Rattle.coda_stored.specs.Cells.{StoredCell, client_header, replica_header, moved}
+use Rattle.coda_stored.specs.Cells.{StoredCell, client_header, replica_header, moved, Side}
 use Rattle.coda_stored.specs.Foreign.{next_disk, IsFree, IsFreeFor}
 use Rattle.coda_stored.specs.Lines.{area_of, IsRefused, RecoversClient, RecoversReplica}
-use Rattle.coda_stored.specs.Resuming.{Awaited, ClientAgain, VolumeAgain, is_awaited, opened_as, MakesAgain}
+use Rattle.coda_stored.specs.Resuming.{Awaited, ClientAgain, VolumeAgain, is_awaited, opened_as, MakesAgain, IsOwn}
 use Rattle.coda_stored.specs.Seen.{seen, mounts_none}
 use Rattle.coda_runs.specs.Later.{Later, resumed, HasReached, TellsOfFound, TellsOfAwaited, WhatIsMadeAgainIsCounted, IsHeldByAnother, FindsAnother, WhatOthersHoldIsKept}
 
 -- an actor whose recovery failed is down
-client_fails : (old mid : StoredCell) (client entries : ℕ) (was given : Option Header) (header : Header) → IsRefused old (TheClient client) was header entries given mid → (mid.made.acted.clients client).up ≡ false
-client_fails old mid client entries was given header (inl stays) =
+client_fails : (old mid : StoredCell) (client entries : ℕ) (side tried : Side) (header : Header) → IsRefused old (TheClient client) side header entries tried mid → (mid.made.acted.clients client).up ≡ false
+client_fails old mid client entries side tried header (inl stays) =
     ap (λ (c : StoredCell). (c.made.acted.clients client).up) stays.1 ∙ ap (λ (a : Actor _). a.up) (client_here old.made.acted client (crashed (old.made.acted.clients client)))
-client_fails old mid client entries was given header (inr tried) =
+client_fails old mid client entries side tried header (inr tried) =
     let before = (moved old (Recovers (TheClient client) false)).made.acted in
     ap (λ (c : StoredCell). (c.made.acted.clients client).up) tried.2 ∙ ap (λ (a : Actor _). a.up) (client_here before client (crashed (before.clients client)))
 
-replica_fails : (old mid : StoredCell) (server volume entries : ℕ) (was given : Option Header) (header : Header) → IsRefused old (TheReplica server volume) was header entries given mid
+replica_fails : (old mid : StoredCell) (server volume entries : ℕ) (side tried : Side) (header : Header) → IsRefused old (TheReplica server volume) side header entries tried mid
     → (mid.made.acted.replicas server volume).up ≡ false
-replica_fails old mid server volume entries was given header (inl stays) =
+replica_fails old mid server volume entries side tried header (inl stays) =
     ap (λ (c : StoredCell). (c.made.acted.replicas server volume).up) stays.1 ∙ ap (λ (a : Actor _). a.up) (replica_here old.made.acted server volume (crashed (old.made.acted.replicas server volume)))
-replica_fails old mid server volume entries was given header (inr tried) =
+replica_fails old mid server volume entries side tried header (inr tried) =
     let before = (moved old (Recovers (TheReplica server volume) false)).made.acted in
     ap (λ (c : StoredCell). (c.made.acted.replicas server volume).up) tried.2 ∙ ap (λ (a : Actor _). a.up) (replica_here before server volume (crashed (before.replicas server volume)))
 
-client_told : (old mid : StoredCell) (client : ℕ) (said : Reply) (outside : List (List ℕ)) → RecoversClient old client said outside mid
+client_told : (old mid : StoredCell) (client : ℕ) (said : Reply) (outside : List (List ℕ)) → IsOwn said → RecoversClient old client said outside mid
     → TellsOfFound (reply_text (opened_as said)) (old.made.acted.clients client) (mid.made.acted.clients client)
-client_told old mid client said outside (quiet, (header, asked, inl (joins, is, image, same))) =
+client_told old mid client said outside own (quiet, (header, asked, inl (joins, is, image, same, may))) =
     let actor = recovered joins (old.made.acted.clients client) in
     let found = (moved old (Recovers (TheClient client) joins)).made.acted.clients client in
     let there : mid.made.acted.clients client ≡ found = ap (λ (c : StoredCell). c.made.acted.clients client) same in
@@ -47,15 +47,16 @@ client_told old mid client said outside (quiet, (header, asked, inl (joins, is, 
       subst (λ (a : Actor _). IsRecovered (old.made.acted.clients client) a.history) (sym there) (histories_stay.client_recovers old.made.acted client joins),
       ap (λ (a : Actor _). a.up) there ∙ ap (λ (a : Actor _). a.up) (client_here old.made.acted client actor),
     )
-client_told old mid client said outside (quiet, (header, asked, inr (given, left, refused, is, same))) =
+client_told old mid client said outside own (quiet, (header, asked, inr (inr (at, differs, is, same)))) = absurd (own at is)
+client_told old mid client said outside own (quiet, (header, asked, inr (inl (tried, left, refused, is, same)))) =
     inr (
       ap (λ r. reply_text (opened_as r)) is,
-      ap (λ (c : StoredCell). (c.made.acted.clients client).up) same ∙ client_fails old left client (length (old.made.acted.clients client).history) (old.clients client).given given header refused,
+      ap (λ (c : StoredCell). (c.made.acted.clients client).up) same ∙ client_fails old left client _ (old.clients client) tried header refused,
     )
 
-replica_told : (old mid : StoredCell) (server volume : ℕ) (said : Reply) (outside : List (List ℕ)) → RecoversReplica old server volume said outside mid
+replica_told : (old mid : StoredCell) (server volume : ℕ) (said : Reply) (outside : List (List ℕ)) → IsOwn said → RecoversReplica old server volume said outside mid
     → TellsOfFound (reply_text (opened_as said)) (old.made.acted.replicas server volume) (mid.made.acted.replicas server volume)
-replica_told old mid server volume said outside (quiet, (header, asked, inl (joins, is, image, same))) =
+replica_told old mid server volume said outside own (quiet, (header, asked, inl (joins, is, image, same, may))) =
     let actor = recovered joins (old.made.acted.replicas server volume) in
     let found = (moved old (Recovers (TheReplica server volume) joins)).made.acted.replicas server volume in
     let there : mid.made.acted.replicas server volume ≡ found = ap (λ (c : StoredCell). c.made.acted.replicas server volume) same in
@@ -64,19 +65,20 @@ replica_told old mid server volume said outside (quiet, (header, asked, inl (joi
       subst (λ (a : Actor _). IsRecovered (old.made.acted.replicas server volume) a.history) (sym there) (histories_stay.replica_recovers old.made.acted server volume joins),
       ap (λ (a : Actor _). a.up) there ∙ ap (λ (a : Actor _). a.up) (replica_here old.made.acted server volume actor),
     )
-replica_told old mid server volume said outside (quiet, (header, asked, inr (given, left, refused, is, same))) =
+replica_told old mid server volume said outside own (quiet, (header, asked, inr (inr (at, differs, is, same)))) = absurd (own at is)
+replica_told old mid server volume said outside own (quiet, (header, asked, inr (inl (tried, left, refused, is, same)))) =
     inr (
       ap (λ r. reply_text (opened_as r)) is,
-      ap (λ (c : StoredCell). (c.made.acted.replicas server volume).up) same ∙ replica_fails old left server volume (length (old.made.acted.replicas server volume).history) (old.replicas volume).given given header refused,
+      ap (λ (c : StoredCell). (c.made.acted.replicas server volume).up) same ∙ replica_fails old left server volume _ (old.replicas volume) tried header refused,
     )
 
 makes_told : (old new : StoredCell) (next : Awaited) (reply : Reply) → MakesAgain old next reply new → TellsOfAwaited next (reply_text reply) old new
-makes_told old new (ClientAgain client blocks area) reply (said, mid, did, is, same) =
+makes_told old new (ClientAgain client blocks area) reply (said, mid, did, is, same, own) =
     subst (λ (r : Reply). TellsOfFound (reply_text r) (old.made.acted.clients client) (new.made.acted.clients client)) (sym is)
-    (subst (λ (c : StoredCell). TellsOfFound (reply_text (opened_as said)) (old.made.acted.clients client) (c.made.acted.clients client)) (sym same) (client_told old mid client said [] did))
-makes_told old new (VolumeAgain volume server area) reply (said, mid, did, is, same) =
+    (subst (λ (c : StoredCell). TellsOfFound (reply_text (opened_as said)) (old.made.acted.clients client) (c.made.acted.clients client)) (sym same) (client_told old mid client said [] own did))
+makes_told old new (VolumeAgain volume server area) reply (said, mid, did, is, same, own) =
     subst (λ (r : Reply). TellsOfFound (reply_text r) (old.made.acted.replicas server volume) (new.made.acted.replicas server volume)) (sym is)
-    (subst (λ (c : StoredCell). TellsOfFound (reply_text (opened_as said)) (old.made.acted.replicas server volume) (c.made.acted.replicas server volume)) (sym same) (replica_told old mid server volume said [] did))
+    (subst (λ (c : StoredCell). TellsOfFound (reply_text (opened_as said)) (old.made.acted.replicas server volume) (c.made.acted.replicas server volume)) (sym same) (replica_told old mid server volume said [] own did))
 
 -- what a run reached in which a line made its actor again
 reached_found : (found reached : StoredCell) (left : List Awaited) (answered images : List (List ℕ)) → HasReached (resumed found left answered) reached images → reached ≡ found

@@ -27,7 +27,7 @@ use Rattle.coda_journal.specs.declared.header.Header.{Header}
 use Rattle.coda_plain.specs.Moves.{Who, TheClient, TheReplica, Crashes}
 use Rattle.coda_stored.specs.Cells.{Side, StoredCell, client_header, replica_header, after, after_all, moved, failed}
 use Rattle.coda_stored.specs.Kept.{IsClientSide, IsReplicaSide, IsStoredKept}
-use Rattle.coda_stored.specs.Lines.{is_built, is_down_for, task_meets, meets, Stop, EndsBy, Acts, Becoming, Stays, Unless as StoredUnless, Opens, no_volume, no_client, with_volume, with_client, area_of, with_client_side, with_replica_side, RecoversClient, RecoversReplica, DoesUp, UnlessDown, Happens, refused_down, refused_fault}
+use Rattle.coda_stored.specs.Lines.{is_built, is_down_for, task_meets, meets, Stop, EndsBy, Acts, Becoming, Stays, Unless as StoredUnless, Opens, no_volume, no_client, with_volume, with_client, area_of, with_client_side, with_replica_side, RecoversClient, RecoversReplica, DoesUp, UnlessDown, Happens, refused_down, refused_fault, asking}
 use Rattle.coda_stored.specs.Room.{Fits}
 use Rattle.coda_stored.proofs.Disks.{client_size, holder_is}
 use Rattle.coda_runs.specs.Runs.{LineGives}
@@ -174,7 +174,7 @@ module _ (old : StoredCell) where
   down_becomes false own has = has
 
   opens_some : (header : Header) (make : Side → StoredCell) (who : Who) → Becomes_some (Opens old header make who)
-  opens_some header make who = (Opened (0 ∷ []), [], make (record { given = Some header; asked = Some header; left = None }), (refl, inl (refl, refl)))
+  opens_some header make who = (Opened (0 ∷ []), [], make (asking header (Some header)), (refl, inl (refl, refl)))
 
   stays_some : (reply : Reply) → Becomes_some (Stays old reply)
   stays_some reply = (reply, [], old, (refl, refl, refl))
@@ -182,15 +182,13 @@ module _ (old : StoredCell) where
   -- a call of the disk of an actor that was made may fail in its recovery
   recovers_client_some : (client : ℕ) (header : Header) → (old.clients client).asked ≡ Some header → Becomes_some (RecoversClient old client)
   recovers_client_some client header asked =
-      let given = (old.clients client).given in
       let mid = moved old (Crashes (TheClient client)) in
-      (refused_fault, [], with_client_side mid client (record (old.clients client) { given = given }), (refl, (header, asked, inr (given, mid, inl (refl, refl), refl, refl))))
+      (refused_fault, [], with_client_side mid client (old.clients client), (refl, (header, asked, inr (inl (old.clients client, mid, inl (refl, refl), refl, refl)))))
 
   recovers_replica_some : (server volume : ℕ) (header : Header) → (old.replicas volume).asked ≡ Some header → Becomes_some (RecoversReplica old server volume)
   recovers_replica_some server volume header asked =
-      let given = (old.replicas volume).given in
       let mid = moved old (Crashes (TheReplica server volume)) in
-      (refused_fault, [], with_replica_side mid volume (record (old.replicas volume) { given = given }), (refl, (header, asked, inr (given, mid, inl (refl, refl), refl, refl))))
+      (refused_fault, [], with_replica_side mid volume (old.replicas volume), (refl, (header, asked, inr (inl (old.replicas volume, mid, inl (refl, refl), refl, refl)))))
 
   module _ (kept : IsStoredKept old) where
     client_asked : (client : ℕ) → first_missing (client_named (state_of old.made) client ∷ []) ≡ None

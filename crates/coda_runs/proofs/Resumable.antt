@@ -17,10 +17,11 @@ use Rattle.coda_cell.specs.State.{put, Event, VolumeMade, ClientMade, Ticked, Li
 use Rattle.coda_cell.specs.Steps.{client_named, holder_named, on_volume, first_missing, alone, no_room}
 use Rattle.coda_stored.specs.Cells.{Side, StoredCell, nothing_stored, client_header, replica_header, disk_number, after, after_all, moved, failed}
 use Rattle.coda_stored.specs.Kept.{IsStoredKept}
-use Rattle.coda_stored.specs.Lines.{is_down_for, Acts, EndsBy, Becoming, UnlessDown, Unless, Opens, IsRefused, area_of, no_volume, no_client, with_volume, with_client, MakesVolume, MakesClient, CrashesClient, CrashesReplica, RecoversClient, RecoversReplica, with_client_side, with_replica_side, recovered_side, Stays, DoesUp, Happens}
+use Rattle.coda_stored.specs.Lines.{is_down_for, Acts, EndsBy, Becoming, UnlessDown, Unless, Opens, IsRefused, area_of, no_volume, no_client, with_volume, with_client, MakesVolume, MakesClient, CrashesClient, CrashesReplica, RecoversClient, RecoversReplica, with_client_side, with_replica_side, recovered_side, Stays, DoesUp, Happens, asking}
 use Rattle.coda_stored.specs.Resuming.{at_rest, Awaited, ClientAgain, VolumeAgain, awaits_client, awaits_volume, servers_of, AreAwaited}
 use Rattle.coda_stored.proofs.Acting.{UpClient, UpReplica, IsActed, tasks_acted, send_acted, delivers_acted, loses_acted, tick_acted, link_acted, nothing_acted}
 use Rattle.coda_stored.proofs.Entering.{IsBy, AreBy, by_parts}
+use Rattle.coda_stored.proofs.Remaining.{tried_asks}
 use Rattle.coda_stored.proofs.Resuming.{awaited_stay}
 use Rattle.coda_stored.proofs.Sides.{AreClean, actors_kept, clean_in}
 use Rattle.coda_runs.specs.Later.{areas_of, CanBeResumed, WhatRanCanBeResumed}
@@ -329,9 +330,9 @@ client_side_nothing old mid client side same asked = nothing_then old mid (with_
 replica_side_nothing : (old mid : StoredCell) (volume : ℕ) (side : Side) → MakesNothing mid old → side.asked ≡ (mid.replicas volume).asked → MakesNothing (with_replica_side mid volume side) old
 replica_side_nothing old mid volume side same asked = nothing_then old mid (with_replica_side mid volume side) same (record { sizes = refl; homes = refl; servers = refl; places = refl; areas = refl; clients = λ client. refl; replicas = asked_put mid.replicas volume side asked })
 
-refused_nothing : (old : StoredCell) (who : Who) (was : Option Header) (header : Header) (entries : ℕ) (given : Option Header) (mid : StoredCell) → IsRefused old who was header entries given mid → MakesNothing mid old
-refused_nothing old who was header entries given mid (inl same) = nothing_is old (moved old (Crashes who)) mid (moved_nothing old who) same.1
-refused_nothing old who was header entries given mid (inr next) =
+refused_nothing : (old : StoredCell) (who : Who) (side : Side) (header : Header) (entries : ℕ) (tried : Side) (mid : StoredCell) → IsRefused old who side header entries tried mid → MakesNothing mid old
+refused_nothing old who side header entries tried mid (inl same) = nothing_is old (moved old (Crashes who)) mid (moved_nothing old who) same.1
+refused_nothing old who side header entries tried mid (inr next) =
     nothing_is old (moved (moved old (Recovers who false)) (Crashes who)) mid (nothing_then old (moved old (Recovers who false)) (moved (moved old (Recovers who false)) (Crashes who)) (recovered_nothing old who false) (moved_nothing (moved old (Recovers who false)) who)) next.2
 
 -- ---- lines
@@ -370,7 +371,7 @@ module _ (old : StoredCell) (kept : IsStoredKept old) (reply : Reply) (outside :
           let fits : old.areas + area ≤ 512 = grind (arith, nat_tests, much) in
           elim ends [
             | inl up ↦ subst CanBeResumed (sym up.1) (volume_resumable old _ volume server area _ (record { homes = refl; sizes = refl; servers = refl; places = refl; clients = refl; replicas = refl; areas = refl }) none refl few fits can)
-            | inr down ↦ subst CanBeResumed (sym down.3) (volume_resumable old _ volume server area (record { given = down.0; asked = Some (replica_header volume server area); left = None }) (record { homes = refl; sizes = refl; servers = refl; places = refl; clients = refl; replicas = refl; areas = refl }) none refl few fits can)
+            | inr down ↦ subst CanBeResumed (sym down.3) (volume_resumable old _ volume server area (asking (replica_header volume server area) down.0) (record { homes = refl; sizes = refl; servers = refl; places = refl; clients = refl; replicas = refl; areas = refl }) none refl few fits can)
           ]
 
   client_can : (client blocks area : ℕ) → MakesClient old client blocks area reply outside new → CanBeResumed new
@@ -383,22 +384,24 @@ module _ (old : StoredCell) (kept : IsStoredKept old) (reply : Reply) (outside :
           let fits : old.areas + area ≤ 512 = grind (arith, nat_tests, much) in
           elim ends [
             | inl up ↦ subst CanBeResumed (sym up.1) (client_resumable old _ client blocks area _ (record { sizes = refl; homes = refl; servers = refl; places = refl; clients = refl; replicas = refl; areas = refl }) none refl fits can)
-            | inr down ↦ subst CanBeResumed (sym down.3) (client_resumable old _ client blocks area (record { given = down.0; asked = Some (client_header client blocks area); left = None }) (record { sizes = refl; homes = refl; servers = refl; places = refl; clients = refl; replicas = refl; areas = refl }) none refl fits can)
+            | inr down ↦ subst CanBeResumed (sym down.3) (client_resumable old _ client blocks area (asking (client_header client blocks area) down.0) (record { sizes = refl; homes = refl; servers = refl; places = refl; clients = refl; replicas = refl; areas = refl }) none refl fits can)
           ]
 
   recovers_client_can : (client : ℕ) → RecoversClient old client reply outside new → MakesNothing new old
   recovers_client_can client (none, (header, asked, inl did)) =
       nothing_is old _ new (client_side_nothing old (moved old (Recovers (TheClient client) did.0)) client (recovered_side (old.clients client) header) (recovered_nothing old (TheClient client) did.0) refl) did.3
-  recovers_client_can client (none, (header, asked, inr did)) =
+  recovers_client_can client (none, (header, asked, inr (inr foreign))) = nothing_is old _ new (moved_nothing old (TheClient client)) foreign.3
+  recovers_client_can client (none, (header, asked, inr (inl did))) =
       let same = refused_nothing old (TheClient client) _ header _ did.0 did.1 did.2 in
-      nothing_is old _ new (client_side_nothing old did.1 client (record (old.clients client) { given = did.0 }) same (sym (same.clients client))) did.4
+      nothing_is old _ new (client_side_nothing old did.1 client did.0 same ((tried_asks old (TheClient client) (old.clients client) header _ did.0 did.1 did.2).0 ∙ sym (same.clients client))) did.4
 
   recovers_replica_can : (server volume : ℕ) → RecoversReplica old server volume reply outside new → MakesNothing new old
   recovers_replica_can server volume (none, (header, asked, inl did)) =
       nothing_is old _ new (replica_side_nothing old (moved old (Recovers (TheReplica server volume) did.0)) volume (recovered_side (old.replicas volume) header) (recovered_nothing old (TheReplica server volume) did.0) refl) did.3
-  recovers_replica_can server volume (none, (header, asked, inr did)) =
+  recovers_replica_can server volume (none, (header, asked, inr (inr foreign))) = nothing_is old _ new (moved_nothing old (TheReplica server volume)) foreign.3
+  recovers_replica_can server volume (none, (header, asked, inr (inl did))) =
       let same = refused_nothing old (TheReplica server volume) _ header _ did.0 did.1 did.2 in
-      nothing_is old _ new (replica_side_nothing old did.1 volume (record (old.replicas volume) { given = did.0 }) same (sym (same.replicas volume))) did.4
+      nothing_is old _ new (replica_side_nothing old did.1 volume did.0 same ((tried_asks old (TheReplica server volume) (old.replicas volume) header _ did.0 did.1 did.2).0 ∙ sym (same.replicas volume))) did.4
 
   does_can : (said : Line) → is_down_for old said ≡ false → DoesUp old said reply outside new → CanBeResumed new
   does_can (line.Volume volume servers area) down does = volume_can volume (alone servers) (area_of area) does

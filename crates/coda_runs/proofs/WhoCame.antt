@@ -5,7 +5,7 @@ use Rattle.coda_journal.specs.declared.header.Header.{Header}
 use Rattle.coda_plain.specs.Moves.{Who, TheClient, TheReplica}
 use Rattle.coda_letters.specs.Sent.{Sent, client_of, server_of}
 use Rattle.coda_script.specs.declared.reply.Reply.{Reply}
-use Rattle.coda_stored.specs.Cells.{StoredCell}
+use Rattle.coda_stored.specs.Cells.{StoredCell, Side}
 use Rattle.coda_stored.specs.Lines.{IsRefused, RecoversClient, RecoversReplica}
 use Rattle.coda_stored.specs.Resuming.{at_rest, Awaited, ClientAgain, VolumeAgain, awaits_client, awaits_volume, MakesAgain}
 use Rattle.coda_stored.specs.Seen.{seen, home_unless}
@@ -38,23 +38,25 @@ AllCame cell left = AllThere (seen cell left).made cell.made.waiting
 
 -- ---- a line that makes an actor again
 
-refused_waiting : (old : StoredCell) (who : Who) (was : Option Header) (header : Header) (entries : ℕ) (given : Option Header) (mid : StoredCell) → IsRefused old who was header entries given mid → mid.made.waiting ≡ old.made.waiting
-refused_waiting old (TheClient client) was header entries given mid (inl same) = ap (λ (c : StoredCell). c.made.waiting) same.1
-refused_waiting old (TheReplica server volume) was header entries given mid (inl same) = ap (λ (c : StoredCell). c.made.waiting) same.1
-refused_waiting old (TheClient client) was header entries given mid (inr next) = ap (λ (c : StoredCell). c.made.waiting) next.2
-refused_waiting old (TheReplica server volume) was header entries given mid (inr next) = ap (λ (c : StoredCell). c.made.waiting) next.2
+refused_waiting : (old : StoredCell) (who : Who) (side : Side) (header : Header) (entries : ℕ) (tried : Side) (mid : StoredCell) → IsRefused old who side header entries tried mid → mid.made.waiting ≡ old.made.waiting
+refused_waiting old (TheClient client) side header entries tried mid (inl same) = ap (λ (c : StoredCell). c.made.waiting) same.1
+refused_waiting old (TheReplica server volume) side header entries tried mid (inl same) = ap (λ (c : StoredCell). c.made.waiting) same.1
+refused_waiting old (TheClient client) side header entries tried mid (inr next) = ap (λ (c : StoredCell). c.made.waiting) next.2
+refused_waiting old (TheReplica server volume) side header entries tried mid (inr next) = ap (λ (c : StoredCell). c.made.waiting) next.2
 
 client_waiting : (old mid : StoredCell) (client : ℕ) (said : Reply) → RecoversClient old client said [] mid → mid.made.waiting ≡ old.made.waiting
 client_waiting old mid client said (none, (header, asked, inl did)) = ap (λ (c : StoredCell). c.made.waiting) did.3
-client_waiting old mid client said (none, (header, asked, inr did)) = ap (λ (c : StoredCell). c.made.waiting) did.4 ∙ refused_waiting old (TheClient client) _ header _ did.0 did.1 did.2
+client_waiting old mid client said (none, (header, asked, inr (inr foreign))) = ap (λ (c : StoredCell). c.made.waiting) foreign.3
+client_waiting old mid client said (none, (header, asked, inr (inl did))) = ap (λ (c : StoredCell). c.made.waiting) did.4 ∙ refused_waiting old (TheClient client) _ header _ did.0 did.1 did.2
 
 replica_waiting : (old mid : StoredCell) (server volume : ℕ) (said : Reply) → RecoversReplica old server volume said [] mid → mid.made.waiting ≡ old.made.waiting
 replica_waiting old mid server volume said (none, (header, asked, inl did)) = ap (λ (c : StoredCell). c.made.waiting) did.3
-replica_waiting old mid server volume said (none, (header, asked, inr did)) = ap (λ (c : StoredCell). c.made.waiting) did.4 ∙ refused_waiting old (TheReplica server volume) _ header _ did.0 did.1 did.2
+replica_waiting old mid server volume said (none, (header, asked, inr (inr foreign))) = ap (λ (c : StoredCell). c.made.waiting) foreign.3
+replica_waiting old mid server volume said (none, (header, asked, inr (inl did))) = ap (λ (c : StoredCell). c.made.waiting) did.4 ∙ refused_waiting old (TheReplica server volume) _ header _ did.0 did.1 did.2
 
 again_waiting : (old new : StoredCell) (awaited : Awaited) (reply : Reply) → MakesAgain old awaited reply new → new.made.waiting ≡ old.made.waiting
-again_waiting old new (ClientAgain client blocks area) reply (said, mid, did, is, same) = ap (λ (c : StoredCell). c.made.waiting) same ∙ client_waiting old mid client said did
-again_waiting old new (VolumeAgain volume server area) reply (said, mid, did, is, same) = ap (λ (c : StoredCell). c.made.waiting) same ∙ replica_waiting old mid server volume said did
+again_waiting old new (ClientAgain client blocks area) reply (said, mid, did, is, same, own) = ap (λ (c : StoredCell). c.made.waiting) same ∙ client_waiting old mid client said did
+again_waiting old new (VolumeAgain volume server area) reply (said, mid, did, is, same, own) = ap (λ (c : StoredCell). c.made.waiting) same ∙ replica_waiting old mid server volume said did
 
 fewer_there : (old new : StoredCell) (next : Awaited) (left : List Awaited) → new.made.sizes ≡ old.made.sizes → new.made.homes ≡ old.made.homes → (sent : Sent)
     → IsThere (seen old (next ∷ left)).made sent → IsThere (seen new left).made sent

@@ -41,12 +41,15 @@ pub record IsMadeOn (at : Recorded) (said : Line) (text : List ℕ) (outside : L
   pub printed : text ≡ reply_text reply
   pub goes_on : new ≡ record { cell = found; answered = at.answered ++ outside }
 
+abbrev pub HeldAnswers : Recorded → Line → List ℕ → List (List ℕ) → Recorded → Type 0
+HeldAnswers at said text outside new = IsDone at said text outside new ⊎ IsMadeOn at said text outside new
+
 -- What a line does in a cell in which only those were made that came so far, with this text and these answers of the bay: a blank line or a comment does nothing;
 -- one that makes an actor does it on the disk that it finds; and any other does what it does in any cell.
 abbrev pub HeldGives : Recorded → List ℕ → List ℕ → List (List ℕ) → Recorded → Type 0
 HeldGives at bytes text outside new =
     ((line_of bytes ≡ Ok None) × (text ≡ []) × (outside ≡ []) × (new ≡ at))
-    ⊎ ((said : Line) × (line_of bytes ≡ Ok (Some said)) × (is_built said ≡ true) × (IsDone at said text outside new ⊎ IsMadeOn at said text outside new))
+    ⊎ ((said : Line) × (line_of bytes ≡ Ok (Some said)) × (is_built said ≡ true) × HeldAnswers at said text outside new)
 
 -- What a run over the disks of an earlier one reached is held; its histories keep what is promised, whichever of the entries join whose appends
 -- failed; no client lost an entry that it had; and each client's log is what is left of what is pending by its history.

@@ -1,5 +1,5 @@
 -- A client is made on the disk that it finds, where other disks stand by themselves.
-use Rattle.std.proofs.Common.{◌≡◌, ◌≢◌, ◌⊎◌, ℕ, ◌<◌, ◌≤◌, ◌==◌, Bool, true, false, cond, List, [], Option, Some, None, refl, sym, ap, ◌∙◌, subst, inl, inr, arith}
+use Rattle.std.proofs.Common.{◌≡◌, ◌≢◌, ◌⊎◌, ℕ, ◌<◌, ◌≤◌, ◌==◌, Bool, true, false, cond, List, [], ◌∷◌, Option, Some, None, refl, sym, ap, ◌∙◌, subst, inl, inr, arith}
 use Rattle.std.proofs.lemmas.Bool.{eqb-true, eq-eqb, cases_eq}
 use Rattle.coda_journal.specs.declared.header.Header.{Header}
 use Rattle.coda_plain.specs.Cell.{ClientEntry, Actor, new_actor, PlainCell, Joins, found}
@@ -212,15 +212,15 @@ module _ (old : StoredCell) (is : IsOwned old) (client blocks area : ℕ) (sized
   pub client_finds : (reply : Reply) (outside : List (List ℕ)) (new : StoredCell) → ClientFinds old client blocks area reply outside new → (new ≡ old) ⊎ IsMadeOn new
   client_finds reply outside new (inl refused) = inl refused.2.2
   client_finds reply outside new (inr (inl (joins, may, said))) =
-      inr (made_on (recovered joins before) (asking asked (Some asked)) (no_other _ refl) (never (asking asked (Some asked)) refl) (found_kept (owned old) is.kept client blocks area sized one under some few joins) (joined_entries before.history joins before.failed) new said.2)
+      inr (made_on (recovered joins before) (asking asked (Some asked)) (no_other (asking asked (Some asked)) refl) (never (asking asked (Some asked)) refl) (found_kept (owned old) is.kept client blocks area sized one under some few joins) (joined_entries before.history joins before.failed) new said.2)
   client_finds reply outside new (inr (inr (inl (inl none, said)))) =
-      inr (made_on (crashed before) (asking asked None) (no_other _ refl) (never (asking asked None) refl)
+      inr (made_on (crashed before) (asking asked None) (no_other (asking asked None) refl) (never (asking asked None) refl)
       (crashed_none (owned old) is.kept client blocks area sized one under some few (ap (λ (s : Side). s.given) (none_own none) ∙ none)) (same_entries before.history) new (said.2 ∙ ap (λ g. making_client old client blocks area (crashed before) (asking asked g)) none))
   client_finds reply outside new (inr (inr (inl (inr given, said)))) =
-      inr (made_on (crashed before) (asking asked (Some asked)) (no_other _ refl) (never (asking asked (Some asked)) refl)
+      inr (made_on (crashed before) (asking asked (Some asked)) (no_other (asking asked (Some asked)) refl) (never (asking asked (Some asked)) refl)
       (crashed_given (owned old) is.kept client blocks area sized one under some few) (same_entries before.history) new (said.2 ∙ ap (λ g. making_client old client blocks area (crashed before) (asking asked g)) given))
   client_finds reply outside new (inr (inr (inr (inl (others, said))))) =
       inr (made_on (crashed before) (asking_elsewhere asked (old.clients client).given) (λ foreign. (asked, refl, others)) (λ foreign. refl)
       (crashed_given (owned old) is.kept client blocks area sized one under some few) (same_entries before.history) new said.2)
   client_finds reply outside new (inr (inr (inr (inr (none, said))))) =
-      inr (made_on (crashed (recovered false before)) (asking asked (Some asked)) (no_other _ refl) (never (asking asked (Some asked)) refl) (emptied_kept (owned old) is.kept client blocks area sized one under some few none) (same_entries before.history) new said.2)
+      inr (made_on (crashed (recovered false before)) (asking asked (Some asked)) (no_other (asking asked (Some asked)) refl) (never (asking asked (Some asked)) refl) (emptied_kept (owned old) is.kept client blocks area sized one under some few none) (same_entries before.history) new said.2)

@@ -86,21 +86,23 @@ unless_own old None own count outside new is = is
 
 client_counted : (old new : StoredCell) (client count : ℕ) (outside : List (List ℕ)) → RecoversClient old client (Recovered count) outside new
     → IsRecovered (old.made.acted.clients client) (new.made.acted.clients client).history × (count ≡ length (new.made.acted.clients client).history)
-client_counted old new client count outside (quiet, (header, asked, inl (joins, is, image, same))) =
+client_counted old new client count outside (quiet, (header, asked, inl (joins, is, image, same, may))) =
     let there : new.made.acted.clients client ≡ (moved old (Recovers (TheClient client) joins)).made.acted.clients client = ap (λ (c : StoredCell). c.made.acted.clients client) same in (
       subst (λ (a : Actor _). IsRecovered (old.made.acted.clients client) a.history) (sym there) (histories_stay.client_recovers old.made.acted client joins),
       (let counted : count ≡ length ((moved old (Recovers (TheClient client) joins)).made.acted.clients client).history = (cc) in counted ∙ ap (λ (a : Actor _). length a.history) (sym there)),
     )
-client_counted old new client count outside (quiet, (header, asked, inr (given, mid, refused, is, same))) = absurd (let s = is in cc)
+client_counted old new client count outside (quiet, (header, asked, inr (inl (tried, mid, refused, is, same)))) = absurd (let s = is in cc)
+client_counted old new client count outside (quiet, (header, asked, inr (inr (at, differs, is, same)))) = absurd (let s = is in cc)
 
 replica_counted : (old new : StoredCell) (server volume count : ℕ) (outside : List (List ℕ)) → RecoversReplica old server volume (Recovered count) outside new
     → IsRecovered (old.made.acted.replicas server volume) (new.made.acted.replicas server volume).history × (count ≡ length (new.made.acted.replicas server volume).history)
-replica_counted old new server volume count outside (quiet, (header, asked, inl (joins, is, image, same))) =
+replica_counted old new server volume count outside (quiet, (header, asked, inl (joins, is, image, same, may))) =
     let there : new.made.acted.replicas server volume ≡ (moved old (Recovers (TheReplica server volume) joins)).made.acted.replicas server volume = ap (λ (c : StoredCell). c.made.acted.replicas server volume) same in (
       subst (λ (a : Actor _). IsRecovered (old.made.acted.replicas server volume) a.history) (sym there) (histories_stay.replica_recovers old.made.acted server volume joins),
       (let counted : count ≡ length ((moved old (Recovers (TheReplica server volume) joins)).made.acted.replicas server volume).history = (cc) in counted ∙ ap (λ (a : Actor _). length a.history) (sym there)),
     )
-replica_counted old new server volume count outside (quiet, (header, asked, inr (given, mid, refused, is, same))) = absurd (let s = is in cc)
+replica_counted old new server volume count outside (quiet, (header, asked, inr (inl (tried, mid, refused, is, same)))) = absurd (let s = is in cc)
+replica_counted old new server volume count outside (quiet, (header, asked, inr (inr (at, differs, is, same)))) = absurd (let s = is in cc)
 
 -- the reply of a step that is noted as a recovery
 noted_happens : (old new : StoredCell) (event : Event) (outside : List (List ℕ)) (said : Line) (count : ℕ) → IsStep old event outside new → event.line ≡ said → event.note ≡ note.Recovered count → Happens old said (Recovered count) outside new
