@@ -1,6 +1,6 @@
 -- A line finds the disk on which it makes an actor, where disks stand by themselves.
 use Rattle.std.proofs.Common.{◌≡◌, ◌≢◌, ◌⊎◌, ℕ, ◌==◌, ◌||◌, true, false, cond, List, [], ◌∷◌, length, Option, Some, None, is_some, refl, sym, ap, ◌∙◌, subst, inl, inr, arith}
-use Rattle.std.proofs.lemmas.Bool.{eqb-true, eqb-false, eq-eqb, ne_eqb, cases_eq}
+use Rattle.std.proofs.lemmas.Bool.{eqb-true, eqb-false, eq-eqb, ne_eqb, cases_eq, false≢true}
 use Rattle.std.specs.Option.{option_and_then}
 use Rattle.coda_actors.specs.Plain.{PlainDisk, PlainActor, Unmade}
 use Rattle.coda_journal.specs.declared.header.Header.{Header}
@@ -358,7 +358,7 @@ module _ (old : StoredCell) (held : IsHeld old) (volume : ℕ) (servers : List �
 held_finds : (old : StoredCell) (said : Line) → IsHeld old → InRange said → mounts_none old said ≡ false → DoesFind old said
 held_finds old (line.Volume volume servers area) held range mounts = volume_does_find old held volume servers area range mounts
 held_finds old (line.Client client blocks area) held range mounts = client_does_find old held client blocks area range
-held_finds old _ held range mounts = cc
+held_finds old _ held range mounts = absurd (false≢true (sym mounts))
 
 pub held_cells_are_kept : HeldCellsAreKept
 held_cells_are_kept = record { kept = held_first; begun = held_begun; clients = clients_begin; lines = held_lines; finds = held_finds; seen = held_seen; promised = held_promised }
