@@ -106,16 +106,16 @@ module _ (old : StoredCell) (reply : Reply) (outside : List (List ℕ)) (new : S
   recovers_client_left : (client : ℕ) → RecoversClient old client reply outside new → IsLeft old reply new
   recovers_client_left client (none, (header, asked, inl did)) =
       (whole (Recovered _) tt did.1, Actors (after_move old.made.acted (Recovers (TheClient client) did.0)) (ap (λ (c : StoredCell). c.made) did.3))
-  recovers_client_left client (none, (header, asked, inr (inr (at, differs, did)))) =
-      (whole (refused_foreign at) tt did.0, Actors (after_move old.made.acted (Crashes (TheClient client))) (ap (λ (c : StoredCell). c.made) did.1))
+  recovers_client_left client (none, (header, asked, inr (inr (at, differs, replied, is)))) =
+      (whole (refused_foreign at) tt replied, Actors (after_move old.made.acted (Crashes (TheClient client))) (ap (λ (c : StoredCell). c.made) is))
   recovers_client_left client (none, (header, asked, inr (inl did))) =
       (whole refused_fault tt did.3, refused_left (TheClient client) _ header _ did.0 did.1 did.2 (ap (λ (c : StoredCell). c.made) did.4))
 
   recovers_replica_left : (server volume : ℕ) → RecoversReplica old server volume reply outside new → IsLeft old reply new
   recovers_replica_left server volume (none, (header, asked, inl did)) =
       (whole (Recovered _) tt did.1, Actors (after_move old.made.acted (Recovers (TheReplica server volume) did.0)) (ap (λ (c : StoredCell). c.made) did.3))
-  recovers_replica_left server volume (none, (header, asked, inr (inr (at, differs, did)))) =
-      (whole (refused_foreign at) tt did.0, Actors (after_move old.made.acted (Crashes (TheReplica server volume))) (ap (λ (c : StoredCell). c.made) did.1))
+  recovers_replica_left server volume (none, (header, asked, inr (inr (at, differs, replied, is)))) =
+      (whole (refused_foreign at) tt replied, Actors (after_move old.made.acted (Crashes (TheReplica server volume))) (ap (λ (c : StoredCell). c.made) is))
   recovers_replica_left server volume (none, (header, asked, inr (inl did))) =
       (whole refused_fault tt did.3, refused_left (TheReplica server volume) _ header _ did.0 did.1 did.2 (ap (λ (c : StoredCell). c.made) did.4))
 

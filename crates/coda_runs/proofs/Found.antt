@@ -24,17 +24,17 @@ use Rattle.coda_runs.specs.Later.{Later, resumed, HasReached, TellsOfFound, Tell
 client_fails : (old mid : StoredCell) (client entries : ℕ) (side tried : Side) (header : Header) → IsRefused old (TheClient client) side header entries tried mid → (mid.made.acted.clients client).up ≡ false
 client_fails old mid client entries side tried header (inl stays) =
     ap (λ (c : StoredCell). (c.made.acted.clients client).up) stays.1 ∙ ap (λ (a : Actor _). a.up) (client_here old.made.acted client (crashed (old.made.acted.clients client)))
-client_fails old mid client entries side tried header (inr tried) =
+client_fails old mid client entries side tried header (inr next) =
     let before = (moved old (Recovers (TheClient client) false)).made.acted in
-    ap (λ (c : StoredCell). (c.made.acted.clients client).up) tried.2 ∙ ap (λ (a : Actor _). a.up) (client_here before client (crashed (before.clients client)))
+    ap (λ (c : StoredCell). (c.made.acted.clients client).up) next.2 ∙ ap (λ (a : Actor _). a.up) (client_here before client (crashed (before.clients client)))
 
 replica_fails : (old mid : StoredCell) (server volume entries : ℕ) (side tried : Side) (header : Header) → IsRefused old (TheReplica server volume) side header entries tried mid
     → (mid.made.acted.replicas server volume).up ≡ false
 replica_fails old mid server volume entries side tried header (inl stays) =
     ap (λ (c : StoredCell). (c.made.acted.replicas server volume).up) stays.1 ∙ ap (λ (a : Actor _). a.up) (replica_here old.made.acted server volume (crashed (old.made.acted.replicas server volume)))
-replica_fails old mid server volume entries side tried header (inr tried) =
+replica_fails old mid server volume entries side tried header (inr next) =
     let before = (moved old (Recovers (TheReplica server volume) false)).made.acted in
-    ap (λ (c : StoredCell). (c.made.acted.replicas server volume).up) tried.2 ∙ ap (λ (a : Actor _). a.up) (replica_here before server volume (crashed (before.replicas server volume)))
+    ap (λ (c : StoredCell). (c.made.acted.replicas server volume).up) next.2 ∙ ap (λ (a : Actor _). a.up) (replica_here before server volume (crashed (before.replicas server volume)))
 
 client_told : (old mid : StoredCell) (client : ℕ) (said : Reply) (outside : List (List ℕ)) → IsOwn said → RecoversClient old client said outside mid
     → TellsOfFound (reply_text (opened_as said)) (old.made.acted.clients client) (mid.made.acted.clients client)

@@ -43,8 +43,8 @@ finds_begin old new shelf (line.Volume volume servers area) reply outside finds 
         (same_entries (old.made.acted.clients client).history)
 
     by : LineFinds old shelf (line.Volume volume servers area) reply outside new → BeginsWith (new.made.acted.clients client).history (old.made.acted.clients client).history
-    by (inl refused) = same old refl refused.2.2.2
-    by (inr (inl found)) = same _ refl found.2.2.2
+    by (inl refused) = same old refl refused.2.2
+    by (inr (inl found)) = same _ refl found.2.2
     by (inr (inr (inl fault))) = same _ refl fault.1.2
     by (inr (inr (inr (inl fault)))) = same _ refl fault.1.2
     by (inr (inr (inr (inr fault)))) = same _ refl fault.1.2
