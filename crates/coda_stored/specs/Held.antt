@@ -104,7 +104,7 @@ pub record IsHeld (cell : StoredCell) : Type 0 where
   pub clients_down : (client : ℕ) → (behind.clients client).foreign ≡ true → (behind.made.acted.clients client).up ≡ false
   pub replicas_beside : (volume : ℕ) → IsBeside (behind.replicas volume)
   pub shelves : (number : ℕ) → IsShelfKept behind (behind.idle number)
-  pub others : (volume : ℕ) → (behind.replicas volume).foreign ≡ true → IsShelfKept behind (lying_disk (behind.others volume))
+  pub others : (volume : ℕ) → (behind.replicas volume).foreign ≡ true → IsShelfKept behind (lying_disk (record (behind.others volume) { header = (behind.replicas volume).given }))
   pub names : List Awaited
   pub named : AreNamed behind names
 
