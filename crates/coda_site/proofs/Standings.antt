@@ -1,0 +1,72 @@
+-- Actors on disks, on their own and on those of others.
+use Rattle.std.proofs.Common.{◌≡◌, ℕ, Bool, true, false, List, [], Option, Some, None, refl, sym, subst, ◌∙◌}
+use Rattle.std.proofs.lemmas.Bool.{false≢true}
+use Rattle.coda_journal.specs.declared.header.Header.{Header}
+use Rattle.coda_actors.specs.Plain.{PlainDisk, PlainActor}
+use Rattle.coda_plain.specs.Cell.{ClientEntry, Actor}
+use Rattle.coda_plain.specs.Decisions.{ReplicaEntry}
+use Rattle.coda_record.specs.declared.entry.ReplicaEntry.{ReplicaEntry as KeptEntry}
+use Rattle.coda_stored.specs.Cells.{Side, StoredCell, plain_replica, on_disk, standing, IsAnothers}
+use Rattle.coda_stored.specs.Kept.{IsGiven}
+use Rattle.coda_stored.specs.Seen.{own_given, own_client, own_replica, IsReplicaSeen, IsBeside}
+
+-- the replica of a volume as this actor, with this known of its disk, which holds what the cell says where it is another's
+abbrev pub stood : StoredCell → ℕ → Actor ReplicaEntry → Side → PlainActor KeptEntry
+stood cell volume actor side = on_disk side.foreign (cell.others volume) (plain_replica volume actor side)
+
+-- ---- what stands on a disk
+
+pub on_own : {Entry : Type 0} (b : Bool) (other : PlainDisk Entry) (actor : PlainActor Entry) → b ≡ false → on_disk b other actor ≡ actor
+on_own false other actor own = refl
+on_own true other actor own = absurd (false≢true (sym own))
+
+pub life_stands : {Entry : Type 0} (b : Bool) (other : PlainDisk Entry) (actor : PlainActor Entry) → (on_disk b other actor).life ≡ actor.life
+life_stands false other actor = refl
+life_stands true other actor = refl
+
+pub left_stands : {Entry : Type 0} (b : Bool) (other : PlainDisk Entry) (actor : PlainActor Entry) → (on_disk b other actor).left ≡ actor.left
+left_stands false other actor = refl
+left_stands true other actor = refl
+
+pub header_stands : {Entry : Type 0} (b : Bool) (other : PlainDisk Entry) (actor : PlainActor Entry) → (on_disk b other actor).disk.header ≡ actor.disk.header
+header_stands false other actor = refl
+header_stands true other actor = refl
+
+-- what is known of a disk that is as it was
+pub disk_stands : {Entry : Type 0} (b : Bool) (other : PlainDisk Entry) (old new : PlainActor Entry) → new.disk ≡ old.disk
+    → on_disk b other new ≡ record { disk = (on_disk b other old).disk; life = new.life; left = new.left }
+disk_stands false other old new same = λ i. record { disk = same i; life = new.life; left = new.left }
+disk_stands true other old new same = λ i. record { disk = record other { header = (same i).header }; life = new.life; left = new.left }
+
+-- the replica of a volume that has its own disk
+pub own_standing : (cell : StoredCell) (server volume : ℕ) → (cell.replicas volume).foreign ≡ false → standing cell server volume ≡ plain_replica volume (cell.made.acted.replicas server volume) (cell.replicas volume)
+own_standing cell server volume own = on_own (cell.replicas volume).foreign (cell.others volume) (plain_replica volume (cell.made.acted.replicas server volume) (cell.replicas volume)) own
+
+-- ---- whose disk it is
+
+pub own_client_is : (side : Side) → side.foreign ≡ false → own_client side ≡ side
+own_client_is side own = λ i. record side { given = own_given (own i) side.asked side.given; foreign = sym own i }
+
+pub own_replica_is : (side : Side) → side.foreign ≡ false → own_replica side ≡ side
+own_replica_is side own = λ i. record side { given = own_given (own i) None side.given; foreign = sym own i }
+
+-- a replica whose own disk was never given a header decided nothing, and is down
+pub decided_none : (volume server : ℕ) (actors : ℕ → Actor ReplicaEntry) (side : Side) → IsReplicaSeen volume (Some server) actors side → side.foreign ≡ true
+    → ((actors server).history ≡ []) × ((actors server).failed ≡ None) × ((actors server).up ≡ false)
+decided_none volume server actors side seen e = subst (λ (b : Bool). IsGiven (own_given b None side.given) _ (actors server)) e seen.0.6
+
+pub up_is_own : (volume server : ℕ) (actors : ℕ → Actor ReplicaEntry) (side : Side) → IsReplicaSeen volume (Some server) actors side → (actors server).up ≡ true → side.foreign ≡ false
+up_is_own volume server actors side seen up = by side.foreign refl
+  where
+    by : (b : Bool) → side.foreign ≡ b → side.foreign ≡ false
+    by false e = e
+    by true e = absurd (false≢true (sym (decided_none volume server actors side seen e).2 ∙ up))
+
+-- a disk that is another's wasn't given the header that its actor asks for
+pub never_given : (side : Side) (header : Header) → IsBeside side → side.foreign ≡ true → side.asked ≡ Some header → side.given ≡ Some header → ⊥
+never_given side header beside e asks given =
+    let b = beside e in
+    let one : Some b.0 ≡ Some header = sym b.1 ∙ asks in
+    let other : Some b.2.0 ≡ Some header = sym b.2.1 ∙ given in
+    let same : b.2.0 ≡ b.0 = cc in
+    b.2.2 same
