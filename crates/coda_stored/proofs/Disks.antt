@@ -59,10 +59,10 @@ replica_side volume (Some home) actors old new server there asks goes (area, siz
     same e = cc
 
 module _ (cell : StoredCell) (kept : IsCellKept cell) where
-  pub client_sided : (client blocks : ℕ) (side : Side) → cell.made.sizes client ≡ Some blocks → side.asked ≡ (cell.clients client).asked
+  pub client_sided : (client blocks : ℕ) (side : Side) → side.foreign ≡ false → cell.made.sizes client ≡ Some blocks → side.asked ≡ (cell.clients client).asked
       → ((header : Header) → (cell.clients client).asked ≡ Some header → IsGiven (cell.clients client).given header (cell.made.acted.clients client) → IsGiven side.given header (cell.made.acted.clients client))
       → IsCellKept (with_client_side cell client side)
-  client_sided client blocks side there asks goes = stored_kept (with_client_side cell client side) (clean_in cell kept) kept.kept (record {
+  client_sided client blocks side own there asks goes = stored_kept (with_client_side cell client side) (clean_in cell kept) kept.kept (record {
     clients = λ c. elim (c == client) as (λ b. (c == client) ≡ b → IsClientSide c (cell.made.sizes c) (cell.made.acted.clients c) (cond b side (cell.clients c))) [
       | true ↦ λ e. subst (λ n. IsClientSide n (cell.made.sizes n) (cell.made.acted.clients n) side) (sym (eqb-true c client e))
           (client_side client (cell.made.sizes client) (cell.made.acted.clients client) (cell.clients client) side blocks there asks goes (kept.clients client))
@@ -71,12 +71,14 @@ module _ (cell : StoredCell) (kept : IsCellKept cell) where
     replicas = kept.replicas;
     placed = kept.placed;
     apart = kept.apart;
+    clients_own = λ c. elim (c == client) as (λ b. (cond b side (cell.clients c)).foreign ≡ false) [ true ↦ own | false ↦ kept.clients_own c ];
+    replicas_own = kept.replicas_own;
   })
 
-  pub replica_sided : (server volume : ℕ) (side : Side) → cell.made.homes volume ≡ Some server → side.asked ≡ (cell.replicas volume).asked
+  pub replica_sided : (server volume : ℕ) (side : Side) → side.foreign ≡ false → cell.made.homes volume ≡ Some server → side.asked ≡ (cell.replicas volume).asked
       → ((header : Header) → (cell.replicas volume).asked ≡ Some header → IsGiven (cell.replicas volume).given header (cell.made.acted.replicas server volume) → IsGiven side.given header (cell.made.acted.replicas server volume))
       → IsCellKept (with_replica_side cell volume side)
-  replica_sided server volume side there asks goes = stored_kept (with_replica_side cell volume side) (clean_in cell kept) kept.kept (record {
+  replica_sided server volume side own there asks goes = stored_kept (with_replica_side cell volume side) (clean_in cell kept) kept.kept (record {
     clients = kept.clients;
     replicas = λ v. elim (v == volume) as (λ b. (v == volume) ≡ b → IsReplicaSide v (cell.made.homes v) (λ s. cell.made.acted.replicas s v) (cond b side (cell.replicas v))) [
       | true ↦ λ e. subst (λ n. IsReplicaSide n (cell.made.homes n) (λ s. cell.made.acted.replicas s n) side) (sym (eqb-true v volume e))
@@ -85,6 +87,8 @@ module _ (cell : StoredCell) (kept : IsCellKept cell) where
     ] refl;
     placed = kept.placed;
     apart = kept.apart;
+    clients_own = kept.clients_own;
+    replicas_own = λ v. elim (v == volume) as (λ b. (cond b side (cell.replicas v)).foreign ≡ false) [ true ↦ own | false ↦ kept.replicas_own v ];
   })
 
   -- ---- an actor crashes, or is recovered
@@ -141,60 +145,62 @@ put_here f k x = ap (λ b. cond b x (f k)) (eq-eqb k k refl)
 module _ (old : StoredCell) (kept : IsCellKept old) (reply : Reply) (outside : List (List ℕ)) (new : StoredCell) where
   pub crashes_client : (client blocks : ℕ) → old.made.sizes client ≡ Some blocks → CrashesClient old client reply outside new → IsCellKept new
   crashes_client client blocks there does = subst IsCellKept (sym does.4)
-      (client_sided (moved old (Crashes (TheClient client))) (client_crashed old kept client blocks there) client blocks (record (old.clients client) { left = Some does.0 }) there refl (λ header asked given. given))
+      (client_sided (moved old (Crashes (TheClient client))) (client_crashed old kept client blocks there) client blocks (record (old.clients client) { left = Some does.0 }) (kept.clients_own client) there refl (λ header asked given. given))
 
   pub crashes_replica : (server volume : ℕ) → old.made.homes volume ≡ Some server → CrashesReplica old server volume reply outside new → IsCellKept new
   crashes_replica server volume there does = subst IsCellKept (sym does.4)
-      (replica_sided (moved old (Crashes (TheReplica server volume))) (replica_crashed old kept server volume there) server volume (record (old.replicas volume) { left = Some does.0 }) there refl (λ header asked given. given))
+      (replica_sided (moved old (Crashes (TheReplica server volume))) (replica_crashed old kept server volume there) server volume (record (old.replicas volume) { left = Some does.0 }) (kept.replicas_own volume) there refl (λ header asked given. given))
 
-  client_given : (client blocks : ℕ) (header : Header) (side : Side) → old.made.sizes client ≡ Some blocks → (old.clients client).asked ≡ Some header → side.asked ≡ (old.clients client).asked → side.given ≡ Some header → IsCellKept (with_client_side old client side)
-  client_given client blocks header side there asked asks given =
-      client_sided old kept client blocks side there asks (λ other is was. is_given (old.clients client).asked header other side.given (old.made.acted.clients client) asked given is)
+  client_given : (client blocks : ℕ) (header : Header) (side : Side) → side.foreign ≡ false → old.made.sizes client ≡ Some blocks → (old.clients client).asked ≡ Some header → side.asked ≡ (old.clients client).asked → side.given ≡ Some header → IsCellKept (with_client_side old client side)
+  client_given client blocks header side own there asked asks given =
+      client_sided old kept client blocks side own there asks (λ other is was. is_given (old.clients client).asked header other side.given (old.made.acted.clients client) asked given is)
 
-  client_made_up : (client blocks : ℕ) (header : Header) (joins : Bool) (side : Side) → old.made.sizes client ≡ Some blocks → (old.clients client).asked ≡ Some header → side.asked ≡ (old.clients client).asked → side.given ≡ Some header
+  client_made_up : (client blocks : ℕ) (header : Header) (joins : Bool) (side : Side) → side.foreign ≡ false → old.made.sizes client ≡ Some blocks → (old.clients client).asked ≡ Some header → side.asked ≡ (old.clients client).asked → side.given ≡ Some header
       → IsCellKept (with_client_side (moved old (Recovers (TheClient client) joins)) client side)
-  client_made_up client blocks header joins side there asked asks given =
-      client_recovered (with_client_side old client side) (client_given client blocks header side there asked asks given) client blocks header joins there (ap (λ (s : Side). s.given) (put_here old.clients client side) ∙ given)
+  client_made_up client blocks header joins side own there asked asks given =
+      client_recovered (with_client_side old client side) (client_given client blocks header side own there asked asks given) client blocks header joins there (ap (λ (s : Side). s.given) (put_here old.clients client side) ∙ given)
 
-  client_refused : (client blocks : ℕ) (header : Header) (given : Option Header) (mid : StoredCell) (entries : ℕ) → old.made.sizes client ≡ Some blocks → (old.clients client).asked ≡ Some header
-      → IsRefused old (TheClient client) (old.clients client).given header entries given mid → IsCellKept (with_client_side mid client (record (old.clients client) { given = given }))
-  client_refused client blocks header given mid entries there asked (inl same) =
-      subst (λ (c : StoredCell). IsCellKept (with_client_side c client (record (old.clients client) { given = given }))) (sym same.1)
-      (client_sided (moved old (Crashes (TheClient client))) (client_crashed old kept client blocks there) client blocks (record (old.clients client) { given = given }) there refl
-      (λ other is was. subst (λ g. IsGiven g other ((moved old (Crashes (TheClient client))).made.acted.clients client)) (sym same.0) was))
-  client_refused client blocks header given mid entries there asked (inr next) =
-      subst (λ (c : StoredCell). IsCellKept (with_client_side c client (record (old.clients client) { given = given }))) (sym next.2)
-      (client_crashed (with_client_side (moved old (Recovers (TheClient client) false)) client (record (old.clients client) { given = given }))
-      (client_made_up client blocks header false (record (old.clients client) { given = given }) there asked refl next.1) client blocks there)
+  client_refused : (client blocks : ℕ) (header : Header) (tried : Side) (mid : StoredCell) (entries : ℕ) → old.made.sizes client ≡ Some blocks → (old.clients client).asked ≡ Some header
+      → IsRefused old (TheClient client) (old.clients client) header entries tried mid → IsCellKept (with_client_side mid client tried)
+  client_refused client blocks header tried mid entries there asked (inl same) =
+      subst (λ (c : StoredCell). IsCellKept (with_client_side c client tried)) (sym same.1)
+      (subst (λ (s : Side). IsCellKept (with_client_side (moved old (Crashes (TheClient client))) client s)) (sym same.0)
+      (client_sided (moved old (Crashes (TheClient client))) (client_crashed old kept client blocks there) client blocks (old.clients client) (kept.clients_own client) there refl (λ other is was. was)))
+  client_refused client blocks header tried mid entries there asked (inr next) =
+      subst (λ (c : StoredCell). IsCellKept (with_client_side c client tried)) (sym next.2)
+      (subst (λ (s : Side). IsCellKept (with_client_side (moved (moved old (Recovers (TheClient client) false)) (Crashes (TheClient client))) client s)) (sym next.1)
+      (client_crashed (with_client_side (moved old (Recovers (TheClient client) false)) client (record (old.clients client) { given = Some header; foreign = false }))
+      (client_made_up client blocks header false (record (old.clients client) { given = Some header; foreign = false }) refl there asked refl refl) client blocks there))
 
   pub recovers_client : (client blocks : ℕ) → old.made.sizes client ≡ Some blocks → RecoversClient old client reply outside new → IsCellKept new
   recovers_client client blocks there (none, (header, asked, inl did)) =
-      subst IsCellKept (sym did.3) (client_made_up client blocks header did.0 (recovered_side (old.clients client) header) there asked refl refl)
-  recovers_client client blocks there (none, (header, asked, inr did)) =
-      subst IsCellKept (sym did.4) (client_refused client blocks header did.0 did.1 (length (old.made.acted.clients client).history) there asked did.2)
+      subst IsCellKept (sym did.3) (client_made_up client blocks header did.0 (recovered_side (old.clients client) header) refl there asked refl refl)
+  recovers_client client blocks there (none, (header, asked, inr (inl did))) = subst IsCellKept (sym did.4) (client_refused client blocks header did.0 did.1 _ there asked did.2)
+  recovers_client client blocks there (none, (header, asked, inr (inr foreign))) = subst IsCellKept (sym foreign.3) (client_crashed old kept client blocks there)
 
-  replica_given : (server volume : ℕ) (header : Header) (side : Side) → old.made.homes volume ≡ Some server → (old.replicas volume).asked ≡ Some header → side.asked ≡ (old.replicas volume).asked → side.given ≡ Some header → IsCellKept (with_replica_side old volume side)
-  replica_given server volume header side there asked asks given =
-      replica_sided old kept server volume side there asks (λ other is was. is_given (old.replicas volume).asked header other side.given (old.made.acted.replicas server volume) asked given is)
+  replica_given : (server volume : ℕ) (header : Header) (side : Side) → side.foreign ≡ false → old.made.homes volume ≡ Some server → (old.replicas volume).asked ≡ Some header → side.asked ≡ (old.replicas volume).asked → side.given ≡ Some header → IsCellKept (with_replica_side old volume side)
+  replica_given server volume header side own there asked asks given =
+      replica_sided old kept server volume side own there asks (λ other is was. is_given (old.replicas volume).asked header other side.given (old.made.acted.replicas server volume) asked given is)
 
-  replica_made_up : (server volume : ℕ) (header : Header) (joins : Bool) (side : Side) → old.made.homes volume ≡ Some server → (old.replicas volume).asked ≡ Some header → side.asked ≡ (old.replicas volume).asked → side.given ≡ Some header
+  replica_made_up : (server volume : ℕ) (header : Header) (joins : Bool) (side : Side) → side.foreign ≡ false → old.made.homes volume ≡ Some server → (old.replicas volume).asked ≡ Some header → side.asked ≡ (old.replicas volume).asked → side.given ≡ Some header
       → IsCellKept (with_replica_side (moved old (Recovers (TheReplica server volume) joins)) volume side)
-  replica_made_up server volume header joins side there asked asks given =
-      replica_recovered (with_replica_side old volume side) (replica_given server volume header side there asked asks given) server volume header joins there (ap (λ (s : Side). s.given) (put_here old.replicas volume side) ∙ given)
+  replica_made_up server volume header joins side own there asked asks given =
+      replica_recovered (with_replica_side old volume side) (replica_given server volume header side own there asked asks given) server volume header joins there (ap (λ (s : Side). s.given) (put_here old.replicas volume side) ∙ given)
 
-  replica_refused : (server volume : ℕ) (header : Header) (given : Option Header) (mid : StoredCell) (entries : ℕ) → old.made.homes volume ≡ Some server → (old.replicas volume).asked ≡ Some header
-      → IsRefused old (TheReplica server volume) (old.replicas volume).given header entries given mid → IsCellKept (with_replica_side mid volume (record (old.replicas volume) { given = given }))
-  replica_refused server volume header given mid entries there asked (inl same) =
-      subst (λ (c : StoredCell). IsCellKept (with_replica_side c volume (record (old.replicas volume) { given = given }))) (sym same.1)
-      (replica_sided (moved old (Crashes (TheReplica server volume))) (replica_crashed old kept server volume there) server volume (record (old.replicas volume) { given = given }) there refl
-      (λ other is was. subst (λ g. IsGiven g other ((moved old (Crashes (TheReplica server volume))).made.acted.replicas server volume)) (sym same.0) was))
-  replica_refused server volume header given mid entries there asked (inr next) =
-      subst (λ (c : StoredCell). IsCellKept (with_replica_side c volume (record (old.replicas volume) { given = given }))) (sym next.2)
-      (replica_crashed (with_replica_side (moved old (Recovers (TheReplica server volume) false)) volume (record (old.replicas volume) { given = given }))
-      (replica_made_up server volume header false (record (old.replicas volume) { given = given }) there asked refl next.1) server volume there)
+  replica_refused : (server volume : ℕ) (header : Header) (tried : Side) (mid : StoredCell) (entries : ℕ) → old.made.homes volume ≡ Some server → (old.replicas volume).asked ≡ Some header
+      → IsRefused old (TheReplica server volume) (old.replicas volume) header entries tried mid → IsCellKept (with_replica_side mid volume tried)
+  replica_refused server volume header tried mid entries there asked (inl same) =
+      subst (λ (c : StoredCell). IsCellKept (with_replica_side c volume tried)) (sym same.1)
+      (subst (λ (s : Side). IsCellKept (with_replica_side (moved old (Crashes (TheReplica server volume))) volume s)) (sym same.0)
+      (replica_sided (moved old (Crashes (TheReplica server volume))) (replica_crashed old kept server volume there) server volume (old.replicas volume) (kept.replicas_own volume) there refl (λ other is was. was)))
+  replica_refused server volume header tried mid entries there asked (inr next) =
+      subst (λ (c : StoredCell). IsCellKept (with_replica_side c volume tried)) (sym next.2)
+      (subst (λ (s : Side). IsCellKept (with_replica_side (moved (moved old (Recovers (TheReplica server volume) false)) (Crashes (TheReplica server volume))) volume s)) (sym next.1)
+      (replica_crashed (with_replica_side (moved old (Recovers (TheReplica server volume) false)) volume (record (old.replicas volume) { given = Some header; foreign = false }))
+      (replica_made_up server volume header false (record (old.replicas volume) { given = Some header; foreign = false }) refl there asked refl refl) server volume there))
 
   pub recovers_replica : (server volume : ℕ) → old.made.homes volume ≡ Some server → RecoversReplica old server volume reply outside new → IsCellKept new
   recovers_replica server volume there (none, (header, asked, inl did)) =
-      subst IsCellKept (sym did.3) (replica_made_up server volume header did.0 (recovered_side (old.replicas volume) header) there asked refl refl)
-  recovers_replica server volume there (none, (header, asked, inr did)) =
-      subst IsCellKept (sym did.4) (replica_refused server volume header did.0 did.1 (length (old.made.acted.replicas server volume).history) there asked did.2)
+      subst IsCellKept (sym did.3) (replica_made_up server volume header did.0 (recovered_side (old.replicas volume) header) refl there asked refl refl)
+  recovers_replica server volume there (none, (header, asked, inr (inl did))) = subst IsCellKept (sym did.4) (replica_refused server volume header did.0 did.1 _ there asked did.2)
+  recovers_replica server volume there (none, (header, asked, inr (inr foreign))) = subst IsCellKept (sym foreign.3) (replica_crashed old kept server volume there)

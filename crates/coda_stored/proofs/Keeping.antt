@@ -21,7 +21,7 @@ use Rattle.coda_stored.specs.Lines.{is_down_for, Acts, Becoming, UnlessDown, are
 use Rattle.coda_stored.proofs.Acting.{IsActed, tasks_acted, send_acted, delivers_acted, loses_acted, tick_acted, link_acted, nothing_acted}
 use Rattle.coda_stored.proofs.Disks.{client_size, holder_is, unless_kept, crashes_client, crashes_replica, recovers_client, recovers_replica}
 use Rattle.coda_stored.proofs.Making.{volume_kept, client_kept}
-use Rattle.coda_stored.proofs.Idling.{happens_idle}
+use Rattle.coda_stored.proofs.Idling.{happens_idle, happens_others}
 use Rattle.coda_stored.proofs.Sides.{AreClean, actors_kept, with_idle, clean_in}
 use Rattle.coda_stored.proofs.Stopping.{acts_kept}
 use Rattle.coda_stored.proofs.Wholes.{found_same}
@@ -46,6 +46,8 @@ first_stored = record {
   replicas = λ volume. (refl, λ server. refl);
   placed = λ volume server e. cc;
   apart = λ volume other server home e f same. cc;
+  clients_own = λ client. refl;
+  replicas_own = λ volume. refl;
   idle = λ number. refl;
 }
 
@@ -107,6 +109,7 @@ stored_cells_are_kept = record {
   first = first_stored;
   actors = happens_kept;
   others = λ old new said reply outside does. happens_idle old reply outside new said (is_down_for old said) does;
+  elsewhere = λ old new said reply outside does. happens_others old reply outside new said (is_down_for old said) does;
   lines = λ old new said reply outside kept range does.
       with_idle old new kept (happens_kept old new said reply outside (actors_kept old kept) range does) (happens_idle old reply outside new said (is_down_for old said) does);
 }

@@ -14,7 +14,7 @@ use Rattle.coda_cell.specs.Refused.{Refused}
 use Rattle.coda_cell.specs.State.{put}
 use Rattle.coda_cell.specs.Steps.{no_room}
 use Rattle.coda_stored.specs.Cells.{Side, StoredCell, client_header, replica_header, disk_number}
-use Rattle.coda_stored.specs.Lines.{is_built, area_of, no_volume, no_client, with_volume, with_client, Becoming, Unless, Opens, Happens}
+use Rattle.coda_stored.specs.Lines.{is_built, area_of, no_volume, no_client, with_volume, with_client, Becoming, Unless, asking, Opens, Happens}
 use Rattle.coda_stored.specs.Makers.{IsUnknown, IsSaid, AreThoseThatWere, MakersMakeAgain}
 use Rattle.coda_stored.specs.Resuming.{stopped, forgotten, at_rest, Awaited, ClientAgain, VolumeAgain, is_awaited, AsksAgain, AreAwaited}
 use Rattle.coda_stored.specs.Seen.{seen, mounts_none, StayAsleep}
@@ -77,9 +77,9 @@ module _ (old new : StoredCell) (reply : Reply) (outside : List (List ℕ)) wher
 
       by : Opens old header (with_client old client blocks area) (TheClient client) reply outside new → AreAwaited (at_rest new) (length old.made.servers) 0 (ClientAgain client blocks area ∷ [])
       by (out, inl up) =
-          subst (λ (c : StoredCell). AreAwaited (at_rest c) (length old.made.servers) 0 (ClientAgain client blocks area ∷ [])) (sym up.1) (made (record { given = Some header; asked = Some header; left = None }) refl)
+          subst (λ (c : StoredCell). AreAwaited (at_rest c) (length old.made.servers) 0 (ClientAgain client blocks area ∷ [])) (sym up.1) (made (asking header (Some header)) refl)
       by (out, inr (given, tried, replied, is)) =
-          subst (λ (c : StoredCell). AreAwaited (at_rest c) (length old.made.servers) 0 (ClientAgain client blocks area ∷ [])) (sym is) (made (record { given = given; asked = Some header; left = None }) refl)
+          subst (λ (c : StoredCell). AreAwaited (at_rest c) (length old.made.servers) 0 (ClientAgain client blocks area ∷ [])) (sym is) (made (asking header given) refl)
 
   volume_again : (volume server : ℕ) (size : Option ℕ) → no_volume old volume (area_of size) ≡ None
       → Opens old (replica_header volume server (area_of size)) (with_volume old volume server (area_of size)) (TheReplica server volume) reply outside new → Again (line.Volume volume (server ∷ []) size)
@@ -121,9 +121,9 @@ module _ (old new : StoredCell) (reply : Reply) (outside : List (List ℕ)) wher
 
       by : Opens old header (with_volume old volume server area) (TheReplica server volume) reply outside new → AreAwaited (at_rest new) count 0 (VolumeAgain volume server area ∷ [])
       by (out, inl up) =
-          subst (λ (c : StoredCell). AreAwaited (at_rest c) count 0 (VolumeAgain volume server area ∷ [])) (sym up.1) (made (record { given = Some header; asked = Some header; left = None }) refl)
+          subst (λ (c : StoredCell). AreAwaited (at_rest c) count 0 (VolumeAgain volume server area ∷ [])) (sym up.1) (made (asking header (Some header)) refl)
       by (out, inr (given, tried, replied, is)) =
-          subst (λ (c : StoredCell). AreAwaited (at_rest c) count 0 (VolumeAgain volume server area ∷ [])) (sym is) (made (record { given = given; asked = Some header; left = None }) refl)
+          subst (λ (c : StoredCell). AreAwaited (at_rest c) count 0 (VolumeAgain volume server area ∷ [])) (sym is) (made (asking header given) refl)
 
   opened : (o : Option Refused) (own : Becoming) → is_some o ≡ false → Unless old o own reply outside new → (o ≡ None) × own reply outside new
   opened None own free does = (refl, does)

@@ -11,7 +11,7 @@ use Rattle.coda_cell.specs.Steps.{no_room}
 use Rattle.coda_cell.proofs.KeptCells.{volume_left, client_left}
 use Rattle.coda_stored.specs.Cells.{Side, StoredCell, client_header, replica_header, disk_number, moved}
 use Rattle.coda_stored.specs.Kept.{whole, IsGiven, IsArea, IsClientSide, IsReplicaSide, IsCellKept}
-use Rattle.coda_stored.specs.Lines.{Opens, no_volume, no_client, with_volume, with_client as with_client_made, MakesVolume, MakesClient}
+use Rattle.coda_stored.specs.Lines.{asking, Opens, no_volume, no_client, with_volume, with_client as with_client_made, MakesVolume, MakesClient}
 use Rattle.coda_stored.proofs.Disks.{unless_kept}
 use Rattle.coda_stored.proofs.Sides.{AreSided, clean_in, sided_in, stored_kept, acting, clean_client, clean_replica, alone_crashed}
 use Rattle.coda_stored.proofs.Wholes.{whole_crashed_client, whole_crashed_replica}
@@ -62,9 +62,9 @@ module _ (old : StoredCell) (kept : IsCellKept old) (volume server area : ℕ) (
       numbers_apart before.0 (length old.made.servers) home server before.1 range.0 range.1 some few (sym before.2 ∙ same)
 
   -- with the side that its disk has then, and with other actors but for the replicas of other volumes
-  pub volume_sided : (side : Side) (acted : PlainCell) → side.asked ≡ Some (replica_header volume server area) → IsGiven side.given (replica_header volume server area) (acted.replicas server volume)
+  pub volume_sided : (side : Side) (acted : PlainCell) → side.foreign ≡ false → side.asked ≡ Some (replica_header volume server area) → IsGiven side.given (replica_header volume server area) (acted.replicas server volume)
       → ((c : ℕ) → acted.clients c ≡ old.made.acted.clients c) → ((s v : ℕ) → v ≢ volume → acted.replicas s v ≡ old.made.acted.replicas s v) → AreSided (acting (with_volume old volume server area side) acted)
-  volume_sided side acted asked given clients replicas = record {
+  volume_sided side acted own asked given clients replicas = record {
     clients = λ c. subst (λ a. IsClientSide c (old.made.sizes c) a (old.clients c)) (sym (clients c)) (kept.clients c);
     replicas = λ v. elim (v == volume) as (λ b. (v == volume) ≡ b → IsReplicaSide v (cond b (Some server) (old.made.homes v)) (λ s. acted.replicas s v) (cond b side (old.replicas v))) [
       | true ↦ λ e. subst (λ n. IsReplicaSide n (Some server) (λ s. acted.replicas s n) side) (sym (eqb-true v volume e)) (area, sized, one, some, few, asked, given)
@@ -88,6 +88,8 @@ module _ (old : StoredCell) (kept : IsCellKept old) (volume server area : ℕ) (
                 | false ↦ λ second a b same. kept.apart v o s h a b same
               ] refl
         ] refl;
+    clients_own = kept.clients_own;
+    replicas_own = λ v. elim (v == volume) as (λ b. (cond b side (old.replicas v)).foreign ≡ false) [ true ↦ own | false ↦ kept.replicas_own v ];
   }
     where
       more : (n : ℕ) → n < length old.made.servers + 1 → n < length (old.made.servers ++ server ∷ [])
@@ -99,18 +101,18 @@ module _ (old : StoredCell) (kept : IsCellKept old) (volume server area : ℕ) (
   kept_volume : (joins : Joins) → IsKept (whole (with_volume old volume server area (old.replicas volume)).made joins)
   kept_volume joins = (volume_left (whole old.made joins) volume server (kept.kept joins) none).kept
 
-  volume_up : (side : Side) → side.asked ≡ Some (replica_header volume server area) → side.given ≡ Some (replica_header volume server area) → IsCellKept (with_volume old volume server area side)
-  volume_up side asked given = stored_kept (with_volume old volume server area side) (clean_in old kept) kept_volume
-      (volume_sided side old.made.acted asked (subst (λ g. IsGiven g (replica_header volume server area) (old.made.acted.replicas server volume)) (sym given) refl) (λ c. refl) (λ s v other. refl))
+  volume_up : (side : Side) → side.foreign ≡ false → side.asked ≡ Some (replica_header volume server area) → side.given ≡ Some (replica_header volume server area) → IsCellKept (with_volume old volume server area side)
+  volume_up side own asked given = stored_kept (with_volume old volume server area side) (clean_in old kept) kept_volume
+      (volume_sided side old.made.acted own asked (subst (λ g. IsGiven g (replica_header volume server area) (old.made.acted.replicas server volume)) (sym given) refl) (λ c. refl) (λ s v other. refl))
 
-  volume_down : (side : Side) → side.asked ≡ Some (replica_header volume server area) → (side.given ≡ None) ⊎ (side.given ≡ Some (replica_header volume server area))
+  volume_down : (side : Side) → side.foreign ≡ false → side.asked ≡ Some (replica_header volume server area) → (side.given ≡ None) ⊎ (side.given ≡ Some (replica_header volume server area))
       → IsCellKept (moved (with_volume old volume server area side) (Crashes (TheReplica server volume)))
-  volume_down side asked tried =
+  volume_down side own asked tried =
       let cell = with_volume old volume server area side in
       let actor = crashed (old.made.acted.replicas server volume) in
       stored_kept (moved cell (Crashes (TheReplica server volume))) (clean_replica old (clean_in old kept) (sided_in old kept) server volume actor (λ up. cc) (alone_crashed (old.made.acted.replicas server volume) (kept.alone server volume)))
       (λ joins. subst IsKept (sym (whole_crashed_replica cell.made joins server volume)) (kept_volume joins))
-      (volume_sided side (with_replica old.made.acted server volume actor) asked
+      (volume_sided side (with_replica old.made.acted server volume actor) own asked
       (subst (IsGiven side.given (replica_header volume server area)) (sym (λ i. cond (eq-eqb server server refl i && eq-eqb volume volume refl i) actor (old.made.acted.replicas server volume)))
       (given_crashed side.given (replica_header volume server area) (old.made.acted.replicas server volume) (new_replicas volume (old.made.homes volume) (λ s. old.made.acted.replicas s volume) (old.replicas volume) none (kept.replicas volume) server) tried))
       (λ c. refl)
@@ -126,15 +128,15 @@ volume_kept old volume server area reply outside new kept sized one some few doe
     (λ free opens. by (is_none (old.made.homes volume) (not_there (is_some (old.made.homes volume)) _ free)) opens) does
   where
     by : old.made.homes volume ≡ None → Opens old (replica_header volume server area) (with_volume old volume server area) (TheReplica server volume) reply outside new → IsCellKept new
-    by none (out, inl up) = subst IsCellKept (sym up.1) (volume_up old kept volume server area none sized one some few _ refl refl)
-    by none (out, inr down) = subst IsCellKept (sym down.3) (volume_down old kept volume server area none sized one some few (record { given = down.0; asked = Some (replica_header volume server area); left = None }) refl down.1)
+    by none (out, inl up) = subst IsCellKept (sym up.1) (volume_up old kept volume server area none sized one some few _ refl refl refl)
+    by none (out, inr down) = subst IsCellKept (sym down.3) (volume_down old kept volume server area none sized one some few (asking (replica_header volume server area) down.0) refl refl down.1)
 
 -- ---- a client
 
 module _ (old : StoredCell) (kept : IsCellKept old) (client blocks area : ℕ) (sized : IsArea area) (one : 1 ≤ client) (under : client < 256) (some : 1 ≤ blocks) (few : blocks ≤ 32768) where
-  pub client_sided : (side : Side) (acted : PlainCell) → side.asked ≡ Some (client_header client blocks area) → IsGiven side.given (client_header client blocks area) (acted.clients client)
+  pub client_sided : (side : Side) (acted : PlainCell) → side.foreign ≡ false → side.asked ≡ Some (client_header client blocks area) → IsGiven side.given (client_header client blocks area) (acted.clients client)
       → ((c : ℕ) → c ≢ client → acted.clients c ≡ old.made.acted.clients c) → acted.replicas ≡ old.made.acted.replicas → AreSided (acting (with_client_made old client blocks area side) acted)
-  client_sided side acted asked given clients replicas = record {
+  client_sided side acted own asked given clients replicas = record {
     clients = λ c. elim (c == client) as (λ b. (c == client) ≡ b → IsClientSide c (cond b (Some blocks) (old.made.sizes c)) (acted.clients c) (cond b side (old.clients c))) [
       | true ↦ λ e. subst (λ n. IsClientSide n (Some blocks) (acted.clients n) side) (sym (eqb-true c client e)) (area, sized, one, under, some, few, asked, given)
       | false ↦ λ e. subst (λ (a : Actor ClientEntry). IsClientSide c (old.made.sizes c) a (old.clients c)) (sym (clients c (eqb-false c client e))) (kept.clients c)
@@ -142,24 +144,26 @@ module _ (old : StoredCell) (kept : IsCellKept old) (client blocks area : ℕ) (
     replicas = λ v. subst (λ (f : ℕ → ℕ → Actor ReplicaEntry). IsReplicaSide v (old.made.homes v) (λ s. f s v) (old.replicas v)) (sym replicas) (kept.replicas v);
     placed = kept.placed;
     apart = kept.apart;
+    clients_own = λ c. elim (c == client) as (λ b. (cond b side (old.clients c)).foreign ≡ false) [ true ↦ own | false ↦ kept.clients_own c ];
+    replicas_own = kept.replicas_own;
   }
 
 module _ (old : StoredCell) (kept : IsCellKept old) (client blocks area : ℕ) (none : old.made.sizes client ≡ None) (sized : IsArea area) (one : 1 ≤ client) (under : client < 256) (some : 1 ≤ blocks) (few : blocks ≤ 32768) where
   kept_client : (joins : Joins) → IsKept (whole (with_client_made old client blocks area (old.clients client)).made joins)
   kept_client joins = (client_left (whole old.made joins) client blocks (kept.kept joins) none (λ zero. absurd (omega (arith, one, zero)))).kept
 
-  client_up : (side : Side) → side.asked ≡ Some (client_header client blocks area) → side.given ≡ Some (client_header client blocks area) → IsCellKept (with_client_made old client blocks area side)
-  client_up side asked given = stored_kept (with_client_made old client blocks area side) (clean_in old kept) kept_client
-      (client_sided old kept client blocks area sized one under some few side old.made.acted asked (subst (λ g. IsGiven g (client_header client blocks area) (old.made.acted.clients client)) (sym given) refl) (λ c other. refl) refl)
+  client_up : (side : Side) → side.foreign ≡ false → side.asked ≡ Some (client_header client blocks area) → side.given ≡ Some (client_header client blocks area) → IsCellKept (with_client_made old client blocks area side)
+  client_up side own asked given = stored_kept (with_client_made old client blocks area side) (clean_in old kept) kept_client
+      (client_sided old kept client blocks area sized one under some few side old.made.acted own asked (subst (λ g. IsGiven g (client_header client blocks area) (old.made.acted.clients client)) (sym given) refl) (λ c other. refl) refl)
 
-  client_down : (side : Side) → side.asked ≡ Some (client_header client blocks area) → (side.given ≡ None) ⊎ (side.given ≡ Some (client_header client blocks area))
+  client_down : (side : Side) → side.foreign ≡ false → side.asked ≡ Some (client_header client blocks area) → (side.given ≡ None) ⊎ (side.given ≡ Some (client_header client blocks area))
       → IsCellKept (moved (with_client_made old client blocks area side) (Crashes (TheClient client)))
-  client_down side asked tried =
+  client_down side own asked tried =
       let cell = with_client_made old client blocks area side in
       let actor = crashed (old.made.acted.clients client) in
       stored_kept (moved cell (Crashes (TheClient client))) (clean_client old (clean_in old kept) (sided_in old kept) client actor (λ up. cc))
       (λ joins. subst IsKept (sym (whole_crashed_client cell.made joins client)) (kept_client joins))
-      (client_sided old kept client blocks area sized one under some few side (with_client old.made.acted client actor) asked
+      (client_sided old kept client blocks area sized one under some few side (with_client old.made.acted client actor) own asked
       (subst (IsGiven side.given (client_header client blocks area)) (sym (λ i. cond (eq-eqb client client refl i) actor (old.made.acted.clients client)))
       (given_crashed side.given (client_header client blocks area) (old.made.acted.clients client) (new_client client (old.made.sizes client) (old.made.acted.clients client) (old.clients client) none (kept.clients client)) tried))
       (λ c other. elim (c == client) as (λ b. (c == client) ≡ b → cond b actor (old.made.acted.clients c) ≡ old.made.acted.clients c) [
@@ -175,5 +179,5 @@ client_kept old client blocks area reply outside new kept sized one under some f
     (λ free opens. by (is_none (old.made.sizes client) (not_there (is_some (old.made.sizes client)) _ free)) opens) does
   where
     by : old.made.sizes client ≡ None → Opens old (client_header client blocks area) (with_client_made old client blocks area) (TheClient client) reply outside new → IsCellKept new
-    by none (out, inl up) = subst IsCellKept (sym up.1) (client_up old kept client blocks area none sized one under some few _ refl refl)
-    by none (out, inr down) = subst IsCellKept (sym down.3) (client_down old kept client blocks area none sized one under some few (record { given = down.0; asked = Some (client_header client blocks area); left = None }) refl down.1)
+    by none (out, inl up) = subst IsCellKept (sym up.1) (client_up old kept client blocks area none sized one under some few _ refl refl refl)
+    by none (out, inr down) = subst IsCellKept (sym down.3) (client_down old kept client blocks area none sized one under some few (asking (client_header client blocks area) down.0) refl refl down.1)

@@ -4,6 +4,7 @@ use Rattle.std.specs.Prelude.{IfSome, ◌-◌}
 use Rattle.std.specs.Option.{option_map_or, option_and_then, unwrap_or}
 use Rattle.std.specs.List.{list_any}
 use Rattle.coda_tree.specs.Volume.{Nodes}
+use Rattle.coda_actors.specs.Plain.{PlainDisk}
 use Rattle.coda_journal.specs.Image.{ReadsAs}
 use Rattle.coda_journal.specs.declared.header.Header.{Header}
 use Rattle.coda_plain.specs.Moves.{Who, TheClient, TheReplica, Crashes, Recovers}
@@ -25,15 +26,17 @@ use Rattle.coda_cell.specs.Made.{client_of, replica_of, state_of}
 use Rattle.coda_cell.specs.Refused.{Refused}
 use Rattle.coda_cell.specs.Steps.{Named, client_named, volume_named, server_named, holder_named, on_volume, on_holder, first_missing, Unless, reached, offers_of, reply_to, ByClient, ByBoth, BySend, ByRuling, ByTaking, bytes_of, Comes, link_down, Delivers, Loses, Does, Happens as HappensOne}
 use Rattle.coda_cell.proofs.Events.{all_there as are_all_there}
-use Rattle.coda_replica.specs.History.{payload_of as replica_payload_of}
+use Rattle.coda_record.specs.declared.entry.ReplicaEntry.{ReplicaEntry as KeptEntry}
+use Rattle.coda_replica.specs.History.{payload_of as replica_payload_of, payloads_of as replica_payloads_of}
 use Rattle.coda_venus.specs.History.{payload_of}
 use Rattle.coda_matching.specs.Clients.{payload_by}
-use Rattle.coda_stored.specs.Cells.{Side, StoredCell, failed_at, moved}
-use Rattle.coda_stored.specs.Lines.{client_down, replica_down, all_there, is_cut, receiver_down, is_down_for, met_by, meets, area_of, no_volume, no_client, Acts, Unless as UnlessStored, UnlessDown, Becoming, MayHave, CrashesClient, CrashesReplica, RecoversClient, RecoversReplica, IsRefused, DoesUp, Happens, Stays, recovered_side, with_client_side, with_replica_side, client_payloads, replica_payloads}
+use Rattle.coda_stored.specs.Cells.{Side, StoredCell, on_disk, plain_replica, moved}
+use Rattle.coda_stored.specs.Lines.{client_down, replica_down, all_there, is_cut, receiver_down, is_down_for, met_by, meets, area_of, no_volume, no_client, Acts, Unless as UnlessStored, UnlessDown, Becoming, MayHave, CrashesClient, CrashesReplica, RecoversClient, RecoversReplica, MayTake, IsRefused, IsRefusedAs, DoesUp, Happens, Stays, recovered_side, with_client_side, with_replica_side, client_payloads, replica_payloads, replica_disk}
 use Rattle.coda_stored.specs.Resuming.{Awaited, awaits_client, awaits_volume, servers_of}
 use Rattle.coda_stored.specs.Seen.{asleep, home_unless, seen, mounts_none, StayAsleep, Meanwhile}
 use Rattle.coda_stored.proofs.Acting.{unless_acted, behind, none_missing}
 use Rattle.coda_stored.proofs.Entering.{AreBy, by_entries, by_drain, by_sends, by_ruling, by_taking}
+use Rattle.coda_stored.proofs.Remaining.{tried_asks}
 use Rattle.coda_stored.proofs.Sleeping.{Awake, AwakeAt, IsAwake, stays_same, stays_then, crash_stays, crash_seen, recovery_stays, recovery_seen, client_side_stays, client_side_seen, replica_side_stays, replica_side_seen, ends_so, ends_nothing}
 
 -- ---- small steps
@@ -337,11 +340,11 @@ module _ (left : List Awaited) where
     replica_side_is : (volume : ℕ) → awaits_volume left volume ≡ false → now.replicas volume ≡ old.replicas volume
     replica_side_is volume awake = ap (λ (b : Bool). asleep b (old.replicas volume)) awake
 
-    refused_seen : (who : Who) (was : Option Header) (header : Header) (entries : ℕ) (given : Option Header) (mid : StoredCell) → IsAwake left old who → IsRefused now who was header entries given mid
-        → (whole : StoredCell) × (mid ≡ seen whole left) × IsRefused old who was header entries given whole × StayAsleep left whole old × (whole.clients ≡ old.clients) × (whole.replicas ≡ old.replicas)
-    refused_seen (TheClient client) was header entries given mid awake (inl same) =
+    refused_seen : (who : Who) (side : Side) (header : Header) (entries : ℕ) (tried : Side) (mid : StoredCell) → IsAwake left old who → IsRefused now who side header entries tried mid
+        → (whole : StoredCell) × (mid ≡ seen whole left) × IsRefused old who side header entries tried whole × StayAsleep left whole old × (whole.clients ≡ old.clients) × (whole.replicas ≡ old.replicas)
+    refused_seen (TheClient client) side header entries tried mid awake (inl same) =
         (moved old (Crashes (TheClient client)), same.1 ∙ crash_seen left old (TheClient client) awake, inl (same.0, refl), crash_stays left old (TheClient client) awake, refl, refl)
-    refused_seen (TheClient client) was header entries given mid awake (inr next) =
+    refused_seen (TheClient client) side header entries tried mid awake (inr next) =
         let once = moved old (Recovers (TheClient client) false) in (
           moved once (Crashes (TheClient client)),
           next.2 ∙ ap (λ (c : StoredCell). moved c (Crashes (TheClient client))) (recovery_seen left old (TheClient client) false awake) ∙ crash_seen left once (TheClient client) awake,
@@ -350,9 +353,9 @@ module _ (left : List Awaited) where
           refl,
           refl,
         )
-    refused_seen (TheReplica server volume) was header entries given mid awake (inl same) =
+    refused_seen (TheReplica server volume) side header entries tried mid awake (inl same) =
         (moved old (Crashes (TheReplica server volume)), same.1 ∙ crash_seen left old (TheReplica server volume) awake, inl (same.0, refl), crash_stays left old (TheReplica server volume) awake, refl, refl)
-    refused_seen (TheReplica server volume) was header entries given mid awake (inr next) =
+    refused_seen (TheReplica server volume) side header entries tried mid awake (inr next) =
         let once = moved old (Recovers (TheReplica server volume) false) in (
           moved once (Crashes (TheReplica server volume)),
           next.2 ∙ ap (λ (c : StoredCell). moved c (Crashes (TheReplica server volume))) (recovery_seen left old (TheReplica server volume) false awake) ∙ crash_seen left once (TheReplica server volume) awake,
@@ -361,6 +364,20 @@ module _ (left : List Awaited) where
           refl,
           refl,
         )
+
+    -- a disk that is another's
+    foreign_seen : (who : Who) (header : Header) (given : Option Header) (said : Line) (reply : Reply) (outside : List (List ℕ)) (mid : StoredCell) → IsAwake left old who → IsRefusedAs now who header given reply mid
+        → (IsRefusedAs old who header given reply (moved old (Crashes who)) → Happens old said reply outside (moved old (Crashes who))) → Becomes said reply outside mid
+    foreign_seen who header given said reply outside mid awake (at, differs, replied, is) happens = record {
+      new = moved old (Crashes who);
+      shown = is ∙ crash_seen left old who awake;
+      happens = inl (happens (at, differs, replied, refl));
+      stays = crash_stays left old who awake;
+    }
+
+    -- what is on a disk that its actor asks for
+    disk_is : (server volume : ℕ) → now.replicas volume ≡ old.replicas volume → replica_disk now server volume ≡ replica_disk old server volume
+    disk_is server volume side_is = ap (λ (s : Side). (on_disk s.foreign (old.others volume) (plain_replica volume (old.made.acted.replicas server volume) s)).disk) side_is
 
     -- something else is known of a client's disk, or of a replica's
     client_side_becomes : (said : Line) (reply : Reply) (outside : List (List ℕ)) (mid whole : StoredCell) (client : ℕ) (side : Side) → Awake left client → side.asked ≡ (whole.clients client).asked → StayAsleep left whole old
@@ -422,7 +439,7 @@ module _ (left : List Awaited) where
           (did.4 ∙ ap (λ (s : Side). with_replica_side (moved now (Crashes who)) volume (record s { left = Some image })) side_is
           ∙ ap (λ (c : StoredCell). with_replica_side c volume (record (old.replicas volume) { left = Some image })) (crash_seen left old who there.0))
           (subst (λ o. UnlessStored old o (CrashesReplica old server volume) reply outside (with_replica_side (moved old (Crashes who)) volume (record (old.replicas volume) { left = Some image }))) (sym there.1)
-          (image, subst (λ (g : Option Header). MayHave g (replica_payloads volume (old.made.acted.replicas server volume).history) (option_map replica_payload_of (failed_at volume (old.made.acted.replicas server volume))) image) (ap (λ (s : Side). s.given) side_is) did.1, did.2, did.3, refl))) does
+          (image, subst (λ (d : PlainDisk KeptEntry). MayHave d.header (replica_payloads_of d.history) (option_map replica_payload_of d.failed) image) (disk_is server volume side_is) did.1, did.2, did.3, refl))) does
 
       recover_client_becomes : (client : ℕ) → UnlessStored now (first_missing (client_named (state_of now.made) client ∷ [])) (RecoversClient now client) reply outside mid → Becomes (line.RecoverClient client) reply outside mid
       recover_client_becomes client does = unless_becomes (line.RecoverClient client) (first_missing (client_named (state_of now.made) client ∷ [])) (RecoversClient now client) reply outside mid (λ all did.
@@ -430,21 +447,25 @@ module _ (left : List Awaited) where
           by there (client_side_is client there.0) did) does
         where
           by : Awake left client × (first_missing (client_named (state_of old.made) client ∷ []) ≡ None) → now.clients client ≡ (old.clients client) → RecoversClient now client reply outside mid → Becomes (line.RecoverClient client) reply outside mid
-          by there side_is (out, (header, asked, inl (joins, replied, read, is))) =
+          by there side_is (out, (header, asked, inl (joins, replied, read, is, may))) =
               let once = moved old (Recovers (TheClient client) joins) in
               let known = recovered_side (old.clients client) header in
               client_side_becomes (line.RecoverClient client) reply outside mid once client known there.0 refl (recovery_stays left old (TheClient client) joins there.0)
               (is ∙ ap (λ (s : Side). with_client_side (moved now (Recovers (TheClient client) joins)) client (recovered_side s header)) side_is ∙ ap (λ (c : StoredCell). with_client_side c client known) (recovery_seen left old (TheClient client) joins there.0))
               (subst (λ o. UnlessStored old o (RecoversClient old client) reply outside (with_client_side once client known)) (sym there.1)
-              (out, (header, sym (ap (λ (s : Side). s.asked) side_is) ∙ asked, inl (joins, replied, subst (λ (s : Side). IfSome s.left (ReadsAs header (client_payloads (once.made.acted.clients client).history))) side_is read, refl))))
-          by there side_is (out, (header, asked, inr (given, half, refused, replied, is))) =
-              let r = refused_seen (TheClient client) (now.clients client).given header (length (old.made.acted.clients client).history) given half there.0 refused in
+              (out, (header, sym (ap (λ (s : Side). s.asked) side_is) ∙ asked, inl (joins, replied, subst (λ (s : Side). IfSome s.left (ReadsAs header (client_payloads (once.made.acted.clients client).history))) side_is read, refl, subst (λ (s : Side). MayTake header s.given (once.made.acted.clients client).history) side_is may))))
+          by there side_is (out, (header, asked, inr (inl (tried, half, refused, replied, is)))) =
+              let r = refused_seen (TheClient client) (now.clients client) header (length (old.made.acted.clients client).history) tried half there.0 refused in
               let whole = r.0 in
-              let known : Side = record (old.clients client) { given = given } in
-              client_side_becomes (line.RecoverClient client) reply outside mid whole client known there.0 (sym (ap (λ (f : ℕ → Side). (f client).asked) r.4)) r.3
-              (is ∙ ap (λ (s : Side). with_client_side half client (record s { given = given })) side_is ∙ ap (λ (c : StoredCell). with_client_side c client known) r.1)
-              (subst (λ o. UnlessStored old o (RecoversClient old client) reply outside (with_client_side whole client known)) (sym there.1)
-              (out, (header, sym (ap (λ (s : Side). s.asked) side_is) ∙ asked, inr (given, whole, subst (λ (g : Option Header). IsRefused old (TheClient client) g header (length (old.made.acted.clients client).history) given whole) (ap (λ (s : Side). s.given) side_is) r.2, replied, refl))))
+              let asks : tried.asked ≡ (whole.clients client).asked = (tried_asks now (TheClient client) (now.clients client) header _ tried half refused).0 ∙ ap (λ (s : Side). s.asked) side_is ∙ sym (ap (λ (f : ℕ → Side). (f client).asked) r.4) in
+              client_side_becomes (line.RecoverClient client) reply outside mid whole client tried there.0 asks r.3
+              (is ∙ ap (λ (c : StoredCell). with_client_side c client tried) r.1)
+              (subst (λ o. UnlessStored old o (RecoversClient old client) reply outside (with_client_side whole client tried)) (sym there.1)
+              (out, (header, sym (ap (λ (s : Side). s.asked) side_is) ∙ asked, inr (inl (tried, whole, subst (λ (s : Side). IsRefused old (TheClient client) s header (length (old.made.acted.clients client).history) tried whole) side_is r.2, replied, refl)))))
+          by there side_is (out, (header, asked, inr (inr foreign))) =
+              foreign_seen (TheClient client) header (old.clients client).given (line.RecoverClient client) reply outside mid there.0 (subst (λ (s : Side). IsRefusedAs now (TheClient client) header s.given reply mid) side_is foreign)
+              (λ refused. subst (λ o. UnlessStored old o (RecoversClient old client) reply outside (moved old (Crashes (TheClient client)))) (sym there.1)
+              (out, (header, sym (ap (λ (s : Side). s.asked) side_is) ∙ asked, inr (inr refused))))
 
       recover_replica_becomes : (server volume : ℕ) → UnlessStored now (first_missing (holder_named (state_of now.made) server volume ∷ [])) (RecoversReplica now server volume) reply outside mid → Becomes (line.RecoverReplica server volume) reply outside mid
       recover_replica_becomes server volume does = unless_becomes (line.RecoverReplica server volume) (first_missing (holder_named (state_of now.made) server volume ∷ [])) (RecoversReplica now server volume) reply outside mid (λ all did.
@@ -452,21 +473,26 @@ module _ (left : List Awaited) where
           by there (replica_side_is volume there.0) did) does
         where
           by : (awaits_volume left volume ≡ false) × (first_missing (holder_named (state_of old.made) server volume ∷ []) ≡ None) → now.replicas volume ≡ (old.replicas volume) → RecoversReplica now server volume reply outside mid → Becomes (line.RecoverReplica server volume) reply outside mid
-          by there side_is (out, (header, asked, inl (joins, replied, read, is))) =
+          by there side_is (out, (header, asked, inl (joins, replied, read, is, may))) =
               let once = moved old (Recovers (TheReplica server volume) joins) in
               let known = recovered_side (old.replicas volume) header in
               replica_side_becomes (line.RecoverReplica server volume) reply outside mid once volume known there.0 refl (recovery_stays left old (TheReplica server volume) joins there.0)
               (is ∙ ap (λ (s : Side). with_replica_side (moved now (Recovers (TheReplica server volume) joins)) volume (recovered_side s header)) side_is ∙ ap (λ (c : StoredCell). with_replica_side c volume known) (recovery_seen left old (TheReplica server volume) joins there.0))
               (subst (λ o. UnlessStored old o (RecoversReplica old server volume) reply outside (with_replica_side once volume known)) (sym there.1)
-              (out, (header, sym (ap (λ (s : Side). s.asked) side_is) ∙ asked, inl (joins, replied, subst (λ (s : Side). IfSome s.left (ReadsAs header (replica_payloads volume (once.made.acted.replicas server volume).history))) side_is read, refl))))
-          by there side_is (out, (header, asked, inr (given, half, refused, replied, is))) =
-              let r = refused_seen (TheReplica server volume) (now.replicas volume).given header (length (old.made.acted.replicas server volume).history) given half there.0 refused in
+              (out, (header, sym (ap (λ (s : Side). s.asked) side_is) ∙ asked, inl (joins, replied, subst (λ (s : Side). IfSome s.left (ReadsAs header (replica_payloads volume (once.made.acted.replicas server volume).history))) side_is read, refl, subst (λ (d : PlainDisk KeptEntry). MayTake header d.header d.history) (disk_is server volume side_is) may))))
+          by there side_is (out, (header, asked, inr (inl (tried, half, refused, replied, is)))) =
+              let r = refused_seen (TheReplica server volume) (now.replicas volume) header (length (replica_disk now server volume).history) tried half there.0 refused in
               let whole = r.0 in
-              let known : Side = record (old.replicas volume) { given = given } in
-              replica_side_becomes (line.RecoverReplica server volume) reply outside mid whole volume known there.0 (sym (ap (λ (f : ℕ → Side). (f volume).asked) r.5)) r.3
-              (is ∙ ap (λ (s : Side). with_replica_side half volume (record s { given = given })) side_is ∙ ap (λ (c : StoredCell). with_replica_side c volume known) r.1)
-              (subst (λ o. UnlessStored old o (RecoversReplica old server volume) reply outside (with_replica_side whole volume known)) (sym there.1)
-              (out, (header, sym (ap (λ (s : Side). s.asked) side_is) ∙ asked, inr (given, whole, subst (λ (g : Option Header). IsRefused old (TheReplica server volume) g header (length (old.made.acted.replicas server volume).history) given whole) (ap (λ (s : Side). s.given) side_is) r.2, replied, refl))))
+              let asks : tried.asked ≡ (whole.replicas volume).asked = (tried_asks now (TheReplica server volume) (now.replicas volume) header _ tried half refused).0 ∙ ap (λ (s : Side). s.asked) side_is ∙ sym (ap (λ (f : ℕ → Side). (f volume).asked) r.5) in
+              replica_side_becomes (line.RecoverReplica server volume) reply outside mid whole volume tried there.0 asks r.3
+              (is ∙ ap (λ (c : StoredCell). with_replica_side c volume tried) r.1)
+              (subst (λ o. UnlessStored old o (RecoversReplica old server volume) reply outside (with_replica_side whole volume tried)) (sym there.1)
+              (out, (header, sym (ap (λ (s : Side). s.asked) side_is) ∙ asked, inr (inl (tried, whole, subst (λ (s : Side). IsRefused old (TheReplica server volume) s header (length (replica_disk old server volume).history) tried whole) side_is
+              (subst (λ (d : PlainDisk KeptEntry). IsRefused old (TheReplica server volume) (now.replicas volume) header (length d.history) tried whole) (disk_is server volume side_is) r.2), replied, refl)))))
+          by there side_is (out, (header, asked, inr (inr foreign))) =
+              foreign_seen (TheReplica server volume) header (replica_disk old server volume).header (line.RecoverReplica server volume) reply outside mid there.0 (subst (λ (d : PlainDisk KeptEntry). IsRefusedAs now (TheReplica server volume) header d.header reply mid) (disk_is server volume side_is) foreign)
+              (λ refused. subst (λ o. UnlessStored old o (RecoversReplica old server volume) reply outside (moved old (Crashes (TheReplica server volume)))) (sym there.1)
+              (out, (header, sym (ap (λ (s : Side). s.asked) side_is) ∙ asked, inr (inr refused))))
 
       -- an actor that isn't made
       made_becomes : (said : Line) (o : Option Refused) (own : Becoming) → is_some o ≡ true → UnlessStored now o own reply outside mid → Becomes said reply outside mid

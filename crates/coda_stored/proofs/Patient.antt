@@ -40,19 +40,19 @@ module _ (old : StoredCell) (client : ℕ) where
     replicas = λ server volume. (refl, refl);
   }
 
-  client_refused : (was : Option Header) (header : Header) (entries : ℕ) (given : Option Header) (mid : StoredCell) → IsRefused old (TheClient client) was header entries given mid → IsAllBut client mid old
-  client_refused was header entries given mid (inl same) = subst (λ (c : StoredCell). IsAllBut client c old) (sym same.1) client_crashes
-  client_refused was header entries given mid (inr next) = subst (λ (c : StoredCell). IsAllBut client c old) (sym next.2) client_falls
+  client_refused : (side : Side) (header : Header) (entries : ℕ) (tried : Side) (mid : StoredCell) → IsRefused old (TheClient client) side header entries tried mid → IsAllBut client mid old
+  client_refused side header entries tried mid (inl same) = subst (λ (c : StoredCell). IsAllBut client c old) (sym same.1) client_crashes
+  client_refused side header entries tried mid (inr next) = subst (λ (c : StoredCell). IsAllBut client c old) (sym next.2) client_falls
 
   client_known : (mid : StoredCell) (side : Side) → IsAllBut client mid old → IsAllBut client (with_client_side mid client side) old
   client_known mid side is = record { clients = λ other apart. ((is.clients other apart).0, put_else mid.clients client side other apart ∙ (is.clients other apart).1); replicas = is.replicas }
 
   client_again : (reply : Reply) (mid : StoredCell) → RecoversClient old client reply [] mid → IsAllBut client mid old
-  client_again reply mid (out, (header, asked, inl (joins, replied, read, is))) =
+  client_again reply mid (out, (header, asked, inl (joins, replied, read, is, may))) =
       subst (λ (c : StoredCell). IsAllBut client c old) (sym is) (client_known (moved old (Recovers (TheClient client) joins)) (recovered_side (old.clients client) header) (client_recovers joins))
-  client_again reply mid (out, (header, asked, inr (given, half, refused, replied, is))) =
-      subst (λ (c : StoredCell). IsAllBut client c old) (sym is)
-      (client_known half (record (old.clients client) { given = given }) (client_refused (old.clients client).given header (length (old.made.acted.clients client).history) given half refused))
+  client_again reply mid (out, (header, asked, inr (inl (tried, half, refused, replied, is)))) =
+      subst (λ (c : StoredCell). IsAllBut client c old) (sym is) (client_known half tried (client_refused (old.clients client) header _ tried half refused))
+  client_again reply mid (out, (header, asked, inr (inr (at, differs, replied, is)))) = subst (λ (c : StoredCell). IsAllBut client c old) (sym is) client_crashes
 
 module _ (old : StoredCell) (server volume : ℕ) where
   other_replica : (cell : StoredCell) (actor : Actor ReplicaEntry) (home other : ℕ) → other ≢ volume
@@ -75,9 +75,9 @@ module _ (old : StoredCell) (server volume : ℕ) where
     replicas = λ home other apart. (other_replica (moved old (Recovers (TheReplica server volume) false)) _ home other apart ∙ other_replica old _ home other apart, refl);
   }
 
-  replica_refused : (was : Option Header) (header : Header) (entries : ℕ) (given : Option Header) (mid : StoredCell) → IsRefused old (TheReplica server volume) was header entries given mid → IsAllButOf volume mid old
-  replica_refused was header entries given mid (inl same) = subst (λ (c : StoredCell). IsAllButOf volume c old) (sym same.1) replica_crashes
-  replica_refused was header entries given mid (inr next) = subst (λ (c : StoredCell). IsAllButOf volume c old) (sym next.2) replica_falls
+  replica_refused : (side : Side) (header : Header) (entries : ℕ) (tried : Side) (mid : StoredCell) → IsRefused old (TheReplica server volume) side header entries tried mid → IsAllButOf volume mid old
+  replica_refused side header entries tried mid (inl same) = subst (λ (c : StoredCell). IsAllButOf volume c old) (sym same.1) replica_crashes
+  replica_refused side header entries tried mid (inr next) = subst (λ (c : StoredCell). IsAllButOf volume c old) (sym next.2) replica_falls
 
   replica_known : (mid : StoredCell) (side : Side) → IsAllButOf volume mid old → IsAllButOf volume (with_replica_side mid volume side) old
   replica_known mid side is = record {
@@ -86,12 +86,12 @@ module _ (old : StoredCell) (server volume : ℕ) where
   }
 
   replica_again : (reply : Reply) (mid : StoredCell) → RecoversReplica old server volume reply [] mid → IsAllButOf volume mid old
-  replica_again reply mid (out, (header, asked, inl (joins, replied, read, is))) =
+  replica_again reply mid (out, (header, asked, inl (joins, replied, read, is, may))) =
       subst (λ (c : StoredCell). IsAllButOf volume c old) (sym is)
       (replica_known (moved old (Recovers (TheReplica server volume) joins)) (recovered_side (old.replicas volume) header) (replica_recovers joins))
-  replica_again reply mid (out, (header, asked, inr (given, half, refused, replied, is))) =
-      subst (λ (c : StoredCell). IsAllButOf volume c old) (sym is)
-      (replica_known half (record (old.replicas volume) { given = given }) (replica_refused (old.replicas volume).given header (length (old.made.acted.replicas server volume).history) given half refused))
+  replica_again reply mid (out, (header, asked, inr (inl (tried, half, refused, replied, is)))) =
+      subst (λ (c : StoredCell). IsAllButOf volume c old) (sym is) (replica_known half tried (replica_refused (old.replicas volume) header _ tried half refused))
+  replica_again reply mid (out, (header, asked, inr (inr (at, differs, replied, is)))) = subst (λ (c : StoredCell). IsAllButOf volume c old) (sym is) replica_crashes
 
 -- ---- whoever is yet to come is another
 
@@ -99,13 +99,13 @@ waits_apart : (waits : ℕ → Bool) (made other : ℕ) → waits made ≡ false
 waits_apart waits made other none some same = (let no : false ≡ true = sym none ∙ ap waits (sym same) ∙ some in cc)
 
 again : (old new : StoredCell) (volumes areas : ℕ) (awaited : Awaited) (left : List Awaited) (reply : Reply) → AreAwaited old volumes areas (awaited ∷ left) → MakesAgain old awaited reply new → AreAsTheyWere left new old
-again old new volumes areas (ClientAgain client blocks area) left reply (size, asks, room, once, rest) (said, mid, did, is, same) =
+again old new volumes areas (ClientAgain client blocks area) left reply (size, asks, room, once, rest) (said, mid, did, is, same, own) =
     let but = client_again old client said mid did in
     subst (λ (c : StoredCell). AreAsTheyWere left c old) (sym same) (record {
       clients = λ other waits. but.clients other (waits_apart (awaits_client left) client other once waits);
       replicas = λ server volume waits. but.replicas server volume;
     })
-again old new volumes areas (VolumeAgain volume server area) left reply (home, asks, place, few, room, once, rest) (said, mid, did, is, same) =
+again old new volumes areas (VolumeAgain volume server area) left reply (home, asks, place, few, room, once, rest) (said, mid, did, is, same, own) =
     let but = replica_again old server volume said mid did in
     subst (λ (c : StoredCell). AreAsTheyWere left c old) (sym same) (record {
       clients = λ client waits. but.clients client;

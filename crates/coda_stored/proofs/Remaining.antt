@@ -16,7 +16,7 @@ use Rattle.coda_cell.specs.Steps.{client_named, holder_named, first_missing, alo
 use Rattle.coda_cell.specs.Refused.{Refused}
 use Rattle.coda_stored.specs.Cells.{Side, StoredCell, client_header, replica_header, after, after_all, moved, failed}
 use Rattle.coda_stored.specs.Laws.{Begins, EntriesStay}
-use Rattle.coda_stored.specs.Lines.{is_down_for, EndsBy, Becoming, Unless, UnlessDown, Opens, no_volume, no_client, with_volume, with_client as with_client_made, area_of, IsRefused, CrashesClient, CrashesReplica, RecoversClient, RecoversReplica, Stays, DoesUp}
+use Rattle.coda_stored.specs.Lines.{is_down_for, EndsBy, Becoming, Unless, UnlessDown, asking, Opens, no_volume, no_client, with_volume, with_client as with_client_made, area_of, IsRefused, CrashesClient, CrashesReplica, RecoversClient, RecoversReplica, Stays, DoesUp}
 
 module _ {E : Type 0} where
   pub same_entries : (xs : List E) → BeginsWith xs xs
@@ -104,6 +104,11 @@ ends_begin old events own reply new (inr (inl full)) = begins_is old (after_all 
 ends_begin old events own reply new (inr (inr fault)) =
     begins_is old (failed (after_all old fault.0.done) fault.0.next) new (begins_then old (after_all old fault.0.done) (failed (after_all old fault.0.done) fault.0.next) (all_begin old fault.0.done) (failure_begins (after_all old fault.0.done) fault.0.next)) fault.3
 
+-- the side that a recovery that failed leaves asks for the same header, and what a crash left is as it was
+pub tried_asks : (cell : StoredCell) (who : Who) (side : Side) (header : Header) (entries : ℕ) (tried : Side) (mid : StoredCell) → IsRefused cell who side header entries tried mid → (tried.asked ≡ side.asked) × (tried.left ≡ side.left)
+tried_asks cell who side header entries tried mid (inl same) = (ap (λ (s : Side). s.asked) same.0, ap (λ (s : Side). s.left) same.0)
+tried_asks cell who side header entries tried mid (inr next) = (ap (λ (s : Side). s.asked) next.1, ap (λ (s : Side). s.left) next.1)
+
 -- ---- lines
 
 module _ (old : StoredCell) (reply : Reply) (outside : List (List ℕ)) (new : StoredCell) where
@@ -118,12 +123,12 @@ module _ (old : StoredCell) (reply : Reply) (outside : List (List ℕ)) (new : S
   opens_begins : (header : Header) (make : Side → StoredCell) (who : Who) → ((side : Side) → Begins (make side) old) → Opens old header make who reply outside new → Begins new old
   opens_begins header make who begins (out, inl up) = begins_is old (make _) new (begins _) up.1
   opens_begins header make who begins (out, inr down) =
-      let made = make (record { given = down.0; asked = Some header; left = None }) in
+      let made = make (asking header down.0) in
       begins_is old (moved made (Crashes who)) new (begins_then old made (moved made (Crashes who)) (begins _) (crash_begins made who)) down.3
 
-  refused_begins : (who : Who) (was : Option Header) (header : Header) (entries : ℕ) (given : Option Header) (mid : StoredCell) → IsRefused old who was header entries given mid → Begins mid old
-  refused_begins who was header entries given mid (inl same) = begins_is old (moved old (Crashes who)) mid (crash_begins old who) same.1
-  refused_begins who was header entries given mid (inr next) =
+  refused_begins : (who : Who) (side : Side) (header : Header) (entries : ℕ) (tried : Side) (mid : StoredCell) → IsRefused old who side header entries tried mid → Begins mid old
+  refused_begins who side header entries tried mid (inl same) = begins_is old (moved old (Crashes who)) mid (crash_begins old who) same.1
+  refused_begins who side header entries tried mid (inr next) =
       begins_is old (moved (moved old (Recovers who false)) (Crashes who)) mid
       (begins_then old (moved old (Recovers who false)) (moved (moved old (Recovers who false)) (Crashes who)) (recovery_begins old who false) (crash_begins (moved old (Recovers who false)) who)) next.2
 
@@ -137,11 +142,13 @@ module _ (old : StoredCell) (reply : Reply) (outside : List (List ℕ)) (new : S
 
   pub recovers_client_begins : (client : ℕ) → RecoversClient old client reply outside new → Begins new old
   recovers_client_begins client (none, (header, asked, inl did)) = aside (moved old (Recovers (TheClient client) did.0)) (recovery_begins old (TheClient client) did.0) (ap (λ (c : StoredCell). c.made) did.3)
-  recovers_client_begins client (none, (header, asked, inr did)) = aside did.1 (refused_begins (TheClient client) _ header _ did.0 did.1 did.2) (ap (λ (c : StoredCell). c.made) did.4)
+  recovers_client_begins client (none, (header, asked, inr (inl did))) = aside did.1 (refused_begins (TheClient client) _ header _ did.0 did.1 did.2) (ap (λ (c : StoredCell). c.made) did.4)
+  recovers_client_begins client (none, (header, asked, inr (inr foreign))) = begins_is old (moved old (Crashes (TheClient client))) new (crash_begins old (TheClient client)) foreign.3
 
   pub recovers_replica_begins : (server volume : ℕ) → RecoversReplica old server volume reply outside new → Begins new old
   recovers_replica_begins server volume (none, (header, asked, inl did)) = aside (moved old (Recovers (TheReplica server volume) did.0)) (recovery_begins old (TheReplica server volume) did.0) (ap (λ (c : StoredCell). c.made) did.3)
-  recovers_replica_begins server volume (none, (header, asked, inr did)) = aside did.1 (refused_begins (TheReplica server volume) _ header _ did.0 did.1 did.2) (ap (λ (c : StoredCell). c.made) did.4)
+  recovers_replica_begins server volume (none, (header, asked, inr (inl did))) = aside did.1 (refused_begins (TheReplica server volume) _ header _ did.0 did.1 did.2) (ap (λ (c : StoredCell). c.made) did.4)
+  recovers_replica_begins server volume (none, (header, asked, inr (inr foreign))) = begins_is old (moved old (Crashes (TheReplica server volume))) new (crash_begins old (TheReplica server volume)) foreign.3
 
   does_begins : (said : Line) → DoesUp old said reply outside new → Begins new old
   does_begins (line.Volume volume servers area) does = unless_begins (no_volume old volume (area_of area)) _

@@ -21,7 +21,7 @@ use Rattle.coda_stored.specs.Resuming.{stopped, forgotten, at_rest, Awaited, Cli
 use Rattle.coda_stored.proofs.Disks.{recovers_client, recovers_replica}
 use Rattle.coda_stored.proofs.Idling.{recovers_client_idle, recovers_replica_idle}
 use Rattle.coda_stored.proofs.Sides.{actors_kept, with_idle}
-use Rattle.coda_stored.proofs.Remaining.{same_entries, recovers_client_begins, recovers_replica_begins}
+use Rattle.coda_stored.proofs.Remaining.{same_entries, recovers_client_begins, recovers_replica_begins, tried_asks}
 
 -- ---- a cell without letters
 
@@ -105,6 +105,8 @@ actors_rest cell kept = record {
   replicas = λ volume. replica_rests volume (cell.made.homes volume) (λ server. cell.made.acted.replicas server volume) (cell.replicas volume) (kept.replicas volume);
   placed = kept.placed;
   apart = kept.apart;
+  clients_own = kept.clients_own;
+  replicas_own = kept.replicas_own;
   alone = λ server volume. alone_stopped (cell.made.homes volume) (cell.made.acted.replicas server volume) (kept.alone server volume);
 }
 
@@ -133,23 +135,25 @@ area_kept cell area kept = record {
   replicas = kept.replicas;
   placed = kept.placed;
   apart = kept.apart;
+  clients_own = kept.clients_own;
+  replicas_own = kept.replicas_own;
   idle = kept.idle;
   alone = kept.alone;
 }
 
 lines_kept : (old new : StoredCell) (volumes areas : ℕ) (awaited : Awaited) (left : List Awaited) (reply : Reply) → IsStoredKept old → AreAwaited old volumes areas (awaited ∷ left) → MakesAgain old awaited reply new → IsStoredKept new
-lines_kept old new volumes areas (ClientAgain client blocks area) left reply kept awaited (said, mid, did, is, same) =
-    subst IsStoredKept (sym same) (area_kept mid area (with_idle old mid kept (recovers_client old (actors_kept old kept) said [] mid client blocks awaited.0 did) (recovers_client_idle old said [] mid client did)))
-lines_kept old new volumes areas (VolumeAgain volume server area) left reply kept awaited (said, mid, did, is, same) =
-    subst IsStoredKept (sym same) (area_kept mid area (with_idle old mid kept (recovers_replica old (actors_kept old kept) said [] mid server volume awaited.0 did) (recovers_replica_idle old said [] mid server volume did)))
+lines_kept old new volumes areas (ClientAgain client blocks area) left reply kept awaited (said, mid, did, is, same, own) =
+    subst IsStoredKept (sym same) (area_kept mid area (with_idle old mid kept (recovers_client old (actors_kept old kept) said [] mid client blocks awaited.0 did) (ap (λ p. p.0) (recovers_client_idle old said [] mid client did))))
+lines_kept old new volumes areas (VolumeAgain volume server area) left reply kept awaited (said, mid, did, is, same, own) =
+    subst IsStoredKept (sym same) (area_kept mid area (with_idle old mid kept (recovers_replica old (actors_kept old kept) said [] mid server volume awaited.0 did) (ap (λ p. p.0) (recovers_replica_idle old said [] mid server volume did))))
 
 area_begins : (old mid : StoredCell) (area : ℕ) → Begins mid old → Begins (with_area mid area) old
 area_begins old mid area begins = record { clients = begins.clients; replicas = begins.replicas; learned = begins.learned }
 
 lines_begin : (old new : StoredCell) (awaited : Awaited) (reply : Reply) → MakesAgain old awaited reply new → Begins new old
-lines_begin old new (ClientAgain client blocks area) reply (said, mid, did, is, same) =
+lines_begin old new (ClientAgain client blocks area) reply (said, mid, did, is, same, own) =
     subst (λ (c : StoredCell). Begins c old) (sym same) (area_begins old mid area (recovers_client_begins old said [] mid client did))
-lines_begin old new (VolumeAgain volume server area) reply (said, mid, did, is, same) =
+lines_begin old new (VolumeAgain volume server area) reply (said, mid, did, is, same, own) =
     subst (λ (c : StoredCell). Begins c old) (sym same) (area_begins old mid area (recovers_replica_begins old said [] mid server volume did))
 
 pub cells_are_resumed : CellsAreResumed
@@ -238,9 +242,9 @@ both_aside : (old : StoredCell) (who : Who) → IsAside (moved (moved old (Recov
 both_aside old (TheClient client) = record { sizes = refl; homes = refl; servers = refl; areas = refl; places = refl; clients = refl; replicas = refl }
 both_aside old (TheReplica server volume) = record { sizes = refl; homes = refl; servers = refl; areas = refl; places = refl; clients = refl; replicas = refl }
 
-refused_aside : (old : StoredCell) (who : Who) (was : Option Header) (header : Header) (entries : ℕ) (given : Option Header) (mid : StoredCell) → IsRefused old who was header entries given mid → IsAside mid old
-refused_aside old who was header entries given mid (inl same) = subst (λ (c : StoredCell). IsAside c old) (sym same.1) (crash_aside old who)
-refused_aside old who was header entries given mid (inr next) = subst (λ (c : StoredCell). IsAside c old) (sym next.2) (both_aside old who)
+refused_aside : (old : StoredCell) (who : Who) (side : Side) (header : Header) (entries : ℕ) (tried : Side) (mid : StoredCell) → IsRefused old who side header entries tried mid → IsAside mid old
+refused_aside old who side header entries tried mid (inl same) = subst (λ (c : StoredCell). IsAside c old) (sym same.1) (crash_aside old who)
+refused_aside old who side header entries tried mid (inr next) = subst (λ (c : StoredCell). IsAside c old) (sym next.2) (both_aside old who)
 
 -- what an actor that is made again leaves of what was made, and of the areas
 pub record StaysAgain (new old : StoredCell) (area : ℕ) : Type 0 where
@@ -251,22 +255,43 @@ abbrev pub area_in : Awaited → ℕ
 area_in (ClientAgain client blocks area) = area
 area_in (VolumeAgain volume server area) = area
 
+-- a cell of which only an actor is another
+aside_stays : (old mid : StoredCell) (area : ℕ) → IsAside mid old → StaysMade (with_area mid area) old
+aside_stays old mid area is = record {
+  sizes = is.sizes;
+  homes = is.homes;
+  servers = is.servers;
+  places = is.places;
+  clients = λ c header asks. subst (λ (f : ℕ → Side). AsksAgain (f c) header) (sym is.clients) asks;
+  replicas = λ v header asks. subst (λ (f : ℕ → Side). AsksAgain (f v) header) (sym is.replicas) asks;
+  clients_ask = λ c. ap (λ (f : ℕ → Side). (f c).asked) is.clients;
+  replicas_ask = λ v. ap (λ (f : ℕ → Side). (f v).asked) is.replicas;
+}
+
 client_again : (old mid : StoredCell) (client area : ℕ) (said : Reply) → RecoversClient old client said [] mid → StaysAgain (with_area mid area) old area
 client_again old mid client area said (none, (header, asked, inl did)) =
     subst (λ (c : StoredCell). StaysAgain (with_area c area) old area) (sym did.3)
     (let a = recovery_aside old (TheClient client) did.0 in record { made = client_stays old (moved old (Recovers (TheClient client) did.0)) client area (recovered_side (old.clients client) header) a refl (λ left. refl); areas = ap (λ n. n + area) a.areas })
-client_again old mid client area said (none, (header, asked, inr did)) =
+client_again old mid client area said (none, (header, asked, inr (inl did))) =
     subst (λ (c : StoredCell). StaysAgain (with_area c area) old area) (sym did.4)
-    (let a = refused_aside old (TheClient client) _ header _ did.0 did.1 did.2 in record { made = client_stays old did.1 client area (record (old.clients client) { given = did.0 }) a refl (λ left. left); areas = ap (λ n. n + area) a.areas })
+    (let a = refused_aside old (TheClient client) _ header _ did.0 did.1 did.2 in let t = tried_asks old (TheClient client) (old.clients client) header _ did.0 did.1 did.2 in
+    record { made = client_stays old did.1 client area did.0 a t.0 (λ left. t.1 ∙ left); areas = ap (λ n. n + area) a.areas })
+client_again old mid client area said (none, (header, asked, inr (inr foreign))) =
+    subst (λ (c : StoredCell). StaysAgain (with_area c area) old area) (sym foreign.3)
+    (let a = crash_aside old (TheClient client) in record { made = aside_stays old (moved old (Crashes (TheClient client))) area a; areas = ap (λ n. n + area) a.areas })
 
 replica_again : (old mid : StoredCell) (server volume area : ℕ) (said : Reply) → RecoversReplica old server volume said [] mid → StaysAgain (with_area mid area) old area
 replica_again old mid server volume area said (none, (header, asked, inl did)) =
     subst (λ (c : StoredCell). StaysAgain (with_area c area) old area) (sym did.3)
     (let a = recovery_aside old (TheReplica server volume) did.0 in record { made = replica_stays old (moved old (Recovers (TheReplica server volume) did.0)) volume area (recovered_side (old.replicas volume) header) a refl (λ left. refl); areas = ap (λ n. n + area) a.areas })
-replica_again old mid server volume area said (none, (header, asked, inr did)) =
+replica_again old mid server volume area said (none, (header, asked, inr (inl did))) =
     subst (λ (c : StoredCell). StaysAgain (with_area c area) old area) (sym did.4)
-    (let a = refused_aside old (TheReplica server volume) _ header _ did.0 did.1 did.2 in record { made = replica_stays old did.1 volume area (record (old.replicas volume) { given = did.0 }) a refl (λ left. left); areas = ap (λ n. n + area) a.areas })
+    (let a = refused_aside old (TheReplica server volume) _ header _ did.0 did.1 did.2 in let t = tried_asks old (TheReplica server volume) (old.replicas volume) header _ did.0 did.1 did.2 in
+    record { made = replica_stays old did.1 volume area did.0 a t.0 (λ left. t.1 ∙ left); areas = ap (λ n. n + area) a.areas })
+replica_again old mid server volume area said (none, (header, asked, inr (inr foreign))) =
+    subst (λ (c : StoredCell). StaysAgain (with_area c area) old area) (sym foreign.3)
+    (let a = crash_aside old (TheReplica server volume) in record { made = aside_stays old (moved old (Crashes (TheReplica server volume))) area a; areas = ap (λ n. n + area) a.areas })
 
 pub again_stays : (old new : StoredCell) (awaited : Awaited) (reply : Reply) → MakesAgain old awaited reply new → StaysAgain new old (area_in awaited)
-again_stays old new (ClientAgain client blocks area) reply (said, mid, did, is, same) = subst (λ (c : StoredCell). StaysAgain c old area) (sym same) (client_again old mid client area said did)
-again_stays old new (VolumeAgain volume server area) reply (said, mid, did, is, same) = subst (λ (c : StoredCell). StaysAgain c old area) (sym same) (replica_again old mid server volume area said did)
+again_stays old new (ClientAgain client blocks area) reply (said, mid, did, is, same, own) = subst (λ (c : StoredCell). StaysAgain c old area) (sym same) (client_again old mid client area said did)
+again_stays old new (VolumeAgain volume server area) reply (said, mid, did, is, same, own) = subst (λ (c : StoredCell). StaysAgain c old area) (sym same) (replica_again old mid server volume area said did)

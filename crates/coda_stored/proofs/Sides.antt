@@ -25,10 +25,12 @@ pub record AreSided (cell : StoredCell) : Type 0 where
   pub replicas : (volume : ℕ) → IsReplicaSide volume (cell.made.homes volume) (λ server. cell.made.acted.replicas server volume) (cell.replicas volume)
   pub placed : (volume server : ℕ) → cell.made.homes volume ≡ Some server → IsPlaced cell volume server
   pub apart : (volume other server home : ℕ) → cell.made.homes volume ≡ Some server → cell.made.homes other ≡ Some home → cell.places volume ≡ cell.places other → volume ≡ other
+  pub clients_own : (client : ℕ) → (cell.clients client).foreign ≡ false
+  pub replicas_own : (volume : ℕ) → (cell.replicas volume).foreign ≡ false
 
 -- the actors of a cell that is kept, and a cell of which no disk of others holds anything
 pub actors_kept : (cell : StoredCell) → IsStoredKept cell → IsCellKept cell
-actors_kept cell kept = record { clients_up = kept.clients_up; replicas_up = kept.replicas_up; kept = kept.kept; clients = kept.clients; replicas = kept.replicas; placed = kept.placed; apart = kept.apart; alone = kept.alone }
+actors_kept cell kept = record { clients_up = kept.clients_up; replicas_up = kept.replicas_up; kept = kept.kept; clients = kept.clients; replicas = kept.replicas; placed = kept.placed; apart = kept.apart; clients_own = kept.clients_own; replicas_own = kept.replicas_own; alone = kept.alone }
 
 pub with_idle : (old new : StoredCell) → IsStoredKept old → IsCellKept new → new.idle ≡ old.idle → IsStoredKept new
 with_idle old new was kept same = record {
@@ -39,6 +41,8 @@ with_idle old new was kept same = record {
   replicas = kept.replicas;
   placed = kept.placed;
   apart = kept.apart;
+  clients_own = kept.clients_own;
+  replicas_own = kept.replicas_own;
   idle = λ number. ap (λ (f : ℕ → PlainActor KeptEntry). f number) same ∙ was.idle number;
   alone = kept.alone;
 }
@@ -47,10 +51,10 @@ pub clean_in : (cell : StoredCell) → IsCellKept cell → AreClean cell.made.ac
 clean_in cell kept = record { clients = kept.clients_up; replicas = kept.replicas_up; alone = kept.alone }
 
 pub sided_in : (cell : StoredCell) → IsCellKept cell → AreSided cell
-sided_in cell kept = record { clients = kept.clients; replicas = kept.replicas; placed = kept.placed; apart = kept.apart }
+sided_in cell kept = record { clients = kept.clients; replicas = kept.replicas; placed = kept.placed; apart = kept.apart; clients_own = kept.clients_own; replicas_own = kept.replicas_own }
 
 pub stored_kept : (cell : StoredCell) → AreClean cell.made.acted → ((joins : Joins) → IsKept (whole cell.made joins)) → AreSided cell → IsCellKept cell
-stored_kept cell clean kept sided = record { clients_up = clean.clients; replicas_up = clean.replicas; kept = kept; clients = sided.clients; replicas = sided.replicas; placed = sided.placed; apart = sided.apart; alone = clean.alone }
+stored_kept cell clean kept sided = record { clients_up = clean.clients; replicas_up = clean.replicas; kept = kept; clients = sided.clients; replicas = sided.replicas; placed = sided.placed; apart = sided.apart; clients_own = sided.clients_own; replicas_own = sided.replicas_own; alone = clean.alone }
 
 -- ---- one actor
 
@@ -163,6 +167,8 @@ module _ (cell : StoredCell) (clean : AreClean cell.made.acted) (sided : AreSide
     replicas = sided.replicas;
     placed = sided.placed;
     apart = sided.apart;
+    clients_own = sided.clients_own;
+    replicas_own = sided.replicas_own;
   }
 
   -- the replica of a volume that was made is another
@@ -172,6 +178,8 @@ module _ (cell : StoredCell) (clean : AreClean cell.made.acted) (sided : AreSide
     replicas = λ v. replica_goes v (cell.made.homes v) (λ s. cell.made.acted.replicas s v) (λ s. cond ((s == server) && (v == volume)) actor (cell.made.acted.replicas s v)) (cell.replicas v) (same v) (keeps v) (sided.replicas v);
     placed = sided.placed;
     apart = sided.apart;
+    clients_own = sided.clients_own;
+    replicas_own = sided.replicas_own;
   }
     where
       same : (v s : ℕ) → cell.made.homes v ≡ None → cond ((s == server) && (v == volume)) actor (cell.made.acted.replicas s v) ≡ cell.made.acted.replicas s v

@@ -6,7 +6,7 @@ use Rattle.coda_plain.specs.Decisions.{ReplicaEntry}
 use Rattle.coda_plain.specs.Moves.{Append, AtClient, AtReplica, Who, TheClient, TheReplica, Crashes, Recovers, grown as grown_actor, fallen, crashed, recovered}
 use Rattle.coda_script.specs.declared.reply.Reply.{Reply}
 use Rattle.coda_cell.specs.State.{put, Event, VolumeMade, ClientMade, Ticked, LinkSet, Entered, Posted, Lost}
-use Rattle.coda_stored.specs.Cells.{Side, StoredCell, plain_replica, after, after_all, moved, failed}
+use Rattle.coda_stored.specs.Cells.{Side, StoredCell, on_disk, plain_replica, after, after_all, moved, failed}
 use Rattle.coda_stored.specs.Lines.{EndsBy, with_client_side, with_replica_side}
 use Rattle.coda_stored.specs.Resuming.{Awaited, ClientAgain, VolumeAgain, awaits_client, awaits_volume}
 use Rattle.coda_stored.specs.Room.{LacksUnder, LacksFor, Lacks, FitsOne, Fits}
@@ -62,7 +62,7 @@ module _ (left : List Awaited) where
   -- ---- what stays
 
   pub stays_same : (cell : StoredCell) → StayAsleep left cell cell
-  stays_same cell = record { sizes = refl; homes = refl; servers = refl; areas = refl; places = refl; clients = λ client waits. (refl, refl); replicas = λ server volume waits. (refl, refl); clients_ask = λ client. refl; replicas_ask = λ volume. refl }
+  stays_same cell = record { sizes = refl; homes = refl; servers = refl; areas = refl; places = refl; clients = λ client waits. (refl, refl); replicas = λ server volume waits. (refl, refl); others = refl; clients_ask = λ client. refl; replicas_ask = λ volume. refl }
 
   pub stays_then : (old mid new : StoredCell) → StayAsleep left mid old → StayAsleep left new mid → StayAsleep left new old
   stays_then old mid new first rest = record {
@@ -73,6 +73,7 @@ module _ (left : List Awaited) where
     places = rest.places ∙ first.places;
     clients = λ client waits. ((rest.clients client waits).0 ∙ (first.clients client waits).0, (rest.clients client waits).1 ∙ (first.clients client waits).1);
     replicas = λ server volume waits. ((rest.replicas server volume waits).0 ∙ (first.replicas server volume waits).0, (rest.replicas server volume waits).1 ∙ (first.replicas server volume waits).1);
+    others = rest.others ∙ first.others;
     clients_ask = λ client. rest.clients_ask client ∙ first.clients_ask client;
     replicas_ask = λ volume. rest.replicas_ask volume ∙ first.replicas_ask volume;
   }
@@ -84,7 +85,7 @@ module _ (left : List Awaited) where
   idle_some (VolumeAgain volume server area ∷ some) new old are stays same number =
       let r = stays.replicas server volume are.0 in
       let rest = idle_some some new old are.1 stays same number in
-      λ i. cond (number == stays.places i volume) (plain_replica volume (r.0 i) (asleep true (r.1 i))) (rest i)
+      λ i. cond (number == stays.places i volume) (on_disk (r.1 i).foreign (stays.others i volume) (plain_replica volume (r.0 i) (asleep true (r.1 i)))) (rest i)
 
   pub idle_same : (new old : StoredCell) → StayAsleep left new old → new.idle ≡ old.idle → idle_until old left ≡ idle_until new left
   idle_same new old stays same = λ i. λ number. sym (idle_some left new old (among_all left) stays same number) i
@@ -115,6 +116,7 @@ module _ (left : List Awaited) where
       places = refl;
       clients = λ c waits. (client_else client actor awake c waits, refl);
       replicas = λ s v waits. (refl, refl);
+      others = refl;
       clients_ask = λ c. refl;
       replicas_ask = λ v. refl;
     }
@@ -129,6 +131,7 @@ module _ (left : List Awaited) where
       places = refl;
       clients = λ c waits. (refl, refl);
       replicas = λ s v waits. (replica_else server volume actor awake s v waits, refl);
+      others = refl;
       clients_ask = λ c. refl;
       replicas_ask = λ v. refl;
     }
@@ -138,12 +141,12 @@ module _ (left : List Awaited) where
     event_stays : (event : Event) → IsBy Awake AwakeAt event → StayAsleep left (after cell event) cell
     event_stays (VolumeMade v s) by = absurd by
     event_stays (ClientMade c blocks) by = absurd by
-    event_stays (Ticked seconds) by = record { sizes = refl; homes = refl; servers = refl; areas = refl; places = refl; clients = λ c waits. (refl, refl); replicas = λ s v waits. (refl, refl); clients_ask = λ c. refl; replicas_ask = λ v. refl }
-    event_stays (LinkSet c s strength) by = record { sizes = refl; homes = refl; servers = refl; areas = refl; places = refl; clients = λ k waits. (refl, refl); replicas = λ t v waits. (refl, refl); clients_ask = λ k. refl; replicas_ask = λ v. refl }
+    event_stays (Ticked seconds) by = record { sizes = refl; homes = refl; servers = refl; areas = refl; places = refl; clients = λ c waits. (refl, refl); replicas = λ s v waits. (refl, refl); others = refl; clients_ask = λ c. refl; replicas_ask = λ v. refl }
+    event_stays (LinkSet c s strength) by = record { sizes = refl; homes = refl; servers = refl; areas = refl; places = refl; clients = λ k waits. (refl, refl); replicas = λ t v waits. (refl, refl); others = refl; clients_ask = λ k. refl; replicas_ask = λ v. refl }
     event_stays (Entered (AtClient client entry)) by = client_stays client (grown_actor entry (cell.made.acted.clients client)) by
     event_stays (Entered (AtReplica server volume entry)) by = replica_stays server volume (grown_actor entry (cell.made.acted.replicas server volume)) by.0
-    event_stays (Posted sent) by = record { sizes = refl; homes = refl; servers = refl; areas = refl; places = refl; clients = λ c waits. (refl, refl); replicas = λ s v waits. (refl, refl); clients_ask = λ c. refl; replicas_ask = λ v. refl }
-    event_stays (Lost message) by = record { sizes = refl; homes = refl; servers = refl; areas = refl; places = refl; clients = λ c waits. (refl, refl); replicas = λ s v waits. (refl, refl); clients_ask = λ c. refl; replicas_ask = λ v. refl }
+    event_stays (Posted sent) by = record { sizes = refl; homes = refl; servers = refl; areas = refl; places = refl; clients = λ c waits. (refl, refl); replicas = λ s v waits. (refl, refl); others = refl; clients_ask = λ c. refl; replicas_ask = λ v. refl }
+    event_stays (Lost message) by = record { sizes = refl; homes = refl; servers = refl; areas = refl; places = refl; clients = λ c waits. (refl, refl); replicas = λ s v waits. (refl, refl); others = refl; clients_ask = λ c. refl; replicas_ask = λ v. refl }
 
     event_seen : (event : Event) → IsBy Awake AwakeAt event → after (seen cell left) event ≡ seen (after cell event) left
     event_seen (VolumeMade v s) by = absurd by
@@ -224,6 +227,7 @@ module _ (left : List Awaited) where
       places = refl;
       clients = λ c waits. (refl, side_else cell.clients (awaits_client left) client side awake c waits);
       replicas = λ s v waits. (refl, refl);
+      others = refl;
       clients_ask = side_asks cell.clients client side same;
       replicas_ask = λ v. refl;
     }
@@ -237,6 +241,7 @@ module _ (left : List Awaited) where
       places = refl;
       clients = λ c waits. (refl, refl);
       replicas = λ s v waits. (refl, side_else cell.replicas (awaits_volume left) volume side awake v waits);
+      others = refl;
       clients_ask = λ c. refl;
       replicas_ask = side_asks cell.replicas volume side same;
     }

@@ -72,14 +72,14 @@ clean_after cell (Lost message) clean sided by = record { clients = clean.client
 sided_after : (cell : StoredCell) (event : Event) → AreClean cell.made.acted → AreSided cell → IsBy (UpClient cell.made) (UpReplica cell.made) event → AreSided (after cell event)
 sided_after cell (VolumeMade v s) clean sided by = absurd by
 sided_after cell (ClientMade c blocks) clean sided by = absurd by
-sided_after cell (Ticked seconds) clean sided by = record { clients = sided.clients; replicas = sided.replicas; placed = sided.placed; apart = sided.apart }
-sided_after cell (LinkSet c s strength) clean sided by = record { clients = sided.clients; replicas = sided.replicas; placed = sided.placed; apart = sided.apart }
+sided_after cell (Ticked seconds) clean sided by = record { clients = sided.clients; replicas = sided.replicas; placed = sided.placed; apart = sided.apart; clients_own = sided.clients_own; replicas_own = sided.replicas_own }
+sided_after cell (LinkSet c s strength) clean sided by = record { clients = sided.clients; replicas = sided.replicas; placed = sided.placed; apart = sided.apart; clients_own = sided.clients_own; replicas_own = sided.replicas_own }
 sided_after cell (Entered (AtClient client entry)) clean sided by =
     sided_client cell clean sided client by.1.0 (grown_actor entry (cell.made.acted.clients client)) by.1.1 (goes_grown (cell.clients client).given (cell.made.acted.clients client) entry by.0 (clean.clients client))
 sided_after cell (Entered (AtReplica server volume entry)) clean sided by =
     sided_replica cell clean sided server volume (grown_actor entry (cell.made.acted.replicas server volume)) by.0.1 (goes_grown (cell.replicas volume).given (cell.made.acted.replicas server volume) entry by.0.0 (clean.replicas server volume))
-sided_after cell (Posted sent) clean sided by = record { clients = sided.clients; replicas = sided.replicas; placed = sided.placed; apart = sided.apart }
-sided_after cell (Lost message) clean sided by = record { clients = sided.clients; replicas = sided.replicas; placed = sided.placed; apart = sided.apart }
+sided_after cell (Posted sent) clean sided by = record { clients = sided.clients; replicas = sided.replicas; placed = sided.placed; apart = sided.apart; clients_own = sided.clients_own; replicas_own = sided.replicas_own }
+sided_after cell (Lost message) clean sided by = record { clients = sided.clients; replicas = sided.replicas; placed = sided.placed; apart = sided.apart; clients_own = sided.clients_own; replicas_own = sided.replicas_own }
 
 whole_after : (cell : StoredCell) (joins : Joins) (event : Event) → AreClean cell.made.acted → IsBy (UpClient cell.made) (UpReplica cell.made) event → whole (after cell event).made joins ≡ grown (whole cell.made joins) event
 whole_after cell joins (VolumeMade v s) clean by = refl

@@ -1,5 +1,5 @@
 -- A later run over the disks that an earlier one left: what it begins with, and what the lines do that make the actors again.
-use Rattle.std.specs.Prelude.{◌≡◌, ◌<◌, ◌≤◌, ◌+◌, ℕ, Bool, true, false, ◌==◌, ◌&&◌, ◌||◌, List, [], ◌∷◌, Option, Some, None}
+use Rattle.std.specs.Prelude.{◌≡◌, ◌≢◌, ◌<◌, ◌≤◌, ◌+◌, ℕ, Bool, true, false, ◌==◌, ◌&&◌, ◌||◌, List, [], ◌∷◌, Option, Some, None}
 use Rattle.coda_journal.specs.declared.header.Header.{Header}
 use Rattle.coda_plain.specs.Cell.{Actor}
 use Rattle.coda_plain.specs.Moves.{crashed}
@@ -12,7 +12,7 @@ use Rattle.coda_cell.specs.Steps.{is_alone, alone}
 use Rattle.coda_stored.specs.Cells.{Side, StoredCell, client_header, replica_header, disk_number}
 use Rattle.coda_stored.specs.Kept.{IsStoredKept}
 use Rattle.coda_stored.specs.Laws.{Begins}
-use Rattle.coda_stored.specs.Lines.{area_of, RecoversClient, RecoversReplica}
+use Rattle.coda_stored.specs.Lines.{area_of, refused_foreign, RecoversClient, RecoversReplica}
 
 -- ---- what a later run begins with
 
@@ -116,10 +116,14 @@ opened_as said = said
 abbrev pub with_area : StoredCell → ℕ → StoredCell
 with_area cell area = record cell { areas = cell.areas + area }
 
--- An actor is made again: what is found on its disk is what a recovery finds there, and the reply counts it.
+-- the disk isn't another's
+abbrev pub IsOwn : Reply → Type 0
+IsOwn said = (at : ℕ) → said ≢ refused_foreign at
+
+-- An actor is made again on its own disk: what is found there is what a recovery finds, and the reply counts it.
 abbrev pub MakesAgain : StoredCell → Awaited → Reply → StoredCell → Type 0
-MakesAgain old (ClientAgain client blocks area) reply new = (said : Reply) × (mid : StoredCell) × RecoversClient old client said [] mid × (reply ≡ opened_as said) × (new ≡ with_area mid area)
-MakesAgain old (VolumeAgain volume server area) reply new = (said : Reply) × (mid : StoredCell) × RecoversReplica old server volume said [] mid × (reply ≡ opened_as said) × (new ≡ with_area mid area)
+MakesAgain old (ClientAgain client blocks area) reply new = (said : Reply) × (mid : StoredCell) × RecoversClient old client said [] mid × (reply ≡ opened_as said) × (new ≡ with_area mid area) × IsOwn said
+MakesAgain old (VolumeAgain volume server area) reply new = (said : Reply) × (mid : StoredCell) × RecoversReplica old server volume said [] mid × (reply ≡ opened_as said) × (new ≡ with_area mid area) × IsOwn said
 
 -- ---- what holds of later runs
 

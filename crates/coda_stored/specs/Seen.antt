@@ -80,6 +80,7 @@ pub record StayAsleep (left : List Awaited) (new old : StoredCell) : Type 0 wher
   pub places : new.places ≡ old.places
   pub clients : (client : ℕ) → awaits_client left client ≡ true → (new.made.acted.clients client ≡ old.made.acted.clients client) × (new.clients client ≡ old.clients client)
   pub replicas : (server volume : ℕ) → awaits_volume left volume ≡ true → (new.made.acted.replicas server volume ≡ old.made.acted.replicas server volume) × (new.replicas volume ≡ old.replicas volume)
+  pub others : new.others ≡ old.others
   pub clients_ask : (client : ℕ) → (new.clients client).asked ≡ (old.clients client).asked
   pub replicas_ask : (volume : ℕ) → (new.replicas volume).asked ≡ (old.replicas volume).asked
 
