@@ -28,7 +28,7 @@ use Rattle.coda_matching.specs.Clients.{payload_by}
 use Rattle.coda_stored.specs.Cells.{Side, StoredCell, life_of, plain_client, client_header, moved}
 use Rattle.coda_stored.specs.Kept.{IsStoredKept, IsClientSide, IsGiven}
 use Rattle.coda_stored.specs.Lines.{client_payloads, with_client_side, recovered_side, refused_fault, RecoversClient}
-use Rattle.coda_stored.specs.Resuming.{Awaited, ClientAgain, awaits_client, AsksAgain, opened_as, with_area}
+use Rattle.coda_stored.specs.Resuming.{Awaited, ClientAgain, awaits_client, AsksAgain, opened_as, with_area, IsOwn}
 use Rattle.coda_site.specs.Awaiting.{IsAwaiting, Resumes}
 use Rattle.coda_stored.specs.Seen.{asleep}
 use Rattle.coda_site.specs.Makings.{SaysOpened}
@@ -47,6 +47,7 @@ record FoundClient (cell : StoredCell) (n : ℕ) (reply : Reply) (new : PlainAct
   pub said : Reply
   pub recovers : RecoversClient cell n said [] (with_client_side (with_actor cell n next) n known)
   pub replied : reply ≡ opened_as said
+  pub own : IsOwn said
   pub here : new ≡ plain_client next known
 
 module _ (cell : StoredCell) (kept : IsStoredKept cell) (n blocks area : ℕ) (size : cell.made.sizes n ≡ Some blocks) (asks : AsksAgain (cell.clients n) (client_header n blocks area)) where
@@ -85,6 +86,7 @@ module _ (cell : StoredCell) (kept : IsStoredKept cell) (n blocks area : ℕ) (s
         said = Recovered count;
         recovers = (refl, (header, asks.0, inl (joins, ap Recovered many, read, refl, takes)));
         replied = says;
+        own = λ at e. cc;
         here = λ i. record {
           disk = record { header = joined.given i; history = found.1 i; failed = joined.failed i };
           life = (life ∙ ap (λ (o : Option Header). life_of o true) (sym asks.0)) i;
@@ -103,6 +105,7 @@ module _ (cell : StoredCell) (kept : IsStoredKept cell) (n blocks area : ℕ) (s
           said = refused_fault;
           recovers = (refl, (header, asks.0, inr (inl (side, moved cell (Crashes (TheClient n)), inl (refl, refl), refl, refl))));
           replied = says;
+          own = λ at e. cc;
           here = λ i. record { disk = same i; life = is_down i; left = none_left i };
         }
         | inr fresh ↦ (
@@ -120,6 +123,7 @@ module _ (cell : StoredCell) (kept : IsStoredKept cell) (n blocks area : ℕ) (s
               recovers = subst (λ (c : StoredCell). RecoversClient cell n refused_fault [] (with_client_side c n known)) mid_is
                   (refl, (header, asks.0, inr (inl (known, mid, inr (ap length empty, refl, refl), refl, refl))));
               replied = says;
+              own = λ at e. cc;
               here = λ i. record { disk = disk i; life = is_down i; left = none_left i };
             })
       ]
@@ -161,7 +165,7 @@ module _ {D : Type 0} (told : D → Told) (out out1 : ℕ → Bool) (has has1 : 
         let found = client_found cell kept n blocks area size asks mounting reply (takes.0 n) says step.1 step.2 step.3 in
         record {
           next = with_area (with_client_side (with_actor cell n found.next) n found.known) area;
-          makes = (found.said, with_client_side (with_actor cell n found.next) n found.known, found.recovers, found.replied, refl);
+          makes = (found.said, with_client_side (with_actor cell n found.next) n found.known, found.recovers, found.replied, refl, found.own);
           answered = refl;
           stands = record {
             clock = is.clock;

@@ -27,7 +27,7 @@ use Rattle.coda_cell.specs.State.{put}
 use Rattle.coda_stored.specs.Cells.{Side, StoredCell, life_of, plain_client, plain_replica, standing, replica_header, disk_number, unmade, moved}
 use Rattle.coda_stored.specs.Kept.{IsStoredKept, IsReplicaSide, IsGiven}
 use Rattle.coda_stored.specs.Lines.{replica_payloads, replica_disk, MayTake, with_replica_side, recovered_side, refused_fault, RecoversReplica}
-use Rattle.coda_stored.specs.Resuming.{Awaited, VolumeAgain, awaits_client, awaits_volume, servers_of, AsksAgain, opened_as, with_area}
+use Rattle.coda_stored.specs.Resuming.{Awaited, VolumeAgain, awaits_client, awaits_volume, servers_of, AsksAgain, opened_as, with_area, IsOwn}
 use Rattle.coda_site.specs.Awaiting.{IsAwaiting, Resumes}
 use Rattle.coda_stored.specs.Seen.{asleep, home_unless}
 use Rattle.coda_site.specs.Makings.{SaysOpened}
@@ -48,6 +48,7 @@ record FoundReplica (cell : StoredCell) (server volume : ℕ) (reply : Reply) (n
   pub said : Reply
   pub recovers : RecoversReplica cell server volume said [] (with_replica_side (with_ruler cell server volume next) volume known)
   pub replied : reply ≡ opened_as said
+  pub own : IsOwn said
   pub here : new ≡ plain_replica volume next known
 
 module _ (cell : StoredCell) (kept : IsStoredKept cell) (volume server area : ℕ) (home : cell.made.homes volume ≡ Some server) (asks : AsksAgain (cell.replicas volume) (replica_header volume server area)) where
@@ -90,6 +91,7 @@ module _ (cell : StoredCell) (kept : IsStoredKept cell) (volume server area : �
         said = Recovered count;
         recovers = (refl, (header, asks.0, inl (joins, ap Recovered many, read, refl, takes)));
         replied = says;
+        own = λ at e. cc;
         here = λ i. record {
           disk = record { header = joined.given i; history = found_so.1 i; failed = joined.failed i };
           life = (life ∙ ap (λ (o : Option Header). life_of o true) (sym asks.0)) i;
@@ -109,6 +111,7 @@ module _ (cell : StoredCell) (kept : IsStoredKept cell) (volume server area : �
           said = refused_fault;
           recovers = (refl, (header, asks.0, inr (inl (side, moved cell (Crashes (TheReplica server volume)), inl (refl, refl), refl, refl))));
           replied = says;
+          own = λ at e. cc;
           here = λ i. record { disk = same i; life = is_down i; left = none_left i };
         }
         | inr fresh ↦ (
@@ -126,6 +129,7 @@ module _ (cell : StoredCell) (kept : IsStoredKept cell) (volume server area : �
               recovers = subst (λ (c : StoredCell). RecoversReplica cell server volume refused_fault [] (with_replica_side c volume known)) mid_is
                   (refl, (header, asks.0, inr (inl (known, mid, inr (none, refl, refl), refl, refl))));
               replied = says;
+              own = λ at e. cc;
               here = λ i. record { disk = disk i; life = is_down i; left = none_left i };
             })
       ]
@@ -231,7 +235,7 @@ module _ {D : Type 0} (told : D → Told) (out out1 : ℕ → Bool) (has has1 : 
         let found = replica_found cell kept volume server area home asks mounting reply (takes.0 disk) says step.1 step.2 step.3 in
         record {
           next = with_area (with_replica_side (with_ruler cell server volume found.next) volume found.known) area;
-          makes = (found.said, with_replica_side (with_ruler cell server volume found.next) volume found.known, found.recovers, found.replied, refl);
+          makes = (found.said, with_replica_side (with_ruler cell server volume found.next) volume found.known, found.recovers, found.replied, refl, found.own);
           answered = refl;
           stands = resumed_site found.next found.known takes.0 takes.2 found.here takes.1.1;
         }
