@@ -237,6 +237,7 @@ nothing_changed new old left stays same idle = λ i. record {
   places = stays.places i;
   clients = λ client. side_same (awaits_client left client) (new.clients client) (old.clients client) (λ waits. (stays.clients client waits).1) (λ j. (same j).clients client) i;
   replicas = λ volume. side_same (awaits_volume left volume) (new.replicas volume) (old.replicas volume) (λ waits. (stays.replicas 0 volume waits).1) (λ j. (same j).replicas volume) i;
+  others = stays.others i;
   idle = idle i;
 }
 

@@ -155,12 +155,12 @@ module _ (old : StoredCell) (kept : IsCellKept old) (reply : Reply) (outside : L
   client_given client blocks header side own there asked asks given =
       client_sided old kept client blocks side own there asks (λ other is was. is_given (old.clients client).asked header other side.given (old.made.acted.clients client) asked given is)
 
-  client_made_up : (client blocks : ℕ) (header : Header) (joins : Bool) (side : Side) → side.foreign ≡ false → old.made.sizes client ≡ Some blocks → (old.clients client).asked ≡ Some header → side.asked ≡ (old.clients client).asked → side.given ≡ Some header
+  pub client_made_up : (client blocks : ℕ) (header : Header) (joins : Bool) (side : Side) → side.foreign ≡ false → old.made.sizes client ≡ Some blocks → (old.clients client).asked ≡ Some header → side.asked ≡ (old.clients client).asked → side.given ≡ Some header
       → IsCellKept (with_client_side (moved old (Recovers (TheClient client) joins)) client side)
   client_made_up client blocks header joins side own there asked asks given =
       client_recovered (with_client_side old client side) (client_given client blocks header side own there asked asks given) client blocks header joins there (ap (λ (s : Side). s.given) (put_here old.clients client side) ∙ given)
 
-  client_refused : (client blocks : ℕ) (header : Header) (tried : Side) (mid : StoredCell) (entries : ℕ) → old.made.sizes client ≡ Some blocks → (old.clients client).asked ≡ Some header
+  pub client_refused : (client blocks : ℕ) (header : Header) (tried : Side) (mid : StoredCell) (entries : ℕ) → old.made.sizes client ≡ Some blocks → (old.clients client).asked ≡ Some header
       → IsRefused old (TheClient client) (old.clients client) header entries tried mid → IsCellKept (with_client_side mid client tried)
   client_refused client blocks header tried mid entries there asked (inl same) =
       subst (λ (c : StoredCell). IsCellKept (with_client_side c client tried)) (sym same.1)
@@ -182,12 +182,12 @@ module _ (old : StoredCell) (kept : IsCellKept old) (reply : Reply) (outside : L
   replica_given server volume header side own there asked asks given =
       replica_sided old kept server volume side own there asks (λ other is was. is_given (old.replicas volume).asked header other side.given (old.made.acted.replicas server volume) asked given is)
 
-  replica_made_up : (server volume : ℕ) (header : Header) (joins : Bool) (side : Side) → side.foreign ≡ false → old.made.homes volume ≡ Some server → (old.replicas volume).asked ≡ Some header → side.asked ≡ (old.replicas volume).asked → side.given ≡ Some header
+  pub replica_made_up : (server volume : ℕ) (header : Header) (joins : Bool) (side : Side) → side.foreign ≡ false → old.made.homes volume ≡ Some server → (old.replicas volume).asked ≡ Some header → side.asked ≡ (old.replicas volume).asked → side.given ≡ Some header
       → IsCellKept (with_replica_side (moved old (Recovers (TheReplica server volume) joins)) volume side)
   replica_made_up server volume header joins side own there asked asks given =
       replica_recovered (with_replica_side old volume side) (replica_given server volume header side own there asked asks given) server volume header joins there (ap (λ (s : Side). s.given) (put_here old.replicas volume side) ∙ given)
 
-  replica_refused : (server volume : ℕ) (header : Header) (tried : Side) (mid : StoredCell) (entries : ℕ) → old.made.homes volume ≡ Some server → (old.replicas volume).asked ≡ Some header
+  pub replica_refused : (server volume : ℕ) (header : Header) (tried : Side) (mid : StoredCell) (entries : ℕ) → old.made.homes volume ≡ Some server → (old.replicas volume).asked ≡ Some header
       → IsRefused old (TheReplica server volume) (old.replicas volume) header entries tried mid → IsCellKept (with_replica_side mid volume tried)
   replica_refused server volume header tried mid entries there asked (inl same) =
       subst (λ (c : StoredCell). IsCellKept (with_replica_side c volume tried)) (sym same.1)

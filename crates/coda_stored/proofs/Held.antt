@@ -1,6 +1,6 @@
 -- Cells over disks that earlier runs left are kept, whoever comes.
 use Rattle.std.proofs.Common.{◌≡◌, ℕ, ◌-◌, Bool, true, false, List, [], ◌∷◌, length, take, Option, None, refl, sym, ap, ◌∙◌, subst, inl, inr, arith}
-use Rattle.coda_actors.specs.Plain.{PlainActor, Unmade}
+use Rattle.coda_actors.specs.Plain.{PlainDisk, PlainActor, Unmade}
 use Rattle.coda_plain.specs.Cell.{Joins, found, found_in}
 use Rattle.coda_plain.specs.Logs.{BeginsWith}
 use Rattle.coda_plain.specs.Promises.{ArePromised}
@@ -15,7 +15,7 @@ use Rattle.coda_script.specs.declared.line.Line.TheVariants as line
 use Rattle.coda_script.specs.declared.reply.Reply.{Reply}
 use Rattle.coda_cell.specs.Steps.{alone}
 use Rattle.coda_stored.specs.Cells.{Side, StoredCell}
-use Rattle.coda_stored.specs.Held.{IsShelfKept, AreClients, AreHomes, IsHeld}
+use Rattle.coda_stored.specs.Held.{owned, lying_disk, IsShelfKept, AreClients, AreHomes, IsHeld}
 use Rattle.coda_stored.specs.Kept.{IsCellKept}
 use Rattle.coda_stored.specs.Lines.{Happens}
 use Rattle.coda_stored.specs.Mounted.{Shelf, plain_shelf}
@@ -23,18 +23,18 @@ use Rattle.coda_stored.specs.Resuming.{Awaited, ClientAgain, VolumeAgain, awaits
 use Rattle.coda_stored.specs.Seen.{asleep, home_unless, servers_before, idle_until, seen, mounts_none, IsSeen}
 use Rattle.coda_stored.proofs.Absent.{meanwhile_idle}
 use Rattle.coda_stored.proofs.Between.{meanwhile_begins}
-use Rattle.coda_stored.proofs.Keeping.{stored_cells_are_kept}
 use Rattle.coda_stored.proofs.Meanwhile.{happens_meanwhile}
+use Rattle.coda_stored.proofs.Owning.{IsOwned, line_owned, line_foreign}
 use Rattle.coda_stored.proofs.Seeing.{client_seen, replica_seen, home_seen, none_left}
 
 -- ---- shelves
 
 -- a shelf is kept as clients go on
-pub shelf_stays : (old new : StoredCell) (number : ℕ) → ((client : ℕ) → BeginsWith (new.made.acted.clients client).history (old.made.acted.clients client).history) → IsCellKept new → new.idle ≡ old.idle → IsShelfKept old number → IsShelfKept new number
-shelf_stays old new number begins kept same is = record {
+pub shelf_stays : (old new : StoredCell) (was now : PlainActor KeptEntry) → ((client : ℕ) → BeginsWith (new.made.acted.clients client).history (old.made.acted.clients client).history) → IsCellKept (owned new) → now ≡ was → IsShelfKept old was → IsShelfKept new now
+shelf_stays old new was now begins kept same is = record {
   shelf = is.shelf;
   server = is.server;
-  there = ap (λ (f : ℕ → PlainActor KeptEntry). f number) same ∙ is.there;
+  there = same ∙ is.there;
   labelled = is.labelled;
   alone = is.alone;
   fits = λ joins. replicas_stand_elsewhere.stays (λ client. (old.made.acted.clients client).history) (λ client. (new.made.acted.clients client).history) is.server is.shelf.volume (found joins is.shelf.actor)
@@ -95,22 +95,38 @@ homes_stay old new [] same homes = tt
 homes_stay old new (ClientAgain client blocks area ∷ names) same homes = homes_stay old new names same homes
 homes_stay old new (VolumeAgain volume server area ∷ names) same homes = (ap (λ (f : ℕ → Option ℕ). f volume) same ∙ homes.0, homes_stay old new names same homes.1)
 
+-- the actors behind a cell that is held are kept, as if each had its own disk
+pub owned_behind : (cell : StoredCell) (held : IsHeld cell) → IsOwned held.behind
+owned_behind cell held = record { kept = held.kept; beside = record { clients = held.clients_beside; down = held.clients_down; replicas = held.replicas_beside } }
+
 pub held_lines : (old new : StoredCell) (said : Line) (reply : Reply) (outside : List (List ℕ)) → IsHeld old → InRange said → mounts_none old said ≡ true → Happens old said reply outside new → IsHeld new
 held_lines old new said reply outside held range none does =
     let none_seen = subst (λ (c : StoredCell). mounts_none c said ≡ true) held.is none in
     let does_seen = subst (λ (c : StoredCell). Happens c said reply outside new) held.is does in
     let mid = happens_meanwhile held.left held.behind said reply outside new none_seen does_seen in
-    let kept : IsCellKept mid.0 = elim mid.2.happens [
-      | inl happens ↦ stored_cells_are_kept.actors held.behind mid.0 said reply outside held.kept range happens
-      | inr same ↦ subst IsCellKept (sym same) held.kept
+    let was = owned_behind old held in
+    let is : IsOwned mid.0 = elim mid.2.happens [
+      | inl happens ↦ line_owned held.behind mid.0 said reply outside was range happens
+      | inr same ↦ subst IsOwned (sym same) was
+    ] in
+    let begins = (meanwhile_begins held.behind mid.0 held.left said reply outside mid.2).clients in
+    let idle = meanwhile_idle held.behind reply outside mid.0 held.left said mid.2 in
+    let came : (volume : ℕ) → (mid.0.replicas volume).foreign ≡ true → (held.behind.replicas volume).foreign ≡ true = elim mid.2.happens [
+      | inl happens ↦ (λ volume foreign. line_foreign held.behind mid.0 said reply outside volume happens foreign)
+      | inr same ↦ (λ volume foreign. ap (λ (c : StoredCell). (c.replicas volume).foreign) (sym same) ∙ foreign)
     ] in
     record {
       behind = mid.0;
       left = held.left;
       clients = held.clients;
       is = mid.1;
-      kept = kept;
-      shelves = λ number. shelf_stays held.behind mid.0 number (meanwhile_begins held.behind mid.0 held.left said reply outside mid.2).clients kept (meanwhile_idle held.behind reply outside mid.0 held.left said mid.2) (held.shelves number);
+      kept = is.kept;
+      clients_beside = is.beside.clients;
+      clients_down = is.beside.down;
+      replicas_beside = is.beside.replicas;
+      shelves = λ number. shelf_stays held.behind mid.0 (held.behind.idle number) (mid.0.idle number) begins is.kept (ap (λ (f : ℕ → PlainActor KeptEntry). f number) idle) (held.shelves number);
+      others = λ volume foreign. shelf_stays held.behind mid.0 (lying_disk (held.behind.others volume)) (lying_disk (mid.0.others volume)) begins is.kept
+          (ap (λ (f : ℕ → PlainDisk KeptEntry). lying_disk (f volume)) mid.2.stays.others) (held.others volume (came volume foreign));
       names = held.names;
       named = record {
         clients = λ client blocks e. held.named.clients client blocks (ap (λ (f : ℕ → Option ℕ). f client) (sym mid.2.stays.sizes) ∙ e);
@@ -125,13 +141,13 @@ held_lines old new said reply outside held range none does =
 shelf_unmade : (shelf : Shelf) → ((plain_shelf shelf).life ≡ Unmade) × ((plain_shelf shelf).left ≡ None)
 shelf_unmade shelf = (refl, refl)
 
-pub behind_seen : (cell : StoredCell) (left : List Awaited) → AreClients left → IsCellKept cell → ((number : ℕ) → IsShelfKept cell number) → IsSeen (seen cell left)
-behind_seen cell left clients kept shelves = record {
+pub behind_seen : (cell : StoredCell) (left : List Awaited) → AreClients left → IsOwned cell → ((number : ℕ) → IsShelfKept cell (cell.idle number)) → IsSeen (seen cell left)
+behind_seen cell left clients is shelves = let kept = is.kept in let beside = is.beside in record {
   replicas_up = kept.replicas_up;
   lawful = λ client volume. ((kept.kept none_joins).sound.agree none_joins).lawful client volume;
   ruled = λ server volume. ((kept.kept none_joins).sound.agree none_joins).ruled server volume;
-  clients = λ client. client_seen client (cell.made.sizes client) (awaits_client left client) (cell.made.acted.clients client) (cell.clients client) (kept.clients client);
-  replicas = λ volume. replica_seen volume (cell.made.homes volume) (awaits_volume left volume) (λ server. cell.made.acted.replicas server volume) (cell.replicas volume) (kept.replicas volume);
+  clients = λ client. client_seen client (cell.made.sizes client) (awaits_client left client) (cell.made.acted.clients client) (cell.clients client) (beside.clients client) (beside.down client) (kept.clients client);
+  replicas = λ volume. replica_seen volume (cell.made.homes volume) (awaits_volume left volume) (λ server. cell.made.acted.replicas server volume) (cell.replicas volume) (beside.replicas volume) (kept.replicas volume);
   placed = λ volume server home. let p = kept.placed volume server (home_seen (awaits_volume left volume) (cell.made.homes volume) server home).1 in (p.0, p.2);
   apart = λ volume other server home first second same. kept.apart volume other server home (home_seen (awaits_volume left volume) (cell.made.homes volume) server first).1 (home_seen (awaits_volume left other) (cell.made.homes other) home second).1 same;
   alone = kept.alone;
@@ -142,11 +158,11 @@ behind_seen cell left clients kept shelves = record {
 }
 
 pub held_seen : (cell : StoredCell) → IsHeld cell → IsSeen cell
-held_seen cell held = subst IsSeen (sym held.is) (behind_seen held.behind held.left held.clients held.kept held.shelves)
+held_seen cell held = subst IsSeen (sym held.is) (behind_seen held.behind held.left held.clients (owned_behind cell held) held.shelves)
 
 -- ---- what is promised
 
-behind_sound : (cell : StoredCell) → IsCellKept cell → IsSound cell.made.acted
+behind_sound : (cell : StoredCell) → IsCellKept (owned cell) → IsSound cell.made.acted
 behind_sound cell kept = record { clients_up = kept.clients_up; replicas_up = kept.replicas_up; agree = λ joins. (kept.kept joins).sound.agree none_joins }
 
 pub held_promised : (cell : StoredCell) → IsHeld cell → (joins : Joins) → ArePromised (found_in cell.made.acted joins)

@@ -17,6 +17,7 @@ pub mod Makers
 pub mod Patient
 pub mod Mounted
 pub mod Idling
+pub mod Owning
 pub mod HeldClients
 pub mod HeldVolumes
 pub mod HeldFirst

@@ -109,11 +109,7 @@ module _ (old new : StoredCell) (reply : Reply) (outside : List (List ℕ)) (kep
   module _ {E : Type 0} (header : Header) (make : Making E) (elsewhere : StoredCell) (fresh : Side → StoredCell) (who : Who) (same : (joins : Bool) (side : Side) → make (recovered joins new_actor) side ≡ fresh side)
       (down : (side : Side) → make (crashed new_actor) side ≡ moved (fresh side) (Crashes who)) where
     opens : IsFound header None new_actor make reply outside new ⊎ IsFaulty header None new_actor make elsewhere reply outside new → Opens old header fresh who reply outside new
-    opens (inl (joins, own, (replied, out, is))) = (out, inl (replied ∙ counts joins, is ∙ same joins (asking header (Some header))))
-      where
-        counts : (b : Bool) → Opened (length (recovered b new_actor).history ∷ []) ≡ Opened (0 ∷ [])
-        counts true = refl
-        counts false = refl
+    opens (inl (joins, own, (replied, out, is))) = (out, inl (replied ∙ ap (λ (a : Actor E). Opened (length a.history ∷ [])) (nothing_new joins), is ∙ same joins (asking header (Some header))))
     opens (inr (inl (own, (replied, out, is)))) = (out, inr (None, inl refl, replied, is ∙ down (asking header None)))
     opens (inr (inr (inl (others, rest)))) = absurd (not_anothers header others)
     opens (inr (inr (inr (none, (replied, out, is))))) = (out, inr (Some header, inr refl, replied, is ∙ down (asking header (Some header))))
