@@ -300,7 +300,7 @@ module _ {D : Type 0} (told : D → Told) (out out1 : ℕ → Bool) (has has1 : 
                 let holds : ℕ → PlainDisk KeptEntry = put cell.others volume (plain_shelf shelf).disk in
                 let here : (plain_shelf shelf).disk ≡ holds volume = sym (ap (λ (b : Bool). cond b (plain_shelf shelf).disk (cell.others volume)) (eq-eqb volume volume refl)) in
                 let at : takes.0 disk ≡ on_disk true (holds volume) (plain_replica volume next (asking_elsewhere asked shelf.given)) =
-                (λ i. record { disk = same i; life = step.2 i; left = step.3 i }) ∙ (λ i. record { disk = record (here i) { header = shelf.given }; life = Down asked; left = None }) in
+                (λ i. record { disk = same i; life = step.2 i; left = step.3 i }) ∙ (λ i. record { disk = here i; life = Down asked; left = None }) in
                 record {
                   outside = [];
                   left = volume_elsewhere cell shelf volume server area;

@@ -44,7 +44,7 @@ use Rattle.coda_site.specs.declared.site.Site.{Site}
 use Rattle.coda_site.specs.declared.site.Place.{Place}
 use Rattle.coda_site.proofs.ClientLines.{names_there, asked_by}
 use Rattle.coda_site.proofs.ReplicaSites.{with_ruler, with_replicas, ruler_here, home_is, place_is, apart_in}
-use Rattle.coda_site.proofs.Standings.{stood, life_stands, left_stands, header_stands, disk_stands, own_standing, decided_none, never_given}
+use Rattle.coda_site.proofs.Standings.{stood, life_stands, left_stands, on_anothers, disk_stands, own_standing, decided_none, never_given}
 
 -- a bay that nothing was done to
 pub as_is : (of out : ℕ → Bool) (has : ℕ → Told) → LeavesBe of out out has has
@@ -213,7 +213,8 @@ module _ {D : Type 0} (told : D → Told) (out out1 : ℕ → Bool) (has has1 : 
       by : (b : Bool) → side.foreign ≡ b → (joins : Bool) × (new.history ≡ journal_at volume (recovered joins actor).history)
       by false e = found_at header volume side.given actor new (subst (λ (p : PlainActor KeptEntry). Joins header p.disk new) (own_standing cell server volume e) joined)
       by true e = elim joined.was [
-        | inl given ↦ absurd (never_given side header seen_there.1 e asks (sym (header_stands side.foreign (cell.others volume) (plain_replica volume actor side)) ∙ given))
+        | inl given ↦ absurd (never_given cell volume header (kept.others volume) e asks
+            (sym (ap (λ (d : PlainDisk KeptEntry). d.header) (on_anothers side.foreign (cell.others volume) (plain_replica volume actor side) e)) ∙ given))
         | inr none ↦ (false, none.1 ∙ ap (journal_at volume) (sym (none_decided e)))
       ]
 

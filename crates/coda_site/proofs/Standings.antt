@@ -8,7 +8,7 @@ use Rattle.coda_plain.specs.Decisions.{ReplicaEntry}
 use Rattle.coda_record.specs.declared.entry.ReplicaEntry.{ReplicaEntry as KeptEntry}
 use Rattle.coda_stored.specs.Cells.{Side, StoredCell, plain_replica, on_disk, standing, IsAnothers}
 use Rattle.coda_stored.specs.Kept.{IsGiven}
-use Rattle.coda_stored.specs.Seen.{own_given, own_client, own_replica, IsReplicaSeen, IsBeside}
+use Rattle.coda_stored.specs.Seen.{own_given, own_client, own_replica, IsReplicaSeen, AreOthersBeside}
 
 -- the replica of a volume as this actor, with this known of its disk, which holds what the cell says where it is another's
 abbrev pub stood : StoredCell → ℕ → Actor ReplicaEntry → Side → PlainActor KeptEntry
@@ -28,15 +28,15 @@ pub left_stands : {Entry : Type 0} (b : Bool) (other : PlainDisk Entry) (actor :
 left_stands false other actor = refl
 left_stands true other actor = refl
 
-pub header_stands : {Entry : Type 0} (b : Bool) (other : PlainDisk Entry) (actor : PlainActor Entry) → (on_disk b other actor).disk.header ≡ actor.disk.header
-header_stands false other actor = refl
-header_stands true other actor = refl
+pub on_anothers : {Entry : Type 0} (b : Bool) (other : PlainDisk Entry) (actor : PlainActor Entry) → b ≡ true → (on_disk b other actor).disk ≡ other
+on_anothers true other actor e = refl
+on_anothers false other actor e = absurd (false≢true e)
 
 -- what is known of a disk that is as it was
 pub disk_stands : {Entry : Type 0} (b : Bool) (other : PlainDisk Entry) (old new : PlainActor Entry) → new.disk ≡ old.disk
     → on_disk b other new ≡ record { disk = (on_disk b other old).disk; life = new.life; left = new.left }
 disk_stands false other old new same = λ i. record { disk = same i; life = new.life; left = new.left }
-disk_stands true other old new same = λ i. record { disk = record other { header = (same i).header }; life = new.life; left = new.left }
+disk_stands true other old new same = refl
 
 -- the replica of a volume that has its own disk
 pub own_standing : (cell : StoredCell) (server volume : ℕ) → (cell.replicas volume).foreign ≡ false → standing cell server volume ≡ plain_replica volume (cell.made.acted.replicas server volume) (cell.replicas volume)
@@ -63,8 +63,9 @@ up_is_own volume server actors side seen up = by side.foreign refl
     by true e = absurd (false≢true (sym (decided_none volume server actors side seen e).2 ∙ up))
 
 -- a disk that is another's wasn't given the header that its actor asks for
-pub never_given : (side : Side) (header : Header) → IsBeside side → side.foreign ≡ true → side.asked ≡ Some header → side.given ≡ Some header → ⊥
-never_given side header beside e asks given =
+pub never_given : (cell : StoredCell) (volume : ℕ) (header : Header) → AreOthersBeside cell volume → (cell.replicas volume).foreign ≡ true → (cell.replicas volume).asked ≡ Some header
+    → (cell.others volume).header ≡ Some header → ⊥
+never_given cell volume header beside e asks given =
     let b = beside e in
     let one : Some b.0 ≡ Some header = sym b.1 ∙ asks in
     let other : Some b.2.0 ≡ Some header = sym b.2.1 ∙ given in

@@ -84,10 +84,10 @@ plain_replica volume actor side = record {
   left = side.left;
 }
 
--- the same actor on a disk that is another's: it has the header that is known of it, and holds what it held
+-- the same actor on a disk that is another's
 abbrev pub on_disk : {Entry : Type 0} → Bool → PlainDisk Entry → PlainActor Entry → PlainActor Entry
 on_disk false other actor = actor
-on_disk true other actor = record actor { disk = record other { header = actor.disk.header } }
+on_disk true other actor = record actor { disk = other }
 
 -- the replica of a volume that was made, on its disk or on that of another
 abbrev pub standing : StoredCell → ℕ → ℕ → PlainActor KeptEntry
