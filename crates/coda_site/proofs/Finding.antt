@@ -216,12 +216,12 @@ module _ {D : Type 0} (told : D → Told) (out out1 : ℕ → Bool) (has has1 : 
   old_is = idle_is told out out1 has has1 cell seen site is ready volume server area slots be ∙ shelved.there
 
   module _ (is_noted : IsNoted site volume (record { server = server; disk = disk }) noted) where
-    made_volume : (next : Actor ReplicaEntry) (known : Side) (held : ℕ → PlainDisk KeptEntry) (new : ℕ → PlainActor KeptEntry) → ((v : ℕ) → v ≢ volume → held v ≡ cell.others v)
-        → FitsAll (replica_form told) told is_replica_disk out1 has1 slots new → new disk ≡ on_disk known.foreign (held volume) (plain_replica volume next known)
-        → ((k : ℕ) → k ≢ disk → new k ≡ plain k) → IsSite told out1 has1 (record (making_volume cell volume server area next known) { others = held }) (record noted { replicas = slots; areas = noted.areas + area })
-    made_volume next known held new holds fits at else =
+    made_volume : (next : Actor ReplicaEntry) (known : Side) (lies : ℕ → PlainDisk KeptEntry) (new : ℕ → PlainActor KeptEntry) → ((v : ℕ) → v ≢ volume → lies v ≡ cell.others v)
+        → FitsAll (replica_form told) told is_replica_disk out1 has1 slots new → new disk ≡ on_disk known.foreign (lies volume) (plain_replica volume next known)
+        → ((k : ℕ) → k ≢ disk → new k ≡ plain k) → IsSite told out1 has1 (record (making_volume cell volume server area next known) { others = lies }) (record noted { replicas = slots; areas = noted.areas + area })
+    made_volume next known lies new holds fits at else =
         made_site told out out1 has has1 cell site is volume server area absent slots be noted (apart told out out1 has has1 cell seen site is ready volume server area slots be) is_noted known next
-        (with_replica_as cell server volume next).made.acted.replicas held new (ruler_here cell server volume next)
+        (with_replica_as cell server volume next).made.acted.replicas lies new (ruler_here cell server volume next)
         (λ s v other. λ i. cond (and_right (s == server) (v == volume) (ne_eqb v volume other) i) next (cell.made.acted.replicas s v)) holds fits at else
 
     -- the same on its own disk
@@ -263,8 +263,8 @@ module _ {D : Type 0} (told : D → Told) (out out1 : ℕ → Bool) (has has1 : 
         }
 
     -- A disk that was given no header holds nothing: whatever volume it is of, no entry is on it, and no append failed.
-    blank_shelf : (mounting : Mounting) → VolumeOpening mounting → shelf.given ≡ None → (held.history ≡ []) × ((v : ℕ) → failed_at v held ≡ None)
-    blank_shelf mounting takes none =
+    blank_shelf : shelf.given ≡ None → (held.history ≡ []) × ((v : ℕ) → failed_at v held ≡ None)
+    blank_shelf none =
         let fits = subst (Fits (replica_form told) told (out disk) (has disk) (slot_at site.replicas disk)) old_is (is.replicas.2 disk (replica_number (length cell.made.servers) server)) in
         let lawful = lawful_unmade (replica_form told) told (out disk) (has disk) (slot_at site.replicas disk) (plain_shelf shelf) fits refl in
         let nothing : (journal_at shelf.volume held.history ≡ []) × (failed_at shelf.volume held ≡ None) =
@@ -274,11 +274,11 @@ module _ {D : Type 0} (told : D → Told) (out out1 : ℕ → Bool) (has has1 : 
         )
 
     -- what it holds, it holds of the volume, if it was given no other header
-    own_disk : (mounting : Mounting) → VolumeOpening mounting → IsNoOthers asked shelf.given → (plain_shelf shelf).disk ≡ (plain_replica volume (crashed held) (asking asked shelf.given)).disk
-    own_disk mounting takes (inl none) =
-        let b = blank_shelf mounting takes none in
+    own_disk : IsNoOthers asked shelf.given → (plain_shelf shelf).disk ≡ (plain_replica volume (crashed held) (asking asked shelf.given)).disk
+    own_disk (inl none) =
+        let b = blank_shelf none in
         λ i. record { header = shelf.given; history = (ap (journal_at shelf.volume) b.0 ∙ sym (ap (journal_at volume) b.0)) i; failed = (b.1 shelf.volume ∙ sym (b.1 volume)) i }
-    own_disk mounting takes (inr given) = ap (λ (v : ℕ). (plain_replica v held (asking asked shelf.given)).disk) (sym (shelved.named asked given))
+    own_disk (inr given) = ap (λ (v : ℕ). (plain_replica v held (asking asked shelf.given)).disk) (sym (shelved.named asked given))
 
     fault_found : (reply : Reply) (answered : List (List ℕ)) (new : Site D) → SaysOpened DiskFault reply → VolumeOpening DiskFault → new ≡ record noted { replicas = slots; areas = noted.areas + area } → Found reply answered new
     fault_found reply answered new says takes made =
@@ -287,7 +287,7 @@ module _ {D : Type 0} (told : D → Told) (out out1 : ℕ → Bool) (has has1 : 
           | inl same ↦ elim (given_judged asked shelf.given) [
             | inl own ↦ (
                 let next = crashed held in
-                let at : takes.0 disk ≡ plain_replica volume next (asking asked shelf.given) = λ i. record { disk = (same ∙ own_disk DiskFault takes own) i; life = step.2 i; left = step.3 i } in
+                let at : takes.0 disk ≡ plain_replica volume next (asking asked shelf.given) = λ i. record { disk = (same ∙ own_disk own) i; life = step.2 i; left = step.3 i } in
                 record {
                   outside = [];
                   left = making_volume cell volume server area next (asking asked shelf.given);

@@ -6,7 +6,7 @@ use Rattle.coda_actors.specs.Plain.{PlainDisk, PlainActor}
 use Rattle.coda_plain.specs.Cell.{ClientEntry, Actor}
 use Rattle.coda_plain.specs.Decisions.{ReplicaEntry}
 use Rattle.coda_record.specs.declared.entry.ReplicaEntry.{ReplicaEntry as KeptEntry}
-use Rattle.coda_stored.specs.Cells.{Side, StoredCell, plain_replica, on_disk, standing, IsAnothers}
+use Rattle.coda_stored.specs.Cells.{Side, StoredCell, plain_replica, on_disk, standing, IsAnothers, replica_header}
 use Rattle.coda_stored.specs.Kept.{IsGiven}
 use Rattle.coda_stored.specs.Seen.{own_given, own_client, own_replica, IsReplicaSeen, AreOthersBeside}
 
@@ -53,7 +53,7 @@ own_replica_is side own = λ i. record side { given = own_given (own i) None sid
 -- a replica whose own disk was never given a header decided nothing, and is down
 pub decided_none : (volume server : ℕ) (actors : ℕ → Actor ReplicaEntry) (side : Side) → IsReplicaSeen volume (Some server) actors side → side.foreign ≡ true
     → ((actors server).history ≡ []) × ((actors server).failed ≡ None) × ((actors server).up ≡ false)
-decided_none volume server actors side seen e = subst (λ (b : Bool). IsGiven (own_given b None side.given) _ (actors server)) e seen.0.6
+decided_none volume server actors side seen e = subst (λ (b : Bool). IsGiven (own_given b None side.given) (replica_header volume server seen.0.0) (actors server)) e seen.0.6
 
 pub up_is_own : (volume server : ℕ) (actors : ℕ → Actor ReplicaEntry) (side : Side) → IsReplicaSeen volume (Some server) actors side → (actors server).up ≡ true → side.foreign ≡ false
 up_is_own volume server actors side seen up = by side.foreign refl
