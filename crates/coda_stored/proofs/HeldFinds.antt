@@ -1,13 +1,14 @@
 -- A line finds the disk on which it makes an actor, where disks stand by themselves.
 use Rattle.std.proofs.Common.{◌≡◌, ◌≢◌, ◌⊎◌, ℕ, ◌==◌, ◌||◌, true, false, cond, List, [], ◌∷◌, length, Option, Some, None, is_some, refl, sym, ap, ◌∙◌, subst, inl, inr, arith}
-use Rattle.std.proofs.lemmas.Bool.{eqb-true, eq-eqb, ne_eqb, cases_eq}
+use Rattle.std.proofs.lemmas.Bool.{eqb-true, eqb-false, eq-eqb, ne_eqb, cases_eq}
 use Rattle.std.specs.Option.{option_and_then}
-use Rattle.coda_actors.specs.Plain.{Unmade}
+use Rattle.coda_actors.specs.Plain.{PlainDisk, PlainActor, Unmade}
 use Rattle.coda_journal.specs.declared.header.Header.{Header}
 use Rattle.coda_plain.specs.Cell.{ClientEntry, Actor, found}
 use Rattle.coda_plain.specs.Decisions.{ReplicaEntry}
 use Rattle.coda_plain.specs.Elsewhere.{DoesFit}
 use Rattle.coda_plain.specs.Logs.{BeginsWith}
+use Rattle.coda_record.specs.declared.entry.ReplicaEntry.{ReplicaEntry as KeptEntry}
 use Rattle.coda_script.specs.Ranges.{InRange}
 use Rattle.coda_script.specs.declared.line.Line.{Line}
 use Rattle.coda_script.specs.declared.line.Line.TheVariants as line
@@ -15,17 +16,16 @@ use Rattle.coda_script.specs.declared.reply.Reply.{Reply}
 use Rattle.coda_cell.specs.Steps.{alone}
 use Rattle.coda_matching.specs.Replicas.{entry_at, journal_at}
 use Rattle.coda_plain.specs.Moves.{crashed, recovered}
-use Rattle.coda_stored.specs.Cells.{Side, StoredCell, client_header, replica_header, disk_number, first_in}
-use Rattle.coda_stored.specs.Held.{IsShelfKept, AreClients, IsHeld, AreHomes, AreNamed, IsAnothers, IsForeignDisk, DoesFind, HeldCellsAreKept}
-use Rattle.coda_stored.specs.Kept.{IsCellKept}
-use Rattle.coda_stored.specs.Lines.{area_of, no_volume, refused_fault}
-use Rattle.coda_stored.specs.Mounted.{Shelf, plain_shelf, blank, Making, FindsDisk, making_client, making_volume, ClientFinds, VolumeFinds, IsShelved}
+use Rattle.coda_stored.specs.Cells.{Side, StoredCell, IsAnothers, client_header, replica_header, disk_number, first_in}
+use Rattle.coda_stored.specs.Held.{IsShelfKept, lying_disk, AreClients, IsHeld, AreHomes, AreNamed, DoesFind, HeldCellsAreKept}
+use Rattle.coda_stored.specs.Lines.{asking, MayTake, area_of, no_volume}
+use Rattle.coda_stored.specs.Mounted.{Shelf, plain_shelf, blank, Making, IsNoOthers, FindsDisk, asking_elsewhere, client_elsewhere, volume_elsewhere, making_client, making_volume, ClientFinds, VolumeFinds, IsShelved}
 use Rattle.coda_stored.specs.Resuming.{Awaited, ClientAgain, VolumeAgain, awaits_client, awaits_volume}
 use Rattle.coda_stored.specs.Seen.{asleep, home_unless, seen, mounts_none}
-use Rattle.coda_stored.proofs.Held.{shelf_stays, among, seen_among, given_asleep, held_lines, held_seen, held_promised}
+use Rattle.coda_stored.proofs.Held.{owned_behind, shelf_stays, among, seen_among, given_asleep, held_lines, held_seen, held_promised}
 use Rattle.coda_stored.proofs.HeldClients.{IsMadeOn as IsClientMade, client_finds}
 use Rattle.coda_stored.proofs.HeldFirst.{held_first, held_begun, clients_begin}
-use Rattle.coda_stored.proofs.HeldVolumes.{IsOwnShelf, volume_finds}
+use Rattle.coda_stored.proofs.HeldVolumes.{IsOwnShelf, IsMadeOn as IsVolumeMade, volume_finds}
 use Rattle.coda_stored.proofs.Keeping.{area_range, server_alone}
 use Rattle.coda_stored.proofs.Making.{not_there, is_none}
 use Rattle.coda_stored.proofs.Remaining.{same_entries}
@@ -66,16 +66,13 @@ without_else client other (ClientAgain number blocks area ∷ left) differs = el
 without_else client other (VolumeAgain volume server area ∷ left) differs = without_else client other left differs
 
 -- a client that is made among those that are seen is seen where it isn't awaited any more
-making_among : (cell : StoredCell) (left : List Awaited) (client blocks area : ℕ) (actor : Actor ClientEntry) (given : Option Header)
-    → making_client (among cell left) client blocks area actor given ≡ among (making_client cell client blocks area actor given) (without client left)
-making_among cell left client blocks area actor given = λ i. record (making_client cell client blocks area actor given) {
-  made = record (making_client cell client blocks area actor given).made { sizes = λ c. size_at c i };
+making_among : (cell : StoredCell) (left : List Awaited) (client blocks area : ℕ) (actor : Actor ClientEntry) (side : Side)
+    → making_client (among cell left) client blocks area actor side ≡ among (making_client cell client blocks area actor side) (without client left)
+making_among cell left client blocks area actor side = λ i. record (making_client cell client blocks area actor side) {
+  made = record (making_client cell client blocks area actor side).made { sizes = λ c. size_at c i };
   clients = λ c. side_at c i;
 }
   where
-    side : Side
-    side = record { given = given; asked = Some (client_header client blocks area); left = None }
-
     size_at : (c : ℕ) → cond (c == client) (Some blocks) (home_unless (awaits_client left c) (cell.made.sizes c)) ≡ home_unless (awaits_client (without client left) c) (cond (c == client) (Some blocks) (cell.made.sizes c))
     size_at c = elim (cases_eq c client) [
       | inl same ↦ ap (λ b. cond b (Some blocks) (home_unless (awaits_client left c) (cell.made.sizes c))) (eq-eqb c client same)
@@ -95,16 +92,18 @@ making_among cell left client blocks area actor given = λ i. record (making_cli
 -- ---- what is found is found in the cell behind
 
 -- a disk is found in a cell that is seen as it is in the one behind it, and nothing changes or the actor is seen there
-finds_behind : {E : Type 0} (header : Header) (given other : Option Header) (actor : Actor E) (make made : Making E) (old behind : StoredCell) (see : StoredCell → StoredCell) → given ≡ other
-    → ((a : Actor E) (g : Option Header) → make a g ≡ see (made a g)) → (reply : Reply) (outside : List (List ℕ)) (new : StoredCell) → FindsDisk header given actor make old reply outside new
-    → (new ≡ old) ⊎ ((mid : StoredCell) × FindsDisk header other actor made behind reply outside mid × (new ≡ see mid))
-finds_behind header given other actor make made old behind see same makes reply outside new (inl (at, differs, said)) = inl said.2
-finds_behind header given other actor make made old behind see same makes reply outside new (inr (inl (joins, own, said))) =
-    inr (made (recovered joins actor) (Some header), inr (inl (joins, subst (λ g. (g ≡ Some header) ⊎ ((recovered joins actor).history ≡ [])) same own, (said.0, said.1, refl))), said.2 ∙ makes (recovered joins actor) (Some header))
-finds_behind header given other actor make made old behind see same makes reply outside new (inr (inr (inl said))) =
-    inr (made (crashed actor) other, inr (inr (inl (said.0, said.1, refl))), said.2 ∙ ap (make (crashed actor)) same ∙ makes (crashed actor) other)
-finds_behind header given other actor make made old behind see same makes reply outside new (inr (inr (inr (nothing, said)))) =
-    inr (made (crashed (recovered false actor)) (Some header), inr (inr (inr (nothing, (said.0, said.1, refl)))), said.2 ∙ makes (crashed (recovered false actor)) (Some header))
+finds_behind : {E : Type 0} (header : Header) (given other : Option Header) (actor : Actor E) (make made : Making E) (beside elsewhere old behind : StoredCell) (see : StoredCell → StoredCell) → given ≡ other
+    → ((a : Actor E) (side : Side) → make a side ≡ see (made a side)) → beside ≡ see elsewhere → (reply : Reply) (outside : List (List ℕ)) (new : StoredCell) → FindsDisk header given actor make beside old reply outside new
+    → (new ≡ old) ⊎ ((mid : StoredCell) × FindsDisk header other actor made elsewhere behind reply outside mid × (new ≡ see mid))
+finds_behind header given other actor make made beside elsewhere old behind see same makes there reply outside new (inl (at, differs, said)) = inl said.2
+finds_behind header given other actor make made beside elsewhere old behind see same makes there reply outside new (inr (inl (joins, may, said))) =
+    inr (made (recovered joins actor) (asking header (Some header)), inr (inl (joins, subst (λ g. MayTake header g (recovered joins actor).history) same may, (said.0, said.1, refl))), said.2 ∙ makes (recovered joins actor) (asking header (Some header)))
+finds_behind header given other actor make made beside elsewhere old behind see same makes there reply outside new (inr (inr (inl (own, said)))) =
+    inr (made (crashed actor) (asking header other), inr (inr (inl (subst (IsNoOthers header) same own, (said.0, said.1, refl)))), said.2 ∙ ap (λ g. make (crashed actor) (asking header g)) same ∙ makes (crashed actor) (asking header other))
+finds_behind header given other actor make made beside elsewhere old behind see same makes there reply outside new (inr (inr (inr (inl (others, said))))) =
+    inr (elsewhere, inr (inr (inr (inl (subst (IsAnothers header) same others, (said.0, said.1, refl))))), said.2 ∙ there)
+finds_behind header given other actor make made beside elsewhere old behind see same makes there reply outside new (inr (inr (inr (inr (nothing, said))))) =
+    inr (made (crashed (recovered false actor)) (asking header (Some header)), inr (inr (inr (inr (nothing, (said.0, said.1, refl))))), said.2 ∙ makes (crashed (recovered false actor)) (asking header (Some header)))
 
 -- ---- what is named
 
@@ -129,34 +128,49 @@ module _ (old : StoredCell) (held : IsHeld old) (client blocks : ℕ) (area : Op
   old_is : old ≡ among held.behind held.left
   old_is = held.is ∙ seen_among held.behind held.left held.clients
 
+  given_is : (old.clients client).given ≡ (held.behind.clients client).given
+  given_is = ap (λ (c : StoredCell). (c.clients client).given) old_is ∙ given_asleep (awaits_client held.left client) (held.behind.clients client)
+
   -- the client's disk is what it is in the cell behind
   found_behind : (reply : Reply) (outside : List (List ℕ)) (new : StoredCell) → ClientFinds old client blocks size reply outside new
       → (new ≡ old) ⊎ ((mid : StoredCell) × ClientFinds held.behind client blocks size reply outside mid × (new ≡ among mid later))
   found_behind reply outside new finds = finds_behind (client_header client blocks size) (old.clients client).given (held.behind.clients client).given (held.behind.made.acted.clients client)
-      (making_client old client blocks size) (making_client held.behind client blocks size) old held.behind (λ cell. among cell later)
-      (ap (λ (c : StoredCell). (c.clients client).given) old_is ∙ given_asleep (awaits_client held.left client) (held.behind.clients client))
-      (λ a g. ap (λ (c : StoredCell). making_client c client blocks size a g) old_is ∙ making_among held.behind held.left client blocks size a g) reply outside new
-      (subst (λ (a : Actor ClientEntry). FindsDisk (client_header client blocks size) (old.clients client).given a (making_client old client blocks size) old reply outside new)
+      (making_client old client blocks size) (making_client held.behind client blocks size) (client_elsewhere old client blocks size) (client_elsewhere held.behind client blocks size) old held.behind (λ cell. among cell later) given_is
+      (λ a s. ap (λ (c : StoredCell). making_client c client blocks size a s) old_is ∙ making_among held.behind held.left client blocks size a s)
+      (ap (λ (c : StoredCell). client_elsewhere c client blocks size) old_is
+      ∙ ap (λ g. making_client (among held.behind held.left) client blocks size (crashed (held.behind.made.acted.clients client)) (asking_elsewhere (client_header client blocks size) g)) (given_asleep (awaits_client held.left client) (held.behind.clients client))
+      ∙ making_among held.behind held.left client blocks size (crashed (held.behind.made.acted.clients client)) (asking_elsewhere (client_header client blocks size) (held.behind.clients client).given))
+      reply outside new
+      (subst (λ (a : Actor ClientEntry). FindsDisk (client_header client blocks size) (old.clients client).given a (making_client old client blocks size) (client_elsewhere old client blocks size) old reply outside new)
       (ap (λ (c : StoredCell). c.made.acted.clients client) old_is) finds)
 
+  abbrev OfClient : StoredCell → Type 0
+  OfClient mid = IsClientMade held.behind (owned_behind old held) client blocks size (area_range area range.2) range.0.0 (let few = range.0.1 in omega (arith, few)) range.1.0 range.1.1 mid
+
   -- a client that was made on its disk
-  made_held : (new mid : StoredCell) → new ≡ among mid later → IsClientMade held.behind held.kept client blocks size (area_range area range.2) range.0.0 (let few = range.0.1 in omega (arith, few)) range.1.0 range.1.1 mid → IsHeld new
+  made_held : (new mid : StoredCell) → new ≡ among mid later → OfClient mid → IsHeld new
   made_held new mid is made = record {
     behind = mid;
     left = later;
     clients = without_clients client held.left held.clients;
     is = is ∙ sym (seen_among mid later (without_clients client held.left held.clients));
-    kept = made.keeps;
-    shelves = λ number. shelf_stays held.behind mid number begins made.keeps (ap (λ (c : StoredCell). c.idle) made.is) (held.shelves number);
+    kept = made.keeps.kept;
+    clients_beside = made.keeps.beside.clients;
+    clients_down = made.keeps.beside.down;
+    replicas_beside = made.keeps.beside.replicas;
+    shelves = λ number. shelf_stays held.behind mid (held.behind.idle number) (mid.idle number) begins made.keeps.kept (ap (λ (c : StoredCell). c.idle number) made.is_made) (held.shelves number);
+    others = λ volume foreign. shelf_stays held.behind mid (lying_disk (held.behind.others volume)) (lying_disk (mid.others volume)) begins made.keeps.kept (ap (λ (c : StoredCell). lying_disk (c.others volume)) made.is_made)
+        (held.others volume (ap (λ (c : StoredCell). (c.replicas volume).foreign) (sym made.is_made) ∙ foreign));
     names = ClientAgain client blocks size ∷ held.names;
-    named = subst (λ (m : StoredCell). AreNamed m (ClientAgain client blocks size ∷ held.names)) (sym made.is) (record { clients = named_client; volumes = held.named.volumes; homes = homes_same held.behind (making_client held.behind client blocks size made.actor made.given) held.names refl held.named.homes });
+    named = subst (λ (m : StoredCell). AreNamed m (ClientAgain client blocks size ∷ held.names)) (sym made.is_made)
+        (record { clients = named_client; volumes = held.named.volumes; homes = homes_same held.behind (making_client held.behind client blocks size made.actor made.side) held.names refl held.named.homes });
   }
     where
       named_client : (c b : ℕ) → cond (c == client) (Some blocks) (held.behind.made.sizes c) ≡ Some b → ((c == client) || awaits_client held.names c) ≡ true
       named_client c b e = elim (c == client) as (λ x. cond x (Some blocks) (held.behind.made.sizes c) ≡ Some b → (x || awaits_client held.names c) ≡ true) [ true ↦ λ f. refl | false ↦ λ f. held.named.clients c b f ] e
 
       begins : (c : ℕ) → BeginsWith (mid.made.acted.clients c).history (held.behind.made.acted.clients c).history
-      begins c = subst (λ (m : StoredCell). BeginsWith (m.made.acted.clients c).history (held.behind.made.acted.clients c).history) (sym made.is)
+      begins c = subst (λ (m : StoredCell). BeginsWith (m.made.acted.clients c).history (held.behind.made.acted.clients c).history) (sym made.is_made)
           (elim (c == client) as (λ b. (c == client) ≡ b → BeginsWith (cond b made.actor (held.behind.made.acted.clients c)).history (held.behind.made.acted.clients c).history) [
             | true ↦ λ e. subst (λ n. BeginsWith made.actor.history (held.behind.made.acted.clients n).history) (sym (eqb-true c client e)) made.begins
             | false ↦ λ e. same_entries (held.behind.made.acted.clients c).history
@@ -169,24 +183,26 @@ module _ (old : StoredCell) (held : IsHeld old) (client blocks : ℕ) (area : Op
     clients = without_clients client held.left held.clients;
     is = is ∙ sym (seen_among held.behind later (without_clients client held.left held.clients));
     kept = held.kept;
+    clients_beside = held.clients_beside;
+    clients_down = held.clients_down;
+    replicas_beside = held.replicas_beside;
     shelves = held.shelves;
+    others = held.others;
     names = held.names;
     named = held.named;
   }
 
-  client_kept : (reply : Reply) (outside : List (List ℕ)) (new : StoredCell) → ClientFinds old client blocks size reply outside new
-      → IsHeld new ⊎ ((reply ≡ refused_fault) × IsForeignDisk old (blank 0) (line.Client client blocks area))
+  client_kept : (reply : Reply) (outside : List (List ℕ)) (new : StoredCell) → ClientFinds old client blocks size reply outside new → IsHeld new
   client_kept reply outside new finds = elim (found_behind reply outside new finds) [
-    | inl same ↦ inl (subst IsHeld (sym same) held)
-    | inr (mid, behind, is) ↦ elim (client_finds held.behind held.kept client blocks size (area_range area range.2) range.0.0 (let few = range.0.1 in omega (arith, few)) range.1.0 range.1.1 reply outside mid behind) [
-      | inl unchanged ↦ inl (unchanged_held new (is ∙ ap (λ (c : StoredCell). among c later) unchanged))
-      | inr (inl made) ↦ inl (made_held new mid is made)
-      | inr (inr (fault, another)) ↦ inr (fault, subst (λ g. IsAnothers (client_header client blocks size) g) (sym (ap (λ (c : StoredCell). (c.clients client).given) old_is ∙ given_asleep (awaits_client held.left client) (held.behind.clients client))) another)
+    | inl same ↦ subst IsHeld (sym same) held
+    | inr (mid, behind, is) ↦ elim (client_finds held.behind (owned_behind old held) client blocks size (area_range area range.2) range.0.0 (let few = range.0.1 in omega (arith, few)) range.1.0 range.1.1 reply outside mid behind) [
+      | inl unchanged ↦ unchanged_held new (is ∙ ap (λ (c : StoredCell). among c later) unchanged)
+      | inr made ↦ made_held new mid is made
     ]
   ]
 
   client_does_find : DoesFind old (line.Client client blocks area)
-  client_does_find = record { shelf = blank 0; holds = tt; kept = client_kept; others = λ no. absurd no }
+  client_does_find = record { shelf = blank 0; holds = tt; kept = client_kept }
 
 -- ---- volumes
 
@@ -226,41 +242,31 @@ module _ (old : StoredCell) (held : IsHeld old) (volume : ℕ) (servers : List �
   none_home = sym (ap (λ (c : StoredCell). c.made.homes volume) old_among) ∙ is_none (old.made.homes volume) (not_there (is_some (old.made.homes volume)) _ (none_refused (no_volume old volume mebibytes) mounts))
 
   -- the next disk of the server
-  base : IsShelfKept held.behind (disk_number (length held.behind.made.servers) server)
+  base : IsShelfKept held.behind (held.behind.idle (disk_number (length held.behind.made.servers) server))
   base = held.shelves (disk_number (length held.behind.made.servers) server)
 
   base_there : old.idle (disk_number (length old.made.servers) server) ≡ plain_shelf base.shelf
   base_there = ap (λ (c : StoredCell). c.idle (disk_number (length c.made.servers) server)) old_among ∙ base.there
 
   abbrev IsOwn : Shelf → Type 0
-  IsOwn shelf = IsOwnShelf held.behind held.kept volume server mebibytes none_home (area_range area range.2) range.0.0 (server_alone servers range.1).0 (server_alone servers range.1).1 shelf
+  IsOwn shelf = IsOwnShelf held.behind (owned_behind old held) volume server mebibytes none_home (area_range area range.2) range.0.0 (server_alone servers range.1).0 (server_alone servers range.1).1 shelf
 
   -- what stands there, as it is for the volume that is made
   record IsNextShelf : Type 0 where
     shelf : Shelf
     holds : IsShelved old server shelf
     own : IsOwn shelf
-    others : (shelf.volume ≡ volume → ⊥) → IsAnothers header shelf.given
+
+  -- the disk stays as it is where it is another's
+  base_lies : (shelf : Shelf) → plain_shelf shelf ≡ plain_shelf base.shelf → IsShelfKept held.behind (lying_disk (plain_shelf shelf).disk)
+  base_lies shelf same = record { shelf = base.shelf; server = base.server; there = ap (λ (p : PlainActor KeptEntry). lying_disk p.disk) same; labelled = base.labelled; alone = base.alone; fits = base.fits }
 
   blank_next : base.shelf.given ≡ None → base.shelf.actor.history ≡ [] → base.shelf.actor.failed ≡ None → IsNextShelf
   blank_next given history failed = record {
     shelf = blank volume;
     holds = record { there = base_there ∙ blank_plain base.shelf volume given history failed; named = λ h e. cc; alone = λ entry i. absurd i };
-    own = record { alone = λ entry i. absurd i; empty = λ e. (refl, refl); fits = λ e joins. cc; judged = inl (inl refl) };
-    others = λ differs. absurd (differs refl);
+    own = record { alone = λ entry i. absurd i; empty = λ e. (refl, refl); fits = λ e joins. cc; lies = base_lies (blank volume) (sym (blank_plain base.shelf volume given history failed)) };
   }
-
-  label_judged : (area_there : ℕ) → base.shelf.given ≡ Some (replica_header base.shelf.volume base.server area_there) → ((base.shelf.given ≡ None) ⊎ (base.shelf.given ≡ Some header)) ⊎ IsAnothers header base.shelf.given
-  label_judged area_there given = elim (cases_eq base.shelf.volume volume) [
-    | inl v ↦ elim (cases_eq base.server server) [
-      | inl s ↦ elim (cases_eq area_there mebibytes) [
-        | inl a ↦ inl (inr (given ∙ (λ i. Some (replica_header (v i) (s i) (a i)))))
-        | inr off ↦ inr (replica_header base.shelf.volume base.server area_there, given, λ e. off (ap (λ (h : Header). h.area) e))
-      ]
-      | inr off ↦ inr (replica_header base.shelf.volume base.server area_there, given, λ e. off (ap (λ (h : Header). h.server) e))
-    ]
-    | inr off ↦ inr (replica_header base.shelf.volume base.server area_there, given, λ e. off (ap (λ (h : Header). h.number) e))
-  ]
 
   labelled_next : (area_there : ℕ) → base.shelf.given ≡ Some (replica_header base.shelf.volume base.server area_there) → IsNextShelf
   labelled_next area_there given = record {
@@ -273,9 +279,8 @@ module _ (old : StoredCell) (held : IsHeld old) (volume : ℕ) (servers : List �
           let same = header_is header e in
           subst (λ n. DoesFit (λ client. (held.behind.made.acted.clients client).history) n volume (found joins base.shelf.actor)) (sym (ap (λ (k : Header). k.server) same))
           (subst (λ n. DoesFit (λ client. (held.behind.made.acted.clients client).history) base.server n (found joins base.shelf.actor)) (sym (ap (λ (k : Header). k.number) same)) (base.fits joins));
-      judged = label_judged area_there given;
+      lies = base_lies base.shelf refl;
     };
-    others = λ differs. (replica_header base.shelf.volume base.server area_there, given, λ e. differs (ap (λ (h : Header). h.number) e));
   }
     where
       header_is : (h : Header) → base.shelf.given ≡ Some h → h ≡ replica_header base.shelf.volume base.server area_there
@@ -286,48 +291,67 @@ module _ (old : StoredCell) (held : IsHeld old) (volume : ℕ) (servers : List �
 
   volume_behind : (shelf : Shelf) (reply : Reply) (outside : List (List ℕ)) (new : StoredCell) → VolumeFinds old shelf volume server mebibytes reply outside new
       → (new ≡ old) ⊎ ((mid : StoredCell) × VolumeFinds held.behind shelf volume server mebibytes reply outside mid × (new ≡ among mid held.left))
-  volume_behind shelf reply outside new finds = finds_behind header shelf.given shelf.given shelf.actor (making_volume old volume server mebibytes) (making_volume held.behind volume server mebibytes) old held.behind (λ cell. among cell held.left) refl
-      (λ a g. ap (λ (c : StoredCell). making_volume c volume server mebibytes a g) old_among) reply outside new finds
-
-  volume_held : (new mid : StoredCell) → new ≡ among mid held.left → IsCellKept mid → mid.idle ≡ held.behind.idle → mid.made.acted.clients ≡ held.behind.made.acted.clients → (names : List Awaited) → AreNamed mid names → IsHeld new
-  volume_held new mid is kept same clients names named = record {
-    behind = mid;
-    left = held.left;
-    clients = held.clients;
-    is = is ∙ sym (seen_among mid held.left held.clients);
-    kept = kept;
-    shelves = λ number. shelf_stays held.behind mid number (λ c. subst (λ (a : Actor ClientEntry). BeginsWith a.history (held.behind.made.acted.clients c).history) (sym (ap (λ (f : ℕ → Actor ClientEntry). f c) clients)) (same_entries (held.behind.made.acted.clients c).history))
-        kept same (held.shelves number);
-    names = names;
-    named = named;
-  }
+  volume_behind shelf reply outside new finds = finds_behind header shelf.given shelf.given shelf.actor (making_volume old volume server mebibytes) (making_volume held.behind volume server mebibytes)
+      (volume_elsewhere old shelf volume server mebibytes) (volume_elsewhere held.behind shelf volume server mebibytes) old held.behind (λ cell. among cell held.left) refl
+      (λ a s. ap (λ (c : StoredCell). making_volume c volume server mebibytes a s) old_among) (ap (λ (c : StoredCell). volume_elsewhere c shelf volume server mebibytes) old_among) reply outside new finds
 
   abbrev names_more : List Awaited
   names_more = VolumeAgain volume server mebibytes ∷ held.names
 
+  abbrev OfVolume : StoredCell → Type 0
+  OfVolume mid = IsVolumeMade held.behind (owned_behind old held) volume server mebibytes none_home (area_range area range.2) range.0.0 (server_alone servers range.1).0 (server_alone servers range.1).1 mid
+
   -- the volume is named too
-  named_more : (mid : StoredCell) (actor : Actor ReplicaEntry) (given : Option Header) → mid ≡ making_volume held.behind volume server mebibytes actor given → AreNamed mid names_more
-  named_more mid actor given is = subst (λ (m : StoredCell). AreNamed m names_more) (sym is) (record {
+  named_more : (actor : Actor ReplicaEntry) (side : Side) (others : ℕ → PlainDisk KeptEntry) → AreNamed (record (making_volume held.behind volume server mebibytes actor side) { others = others }) names_more
+  named_more actor side others = record {
     clients = held.named.clients;
     volumes = λ v s e. elim (v == volume) as (λ x. cond x (Some server) (held.behind.made.homes v) ≡ Some s → (x || awaits_volume held.names v) ≡ true) [ true ↦ λ f. refl | false ↦ λ f. held.named.volumes v s f ] e;
-    homes = (ap (λ b. cond b (Some server) (held.behind.made.homes volume)) (eq-eqb volume volume refl), homes_more held.behind (making_volume held.behind volume server mebibytes actor given) held.names (λ v s e. elsewhere v s e) held.named.homes);
-  })
+    homes = (ap (λ b. cond b (Some server) (held.behind.made.homes volume)) (eq-eqb volume volume refl), homes_more held.behind (record (making_volume held.behind volume server mebibytes actor side) { others = others }) held.names (λ v s e. elsewhere v s e) held.named.homes);
+  }
     where
       elsewhere : (v s : ℕ) → held.behind.made.homes v ≡ Some s → cond (v == volume) (Some server) (held.behind.made.homes v) ≡ Some s
       elsewhere v s e = ap (λ b. cond b (Some server) (held.behind.made.homes v)) (ne_eqb v volume (λ same. (let no : None ≡ Some s = sym none_home ∙ ap held.behind.made.homes (sym same) ∙ e in cc))) ∙ e
 
-  volume_kept : (shelf : Shelf) → IsOwn shelf → (reply : Reply) (outside : List (List ℕ)) (new : StoredCell) → VolumeFinds old shelf volume server mebibytes reply outside new → IsHeld new ⊎ ((reply ≡ refused_fault) × IsForeignDisk old shelf said)
+  unchanged : (new : StoredCell) → new ≡ among held.behind held.left → IsHeld new
+  unchanged new is = subst IsHeld (sym (is ∙ sym old_among)) held
+
+  volume_held : (new mid : StoredCell) → new ≡ among mid held.left → OfVolume mid → IsHeld new
+  volume_held new mid is made = record {
+    behind = mid;
+    left = held.left;
+    clients = held.clients;
+    is = is ∙ sym (seen_among mid held.left held.clients);
+    kept = made.keeps.kept;
+    clients_beside = made.keeps.beside.clients;
+    clients_down = made.keeps.beside.down;
+    replicas_beside = made.keeps.beside.replicas;
+    shelves = λ number. shelf_stays held.behind mid (held.behind.idle number) (mid.idle number) begins made.keeps.kept (ap (λ (c : StoredCell). c.idle number) made.is_made) (held.shelves number);
+    others = λ v foreign. shelf_stays held.behind mid (lying_disk (made.others v)) (lying_disk (mid.others v)) begins made.keeps.kept (ap (λ (c : StoredCell). lying_disk (c.others v)) made.is_made)
+        (lies v (ap (λ (c : StoredCell). (c.replicas v).foreign) (sym made.is_made) ∙ foreign));
+    names = names_more;
+    named = subst (λ (m : StoredCell). AreNamed m names_more) (sym made.is_made) (named_more made.actor made.side made.others);
+  }
+    where
+      begins : (c : ℕ) → BeginsWith (mid.made.acted.clients c).history (held.behind.made.acted.clients c).history
+      begins c = subst (λ (m : StoredCell). BeginsWith (m.made.acted.clients c).history (held.behind.made.acted.clients c).history) (sym made.is_made) (same_entries (held.behind.made.acted.clients c).history)
+
+      lies : (v : ℕ) → (cond (v == volume) made.side (held.behind.replicas v)).foreign ≡ true → IsShelfKept held.behind (lying_disk (made.others v))
+      lies v = elim (v == volume) as (λ b. (v == volume) ≡ b → (cond b made.side (held.behind.replicas v)).foreign ≡ true → IsShelfKept held.behind (lying_disk (made.others v))) [
+        | true ↦ λ e foreign. subst (λ n. IsShelfKept held.behind (lying_disk (made.others n))) (sym (eqb-true v volume e)) (made.here foreign)
+        | false ↦ λ e foreign. subst (λ (d : PlainDisk KeptEntry). IsShelfKept held.behind (lying_disk d)) (sym (made.else v (eqb-false v volume e))) (held.others v foreign)
+      ] refl
+
+  volume_kept : (shelf : Shelf) → IsOwn shelf → (reply : Reply) (outside : List (List ℕ)) (new : StoredCell) → VolumeFinds old shelf volume server mebibytes reply outside new → IsHeld new
   volume_kept shelf own reply outside new finds = elim (volume_behind shelf reply outside new finds) [
-    | inl same ↦ inl (subst IsHeld (sym same) held)
-    | inr (mid, behind, is) ↦ elim (volume_finds held.behind held.kept volume server mebibytes none_home (area_range area range.2) range.0.0 (server_alone servers range.1).0 (server_alone servers range.1).1 shelf own reply outside mid behind) [
-      | inl unchanged ↦ inl (volume_held new mid is (subst IsCellKept (sym unchanged) held.kept) (ap (λ (c : StoredCell). c.idle) unchanged) (ap (λ (c : StoredCell). c.made.acted.clients) unchanged) held.names (subst (λ (c : StoredCell). AreNamed c held.names) (sym unchanged) held.named))
-      | inr (inl made) ↦ inl (volume_held new mid is made.keeps (ap (λ (c : StoredCell). c.idle) made.is) (ap (λ (c : StoredCell). c.made.acted.clients) made.is) names_more (named_more mid made.actor made.given made.is))
-      | inr (inr (fault, another)) ↦ inr (fault, another)
+    | inl same ↦ subst IsHeld (sym same) held
+    | inr (mid, behind, is) ↦ elim (volume_finds held.behind (owned_behind old held) volume server mebibytes none_home (area_range area range.2) range.0.0 (server_alone servers range.1).0 (server_alone servers range.1).1 shelf own reply outside mid behind) [
+      | inl same ↦ unchanged new (is ∙ ap (λ (c : StoredCell). among c held.left) same)
+      | inr made ↦ volume_held new mid is made
     ]
   ]
 
   volume_does_find : DoesFind old said
-  volume_does_find = record { shelf = next.shelf; holds = next.holds; kept = volume_kept next.shelf next.own; others = next.others }
+  volume_does_find = record { shelf = next.shelf; holds = next.holds; kept = volume_kept next.shelf next.own }
 
 -- ---- every line that makes an actor
 

@@ -214,10 +214,10 @@ other_actor : (cell : StoredCell) (client : ℕ) (actor : Actor ClientEntry) (c 
 other_actor cell client actor c other = ap (λ b. cond b actor (cell.made.acted.clients c)) (ne_eqb c client other)
 
 -- its own disk is no other's
-no_other : (side : Side) → side.foreign ≡ false → IsBeside side
+pub no_other : (side : Side) → side.foreign ≡ false → IsBeside side
 no_other side own e = (let no : false ≡ true = sym own ∙ e in cc)
 
-never : {A : Type 0} (side : Side) → side.foreign ≡ false → side.foreign ≡ true → A
+pub never : {A : Type 0} (side : Side) → side.foreign ≡ false → side.foreign ≡ true → A
 never side own e = (let no : false ≡ true = sym own ∙ e in cc)
 
 -- ---- lines
@@ -414,8 +414,8 @@ module _ (old : StoredCell) (is : IsOwned old) (reply : Reply) (outside : List (
   owned_up _ range down does = absurd does.1.does
 
   owned_by : (said : Line) (b : Bool) → is_down_for old said ≡ b → InRange said → UnlessDown b old (DoesUp old said) reply outside new → IsOwned new
-  owned_by said true down range none does = stays_owned does.2
-  owned_by said false down range none does = owned_up said range down does
+  owned_by said true down range does = stays_owned does.2
+  owned_by said false down range does = owned_up said range down does
 
 pub line_owned : (old new : StoredCell) (said : Line) (reply : Reply) (outside : List (List ℕ)) → IsOwned old → InRange said → Happens old said reply outside new → IsOwned new
 line_owned old new said reply outside is range does = owned_by old is reply outside new said (is_down_for old said) refl range does
