@@ -3,12 +3,12 @@ use Rattle.std.proofs.Common.{◌≡◌, ℕ, Bool, true, false, List, [], Optio
 use Rattle.std.proofs.lemmas.Bool.{false≢true}
 use Rattle.coda_journal.specs.declared.header.Header.{Header}
 use Rattle.coda_actors.specs.Plain.{PlainDisk, PlainActor}
-use Rattle.coda_plain.specs.Cell.{ClientEntry, Actor}
+use Rattle.coda_plain.specs.Cell.{Actor}
 use Rattle.coda_plain.specs.Decisions.{ReplicaEntry}
 use Rattle.coda_record.specs.declared.entry.ReplicaEntry.{ReplicaEntry as KeptEntry}
 use Rattle.coda_stored.specs.Cells.{Side, StoredCell, plain_replica, on_disk, standing, IsAnothers, replica_header}
 use Rattle.coda_stored.specs.Kept.{IsGiven}
-use Rattle.coda_stored.specs.Seen.{own_given, own_client, own_replica, IsReplicaSeen, AreOthersBeside}
+use Rattle.coda_stored.specs.Seen.{own_given, IsReplicaSeen, AreOthersBeside}
 
 -- the replica of a volume as this actor, with this known of its disk, which holds what the cell says where it is another's
 abbrev pub stood : StoredCell → ℕ → Actor ReplicaEntry → Side → PlainActor KeptEntry
@@ -43,12 +43,6 @@ pub own_standing : (cell : StoredCell) (server volume : ℕ) → (cell.replicas 
 own_standing cell server volume own = on_own (cell.replicas volume).foreign (cell.others volume) (plain_replica volume (cell.made.acted.replicas server volume) (cell.replicas volume)) own
 
 -- ---- whose disk it is
-
-pub own_client_is : (side : Side) → side.foreign ≡ false → own_client side ≡ side
-own_client_is side own = λ i. record side { given = own_given (own i) side.asked side.given; foreign = sym own i }
-
-pub own_replica_is : (side : Side) → side.foreign ≡ false → own_replica side ≡ side
-own_replica_is side own = λ i. record side { given = own_given (own i) None side.given; foreign = sym own i }
 
 -- a replica whose own disk was never given a header decided nothing, and is down
 pub decided_none : (volume server : ℕ) (actors : ℕ → Actor ReplicaEntry) (side : Side) → IsReplicaSeen volume (Some server) actors side → side.foreign ≡ true
