@@ -207,8 +207,8 @@ found_by header given actor new j = elim j.history [
 -- whoever is found on a disk may take it
 pub may_take : (header : Header) (given : Option Header) (old new : List Payload) (history : List ClientEntry) → (given ≡ Some header) ⊎ ((old ≡ []) × (new ≡ [])) → new ≡ journal_by history
     → (left : List ClientEntry) → left ≡ history → MayTake header given left
-may_take header given old new history (inl same) found left as = inl same
-may_take header given old new history (inr none) found left as = inr (as ∙ nil_mapped payload_by history (sym found ∙ none.1))
+may_take header given old new history (inl same) found left so = inl same
+may_take header given old new history (inr none) found left so = inr (so ∙ nil_mapped payload_by history (sym found ∙ none.1))
 
 module _ {D : Type 0} (told : D → Told) (out : ℕ → Bool) (has : ℕ → Told) (cell : StoredCell) (kept : IsSeen cell) (site : Site D) (is : IsSite told out has cell site) (n : ℕ) (there : first_missing (client_named (state_of cell.made) n ∷ []) ≡ None)
     (slots : BTreeMap ℕ (Slot (Venus D) D)) (answered : List (List ℕ)) where

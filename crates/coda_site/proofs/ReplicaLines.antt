@@ -86,16 +86,16 @@ found_at header volume given actor new j = elim j.history [
 pub none_failed_at : (volume other : ℕ) (actor : Actor ReplicaEntry) → failed_at other actor ≡ None → failed_at volume actor ≡ None
 none_failed_at volume other actor none = by actor.failed refl
   where
-    as : (v : ℕ) (failed : Option ReplicaEntry) → actor.failed ≡ failed → failed_at v actor ≡ failed_at v (record actor { failed = failed })
-    as v failed e = ap (λ (o : Option ReplicaEntry). failed_at v (record actor { failed = o })) e
+    where_failed : (v : ℕ) (failed : Option ReplicaEntry) → actor.failed ≡ failed → failed_at v actor ≡ failed_at v (record actor { failed = failed })
+    where_failed v failed e = ap (λ (o : Option ReplicaEntry). failed_at v (record actor { failed = o })) e
 
     by : (failed : Option ReplicaEntry) → actor.failed ≡ failed → failed_at volume actor ≡ None
-    by None e = as volume None e
+    by None e = where_failed volume None e
     by (Some (Decided client number span)) e =
         let one = one_kept other actor.history (Decided client number span) tt in
-        let no : Some one.0 ≡ None = sym (ap first_in one.1) ∙ sym (as other (Some (Decided client number span)) e) ∙ none in
+        let no : Some one.0 ≡ None = sym (ap first_in one.1) ∙ sym (where_failed other (Some (Decided client number span)) e) ∙ none in
         cc
-    by (Some (Resolved nodes lasts)) e = as volume (Some (Resolved nodes lasts)) e
+    by (Some (Resolved nodes lasts)) e = where_failed volume (Some (Resolved nodes lasts)) e
 
 -- what joins was there
 pub joined_in : (actor : Actor ReplicaEntry) (joins : Bool) (entry : ReplicaEntry) → ((e : ReplicaEntry) → In e (found true actor) → IsDecision e) → In entry (found joins actor) → IsDecision entry
