@@ -1,5 +1,5 @@
 -- Lines that crash clients, recover them, or let their disks fail.
-use Rattle.std.proofs.Common.{◌≡◌, ◌≢◌, inl, inr, ℕ, ◌==◌, Bool, true, false, cond, List, [], ◌∷◌, ◌++◌, append-nil, map, length, Option, Some, None, IfSome, IfOk, Result, Ok, Err, refl, sym, ap, subst, ◌∙◌}
+use Rattle.std.proofs.Common.{◌≡◌, ◌≢◌, ◌⊎◌, inl, inr, ℕ, ◌==◌, Bool, true, false, cond, List, [], ◌∷◌, ◌++◌, append-nil, map, length, Option, Some, None, IfSome, IfOk, Result, Ok, Err, refl, sym, ap, subst, ◌∙◌}
 use Rattle.std.proofs.lemmas.Bool.{cases_eq, eq-eqb, ne_eqb}
 use Rattle.std.proofs.lemmas.List.{map-append, length-map}
 use Rattle.std.specs.Prelude.{not, get_or}
@@ -35,10 +35,10 @@ use Rattle.coda_cell.specs.Refusing.{refusal}
 use Rattle.coda_cell.specs.Refused.{Refused}
 use Rattle.coda_cell.specs.Refused.{NoSuchActor}
 use Rattle.coda_matching.specs.Clients.{journal_by, payload_by}
-use Rattle.coda_stored.specs.Cells.{Side, StoredCell, life_of, plain_client, client_header, moved}
+use Rattle.coda_stored.specs.Cells.{Side, StoredCell, life_of, plain_client, moved}
 use Rattle.coda_stored.specs.Kept.{IsGiven}
-use Rattle.coda_stored.specs.Seen.{IsClientSeen, IsSeen}
-use Rattle.coda_stored.specs.Lines.{client_down, MayHave, client_payloads, with_client_side, recovered_side, refused_fault, Becoming, Naming, Unless, CrashesClient, RecoversClient, Happens}
+use Rattle.coda_stored.specs.Seen.{IsSeen}
+use Rattle.coda_stored.specs.Lines.{client_down, MayHave, client_payloads, with_client_side, recovered_side, MayTake, refused_fault, refused_foreign, Becoming, Naming, Unless, CrashesClient, RecoversClient, Happens}
 use Rattle.coda_site.specs.Makings.{SaysRecovered}
 use Rattle.coda_site.specs.Sites.{is_client_disk, is_replica_disk, IsSite, IsReady, client_at}
 use Rattle.coda_site.specs.Steps.{Becomes}
@@ -125,6 +125,16 @@ module _ (cell : StoredCell) (n : ℕ) where
       at : (k : ℕ) → cond (k == n) b (cond (k == n) a (cell.made.acted.clients k)) ≡ cond (k == n) b (cell.made.acted.clients k)
       at k = elim (k == n) as (λ (x : Bool). cond x b (cond x a (cell.made.acted.clients k)) ≡ cond x b (cell.made.acted.clients k)) [ true ↦ refl | false ↦ refl ]
 
+-- a cell with the same known of the disk of a client
+pub client_side_same : (cell : StoredCell) (n : ℕ) → with_client_side cell n (cell.clients n) ≡ cell
+client_side_same cell n = λ i. record cell { clients = λ k. at k i }
+  where
+    at : (k : ℕ) → cond (k == n) (cell.clients n) (cell.clients k) ≡ cell.clients k
+    at k = elim (cases_eq k n) [
+      | inl e ↦ subst (λ (m : ℕ). cond (m == n) (cell.clients n) (cell.clients m) ≡ cell.clients m) (sym e) (side_here cell n (cell.clients n))
+      | inr other ↦ side_else cell n (cell.clients n) k other
+    ]
+
 -- the site with another client of this number, and with something else known of its disk
 pub client_site : {D : Type 0} (told : D → Told) (out out1 : ℕ → Bool) (has has1 : ℕ → Told) (cell : StoredCell) (site : Site D) (n : ℕ) (actor : Actor ClientEntry) (side : Side) (slots : BTreeMap ℕ (Slot (Venus D) D)) (new : ℕ → PlainActor Payload)
     → IsSite told out has cell site → LeavesBe is_replica_disk out out1 has has1 → FitsAll (client_form told) told is_client_disk out1 has1 slots new → new n ≡ plain_client actor side → ((k : ℕ) → k ≢ n → new k ≡ plain_clients cell k)
@@ -194,6 +204,12 @@ found_by header given actor new j = elim j.history [
       (true, more.2 ∙ ap (λ (p : Payload). journal_by actor.history ++ p ∷ []) e.2 ∙ sym (map-append payload_by actor.history (e.0 ∷ [])) ∙ ap (λ (o : Option ClientEntry). journal_by (joined_to actor.history true o)) (sym e.1)))
 ]
 
+-- whoever is found on a disk may take it
+pub may_take : (header : Header) (given : Option Header) (old new : List Payload) (history : List ClientEntry) → (given ≡ Some header) ⊎ ((old ≡ []) × (new ≡ [])) → new ≡ journal_by history
+    → (left : List ClientEntry) → left ≡ history → MayTake header given left
+may_take header given old new history (inl same) found left so = inl same
+may_take header given old new history (inr none) found left so = inr (so ∙ nil_mapped payload_by history (sym found ∙ none.1))
+
 module _ {D : Type 0} (told : D → Told) (out : ℕ → Bool) (has : ℕ → Told) (cell : StoredCell) (kept : IsSeen cell) (site : Site D) (is : IsSite told out has cell site) (n : ℕ) (there : first_missing (client_named (state_of cell.made) n ∷ []) ≡ None)
     (slots : BTreeMap ℕ (Slot (Venus D) D)) (answered : List (List ℕ)) where
   abbrev actor : Actor ClientEntry
@@ -238,7 +254,9 @@ module _ {D : Type 0} (told : D → Told) (out : ℕ → Bool) (has : ℕ → To
       step.2.1 ∙ ap length found.1 ∙ length-map next.history payload_by ∙ ap (λ (a : Actor ClientEntry). length a.history) (sym at) in
       let read : IfSome side.left (ReadsAs header (client_payloads ((moved cell (Recovers (TheClient n) joins)).made.acted.clients n).history)) =
       subst (λ (h : List Payload). IfSome side.left (ReadsAs header (payloads_of h))) (found.1 ∙ ap (λ (a : Actor ClientEntry). journal_by a.history) (sym at)) step.3 in
-      recovers (Recovered count) (with_client_side (moved cell (Recovers (TheClient n) joins)) n known) (refl, (header, asks, inl (joins, ap Recovered many, read, refl)))
+      let takes : MayTake header side.given ((moved cell (Recovers (TheClient n) joins)).made.acted.clients n).history = may_take header side.given (plain_clients cell n).disk.history (new n).disk.history next.history joined.was found.1
+          ((moved cell (Recovers (TheClient n) joins)).made.acted.clients n).history (ap (λ (a : Actor ClientEntry). a.history) at) in
+      recovers (Recovered count) (with_client_side (moved cell (Recovers (TheClient n) joins)) n known) (refl, (header, asks, inl (joins, ap Recovered many, read, refl, takes)))
       (client_site told out out has has cell site n next known slots new is leaves_be fits here else)
 
   -- a call of the disk failed
@@ -250,13 +268,12 @@ module _ {D : Type 0} (told : D → Told) (out : ℕ → Bool) (has : ℕ → To
       let life : (new n).life ≡ life_of side.asked false = step.4 ∙ ap (λ (o : Option Header). life_of o false) (sym asks) in
       elim step.2 [
         | inl same ↦ (
-            let known : Side = record side { given = side.given } in
             let mid = moved cell (Crashes (TheClient n)) in
-            let here : new n ≡ plain_client (crashed actor) known = (λ i. record { disk = same i; life = life i; left = step.5 i }) in
-            recovers refused_fault (with_client_side mid n known) (refl, (header, asks, inr (side.given, mid, inl (refl, refl), refl, refl)))
-            (client_site told out out has has cell site n (crashed actor) known slots new is leaves_be fits here else))
+            let here : new n ≡ plain_client (crashed actor) side = (λ i. record { disk = same i; life = life i; left = step.5 i }) in
+            recovers refused_fault (with_client_side mid n side) (refl, (header, asks, inr (inl (side, mid, inl (refl, refl), refl, refl))))
+            (client_site told out out has has cell site n (crashed actor) side slots new is leaves_be fits here else))
         | inr fresh ↦ (
-            let known : Side = record side { given = Some header } in
+            let known : Side = record side { given = Some header; foreign = false } in
             let mid = moved (moved cell (Recovers (TheClient n) false)) (Crashes (TheClient n)) in
             let empty = nil_mapped payload_by actor.history fresh.0 in
             let next = crashed (recovered false actor) in
@@ -264,23 +281,31 @@ module _ {D : Type 0} (told : D → Told) (out : ℕ → Bool) (has : ℕ → To
             ap (λ (a : Actor ClientEntry). with_actor (with_actor cell n (recovered false actor)) n (crashed a)) (client_at_here cell n (recovered false actor)) ∙ client_put_twice cell n (recovered false actor) next in
             let disk : (new n).disk ≡ (plain_client next known).disk = fresh.1 ∙ (λ i. record { header = Some header; history = sym fresh.0 i; failed = None }) in
             let here : new n ≡ plain_client next known = (λ i. record { disk = disk i; life = life i; left = step.5 i }) in
-            recovers refused_fault (with_client_side mid n known) (refl, (header, asks, inr (Some header, mid, inr (ap length empty, refl, refl), refl, refl)))
+            recovers refused_fault (with_client_side mid n known) (refl, (header, asks, inr (inl (known, mid, inr (ap length empty, refl, refl), refl, refl))))
             (subst (λ (c : StoredCell). IsSite told out has (with_client_side c n known) (with_clients site slots)) (sym mid_is)
             (client_site told out out has has cell site n next known slots new is leaves_be fits here else)))
       ]
 
-  given_of : (size : Option ℕ) (header : Header) → IsClientSeen n size actor side → side.asked ≡ Some header → (asked : Header) × (asked ≡ header) × IsGiven side.given asked actor
-  given_of None header known asks = (let no : Some header ≡ None = sym asks ∙ known in cc)
-  given_of (Some size) header known asks = (client_header n size known.0, (let e : Some (client_header n size known.0) ≡ Some header = sym known.6 ∙ asks in cc), known.7)
+  -- the disk is another's
+  refused_so : (at : ℕ) (new : ℕ → PlainActor Payload) → Step (client_form told) (plain_clients cell n) (RecoverDeed (Foreign at)) (new n) → ((k : ℕ) → k ≢ n → new k ≡ plain_clients cell k)
+      → FitsAll (client_form told) told is_client_disk out has slots new → Recovery (refused_foreign at)
+  refused_so at new step else fits =
+      let header = step.0 in
+      let asks = asked_by side.asked actor.up header step.1 in
+      let here : new n ≡ plain_client (crashed actor) side = (λ i. record {
+        disk = step.2.1 i;
+        life = (step.4 ∙ ap (λ (o : Option Header). life_of o false) (sym asks)) i;
+        left = step.5 i;
+      }) in
+      let left = moved cell (Crashes (TheClient n)) in
+      recovers (refused_foreign at) left (refl, (header, asks, inr (inr (at, step.2.0, refl, refl))))
+      (subst (λ (c : StoredCell). IsSite told out has c (with_clients site slots)) (client_side_same left n)
+      (client_site told out out has has cell site n (crashed actor) side slots new is leaves_be fits here else))
 
   pub recover_client_becomes : (mounting : Mounting) (reply : Reply) → SaysRecovered mounting reply → Takes (client_form told) told is_client_disk (plain_clients cell) n (RecoverDeed mounting) out has slots → Recovery reply
   recover_client_becomes (Entries count) reply says takes = subst Recovery (sym says) (mounted_so count takes.0 takes.1.0 takes.1.1 takes.2)
   recover_client_becomes DiskFault reply says takes = subst Recovery (sym says) (faulted_so takes.0 takes.1.0 takes.1.1 takes.2)
-  recover_client_becomes (Foreign at) reply says takes =
-      let step = takes.1.0 in
-      let asks = asked_by side.asked actor.up step.0 step.1 in
-      let given = given_of (cell.made.sizes n) step.0 (kept.clients n) asks in
-      absurd (never_foreign side.given step.0 given.0 at actor given.2 given.1 step.2.0)
+  recover_client_becomes (Foreign at) reply says takes = subst Recovery (sym says) (refused_so at takes.0 takes.1.0 takes.1.1 takes.2)
   recover_client_becomes Memory reply says takes = absurd says
 
   pub recover_client_returns : (mounting : Mounting) (result : Result Reply CellFault) → IfOk result (λ reply. SaysRecovered mounting reply) → Takes (client_form told) told is_client_disk (plain_clients cell) n (RecoverDeed mounting) out has slots → IfOk result (λ reply. Recovery reply)

@@ -58,8 +58,8 @@ unmade_asks (Some h) false is = cc
 
 -- the size of its cache that a client was made with, by the header that it asks for
 sized : (n : ℕ) (size : Option ℕ) (actor : Actor ClientEntry) (side : Side) (header : Header) → IsClientSeen n size actor side → side.asked ≡ Some header → (size ≡ Some header.cache) × (header.number ≡ n)
-sized n None actor side header is asks = (let no : Some header ≡ None = sym asks ∙ is in cc)
-sized n (Some size) actor side header is asks = (let same : client_header n size is.0 ≡ header = (let e : Some (client_header n size is.0) ≡ Some header = sym is.6 ∙ asks in cc) in
+sized n None actor side header is asks = (let no : Some header ≡ None = sym asks ∙ is.0 in cc)
+sized n (Some size) actor side header is asks = (let same : client_header n size is.0.0 ≡ header = (let e : Some (client_header n size is.0.0) ≡ Some header = sym is.0.6 ∙ asks in cc) in
     (ap (λ (h : Header). Some h.cache) same, sym (ap (λ (h : Header). h.number) same)))
 
 -- ---- the client that is up

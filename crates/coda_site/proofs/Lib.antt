@@ -7,6 +7,7 @@ pub mod Becomings
 pub mod Clocks
 pub mod Calls
 pub mod Slots
+pub mod Standings
 pub mod ReplicaSites
 pub mod SpelledOffers
 pub mod Offers

@@ -20,7 +20,7 @@ use Rattle.coda_venus.specs.declared.venus.Venus.{Venus}
 use Rattle.coda_cell.specs.State.{put}
 use Rattle.coda_stored.specs.Cells.{Side, StoredCell, plain_client, client_header, unmade, moved}
 use Rattle.coda_stored.specs.Kept.{IsStoredKept, IsClientSide}
-use Rattle.coda_stored.specs.Lines.{IsTried, Opens, with_client}
+use Rattle.coda_stored.specs.Lines.{IsTried, asking, Opens, with_client}
 use Rattle.coda_site.specs.Makings.{SaysOpened}
 use Rattle.coda_site.specs.Sites.{is_client_disk, is_replica_disk, IsSite}
 use Rattle.coda_site.specs.Steps.{Becomes}
@@ -97,7 +97,7 @@ module _ {D : Type 0} (told : D → Told) (out out1 : ℕ → Bool) (has has1 : 
       → Becomes told out1 has1 (Opens cell header (with_client cell n blocks area) (TheClient n)) reply answered answered (with_client_area site slots area)
   opens_client (Entries count) reply answered says takes =
       let step = subst (λ (p : PlainActor Payload). Step (client_form told) p (OpenDeed header (Entries count)) (takes.0 n)) old_is takes.1.0 in
-      let side : Side = record { given = Some header; asked = Some header; left = None } in
+      let side : Side = asking header (Some header) in
       let disk = none_found header (takes.0 n).disk step.1.0 in
       let here : takes.0 n ≡ plain_client actor side = (λ i. record { disk = disk i; life = step.2 i; left = step.3 i }) ∙ (λ i. plain_client (sym fresh.1 i) side) in
       let none : count ≡ 0 = step.1.1 ∙ ap (λ (d : PlainDisk Payload). length d.history) disk in
@@ -114,7 +114,7 @@ module _ {D : Type 0} (told : D → Told) (out out1 : ℕ → Bool) (has has1 : 
         | inl same ↦ (None, inl refl, same)
         | inr new ↦ (Some header, inr refl, new.1)
       ] in
-      let side : Side = record { given = tried.0; asked = Some header; left = None } in
+      let side : Side = asking header tried.0 in
       let here : takes.0 n ≡ plain_client (crashed actor) side = (λ i. record { disk = tried.2 i; life = step.2 i; left = step.3 i }) ∙ (λ i. plain_client (crashed (sym fresh.1 i)) side) in
       record {
         outside = [];

@@ -5,6 +5,7 @@ use Rattle.std.proofs.lemmas.Bool.{eq-eqb, ne_eqb}
 use Rattle.coda_journal.specs.declared.header.Header.{Header}
 use Rattle.coda_cell.specs.State.{put}
 use Rattle.coda_stored.specs.Cells.{Side, StoredCell, client_header, replica_header, disk_number}
+use Rattle.coda_stored.specs.Lines.{asking}
 use Rattle.coda_stored.specs.Resuming.{forgotten, at_rest, Awaited, ClientAgain, VolumeAgain, awaits_client, awaits_volume, servers_of, AsksAgain, AreAwaited, MakeAllAgain}
 use Rattle.coda_site.specs.NewActors.{with_new_client, with_new_volume, areas_of, NewActorsAreMadeAgain}
 
@@ -205,7 +206,7 @@ clients_again cell before behind client blocks area all absent room = record {
     header = client_header client blocks area
 
     side : Side
-    side = record { given = None; asked = Some (client_header client blocks area); left = None }
+    side = asking (client_header client blocks area) None
 
     has : HasAll (at_rest (with_new_client cell client blocks area)) (at_rest cell)
     has = record {
@@ -237,7 +238,7 @@ volumes_again cell before behind volume server area all none absent few room = r
     disk = disk_number (length cell.made.servers) server
 
     side : Side
-    side = record { given = None; asked = Some (replica_header volume server area); left = None }
+    side = asking (replica_header volume server area) None
 
     has : HasAll (at_rest (with_new_volume cell volume server area)) (at_rest cell)
     has = record {

@@ -16,18 +16,19 @@ use Rattle.coda_cell.specs.State.{put}
 use Rattle.coda_cell.specs.Steps.{no_room}
 use Rattle.coda_stored.specs.Cells.{Side, StoredCell, plain_replica, replica_header, disk_number, unmade}
 use Rattle.coda_stored.specs.Kept.{IsArea, IsReplicaSide, IsStoredKept}
-use Rattle.coda_stored.specs.Lines.{Unless, Opens, no_volume, with_volume, refused_fault}
+use Rattle.coda_stored.specs.Lines.{asking, Unless, Opens, no_volume, with_volume, refused_fault}
 use Rattle.coda_stored.proofs.Making.{volume_kept}
 use Rattle.coda_stored.proofs.Sides.{actors_kept, with_idle}
 use Rattle.coda_site.specs.Cells.{AreOnDisks}
 use Rattle.coda_site.specs.NewActors.{with_new_volume, NewVolumesMayCome}
 use Rattle.coda_site.specs.Sites.{is_replica_disk, AreReplicas}
 use Rattle.coda_site.proofs.Newcomers.{mounted, kept_mounted}
+use Rattle.coda_site.proofs.Standings.{stood}
 
 module _ (cell : StoredCell) (volume server area : ℕ) (kept : IsStoredKept cell) (absent : cell.made.homes volume ≡ None) (few : length cell.made.servers < 64) (from : 1 ≤ server) (upto : server ≤ 8)
     (sized : IsArea area) where
   abbrev side : Side
-  side = record { given = None; asked = Some (replica_header volume server area); left = None }
+  side = asking (replica_header volume server area) None
 
   abbrev disk : ℕ
   disk = disk_number (length cell.made.servers) server
@@ -110,17 +111,17 @@ module _ (cell : StoredCell) (volume server area : ℕ) (kept : IsStoredKept cel
     actor_else : (s v : ℕ) → v ≢ volume → new.made.acted.replicas s v ≡ family s v
     actor_else s v other = λ i. cond (and_right (s == server) (v == volume) (ne_eqb v volume other) i) (crashed (family server volume)) (family s v)
 
-    placed_at : (v s : ℕ) → new.made.homes v ≡ Some s → next (new.places v) ≡ plain_replica v (new.made.acted.replicas s v) (new.replicas v)
+    placed_at : (v s : ℕ) → new.made.homes v ≡ Some s → next (new.places v) ≡ stood cell v (new.made.acted.replicas s v) (new.replicas v)
     placed_at v s home = elim (cases_eq v volume) [
       | inl same ↦ (
           let server_is : s ≡ server = same_server s (sym (put_here cell.made.homes volume (Some server)) ∙ ap (put cell.made.homes volume (Some server)) (sym same) ∙ home) in
           ap next (ap (put cell.places volume disk) same ∙ put_here cell.places volume disk) ∙ put_here plain disk (plain_replica volume (crashed (family server volume)) side)
-          ∙ (λ i. plain_replica volume (sym actor_here i) (sym (put_here cell.replicas volume side) i))
-          ∙ (λ i. plain_replica (sym same i) (new.made.acted.replicas (sym server_is i) (sym same i)) (put cell.replicas volume side (sym same i))))
+          ∙ (λ i. stood cell volume (sym actor_here i) (sym (put_here cell.replicas volume side) i))
+          ∙ (λ i. stood cell (sym same i) (new.made.acted.replicas (sym server_is i) (sym same i)) (put cell.replicas volume side (sym same i))))
       | inr other ↦ (
           let old_home : cell.made.homes v ≡ Some s = sym (put_else cell.made.homes volume (Some server) v other) ∙ home in
           ap next (put_else cell.places volume disk v other) ∙ put_else plain disk (plain_replica volume (crashed (family server volume)) side) (cell.places v) (apart v s old_home) ∙ are.placed v s old_home
-          ∙ (λ i. plain_replica v (sym (actor_else s v other) i) (sym (put_else cell.replicas volume side v other) i)))
+          ∙ (λ i. stood cell v (sym (actor_else s v other) i) (sym (put_else cell.replicas volume side v other) i)))
     ]
 
     others_at : (number : ℕ) → ((v s : ℕ) → new.made.homes v ≡ Some s → new.places v ≢ number) → next number ≡ cell.idle number

@@ -11,7 +11,7 @@ use Rattle.coda_script.specs.declared.line.Line.TheVariants as line
 use Rattle.coda_cell.specs.Steps.{no_room}
 use Rattle.coda_stored.specs.Cells.{Side, StoredCell, plain_client, client_header}
 use Rattle.coda_stored.specs.Kept.{IsArea, IsClientSide, IsStoredKept}
-use Rattle.coda_stored.specs.Lines.{Unless, Opens, no_client, with_client, refused_fault}
+use Rattle.coda_stored.specs.Lines.{asking, Unless, Opens, no_client, with_client, refused_fault}
 use Rattle.coda_stored.proofs.Keeping.{stored_cells_are_kept}
 use Rattle.coda_site.specs.Cells.{AreOnDisks}
 use Rattle.coda_site.specs.NewActors.{with_new_client, NewClientsMayCome}
@@ -29,13 +29,15 @@ kept_mounted cell areas kept = record {
   replicas = kept.replicas;
   placed = kept.placed;
   apart = kept.apart;
+  clients_own = kept.clients_own;
+  replicas_own = kept.replicas_own;
   idle = kept.idle;
   alone = kept.alone;
 }
 
 module _ (cell : StoredCell) (client blocks area : ℕ) (kept : IsStoredKept cell) (absent : cell.made.sizes client ≡ None) where
   abbrev side : Side
-  side = record { given = None; asked = Some (client_header client blocks area); left = None }
+  side = asking (client_header client blocks area) None
 
   -- nothing else is mounted
   abbrev bare : StoredCell

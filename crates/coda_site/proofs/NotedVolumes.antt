@@ -4,7 +4,7 @@ use Rattle.std.proofs.lemmas.Bool.{cases_eq, eq-eqb, ne_eqb}
 use Rattle.std.specs.BTreeMap.{BTreeMap}
 use Rattle.coda_disk.specs.Told.{Told}
 use Rattle.coda_actors.specs.Clients.{client_form}
-use Rattle.coda_actors.specs.Plain.{PlainActor}
+use Rattle.coda_actors.specs.Plain.{PlainDisk, PlainActor}
 use Rattle.coda_actors.specs.Replicas.{replica_form}
 use Rattle.coda_actors.specs.declared.slot.Slot.{Slot}
 use Rattle.coda_crew.specs.Crews.{FitsAll, LeavesBe}
@@ -15,7 +15,7 @@ use Rattle.coda_record.specs.declared.entry.ReplicaEntry.{ReplicaEntry as KeptEn
 use Rattle.coda_replica.specs.declared.replica.Replica.{Replica}
 use Rattle.coda_cell.specs.Cells.{IsNetwork}
 use Rattle.coda_cell.specs.State.{put}
-use Rattle.coda_stored.specs.Cells.{Side, StoredCell, plain_client, plain_replica, disk_number}
+use Rattle.coda_stored.specs.Cells.{Side, StoredCell, plain_client, plain_replica, on_disk, disk_number}
 use Rattle.coda_stored.specs.Lines.{with_volume}
 use Rattle.coda_site.specs.Sites.{is_client_disk, is_replica_disk, place_in, IsSite}
 use Rattle.coda_site.specs.declared.site.Place.{Place}
@@ -38,9 +38,10 @@ pub record IsNoted {D : Type 0} (old : Site D) (volume : ℕ) (place : Place) (n
   pub clients : new.clients ≡ old.clients
   pub net : new.net ≡ old.net
 
--- a cell with the volume more, in which servers' replicas are these
-abbrev pub left_with : StoredCell → ℕ → ℕ → ℕ → Side → (ℕ → ℕ → Actor ReplicaEntry) → StoredCell
-left_with cell volume server area side actors = (let now : StoredCell = with_volume cell volume server area side in record now { made = record now.made { acted = record now.made.acted { replicas = actors } } })
+-- a cell with the volume more, in which servers' replicas are these, and disks of others hold this
+abbrev pub left_with : StoredCell → ℕ → ℕ → ℕ → Side → (ℕ → ℕ → Actor ReplicaEntry) → (ℕ → PlainDisk KeptEntry) → StoredCell
+left_with cell volume server area side actors others =
+    (let now : StoredCell = with_volume cell volume server area side in record now { made = record now.made { acted = record now.made.acted { replicas = actors } }; others = others })
 
 module _ {D : Type 0} (told : D → Told) (out out1 : ℕ → Bool) (has has1 : ℕ → Told) (cell : StoredCell) (site : Site D) (is : IsSite told out has cell site) (volume server area : ℕ) (absent : cell.made.homes volume ≡ None)
     (slots : BTreeMap ℕ (Slot (Replica D) D)) (be : LeavesBe is_client_disk out out1 has has1) (noted : Site D) where
@@ -62,10 +63,11 @@ module _ {D : Type 0} (told : D → Told) (out out1 : ℕ → Bool) (has has1 : 
 
   module _ (apart : (v s : ℕ) → cell.made.homes v ≡ Some s → cell.places v ≢ disk) (is_noted : IsNoted site volume here noted) where
     -- the cell with the volume more stands for the site with these slots
-    pub made_site : (side : Side) (next : Actor ReplicaEntry) (actors : ℕ → ℕ → Actor ReplicaEntry) (new : ℕ → PlainActor KeptEntry) → actors server volume ≡ next → ((s v : ℕ) → v ≢ volume → actors s v ≡ family s v)
-        → FitsAll (replica_form told) told is_replica_disk out1 has1 slots new → new disk ≡ plain_replica volume next side → ((k : ℕ) → k ≢ disk → new k ≡ plain k)
-        → IsSite told out1 has1 (left_with cell volume server area side actors) (record noted { replicas = slots; areas = noted.areas + area })
-    made_site side next actors new own others fits at else = record {
+    pub made_site : (side : Side) (next : Actor ReplicaEntry) (actors : ℕ → ℕ → Actor ReplicaEntry) (held : ℕ → PlainDisk KeptEntry) (new : ℕ → PlainActor KeptEntry) → actors server volume ≡ next
+        → ((s v : ℕ) → v ≢ volume → actors s v ≡ family s v) → ((v : ℕ) → v ≢ volume → held v ≡ cell.others v)
+        → FitsAll (replica_form told) told is_replica_disk out1 has1 slots new → new disk ≡ on_disk side.foreign (held volume) (plain_replica volume next side) → ((k : ℕ) → k ≢ disk → new k ≡ plain k)
+        → IsSite told out1 has1 (left_with cell volume server area side actors held) (record noted { replicas = slots; areas = noted.areas + area })
+    made_site side next actors held new own others holds fits at else = record {
       clock = is.clock ∙ sym is_noted.clock;
       servers = ap (λ (l : List ℕ). l ++ server ∷ []) is.servers ∙ sym is_noted.servers;
       homes = λ v. homes_at (v == volume) v ∙ ap home_of (sym (is_noted.places v));
@@ -94,17 +96,17 @@ module _ {D : Type 0} (told : D → Told) (out out1 : ℕ → Bool) (has has1 : 
         same_server : (s : ℕ) → Some server ≡ Some s → s ≡ server
         same_server s e = cc
 
-        placed_at : (v s : ℕ) → put cell.made.homes volume (Some server) v ≡ Some s → new (put cell.places volume disk v) ≡ plain_replica v (actors s v) (put cell.replicas volume side v)
+        placed_at : (v s : ℕ) → put cell.made.homes volume (Some server) v ≡ Some s → new (put cell.places volume disk v) ≡ on_disk (put cell.replicas volume side v).foreign (held v) (plain_replica v (actors s v) (put cell.replicas volume side v))
         placed_at v s home = elim (cases_eq v volume) [
           | inl same ↦ (
               let server_is : s ≡ server = same_server s (sym (put_here cell.made.homes (Some server)) ∙ ap (put cell.made.homes volume (Some server)) (sym same) ∙ home) in
               ap new (ap (put cell.places volume disk) same ∙ put_here cell.places disk) ∙ at
-              ∙ (λ i. plain_replica volume (sym own i) (sym (put_here cell.replicas side) i))
-              ∙ (λ i. plain_replica (sym same i) (actors (sym server_is i) (sym same i)) (put cell.replicas volume side (sym same i))))
+              ∙ (λ i. on_disk (sym (put_here cell.replicas side) i).foreign (held volume) (plain_replica volume (sym own i) (sym (put_here cell.replicas side) i)))
+              ∙ (λ i. on_disk (put cell.replicas volume side (sym same i)).foreign (held (sym same i)) (plain_replica (sym same i) (actors (sym server_is i) (sym same i)) (put cell.replicas volume side (sym same i)))))
           | inr other ↦ (
               let old_home : cell.made.homes v ≡ Some s = sym (put_else cell.made.homes (Some server) v other) ∙ home in
               ap new (put_else cell.places disk v other) ∙ else (cell.places v) (apart v s old_home) ∙ is.replicas.1.placed v s old_home
-              ∙ (λ i. plain_replica v (sym (others s v other) i) (sym (put_else cell.replicas side v other) i)))
+              ∙ (λ i. on_disk (sym (put_else cell.replicas side v other) i).foreign (sym (holds v other) i) (plain_replica v (sym (others s v other) i) (sym (put_else cell.replicas side v other) i))))
         ]
 
         others_at : (number : ℕ) → ((v s : ℕ) → put cell.made.homes volume (Some server) v ≡ Some s → put cell.places volume disk v ≢ number) → new number ≡ cell.idle number

@@ -31,14 +31,14 @@ use Rattle.coda_cell.specs.Made.{replica_of, state_of}
 use Rattle.coda_cell.specs.Sending.{entries_at}
 use Rattle.coda_cell.specs.State.{new_replica, replica_after_all}
 use Rattle.coda_matching.specs.Replicas.{entry_at, journal_at, IsReplicaHistory, LacksRoom}
-use Rattle.coda_stored.specs.Cells.{Side, StoredCell, life_of, first_in, plain_replica, replica_header, failed_at, after_all, failed}
-use Rattle.coda_stored.specs.Kept.{IsReplicaSide}
+use Rattle.coda_stored.specs.Cells.{Side, StoredCell, life_of, first_in, plain_replica, standing, replica_header, failed_at, after_all, failed}
 use Rattle.coda_stored.specs.Seen.{IsReplicaSeen, IsSeen}
 use Rattle.coda_stored.specs.Lines.{replica_down}
 use Rattle.coda_stored.specs.Room.{Lacks, LacksFor, Fits as FitsEvents}
 use Rattle.coda_site.specs.Sites.{is_replica_disk, place_in, IsSite}
 use Rattle.coda_site.specs.declared.site.Site.{Site}
 use Rattle.coda_site.specs.declared.site.Place.{Place}
+use Rattle.coda_site.proofs.Standings.{stood, life_stands, own_standing, on_own, up_is_own}
 use Rattle.coda_site.proofs.Slots.{life_up, started, not_started, reads_fit}
 
 -- ---- a replica that is up
@@ -50,6 +50,7 @@ pub record IsReplicaUp {D : Type 0} (told : D → Told) (volume server : ℕ) (s
   pub home : header.server ≡ server
   pub asked : side.asked ≡ Some header
   pub given : side.given ≡ Some header
+  pub own : side.foreign ≡ false
   pub left : side.left ≡ None
   pub up : actor.up ≡ true
   pub failed : actor.failed ≡ None
@@ -81,6 +82,7 @@ module _ {D : Type 0} (told : D → Told) (volume server : ℕ) (side : Side) (a
     home = is.home;
     asked = is.asked;
     given = is.given;
+    own = is.own;
     left = is.left;
     up = is.up;
     failed = is.failed;
@@ -96,6 +98,7 @@ module _ {D : Type 0} (told : D → Told) (volume server : ℕ) (side : Side) (a
     home = is.home;
     asked = is.asked;
     given = is.given;
+    own = is.own;
     left = is.left;
     up = is.up;
     failed = is.failed;
@@ -152,30 +155,39 @@ module _ {D : Type 0} (told : D → Told) (out : ℕ → Bool) (has : ℕ → To
     pub up : IsReplicaUp told volume place.server (cell.replicas volume) actor_there header replica
 
   module _ (kept : IsSeen cell) where
-    made_side : IsReplicaSide volume (Some place.server) (λ server. cell.made.acted.replicas server volume) (cell.replicas volume)
+    made_side : IsReplicaSeen volume (Some place.server) (λ server. cell.made.acted.replicas server volume) (cell.replicas volume)
     made_side = subst (λ (o : Option ℕ). IsReplicaSeen volume o (λ server. cell.made.acted.replicas server volume) (cell.replicas volume)) home_is (kept.replicas volume)
 
     pub of_replicas : is_replica_disk place.disk ≡ true
     of_replicas = let p = kept.placed volume place.server home_is in le-leb 256 place.disk (let n = p.0 in let s = place.server in let e : 256 + 8 * n + (s - 1) ≡ place.disk = sym p.1 ∙ place_is in omega (arith, e))
 
-    fits_there : Fits (replica_form told) told (out place.disk) (has place.disk) (slot_at site.replicas place.disk) (plain_replica volume actor_there (cell.replicas volume))
+    abbrev standing_there : PlainActor KeptEntry
+    standing_there = standing cell place.server volume
+
+    -- it lives as the cell has it, whoever's its disk is
+    life_there : standing_there.life ≡ life_of (cell.replicas volume).asked actor_there.up
+    life_there = life_stands (cell.replicas volume).foreign (cell.others volume) (plain_replica volume actor_there (cell.replicas volume))
+
+    fits_there : Fits (replica_form told) told (out place.disk) (has place.disk) (slot_at site.replicas place.disk) standing_there
     fits_there = let r = is.replicas in
         subst (Fits (replica_form told) told (out place.disk) (has place.disk) (slot_at site.replicas place.disk)) (ap r.0 (sym place_is) ∙ r.1.placed volume place.server home_is) (r.2 place.disk of_replicas)
 
     header_is : (header : Header) → (cell.replicas volume).asked ≡ Some header → (header.number ≡ volume) × (header.server ≡ place.server)
     header_is header asked =
-        let own : Some (replica_header volume place.server made_side.0) ≡ Some header = sym made_side.5 ∙ asked in
-        let same : replica_header volume place.server made_side.0 ≡ header = cc in
+        let own : Some (replica_header volume place.server made_side.0.0) ≡ Some header = sym made_side.0.5 ∙ asked in
+        let same : replica_header volume place.server made_side.0.0 ≡ header = cc in
         (sym (ap (λ (h : Header). h.number) same), sym (ap (λ (h : Header). h.server) same))
 
     -- it is up where its slot says so
     pub there : is_up (replica_form told) (slot_at site.replicas place.disk) ≡ true → (header : Header) × (replica : Replica D) × IsReplicaThere header replica
     there up =
-        let s = started (replica_form told) told (out place.disk) (has place.disk) (slot_at site.replicas place.disk) (plain_replica volume actor_there (cell.replicas volume)) fits_there up in
-        let life = life_up (cell.replicas volume).asked actor_there.up s.header s.fits.life in
+        let s = started (replica_form told) told (out place.disk) (has place.disk) (slot_at site.replicas place.disk) standing_there fits_there up in
+        let life = life_up (cell.replicas volume).asked actor_there.up s.header (sym life_there ∙ s.fits.life) in
+        let own_disk = up_is_own volume place.server (λ server. cell.made.acted.replicas server volume) (cell.replicas volume) made_side life.1 in
+        let fits : FitsUp (replica_form told) s.header s.actor (plain_replica volume actor_there (cell.replicas volume)) = subst (FitsUp (replica_form told) s.header s.actor) (own_standing cell place.server volume own_disk) s.fits in
         let own = header_is s.header life.0 in
         let clean = kept.replicas_up place.server volume life.1 in
-        let stands : IsUp told s.header s.actor (journal_at s.header.number actor_there.history) = subst (λ (n : ℕ). IsUp told s.header s.actor (journal_at n actor_there.history)) (sym own.0) s.fits.up in
+        let stands : IsUp told s.header s.actor (journal_at s.header.number actor_there.history) = subst (λ (n : ℕ). IsUp told s.header s.actor (journal_at n actor_there.history)) (sym own.0) fits.up in
         let ruled : AreDecisions volume actor_there.history = kept.ruled place.server volume in (
           s.header,
           s.actor,
@@ -186,11 +198,12 @@ module _ {D : Type 0} (told : D → Told) (out : ℕ → Bool) (has : ℕ → To
               number = own.0;
               home = own.1;
               asked = life.0;
-              given = s.fits.given;
-              left = s.fits.left;
+              given = fits.given;
+              own = own_disk;
+              left = fits.left;
               up = life.1;
               failed = clean;
-              owner = s.fits.asked;
+              owner = fits.asked;
               stands = stands;
               lawful = record {
                 journal = stands.lawful;
@@ -209,8 +222,8 @@ module _ {D : Type 0} (told : D → Told) (out : ℕ → Bool) (has : ℕ → To
     up_is = elim (cases_Bool (is_up (replica_form told) (slot_at site.replicas place.disk))) [
       | inl up ↦ up ∙ sym (there up).2.up.up
       | inr down ↦ (elim (cases_Bool actor_there.up) [
-        | inl up ↦ absurd (not_started (replica_form told) told (out place.disk) (has place.disk) runs (slot_at site.replicas place.disk) (plain_replica volume actor_there (cell.replicas volume)) fits_there down
-            (replica_header volume place.server made_side.0) (λ i. life_of (made_side.5 i) (up i)))
+        | inl up ↦ absurd (not_started (replica_form told) told (out place.disk) (has place.disk) runs (slot_at site.replicas place.disk) standing_there fits_there down
+            (replica_header volume place.server made_side.0.0) (life_there ∙ (λ i. life_of (made_side.0.5 i) (up i))))
         | inr off ↦ down ∙ sym off
       ])
     ]
@@ -311,28 +324,28 @@ module _ {D : Type 0} (told : D → Told) (out : ℕ → Bool) (has : ℕ → To
   here = place_is told out has cell site is volume place at
 
   -- the site with another replica of this volume
-  module _ (actor : Actor ReplicaEntry) (fits : Fits (replica_form told) told (out place.disk) (has place.disk) (slot_at slots place.disk) (plain_replica volume actor (cell.replicas volume))) where
+  module _ (actor : Actor ReplicaEntry) (fits : Fits (replica_form told) told (out place.disk) (has place.disk) (slot_at slots place.disk) (stood cell volume actor (cell.replicas volume))) where
     abbrev plain : ℕ → PlainActor KeptEntry
-    plain number = cond (number == place.disk) (plain_replica volume actor (cell.replicas volume)) (is.replicas.0 number)
+    plain number = cond (number == place.disk) (stood cell volume actor (cell.replicas volume)) (is.replicas.0 number)
 
-    plain_here : plain place.disk ≡ plain_replica volume actor (cell.replicas volume)
-    plain_here = ap (λ (b : Bool). cond b (plain_replica volume actor (cell.replicas volume)) (is.replicas.0 place.disk)) (eq-eqb place.disk place.disk refl)
+    plain_here : plain place.disk ≡ stood cell volume actor (cell.replicas volume)
+    plain_here = ap (λ (b : Bool). cond b (stood cell volume actor (cell.replicas volume)) (is.replicas.0 place.disk)) (eq-eqb place.disk place.disk refl)
 
     plain_else : (number : ℕ) → number ≢ place.disk → plain number ≡ is.replicas.0 number
-    plain_else number other = ap (λ (b : Bool). cond b (plain_replica volume actor (cell.replicas volume)) (is.replicas.0 number)) (ne_eqb number place.disk other)
+    plain_else number other = ap (λ (b : Bool). cond b (stood cell volume actor (cell.replicas volume)) (is.replicas.0 number)) (ne_eqb number place.disk other)
 
-    placed_at : (v s : ℕ) → cell.made.homes v ≡ Some s → plain (cell.places v) ≡ plain_replica v ((with_ruler cell place.server volume actor).made.acted.replicas s v) (cell.replicas v)
+    placed_at : (v s : ℕ) → cell.made.homes v ≡ Some s → plain (cell.places v) ≡ stood cell v ((with_ruler cell place.server volume actor).made.acted.replicas s v) (cell.replicas v)
     placed_at v s made = elim (cases_eq v volume) [
       | inl same ↦ (
           let home_of : Some s ≡ Some place.server = sym made ∙ ap cell.made.homes same ∙ home in
           let server_is : s ≡ place.server = cc in
           ap plain (ap cell.places same ∙ here) ∙ plain_here
-          ∙ ap (λ (a : Actor ReplicaEntry). plain_replica volume a (cell.replicas volume)) (sym (ruler_here cell place.server volume actor))
-          ∙ (λ i. plain_replica (sym same i) ((with_ruler cell place.server volume actor).made.acted.replicas (sym server_is i) (sym same i)) (cell.replicas (sym same i))))
+          ∙ ap (λ (a : Actor ReplicaEntry). stood cell volume a (cell.replicas volume)) (sym (ruler_here cell place.server volume actor))
+          ∙ (λ i. stood cell (sym same i) ((with_ruler cell place.server volume actor).made.acted.replicas (sym server_is i) (sym same i)) (cell.replicas (sym same i))))
       | inr other ↦ (
           let off : cell.places v ≢ place.disk = (λ same. other (sym (apart v s made (here ∙ sym same)))) in
           plain_else (cell.places v) off ∙ is.replicas.1.placed v s made
-          ∙ ap (λ (b : Bool). plain_replica v (cond b actor (cell.made.acted.replicas s v)) (cell.replicas v)) (sym (and_right (s == place.server) (v == volume) (ne_eqb v volume other))))
+          ∙ ap (λ (b : Bool). stood cell v (cond b actor (cell.made.acted.replicas s v)) (cell.replicas v)) (sym (and_right (s == place.server) (v == volume) (ne_eqb v volume other))))
     ]
 
     others_at : (number : ℕ) → ((v s : ℕ) → cell.made.homes v ≡ Some s → cell.places v ≢ number) → plain number ≡ cell.idle number
@@ -359,8 +372,9 @@ module _ {D : Type 0} (told : D → Told) (out : ℕ → Bool) (has : ℕ → To
     }
 
   module _ (header : Header) (old new : Replica D) (lent : out place.disk ≡ true) (up : IsReplicaUp told volume place.server (cell.replicas volume) (cell.made.acted.replicas place.server volume) header old) (put : slot_at slots place.disk ≡ Started header new) where
-    held : (actor : Actor ReplicaEntry) → FitsHeld (replica_form told) told (Started header new) (plain_replica volume actor (cell.replicas volume)) → Fits (replica_form told) told (out place.disk) (has place.disk) (slot_at slots place.disk) (plain_replica volume actor (cell.replicas volume))
-    held actor fits = subst (λ (s : Slot (Replica D) D). Fits (replica_form told) told (out place.disk) (has place.disk) s (plain_replica volume actor (cell.replicas volume))) (sym put) (lent, fits)
+    held : (actor : Actor ReplicaEntry) → FitsHeld (replica_form told) told (Started header new) (plain_replica volume actor (cell.replicas volume)) → Fits (replica_form told) told (out place.disk) (has place.disk) (slot_at slots place.disk) (stood cell volume actor (cell.replicas volume))
+    held actor fits = subst (Fits (replica_form told) told (out place.disk) (has place.disk) (slot_at slots place.disk)) (sym (on_own (cell.replicas volume).foreign (cell.others volume) (plain_replica volume actor (cell.replicas volume)) up.own))
+        (subst (λ (s : Slot (Replica D) D). Fits (replica_form told) told (out place.disk) (has place.disk) s (plain_replica volume actor (cell.replicas volume))) (sym put) (lent, fits))
 
     -- its entries were added
     pub ruled_site : (entries : List ReplicaEntry) → IsUp told header new (journal_at header.number ((cell.made.acted.replicas place.server volume).history ++ entries)) → IsReplicaHistory header ((cell.made.acted.replicas place.server volume).history ++ entries)

@@ -23,6 +23,7 @@ use Rattle.coda_stored.specs.Seen.{asleep, home_unless}
 use Rattle.coda_site.specs.Cells.{AreOnDisks}
 use Rattle.coda_site.specs.declared.site.Site.{Site}
 use Rattle.coda_site.specs.Sites.{is_client_disk, is_replica_disk, AreReplicas, IsSite}
+use Rattle.coda_site.proofs.Standings.{own_standing}
 
 -- an actor that no line made yet, on the same disk
 abbrev pub rest : {Entry : Type 0} → PlainActor Entry → PlainActor Entry
@@ -31,16 +32,21 @@ rest plain = record { disk = plain.disk; life = Unmade; left = None }
 pub rests_at_entry : {A D : Type 0} (form : Form A D) (of : ℕ → Bool) (has : ℕ → Told) (plain : ℕ → PlainActor form.Entry) → StandsAll form of has plain → IsAtEntry form of has (λ k. rest (plain k))
 rests_at_entry form of has plain stands k own = (refl, refl, stands k own)
 
-pub client_waits : (n : ℕ) (o : Option ℕ) (b : Bool) (actor : Actor ClientEntry) (side : Side) → IsClientSide n o actor side → ((blocks : ℕ) → o ≡ Some blocks → b ≡ true) → rest (plain_client actor side) ≡ plain_client (stopped o actor) (asleep b (forgotten side))
-client_waits n None true actor side is waits = refl
-client_waits n None false actor side is waits =
-    (λ i. record { disk = (plain_client actor side).disk; life = life_of (sym (ap (λ (s : Side). s.asked) is.0) i) actor.up; left = None })
-client_waits n (Some blocks) true actor side is waits = refl
-client_waits n (Some blocks) false actor side is waits = (let no : false ≡ true = waits blocks refl in cc)
+-- nobody asks for the disk of a client that wasn't made
+pub unasked : (n : ℕ) (o : Option ℕ) (actor : Actor ClientEntry) (side : Side) → IsClientSide n o actor side → o ≡ None → side.asked ≡ None
+unasked n None actor side is none = ap (λ (s : Side). s.asked) is.0
+unasked n (Some blocks) actor side is none = cc
+
+pub client_waits : (n : ℕ) (o : Option ℕ) (b : Bool) (actor : Actor ClientEntry) (side : Side) → (o ≡ None → side.asked ≡ None) → ((blocks : ℕ) → o ≡ Some blocks → b ≡ true) → rest (plain_client actor side) ≡ plain_client (stopped o actor) (asleep b (forgotten side))
+client_waits n None true actor side nobody waits = refl
+client_waits n None false actor side nobody waits =
+    (λ i. record { disk = (plain_client actor side).disk; life = life_of (sym (nobody refl) i) actor.up; left = None })
+client_waits n (Some blocks) true actor side nobody waits = refl
+client_waits n (Some blocks) false actor side nobody waits = (let no : false ≡ true = waits blocks refl in cc)
 
 module _ (cell : StoredCell) (kept : IsStoredKept cell) (lines : List Awaited) (all : MakeAllAgain cell lines) where
   pub clients_wait : (n : ℕ) → rest (plain_client (cell.made.acted.clients n) (cell.clients n)) ≡ plain_client (stopped (cell.made.sizes n) (cell.made.acted.clients n)) (asleep (awaits_client lines n) (forgotten (cell.clients n)))
-  clients_wait n = client_waits n (cell.made.sizes n) (awaits_client lines n) (cell.made.acted.clients n) (cell.clients n) (kept.clients n) (all.clients n)
+  clients_wait n = client_waits n (cell.made.sizes n) (awaits_client lines n) (cell.made.acted.clients n) (cell.clients n) (unasked n (cell.made.sizes n) (cell.made.acted.clients n) (cell.clients n) (kept.clients n)) (all.clients n)
 
   replica_waits : (volume server : ℕ) (o : Option ℕ) (b : Bool) (actor : Actor ReplicaEntry) (side : Side) → o ≡ Some server → b ≡ true → rest (plain_replica volume actor side) ≡ plain_replica volume (stopped o actor) (asleep b (forgotten side))
   replica_waits volume server None b actor side made waits = cc
@@ -49,7 +55,7 @@ module _ (cell : StoredCell) (kept : IsStoredKept cell) (lines : List Awaited) (
 
   pub replicas_wait : (plain : ℕ → PlainActor KeptEntry) → AreReplicas cell plain → AreReplicasYet (at_rest cell) lines (λ k. rest (plain k))
   replicas_wait plain are = record {
-    placed = λ volume server home. ap rest (are.placed volume server home)
+    placed = λ volume server home. ap rest (are.placed volume server home ∙ own_standing cell server volume (kept.replicas_own volume))
         ∙ replica_waits volume server (cell.made.homes volume) (awaits_volume lines volume) (cell.made.acted.replicas server volume) (cell.replicas volume) home (all.volumes volume server home);
     others = λ number none. ap rest (are.others number none ∙ kept.idle number);
   }
@@ -73,7 +79,10 @@ all_resumed told out has cell site kept is = record {
   places = is.places;
   areas = is.areas;
   clients = is.clients;
-  replicas = (is.replicas.0, record { placed = is.replicas.1.placed; others = λ number none. is.replicas.1.others number none ∙ sym (kept.idle number) }, is.replicas.2);
+  replicas = (is.replicas.0, record {
+    placed = λ volume server home. is.replicas.1.placed volume server home ∙ sym (own_standing cell server volume (kept.replicas_own volume));
+    others = λ number none. is.replicas.1.others number none ∙ sym (kept.idle number);
+  }, is.replicas.2);
   net = is.net;
 }
 
@@ -169,7 +178,7 @@ awaiting_on_disks told has cell left volumes areas kept are clients plain yet re
   replicas = (
     awake_at cell left plain,
     record {
-      placed = λ v s home. awake_placed cell kept plain left volumes areas are v s home (yet.placed v s home);
+      placed = λ v s home. awake_placed cell kept plain left volumes areas are v s home (yet.placed v s home) ∙ sym (own_standing cell s v (kept.replicas_own v));
       others = λ number none. awake_others cell kept plain left volumes areas are number none (yet.others number none) ∙ sym (kept.idle number);
     },
     λ k own. subst (StandsFor (replica_form told) (has k)) (awake_disk cell kept plain left left volumes areas are yet.placed k) (replicas k own),

@@ -28,13 +28,13 @@ use Rattle.coda_matching.specs.Clients.{payload_by}
 use Rattle.coda_stored.specs.Cells.{Side, StoredCell, life_of, plain_client, client_header, moved}
 use Rattle.coda_stored.specs.Kept.{IsStoredKept, IsClientSide, IsGiven}
 use Rattle.coda_stored.specs.Lines.{client_payloads, with_client_side, recovered_side, refused_fault, RecoversClient}
-use Rattle.coda_stored.specs.Resuming.{Awaited, ClientAgain, awaits_client, AsksAgain, opened_as, with_area}
+use Rattle.coda_stored.specs.Resuming.{Awaited, ClientAgain, awaits_client, AsksAgain, opened_as, with_area, IsOwn}
 use Rattle.coda_site.specs.Awaiting.{IsAwaiting, Resumes}
 use Rattle.coda_stored.specs.Seen.{asleep}
 use Rattle.coda_site.specs.Makings.{SaysOpened}
 use Rattle.coda_site.specs.Sites.{is_client_disk, is_replica_disk}
 use Rattle.coda_site.specs.declared.site.Site.{Site}
-use Rattle.coda_site.proofs.ClientLines.{never_foreign, client_at_here, client_at_else, side_here, side_else, client_put_twice, nil_mapped, found_by}
+use Rattle.coda_site.proofs.ClientLines.{never_foreign, client_at_here, client_at_else, side_here, side_else, client_put_twice, nil_mapped, found_by, may_take}
 use Rattle.coda_site.proofs.ClientSites.{with_actor}
 use Rattle.coda_site.proofs.Makes.{up_made}
 use Rattle.coda_site.proofs.MakingLines.{with_client_area}
@@ -47,6 +47,7 @@ record FoundClient (cell : StoredCell) (n : ℕ) (reply : Reply) (new : PlainAct
   pub said : Reply
   pub recovers : RecoversClient cell n said [] (with_client_side (with_actor cell n next) n known)
   pub replied : reply ≡ opened_as said
+  pub own : IsOwn said
   pub here : new ≡ plain_client next known
 
 module _ (cell : StoredCell) (kept : IsStoredKept cell) (n blocks area : ℕ) (size : cell.made.sizes n ≡ Some blocks) (asks : AsksAgain (cell.clients n) (client_header n blocks area)) where
@@ -77,12 +78,15 @@ module _ (cell : StoredCell) (kept : IsStoredKept cell) (n blocks area : ℕ) (s
       mounts.1 ∙ ap length found.1 ∙ length-map next.history payload_by ∙ ap (λ (a : Actor ClientEntry). length a.history) (sym at) in
       let read : IfSome side.left (ReadsAs header (client_payloads ((moved cell (Recovers (TheClient n) joins)).made.acted.clients n).history)) =
       subst (λ (o : Option (List ℕ)). IfSome o (ReadsAs header (client_payloads ((moved cell (Recovers (TheClient n) joins)).made.acted.clients n).history))) (sym asks.1) tt in
+      let takes = may_take header side.given (plain_client actor side).disk.history new.disk.history next.history joined.was found.1
+          ((moved cell (Recovers (TheClient n) joins)).made.acted.clients n).history (ap (λ (a : Actor ClientEntry). a.history) at) in
       record {
         next = next;
         known = known;
         said = Recovered count;
-        recovers = (refl, (header, asks.0, inl (joins, ap Recovered many, read, refl)));
+        recovers = (refl, (header, asks.0, inl (joins, ap Recovered many, read, refl, takes)));
         replied = says;
+        own = λ at e. cc;
         here = λ i. record {
           disk = record { header = joined.given i; history = found.1 i; failed = joined.failed i };
           life = (life ∙ ap (λ (o : Option Header). life_of o true) (sym asks.0)) i;
@@ -97,14 +101,15 @@ module _ (cell : StoredCell) (kept : IsStoredKept cell) (n blocks area : ℕ) (s
       elim mounts [
         | inl same ↦ record {
           next = crashed actor;
-          known = record side { given = side.given };
+          known = side;
           said = refused_fault;
-          recovers = (refl, (header, asks.0, inr (side.given, moved cell (Crashes (TheClient n)), inl (refl, refl), refl, refl)));
+          recovers = (refl, (header, asks.0, inr (inl (side, moved cell (Crashes (TheClient n)), inl (refl, refl), refl, refl))));
           replied = says;
+          own = λ at e. cc;
           here = λ i. record { disk = same i; life = is_down i; left = none_left i };
         }
         | inr fresh ↦ (
-            let known : Side = record side { given = Some header } in
+            let known : Side = record side { given = Some header; foreign = false } in
             let mid = moved (moved cell (Recovers (TheClient n) false)) (Crashes (TheClient n)) in
             let empty = nil_mapped payload_by actor.history fresh.0 in
             let next = crashed (recovered false actor) in
@@ -116,8 +121,9 @@ module _ (cell : StoredCell) (kept : IsStoredKept cell) (n blocks area : ℕ) (s
               known = known;
               said = refused_fault;
               recovers = subst (λ (c : StoredCell). RecoversClient cell n refused_fault [] (with_client_side c n known)) mid_is
-                  (refl, (header, asks.0, inr (Some header, mid, inr (ap length empty, refl, refl), refl, refl)));
+                  (refl, (header, asks.0, inr (inl (known, mid, inr (ap length empty, refl, refl), refl, refl))));
               replied = says;
+              own = λ at e. cc;
               here = λ i. record { disk = disk i; life = is_down i; left = none_left i };
             })
       ]
@@ -159,7 +165,7 @@ module _ {D : Type 0} (told : D → Told) (out out1 : ℕ → Bool) (has has1 : 
         let found = client_found cell kept n blocks area size asks mounting reply (takes.0 n) says step.1 step.2 step.3 in
         record {
           next = with_area (with_client_side (with_actor cell n found.next) n found.known) area;
-          makes = (found.said, with_client_side (with_actor cell n found.next) n found.known, found.recovers, found.replied, refl);
+          makes = (found.said, with_client_side (with_actor cell n found.next) n found.known, found.recovers, found.replied, refl, found.own);
           answered = refl;
           stands = record {
             clock = is.clock;

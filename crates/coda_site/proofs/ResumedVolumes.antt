@@ -24,10 +24,10 @@ use Rattle.coda_script.specs.declared.reply.Reply.{Reply}
 use Rattle.coda_script.specs.declared.reply.Reply.TheVariants.{Recovered}
 use Rattle.coda_cell.specs.Cells.{IsNetwork}
 use Rattle.coda_cell.specs.State.{put}
-use Rattle.coda_stored.specs.Cells.{Side, StoredCell, life_of, plain_client, plain_replica, replica_header, disk_number, unmade, moved}
+use Rattle.coda_stored.specs.Cells.{Side, StoredCell, life_of, plain_client, plain_replica, standing, replica_header, disk_number, unmade, moved}
 use Rattle.coda_stored.specs.Kept.{IsStoredKept, IsReplicaSide, IsGiven}
-use Rattle.coda_stored.specs.Lines.{replica_payloads, with_replica_side, recovered_side, refused_fault, RecoversReplica}
-use Rattle.coda_stored.specs.Resuming.{Awaited, VolumeAgain, awaits_client, awaits_volume, servers_of, AsksAgain, opened_as, with_area}
+use Rattle.coda_stored.specs.Lines.{replica_payloads, replica_disk, MayTake, with_replica_side, recovered_side, refused_fault, RecoversReplica}
+use Rattle.coda_stored.specs.Resuming.{Awaited, VolumeAgain, awaits_client, awaits_volume, servers_of, AsksAgain, opened_as, with_area, IsOwn}
 use Rattle.coda_site.specs.Awaiting.{IsAwaiting, Resumes}
 use Rattle.coda_stored.specs.Seen.{asleep, home_unless}
 use Rattle.coda_site.specs.Makings.{SaysOpened}
@@ -39,6 +39,7 @@ use Rattle.coda_site.proofs.Makes.{up_made}
 use Rattle.coda_site.proofs.ReplicaLines.{kept_long, found_at, joined_in, ruler_put_twice}
 use Rattle.coda_site.proofs.ReplicaSites.{with_ruler, ruler_here}
 use Rattle.coda_site.proofs.NotedVolumes.{IsNoted}
+use Rattle.coda_site.proofs.Standings.{own_standing}
 
 -- what a mounting makes of a replica that is made again, which is what a recovery makes of it
 record FoundReplica (cell : StoredCell) (server volume : ℕ) (reply : Reply) (new : PlainActor KeptEntry) : Type 0 where
@@ -47,6 +48,7 @@ record FoundReplica (cell : StoredCell) (server volume : ℕ) (reply : Reply) (n
   pub said : Reply
   pub recovers : RecoversReplica cell server volume said [] (with_replica_side (with_ruler cell server volume next) volume known)
   pub replied : reply ≡ opened_as said
+  pub own : IsOwn said
   pub here : new ≡ plain_replica volume next known
 
 module _ (cell : StoredCell) (kept : IsStoredKept cell) (volume server area : ℕ) (home : cell.made.homes volume ≡ Some server) (asks : AsksAgain (cell.replicas volume) (replica_header volume server area)) where
@@ -64,6 +66,10 @@ module _ (cell : StoredCell) (kept : IsStoredKept cell) (volume server area : �
       let known = subst (λ (o : Option ℕ). IsReplicaSide volume o (λ s. cell.made.acted.replicas s volume) side) home (kept.replicas volume) in
       (replica_header volume server known.0, (let e : Some (replica_header volume server known.0) ≡ Some header = sym known.5 ∙ asks.0 in cc), known.6)
 
+  -- it has its own disk
+  standing_is : standing cell server volume ≡ plain_replica volume actor side
+  standing_is = own_standing cell server volume (kept.replicas_own volume)
+
   entries_found : (count : ℕ) (reply : Reply) (new : PlainActor KeptEntry) → SaysOpened (Entries count) reply → Mounts header (plain_replica volume actor side).disk (Entries count) new.disk → new.life ≡ life_opened header (Entries count) → new.left ≡ None
       → FoundReplica cell server volume reply new
   entries_found count reply new says mounts life left =
@@ -77,12 +83,15 @@ module _ (cell : StoredCell) (kept : IsStoredKept cell) (volume server area : �
       mounts.1 ∙ ap length found_so.1 ∙ kept_long volume [] next.history (λ e i. joined_in actor joins e (kept.alone server volume) i) ∙ ap (λ (a : Actor ReplicaEntry). length a.history) (sym at) in
       let read : IfSome side.left (ReadsAs header (replica_payloads volume ((moved cell (Recovers (TheReplica server volume) joins)).made.acted.replicas server volume).history)) =
       subst (λ (o : Option (List ℕ)). IfSome o (ReadsAs header (replica_payloads volume ((moved cell (Recovers (TheReplica server volume) joins)).made.acted.replicas server volume).history))) (sym asks.1) tt in
+      let takes : MayTake header (replica_disk cell server volume).header (replica_disk cell server volume).history =
+      subst (λ (p : PlainActor KeptEntry). MayTake header p.disk.header p.disk.history) (sym standing_is) (elim joined.was [ inl same ↦ inl same | inr none ↦ inr none.0 ]) in
       record {
         next = next;
         known = known;
         said = Recovered count;
-        recovers = (refl, (header, asks.0, inl (joins, ap Recovered many, read, refl)));
+        recovers = (refl, (header, asks.0, inl (joins, ap Recovered many, read, refl, takes)));
         replied = says;
+        own = λ at e. cc;
         here = λ i. record {
           disk = record { header = joined.given i; history = found_so.1 i; failed = joined.failed i };
           life = (life ∙ ap (λ (o : Option Header). life_of o true) (sym asks.0)) i;
@@ -98,27 +107,29 @@ module _ (cell : StoredCell) (kept : IsStoredKept cell) (volume server area : �
       elim mounts [
         | inl same ↦ record {
           next = crashed actor;
-          known = record side { given = side.given };
+          known = side;
           said = refused_fault;
-          recovers = (refl, (header, asks.0, inr (side.given, moved cell (Crashes (TheReplica server volume)), inl (refl, refl), refl, refl)));
+          recovers = (refl, (header, asks.0, inr (inl (side, moved cell (Crashes (TheReplica server volume)), inl (refl, refl), refl, refl))));
           replied = says;
+          own = λ at e. cc;
           here = λ i. record { disk = same i; life = is_down i; left = none_left i };
         }
         | inr fresh ↦ (
-            let known : Side = record side { given = Some header } in
+            let known : Side = record side { given = Some header; foreign = false } in
             let mid = moved (moved cell (Recovers (TheReplica server volume) false)) (Crashes (TheReplica server volume)) in
             let next = crashed (recovered false actor) in
             let mid_is : mid ≡ with_ruler cell server volume next =
             ap (λ (a : Actor ReplicaEntry). with_ruler (with_ruler cell server volume (recovered false actor)) server volume (crashed a)) (ruler_here cell server volume (recovered false actor)) ∙ ruler_put_twice cell server volume (recovered false actor) next in
             let disk : new.disk ≡ (plain_replica volume next known).disk = fresh.1 ∙ (λ i. record { header = Some header; history = sym fresh.0 i; failed = None }) in
-            let none : length actor.history ≡ 0 = sym (kept_long volume [] actor.history (λ e i. joined_in actor false e (kept.alone server volume) i)) ∙ ap length fresh.0 in
+            let none : length (replica_disk cell server volume).history ≡ 0 = ap (λ (p : PlainActor KeptEntry). length p.disk.history) standing_is ∙ ap length fresh.0 in
             record {
               next = next;
               known = known;
               said = refused_fault;
               recovers = subst (λ (c : StoredCell). RecoversReplica cell server volume refused_fault [] (with_replica_side c volume known)) mid_is
-                  (refl, (header, asks.0, inr (Some header, mid, inr (none, refl, refl), refl, refl)));
+                  (refl, (header, asks.0, inr (inl (known, mid, inr (none, refl, refl), refl, refl))));
               replied = says;
+              own = λ at e. cc;
               here = λ i. record { disk = disk i; life = is_down i; left = none_left i };
             })
       ]
@@ -224,7 +235,7 @@ module _ {D : Type 0} (told : D → Told) (out out1 : ℕ → Bool) (has has1 : 
         let found = replica_found cell kept volume server area home asks mounting reply (takes.0 disk) says step.1 step.2 step.3 in
         record {
           next = with_area (with_replica_side (with_ruler cell server volume found.next) volume found.known) area;
-          makes = (found.said, with_replica_side (with_ruler cell server volume found.next) volume found.known, found.recovers, found.replied, refl);
+          makes = (found.said, with_replica_side (with_ruler cell server volume found.next) volume found.known, found.recovers, found.replied, refl, found.own);
           answered = refl;
           stands = resumed_site found.next found.known takes.0 takes.2 found.here takes.1.1;
         }

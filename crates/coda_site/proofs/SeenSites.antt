@@ -5,14 +5,15 @@ use Rattle.std.proofs.lemmas.List.{length-append}
 use Rattle.coda_disk.specs.Told.{Told}
 use Rattle.coda_actors.specs.Plain.{PlainActor}
 use Rattle.coda_record.specs.declared.entry.ReplicaEntry.{ReplicaEntry as KeptEntry}
-use Rattle.coda_stored.specs.Cells.{StoredCell, plain_replica, unmade}
+use Rattle.coda_stored.specs.Cells.{Side, StoredCell, plain_replica, standing, unmade}
 use Rattle.coda_stored.specs.Kept.{IsStoredKept}
 use Rattle.coda_stored.specs.Resuming.{Awaited, ClientAgain, VolumeAgain, awaits_volume, servers_of, AreAwaited}
-use Rattle.coda_stored.specs.Seen.{asleep, home_unless, servers_before, idle_until, seen, StayAsleep}
+use Rattle.coda_stored.specs.Seen.{asleep, home_unless, servers_before, lying, idle_until, seen, StayAsleep}
 use Rattle.coda_stored.proofs.Seeing.{home_seen}
 use Rattle.coda_site.specs.Awaiting.{AreReplicasYet, IsAwaiting}
 use Rattle.coda_site.specs.declared.site.Site.{Site}
 use Rattle.coda_site.specs.Sites.{AreReplicas, IsSite}
+use Rattle.coda_site.proofs.Standings.{on_own, own_standing}
 
 -- the front of a list
 take_front : {A : Type 0} (front back : List A) → take (length front) (front ++ back) ≡ front
@@ -26,6 +27,10 @@ front_before front left =
     ap (λ (n : ℕ). take n (front ++ servers_of left)) many ∙ take_front front (servers_of left)
 
 -- ---- the disks of whoever is asleep
+
+asleep_own : (b : Bool) (side : Side) → side.foreign ≡ false → (asleep b side).foreign ≡ false
+asleep_own true side own = refl
+asleep_own false side own = own
 
 module _ (cell : StoredCell) (kept : IsStoredKept cell) where
   -- The disk is that of a volume that is asleep, or of none.
@@ -46,10 +51,11 @@ module _ (cell : StoredCell) (kept : IsStoredKept cell) where
   ]
   idle_at (VolumeAgain w t area ∷ left) volumes areas (there, asks, place, few, room, once, rest) number = elim (cases_eq number (cell.places w)) [
     | inl same ↦ OfAsleep w t there (ap (λ (b : Bool). b || awaits_volume left w) (eq-eqb w w refl)) (sym same)
-        (ap (λ (b : Bool). cond b (plain_replica w (cell.made.acted.replicas t w) (asleep true (cell.replicas w))) (idle_until cell left number)) (eq-eqb number (cell.places w) same))
+        (ap (λ (b : Bool). cond b (lying cell t w) (idle_until cell left number)) (eq-eqb number (cell.places w) same)
+        ∙ on_own (cell.replicas w).foreign (cell.others w) (plain_replica w (cell.made.acted.replicas t w) (asleep true (cell.replicas w))) (kept.replicas_own w))
     | inr other ↦ (
         let past : idle_until cell (VolumeAgain w t area ∷ left) number ≡ idle_until cell left number =
-        ap (λ (b : Bool). cond b (plain_replica w (cell.made.acted.replicas t w) (asleep true (cell.replicas w))) (idle_until cell left number)) (ne_eqb number (cell.places w) other) in
+        ap (λ (b : Bool). cond b (lying cell t w) (idle_until cell left number)) (ne_eqb number (cell.places w) other) in
         elim (idle_at left (volumes + 1) (areas + area) rest number) [
           | OfAsleep v s home waits at is ↦ OfAsleep v s home (or_more (v == w) (awaits_volume left v) waits) at (past ∙ is)
           | OfNone none is ↦ OfNone (λ v waits. by v waits none other) (past ∙ is)
@@ -70,9 +76,13 @@ module _ (cell : StoredCell) (kept : IsStoredKept cell) where
     home_awake : (v s : ℕ) → cell.made.homes v ≡ Some s → awaits_volume left v ≡ false → (seen cell left).made.homes v ≡ Some s
     home_awake v s home awake = ap (λ (b : Bool). home_unless b (cell.made.homes v)) awake ∙ home
 
+    -- each has its own disk, whether it is asleep or not
+    own_seen : (v s : ℕ) → standing (seen cell left) s v ≡ plain_replica v (cell.made.acted.replicas s v) (asleep (awaits_volume left v) (cell.replicas v))
+    own_seen v s = own_standing (seen cell left) s v (asleep_own (awaits_volume left v) (cell.replicas v) (kept.replicas_own v))
+
     pub replicas_seen : AreReplicasYet cell left plain → AreReplicas (seen cell left) plain
     replicas_seen yet = record {
-      placed = λ v s home. yet.placed v s (home_seen (awaits_volume left v) (cell.made.homes v) s home).1;
+      placed = λ v s home. yet.placed v s (home_seen (awaits_volume left v) (cell.made.homes v) s home).1 ∙ sym (own_seen v s);
       others = λ number none. by number none (idle_at left volumes areas are number);
     }
       where
@@ -110,7 +120,7 @@ module _ (cell : StoredCell) (kept : IsStoredKept cell) where
         placed_at v s home true e =
             are_seen.others (cell.places v) (awake_else v e s home) ∙ asleep_at v s (cell.places v) home e refl (idle_at left volumes areas are (cell.places v))
             ∙ ap (λ (b : Bool). plain_replica v (cell.made.acted.replicas s v) (asleep b (cell.replicas v))) (sym e)
-        placed_at v s home false e = are_seen.placed v s (home_awake v s home e)
+        placed_at v s home false e = are_seen.placed v s (home_awake v s home e) ∙ own_seen v s
 
         others_at : (number : ℕ) → ((v s : ℕ) → cell.made.homes v ≡ Some s → cell.places v ≡ number → ⊥) → IsIdle left number → plain number ≡ unmade
         others_at number none (OfAsleep v s home waits place is) = absurd (none v s home place)

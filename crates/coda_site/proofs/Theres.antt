@@ -25,12 +25,13 @@ use Rattle.coda_cell.specs.State.{ReplicaState, new_replica}
 use Rattle.coda_cell.specs.Steps.{Named, client_named, volume_named, server_named, holder_named, on_volume, on_holder, first_missing}
 use Rattle.coda_cell.specs.Refused.{NoSuchActor}
 use Rattle.coda_cell.proofs.Histories.{server_stays}
-use Rattle.coda_stored.specs.Cells.{Side, StoredCell, life_of, plain_client, plain_replica}
+use Rattle.coda_stored.specs.Cells.{Side, StoredCell, life_of, plain_client, plain_replica, standing}
 use Rattle.coda_stored.specs.Seen.{IsClientSeen, IsReplicaSeen, IsSeen}
 use Rattle.coda_stored.specs.Lines.{client_down, replica_down}
 use Rattle.coda_site.specs.Sites.{is_client_disk, is_replica_disk, place_in, IsSite, client_at, volume_at, server_at, holder_at}
 use Rattle.coda_site.specs.declared.site.Site.{Site}
 use Rattle.coda_site.specs.declared.site.Place.{Place}
+use Rattle.coda_site.proofs.Standings.{life_stands}
 
 -- ---- one actor
 
@@ -73,12 +74,12 @@ unmade_up None up is = refl
 unmade_up (Some h) up is = cc
 
 side_made : (n : ℕ) (size : Option ℕ) (actor : Actor ClientEntry) (side : Side) → IsClientSeen n size actor side → is_some side.asked ≡ is_some size
-side_made n None actor side is = ap is_some is
-side_made n (Some size) actor side is = ap is_some is.6
+side_made n None actor side is = ap is_some is.0
+side_made n (Some size) actor side is = ap is_some is.0.6
 
 replica_asks : (volume : ℕ) (home : Option ℕ) (server : ℕ) (actors : ℕ → Actor ReplicaEntry) (side : Side) → IsReplicaSeen volume home actors side → home ≡ Some server → (header : Header) × (side.asked ≡ Some header)
 replica_asks volume None server actors side is at = cc
-replica_asks volume (Some home) server actors side is at = (_, is.5)
+replica_asks volume (Some home) server actors side is at = (_, is.0.5)
 
 home_server : (home server : ℕ) → Some home ≡ Some server → home ≡ server
 home_server home server e = cc
@@ -150,25 +151,29 @@ module _ {D : Type 0} (told : D → Told) (out : ℕ → Bool) (has : ℕ → To
 
   -- the slot and the disk of the volume's replica stand for it
   pub replica_fits : (volume : ℕ) (p : Place) → place_in site volume ≡ Some p
-      → Fits (replica_form told) told (out p.disk) (has p.disk) (slot_at site.replicas p.disk) (plain_replica volume (cell.made.acted.replicas p.server volume) (cell.replicas volume))
+      → Fits (replica_form told) told (out p.disk) (has p.disk) (slot_at site.replicas p.disk) (standing cell p.server volume)
   replica_fits volume p there =
       subst (Fits (replica_form told) told (out p.disk) (has p.disk) (slot_at site.replicas p.disk))
       (ap is.replicas.0 (sym (disk_at volume p there)) ∙ is.replicas.1.placed volume p.server (home_at volume p there))
       (is.replicas.2 p.disk (is_replica_at volume p there))
 
-  replica_lawful : (server volume : ℕ) (header : Header) (replica : Replica D) → (replica_form told).IsUp header replica (plain_replica volume (cell.made.acted.replicas server volume) (cell.replicas volume)).disk.history → replica.down ≡ false
+  replica_lawful : (server volume : ℕ) (header : Header) (replica : Replica D) → (replica_form told).IsUp header replica (standing cell server volume).disk.history → replica.down ≡ false
   replica_lawful server volume header replica up = up.up
+
+  -- it lives as it does, whoever's the disk is
+  life_is : (volume server : ℕ) → (standing cell server volume).life ≡ life_of (cell.replicas volume).asked (cell.made.acted.replicas server volume).up
+  life_is volume server = life_stands (cell.replicas volume).foreign (cell.others volume) (plain_replica volume (cell.made.acted.replicas server volume) (cell.replicas volume))
 
   pub replica_made : (volume : ℕ) (p : Place) → place_in site volume ≡ Some p → is_made (slot_at site.replicas p.disk) ≡ true
   replica_made volume p there =
       let asks = replica_asks volume (cell.made.homes volume) p.server (λ server. cell.made.acted.replicas server volume) (cell.replicas volume) (kept.replicas volume) (home_at volume p there) in
-      made_so (replica_form told) told (out p.disk) (has p.disk) (plain_replica volume (cell.made.acted.replicas p.server volume) (cell.replicas volume)) (replica_lawful p.server volume) (slot_at site.replicas p.disk) (replica_fits volume p there)
+      made_so (replica_form told) told (out p.disk) (has p.disk) (standing cell p.server volume) (replica_lawful p.server volume) (slot_at site.replicas p.disk) (replica_fits volume p there) ∙ ap is_life_made (life_is volume p.server)
       ∙ life_made (cell.replicas volume).asked (cell.made.acted.replicas p.server volume).up ∙ ap is_some asks.1
 
   pub replica_up : (volume : ℕ) (p : Place) → place_in site volume ≡ Some p → is_up (replica_form told) (slot_at site.replicas p.disk) ≡ (cell.made.acted.replicas p.server volume).up
   replica_up volume p there =
       let asks = replica_asks volume (cell.made.homes volume) p.server (λ server. cell.made.acted.replicas server volume) (cell.replicas volume) (kept.replicas volume) (home_at volume p there) in
-      up_so (replica_form told) told (out p.disk) (has p.disk) (plain_replica volume (cell.made.acted.replicas p.server volume) (cell.replicas volume)) (replica_lawful p.server volume) (slot_at site.replicas p.disk) (replica_fits volume p there)
+      up_so (replica_form told) told (out p.disk) (has p.disk) (standing cell p.server volume) (replica_lawful p.server volume) (slot_at site.replicas p.disk) (replica_fits volume p there) ∙ ap is_life_up (life_is volume p.server)
       ∙ life_up asks.0 (cell.replicas volume).asked (cell.made.acted.replicas p.server volume).up asks.1
 
   -- the replica of a volume that was made is down where its slot isn't up

@@ -18,9 +18,9 @@ use Rattle.coda_record.specs.declared.entry.ReplicaEntry.{ReplicaEntry as KeptEn
 use Rattle.coda_replica.specs.declared.replica.Replica.{Replica}
 use Rattle.coda_script.specs.declared.reply.Reply.{Reply}
 use Rattle.coda_script.specs.declared.reply.Reply.TheVariants.{Opened}
-use Rattle.coda_stored.specs.Cells.{Side, StoredCell, plain_replica, replica_header, disk_number, unmade, moved}
+use Rattle.coda_stored.specs.Cells.{Side, StoredCell, plain_replica, on_disk, replica_header, disk_number, unmade, moved}
 use Rattle.coda_stored.specs.Kept.{IsStoredKept, IsReplicaSide}
-use Rattle.coda_stored.specs.Lines.{IsTried, Opens, with_volume}
+use Rattle.coda_stored.specs.Lines.{IsTried, asking, Opens, with_volume}
 use Rattle.coda_site.specs.Makings.{SaysOpened}
 use Rattle.coda_site.specs.Sites.{is_client_disk, is_replica_disk, IsSite}
 use Rattle.coda_site.specs.Steps.{Becomes}
@@ -67,16 +67,17 @@ module _ {D : Type 0} (told : D → Told) (out out1 : ℕ → Bool) (has has1 : 
 
   module _ (is_noted : IsNoted site volume here noted) where
     made_site : (side : Side) (next : Actor ReplicaEntry) (actors : ℕ → ℕ → Actor ReplicaEntry) (new : ℕ → PlainActor KeptEntry) → actors server volume ≡ next → ((s v : ℕ) → v ≢ volume → actors s v ≡ family s v)
-        → FitsAll (replica_form told) told is_replica_disk out1 has1 slots new → new disk ≡ plain_replica volume next side → ((k : ℕ) → k ≢ disk → new k ≡ plain k)
-        → IsSite told out1 has1 (left_with cell volume server area side actors) (record noted { replicas = slots; areas = noted.areas + area })
-    made_site = noted_site told out out1 has has1 cell site is volume server area absent slots be noted apart is_noted
+        → FitsAll (replica_form told) told is_replica_disk out1 has1 slots new → new disk ≡ on_disk side.foreign (cell.others volume) (plain_replica volume next side) → ((k : ℕ) → k ≢ disk → new k ≡ plain k)
+        → IsSite told out1 has1 (left_with cell volume server area side actors cell.others) (record noted { replicas = slots; areas = noted.areas + area })
+    made_site side next actors new own others =
+        noted_site told out out1 has has1 cell site is volume server area absent slots be noted apart is_noted side next actors cell.others new own others (λ v other. refl)
 
     -- its disk was mounted, or a call of it failed
     pub opens_volume : (mounting : Mounting) (reply : Reply) (answered : List (List ℕ)) → SaysOpened mounting reply → Takes (replica_form told) told is_replica_disk plain disk (OpenDeed header mounting) out1 has1 slots
         → Becomes told out1 has1 (Opens cell header (with_volume cell volume server area) (TheReplica server volume)) reply answered answered (record noted { replicas = slots; areas = noted.areas + area })
     opens_volume (Entries count) reply answered says takes =
         let step = subst (λ (p : PlainActor KeptEntry). Step (replica_form told) p (OpenDeed header (Entries count)) (takes.0 disk)) old_is takes.1.0 in
-        let side : Side = record { given = Some header; asked = Some header; left = None } in
+        let side : Side = asking header (Some header) in
         let found = none_found header (takes.0 disk).disk step.1.0 in
         let at : takes.0 disk ≡ plain_replica volume (family server volume) side =
         (λ i. record { disk = found i; life = step.2 i; left = step.3 i }) ∙ (λ i. plain_replica volume (sym (fresh.1 server) i) side) in
@@ -94,7 +95,7 @@ module _ {D : Type 0} (told : D → Told) (out out1 : ℕ → Bool) (has has1 : 
           | inl same ↦ (None, inl refl, same)
           | inr new ↦ (Some header, inr refl, new.1)
         ] in
-        let side : Side = record { given = tried.0; asked = Some header; left = None } in
+        let side : Side = asking header tried.0 in
         let next : Actor ReplicaEntry = crashed (family server volume) in
         let at : takes.0 disk ≡ plain_replica volume next side =
         (λ i. record { disk = tried.2 i; life = step.2 i; left = step.3 i }) ∙ (λ i. plain_replica volume (crashed (sym (fresh.1 server) i)) side) in

@@ -4,7 +4,7 @@ use Rattle.coda_disk.specs.Told.{Told}
 use Rattle.coda_plain.specs.Moves.{TheClient, TheReplica, Crashes}
 use Rattle.coda_stored.specs.Cells.{StoredCell, client_header, replica_header, moved}
 use Rattle.coda_stored.specs.Kept.{IsArea, IsStoredKept}
-use Rattle.coda_stored.specs.Lines.{with_client, with_volume}
+use Rattle.coda_stored.specs.Lines.{asking, with_client, with_volume}
 use Rattle.coda_stored.specs.Resuming.{Awaited, ClientAgain, VolumeAgain, servers_of, MakeAllAgain}
 use Rattle.coda_site.specs.Cells.{AreOnDisks}
 
@@ -12,12 +12,12 @@ use Rattle.coda_site.specs.Cells.{AreOnDisks}
 
 -- a cell with a client more, which was made and is down, and whose disk was never given a header
 abbrev pub with_new_client : StoredCell → ℕ → ℕ → ℕ → StoredCell
-with_new_client cell client blocks area = moved (with_client cell client blocks area (record { given = None; asked = Some (client_header client blocks area); left = None })) (Crashes (TheClient client))
+with_new_client cell client blocks area = moved (with_client cell client blocks area (asking (client_header client blocks area) None)) (Crashes (TheClient client))
 
 -- a cell with a volume more likewise, whose disk is that of its server behind all volumes that were made
 abbrev pub with_new_volume : StoredCell → ℕ → ℕ → ℕ → StoredCell
 with_new_volume cell volume server area =
-    moved (with_volume cell volume server area (record { given = None; asked = Some (replica_header volume server area); left = None })) (Crashes (TheReplica server volume))
+    moved (with_volume cell volume server area (asking (replica_header volume server area) None)) (Crashes (TheReplica server volume))
 
 -- Disks that stand for a cell stand as well for it with a client that wasn't made: so a later run may make one again that is new.
 abbrev pub NewClientsMayCome : {D : Type 0} → (D → Told) → (ℕ → Told) → Type 0

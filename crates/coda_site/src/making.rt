@@ -1,5 +1,5 @@
 // Lines that make actors.
-ghost use Rattle.std.specs.Prelude.{◌≡◌, ◌≢◌, ◌⊎◌, ◌≤◌, ◌<◌, ◌∷◌, ◌++◌, [], ℕ, List, ◌==◌, is_some, if◌then◌else◌, length, Some, None, IfOk, OnOk, OnErr, Err, false};
+ghost use Rattle.std.specs.Prelude.{◌≡◌, ◌≢◌, ◌≤◌, ◌<◌, ◌∷◌, ◌++◌, [], ℕ, List, ◌==◌, is_some, if◌then◌else◌, length, Some, None, IfOk, OnOk, OnErr, Err, false};
 ghost use Rattle.coda_io.specs.Faults.{Rose};
 ghost use Rattle.coda_crew.specs.declared.fault.CrewFault.TheVariants as crew_faults;
 ghost use Rattle.coda_script.specs.Ranges.{InRange};
@@ -8,7 +8,7 @@ ghost use Rattle.coda_script.specs.declared.line.Line.TheVariants as line;
 ghost use Rattle.coda_script.specs.declared.reply.Reply.TheVariants as reply;
 ghost use Rattle.coda_stored.specs.Cells.{StoredCell, client_header, replica_header, disk_number};
 ghost use Rattle.coda_stored.specs.Kept.{IsStoredKept};
-ghost use Rattle.coda_stored.specs.Lines.{no_volume, no_client, refused_fault, Happens, MakesVolume};
+ghost use Rattle.coda_stored.specs.Lines.{no_volume, no_client, Happens, MakesVolume};
 ghost use Rattle.coda_stored.specs.Mounted.{Shelf, IsShelved, ClientFinds, VolumeFinds};
 ghost use Rattle.coda_stored.specs.Seen.{IsSeen, mounts_none};
 ghost use Rattle.coda_stored.specs.Resuming.{Awaited, ClientAgain, VolumeAgain, AreAwaited};
@@ -208,7 +208,7 @@ pub fn make_volume<B: Bay>(
     ensures mounts { (cell : StoredCell) (servers : List ℕ) → alone servers ≡ server → IsSeen cell → mounts_none cell (line.Volume volume servers (Some area)) ≡ false → IsSite B.D.told (B.out bay.old) (B.has bay.old) cell site.old
         → IfOk result (λ said. Mounts B.D.told (B.out bay.new) (B.has bay.new) cell (line.Volume volume servers (Some area)) said (B.answered bay.old) (B.answered bay.new) site.new) }
     ensures finds { (cell : StoredCell) (shelf : Shelf) → IsSeen cell → is_some (no_volume cell volume area) ≡ false → IsShelved cell server shelf → IsSite B.D.told (B.out bay.old) (B.has bay.old) cell site.old
-        → IfOk result (λ said. Becomes B.D.told (B.out bay.new) (B.has bay.new) (VolumeFinds cell shelf volume server area) said (B.answered bay.old) (B.answered bay.new) site.new ⊎ ((shelf.volume ≢ volume) × (said ≡ refused_fault))) }
+        → IfOk result (λ said. Becomes B.D.told (B.out bay.new) (B.has bay.new) (VolumeFinds cell shelf volume server area) said (B.answered bay.old) (B.answered bay.new) site.new) }
     ensures net { site.new.net ≡ site.old.net }
     ensures later { B.faults bay.old ≤ B.faults bay.new }
     ensures bay_cause { result ≡ Err CellFault.Bay → Rose (B.faults bay.old) (B.faults bay.new) }

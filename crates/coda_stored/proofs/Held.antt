@@ -14,18 +14,18 @@ use Rattle.coda_script.specs.declared.line.Line.{Line}
 use Rattle.coda_script.specs.declared.line.Line.TheVariants as line
 use Rattle.coda_script.specs.declared.reply.Reply.{Reply}
 use Rattle.coda_cell.specs.Steps.{alone}
-use Rattle.coda_stored.specs.Cells.{Side, StoredCell}
+use Rattle.coda_stored.specs.Cells.{Side, StoredCell, IsAnothers}
 use Rattle.coda_stored.specs.Held.{owned, lying_disk, IsShelfKept, AreClients, AreHomes, IsHeld}
 use Rattle.coda_stored.specs.Kept.{IsCellKept}
 use Rattle.coda_stored.specs.Lines.{Happens}
 use Rattle.coda_stored.specs.Mounted.{Shelf, plain_shelf}
 use Rattle.coda_stored.specs.Resuming.{Awaited, ClientAgain, VolumeAgain, awaits_client, awaits_volume, servers_of}
-use Rattle.coda_stored.specs.Seen.{asleep, home_unless, servers_before, idle_until, seen, mounts_none, IsSeen}
+use Rattle.coda_stored.specs.Seen.{asleep, home_unless, servers_before, idle_until, seen, mounts_none, IsSeen, AreOthersBeside}
 use Rattle.coda_stored.proofs.Absent.{meanwhile_idle}
 use Rattle.coda_stored.proofs.Between.{meanwhile_begins}
 use Rattle.coda_stored.proofs.Meanwhile.{happens_meanwhile}
 use Rattle.coda_stored.proofs.Owning.{IsOwned, line_owned, line_foreign}
-use Rattle.coda_stored.proofs.Seeing.{client_seen, replica_seen, home_seen, none_left}
+use Rattle.coda_stored.proofs.Seeing.{client_seen, replica_seen, home_seen, none_left, others_seen}
 
 -- ---- shelves
 
@@ -124,6 +124,8 @@ held_lines old new said reply outside held range none does =
       clients_beside = is.beside.clients;
       clients_down = is.beside.down;
       replicas_beside = is.beside.replicas;
+      others_beside = λ volume foreign. let b = held.others_beside volume (came volume foreign) in
+          (b.0, mid.2.stays.replicas_ask volume ∙ b.1, subst (λ (f : ℕ → PlainDisk KeptEntry). IsAnothers b.0 (f volume).header) (sym mid.2.stays.others) b.2);
       shelves = λ number. shelf_stays held.behind mid.0 (held.behind.idle number) (mid.0.idle number) begins is.kept (ap (λ (f : ℕ → PlainActor KeptEntry). f number) idle) (held.shelves number);
       others = λ volume foreign. shelf_stays held.behind mid.0 (lying_disk (held.behind.others volume)) (lying_disk (mid.0.others volume)) begins is.kept
           (ap (λ (f : ℕ → PlainDisk KeptEntry). lying_disk (f volume)) mid.2.stays.others) (held.others volume (came volume foreign));
@@ -141,13 +143,14 @@ held_lines old new said reply outside held range none does =
 shelf_unmade : (shelf : Shelf) → ((plain_shelf shelf).life ≡ Unmade) × ((plain_shelf shelf).left ≡ None)
 shelf_unmade shelf = (refl, refl)
 
-pub behind_seen : (cell : StoredCell) (left : List Awaited) → AreClients left → IsOwned cell → ((number : ℕ) → IsShelfKept cell (cell.idle number)) → IsSeen (seen cell left)
-behind_seen cell left clients is shelves = let kept = is.kept in let beside = is.beside in record {
+pub behind_seen : (cell : StoredCell) (left : List Awaited) → AreClients left → IsOwned cell → ((volume : ℕ) → AreOthersBeside cell volume) → ((number : ℕ) → IsShelfKept cell (cell.idle number)) → IsSeen (seen cell left)
+behind_seen cell left clients is others shelves = let kept = is.kept in let beside = is.beside in record {
   replicas_up = kept.replicas_up;
   lawful = λ client volume. ((kept.kept none_joins).sound.agree none_joins).lawful client volume;
   ruled = λ server volume. ((kept.kept none_joins).sound.agree none_joins).ruled server volume;
   clients = λ client. client_seen client (cell.made.sizes client) (awaits_client left client) (cell.made.acted.clients client) (cell.clients client) (beside.clients client) (beside.down client) (kept.clients client);
   replicas = λ volume. replica_seen volume (cell.made.homes volume) (awaits_volume left volume) (λ server. cell.made.acted.replicas server volume) (cell.replicas volume) (beside.replicas volume) (kept.replicas volume);
+  others = λ volume. others_seen cell left volume (others volume);
   placed = λ volume server home. let p = kept.placed volume server (home_seen (awaits_volume left volume) (cell.made.homes volume) server home).1 in (p.0, p.2);
   apart = λ volume other server home first second same. kept.apart volume other server home (home_seen (awaits_volume left volume) (cell.made.homes volume) server first).1 (home_seen (awaits_volume left other) (cell.made.homes other) home second).1 same;
   alone = kept.alone;
@@ -158,7 +161,7 @@ behind_seen cell left clients is shelves = let kept = is.kept in let beside = is
 }
 
 pub held_seen : (cell : StoredCell) → IsHeld cell → IsSeen cell
-held_seen cell held = subst IsSeen (sym held.is) (behind_seen held.behind held.left held.clients (owned_behind cell held) held.shelves)
+held_seen cell held = subst IsSeen (sym held.is) (behind_seen held.behind held.left held.clients (owned_behind cell held) held.others_beside held.shelves)
 
 -- ---- what is promised
 

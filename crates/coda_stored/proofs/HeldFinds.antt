@@ -21,7 +21,7 @@ use Rattle.coda_stored.specs.Held.{IsShelfKept, lying_disk, AreClients, IsHeld, 
 use Rattle.coda_stored.specs.Lines.{asking, MayTake, area_of, no_volume}
 use Rattle.coda_stored.specs.Mounted.{Shelf, plain_shelf, blank, Making, IsNoOthers, FindsDisk, asking_elsewhere, client_elsewhere, volume_elsewhere, making_client, making_volume, ClientFinds, VolumeFinds, IsShelved}
 use Rattle.coda_stored.specs.Resuming.{Awaited, ClientAgain, VolumeAgain, awaits_client, awaits_volume}
-use Rattle.coda_stored.specs.Seen.{asleep, home_unless, seen, mounts_none}
+use Rattle.coda_stored.specs.Seen.{asleep, home_unless, seen, mounts_none, AreOthersBeside}
 use Rattle.coda_stored.proofs.Held.{owned_behind, shelf_stays, among, seen_among, given_asleep, held_lines, held_seen, held_promised}
 use Rattle.coda_stored.proofs.HeldClients.{IsMadeOn as IsClientMade, client_finds}
 use Rattle.coda_stored.proofs.HeldFirst.{held_first, held_begun, clients_begin}
@@ -158,6 +158,7 @@ module _ (old : StoredCell) (held : IsHeld old) (client blocks : ℕ) (area : Op
     clients_beside = made.keeps.beside.clients;
     clients_down = made.keeps.beside.down;
     replicas_beside = made.keeps.beside.replicas;
+    others_beside = λ volume. subst (λ (m : StoredCell). AreOthersBeside m volume) (sym made.is_made) (held.others_beside volume);
     shelves = λ number. shelf_stays held.behind mid (held.behind.idle number) (mid.idle number) begins made.keeps.kept (ap (λ (c : StoredCell). c.idle number) made.is_made) (held.shelves number);
     others = λ volume foreign. shelf_stays held.behind mid (lying_disk (held.behind.others volume)) (lying_disk (mid.others volume)) begins made.keeps.kept (ap (λ (c : StoredCell). lying_disk (c.others volume)) made.is_made)
         (held.others volume (ap (λ (c : StoredCell). (c.replicas volume).foreign) (sym made.is_made) ∙ foreign));
@@ -186,6 +187,7 @@ module _ (old : StoredCell) (held : IsHeld old) (client blocks : ℕ) (area : Op
     clients_beside = held.clients_beside;
     clients_down = held.clients_down;
     replicas_beside = held.replicas_beside;
+    others_beside = held.others_beside;
     shelves = held.shelves;
     others = held.others;
     names = held.names;
@@ -325,6 +327,7 @@ module _ (old : StoredCell) (held : IsHeld old) (volume : ℕ) (servers : List �
     clients_beside = made.keeps.beside.clients;
     clients_down = made.keeps.beside.down;
     replicas_beside = made.keeps.beside.replicas;
+    others_beside = λ v. subst (λ (m : StoredCell). AreOthersBeside m v) (sym made.is_made) (aside v);
     shelves = λ number. shelf_stays held.behind mid (held.behind.idle number) (mid.idle number) begins made.keeps.kept (ap (λ (c : StoredCell). c.idle number) made.is_made) (held.shelves number);
     others = λ v foreign. shelf_stays held.behind mid (lying_disk (made.others v)) (lying_disk (mid.others v)) begins made.keeps.kept (ap (λ (c : StoredCell). lying_disk (c.others v)) made.is_made)
         (lies v (ap (λ (c : StoredCell). (c.replicas v).foreign) (sym made.is_made) ∙ foreign));
@@ -334,6 +337,14 @@ module _ (old : StoredCell) (held : IsHeld old) (volume : ℕ) (servers : List �
     where
       begins : (c : ℕ) → BeginsWith (mid.made.acted.clients c).history (held.behind.made.acted.clients c).history
       begins c = subst (λ (m : StoredCell). BeginsWith (m.made.acted.clients c).history (held.behind.made.acted.clients c).history) (sym made.is_made) (same_entries (held.behind.made.acted.clients c).history)
+
+      aside : (v : ℕ) → (cond (v == volume) made.side (held.behind.replicas v)).foreign ≡ true
+          → (header : Header) × ((cond (v == volume) made.side (held.behind.replicas v)).asked ≡ Some header) × IsAnothers header (made.others v).header
+      aside v = elim (v == volume) as (λ b. (v == volume) ≡ b → (cond b made.side (held.behind.replicas v)).foreign ≡ true
+          → (header : Header) × ((cond b made.side (held.behind.replicas v)).asked ≡ Some header) × IsAnothers header (made.others v).header) [
+        | true ↦ λ e foreign. subst (λ n. (header : Header) × (made.side.asked ≡ Some header) × IsAnothers header (made.others n).header) (sym (eqb-true v volume e)) (made.aside foreign)
+        | false ↦ λ e foreign. subst (λ (d : PlainDisk KeptEntry). (header : Header) × ((held.behind.replicas v).asked ≡ Some header) × IsAnothers header d.header) (sym (made.else v (eqb-false v volume e))) (held.others_beside v foreign)
+      ] refl
 
       lies : (v : ℕ) → (cond (v == volume) made.side (held.behind.replicas v)).foreign ≡ true → IsShelfKept held.behind (lying_disk (made.others v))
       lies v = elim (v == volume) as (λ b. (v == volume) ≡ b → (cond b made.side (held.behind.replicas v)).foreign ≡ true → IsShelfKept held.behind (lying_disk (made.others v))) [

@@ -19,7 +19,7 @@ use Rattle.coda_cell.specs.Made.{MadeCell}
 use Rattle.coda_cell.specs.Runs.{IsSaid, ArePooled, IsKept}
 use Rattle.coda_cell.specs.State.{put}
 use Rattle.coda_matching.specs.Replicas.{IsDecision}
-use Rattle.coda_stored.specs.Cells.{Side, StoredCell, replica_header}
+use Rattle.coda_stored.specs.Cells.{Side, StoredCell, replica_header, IsAnothers}
 use Rattle.coda_stored.specs.Held.{owned, lying_disk, IsShelfKept}
 use Rattle.coda_stored.specs.Kept.{found_up, whole, IsGiven, IsArea, IsCellKept}
 use Rattle.coda_stored.specs.Lines.{asking}
@@ -183,6 +183,7 @@ module _ (old : StoredCell) (is : IsOwned old) (volume server area : ℕ) (none 
     pub others : ℕ → PlainDisk KeptEntry
     pub is_made : new ≡ record (making_volume old volume server area actor side) { others = others }
     pub keeps : IsOwned new
+    pub aside : side.foreign ≡ true → (header : Header) × (side.asked ≡ Some header) × IsAnothers header (others volume).header
     pub here : side.foreign ≡ true → IsShelfKept old (lying_disk (others volume))
     pub else : (v : ℕ) → v ≢ volume → others v ≡ old.others v
 
@@ -205,6 +206,7 @@ module _ (old : StoredCell) (is : IsOwned old) (volume server area : ℕ) (none 
   }
 
   module _ (actor : Actor ReplicaEntry) (side : Side) (others : ℕ → PlainDisk KeptEntry) (beside : IsBeside side) (kept : IsCellKept (making_volume (owned old) volume server area actor (own_replica side)))
+      (aside : side.foreign ≡ true → (header : Header) × (side.asked ≡ Some header) × IsAnothers header (others volume).header)
       (here : side.foreign ≡ true → IsShelfKept old (lying_disk (others volume))) (else : (v : ℕ) → v ≢ volume → others v ≡ old.others v) where
     made_on : (new : StoredCell) → new ≡ record (making_volume old volume server area actor side) { others = others } → IsMadeOn new
     made_on new same = record {
@@ -220,13 +222,14 @@ module _ (old : StoredCell) (is : IsOwned old) (volume server area : ℕ) (none 
           replicas = λ v. elim (v == volume) as (λ b. IsBeside (cond b side (old.replicas v))) [ true ↦ beside | false ↦ is.beside.replicas v ];
         };
       });
+      aside = aside;
       here = here;
       else = else;
     }
 
   -- on a disk that is its own
   on_own : (actor : Actor ReplicaEntry) (given : Option Header) → IsCellKept (making_volume (owned old) volume server area actor (asking asked given)) → (new : StoredCell) → new ≡ making_volume old volume server area actor (asking asked given) → IsMadeOn new
-  on_own actor given kept new same = made_on actor (asking asked given) old.others (no_other (asking asked given) refl) kept (never (asking asked given) refl) (λ v other. refl) new same
+  on_own actor given kept new same = made_on actor (asking asked given) old.others (no_other (asking asked given) refl) kept (never (asking asked given) refl) (never (asking asked given) refl) (λ v other. refl) new same
 
   own_kept : (actor : Actor ReplicaEntry) (given : Option Header) → (actor.up ≡ true → actor.failed ≡ None) → ((entry : ReplicaEntry) → In entry (found true actor) → IsDecision entry) → IsGiven given asked actor
       → ((joins : Bool) → DoesFit (λ client. (old.made.acted.clients client).history) server volume (found joins actor)) → IsCellKept (making_volume (owned old) volume server area actor (asking asked given))
@@ -250,6 +253,7 @@ module _ (old : StoredCell) (is : IsOwned old) (volume server area : ℕ) (none 
   volume_finds shelf own reply outside new (inr (inr (inr (inl (another, said))))) =
       inr (made_on (crashed new_actor) (asking_elsewhere asked shelf.given) (put old.others volume (plain_shelf shelf).disk) (λ foreign. (asked, refl, another))
       (own_kept (crashed new_actor) None (λ up. cc) (λ entry i. absurd i) (refl, refl, refl) (λ b. nothing _ (found_nothing b (crashed new_actor) refl refl)))
+      (λ foreign. (asked, refl, subst (λ (d : PlainDisk KeptEntry). IsAnothers asked d.header) (sym (ap (λ b. cond b (plain_shelf shelf).disk (old.others volume)) (eq-eqb volume volume refl))) another))
       (λ foreign. subst (λ (d : PlainDisk KeptEntry). IsShelfKept old (lying_disk d)) (sym (ap (λ b. cond b (plain_shelf shelf).disk (old.others volume)) (eq-eqb volume volume refl))) own.lies)
       (λ v other. ap (λ b. cond b (plain_shelf shelf).disk (old.others v)) (ne_eqb v volume other)) new said.2)
   volume_finds shelf own reply outside new (inr (inr (inr (inr (empty, said))))) =

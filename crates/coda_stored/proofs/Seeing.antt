@@ -1,5 +1,6 @@
 -- A cell that is kept, and what is seen of it, is one that is seen.
 use Rattle.std.proofs.Common.{◌≡◌, ℕ, ◌==◌, Bool, true, false, cond, List, [], ◌∷◌, Option, Some, None, refl, sym, ap, ◌∙◌, subst}
+use Rattle.coda_journal.specs.declared.header.Header.{Header}
 use Rattle.coda_actors.specs.Plain.{PlainActor, Unmade}
 use Rattle.coda_plain.specs.Cell.{ClientEntry, Actor}
 use Rattle.coda_plain.specs.Decisions.{ReplicaEntry, AreDecisions}
@@ -7,10 +8,10 @@ use Rattle.coda_plain.specs.Deeds.{AreLawful}
 use Rattle.coda_plain.specs.Moves.{done_on}
 use Rattle.coda_plain.proofs.Soundness.{none_joins}
 use Rattle.coda_record.specs.declared.entry.ReplicaEntry.{ReplicaEntry as KeptEntry}
-use Rattle.coda_stored.specs.Cells.{Side, StoredCell, on_disk, plain_replica}
+use Rattle.coda_stored.specs.Cells.{Side, StoredCell, on_disk, plain_replica, IsAnothers}
 use Rattle.coda_stored.specs.Kept.{IsClientSide, IsReplicaSide, IsStoredKept}
 use Rattle.coda_stored.specs.Resuming.{Awaited, ClientAgain, VolumeAgain, awaits_client, awaits_volume}
-use Rattle.coda_stored.specs.Seen.{asleep, home_unless, lying, idle_until, seen, own_given, own_client, own_replica, IsBeside, IsClientSeen, IsReplicaSeen, IsSeen}
+use Rattle.coda_stored.specs.Seen.{asleep, home_unless, lying, idle_until, seen, own_given, own_client, own_replica, IsBeside, IsClientSeen, IsReplicaSeen, IsSeen, AreOthersBeside}
 
 -- ---- disks that are another's
 
@@ -87,6 +88,18 @@ lawful_in cell kept client volume = ((kept.kept none_joins).sound.agree none_joi
 ruled_in : (cell : StoredCell) → IsStoredKept cell → (server volume : ℕ) → AreDecisions volume (cell.made.acted.replicas server volume).history
 ruled_in cell kept server volume = ((kept.kept none_joins).sound.agree none_joins).ruled server volume
 
+-- a volume that is seen stands where it stood
+pub others_seen : (cell : StoredCell) (left : List Awaited) (volume : ℕ) → AreOthersBeside cell volume → AreOthersBeside (seen cell left) volume
+others_seen cell left volume = by (awaits_volume left volume)
+  where
+    by : (b : Bool) → AreOthersBeside cell volume
+        → (asleep b (cell.replicas volume)).foreign ≡ true → (header : Header) × ((asleep b (cell.replicas volume)).asked ≡ Some header) × IsAnothers header (cell.others volume).header
+    by true beside e = (let no : false ≡ true = e in cc)
+    by false beside e = beside e
+
+own_others : (cell : StoredCell) → IsStoredKept cell → (volume : ℕ) → AreOthersBeside cell volume
+own_others cell kept volume e = (let no : false ≡ true = sym (kept.replicas_own volume) ∙ e in cc)
+
 pub seen_is_seen : (cell : StoredCell) (left : List Awaited) → IsStoredKept cell → IsSeen (seen cell left)
 seen_is_seen cell left kept = record {
   replicas_up = kept.replicas_up;
@@ -94,6 +107,7 @@ seen_is_seen cell left kept = record {
   ruled = ruled_in cell kept;
   clients = λ client. client_seen client (cell.made.sizes client) (awaits_client left client) (cell.made.acted.clients client) (cell.clients client) (own_beside (cell.clients client) (kept.clients_own client)) (client_down cell kept client) (clients_sided cell kept client);
   replicas = λ volume. replica_seen volume (cell.made.homes volume) (awaits_volume left volume) (λ server. cell.made.acted.replicas server volume) (cell.replicas volume) (own_beside (cell.replicas volume) (kept.replicas_own volume)) (replicas_sided cell kept volume);
+  others = λ volume. others_seen cell left volume (own_others cell kept volume);
   placed = λ volume server home. let p = kept.placed volume server (home_seen (awaits_volume left volume) (cell.made.homes volume) server home).1 in (p.0, p.2);
   apart = λ volume other server home first second same. kept.apart volume other server home (home_seen (awaits_volume left volume) (cell.made.homes volume) server first).1 (home_seen (awaits_volume left other) (cell.made.homes other) home second).1 same;
   alone = kept.alone;
@@ -108,6 +122,7 @@ kept_is_seen cell kept = record {
   ruled = ruled_in cell kept;
   clients = λ client. client_seen client (cell.made.sizes client) false (cell.made.acted.clients client) (cell.clients client) (own_beside (cell.clients client) (kept.clients_own client)) (client_down cell kept client) (clients_sided cell kept client);
   replicas = λ volume. replica_seen volume (cell.made.homes volume) false (λ server. cell.made.acted.replicas server volume) (cell.replicas volume) (own_beside (cell.replicas volume) (kept.replicas_own volume)) (replicas_sided cell kept volume);
+  others = own_others cell kept;
   placed = λ volume server home. let p = kept.placed volume server home in (p.0, p.2);
   apart = kept.apart;
   alone = kept.alone;

@@ -18,7 +18,7 @@ use Rattle.coda_stored.specs.Kept.{IsCellKept, IsStoredKept}
 use Rattle.coda_stored.specs.Lines.{Happens}
 use Rattle.coda_stored.specs.Mounted.{Shelf, plain_shelf, HoldsShelf, LineFinds}
 use Rattle.coda_stored.specs.Resuming.{at_rest, Awaited, ClientAgain, VolumeAgain, awaits_client, awaits_volume, MakeAllAgain}
-use Rattle.coda_stored.specs.Seen.{own_client, own_replica, IsBeside, seen, idle_until, mounts_none, IsSeen}
+use Rattle.coda_stored.specs.Seen.{own_client, own_replica, IsBeside, AreOthersBeside, seen, idle_until, mounts_none, IsSeen}
 
 -- ---- disks that stand by themselves
 
@@ -103,6 +103,7 @@ pub record IsHeld (cell : StoredCell) : Type 0 where
   pub clients_beside : (client : ℕ) → IsBeside (behind.clients client)
   pub clients_down : (client : ℕ) → (behind.clients client).foreign ≡ true → (behind.made.acted.clients client).up ≡ false
   pub replicas_beside : (volume : ℕ) → IsBeside (behind.replicas volume)
+  pub others_beside : (volume : ℕ) → AreOthersBeside behind volume
   pub shelves : (number : ℕ) → IsShelfKept behind (behind.idle number)
   pub others : (volume : ℕ) → (behind.replicas volume).foreign ≡ true → IsShelfKept behind (lying_disk (behind.others volume))
   pub names : List Awaited

@@ -110,6 +110,10 @@ own_replica side = record side { given = own_given side.foreign None side.given;
 abbrev pub IsBeside : Side → Type 0
 IsBeside side = side.foreign ≡ true → (header : Header) × (side.asked ≡ Some header) × IsAnothers header side.given
 
+-- nor was the disk given it that a volume's replica stands on instead of its own
+abbrev pub AreOthersBeside : StoredCell → ℕ → Type 0
+AreOthersBeside cell volume = (cell.replicas volume).foreign ≡ true → (header : Header) × ((cell.replicas volume).asked ≡ Some header) × IsAnothers header (cell.others volume).header
+
 -- What is known of the disk of a client: where no line made it, that nobody asks for it; and where it is another's, that the client is down.
 abbrev pub IsClientSeen : ℕ → Option ℕ → Actor ClientEntry → Side → Type 0
 IsClientSeen client None actor side = (side.asked ≡ None) × (side.foreign ≡ false)
@@ -129,6 +133,7 @@ pub record IsSeen (cell : StoredCell) : Type 0 where
   pub ruled : (server volume : ℕ) → AreDecisions volume (cell.made.acted.replicas server volume).history
   pub clients : (client : ℕ) → IsClientSeen client (cell.made.sizes client) (cell.made.acted.clients client) (cell.clients client)
   pub replicas : (volume : ℕ) → IsReplicaSeen volume (cell.made.homes volume) (λ server. cell.made.acted.replicas server volume) (cell.replicas volume)
+  pub others : (volume : ℕ) → AreOthersBeside cell volume
   pub placed : (volume server : ℕ) → cell.made.homes volume ≡ Some server → (before : ℕ) × (cell.places volume ≡ disk_number before server)
   pub apart : (volume other server home : ℕ) → cell.made.homes volume ≡ Some server → cell.made.homes other ≡ Some home → cell.places volume ≡ cell.places other → volume ≡ other
   pub alone : (server volume : ℕ) (entry : ReplicaEntry) → In entry (found true (cell.made.acted.replicas server volume)) → IsDecision entry

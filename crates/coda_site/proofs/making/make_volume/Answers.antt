@@ -1,4 +1,4 @@
-use Rattle.std.proofs.Common.{◌≡◌, ◌≢◌, ◌⊎◌, ◌+◌, ◌≤◌, ◌<◌, ◌==◌, ℕ, List, true, false, cond, length, Some, None, sym, ap, subst, ◌∙◌, arith}
+use Rattle.std.proofs.Common.{◌≡◌, ◌+◌, ◌≤◌, ◌<◌, ◌==◌, ℕ, List, true, false, cond, length, Some, None, sym, ap, subst, ◌∙◌, arith}
 use Rattle.std.proofs.lemmas.Bool.{false≢true}
 use Rattle.std.specs.Prelude.{nat_lt, nat_le, ◌||◌, is_some}
 use Rattle.coda_journal.specs.declared.header.Header.{Header}
@@ -12,7 +12,7 @@ use Rattle.coda_script.specs.declared.line.Line.TheVariants as line
 use Rattle.coda_script.specs.declared.reply.Reply.{Reply}
 use Rattle.coda_cell.specs.Refused.{AlreadyThere, CellFull}
 use Rattle.coda_stored.specs.Cells.{replica_header, disk_number}
-use Rattle.coda_stored.specs.Lines.{MakesVolume, Opens, refused_fault, no_volume, with_volume}
+use Rattle.coda_stored.specs.Lines.{MakesVolume, Opens, no_volume, with_volume}
 use Rattle.coda_stored.specs.Mounted.{VolumeFinds}
 use Rattle.coda_stored.specs.Resuming.{VolumeAgain}
 use Rattle.coda_site.specs.Awaiting.{Resumes}
@@ -403,7 +403,7 @@ returns-after-is_made-clause-finds g c = λ cell shelf seen mounts shelved is.
     } in
     if_ok _ c.opened.result (λ reply e.
     let says = said_ok (λ (said : Reply). SaysOpened mounting said) c.opened.result reply e c.opened.ensures.says in
-    subst (λ (a : List (List ℕ)). Becomes told out1 has1 (VolumeFinds cell shelf volume server area) reply before a c.if-is_made.site ⊎ ((shelf.volume ≢ volume) × (reply ≡ refused_fault))) (sym c.in-Ok.ensures.answered)
+    subst (λ (a : List (List ℕ)). Becomes told out1 has1 (VolumeFinds cell shelf volume server area) reply before a c.if-is_made.site) (sym c.in-Ok.ensures.answered)
     (volume_finds told out out1 has has1 cell seen site is c.requires.ready volume server area absent shelf shelved c.open.new.slots be noted is_noted mounting reply before (slot_at c.open.new.slots number) c.if-is_made.site says takes c.in-Ok.ensures.opened
     (λ made. elim c.if-is_made.branch [
       | then-is_made w ↦ w.site-is ∙ ap (λ (a : ℕ). record noted { replicas = c.open.new.slots; areas = noted.areas + a }) w.from-then-is_made.ensures

@@ -1,4 +1,4 @@
-use Rattle.std.proofs.Common.{rules, ◌≡◌, ◌≢◌, ◌⊎◌, inl, inr, ℕ, false, Some, is_some, sym, ap, subst, ◌∙◌}
+use Rattle.std.proofs.Common.{rules, ◌≡◌, ℕ, false, Some, is_some, sym, ap, subst, ◌∙◌}
 use Rattle.std.proofs.lemmas.Result.{IfOk-weaker}
 use Rattle.coda_script.specs.declared.line.Line.{Line}
 use Rattle.coda_script.specs.declared.line.Line.TheVariants as line
@@ -8,7 +8,7 @@ use Rattle.coda_actors.specs.Plain.{HasOther}
 use Rattle.coda_stored.specs.Cells.{client_header, replica_header}
 use Rattle.coda_stored.specs.Foreign.{next_disk, IsFree}
 use Rattle.coda_site.proofs.Foreigners.{mounts_as}
-use Rattle.coda_stored.specs.Lines.{area_of, refused_fault, no_volume, no_client, Happens, MakesVolume, MakesClient}
+use Rattle.coda_stored.specs.Lines.{area_of, no_volume, no_client, Happens, MakesVolume, MakesClient}
 use Rattle.coda_stored.specs.Mounted.{IsShelved, HoldsShelf, ClientFinds, VolumeFinds, LineFinds}
 use Rattle.coda_stored.specs.Seen.{mounts_none}
 use Rattle.coda_site.specs.Steps.{Becomes, Mounts, Finds}
@@ -131,7 +131,7 @@ returns-in-Client-clause-finds g c = λ cell shelf seen mounts holds is.
     let own = ClientFinds cell client blocks c.unwrap_or-in-Client.result in
     IfOk-weaker c.make_client.result (λ (reply : Reply). Becomes told out has own reply old new site) (λ (reply : Reply). Finds told out has cell shelf c.args.line.now reply old new site)
     (λ reply found. subst (λ (l : Line). Finds told out has cell shelf l reply old new site) (sym c.in-Client.is)
-    (inl (becomes_as told out has own (LineFinds cell shelf said) reply old new site (λ outside left finds. subst (λ (area : ℕ). ClientFinds cell client blocks area reply outside left) area_is finds) found)))
+    (becomes_as told out has own (LineFinds cell shelf said) reply old new site (λ outside left finds. subst (λ (area : ℕ). ClientFinds cell client blocks area reply outside left) area_is finds) found))
     (c.make_client.ensures.finds cell seen none is)
 
 pub returns-in-Volume-clause-finds : goal.returns-in-Volume-clause-finds
@@ -150,10 +150,8 @@ returns-in-Volume-clause-finds g c = λ cell shelf seen mounts holds is.
     let fits : is_some (no_volume cell volume c.unwrap_or.result) ≡ false = ap (λ (area : ℕ). is_some (no_volume cell volume area)) area_is ∙ ap (mounts_none cell) (sym c.in-Volume.is) ∙ mounts in
     let shelved : IsShelved cell c.alone.result shelf = subst (λ (server : ℕ). IsShelved cell server shelf) (sym server_is) (subst (λ (l : Line). HoldsShelf cell l shelf) c.in-Volume.is holds) in
     let own = VolumeFinds cell shelf volume c.alone.result c.unwrap_or.result in
-    IfOk-weaker c.make_volume.result (λ (reply : Reply). Becomes told out has own reply old new site ⊎ ((shelf.volume ≢ volume) × (reply ≡ refused_fault))) (λ (reply : Reply). Finds told out has cell shelf c.args.line.now reply old new site)
-    (λ reply found. subst (λ (l : Line). Finds told out has cell shelf l reply old new site) (sym c.in-Volume.is) (elim found [
-      | inl stands ↦ inl (becomes_as told out has own (LineFinds cell shelf said) reply old new site
-          (λ outside left finds. subst (λ (area : ℕ). VolumeFinds cell shelf volume (alone servers) area reply outside left) area_is (subst (λ (server : ℕ). VolumeFinds cell shelf volume server c.unwrap_or.result reply outside left) server_is finds)) stands)
-      | inr blocked ↦ inr blocked
-    ]))
+    IfOk-weaker c.make_volume.result (λ (reply : Reply). Becomes told out has own reply old new site) (λ (reply : Reply). Finds told out has cell shelf c.args.line.now reply old new site)
+    (λ reply found. subst (λ (l : Line). Finds told out has cell shelf l reply old new site) (sym c.in-Volume.is)
+    (becomes_as told out has own (LineFinds cell shelf said) reply old new site
+    (λ outside left finds. subst (λ (area : ℕ). VolumeFinds cell shelf volume (alone servers) area reply outside left) area_is (subst (λ (server : ℕ). VolumeFinds cell shelf volume server c.unwrap_or.result reply outside left) server_is finds)) found))
     (c.make_volume.ensures.finds cell shelf seen fits shelved is)
