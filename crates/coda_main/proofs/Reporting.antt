@@ -26,6 +26,7 @@ use Rattle.coda_runs.specs.Later.{Later, Waits, Goes, Strays, resumed, LaterGive
 use Rattle.coda_runs.specs.Runs.{LineGives, LineRefused}
 use Rattle.coda_runs.proofs.Later.{later_runs_go_on}
 use Rattle.coda_runs.proofs.Resumable.{what_ran_can_be_resumed}
+use Rattle.coda_runs.proofs.OnMade.{scripts_act_on_made_volumes}
 use Rattle.coda_runs.proofs.Running.{always_kept, scripts_learn_of_their_own}
 use Rattle.coda_main.specs.Later.{ShowsLater, LaterRefuses, MachineGives, IsReportOfLaterRun}
 use Rattle.coda_main.specs.Shows.{Moment, Shows, MayGoOn}
@@ -74,6 +75,9 @@ module _ {D M : Type 0} (new old : M) (told : D → Told) (at : M → Moment D) 
         own = λ memory bay.
             let ran = reports_ran LineGives LineRefused nothing_stored run.cell left_old left_new held_old held_new outside status memory bay run.reports in
             scripts_learn_of_their_own ran.lines ran.report ran.outside run.cell ran.runs;
+        acted = λ memory bay.
+            let ran = reports_ran LineGives LineRefused nothing_stored run.cell left_old left_new held_old held_new outside status memory bay run.reports in
+            scripts_act_on_made_volumes ran.lines ran.report ran.outside run.cell ran.runs;
         tally = both.0.1;
         tallied = λ memory bay.
             subst (λ (t : TalliedCell). Reports TalliedGives TalliedRefuses (tallied_of entry) t left_old left_new held_old held_new outside status) (tallies.2 memory bay ∙ ap (λ (c : StoredCell). record { cell = c; tally = both.0.1 }) (same memory bay)) tallies.1;

@@ -12,6 +12,7 @@ use Rattle.coda_site.specs.Cells.{AreOnDisks}
 use Rattle.coda_runs.specs.Headline.{HasRun, LearnedOfItsOwn}
 use Rattle.coda_runs.specs.Later.{CanBeResumed}
 use Rattle.coda_runs.specs.Runs.{LineGives, LineRefused}
+use Rattle.coda_runs.specs.Volumes.{ActedOnMadeVolumes}
 use Rattle.coda_main.specs.Lines.{AnyGives, AnyRefuses}
 use Rattle.coda_main.specs.Tallies.{Tally, no_tally, TalliedGives, TalliedRefuses}
 
@@ -21,8 +22,8 @@ IsReportOfLines left_old left_new held_old held_new status =
     (outside : List (List ℕ)) × Reports AnyGives AnyRefuses tt tt left_old left_new held_old held_new outside status
 
 -- What was read and written is the report of a run from the cell in which nothing was made, over disks that hold nothing; the run keeps what is
--- promised of runs, and clients learned of none but its own replicas. Unless memory was wanting or the bay at fault, the bay answered what the run had of it, and its disks stand for the cell that
--- the run left; its sum of the faults of disks rose by at least as many as this run has replies that a disk failed, and its sum of `arm` calls by as
+-- promised of runs. Unless memory was wanting or the bay at fault, clients learned of none but its own replicas, and did nothing on volumes that weren't
+-- made; the bay answered what the run had of it, and its disks stand for the cell that the run left; its sum of the faults of disks rose by at least as many as this run has replies that a disk failed, and its sum of `arm` calls by as
 -- many as lines that arm a disk were answered `ok`, each up to the last value of a sum; and a later run can go on from it, and another
 -- one over its disks, whatever it makes again.
 pub record IsReportOfRun {D : Type 0} (told : D → Told) (has : ℕ → Told) (answered_old answered_new : List (List ℕ)) (faults_old faults_new arms_old arms_new : ℕ) (left_old left_new held_old held_new : Option (List ℕ)) (status : Status) : Type 0 where
@@ -35,6 +36,7 @@ pub record IsReportOfRun {D : Type 0} (told : D → Told) (has : ℕ → Told) (
   pub resumable : status ≢ Memory → status ≢ BayFault → IsStoredKept cell × CanBeResumed cell
   pub held : status ≢ Memory → status ≢ BayFault → IsHeld cell
   pub own : status ≢ Memory → status ≢ BayFault → LearnedOfItsOwn cell
+  pub acted : status ≢ Memory → status ≢ BayFault → ActedOnMadeVolumes cell
   pub tally : Tally
   pub tallied : status ≢ Memory → status ≢ BayFault
       → Reports TalliedGives TalliedRefuses (record { cell = nothing_stored; tally = no_tally }) (record { cell = cell; tally = tally }) left_old left_new held_old held_new outside status

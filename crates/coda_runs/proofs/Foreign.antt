@@ -1,20 +1,23 @@
 -- The disk of an actor isn't another's to the line that makes it again.
-use Rattle.std.proofs.Common.{◌≡◌, ℕ, ◌==◌, ◌&&◌, Bool, true, false, cond, List, ◌∷◌, length, Option, Some, None, refl, sym, ap, ◌∙◌, subst}
+use Rattle.std.proofs.Common.{◌≡◌, ℕ, ◌==◌, ◌&&◌, Bool, true, false, cond, List, [], ◌∷◌, length, Option, Some, None, refl, sym, ap, ◌∙◌, subst, inl, inr}
 use Rattle.std.specs.Prelude.{get_or}
 use Rattle.std.proofs.lemmas.Bool.{eqb-true, eq-eqb}
 use Rattle.coda_actors.specs.Plain.{HasOther}
 use Rattle.coda_journal.specs.Header.{marks}
 use Rattle.coda_journal.specs.declared.header.Header.{Header}
-use Rattle.coda_plain.specs.Cell.{Actor}
+use Rattle.coda_plain.specs.Cell.{ClientEntry, Actor}
+use Rattle.coda_plain.specs.Decisions.{ReplicaEntry}
 use Rattle.coda_script.specs.declared.line.Line.TheVariants as line
-use Rattle.coda_cell.specs.Steps.{is_alone, alone}
+use Rattle.coda_cell.specs.Made.{state_of}
+use Rattle.coda_cell.specs.Steps.{is_alone, alone, Named, client_named, holder_named, first_missing}
 use Rattle.coda_stored.specs.Cells.{Side, StoredCell, plain_replica, client_header, replica_header, disk_number, on_disk}
 use Rattle.coda_stored.specs.Foreign.{IsForeignAt}
 use Rattle.coda_stored.specs.Kept.{IsClientSide, IsReplicaSide, IsGiven, IsStoredKept}
-use Rattle.coda_stored.specs.Lines.{area_of}
+use Rattle.coda_stored.specs.Lines.{area_of, refused_foreign, Becoming, Unless as UnlessStored, replica_disk, RecoversClient, RecoversReplica}
 use Rattle.coda_stored.specs.Resuming.{Awaited, ClientAgain, VolumeAgain, is_awaited, awaits_client, AreAwaited}
 use Rattle.coda_stored.specs.Seen.{asleep, idle_until, seen, lying}
-use Rattle.coda_runs.specs.Later.{OwnDisksAreNotForeign}
+use Rattle.coda_runs.specs.Later.{OwnDisksAreNotForeign, RecoveriesFindTheirOwn}
+use Rattle.coda_runs.proofs.Running.{always_kept}
 
 both : (a b : Bool) → (a && b) ≡ true → (a ≡ true) × (b ≡ true)
 both true b is = (refl, is)
@@ -78,3 +81,46 @@ own_disks_are_not_foreign cell areas (VolumeAgain volume server area) left (line
 own_disks_are_not_foreign cell areas (ClientAgain client blocks area) left (line.Volume number servers size) at kept are is foreign = cc
 own_disks_are_not_foreign cell areas (VolumeAgain volume server area) left (line.Client number cache size) at kept are is foreign = cc
 own_disks_are_not_foreign cell areas next left said at kept are is foreign = foreign
+
+-- ---- recoveries
+
+missing_named : (n : Named) (at : ℕ) (own : Becoming) (cell : StoredCell) (outside : List (List ℕ)) (new : StoredCell) → UnlessStored cell (first_missing (n ∷ [])) own (refused_foreign at) outside new → own (refused_foreign at) outside new
+missing_named n at own cell outside new = by n.there
+  where
+    by : (b : Bool) → UnlessStored cell (first_missing (record { number = n.number; there = b } ∷ [])) own (refused_foreign at) outside new → own (refused_foreign at) outside new
+    by true does = does
+    by false does = absurd (let no = does.0 in cc)
+
+-- the disk of an actor that asks for a header was given no other one
+asked_header : {E : Type 0} (given asked : Option Header) (header known : Header) (at : ℕ) (actor : Actor E) → asked ≡ Some header → asked ≡ Some known → IsGiven given known actor → HasOther header given at → ⊥
+asked_header given asked header known at actor is knows has other = same_header given header known at actor has (let e : Some known ≡ Some header = sym knows ∙ is in cc) other
+
+client_own : (client : ℕ) (size : Option ℕ) (actor : Actor ClientEntry) (side : Side) (header : Header) (at : ℕ) → IsClientSide client size actor side → side.asked ≡ Some header → HasOther header side.given at → ⊥
+client_own client None actor side header at sides asked other = (let no : None ≡ Some header = sym (ap (λ (s : Side). s.asked) sides.0) ∙ asked in cc)
+client_own client (Some blocks) actor side header at (area, sized, one, under, some, few, knows, has) asked other = asked_header side.given side.asked header _ at actor asked knows has other
+
+replica_own : (volume : ℕ) (home : Option ℕ) (actors : ℕ → Actor ReplicaEntry) (side : Side) (header : Header) (at : ℕ) → IsReplicaSide volume home actors side → side.asked ≡ Some header → HasOther header side.given at → ⊥
+replica_own volume None actors side header at sides asked other = (let no : None ≡ Some header = sym (ap (λ (s : Side). s.asked) sides.0) ∙ asked in cc)
+replica_own volume (Some server) actors side header at (area, sized, one, some, few, knows, has) asked other = asked_header side.given side.asked header _ at (actors server) asked knows has other
+
+client_found : (cell : StoredCell) → IsStoredKept cell → (client at : ℕ) (outside : List (List ℕ)) (new : StoredCell) → RecoversClient cell client (refused_foreign at) outside new → ⊥
+client_found cell kept client at outside new (none, (header, asked, inl did)) = (let no = did.1 in cc)
+client_found cell kept client at outside new (none, (header, asked, inr (inl did))) = (let no = did.3 in cc)
+client_found cell kept client at outside new (none, (header, asked, inr (inr (place, differs, replied, is)))) =
+    client_own client (cell.made.sizes client) (cell.made.acted.clients client) (cell.clients client) header place (kept.clients client) asked differs
+
+replica_found : (cell : StoredCell) → IsStoredKept cell → (server volume at : ℕ) (outside : List (List ℕ)) (new : StoredCell) → RecoversReplica cell server volume (refused_foreign at) outside new → ⊥
+replica_found cell kept server volume at outside new (none, (header, asked, inl did)) = (let no = did.1 in cc)
+replica_found cell kept server volume at outside new (none, (header, asked, inr (inl did))) = (let no = did.3 in cc)
+replica_found cell kept server volume at outside new (none, (header, asked, inr (inr (place, differs, replied, is)))) =
+    let own : (replica_disk cell server volume).header ≡ (cell.replicas volume).given =
+        ap (λ (b : Bool). (on_disk b (cell.others volume) (plain_replica volume (cell.made.acted.replicas server volume) (cell.replicas volume))).disk.header) (kept.replicas_own volume) in
+    replica_own volume (cell.made.homes volume) (λ s. cell.made.acted.replicas s volume) (cell.replicas volume) header place (kept.replicas volume) asked (subst (λ (g : Option Header). HasOther header g place) own differs)
+
+pub recoveries_find_their_own : RecoveriesFindTheirOwn
+recoveries_find_their_own = record {
+  clients = λ ls report outside cell run client at images new does.
+      client_found cell (always_kept ls report outside cell run) client at images new (missing_named (client_named (state_of cell.made) client) at (RecoversClient cell client) cell images new does);
+  replicas = λ ls report outside cell run server volume at images new does.
+      replica_found cell (always_kept ls report outside cell run) server volume at images new (missing_named (holder_named (state_of cell.made) server volume) at (RecoversReplica cell server volume) cell images new does);
+}

@@ -9,6 +9,8 @@ use Rattle.coda_stored.specs.Seen.{StayAsleep}
 use Rattle.coda_stored.proofs.Between.{lines_come_between}
 use Rattle.coda_stored.proofs.Resuming.{StaysMade, area_in, cells_are_resumed, again_stays, awaited_stay}
 use Rattle.coda_runs.specs.Later.{Later, Waits, Goes, Strays, resumed, LaterGives, HasReached, areas_of, CanBeResumed, HasGoneOn, LaterRunsGoOn}
+use Rattle.coda_runs.specs.Volumes.{ActedOnMadeVolumes}
+use Rattle.coda_runs.proofs.LaterMade.{later_acted}
 use Rattle.coda_runs.proofs.Beginning.{begins_then, gives_begins}
 use Rattle.coda_runs.proofs.Resumable.{gives_can}
 use Rattle.coda_runs.proofs.Running.{has_run, gives_kept, read_in_range}
@@ -118,13 +120,15 @@ module _ (past : StoredCell) (lines : List Awaited) (all : MakeAllAgain past lin
   runs_kept_later old new [] report outside kept run = subst (IsKeptLater past lines) (sym run.2) kept
   runs_kept_later old new (l ∷ more) report outside kept run = runs_kept_later run.0 new more run.2 run.4 (gives_kept_later old run.0 l run.1 run.3 kept run.5) run.6
 
-  reached_kept : (new : Later) → IsKeptLater past lines new → (cell : StoredCell) (images : List (List ℕ)) → HasReached new cell images → HasGoneOn past cell
-  reached_kept (Waits at next left answered) (kept, begins, found, sum, awaited) cell images reached = subst (HasGoneOn past) (sym reached.0) (record { kept = kept; has_run = has_run at kept; begins = begins })
-  reached_kept (Goes at) (kept, begins, can) cell images reached = subst (HasGoneOn past) (sym reached.0) (record { kept = kept; has_run = has_run at.cell kept; begins = begins })
-  reached_kept Strays kept cell images reached = absurd reached
+  reached_kept : (new : Later) → IsKeptLater past lines new → (cell : StoredCell) (images : List (List ℕ)) → HasReached new cell images → (ActedOnMadeVolumes past → ActedOnMadeVolumes cell) → HasGoneOn past cell
+  reached_kept (Waits at next left answered) (kept, begins, found, sum, awaited) cell images reached acted =
+      subst (HasGoneOn past) (sym reached.0) (record { kept = kept; has_run = has_run at kept; begins = begins; acted = subst (λ (c : StoredCell). ActedOnMadeVolumes past → ActedOnMadeVolumes c) reached.0 acted })
+  reached_kept (Goes at) (kept, begins, can) cell images reached acted =
+      subst (HasGoneOn past) (sym reached.0) (record { kept = kept; has_run = has_run at.cell kept; begins = begins; acted = subst (λ (c : StoredCell). ActedOnMadeVolumes past → ActedOnMadeVolumes c) reached.0 acted })
+  reached_kept Strays kept cell images reached acted = absurd reached
 
 pub later_runs_go_on : LaterRunsGoOn
 later_runs_go_on past lines before ls report outside new kept all run =
     let start = resumed_kept past lines all (at_rest past) lines before 0 0 (cells_are_resumed.rests past kept) (cells_are_resumed.begins past) (found_first past) (omega arith) all.each in
     let end = runs_kept_later past lines all (resumed (at_rest past) lines before) new ls report outside start run in
-    (reached_kept past lines all new end, λ at is. (let there : IsKeptLater past lines (Goes at) = subst (IsKeptLater past lines) is end in there.2))
+    (λ cell images there. reached_kept past lines all new end cell images there (later_acted past lines before ls report outside new run cell images there), λ at is. (let there : IsKeptLater past lines (Goes at) = subst (IsKeptLater past lines) is end in there.2))

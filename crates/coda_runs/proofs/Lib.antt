@@ -26,3 +26,4 @@ pub mod NeverCame
 pub mod WhoCame
 pub mod Held
 pub mod OnMade
+pub mod LaterMade

@@ -414,7 +414,7 @@ module _ (old : StoredCell) (reply : Reply) (outside : List (List ℕ)) (new : S
   crash_same (TheClient at) = put_same old at (crashed (old.made.acted.clients at)) volume (λ joins. (joins, refl)) client
   crash_same (TheReplica server at) = same_on volume (old.made.acted.clients client)
 
-  recovers_client_more : (at : ℕ) → RecoversClient old at reply outside new → NoMore
+  pub recovers_client_more : (at : ℕ) → RecoversClient old at reply outside new → NoMore
   recovers_client_more at (out, (header, asked, inl (joined, replied, read, is, may))) = told_by _ is refl (put_same old at (recovered joined (old.made.acted.clients at)) volume (recovered_same volume (old.made.acted.clients at) joined) client)
   recovers_client_more at (out, (header, asked, inr (inl (tried, mid, inl refused, replied, is)))) = told_by _ (is ∙ ap (λ (c : StoredCell). with_client_side c at tried) refused.1) refl (crash_same (TheClient at))
   recovers_client_more at (out, (header, asked, inr (inl (tried, mid, inr refused, replied, is)))) =
@@ -425,7 +425,7 @@ module _ (old : StoredCell) (reply : Reply) (outside : List (List ℕ)) (new : S
       (put_same once at (crashed (once.made.acted.clients at)) volume (λ joins. (joins, refl)) client))
   recovers_client_more at (out, (header, asked, inr (inr (place, differs, replied, is)))) = told_by _ is refl (crash_same (TheClient at))
 
-  recovers_replica_more : (server at : ℕ) → RecoversReplica old server at reply outside new → NoMore
+  pub recovers_replica_more : (server at : ℕ) → RecoversReplica old server at reply outside new → NoMore
   recovers_replica_more server at (out, (header, asked, inl (joined, replied, read, is, may))) = told_by _ is refl (same_on volume (old.made.acted.clients client))
   recovers_replica_more server at (out, (header, asked, inr (inl (tried, mid, inl refused, replied, is)))) = told_by _ (is ∙ ap (λ (c : StoredCell). with_replica_side c at tried) refused.1) refl (same_on volume (old.made.acted.clients client))
   recovers_replica_more server at (out, (header, asked, inr (inl (tried, mid, inr refused, replied, is)))) = told_by _ (is ∙ ap (λ (c : StoredCell). with_replica_side c at tried) refused.2) refl (same_on volume (old.made.acted.clients client))
@@ -451,12 +451,16 @@ lines_act_on_made_volumes old new said reply outside does client volume none = l
 
 -- ---- runs
 
-line_acts : (old new : StoredCell) (bytes text : List ℕ) (outside : List (List ℕ)) → ActedOnMadeVolumes old → LineGives old bytes text outside new → ActedOnMadeVolumes new
-line_acts old new bytes text outside acted (inl silent) = subst ActedOnMadeVolumes (sym silent.3) acted
-line_acts old new bytes text outside acted (inr x) = λ joins client volume none.
-    let m = lines_act_on_made_volumes old new x.said x.reply outside x.happens client volume none in
+-- a cell behind which a client did no more
+pub acted_then : (old new : StoredCell) → ((client volume : ℕ) → new.made.homes volume ≡ None → DidNoMore old new client volume) → ActedOnMadeVolumes old → ActedOnMadeVolumes new
+acted_then old new more acted joins client volume none =
+    let m = more client volume none in
     let b = m.before (joins.clients client) in
     b.1 ∙ acted (record { clients = λ c. b.0; replicas = λ s v. false }) client volume m.unmade
+
+pub line_acts : (old new : StoredCell) (bytes text : List ℕ) (outside : List (List ℕ)) → ActedOnMadeVolumes old → LineGives old bytes text outside new → ActedOnMadeVolumes new
+line_acts old new bytes text outside acted (inl silent) = subst ActedOnMadeVolumes (sym silent.3) acted
+line_acts old new bytes text outside acted (inr x) = acted_then old new (lines_act_on_made_volumes old new x.said x.reply outside x.happens) acted
 
 runs_act : (old new : StoredCell) (ls : List (List ℕ)) (report : List ℕ) (outside : List (List ℕ)) → ActedOnMadeVolumes old → Runs LineGives old ls report outside new → ActedOnMadeVolumes new
 runs_act old new [] report outside acted run = subst ActedOnMadeVolumes (sym run.2) acted

@@ -16,12 +16,13 @@ use Rattle.coda_stored.specs.Cells.{StoredCell, client_header, replica_header, d
 use Rattle.coda_stored.specs.Foreign.{IsForeignAt, MakesOn}
 use Rattle.coda_stored.specs.Kept.{IsStoredKept}
 use Rattle.coda_stored.specs.Laws.{Begins}
-use Rattle.coda_stored.specs.Lines.{is_built, area_of, refused_fault, refused_foreign}
+use Rattle.coda_stored.specs.Lines.{is_built, area_of, refused_fault, refused_foreign, Happens}
 use Rattle.coda_stored.specs.Resuming.{at_rest, Awaited, ClientAgain, VolumeAgain, is_awaited, AreAwaited, MakesAgain, MakeAllAgain}
 use Rattle.coda_runs.specs.Headline.{HasRun, Always}
 use Rattle.coda_stored.specs.Seen.{seen, mounts_none, Meanwhile}
 use Rattle.coda_runs.specs.Shows.{Recorded, RecordGives}
 use Rattle.coda_runs.specs.Texts.{text_of}
+use Rattle.coda_runs.specs.Volumes.{ActedOnMadeVolumes}
 
 -- Where a later run stands, and what the bay answered so far.
 pub data Later : Type 0 where
@@ -115,11 +116,12 @@ pub record CanBeResumed (cell : StoredCell) : Type 0 where
   pub areas : cell.areas ≡ areas_of lines
 
 -- What a run over the disks of another cell reached is kept, has run, so that it keeps what is promised of runs, and begins with the histories that
--- there were: nothing that was acknowledged in the earlier run is lost.
+-- there were: nothing that was acknowledged in the earlier run is lost. And if nobody did anything on a volume that wasn't made, nobody did since.
 pub record HasGoneOn (past cell : StoredCell) : Type 0 where
   pub kept : IsStoredKept cell
   pub has_run : HasRun cell
   pub begins : Begins cell past
+  pub acted : ActedOnMadeVolumes past → ActedOnMadeVolumes cell
 
 -- So is whatever a run reached that didn't go astray, over the disks of a cell that is kept, and from lines that make all its actors again; and where
 -- all were made again, a further run can go on from what it left.
@@ -173,3 +175,8 @@ abbrev pub OwnDisksAreNotForeign : Type 0
 OwnDisksAreNotForeign =
     (cell : StoredCell) (areas : ℕ) (next : Awaited) (left : List Awaited) (said : Line) (at : ℕ) → IsStoredKept cell → AreAwaited cell (length (seen cell (next ∷ left)).made.servers) areas (next ∷ left)
     → is_awaited next said ≡ true → IsForeignAt (seen cell (next ∷ left)) said at → ⊥
+
+-- Whatever lines ran, over disks that held nothing, no recovery is refused for the disk of another actor: each is its own.
+pub record RecoveriesFindTheirOwn : Type 0 where
+  pub clients : Always (λ cell. (client at : ℕ) (outside : List (List ℕ)) (new : StoredCell) → Happens cell (line.RecoverClient client) (refused_foreign at) outside new → ⊥)
+  pub replicas : Always (λ cell. (server volume at : ℕ) (outside : List (List ℕ)) (new : StoredCell) → Happens cell (line.RecoverReplica server volume) (refused_foreign at) outside new → ⊥)

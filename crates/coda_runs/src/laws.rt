@@ -5,7 +5,7 @@ ghost use Rattle.coda_runs.specs.Causes.{RefusalsHaveCauses};
 ghost use Rattle.coda_runs.specs.Complete.{ScriptsInGrammarAreClean};
 ghost use Rattle.coda_runs.specs.Headline.{ScriptsLearnOfTheirOwn, ScriptsRun, ChunksAreDecidedOnce, CertifiedChunksAreApplied, ConflictsNameASentRecord, OperationsAreKept, SettlementsAreDecided, LogsArePending, AcknowledgedEntriesStay, ClientsComeBack, ReplicasComeBack};
 ghost use Rattle.coda_runs.specs.Held.{HeldRunsGoOn, WhatRanIsHeld};
-ghost use Rattle.coda_runs.specs.Later.{LaterRunsGoOn, OwnDisksAreNotForeign, WhatIsMadeAgainIsCounted, WhatOthersHoldIsKept, WhatRanCanBeResumed};
+ghost use Rattle.coda_runs.specs.Later.{LaterRunsGoOn, OwnDisksAreNotForeign, RecoveriesFindTheirOwn, WhatIsMadeAgainIsCounted, WhatOthersHoldIsKept, WhatRanCanBeResumed};
 ghost use Rattle.coda_runs.specs.Lettered.{RepliesNameLetters, LettersSayWhatIsSo, LettersHaveEnds};
 ghost use Rattle.coda_runs.specs.NeverCame.{LettersAreOfThoseWhoCame, WhoNeverCameIsAsItWas};
 ghost use Rattle.coda_runs.specs.Performed.{OperationsArePerformed};
@@ -228,4 +228,10 @@ pub fn lines_act_on_made_volumes()
 /// append failed.
 pub fn scripts_act_on_made_volumes()
     ensures { ScriptsActOnMadeVolumes }
+{}
+
+/// Whatever lines ran from an empty cell, no recovery is refused for the disk of another actor: each actor's disk is its
+/// own.
+pub fn recoveries_find_their_own()
+    ensures { RecoveriesFindTheirOwn }
 {}
