@@ -25,3 +25,4 @@ pub mod Foreign
 pub mod NeverCame
 pub mod WhoCame
 pub mod Held
+pub mod OnMade

@@ -11,3 +11,4 @@ pub mod Causes
 pub mod Later
 pub mod NeverCame
 pub mod Held
+pub mod Volumes

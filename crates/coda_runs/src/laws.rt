@@ -13,6 +13,7 @@ ghost use Rattle.coda_runs.specs.Runs.{LineGives, LineRefused};
 ghost use Rattle.coda_runs.specs.Shown.{WhatIsShownIsThere};
 ghost use Rattle.coda_runs.specs.Shows.{ReportsTellOfRuns, WhatIsShownIsUp};
 ghost use Rattle.coda_runs.specs.Thawed.{VerdictsThaw};
+ghost use Rattle.coda_runs.specs.Volumes.{LinesActOnMadeVolumes, ScriptsActOnMadeVolumes};
 
 /// A script that the cell can run from its first line to its last, within the limits, never ends as one with a bad
 /// line or as one that is too long.
@@ -215,4 +216,16 @@ pub fn scripts_learn_of_their_own()
 /// Whatever lines ran from an empty cell, a run can begin over the disks that it left, whatever that one makes again.
 pub fn what_ran_is_held()
     ensures { WhatRanIsHeld }
+{}
+
+/// Whatever a line does, and in whatever cell, no client does anything by it on a volume that isn't made: such a line is
+/// refused, or has nothing to do with that volume.
+pub fn lines_act_on_made_volumes()
+    ensures { LinesActOnMadeVolumes }
+{}
+
+/// Whatever lines ran from an empty cell, no client did anything on a volume that wasn't made, also by the entry whose
+/// append failed.
+pub fn scripts_act_on_made_volumes()
+    ensures { ScriptsActOnMadeVolumes }
 {}
