@@ -10,7 +10,8 @@ use Rattle.coda_stored.specs.Cells.{Side, StoredCell, plain_replica, on_disk, st
 use Rattle.coda_stored.specs.Kept.{IsGiven}
 use Rattle.coda_stored.specs.Seen.{own_given, IsReplicaSeen, AreOthersBeside}
 
--- the replica of a volume as this actor, with this known of its disk, which holds what the cell says where it is another's
+-- The replica of a volume as this actor, with this known of its disk. Where that is another's, it holds what the cell
+-- says.
 abbrev pub stood : StoredCell → ℕ → Actor ReplicaEntry → Side → PlainActor KeptEntry
 stood cell volume actor side = on_disk side.foreign (cell.others volume) (plain_replica volume actor side)
 
