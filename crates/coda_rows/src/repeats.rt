@@ -21,8 +21,13 @@ fn is_written_out(whole: &mut String, inside: &str) -> bool {
     let (Ok(first), Ok(last)) = (first.parse::<u64>(), last.parse::<u64>()) else {
         return false;
     };
+    let is_numbered = part.split('%').nth(1).is_some();
     for number in first..last.saturating_add(1) {
-        put_numbered(whole, part, number);
+        if is_numbered {
+            put_numbered(whole, part, number);
+        } else {
+            put(whole, part);
+        }
     }
     true
 }
