@@ -1,5 +1,6 @@
 // Lines of a row, each with what is made of it on the line below.
-use crate::texts::{put, put_parts};
+use crate::calls::put_called;
+use crate::texts::{odd_lines, put, put_parts};
 use coda_script::{Line, LineFault, read_line};
 use coda_text::{TextFault, Token, printed, tokens, unquote};
 use std::alloc::{AllocError, Global};
@@ -11,10 +12,9 @@ pub enum Kind {
     Said,
     /// Its words.
     Words,
+    /// The answer of the call that it is.
+    Called,
 }
-
-/// More bytes than any line of a row has.
-const MOST_BYTES: usize = 4_000_000;
 
 // Puts the debug text of what a line says; nothing; or its first wrong column and what is wrong there.
 fn put_reading(said: &Result<Option<Line>, LineFault>, out: &mut String) {
@@ -28,13 +28,6 @@ fn put_reading(said: &Result<Option<Line>, LineFault>, out: &mut String) {
         }
         Err(LineFault::Memory) => put(out, "no memory"),
     }
-}
-
-// Puts what a line says.
-fn put_said(alloc: Global, line: &[u8], out: &mut String) {
-    let said = read_line(alloc, line);
-    put_reading(&said, out);
-    drop(said);
 }
 
 // Puts a word: its span, and in angles the bytes that it stands for, as they are printed.
@@ -62,48 +55,21 @@ fn put_words(alloc: Global, line: &[u8], out: &mut String) {
 }
 
 // Puts what is made of a line.
-fn put_answer(alloc: Global, line: &[u8], kind: Kind, out: &mut String) {
+fn put_answer(rt: &HostRuntime, line: &[u8], kind: Kind, out: &mut String) {
     match kind {
-        Kind::Said => {
-            if line.len() > MOST_BYTES {
-                put(out, "too long");
-            } else {
-                put_said(alloc, line, out);
-            }
-        }
-        Kind::Words => put_words(alloc, line, out),
+        Kind::Said => put_reading(&read_line(rt.alloc(), line), out),
+        Kind::Words => put_words(rt.alloc(), line, out),
+        Kind::Called => put_called(rt, std::str::from_utf8(line).unwrap_or(""), out),
     }
-}
-
-// Puts a line, and what is made of it below.
-fn put_answered(alloc: Global, line: &[u8], kind: Kind, whole: &mut Vec<u8>) {
-    let mut out = String::new(alloc);
-    put_answer(alloc, line, kind, &mut out);
-    put_parts(whole, &[line, b"\n", out.as_bytes(), b"\n"]);
 }
 
 /// The odd lines of a text, each with what is made of it on the line below.
-pub fn answered(alloc: Global, text: &[u8], kind: Kind) -> Result<Vec<u8>, AllocError> {
-    let mut whole = Vec::new(alloc);
-    for line in odd_lines(alloc, text)? {
-        put_answered(alloc, line, kind, &mut whole);
+pub fn answered(rt: &HostRuntime, text: &[u8], kind: Kind) -> Vec<u8> {
+    let mut whole = Vec::new(rt.alloc());
+    for line in &odd_lines(rt.alloc(), text) {
+        let mut out = String::new(rt.alloc());
+        put_answer(rt, line, kind, &mut out);
+        put_parts(&mut whole, &[line, b"\n", out.as_bytes(), b"\n"]);
     }
-    Ok(whole)
-}
-
-/// The first line of a text, the third, and so on.
-pub fn odd_lines(alloc: Global, text: &[u8]) -> Result<Vec<&[u8]>, AllocError> {
-    let mut odd = Vec::new(alloc);
-    let mut is_odd = true;
-    for line in text
-        .strip_suffix(b"\n")
-        .unwrap_or(text)
-        .split(|byte| *byte == b'\n')
-    {
-        if is_odd {
-            odd.push(line)?;
-        }
-        is_odd = !is_odd;
-    }
-    Ok(odd)
+    whole
 }

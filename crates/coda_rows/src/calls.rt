@@ -1,96 +1,72 @@
-// Calls, on what no script reaches, or not one by one: what the calls of a file are on.
-mod answer;
-mod cache;
-mod disk;
+// Calls on what no script reaches: bytes that are read and written, generated scripts, disks that are files, and what
+// finds no memory.
 mod files;
 mod generated;
-mod hoard;
-mod journal;
-mod letters;
 mod memory;
-mod operations;
-mod promises;
-mod replica;
-mod replies;
-mod resolve;
-mod ring;
 mod spelled;
-mod volume;
-mod walk;
-pub mod words;
 
-use crate::calls::answer::answered;
-use crate::calls::words::named;
-use coda_cache::Cache;
-use coda_callback::Promises;
-use coda_hdb::Hdb;
-use coda_replica::Decider;
+use crate::calls::files::put_reached;
+use crate::texts::{named, put, word};
+use std::fs;
 
-/// What the calls of a file are on.
 #[derive(Clone, Copy)]
-enum On {
-    Cache,
-    Disk,
-    Files,
-    Generated,
-    Hoard,
-    Journal,
-    Letters,
-    Memory,
-    Promises,
+enum Call {
+    Lines,
+    Digest,
+    Operate,
+    Decide,
+    Message,
+    Fields,
+    Client,
     Replica,
-    Replies,
-    Resolution,
-    Ring,
-    Spelling,
-    VolumeAndLog,
-    Walk,
+    Clear,
+    Folder,
+    File,
+    Remove,
+    Sealed,
+    Left,
 }
 
-// By the front of the file's name.
-const FRONTS: &[(&str, On)] = &[
-    ("cache", On::Cache),
-    ("disk", On::Disk),
-    ("files", On::Files),
-    ("generated", On::Generated),
-    ("hoard", On::Hoard),
-    ("journal", On::Journal),
-    ("letters", On::Letters),
-    ("memory", On::Memory),
-    ("promises", On::Promises),
-    ("replica", On::Replica),
-    ("replies", On::Replies),
-    ("resolution", On::Resolution),
-    ("ring", On::Ring),
-    ("spelling", On::Spelling),
-    ("walk", On::Walk),
+// By the first word.
+const CALLS: &[(&str, Call)] = &[
+    ("lines", Call::Lines),
+    ("digest", Call::Digest),
+    ("operate", Call::Operate),
+    ("decide", Call::Decide),
+    ("message", Call::Message),
+    ("fields", Call::Fields),
+    ("client", Call::Client),
+    ("replica", Call::Replica),
+    ("clear", Call::Clear),
+    ("folder", Call::Folder),
+    ("file", Call::File),
+    ("remove", Call::Remove),
+    ("sealed", Call::Sealed),
+    ("left", Call::Left),
 ];
 
-// What the calls of a file of this name are on: a volume and a log, if its front says nothing else.
-fn read_front(name: &str) -> On {
-    let front = name.split('_').next().unwrap_or("");
-    named(FRONTS, front).unwrap_or(On::VolumeAndLog)
-}
-
-/// The calls of the file of this name as they are answered: each with its answer on the line below.
-pub fn answers(rt: &HostRuntime, name: &str, text: &str) -> String {
+/// Puts the answer of a call.
+pub fn put_called(rt: &HostRuntime, call: &str, out: &mut String) {
     let alloc = rt.alloc();
-    match read_front(name) {
-        On::Cache => answered(Cache::new(alloc, 0), alloc, text),
-        On::Disk => answered(disk::empty(alloc), alloc, text),
-        On::Files => answered(Ok(files::Filed { rt }), alloc, text),
-        On::Generated => answered(Ok(generated::Generated {}), alloc, text),
-        On::Hoard => answered(Ok(Hdb::new(alloc)), alloc, text),
-        On::Journal => answered(Ok(journal::Image::new(alloc)), alloc, text),
-        On::Letters => answered(Ok(letters::Posted::new(alloc)), alloc, text),
-        On::Memory => answered(Ok(memory::Wanting {}), alloc, text),
-        On::Promises => answered(Ok(Promises::new(alloc)), alloc, text),
-        On::Replica => answered(Decider::new(alloc, 7, 1), alloc, text),
-        On::Replies => answered(Ok(replies::Replies::new(alloc)), alloc, text),
-        On::Resolution => answered(resolve::Replicas::new(alloc), alloc, text),
-        On::Ring => answered(ring::Logged::new(alloc), alloc, text),
-        On::Spelling => answered(Ok(spelled::Spelled {}), alloc, text),
-        On::VolumeAndLog => answered(volume::VolumeAndLog::new(alloc, 1), alloc, text),
-        On::Walk => answered(Ok(walk::Walk::new(alloc)), alloc, text),
+    let path = word(call, 1);
+    match named(CALLS, word(call, 0)) {
+        Some(Call::Lines) => generated::put_script(alloc, call, true, out),
+        Some(Call::Digest) => generated::put_script(alloc, call, false, out),
+        Some(Call::Operate) => put(out, memory::operated(alloc)),
+        Some(Call::Decide) => put(out, memory::decided(alloc)),
+        Some(Call::Message) => spelled::put_message(alloc, call, out),
+        Some(Call::Fields) => spelled::put_fields(alloc, call, out),
+        Some(Call::Client) => spelled::put_client(alloc, call, out),
+        Some(Call::Replica) => spelled::put_replica(alloc, call, out),
+        Some(Call::Clear) => {
+            let _ = fs::remove_dir_all(rt, path);
+            put(out, "ok");
+        }
+        Some(Call::Folder) => put_reached(fs::create_dir_all(rt, path), out),
+        Some(Call::File) => put_reached(fs::write(rt, path, b"a file".as_slice()), out),
+        Some(Call::Remove) => put_reached(fs::remove_file(rt, path), out),
+        Some(Call::Sealed) => files::put_sealed(rt, path, out),
+        Some(Call::Left) => files::put_left(rt, call, out),
+        None => put(out, "no call"),
     }
 }

@@ -4,15 +4,8 @@ use coda_io::{MemSink, MemSource, ReadFault, Sink, Source, WriteFault};
 /// Bytes in memory, of which one call gives only so many.
 #[derive(Drop)]
 pub struct Pieces {
-    source: MemSource,
-    piece: usize,
-}
-
-impl Pieces {
-    /// This source, in pieces of so many bytes.
-    pub fn new(source: MemSource, piece: usize) -> Pieces {
-        Pieces { source, piece }
-    }
+    pub source: MemSource,
+    pub piece: usize,
 }
 
 impl Source for Pieces {
@@ -28,28 +21,13 @@ impl Source for Pieces {
     }
 }
 
-/// A sink that may be narrow: then it takes at most three bytes in one call, and none where it is full.
+/// A sink that takes so many bytes in all, and in one call so many at most; and none where it is full.
 #[derive(Drop)]
 pub struct Outlet {
-    sink: MemSink,
-    room: Option<u64>,
-    faults: u64,
-}
-
-impl Outlet {
-    /// This sink, for so many bytes, or for all.
-    pub fn new(sink: MemSink, room: Option<u64>) -> Outlet {
-        Outlet {
-            sink,
-            room,
-            faults: 0,
-        }
-    }
-
-    /// What it holds.
-    pub fn bytes(&self) -> &[u8] {
-        self.sink.bytes()
-    }
+    pub sink: MemSink,
+    pub room: u64,
+    pub most: u64,
+    pub faults: u64,
 }
 
 impl Sink for Outlet {
@@ -60,11 +38,8 @@ impl Sink for Outlet {
     ghost faults = { λ s. s.faults };
 
     fn write(&mut self, bytes: &[u8]) -> Result<usize, WriteFault> {
-        let most = match self.room {
-            Some(room) => room.min(3) as usize,
-            None => bytes.len(),
-        };
-        let count = bytes.len().min(most);
+        let room = self.room.min(self.most) as usize;
+        let count = bytes.len().min(room);
         if self.sink.write(&bytes[..count]).is_err() {
             self.faults = self.faults.saturating_add(1);
             return Err(WriteFault);
@@ -72,7 +47,7 @@ impl Sink for Outlet {
         if count == 0 && !bytes.is_empty() {
             self.faults = self.faults.saturating_add(1);
         }
-        self.room = self.room.map(|room| room.saturating_sub(count as u64));
+        self.room = self.room.saturating_sub(count as u64);
         Ok(count)
     }
 }

@@ -1,88 +1,59 @@
 // Repetitions in the files of rows: `{3 ab}` stands for `ababab`, and `{8..10 a%,}` for `a8,a9,a10,`.
-use coda_text::number;
+use crate::texts::put;
 use std::alloc::Global;
-use std::slice;
 
-/// From which number to which, of what, and what stands behind.
-#[derive(Drop)]
-struct Repetition<'a> {
-    first: u64,
-    last: u64,
-    part: &'a [u8],
-    rest: &'a [u8],
-}
-
-// What stands before the first byte of this kind, and what behind it.
-fn split_once(text: &[u8], at: u8) -> Option<(&[u8], &[u8])> {
-    let before = text.split(|byte| *byte == at).next()?;
-    let behind = text.get(before.len() + 1..)?;
-    Some((before, behind))
-}
-
-// The numbers that a repetition goes through.
-fn bounds(text: &[u8]) -> Option<(u64, u64)> {
-    match split_once(text, b'.') {
-        None => Some((1, number(text)?)),
-        Some((first, last)) => Some((number(first)?, number(last.get(1..)?)?)),
+// Puts a part, with a number for each `%`.
+fn put_numbered(whole: &mut String, part: &str, number: u64) {
+    let mut is_behind = false;
+    for piece in part.split('%') {
+        if is_behind {
+            let _ = write!(whole, "{number}");
+        }
+        put(whole, piece);
+        is_behind = true;
     }
 }
 
-// The repetition at the front of what stands behind `{`; nothing where it is none.
-fn first_repetition(text: &[u8]) -> Option<Repetition<'_>> {
-    let (inside, rest) = split_once(text, b'}')?;
-    let (numbers, part) = split_once(inside, b' ')?;
-    let (first, last) = bounds(numbers)?;
-    Some(Repetition {
-        first,
-        last,
-        part,
-        rest,
-    })
-}
-
-// Puts a part with a number for each `%`.
-fn put_numbered(alloc: Global, whole: &mut Vec<u8>, part: &[u8], number: u64) {
-    let shown = format!(in alloc; "{number}").unwrap_or(String::new(alloc));
-    for byte in part {
-        let numbered = if *byte == b'%' {
-            shown.as_bytes()
+// Puts what stands between braces as often as it says. Is it a repetition?
+fn is_written_out(whole: &mut String, inside: &str) -> bool {
+    let (numbers, part) = inside.split_once(' ').unwrap_or((inside, ""));
+    let (first, last) = numbers.split_once("..").unwrap_or(("1", numbers));
+    let (Ok(first), Ok(last)) = (first.parse::<u64>(), last.parse::<u64>()) else {
+        return false;
+    };
+    let is_numbered = part.split('%').nth(1).is_some();
+    for number in first..last.saturating_add(1) {
+        if is_numbered {
+            put_numbered(whole, part, number);
         } else {
-            slice::from_ref(byte)
-        };
-        let _ = whole.extend_from_slice(numbered);
-    }
-}
-
-// Writes a repetition out.
-fn put(alloc: Global, whole: &mut Vec<u8>, repetition: &Repetition<'_>) {
-    for number in repetition.first..repetition.last.saturating_add(1) {
-        if repetition.part.contains(&b'%') {
-            put_numbered(alloc, whole, repetition.part, number);
-        } else {
-            let _ = whole.extend_from_slice(repetition.part);
+            put(whole, part);
         }
     }
-    let _ = whole.extend_from_slice(repetition.rest);
+    true
 }
 
-// Writes out what stands behind a `{`.
-fn put_behind(alloc: Global, whole: &mut Vec<u8>, part: &[u8]) {
-    match first_repetition(part) {
-        Some(repetition) => put(alloc, whole, &repetition),
-        None => {
-            let _ = whole.push(b'{');
-            let _ = whole.extend_from_slice(part);
+// Puts what stands behind a brace.
+fn put_behind(whole: &mut String, part: &str) {
+    match part.split_once('}') {
+        Some((inside, rest)) if is_written_out(whole, inside) => put(whole, rest),
+        _ => {
+            put(whole, "{");
+            put(whole, part);
         }
     }
 }
 
 /// A text with its repetitions written out.
-pub fn repeated(alloc: Global, text: &[u8]) -> Vec<u8> {
-    let mut parts = text.split(|byte| *byte == b'{');
-    let mut whole = Vec::new(alloc);
-    let _ = whole.extend_from_slice(parts.next().unwrap_or(b""));
-    for part in parts {
-        put_behind(alloc, &mut whole, part);
+pub fn repeated(alloc: Global, text: &str) -> String {
+    let mut whole = String::new(alloc);
+    let mut is_behind = false;
+    for part in text.split('{') {
+        if is_behind {
+            put_behind(&mut whole, part);
+        } else {
+            put(&mut whole, part);
+        }
+        is_behind = true;
     }
     whole
 }

@@ -4,18 +4,50 @@ ghost use Rattle.std.specs.Ordering.{nat_cmp};
 ghost use Rattle.std.specs.BTreeMap.{get};
 ghost use Rattle.coda_disk.specs.Places.{is_out};
 
-use crate::disks::bay_of;
-use crate::header::{Header, status_of};
+use crate::header::{bay_of, header, numbers, said};
 use crate::outlets::{Outlet, Pieces};
-use crate::texts::{put_parts, runs};
+use crate::texts::{number, put, put_parts};
 use coda_disk::MemBay;
 use coda_io::{MemSink, MemSource};
 use coda_main::{Status, coda};
-use std::alloc::{AllocError, Global};
+use std::alloc::Global;
 
-// Puts how a run ended behind its report: the exit code, and behind a colon what goes to standard error.
-fn put_ending(report: &mut Vec<u8>, ending: &str) {
-    put_parts(report, &[b"\nstatus ", ending.as_bytes(), b"\n"]);
+// The words of the command line.
+fn words(alloc: Global, header: &[&str]) -> Vec<String> {
+    let mut words = Vec::new(alloc);
+    for word in said(header, "# words").unwrap_or(" run").split(' ').skip(1) {
+        let mut copy = String::new(alloc);
+        put(&mut copy, word);
+        let _ = words.push(copy);
+    }
+    words
+}
+
+// What a run reads: the script, in pieces of so many bytes.
+fn source(alloc: Global, script: &[u8], header: &[&str]) -> Pieces {
+    let mut copy = Vec::new(alloc);
+    put_parts(&mut copy, &[script]);
+    let failing = numbers(alloc, header, "# source fails at call ", 5);
+    let piece = said(header, "# pieces of ").unwrap_or("65536");
+    Pieces {
+        source: MemSource::new(copy, failing),
+        piece: number(piece, 0).min(65_536) as usize,
+    }
+}
+
+// What a run writes to.
+fn sink(alloc: Global, header: &[&str]) -> Outlet {
+    let failing = numbers(alloc, header, "# sink fails at call ", 5);
+    let (room, most) = match said(header, "# sink takes ") {
+        Some(room) => (number(room, 0), 3),
+        None => (u64::MAX, u64::MAX),
+    };
+    Outlet {
+        sink: MemSink::new(Vec::new(alloc), failing),
+        room,
+        most,
+        faults: 0,
+    }
 }
 
 // Puts the images that a bay answered at crashes, each as a line of hex digits.
@@ -27,14 +59,19 @@ fn put_images(alloc: Global, report: &mut Vec<u8>, bay: &MemBay) {
     }
 }
 
-// Puts how a run ended, without the program's name.
-fn put_status(alloc: Global, report: &mut Vec<u8>, status: Status) {
+// How a run ended: the exit code, and behind a colon what goes to standard error, without the program's name.
+fn ending(alloc: Global, status: Status) -> String {
     let code = status.code();
-    if let Ok(text) = format!(in alloc; "{status}") {
-        let message = text.as_str().strip_prefix("coda: ").unwrap_or("");
-        if let Ok(ending) = format!(in alloc; "{code}: {message}") {
-            put_ending(report, ending.as_str());
-        }
+    let text = format!(in alloc; "{status}").unwrap_or(String::new(alloc));
+    let message = text.as_str().strip_prefix("coda: ").unwrap_or("");
+    format!(in alloc; "{code}: {message}").unwrap_or(String::new(alloc))
+}
+
+// Puts how a run ended, where it should have ended otherwise.
+fn put_ending(alloc: Global, report: &mut Vec<u8>, status: Status, wanted: &str) {
+    let ending = ending(alloc, status);
+    if ending.as_str() != wanted {
+        put_parts(report, &[b"\nstatus ", ending.as_bytes(), b"\n"]);
     }
 }
 
@@ -43,70 +80,65 @@ fn outcome(
     alloc: Global,
     bay: &mut MemBay,
     script: &[u8],
+    header: &[&str],
     report: &mut Vec<u8>,
-) -> Result<Status, AllocError>
+) -> Status
     requires { (k : ℕ) → is_out (get nat_cmp bay.old.places k) ≡ false }
-    ensures { IfOk result (λ status. status ≢ Status.Memory → status ≢ Status.BayFault
-        → (k : ℕ) → is_out (get nat_cmp bay.new.places k) ≡ false) }
+    ensures { result ≢ Status.Memory → result ≢ Status.BayFault
+        → (k : ℕ) → is_out (get nat_cmp bay.new.places k) ≡ false }
 {
-    let bytes = script.to_vec(alloc)?;
-    let header = Header::read(alloc, script);
-    let source = MemSource::new(bytes, header.failing_reads);
-    let mut source = Pieces::new(source, header.piece.min(65_536) as usize);
-    let sink = MemSink::new(Vec::new(alloc), header.failing_writes);
-    let mut sink = Outlet::new(sink, header.room);
-    let status = coda(alloc, &header.words, &mut source, &mut sink, bay);
-    put_parts(report, &[sink.bytes()]);
-    if header.shows_images {
+    let mut source = source(alloc, script, header);
+    let mut sink = sink(alloc, header);
+    let status = coda(alloc, &words(alloc, header), &mut source, &mut sink, bay);
+    put_parts(report, &[sink.sink.bytes()]);
+    if said(header, "# images").is_some() {
         put_images(alloc, report, bay);
     }
-    Ok(status)
-}
-
-// What must be written: the report of each run, with the run's ending behind it.
-fn wanted_of(alloc: Global, scripts: &[Vec<u8>], reports: &[Vec<u8>]) -> Vec<u8> {
-    let mut wanted = Vec::new(alloc);
-    if scripts.len() != reports.len() {
-        put_parts(&mut wanted, &[b"a row has a report for each of its runs\n"]);
-    }
-    for (script, report) in scripts.iter().zip(reports.iter()) {
-        put_parts(&mut wanted, &[report]);
-        put_ending(&mut wanted, status_of(alloc, script));
-    }
-    wanted
-}
-
-// The bay of the first run.
-fn first_bay(alloc: Global, scripts: &[Vec<u8>]) -> Result<MemBay, AllocError>
-    ensures { IfOk result (λ bay. (k : ℕ) → is_out (get nat_cmp bay.places k) ≡ false) }
-{
-    let first = Header::read(
+    put_ending(
         alloc,
-        scripts.first().map_or(&[], |script| script.as_slice()),
+        report,
+        status,
+        said(header, "# status ").unwrap_or("0: "),
     );
-    bay_of(alloc, first.failing_bay, first.disks)
+    status
 }
 
-// What the runs write, one after the other over one bay, which is that of the first; likewise.
-fn found_of(alloc: Global, scripts: &[Vec<u8>]) -> Result<Vec<u8>, AllocError> {
-    let mut found = Vec::new(alloc);
-    let mut bay = first_bay(alloc, scripts)?;
-    for script in scripts {
-        let status = outcome(alloc, &mut bay, script, &mut found)?;
-        put_status(alloc, &mut found, status);
+// Puts what the runs of a text write, one after the other over one bay.
+fn put_runs(alloc: Global, bay: &mut MemBay, text: &str, report: &mut Vec<u8>)
+    requires { (k : ℕ) → is_out (get nat_cmp bay.old.places k) ≡ false }
+{
+    let mut is_later = false;
+    for script in text.split("# again\n") {
+        if is_later {
+            put_parts(report, &[b"# again\n"]);
+        }
+        let status = outcome(
+            alloc,
+            bay,
+            script.as_bytes(),
+            &header(alloc, script),
+            report,
+        );
         // Such a run may keep disks of the bay, so no other follows it.
         if status == Status::BayFault || status == Status::Memory {
-            break;
+            return;
         }
+        is_later = true;
     }
-    Ok(found)
 }
 
-/// Runs a script, or several over one bay, by their headers: the report that must be written, and the one that was,
-/// with each run's ending behind what it wrote.
-pub fn run(alloc: Global, script: &[u8], report: &[u8]) -> Result<(Vec<u8>, Vec<u8>), AllocError> {
-    let scripts = runs(alloc, script)?;
-    let reports = runs(alloc, report)?;
-    let found = found_of(alloc, &scripts)?;
-    Ok((wanted_of(alloc, &scripts, &reports), found))
+/// What a script writes, or several over one bay, run by their headers: one report behind the other, with the line
+/// between them, and how a run ended where its header says something else. One that is no text has no header.
+pub fn reported(alloc: Global, script: &[u8]) -> Vec<u8> {
+    let mut report = Vec::new(alloc);
+    let text = std::str::from_utf8(script);
+    if let Ok(mut bay) = bay_of(alloc, &header(alloc, text.unwrap_or(""))) {
+        match text {
+            Ok(text) => put_runs(alloc, &mut bay, text, &mut report),
+            Err(_) => {
+                let _ = outcome(alloc, &mut bay, script, &[], &mut report);
+            }
+        }
+    }
+    report
 }

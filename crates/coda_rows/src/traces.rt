@@ -3,13 +3,12 @@ ghost use Rattle.std.specs.Prelude.{◌≡◌, ◌≤◌, ◌<◌, ◌+◌, ◌^
 ghost use Rattle.coda_script.specs.Ranges.{InRange};
 ghost use Rattle.coda_site.specs.Sites.{IsReady, IsClosable};
 
-use crate::answers::odd_lines;
-use crate::texts::put_parts;
+use crate::texts::{odd_lines, put_parts};
 use coda_disk::{Bay, MemBay};
 use coda_script::{Line, read_line};
 use coda_site::is_built;
 use coda_trace::{Event, TracedCell};
-use std::alloc::{AllocError, Global};
+use std::alloc::Global;
 
 /// More lines than any row has.
 const MOST_LINES: usize = 1_000;
@@ -84,11 +83,11 @@ fn put_steps(alloc: Global, lines: &[&[u8]], steps: &[Event], whole: &mut Vec<u8
 
 /// The odd lines of a text, carried out in a cell over an empty bay, each with what the trace has of its step on the
 /// line below, as the debug text of that; none behind one that isn't answered.
-pub fn traced(alloc: Global, text: &[u8]) -> Result<Vec<u8>, AllocError> {
-    let lines = odd_lines(alloc, text)?;
+pub fn traced(alloc: Global, text: &[u8]) -> Vec<u8> {
+    let lines = odd_lines(alloc, text);
     let mut cell = TracedCell::new(alloc, MemBay::new(alloc, Vec::new(alloc)));
     carry_out(alloc, &mut cell, &lines);
     let mut whole = Vec::new(alloc);
     put_steps(alloc, &lines, cell.trace(), &mut whole);
-    Ok(whole)
+    whole
 }

@@ -1,19 +1,7 @@
 // Scripts that are generated.
-use crate::calls::answer::{Answer, Bench};
-use crate::calls::words::{named, number};
+use crate::texts::{number, put};
 use coda_gen::{GenFault, script};
-
-/// What is generated stands in the call.
-#[derive(Drop)]
-pub struct Generated {}
-
-#[derive(Clone, Copy)]
-enum Call {
-    Lines,
-    Digest,
-}
-
-const CALLS: &[(&str, Call)] = &[("lines", Call::Lines), ("digest", Call::Digest)];
+use std::alloc::Global;
 
 // The 64 bits of Fowler, Noll and Vo's hash 1a.
 fn digest(bytes: &[u8]) -> u64 {
@@ -24,23 +12,25 @@ fn digest(bytes: &[u8]) -> u64 {
     value
 }
 
-// `lines START COUNT`, each line with a bar behind it, and `digest START COUNT`.
-fn put_script(asked: Call, call: &str, out: &mut Answer) {
-    match script(out.alloc, number(call, 1), number(call, 2)) {
-        Ok(text) => match asked {
-            Call::Lines => out.put_lines(text.bytes()),
-            Call::Digest => out.put_number(digest(text.bytes())),
-        },
-        Err(GenFault::TooMany) => out.put("too many"),
-        Err(GenFault::Memory) => out.put("no memory"),
+// Puts the lines of a script, a bar in the place of each newline.
+fn put_lines(script: &[u8], out: &mut String) {
+    for line in std::str::from_utf8(script).unwrap_or("no text").split('\n') {
+        if !out.is_empty() {
+            put(out, "|");
+        }
+        put(out, line);
     }
 }
 
-impl Bench for Generated {
-    fn answer(&mut self, call: &str, out: &mut Answer) {
-        match named(CALLS, call) {
-            Some(asked) => put_script(asked, call, out),
-            None => out.put("no call"),
+/// `lines START COUNT`, or `digest START COUNT`.
+pub fn put_script(alloc: Global, call: &str, is_whole: bool, out: &mut String) {
+    match script(alloc, number(call, 1), number(call, 2)) {
+        Ok(text) if is_whole => put_lines(text.bytes(), out),
+        Ok(text) => {
+            let value = digest(text.bytes());
+            let _ = write!(out, "{value}");
         }
+        Err(GenFault::TooMany) => put(out, "too many"),
+        Err(GenFault::Memory) => put(out, "no memory"),
     }
 }

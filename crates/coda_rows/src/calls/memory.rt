@@ -1,36 +1,21 @@
 // What becomes of an operation of a client and of a decision of a replica, each on a disk, where they find no memory:
 // nothing changes, and the same call is done afterwards, once. Where there is memory, they are done at once.
 // `.ci/memory` lets each allocation fail in turn.
-ghost use Rattle.std.specs.Prelude.{◌≡◌, IfSome};
+ghost use Rattle.std.specs.Prelude.{◌≡◌, [], ◌∷◌, IfOk, IfSome};
 ghost use Rattle.coda_fid.specs.Name.{AreNames};
 ghost use Rattle.coda_record.specs.Entries.{node as a_node};
 ghost use Rattle.coda_record.specs.Form.{four};
 ghost use Rattle.coda_record.specs.Spelling.{HasSpelling};
 ghost use Rattle.coda_record.specs.Table.{records as some_records};
 
-use crate::calls::answer::{Answer, Bench};
-use crate::calls::replica::first_creation;
-use crate::calls::words::named;
 use coda_disk::MemDisk;
-use coda_fid::{Fid, Path, Record, Sid};
+use coda_fid::{Fid, Name, NameFault, Op, Path, Record, Sid};
 use coda_journal::{Header, Kind};
 use coda_record::Answer as Decision;
 use coda_replica::{Replica, ReplicaFault};
 use coda_tree::{Entries, Node, NodeKind};
 use coda_venus::{Ask, Refused, Venus};
 use std::alloc::Global;
-
-/// Each call makes what it is on.
-#[derive(Drop)]
-pub struct Wanting {}
-
-#[derive(Clone, Copy)]
-enum Call {
-    Operate,
-    Decide,
-}
-
-const CALLS: &[(&str, Call)] = &[("operate", Call::Operate), ("decide", Call::Decide)];
 
 // The header of a client's disk.
 const OF_CLIENT: Header = Header {
@@ -158,8 +143,8 @@ fn created(venus: &mut Venus<MemDisk>, path: &Path) -> Result<&'static str, &'st
     }
 }
 
-// `operate`: what becomes of a creation in the root.
-fn operated(alloc: Global) -> &'static str {
+/// `operate`: what becomes of a creation in the root.
+pub fn operated(alloc: Global) -> &'static str {
     let Some(path) = path(alloc) else {
         return "not begun";
     };
@@ -243,8 +228,30 @@ fn kept(alloc: Global, disk: &MemDisk, said: Result<&'static str, &'static str>)
     }
 }
 
-// `decide`: what becomes of the decision of a client's first chunk.
-fn decided(alloc: Global) -> &'static str {
+// The creation of the file `a` in the root, as operation 1 of client 1.
+fn first_creation(alloc: Global) -> Result<Record, NameFault>
+    ensures { IfOk result (λ r. HasSpelling (some_records four) (r ∷ [])) }
+{
+    let name = Name::read(alloc, b"a")?;
+    Ok(Record {
+        number: 1,
+        time: 0,
+        op: Op::Create {
+            dir: Fid::root(7),
+            name,
+            fid: Fid {
+                volume: 7,
+                vnode: 1,
+                uniq: 9,
+            },
+            mode: 0o644,
+            owner: 0,
+        },
+    })
+}
+
+/// `decide`: what becomes of the decision of a client's first chunk.
+pub fn decided(alloc: Global) -> &'static str {
     let Ok(record) = first_creation(alloc) else {
         return "not begun";
     };
@@ -255,15 +262,5 @@ fn decided(alloc: Global) -> &'static str {
             kept(alloc, &replica.down(), said)
         }
         None => "not begun",
-    }
-}
-
-impl Bench for Wanting {
-    fn answer(&mut self, call: &str, out: &mut Answer) {
-        out.put(match named(CALLS, call) {
-            Some(Call::Operate) => operated(out.alloc),
-            Some(Call::Decide) => decided(out.alloc),
-            None => "no call",
-        });
     }
 }

@@ -7,7 +7,7 @@ use Rattle.coda_record.specs.Parts.{u64}
 use Rattle.coda_record.specs.Spelling.{HasSpelling}
 use Rattle.coda_record.specs.Table as table
 use Rattle.coda_spelling.proofs.SpelledParts.{both_true, name_spelled, fid_spelled, IsOpSpelled, create_spelled}
-use Rattle.coda_rows.proofs.calls.replica.first_creation.Goals as goal
+use Rattle.coda_rows.proofs.calls.memory.first_creation.Goals as goal
 
 one_spelled : (rec : Record) → 0 < rec.number → rec.number ≤ 4294967295 → HasSpelling u64 rec.time → IsOpSpelled rec.op → HasSpelling (table.records four) (rec ∷ [])
 unfolding table.records table.record_above
