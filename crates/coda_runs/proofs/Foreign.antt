@@ -114,7 +114,7 @@ replica_found cell kept server volume at outside new (none, (header, asked, inl 
 replica_found cell kept server volume at outside new (none, (header, asked, inr (inl did))) = (let no = did.3 in cc)
 replica_found cell kept server volume at outside new (none, (header, asked, inr (inr (place, differs, replied, is)))) =
     let own : (replica_disk cell server volume).header ≡ (cell.replicas volume).given =
-        ap (λ (b : Bool). (on_disk b (cell.others volume) (plain_replica volume (cell.made.acted.replicas server volume) (cell.replicas volume))).disk.header) (kept.replicas_own volume) in
+    ap (λ (b : Bool). (on_disk b (cell.others volume) (plain_replica volume (cell.made.acted.replicas server volume) (cell.replicas volume))).disk.header) (kept.replicas_own volume) in
     replica_own volume (cell.made.homes volume) (λ s. cell.made.acted.replicas s volume) (cell.replicas volume) header place (kept.replicas volume) asked (subst (λ (g : Option Header). HasOther header g place) own differs)
 
 pub recoveries_find_their_own : RecoveriesFindTheirOwn

@@ -255,7 +255,7 @@ module _ {D : Type 0} (told : D → Told) (out : ℕ → Bool) (has : ℕ → To
       let read : IfSome side.left (ReadsAs header (client_payloads ((moved cell (Recovers (TheClient n) joins)).made.acted.clients n).history)) =
       subst (λ (h : List Payload). IfSome side.left (ReadsAs header (payloads_of h))) (found.1 ∙ ap (λ (a : Actor ClientEntry). journal_by a.history) (sym at)) step.3 in
       let takes : MayTake header side.given ((moved cell (Recovers (TheClient n) joins)).made.acted.clients n).history = may_take header side.given (plain_clients cell n).disk.history (new n).disk.history next.history joined.was found.1
-          ((moved cell (Recovers (TheClient n) joins)).made.acted.clients n).history (ap (λ (a : Actor ClientEntry). a.history) at) in
+      ((moved cell (Recovers (TheClient n) joins)).made.acted.clients n).history (ap (λ (a : Actor ClientEntry). a.history) at) in
       recovers (Recovered count) (with_client_side (moved cell (Recovers (TheClient n) joins)) n known) (refl, (header, asks, inl (joins, ap Recovered many, read, refl, takes)))
       (client_site told out out has has cell site n next known slots new is leaves_be fits here else)
 

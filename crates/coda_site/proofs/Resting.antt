@@ -79,10 +79,14 @@ all_resumed told out has cell site kept is = record {
   places = is.places;
   areas = is.areas;
   clients = is.clients;
-  replicas = (is.replicas.0, record {
-    placed = λ volume server home. is.replicas.1.placed volume server home ∙ sym (own_standing cell server volume (kept.replicas_own volume));
-    others = λ number none. is.replicas.1.others number none ∙ sym (kept.idle number);
-  }, is.replicas.2);
+  replicas = (
+    is.replicas.0,
+    record {
+      placed = λ volume server home. is.replicas.1.placed volume server home ∙ sym (own_standing cell server volume (kept.replicas_own volume));
+      others = λ number none. is.replicas.1.others number none ∙ sym (kept.idle number);
+    },
+    is.replicas.2,
+  );
   net = is.net;
 }
 

@@ -79,7 +79,7 @@ module _ (cell : StoredCell) (kept : IsStoredKept cell) (n blocks area : ℕ) (s
       let read : IfSome side.left (ReadsAs header (client_payloads ((moved cell (Recovers (TheClient n) joins)).made.acted.clients n).history)) =
       subst (λ (o : Option (List ℕ)). IfSome o (ReadsAs header (client_payloads ((moved cell (Recovers (TheClient n) joins)).made.acted.clients n).history))) (sym asks.1) tt in
       let takes = may_take header side.given (plain_client actor side).disk.history new.disk.history next.history joined.was found.1
-          ((moved cell (Recovers (TheClient n) joins)).made.acted.clients n).history (ap (λ (a : Actor ClientEntry). a.history) at) in
+      ((moved cell (Recovers (TheClient n) joins)).made.acted.clients n).history (ap (λ (a : Actor ClientEntry). a.history) at) in
       record {
         next = next;
         known = known;

@@ -11,9 +11,7 @@ use Rattle.coda_plain.proofs.Soundness.{none_joins}
 use Rattle.coda_record.specs.declared.entry.ReplicaEntry.{ReplicaEntry as KeptEntry}
 use Rattle.coda_script.specs.Ranges.{InRange}
 use Rattle.coda_script.specs.declared.line.Line.{Line}
-use Rattle.coda_script.specs.declared.line.Line.TheVariants as line
 use Rattle.coda_script.specs.declared.reply.Reply.{Reply}
-use Rattle.coda_cell.specs.Steps.{alone}
 use Rattle.coda_stored.specs.Cells.{Side, StoredCell, IsAnothers}
 use Rattle.coda_stored.specs.Held.{owned, lying_disk, IsShelfKept, AreClients, AreHomes, IsHeld}
 use Rattle.coda_stored.specs.Kept.{IsCellKept}

@@ -21,7 +21,7 @@ use Rattle.coda_stored.specs.Held.{IsShelfKept, lying_disk, AreClients, IsHeld, 
 use Rattle.coda_stored.specs.Lines.{asking, MayTake, area_of, no_volume}
 use Rattle.coda_stored.specs.Mounted.{Shelf, plain_shelf, blank, Making, IsNoOthers, FindsDisk, asking_elsewhere, client_elsewhere, volume_elsewhere, making_client, making_volume, ClientFinds, VolumeFinds, IsShelved}
 use Rattle.coda_stored.specs.Resuming.{Awaited, ClientAgain, VolumeAgain, awaits_client, awaits_volume}
-use Rattle.coda_stored.specs.Seen.{asleep, home_unless, seen, mounts_none, AreOthersBeside}
+use Rattle.coda_stored.specs.Seen.{asleep, home_unless, mounts_none, AreOthersBeside}
 use Rattle.coda_stored.proofs.Held.{owned_behind, shelf_stays, among, seen_among, given_asleep, held_lines, held_seen, held_promised}
 use Rattle.coda_stored.proofs.HeldClients.{IsMadeOn as IsClientMade, client_finds}
 use Rattle.coda_stored.proofs.HeldFirst.{held_first, held_begun, clients_begin}
@@ -342,9 +342,9 @@ module _ (old : StoredCell) (held : IsHeld old) (volume : ℕ) (servers : List �
           → (header : Header) × ((cond (v == volume) made.side (held.behind.replicas v)).asked ≡ Some header) × IsAnothers header (made.others v).header
       aside v = elim (v == volume) as (λ b. (v == volume) ≡ b → (cond b made.side (held.behind.replicas v)).foreign ≡ true
           → (header : Header) × ((cond b made.side (held.behind.replicas v)).asked ≡ Some header) × IsAnothers header (made.others v).header) [
-        | true ↦ λ e foreign. subst (λ n. (header : Header) × (made.side.asked ≡ Some header) × IsAnothers header (made.others n).header) (sym (eqb-true v volume e)) (made.aside foreign)
-        | false ↦ λ e foreign. subst (λ (d : PlainDisk KeptEntry). (header : Header) × ((held.behind.replicas v).asked ≡ Some header) × IsAnothers header d.header) (sym (made.else v (eqb-false v volume e))) (held.others_beside v foreign)
-      ] refl
+            | true ↦ λ e foreign. subst (λ n. (header : Header) × (made.side.asked ≡ Some header) × IsAnothers header (made.others n).header) (sym (eqb-true v volume e)) (made.aside foreign)
+            | false ↦ λ e foreign. subst (λ (d : PlainDisk KeptEntry). (header : Header) × ((held.behind.replicas v).asked ≡ Some header) × IsAnothers header d.header) (sym (made.else v (eqb-false v volume e))) (held.others_beside v foreign)
+          ] refl
 
       lies : (v : ℕ) → (cond (v == volume) made.side (held.behind.replicas v)).foreign ≡ true → IsShelfKept held.behind (lying_disk (made.others v))
       lies v = elim (v == volume) as (λ b. (v == volume) ≡ b → (cond b made.side (held.behind.replicas v)).foreign ≡ true → IsShelfKept held.behind (lying_disk (made.others v))) [

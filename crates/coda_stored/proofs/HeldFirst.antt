@@ -254,7 +254,7 @@ held_begun cell held =
     let begins = (cells_are_resumed.begins held.behind).clients in
     let others : (number : ℕ) → IsShelfKept (at_rest held.behind) (held.behind.idle number) = λ number. shelf_stays held.behind (at_rest held.behind) (held.behind.idle number) (held.behind.idle number) begins rested.kept refl (held.shelves number) in
     let foreign : (volume : ℕ) → (held.behind.replicas volume).foreign ≡ true → IsShelfKept (at_rest held.behind) (lying_disk (held.behind.others volume)) =
-        λ volume on. shelf_stays held.behind (at_rest held.behind) (lying_disk (held.behind.others volume)) (lying_disk (held.behind.others volume)) begins rested.kept refl (held.others volume on) in
+    λ volume on. shelf_stays held.behind (at_rest held.behind) (lying_disk (held.behind.others volume)) (lying_disk (held.behind.others volume)) begins rested.kept refl (held.others volume on) in
     let is = actors (at_rest held.behind) rested others foreign held.names refl refl in
     record {
       behind = unhoused (at_rest held.behind) held.names;

@@ -486,9 +486,21 @@ module _ (left : List Awaited) where
               let asks : tried.asked ≡ (whole.replicas volume).asked = (tried_asks now (TheReplica server volume) (now.replicas volume) header _ tried half refused).0 ∙ ap (λ (s : Side). s.asked) side_is ∙ sym (ap (λ (f : ℕ → Side). (f volume).asked) r.5) in
               replica_side_becomes (line.RecoverReplica server volume) reply outside mid whole volume tried there.0 asks r.3
               (is ∙ ap (λ (c : StoredCell). with_replica_side c volume tried) r.1)
-              (subst (λ o. UnlessStored old o (RecoversReplica old server volume) reply outside (with_replica_side whole volume tried)) (sym there.1)
-              (out, (header, sym (ap (λ (s : Side). s.asked) side_is) ∙ asked, inr (inl (tried, whole, subst (λ (s : Side). IsRefused old (TheReplica server volume) s header (length (replica_disk old server volume).history) tried whole) side_is
-              (subst (λ (d : PlainDisk KeptEntry). IsRefused old (TheReplica server volume) (now.replicas volume) header (length d.history) tried whole) (disk_is server volume side_is) r.2), replied, refl)))))
+              (subst (λ o. UnlessStored old o (RecoversReplica old server volume) reply outside (with_replica_side whole volume tried)) (sym there.1) (
+                out,
+                (
+                  header,
+                  sym (ap (λ (s : Side). s.asked) side_is) ∙ asked,
+                  inr (inl (
+                    tried,
+                    whole,
+                    subst (λ (s : Side). IsRefused old (TheReplica server volume) s header (length (replica_disk old server volume).history) tried whole) side_is
+                        (subst (λ (d : PlainDisk KeptEntry). IsRefused old (TheReplica server volume) (now.replicas volume) header (length d.history) tried whole) (disk_is server volume side_is) r.2),
+                    replied,
+                    refl,
+                  )),
+                ),
+              ))
           by there side_is (out, (header, asked, inr (inr foreign))) =
               foreign_seen (TheReplica server volume) header (replica_disk old server volume).header (line.RecoverReplica server volume) reply outside mid there.0 (subst (λ (d : PlainDisk KeptEntry). IsRefusedAs now (TheReplica server volume) header d.header reply mid) (disk_is server volume side_is) foreign)
               (λ refused. subst (λ o. UnlessStored old o (RecoversReplica old server volume) reply outside (moved old (Crashes (TheReplica server volume)))) (sym there.1)

@@ -1,5 +1,5 @@
 -- Cells over disks that earlier runs left: whoever of their actors comes again, in whatever order, and beside whichever new ones.
-use Rattle.std.specs.Prelude.{◌≡◌, ◌⊎◌, ℕ, Bool, true, false, List, [], ◌∷◌, ◌++◌, Option, Some, None}
+use Rattle.std.specs.Prelude.{◌≡◌, ◌⊎◌, ℕ, Bool, true, false, List, [], ◌∷◌, ◌++◌, Some, None}
 use Rattle.coda_actors.specs.Plain.{PlainDisk, PlainActor, Unmade}
 use Rattle.coda_record.specs.declared.entry.ReplicaEntry.{ReplicaEntry as KeptEntry}
 use Rattle.coda_plain.specs.Cell.{deeds_of, new_actor, found, Joins, found_in}
