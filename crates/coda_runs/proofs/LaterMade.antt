@@ -1,11 +1,10 @@
 -- A later run does nothing on a volume that isn't made.
-use Rattle.std.proofs.Common.{◌≡◌, ℕ, Bool, true, false, List, [], ◌∷◌, Option, Some, None, refl, sym, ap, ◌∙◌, subst, inl, inr}
+use Rattle.std.proofs.Common.{◌≡◌, ℕ, Bool, List, [], ◌∷◌, Option, Some, None, refl, sym, ap, ◌∙◌, subst, inl, inr}
 use Rattle.coda_engine.specs.Run.{Runs}
-use Rattle.coda_plain.specs.Cell.{ClientEntry, deeds_of, Actor, found, Joins}
+use Rattle.coda_plain.specs.Cell.{ClientEntry, deeds_of, Actor, found}
 use Rattle.coda_script.specs.declared.reply.Reply.{Reply}
 use Rattle.coda_stored.specs.Cells.{StoredCell}
 use Rattle.coda_stored.specs.Resuming.{stopped, at_rest, Awaited, ClientAgain, VolumeAgain, MakesAgain}
-use Rattle.coda_stored.specs.Seen.{Meanwhile}
 use Rattle.coda_runs.specs.Later.{Later, Waits, Goes, Strays, resumed, LaterGives, HasReached}
 use Rattle.coda_runs.specs.Volumes.{ActedOnMadeVolumes}
 use Rattle.coda_runs.proofs.OnMade.{lines_act_on_made_volumes, acted_then, line_acts, recovers_client_more, recovers_replica_more}

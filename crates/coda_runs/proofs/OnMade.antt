@@ -1,5 +1,5 @@
 -- No line does anything on a volume that isn't made.
-use Rattle.std.proofs.Common.{◌≡◌, ◌≢◌, ℕ, ◌==◌, Bool, true, false, cond, List, [], ◌∷◌, ◌++◌, append_assoc, append-nil, map, take, Option, Some, None, is_some, option_map, Result, Ok, Err, refl, sym, ap, ◌∙◌, subst, inl, inr}
+use Rattle.std.proofs.Common.{◌≡◌, ℕ, ◌==◌, Bool, true, false, cond, List, [], ◌∷◌, ◌++◌, append-nil, map, take, Option, Some, None, is_some, option_map, Result, Ok, Err, refl, sym, ap, ◌∙◌, subst, inl, inr}
 use Rattle.std.specs.Prelude.{nat_lt}
 use Rattle.std.specs.Option.{unwrap_or}
 use Rattle.std.proofs.lemmas.Bool.{eqb-true, ne_eqb}
@@ -36,7 +36,7 @@ use Rattle.coda_cell.specs.Steps.{client_named, volume_named, server_named, hold
 use Rattle.coda_cell.proofs.Events.{are_there, all_there}
 use Rattle.coda_cell.proofs.Moving.{deeds_both}
 use Rattle.coda_stored.specs.Cells.{StoredCell, nothing_stored, client_header, replica_header, after, after_all, moved, failed}
-use Rattle.coda_stored.specs.Lines.{is_down_for, task_meets, meets, Acts, Becoming, Unless as UnlessStored, UnlessDown, Opens, no_volume, no_client, with_volume, with_client, area_of, IsRefused, with_client_side, with_replica_side, CrashesClient, CrashesReplica, RecoversClient, RecoversReplica, Stays, DoesUp, Happens}
+use Rattle.coda_stored.specs.Lines.{is_down_for, task_meets, meets, Acts, Becoming, Unless as UnlessStored, UnlessDown, Opens, no_volume, no_client, with_volume, with_client, area_of, with_client_side, with_replica_side, CrashesClient, CrashesReplica, RecoversClient, RecoversReplica, Stays, DoesUp}
 use Rattle.coda_runs.specs.Runs.{LineGives}
 use Rattle.coda_runs.specs.Volumes.{DidNoMore, LinesActOnMadeVolumes, ActedOnMadeVolumes, ScriptsActOnMadeVolumes}
 
