@@ -29,9 +29,9 @@ use Rattle.coda_runs.proofs.Running.{of_pending, read_in_range, always_kept}
 -- ---- what each line leaves
 
 -- the cell is held, and each client begins with what another one had
-record GoesOn (start : StoredCell) (cell : StoredCell) : Type 0 where
-  held : IsHeld cell
-  begins : (client : ℕ) → BeginsWith (cell.made.acted.clients client).history (start.made.acted.clients client).history
+pub record GoesOn (start : StoredCell) (cell : StoredCell) : Type 0 where
+  pub held : IsHeld cell
+  pub begins : (client : ℕ) → BeginsWith (cell.made.acted.clients client).history (start.made.acted.clients client).history
 
 -- what is found leaves all clients as they were, but for one that is made
 finds_begin : (old new : StoredCell) (shelf : Shelf) (said : Line) (reply : Reply) (outside : List (List ℕ)) → LineFinds old shelf said reply outside new → (client : ℕ) → BeginsWith (new.made.acted.clients client).history (old.made.acted.clients client).history
@@ -62,11 +62,11 @@ answered_on start at bytes text outside said new spelled goes (inl d) = subst (�
     (entries_stay at.cell d.found said d.reply outside d.does).clients)
 answered_on start at bytes text outside said new spelled goes (inr m) = subst (λ (r : Recorded). GoesOn start r.cell) (sym m.goes_on) (goes_then start at.cell m.found goes m.held (finds_begin at.cell m.found m.shelf said m.reply outside m.finds))
 
-line_on : (start : StoredCell) (old : Recorded) (bytes text : List ℕ) (outside : List (List ℕ)) (new : Recorded) → GoesOn start old.cell → HeldGives old bytes text outside new → GoesOn start new.cell
+pub line_on : (start : StoredCell) (old : Recorded) (bytes text : List ℕ) (outside : List (List ℕ)) (new : Recorded) → GoesOn start old.cell → HeldGives old bytes text outside new → GoesOn start new.cell
 line_on start old bytes text outside new goes (inl silent) = subst (λ (r : Recorded). GoesOn start r.cell) (sym silent.3) goes
 line_on start old bytes text outside new goes (inr (said, spelled, built, answers)) = answered_on start old bytes text outside said new spelled goes answers
 
-runs_on : (start : StoredCell) (old new : Recorded) (ls : List (List ℕ)) (report : List ℕ) (outside : List (List ℕ)) → GoesOn start old.cell → Runs HeldGives old ls report outside new → GoesOn start new.cell
+pub runs_on : (start : StoredCell) (old new : Recorded) (ls : List (List ℕ)) (report : List ℕ) (outside : List (List ℕ)) → GoesOn start old.cell → Runs HeldGives old ls report outside new → GoesOn start new.cell
 runs_on start old new [] report outside goes run = subst (λ (r : Recorded). GoesOn start r.cell) (sym run.2) goes
 runs_on start old new (l ∷ more) report outside goes run = runs_on start run.0 new more run.2 run.4 (line_on start old l run.1 run.3 run.0 goes run.5) run.6
 
@@ -85,11 +85,15 @@ seen_pending cell left kept client volume c is =
 held_pending : (cell : StoredCell) → IsHeld cell → (client volume : ℕ) (c : ClientState) → (state_of cell.made).clients client ≡ Some c → IsOfPending cell.made client volume c
 held_pending cell held = subst (λ (x : StoredCell). (client volume : ℕ) (c : ClientState) → (state_of x.made).clients client ≡ Some c → IsOfPending x.made client volume c) (sym held.is) (seen_pending held.behind held.left held.kept)
 
+-- what such a run reached from its beginning
+pub goes_from : (past : StoredCell) (held : IsHeld past) (before : List (List ℕ)) (ls : List (List ℕ)) (report : List ℕ) (outside : List (List ℕ)) (at : Recorded) → Runs HeldGives (record { cell = begun_from past held; answered = before }) ls report outside at
+    → GoesOn past at.cell
+goes_from past held before ls report outside at run = runs_on past (record { cell = begun_from past held; answered = before }) at ls report outside
+    (record { held = held_cells_are_kept.begun past held; begins = held_cells_are_kept.clients past held }) run
+
 pub held_runs_go_on : HeldRunsGoOn
 held_runs_go_on past held before ls report outside at run =
-    let start = begun_from past held in
-    let went : GoesOn past at.cell = runs_on past (record { cell = start; answered = before }) at ls report outside
-    (record { held = held_cells_are_kept.begun past held; begins = held_cells_are_kept.clients past held }) run in
+    let went = goes_from past held before ls report outside at run in
     record {
       held = went.held;
       promised = held_cells_are_kept.promised at.cell went.held;

@@ -27,3 +27,4 @@ pub mod WhoCame
 pub mod Held
 pub mod OnMade
 pub mod LaterMade
+pub mod Others

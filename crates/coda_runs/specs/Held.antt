@@ -1,6 +1,6 @@
 -- Runs over the disks that an earlier run left, whoever of its actors comes again, in whatever order, and beside whichever new ones, whatever disk
 -- fails.
-use Rattle.std.specs.Prelude.{◌≡◌, ◌⊎◌, ◌++◌, ℕ, true, false, List, [], None, Some, Ok}
+use Rattle.std.specs.Prelude.{◌≡◌, ◌≢◌, ◌⊎◌, ◌++◌, ℕ, true, false, List, [], None, Some, Ok}
 use Rattle.coda_engine.specs.Run.{Runs}
 use Rattle.coda_plain.specs.Cell.{Joins, found_in}
 use Rattle.coda_plain.specs.Logs.{BeginsWith}
@@ -68,3 +68,15 @@ HeldRunsGoOn =
 -- What any run of a cell from nothing left is held, so that such a run can begin over its disks.
 abbrev pub WhatRanIsHeld : Type 0
 WhatRanIsHeld = Always IsHeld
+
+-- The disk of another, on which a volume was made, holds what it held, and is the other's still.
+pub record IsOthersStill (volume : ℕ) (old new : StoredCell) : Type 0 where
+  pub foreign : (new.replicas volume).foreign ≡ true
+  pub same : new.others volume ≡ old.others volume
+
+-- So it is whatever lines follow, crashes, failing disks and recoveries among them, as long as it holds entries: nobody takes them, and nobody loses them.
+abbrev pub OthersKeepTheirDisks : Type 0
+OthersKeepTheirDisks =
+    (past : StoredCell) (held : IsHeld past) (before : List (List ℕ)) (ls : List (List ℕ)) (report : List ℕ) (outside : List (List ℕ)) (at : Recorded) (more : List (List ℕ)) (told : List ℕ) (images : List (List ℕ)) (end : Recorded) (volume : ℕ)
+    → Runs HeldGives (record { cell = begun_from past held; answered = before }) ls report outside at → Runs HeldGives at more told images end
+    → (at.cell.replicas volume).foreign ≡ true → (at.cell.others volume).history ≢ [] → IsOthersStill volume at.cell end.cell

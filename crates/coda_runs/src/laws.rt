@@ -4,7 +4,7 @@ ghost use Rattle.coda_stored.specs.Cells.{nothing_stored};
 ghost use Rattle.coda_runs.specs.Causes.{RefusalsHaveCauses};
 ghost use Rattle.coda_runs.specs.Complete.{ScriptsInGrammarAreClean};
 ghost use Rattle.coda_runs.specs.Headline.{ScriptsLearnOfTheirOwn, ScriptsRun, ChunksAreDecidedOnce, CertifiedChunksAreApplied, ConflictsNameASentRecord, OperationsAreKept, SettlementsAreDecided, LogsArePending, AcknowledgedEntriesStay, ClientsComeBack, ReplicasComeBack};
-ghost use Rattle.coda_runs.specs.Held.{HeldRunsGoOn, WhatRanIsHeld};
+ghost use Rattle.coda_runs.specs.Held.{HeldRunsGoOn, OthersKeepTheirDisks, WhatRanIsHeld};
 ghost use Rattle.coda_runs.specs.Later.{LaterRunsGoOn, OwnDisksAreNotForeign, RecoveriesFindTheirOwn, WhatIsMadeAgainIsCounted, WhatOthersHoldIsKept, WhatRanCanBeResumed};
 ghost use Rattle.coda_runs.specs.Lettered.{RepliesNameLetters, LettersSayWhatIsSo, LettersHaveEnds};
 ghost use Rattle.coda_runs.specs.NeverCame.{LettersAreOfThoseWhoCame, WhoNeverCameIsAsItWas};
@@ -234,4 +234,10 @@ pub fn scripts_act_on_made_volumes()
 /// own.
 pub fn recoveries_find_their_own()
     ensures { RecoveriesFindTheirOwn }
+{}
+
+/// Whatever lines follow in a run over the disks that an earlier run left, a disk of another on which a volume was made,
+/// since a call of it failed, keeps what it holds: no crash and no recovery of the volume takes it.
+pub fn others_keep_their_disks()
+    ensures { OthersKeepTheirDisks }
 {}
