@@ -7,12 +7,12 @@ use Rattle.std.proofs.lemmas.Bool.{false≢true, eqb-false}
 use Rattle.std.proofs.Math.Dec.{eqb-suc-zero}
 use Rattle.std.proofs.KnownBytes.{Appends-nil, Appends-trans}
 use Rattle.coda_engine.specs.Machine.{Gives, Refuses}
-use Rattle.coda_engine.specs.Run.{Ran, BrokeOff, Answers}
+use Rattle.coda_engine.specs.Run.{Ran, BrokeOff, IsNext, Answers}
 use Rattle.coda_engine.specs.Reading.{Place, HasRoom, IsFull, Stands, StopsAmong, Advances, Stops, Ends, LineStops}
 use Rattle.coda_engine.specs.declared.status.Status.{Status}
 use Rattle.coda_engine.specs.declared.status.Status.TheVariants.{Done, Usage, Script, SourceFault, SinkFault, TooLong, BayFault, Memory}
 use Rattle.coda_engine.proofs.Splitting.{lines-more, lines-last}
-use Rattle.coda_engine.proofs.Standing.{runs_more, whole_of, ran_more, stands_byte, stands_line, stop_long, stop_script, stop_sink, stop_memory}
+use Rattle.coda_engine.proofs.Standing.{runs_more, whole_of, ran_more, stands_byte, stands_line, stop_long, stop_script, stop_sink, stop_bay, stop_memory}
 
 pub advances_none : {M : Type 0} {gives : Gives M} (a : Option (List ℕ)) (p : Place M) → Advances gives a a p [] p
 advances_none a p = ([], [], Appends-nil a, λ start read report outside s. rw (append-nil read, append-nil report, append-nil outside) s)
@@ -51,6 +51,15 @@ broke_more read front rest written more outside new b = record {
   said = b.said;
 }
 
+-- the line that is next stays so, whatever was read besides
+next_more : (front rest more line : List ℕ) → IsNext false front rest line → IsNext false front (rest ++ more) line
+next_more front rest more line (inl n) = inl (n.0, n.1 ++ more, rw (n.2, append_assoc n.0 (10 ∷ n.1) more) refl, n.3, n.4, n.5)
+next_more front rest more line (inr n) = absurd (false≢true n.0)
+
+next_all : (all : Bool) (front rest line : List ℕ) → IsNext false front rest line → IsNext all front rest line
+next_all all front rest line (inl n) = inl n
+next_all all front rest line (inr n) = absurd (false≢true n.0)
+
 -- what ends a run among these bytes ends it among these and more
 pub stops_more : {M : Type 0} (gives : Gives M) (refuses : Refuses M) (most : ℕ) (start new : M) (read written more : List ℕ) (outside : List (List ℕ)) (status : Status)
     → StopsAmong gives refuses most start new read written outside status → StopsAmong gives refuses most start new (read ++ more) written outside status
@@ -63,10 +72,7 @@ stops_more gives refuses most start new read written more outside (Script line c
   h.1 ++ more,
   h.2,
   ran_more false read h.0 h.1 written more outside new h.3,
-  elim h.4 [
-    | inl n ↦ inl (n.0, n.1 ++ more, rw (n.2, append_assoc n.0 (10 ∷ n.1) more) refl, n.3, n.4, n.5)
-    | inr n ↦ absurd (false≢true n.0)
-  ],
+  next_more h.0 h.1 more h.2 h.4,
   h.5,
   h.6,
 )
@@ -78,7 +84,7 @@ stops_more gives refuses most start new read written more outside TooLong h = (
 )
 stops_more gives refuses most start new read written more outside SinkFault h = (h.0, h.1 ++ more, broke_more read h.0 h.1 written more outside new h.2, h.3)
 stops_more gives refuses most start new read written more outside BayFault h =
-    (h.0, (h.1.0, h.1.1 ++ more, h.1.2, ran_more false read h.1.0 h.1.1 h.1.2 more outside h.0 h.1.3, h.1.4))
+    (h.0, h.1, h.2 ++ more, h.3, ran_more false read h.1 h.2 written more outside h.0 h.4, next_more h.1 h.2 more h.3 h.5)
 stops_more gives refuses most start new read written more outside Memory h =
     (h.0, (h.1.0, h.1.1 ++ more, h.1.2, ran_more false read h.1.0 h.1.1 h.1.2 more outside h.0 h.1.3, h.1.4))
 
@@ -128,10 +134,10 @@ answers_all gives refuses most start new all read written outside Done h = absur
 answers_all gives refuses most start new all read written outside Usage h = absurd h
 answers_all gives refuses most start new all read written outside SourceFault h = absurd h
 answers_all gives refuses most start new all read written outside (Script line column kind) h =
-    (h.0, h.1, h.2, h.3, elim h.4 [ inl n ↦ inl n | inr n ↦ absurd (false≢true n.0) ], h.5, h.6)
+    (h.0, h.1, h.2, h.3, next_all all h.0 h.1 h.2 h.4, h.5, h.6)
 answers_all gives refuses most start new all read written outside TooLong h = h
 answers_all gives refuses most start new all read written outside SinkFault h = (h.0, h.1, broke_all all read h.0 h.1 written outside new h.2)
-answers_all gives refuses most start new all read written outside BayFault h = (h.0, (h.1.0, h.1.1, h.1.2, ran_all all read h.1.0 h.1.1 h.1.2 outside h.0 h.1.3, h.1.4))
+answers_all gives refuses most start new all read written outside BayFault h = (h.0, h.1, h.2, h.3, h.4, next_all all h.1 h.2 h.3 h.5)
 answers_all gives refuses most start new all read written outside Memory h = (h.0, (h.1.0, h.1.1, h.1.2, ran_all all read h.1.0 h.1.1 h.1.2 outside h.0 h.1.3, h.1.4))
 
 -- a list of no length is empty, and others aren't
@@ -216,7 +222,7 @@ ends_stop gives refuses a b p new BayFault some h = (
   [],
   h,
   λ start read report outside s. rw (append-nil report, append-nil outside)
-      (p.state, (s.front, p.pending, report, ran_all true read s.front p.pending report outside p.state s.ran, ([], rw (append-nil report) refl))),
+      (p.state, s.front, p.pending, p.pending, s.ran, inr (refl, s.partial, some, rw (← s.ran.split) s.within, refl)),
 )
 ends_stop gives refuses a b p new Memory some h = (
   [],
@@ -247,10 +253,6 @@ pub memory_stops : {M : Type 0} (gives : Gives M) (refuses : Refuses M) (a b : O
     → Stops gives refuses 0 a b p new bs Memory
 memory_stops gives refuses a b p new bs held = ([], [], held, λ start read report outside s. stop_memory gives refuses new read report bs outside p s)
 
-pub bay_stops : {M : Type 0} (gives : Gives M) (refuses : Refuses M) (a b : Option (List ℕ)) (p : Place M) (new : M) (bs : List ℕ) → Appends a b []
-    → Stops gives refuses 0 a b p new bs BayFault
-bay_stops gives refuses a b p new bs held = ([], [], held, λ start read report outside s. stop_memory gives refuses new read report bs outside p s)
-
 pub line_stops : {M : Type 0} (gives : Gives M) (refuses : Refuses M) (a b : Option (List ℕ)) (p : Place M) (new : M) (status : Status) → HasRoom p.pending p.lines p.bytes
     → LineStops gives refuses a b p.state new (strip_carriage_return p.pending) (p.lines + 1) status → Stops gives refuses 0 a b p new (10 ∷ []) status
 line_stops gives refuses a b p new Done free h = absurd h
@@ -261,5 +263,6 @@ line_stops gives refuses a b p new (Script line column kind) free h =
     ([], [], h.0, λ start read report outside s. rw (h.1, h.3) (stop_script gives refuses read report outside column kind p s free h.2))
 line_stops gives refuses a b p new SinkFault free h =
     (h.0, h.2, h.5, λ start read report outside s. stop_sink gives refuses read report h.0 h.1 outside h.2 new p s free h.3 h.4)
-line_stops gives refuses a b p new BayFault free h = bay_stops gives refuses a b p new (10 ∷ []) h
+line_stops gives refuses a b p new BayFault free h =
+    ([], [], h, λ start read report outside s. stop_bay gives refuses new read report outside p s free)
 line_stops gives refuses a b p new Memory free h = memory_stops gives refuses a b p new (10 ∷ []) h

@@ -1,8 +1,9 @@
 -- Replies that are gathered before the sink gets them.
-use Rattle.std.proofs.Common.{◌≡◌, ◌≢◌, ℕ, ◌+◌, ◌≤◌, false, List, [], ◌∷◌, ◌++◌, length, refl, sym, ap, ◌∙◌, subst, append_assoc, inl, inr, arith, length-append, take, drop, Option, Some}
+use Rattle.std.proofs.Common.{◌≡◌, ◌≢◌, ℕ, ◌+◌, ◌≤◌, false, List, [], ◌∷◌, ◌++◌, length, refl, sym, ap, ◌∙◌, subst, append_assoc, inl, inr, arith, length-append, take, drop, suc, nat_lt, MatchBool, Option, Some}
 use Rattle.std.specs.Str.Lines.{lines, strip_carriage_return}
 use Rattle.std.specs.Io.KnownBytes.{Appends}
-use Rattle.std.proofs.lemmas.List.{append-nil, take-append-drop, drop-drop, length-drop}
+use Rattle.std.proofs.lemmas.List.{append-nil, take-append-drop, drop-drop, length-drop, drop_all}
+use Rattle.std.proofs.lemmas.Bool.Decides.{leb_tells}
 use Rattle.std.proofs.KnownBytes.{Appends-nil, Appends-trans}
 use Rattle.coda_engine.specs.Machine.{Gives, Refuses}
 use Rattle.coda_engine.specs.Run.{Runs, Ran, BrokeOff}
@@ -21,6 +22,14 @@ forwards_more a b c v w x t u f g =
 -- no more waits than was gathered
 pub few_wait : (bytes : List ℕ) (at count : ℕ) → count ≡ length bytes → count ≤ 65536 → length (drop at bytes) ≤ 65536
 few_wait bytes at count is few = omega (arith, length-drop at bytes, is, few)
+
+-- the test whether a reply waits
+pub waits_tell : (bytes : List ℕ) (at count : ℕ) → count ≡ length bytes → MatchBool (nat_lt at count) (drop at bytes ≢ []) (drop at bytes ≡ [])
+waits_tell bytes at count is =
+    elim (leb_tells (suc at) count) [
+      | inl some ↦ rw some.0 (λ none. omega (arith, is, some.1, length-drop at bytes, ap length none))
+      | inr none ↦ rw none.0 (drop_all at bytes (omega (arith, is, none.1)))
+    ]
 
 -- the sink took the front of what waits
 pub forwards_front : (a b c : Option (List ℕ)) (v bytes : List ℕ) (at count : ℕ) → Forwards a b v (drop at bytes) [] → Appends b c (take count (drop at bytes)) → Forwards a c v (drop (at + count) bytes) []
@@ -51,6 +60,10 @@ stops_behind gives refuses most sent v w p new bs status stop = (stop.0, stop.1,
 pub gathers_none : {M : Type 0} {gives : Gives M} (a : Option (List ℕ)) (w : List ℕ) (p : Place M) → Gathers gives a a w w p [] p
 gathers_none a w p = ([], Appends-nil a, advances_none (Some w) p)
 
+-- what waited was sent, or a part of it
+gathers_sent : {M : Type 0} {gives : Gives M} (a b : Option (List ℕ)) (w x : List ℕ) (p : Place M) → Forwards a b w x [] → Gathers gives a b w x p [] p
+gathers_sent a b w x p f = (f.0, f.1, ([], [], f.2, λ start read report outside s. rw (append-nil read, append-nil report, append-nil outside) s))
+
 -- a byte that is no newline
 pub byte_gathers : {M : Type 0} {gives : Gives M} (a : Option (List ℕ)) (w : List ℕ) (p q : Place M) (b : ℕ) → HasRoom p.pending p.lines p.bytes → b ≢ 10
     → q.state ≡ p.state → q.pending ≡ p.pending ++ b ∷ [] → q.lines ≡ p.lines → q.bytes ≡ p.bytes + 1 → Gathers gives a a w w p (b ∷ []) q
@@ -65,14 +78,15 @@ line_gathers a b w x p q text answered free f gives pending count bytes =
 
 pub full_halts : {M : Type 0} (gives : Gives M) (refuses : Refuses M) (a : Option (List ℕ)) (w : List ℕ) (p : Place M) (b : ℕ) → IsFull p.pending p.lines p.bytes
     → Halts gives refuses a a w w p p.state (b ∷ []) TooLong
-full_halts gives refuses a w p b passed = ([], Appends-nil a, full_stops gives refuses (Some w) p b passed)
+full_halts gives refuses a w p b passed = inl ([], Appends-nil a, full_stops gives refuses (Some w) p b passed, λ bay. cc)
 
 pub memory_halts : {M : Type 0} (gives : Gives M) (refuses : Refuses M) (a : Option (List ℕ)) (w : List ℕ) (p : Place M) (new : M) (bs : List ℕ) → Halts gives refuses a a w w p new bs Memory
-memory_halts gives refuses a w p new bs = ([], Appends-nil a, memory_stops gives refuses (Some w) (Some w) p new bs (Appends-nil (Some w)))
+memory_halts gives refuses a w p new bs = inl ([], Appends-nil a, memory_stops gives refuses (Some w) (Some w) p new bs (Appends-nil (Some w)), λ bay. cc)
 
 pub line_halts : {M : Type 0} (gives : Gives M) (refuses : Refuses M) (a b : Option (List ℕ)) (w x : List ℕ) (p : Place M) (new : M) (status : Status) → HasRoom p.pending p.lines p.bytes
     → LineHalts gives refuses a b w x p.state new (strip_carriage_return p.pending) (p.lines + 1) status → Halts gives refuses a b w x p new (10 ∷ []) status
-line_halts gives refuses a b w x p new status free h = (h.0, h.1, line_stops gives refuses (Some w) (Some (h.0 ++ x)) p new status free h.2)
+line_halts gives refuses a b w x p new status free (inl h) = inl (h.0, h.1, line_stops gives refuses (Some w) (Some (h.0 ++ x)) p new status free h.2, h.3)
+line_halts gives refuses a b w x p new status free (inr h) = inr ([], 10 ∷ [], p, h.0, h.1, h.2, refl, gathers_sent a b w x p h.3)
 
 pub gathers_more : {M : Type 0} {gives : Gives M} (a b c : Option (List ℕ)) (v w x : List ℕ) (p q r : Place M) (bs cs : List ℕ)
     → Gathers gives a b v w p bs q → Gathers gives b c w x q cs r → Gathers gives a c v x p (bs ++ cs) r
@@ -86,13 +100,19 @@ gathers_more {gives = gives} a b c v w x p q r bs cs f g =
 
 pub gathers_stop : {M : Type 0} (gives : Gives M) (refuses : Refuses M) (a b c : Option (List ℕ)) (v w x : List ℕ) (p q : Place M) (new : M) (bs cs more all : List ℕ) (status : Status)
     → Gathers gives a b v w p bs q → Halts gives refuses b c w x q new cs status → all ≡ (bs ++ cs) ++ more → Halts gives refuses a c v x p new all status
-gathers_stop gives refuses a b c v w x p q new bs cs more all status f h e =
-    let Stop : List ℕ → Type 0 = λ now. Stops gives refuses 0 (Some v) (Some now) p new all status in (
+gathers_stop gives refuses a b c v w x p q new bs cs more all status f (inl h) e =
+    let Stop : List ℕ → Type 0 = λ now. Stops gives refuses 0 (Some v) (Some now) p new all status in
+    inl (
       f.0 ++ h.0,
       Appends-trans a b c f.0 h.0 f.1 h.1,
       subst Stop (sym (append_assoc f.0 h.0 x))
           (advances_stop gives refuses 0 (Some v) (Some (f.0 ++ w)) (Some (f.0 ++ (h.0 ++ x))) p q new bs cs more all status f.2 (stops_behind gives refuses 0 f.0 w (h.0 ++ x) q new cs status h.2) e),
+      h.3,
     )
+gathers_stop gives refuses a b c v w x p q new bs cs more all status f (inr h) e =
+    let split : all ≡ (bs ++ h.0) ++ (h.1 ++ more) =
+    e ∙ ap (λ now. (bs ++ now) ++ more) h.6 ∙ ap (λ now. now ++ more) (sym (append_assoc bs h.0 h.1)) ∙ append_assoc (bs ++ h.0) h.1 more in
+    inr (bs ++ h.0, h.1 ++ more, h.2, h.3, h.4, h.5, split, gathers_more a b c v w x p q h.2 bs h.0 f h.7)
 
 -- ---- the last line of those that ran
 
@@ -255,75 +275,87 @@ flush_stops gives refuses a b c v w left p q bs first g f some few = (
 )
 
 -- a run that ends with a status, where something was left
-among_closed : {M : Type 0} (gives : Gives M) (refuses : Refuses M) (start new : M) (read all written left : List ℕ) (outside : List (List ℕ)) (status last : Status)
-    → StopsAmong gives refuses 0 start new read all outside status → all ≡ written ++ left → length left ≤ 65536 → Closes status left last
+among_closed : {M : Type 0} (gives : Gives M) (refuses : Refuses M) (start new : M) (read all written waited left : List ℕ) (outside : List (List ℕ)) (status last : Status)
+    → StopsAmong gives refuses 0 start new read all outside status → all ≡ written ++ left → length left ≤ 65536 → (status ≡ BayFault → left ≡ []) → Closes status waited left last
     → StopsAmong gives refuses 65536 start new read written outside last
-among_closed gives refuses start new read all written left outside Done last h e few close = absurd h
-among_closed gives refuses start new read all written left outside Usage last h e few close = absurd h
-among_closed gives refuses start new read all written left outside SourceFault last h e few close = absurd h
-among_closed gives refuses start new read all written left outside (Script line column kind) last h e few (inl c) =
+among_closed gives refuses start new read all written waited left outside Done last h e few none close = absurd h
+among_closed gives refuses start new read all written waited left outside Usage last h e few none close = absurd h
+among_closed gives refuses start new read all written waited left outside SourceFault last h e few none close = absurd h
+among_closed gives refuses start new read all written waited left outside (Script line column kind) last h e few none (inl c) =
     let Among : Status → Type 0 = λ s. StopsAmong gives refuses 65536 start new read written outside s in
     let Wrote : List ℕ → Type 0 = λ now. StopsAmong gives refuses 65536 start new read now outside (Script line column kind) in
     subst Among (sym c.0) (subst Wrote (e ∙ rw (c.1, append-nil written) refl) h)
-among_closed gives refuses start new read all written left outside (Script line column kind) last h e few (inr c) =
+among_closed gives refuses start new read all written waited left outside (Script line column kind) last h e few none (inr c) =
     let Among : Status → Type 0 = λ s. StopsAmong gives refuses 65536 start new read written outside s in
     let broke = ran_broke read h.0 h.1 all written left outside new h.3 e c.1 few in
     subst Among (sym c.0) (h.0, h.1, broke.0, broke.1)
-among_closed gives refuses start new read all written left outside TooLong last h e few (inl c) =
+among_closed gives refuses start new read all written waited left outside TooLong last h e few none (inl c) =
     let Among : Status → Type 0 = λ s. StopsAmong gives refuses 65536 start new read written outside s in
     let Wrote : List ℕ → Type 0 = λ now. StopsAmong gives refuses 65536 start new read now outside TooLong in
     subst Among (sym c.0) (subst Wrote (e ∙ rw (c.1, append-nil written) refl) h)
-among_closed gives refuses start new read all written left outside TooLong last h e few (inr c) =
+among_closed gives refuses start new read all written waited left outside TooLong last h e few none (inr c) =
     let Among : Status → Type 0 = λ s. StopsAmong gives refuses 65536 start new read written outside s in
     let broke = ran_broke read h.0 h.1 all written left outside new h.2 e c.1 few in
     subst Among (sym c.0) (h.0, h.1, broke.0, broke.1)
-among_closed gives refuses start new read all written left outside SinkFault last h e few close =
+among_closed gives refuses start new read all written waited left outside SinkFault last h e few none close =
     let Among : Status → Type 0 = λ s. StopsAmong gives refuses 65536 start new read written outside s in
     let broke = broke_earlier read h.0 h.1 all written left outside new (h.2, h.3) e few in
-    subst Among (sym close) (h.0, h.1, broke.0, broke.1)
-among_closed gives refuses start new read all written left outside BayFault last h e few close =
+    subst Among (sym close.0) (h.0, h.1, broke.0, broke.1)
+among_closed gives refuses start new read all written waited left outside BayFault last h e few none close =
     let Among : Status → Type 0 = λ s. StopsAmong gives refuses 65536 start new read written outside s in
-    let cut = h.1.4 in
-    subst Among (sym close) (h.0, (h.1.0, h.1.1, h.1.2, h.1.3, (left ++ cut.0, rw (cut.1, e, append_assoc written left cut.0) refl)))
-among_closed gives refuses start new read all written left outside Memory last h e few close =
+    let Wrote : List ℕ → Type 0 = λ now. StopsAmong gives refuses 65536 start new read now outside BayFault in
+    subst Among (sym close.0) (subst Wrote (e ∙ rw (none refl, append-nil written) refl) h)
+among_closed gives refuses start new read all written waited left outside Memory last h e few none close =
     let Among : Status → Type 0 = λ s. StopsAmong gives refuses 65536 start new read written outside s in
     let cut = h.1.4 in
     subst Among (sym close) (h.0, (h.1.0, h.1.1, h.1.2, h.1.3, (left ++ cut.0, rw (cut.1, e, append_assoc written left cut.0) refl)))
 
+-- nothing waits behind what was sent where nothing waited
+none_wait : (sent w left : List ℕ) → w ≡ [] → sent ++ left ≡ w ++ [] → (sent ≡ []) × (left ≡ [])
+none_wait [] w left none e = (refl, e ∙ append-nil w ∙ none)
+none_wait (x ∷ sent) w left none e = let no : x ∷ (sent ++ left) ≡ [] = e ∙ append-nil w ∙ none in cc
+
+-- where the sink refused, what waited is left
+closed_left : (status last : Status) (waited left : List ℕ) → status ≡ SinkFault → Closes status waited left last → (last ≡ SinkFault) × (left ≡ waited)
+closed_left status last waited left is close = let Close : Status → Type 0 = λ s. Closes s waited left last in subst Close is close
+
 pub close_stops : {M : Type 0} (gives : Gives M) (refuses : Refuses M) (a b c : Option (List ℕ)) (v w left : List ℕ) (p : Place M) (new : M) (bs : List ℕ) (status last : Status) → v ≡ []
-    → Halts gives refuses a b v w p new bs status → Forwards b c w left [] → length left ≤ 65536 → Closes status left last → Stops gives refuses 65536 a c p new bs last
-close_stops gives refuses a b c v w left p new bs status last first h f few close = (
+    → Halts gives refuses a b v w p new bs status → Forwards b c w left [] → length left ≤ 65536 → Closes status w left last → Stops gives refuses 65536 a c p new bs last
+close_stops gives refuses a b c v w left p new bs status last first (inl h) f few close = (
   h.0 ++ f.0,
   h.2.1,
   Appends-trans a b c h.0 f.0 h.1 f.1,
   λ start read report outside s.
       let whole : report ++ h.2.0 ≡ (report ++ (h.0 ++ f.0)) ++ left = ap (λ now. report ++ now) (sent_text h.0 f.0 left v w h.2.0 first h.2.2 f.2) ∙ sym (append_assoc report (h.0 ++ f.0) left) in
-      among_closed gives refuses start new (read ++ bs) (report ++ h.2.0) (report ++ (h.0 ++ f.0)) left (outside ++ h.2.1) status last (h.2.3 start read report outside s) whole few close,
+      among_closed gives refuses start new (read ++ bs) (report ++ h.2.0) (report ++ (h.0 ++ f.0)) w left (outside ++ h.2.1) status last (h.2.3 start read report outside s) whole few (λ bay. (none_wait f.0 w left (h.3 bay) f.2).1) close,
 )
+close_stops {M = M} gives refuses a b c v w left p new bs status last first (inr h) f few close =
+    let closed = closed_left status last w left h.3 close in
+    let Ended : M → Status → Type 0 = λ state s. Stops gives refuses 65536 a c p state bs s in
+    let some : left ≢ [] = λ none. h.5 (sym closed.1 ∙ none) in
+    let there = flush_stops gives refuses a b c v w left p h.2 h.0 first h.7 f some few in
+    let here : Ended h.2.state SinkFault = advances_stop gives refuses 65536 a a c p p h.2.state [] h.0 h.1 bs SinkFault (advances_none a p) there h.6 in
+    subst (λ state. Ended state last) (sym h.4) (subst (Ended h.2.state) (sym closed.0) here)
 
 -- ---- the last line
-
-none_sent : (sent v w : List ℕ) → v ≡ [] → sent ++ w ≡ v ++ [] → sent ≡ []
-none_sent [] v w none e = refl
-none_sent (x ∷ sent) v w none e = let no : x ∷ (sent ++ w) ≡ [] = e ∙ append-nil v ∙ none in cc
 
 -- what ends the run at a line, where no reply waited before
 line_sent : {M : Type 0} (gives : Gives M) (refuses : Refuses M) (a b : Option (List ℕ)) (v w : List ℕ) (old new : M) (line : List ℕ) (number : ℕ) (status : Status) → v ≡ []
     → LineHalts gives refuses a b v w old new line number status → LineStops gives refuses a b old new line number status
-line_sent gives refuses a b v w old new line number Done first h = absurd h.2
-line_sent gives refuses a b v w old new line number Usage first h = absurd h.2
-line_sent gives refuses a b v w old new line number SourceFault first h = absurd h.2
-line_sent gives refuses a b v w old new line number TooLong first h = absurd h.2
-line_sent gives refuses a b v w old new line number (Script at column kind) first h =
+line_sent gives refuses a b v w old new line number Done first (inl h) = absurd h.2
+line_sent gives refuses a b v w old new line number Usage first (inl h) = absurd h.2
+line_sent gives refuses a b v w old new line number SourceFault first (inl h) = absurd h.2
+line_sent gives refuses a b v w old new line number TooLong first (inl h) = absurd h.2
+line_sent gives refuses a b v w old new line number (Script at column kind) first (inl h) =
     let Sent : List ℕ → Type 0 = λ sent. Appends a b sent in
-    (subst Sent (none_sent h.0 v w first h.2.0) h.1, h.2.1, h.2.2, h.2.3)
-line_sent gives refuses a b v w old new line number BayFault first h =
+    (subst Sent (none_wait h.0 v w first h.2.0).0 h.1, h.2.1, h.2.2, h.2.3)
+line_sent gives refuses a b v w old new line number BayFault first (inl h) =
     let Sent : List ℕ → Type 0 = λ sent. Appends a b sent in
-    subst Sent (none_sent h.0 v w first h.2) h.1
-line_sent gives refuses a b v w old new line number Memory first h =
+    subst Sent (none_wait h.0 v w first h.2).0 h.1
+line_sent gives refuses a b v w old new line number Memory first (inl h) =
     let Sent : List ℕ → Type 0 = λ sent. Appends a b sent in
-    subst Sent (none_sent h.0 v w first h.2) h.1
-line_sent gives refuses a b v w old new line number SinkFault first h =
+    subst Sent (none_wait h.0 v w first h.2).0 h.1
+line_sent gives refuses a b v w old new line number SinkFault first (inl h) =
     let stop = h.2 in
     let part = stop.0 in
     let missing = stop.1 in
@@ -331,6 +363,7 @@ line_sent gives refuses a b v w old new line number SinkFault first h =
     let same : part ++ missing ≡ h.0 ++ (w ++ missing) = ap (λ now. now ++ missing) whole ∙ append_assoc h.0 w missing in
     let Did : List ℕ → Type 0 = λ text. gives old line text stop.2 new in
     (h.0, w ++ missing, stop.2, subst Did same stop.3, some_before w missing stop.4, h.1)
+line_sent gives refuses a b v w old new line number status first (inr h) = absurd (h.2 (none_wait h.3.0 v w first h.3.2).1)
 
 pub halt_ends : {M : Type 0} (gives : Gives M) (refuses : Refuses M) (a b : Option (List ℕ)) (v w : List ℕ) (p : Place M) (new : M) (status : Status) → p.pending ≢ [] → v ≡ []
     → LineHalts gives refuses a b v w p.state new p.pending (p.lines + 1) status → Ends gives refuses a b p new status

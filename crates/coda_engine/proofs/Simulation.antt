@@ -82,9 +82,8 @@ answers_shown sim p m m' all read written outside SinkFault shows a =
     let broke = broke_shown sim p m m' all read a.0 a.1 written outside shows a.2 in
     (broke.0, (a.0, a.1, broke.1), λ other bay. broke.2)
 answers_shown sim p m m' all read written outside BayFault shows a =
-    let cut = a.1 in
-    let ran = ran_shown sim p m a.0 all read cut.0 cut.1 cut.2 outside shows cut.3 in
-    (p, (ran.0, (cut.0, cut.1, cut.2, ran.1, cut.4)), λ other bay. absurd (bay refl))
+    let ran = ran_shown sim p m a.0 _ read a.1 a.2 written outside shows a.4 in
+    (p, (ran.0, a.1, a.2, a.3, ran.1, a.5), λ other bay. absurd (bay refl))
 answers_shown sim p m m' all read written outside Memory shows a =
     let cut = a.1 in
     let ran = ran_shown sim p m a.0 all read cut.0 cut.1 cut.2 outside shows cut.3 in

@@ -7,10 +7,10 @@ use Rattle.std.proofs.lemmas.Bool.{false≢true}
 use Rattle.std.proofs.lemmas.Bool.Decides.{eqb_tells}
 use Rattle.coda_engine.specs.Lines.{HasNoNewline, IsWholeLines, IsWithinLimits}
 use Rattle.coda_engine.specs.Machine.{Gives, Refuses}
-use Rattle.coda_engine.specs.Run.{Runs, Ran, Answers}
+use Rattle.coda_engine.specs.Run.{Runs, Ran, IsNext, Answers}
 use Rattle.coda_engine.specs.Reading.{Place, HasRoom, IsFull, Stands, StopsAmong}
 use Rattle.coda_engine.specs.declared.status.Kind.{Kind}
-use Rattle.coda_engine.specs.declared.status.Status.TheVariants.{Script, SinkFault, TooLong, Memory}
+use Rattle.coda_engine.specs.declared.status.Status.TheVariants.{Script, SinkFault, TooLong, BayFault, Memory}
 use Rattle.coda_engine.proofs.Splitting.{lines-more, lines-ended, lines-last}
 
 -- a run goes on by one line
@@ -154,6 +154,13 @@ stop_long gives refuses read report outside b place s passed =
       ),
     )
 
+-- the line under way is next where a newline comes
+next_closed : {M : Type 0} {gives : Gives M} {start : M} (read report : List ℕ) (outside : List (List ℕ)) (place : Place M)
+    → (s : Stands gives start read report outside place) → HasRoom place.pending place.lines place.bytes
+    → IsNext false s.front (place.pending ++ 10 ∷ []) (strip_carriage_return place.pending)
+next_closed read report outside place s free =
+    inl (place.pending, [], refl, s.partial, rw (← s.ran.split) (within_more read report outside 10 place s free), refl)
+
 -- a line that is refused
 pub stop_script : {M : Type 0} (gives : Gives M) (refuses : Refuses M) {start : M} (read report : List ℕ) (outside : List (List ℕ)) (column : ℕ) (kind : Kind) (place : Place M)
     → Stands gives start read report outside place → HasRoom place.pending place.lines place.bytes
@@ -165,9 +172,23 @@ stop_script gives refuses read report outside column kind place s free refused =
       place.pending ++ 10 ∷ [],
       strip_carriage_return place.pending,
       ran_more false read s.front place.pending report (10 ∷ []) outside place.state s.ran,
-      inl (place.pending, [], refl, s.partial, rw (← s.ran.split) (within_more read report outside 10 place s free), refl),
+      next_closed read report outside place s free,
       refused,
       ap (λ n. n + 1) s.count,
+    )
+
+-- a line at which the bay is at fault
+pub stop_bay : {M : Type 0} (gives : Gives M) (refuses : Refuses M) {start : M} (new : M) (read report : List ℕ) (outside : List (List ℕ)) (place : Place M)
+    → Stands gives start read report outside place → HasRoom place.pending place.lines place.bytes
+    → Answers gives refuses start new false (read ++ 10 ∷ []) (report ++ []) (outside ++ []) BayFault
+stop_bay gives refuses new read report outside place s free =
+    rw (append-nil report, append-nil outside) (
+      place.state,
+      s.front,
+      place.pending ++ 10 ∷ [],
+      strip_carriage_return place.pending,
+      ran_more false read s.front place.pending report (10 ∷ []) outside place.state s.ran,
+      next_closed read report outside place s free,
     )
 
 -- a reply that was written in part

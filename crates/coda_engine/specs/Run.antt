@@ -84,8 +84,11 @@ Answers gives refuses start new all read written outside SourceFault =
 -- some whole lines ran, and not all of their report was written
 Answers gives refuses start new all read written outside SinkFault =
     (front : List ℕ) × (rest : List ℕ) × BrokeOff gives start all read front rest written outside new
--- some whole lines ran; what the machine is after the line that met a fault of the bay, or found no memory, isn't said
-Answers {M} gives refuses start new all read written outside BayFault = (state : M) × IsCutShort gives start state all read written outside
+-- all lines before the one at which the bay was at fault ran, and all of their report was written; what that line left of the
+-- machine isn't said
+Answers {M} gives refuses start new all read written outside BayFault =
+    (state : M) × (front : List ℕ) × (rest : List ℕ) × (line : List ℕ) × Ran gives start false read front rest written outside state × IsNext all front rest line
+-- some whole lines ran; what the machine is after the line that found no memory isn't said
 Answers {M} gives refuses start new all read written outside Memory = (state : M) × IsCutShort gives start state all read written outside
 -- a run has other statuses
 Answers gives refuses start new all read written outside Usage = ⊥

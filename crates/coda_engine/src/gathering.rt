@@ -34,6 +34,13 @@ impl Gathered {
         }
     }
 
+    /// Whether a reply waits to be written.
+    pub fn waits(&self) -> bool
+        ensures { MatchBool result (waiting self.now ≢ []) (waiting self.now ≡ []) }
+    {
+        self.taken < self.bytes.len()
+    }
+
     // Whether there was room and memory for the text behind the replies; it is there then.
     fn gather(&mut self, text: &[u8]) -> bool
         ensures { MatchBool result (waiting self.new ≡ waiting self.old ++ text.now) (waiting self.new ≡ waiting self.old) }
@@ -86,19 +93,16 @@ impl Gathered {
     }
 
     /// Writes what waits where the run ends with this status, and answers how it ends then: a write that is refused makes
-    /// it `SinkFault`, but for `BayFault` and `Memory`, which stay. After a `SinkFault` nothing more is written.
+    /// it `SinkFault`, but for `Memory`, which stays. After a `SinkFault` nothing more is written, and nothing waits at a
+    /// `BayFault`.
     pub fn close<K: Sink>(&mut self, status: Status, sink: &mut K) -> Status
         ensures sent { Forwards (K.held sink.old) (K.held sink.new) (waiting self.old) (waiting self.new) [] }
-        ensures closes { Closes status (waiting self.new) result }
+        ensures closes { Closes status (waiting self.old) (waiting self.new) result }
         ensures later { K.faults sink.old ≤ K.faults sink.new }
         ensures sink_fault { result ≡ Status.SinkFault → status ≢ Status.SinkFault → Rose (K.faults sink.old) (K.faults sink.new) }
     {
         match status {
-            Status::SinkFault => Status::SinkFault,
-            Status::BayFault => {
-                let _ = self.flush(sink);
-                Status::BayFault
-            }
+            Status::SinkFault | Status::BayFault => status,
             Status::Memory => {
                 let _ = self.flush(sink);
                 Status::Memory

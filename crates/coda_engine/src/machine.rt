@@ -16,6 +16,8 @@ pub struct LineFault {
 pub enum LineStop {
     /// The line isn't in the language, or not in this state.
     Refused(LineFault),
+    /// The line may ask the bay, and replies to earlier lines wait that must be written before.
+    Unwritten,
     /// The bay refused a disk, or a crash.
     Bay,
     /// There was no memory.
@@ -46,17 +48,19 @@ pub trait Machine {
     ghost follows: { Self → Self → Type 0 };
 
     /// Runs a line, which has no newline, and answers the bytes of its reply: none, or lines that each have their
-    /// newline. A script has at most 16,777,216 lines.
+    /// newline. A script has at most 16,777,216 lines. It is told whether replies to earlier lines wait to be written: a
+    /// line that may ask the bay runs only where none waits, since behind a fault of the bay none may be missing.
     ///
     /// # Errors
     ///
-    /// `Refused` where the machine refuses the line; nothing has changed then. `Bay` where the bay refused a call:
-    /// its count of faults rose. `Memory` where there was no memory.
-    fn run(&mut self, alloc: Global, line: &[u8]) -> Result<Vec<u8>, LineStop>
+    /// `Refused` where the machine refuses the line, and `Unwritten` where replies must be written before it; nothing has
+    /// changed then. `Bay` where the bay refused a call: its count of faults rose, and no reply waited. `Memory` where there
+    /// was no memory.
+    fn run(&mut self, alloc: Global, line: &[u8], waits: bool) -> Result<Vec<u8>, LineStop>
         requires { (lines : ℕ) × (lines ≤ 16777216) × ready self.old lines }
         ensures ready { OnOk result ((lines : ℕ) → ready self.old lines → ready self.new (lines + 1)) }
         ensures ok { IfOk result (λ text. (outside : List (List ℕ)) × gives self.old line.now text.items outside self.new) }
-        ensures reason { IfErr result (HasReason refuses self.old line.now self.new) }
+        ensures reason { IfErr result (HasReason refuses self.old line.now waits self.new) }
         ensures later { faults self.old ≤ faults self.new }
         ensures follows { follows self.old self.new }
         ensures bay_fault { result ≡ Err LineStop.Bay → Rose (faults self.old) (faults self.new) };

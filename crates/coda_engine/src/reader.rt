@@ -1,9 +1,10 @@
 // The reading of a script: what stands before a newline at once, and else byte by byte.
-ghost use Rattle.std.specs.Prelude.{◌≡◌, ◌≤◌, ℕ, ◌+◌, List, length, take, IfErr, OnOk, Err};
+ghost use Rattle.std.specs.Prelude.{◌≡◌, ◌≤◌, ℕ, ◌+◌, List, [], length, take, IfOk, IfErr, OnOk, Err};
 ghost use Rattle.coda_engine.specs.Lines.{HasNoNewline};
 ghost use Rattle.std.specs.Str.Lines.{strip_carriage_return};
 ghost use Rattle.coda_io.specs.Faults.{Rose};
 ghost use Rattle.coda_engine.specs.Gathering.{Forwards, LineHalts};
+ghost use Rattle.coda_engine.specs.Machine.{IsStopped};
 ghost use Rattle.coda_engine.specs.Waiting.{waiting};
 
 use crate::gathering::Gathered;
@@ -53,6 +54,34 @@ fn without_carriage_return(line: &[u8]) -> &[u8]
     }
 }
 
+// Runs a line. Where it may ask the bay, what was gathered is written before.
+fn answer_of<M: Machine, K: Sink>(
+    alloc: Global,
+    machine: &mut M,
+    line: &[u8],
+    gathered: &mut Gathered,
+    sink: &mut K,
+) -> Result<Vec<u8>, LineStop>
+    requires { (lines : ℕ) × (lines ≤ 16777216) × M.ready machine.old lines }
+    ensures ready { OnOk result ((lines : ℕ) → M.ready machine.old lines → M.ready machine.new (lines + 1)) }
+    ensures sent { Forwards (K.held sink.old) (K.held sink.new) (waiting gathered.old) (waiting gathered.new) [] }
+    ensures ok { IfOk result (λ text. (outside : List (List ℕ)) × M.gives machine.old line.now text.items outside machine.new) }
+    ensures stops { IfErr result (IsStopped M.refuses (waiting gathered.new) machine.old machine.new line.now) }
+    ensures later { K.faults sink.old ≤ K.faults sink.new }
+    ensures sink_fault { result ≡ Err LineStop.Unwritten → Rose (K.faults sink.old) (K.faults sink.new) }
+    ensures bay_later { M.faults machine.old ≤ M.faults machine.new }
+    ensures follows { M.follows machine.old machine.new }
+    ensures bay_fault { result ≡ Err LineStop.Bay → Rose (M.faults machine.old) (M.faults machine.new) }
+{
+    match machine.run(alloc, line, gathered.waits()) {
+        Err(LineStop::Unwritten) => match gathered.flush(sink) {
+            Ok(()) => machine.run(alloc, line, false),
+            Err(_) => Err(LineStop::Unwritten),
+        },
+        answer => answer,
+    }
+}
+
 // Runs a line, and its reply comes behind those that were gathered.
 fn run_line<M: Machine, K: Sink>(
     alloc: Global,
@@ -73,7 +102,7 @@ fn run_line<M: Machine, K: Sink>(
     ensures follows { M.follows machine.old machine.new }
     ensures bay_fault { result ≡ Err Status.BayFault → Rose (M.faults machine.old) (M.faults machine.new) }
 {
-    match machine.run(alloc, line) {
+    match answer_of(alloc, machine, line, gathered, sink) {
         Ok(text) => match gathered.add(&text, sink) {
             Ok(()) => Ok(()),
             Err(_) => Err(Status::SinkFault),
@@ -83,6 +112,7 @@ fn run_line<M: Machine, K: Sink>(
             column: fault.column,
             kind: fault.kind,
         }),
+        Err(LineStop::Unwritten) => Err(Status::SinkFault),
         Err(LineStop::Bay) => Err(Status::BayFault),
         Err(LineStop::Memory) => Err(Status::Memory),
     }

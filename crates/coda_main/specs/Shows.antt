@@ -2,7 +2,7 @@
 use Rattle.std.specs.Prelude.{◌≡◌, ◌≤◌, ◌++◌, ℕ, Bool, ⊤, nat_lt, List, drop, length, if◌then◌else◌}
 use Rattle.coda_disk.specs.Told.{Told}
 use Rattle.coda_engine.specs.declared.machine.LineStop.{LineStop}
-use Rattle.coda_engine.specs.declared.machine.LineStop.TheVariants.{Refused, Bay, Memory as OutOfMemory}
+use Rattle.coda_engine.specs.declared.machine.LineStop.TheVariants.{Refused, Unwritten, Bay, Memory as OutOfMemory}
 use Rattle.coda_script.specs.declared.fault.LineFault.{LineFault}
 use Rattle.coda_script.specs.declared.fault.LineFault.TheVariants.{BadLine, Memory}
 use Rattle.coda_script.specs.declared.line.Line.{Line}
@@ -64,12 +64,14 @@ stop_at Memory = OutOfMemory
 -- how bytes stop that say no line, or none that is built: as the cell refuses them, or for want of memory
 abbrev pub StopsSo : List ℕ → LineStop → Type 0
 StopsSo bytes (Refused fault) = IsBadLine bytes fault.column fault.kind
+StopsSo bytes Unwritten = ⊥
 StopsSo bytes Bay = ⊥
 StopsSo bytes OutOfMemory = ⊤
 
 -- how a line stops that was read: the bay refused a call, or there was no memory
 abbrev pub StopsWithin : LineStop → Type 0
 StopsWithin (Refused fault) = ⊥
+StopsWithin Unwritten = ⊥
 StopsWithin Bay = ⊤
 StopsWithin OutOfMemory = ⊤
 

@@ -11,6 +11,7 @@ ghost use Rattle.coda_stored.specs.Seen.{seen, mounts_none};
 ghost use Rattle.coda_main.specs.Held.{ShowsHeld, AnsweredHeld};
 ghost use Rattle.coda_main.specs.Later.{ShowsWaiting, AnsweredAgain, AnsweredBetween, AnsweredElsewhere};
 ghost use Rattle.coda_script.specs.declared.reply.Reply.{Reply};
+ghost use Rattle.coda_site.specs.Makings.{asks_bay};
 ghost use Rattle.coda_site.specs.Totals.{IsCounted, IsFault, has_armed, total, totals};
 ghost use Rattle.coda_main.specs.Tallies.{IsText};
 ghost use Rattle.coda_main.specs.Shows.{moment, Shows, MayGoOn, MayClose, Answered, StopsSo, StopsWithin, stop_at};
@@ -19,7 +20,7 @@ use crate::report::text_of;
 use coda_disk::Bay;
 use coda_engine::{Kind, LineFault, LineStop, Machine};
 use coda_script::{Line, read_line};
-use coda_site::{Cell, CellFault, is_built};
+use coda_site::{Cell, CellFault, asks_bay, is_built};
 use std::alloc::Global;
 
 /// How a line is refused that isn't built, or that the command doesn't take: at its first column.
@@ -109,6 +110,7 @@ fn answer<B: Bay>(alloc: Global, cell: &mut Cell<B>, said: &Line) -> Result<Vec<
     ensures posted { cell.new.site.net.posted ≤ cell.old.site.net.posted + 1 }
     ensures later { B.faults cell.old.bay ≤ B.faults cell.new.bay }
     ensures bay_cause { result ≡ Err LineStop.Bay → Rose (B.faults cell.old.bay) (B.faults cell.new.bay) }
+    ensures asked { result ≡ Err LineStop.Bay → asks_bay said.now ≡ true }
     ensures follows { B.follows cell.old.bay cell.new.bay }
     ensures faults_later { total B.D.told B.D.faults (B.disk_faults cell.old.bay) cell.old.site ≤ total B.D.told B.D.faults (B.disk_faults cell.new.bay) cell.new.site }
 {
@@ -145,9 +147,13 @@ impl<B: Bay> Machine for CellMachine<B> {
 
     ghost then = { λ a b c f g. ((λ closable. g.0 (f.0 closable)), B.then a.cell.bay b.cell.bay c.cell.bay f.1 g.1, le_trans f.2 g.2) };
 
-    fn run(&mut self, alloc: Global, line: &[u8]) -> Result<Vec<u8>, LineStop> {
+    fn run(&mut self, alloc: Global, line: &[u8], waits: bool) -> Result<Vec<u8>, LineStop> {
         match built_line(alloc, line) {
             Ok(Some(said)) => {
+                if waits && asks_bay(&said) {
+                    let_go(said);
+                    return Err(LineStop::Unwritten);
+                }
                 let text = answer(alloc, &mut self.cell, &said);
                 done_with(said);
                 text

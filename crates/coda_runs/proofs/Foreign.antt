@@ -1,7 +1,7 @@
 -- The disk of an actor isn't another's to the line that makes it again.
 use Rattle.std.proofs.Common.{◌≡◌, ℕ, ◌==◌, ◌&&◌, Bool, true, false, cond, List, [], ◌∷◌, length, Option, Some, None, refl, sym, ap, ◌∙◌, subst, inl, inr}
 use Rattle.std.specs.Prelude.{get_or}
-use Rattle.std.proofs.lemmas.Bool.{eqb-true, eq-eqb}
+use Rattle.std.proofs.lemmas.Bool.{eqb-true, eq-eqb, false≢true}
 use Rattle.coda_actors.specs.Plain.{HasOther}
 use Rattle.coda_journal.specs.Header.{marks}
 use Rattle.coda_journal.specs.declared.header.Header.{Header}
@@ -14,9 +14,12 @@ use Rattle.coda_stored.specs.Cells.{Side, StoredCell, plain_replica, client_head
 use Rattle.coda_stored.specs.Foreign.{IsForeignAt}
 use Rattle.coda_stored.specs.Kept.{IsClientSide, IsReplicaSide, IsGiven, IsStoredKept}
 use Rattle.coda_stored.specs.Lines.{area_of, refused_foreign, Becoming, Unless as UnlessStored, replica_disk, RecoversClient, RecoversReplica}
-use Rattle.coda_stored.specs.Resuming.{Awaited, ClientAgain, VolumeAgain, is_awaited, awaits_client, AreAwaited}
-use Rattle.coda_stored.specs.Seen.{asleep, idle_until, seen, lying}
-use Rattle.coda_runs.specs.Later.{OwnDisksAreNotForeign, RecoveriesFindTheirOwn}
+use Rattle.coda_stored.specs.Resuming.{Awaited, ClientAgain, VolumeAgain, is_awaited, awaits_client, awaits_volume, AreAwaited}
+use Rattle.coda_stored.specs.Seen.{asleep, idle_until, seen, lying, own_given, own_client, own_replica, IsClientSeen, IsReplicaSeen, IsSeen}
+use Rattle.coda_stored.proofs.Held.{held_seen}
+use Rattle.coda_stored.proofs.Seeing.{seen_is_seen, kept_is_seen}
+use Rattle.coda_runs.specs.Later.{Later, Waits, Goes, Strays, HasReached, HasGoneOn, NoneIsForeign, NoneIsForeignLater, OwnDisksAreNotForeign, RecoveriesFindTheirOwn}
+use Rattle.coda_runs.proofs.Later.{later_runs_go_on}
 use Rattle.coda_runs.proofs.Running.{always_kept}
 
 both : (a b : Bool) → (a && b) ≡ true → (a ≡ true) × (b ≡ true)
@@ -95,32 +98,81 @@ missing_named n at own cell outside new = by n.there
 asked_header : {E : Type 0} (given asked : Option Header) (header known : Header) (at : ℕ) (actor : Actor E) → asked ≡ Some header → asked ≡ Some known → IsGiven given known actor → HasOther header given at → ⊥
 asked_header given asked header known at actor is knows has other = same_header given header known at actor has (let e : Some known ≡ Some header = sym knows ∙ is in cc) other
 
-client_own : (client : ℕ) (size : Option ℕ) (actor : Actor ClientEntry) (side : Side) (header : Header) (at : ℕ) → IsClientSide client size actor side → side.asked ≡ Some header → HasOther header side.given at → ⊥
-client_own client None actor side header at sides asked other = (let no : None ≡ Some header = sym (ap (λ (s : Side). s.asked) sides.0) ∙ asked in cc)
-client_own client (Some blocks) actor side header at (area, sized, one, under, some, few, knows, has) asked other = asked_header side.given side.asked header _ at actor asked knows has other
+-- what a client's own disk was given is what is known of it as its own
+client_given : (side : Side) (header : Header) (at : ℕ) → side.foreign ≡ false → HasOther header side.given at → HasOther header (own_client side).given at
+client_given side header at own = subst (λ (g : Option Header). HasOther header g at) (sym (ap (λ (b : Bool). own_given b side.asked side.given) own))
 
-replica_own : (volume : ℕ) (home : Option ℕ) (actors : ℕ → Actor ReplicaEntry) (side : Side) (header : Header) (at : ℕ) → IsReplicaSide volume home actors side → side.asked ≡ Some header → HasOther header side.given at → ⊥
-replica_own volume None actors side header at sides asked other = (let no : None ≡ Some header = sym (ap (λ (s : Side). s.asked) sides.0) ∙ asked in cc)
-replica_own volume (Some server) actors side header at (area, sized, one, some, few, knows, has) asked other = asked_header side.given side.asked header _ at (actors server) asked knows has other
+replica_given : (side : Side) (header : Header) (at : ℕ) → side.foreign ≡ false → HasOther header side.given at → HasOther header (own_replica side).given at
+replica_given side header at own = subst (λ (g : Option Header). HasOther header g at) (sym (ap (λ (b : Bool). own_given b None side.given) own))
 
-client_found : (cell : StoredCell) → IsStoredKept cell → (client at : ℕ) (outside : List (List ℕ)) (new : StoredCell) → RecoversClient cell client (refused_foreign at) outside new → ⊥
-client_found cell kept client at outside new (none, (header, asked, inl did)) = (let no = did.1 in cc)
-client_found cell kept client at outside new (none, (header, asked, inr (inl did))) = (let no = did.3 in cc)
-client_found cell kept client at outside new (none, (header, asked, inr (inr (place, differs, replied, is)))) =
-    client_own client (cell.made.sizes client) (cell.made.acted.clients client) (cell.clients client) header place (kept.clients client) asked differs
+-- a client's own disk was given no other header than the one that the client asks for
+client_own : (client : ℕ) (size : Option ℕ) (actor : Actor ClientEntry) (side : Side) (header : Header) (at : ℕ) → IsClientSeen client size actor side → side.asked ≡ Some header → side.foreign ≡ false → HasOther header side.given at → ⊥
+client_own client None actor side header at sides asked own other = (let no : None ≡ Some header = sym sides.0 ∙ asked in cc)
+client_own client (Some blocks) actor side header at ((area, sized, one, under, some, few, knows, has), beside, down) asked own other =
+    asked_header (own_client side).given side.asked header _ at actor asked knows has (client_given side header at own other)
 
-replica_found : (cell : StoredCell) → IsStoredKept cell → (server volume at : ℕ) (outside : List (List ℕ)) (new : StoredCell) → RecoversReplica cell server volume (refused_foreign at) outside new → ⊥
-replica_found cell kept server volume at outside new (none, (header, asked, inl did)) = (let no = did.1 in cc)
-replica_found cell kept server volume at outside new (none, (header, asked, inr (inl did))) = (let no = did.3 in cc)
-replica_found cell kept server volume at outside new (none, (header, asked, inr (inr (place, differs, replied, is)))) =
-    let own : (replica_disk cell server volume).header ≡ (cell.replicas volume).given =
-    ap (λ (b : Bool). (on_disk b (cell.others volume) (plain_replica volume (cell.made.acted.replicas server volume) (cell.replicas volume))).disk.header) (kept.replicas_own volume) in
-    replica_own volume (cell.made.homes volume) (λ s. cell.made.acted.replicas s volume) (cell.replicas volume) header place (kept.replicas volume) asked (subst (λ (g : Option Header). HasOther header g place) own differs)
+replica_own : (volume : ℕ) (home : Option ℕ) (actors : ℕ → Actor ReplicaEntry) (side : Side) (header : Header) (at : ℕ) → IsReplicaSeen volume home actors side → side.asked ≡ Some header → side.foreign ≡ false → HasOther header side.given at → ⊥
+replica_own volume None actors side header at sides asked own other = (let no : None ≡ Some header = sym sides.0 ∙ asked in cc)
+replica_own volume (Some server) actors side header at ((area, sized, one, some, few, knows, has), beside) asked own other =
+    asked_header (own_replica side).given side.asked header _ at (actors server) asked knows has (replica_given side header at own other)
+
+unless_false : (b : Bool) → (b ≡ false → ⊥) → b ≡ true
+unless_false true no = refl
+unless_false false no = absurd (no refl)
+
+client_found : (cell : StoredCell) → IsSeen cell → (client at : ℕ) (outside : List (List ℕ)) (new : StoredCell) → RecoversClient cell client (refused_foreign at) outside new → (cell.clients client).foreign ≡ true
+client_found cell is client at outside new (none, (header, asked, inl did)) = (let no = did.1 in cc)
+client_found cell is client at outside new (none, (header, asked, inr (inl did))) = (let no = did.3 in cc)
+client_found cell is client at outside new (none, (header, asked, inr (inr (place, differs, replied, stays)))) =
+    unless_false (cell.clients client).foreign
+    (λ own. client_own client (cell.made.sizes client) (cell.made.acted.clients client) (cell.clients client) header place (is.clients client) asked own differs)
+
+replica_found : (cell : StoredCell) → IsSeen cell → (server volume at : ℕ) (outside : List (List ℕ)) (new : StoredCell) → RecoversReplica cell server volume (refused_foreign at) outside new → (cell.replicas volume).foreign ≡ true
+replica_found cell is server volume at outside new (none, (header, asked, inl did)) = (let no = did.1 in cc)
+replica_found cell is server volume at outside new (none, (header, asked, inr (inl did))) = (let no = did.3 in cc)
+replica_found cell is server volume at outside new (none, (header, asked, inr (inr (place, differs, replied, stays)))) =
+    unless_false (cell.replicas volume).foreign
+    (λ own. (
+    let given : (replica_disk cell server volume).header ≡ (cell.replicas volume).given =
+    ap (λ (b : Bool). (on_disk b (cell.others volume) (plain_replica volume (cell.made.acted.replicas server volume) (cell.replicas volume))).disk.header) own in
+    replica_own volume (cell.made.homes volume) (λ s. cell.made.acted.replicas s volume) (cell.replicas volume) header place (is.replicas volume) asked own (subst (λ (g : Option Header). HasOther header g place) given differs)
+    ))
+
+-- the same of whole lines
+client_stands : (cell : StoredCell) → IsSeen cell → (client at : ℕ) (outside : List (List ℕ)) (new : StoredCell) → Happens cell (line.RecoverClient client) (refused_foreign at) outside new → (cell.clients client).foreign ≡ true
+client_stands cell is client at outside new does =
+    client_found cell is client at outside new (missing_named (client_named (state_of cell.made) client) at (RecoversClient cell client) cell outside new does)
+
+replica_stands : (cell : StoredCell) → IsSeen cell → (server volume at : ℕ) (outside : List (List ℕ)) (new : StoredCell) → Happens cell (line.RecoverReplica server volume) (refused_foreign at) outside new → (cell.replicas volume).foreign ≡ true
+replica_stands cell is server volume at outside new does =
+    replica_found cell is server volume at outside new (missing_named (holder_named (state_of cell.made) server volume) at (RecoversReplica cell server volume) cell outside new does)
+
+-- where each disk is its own, none is foreign
+none_is_foreign : (cell : StoredCell) → IsSeen cell → ((client : ℕ) → (cell.clients client).foreign ≡ false) → ((volume : ℕ) → (cell.replicas volume).foreign ≡ false) → NoneIsForeign cell
+none_is_foreign cell is clients_own replicas_own = (
+  λ client at outside new does. false≢true (sym (clients_own client) ∙ client_stands cell is client at outside new does),
+  λ server volume at outside new does. false≢true (sym (replicas_own volume) ∙ replica_stands cell is server volume at outside new does),
+)
+
+own_asleep : (b : Bool) (side : Side) → side.foreign ≡ false → (asleep b side).foreign ≡ false
+own_asleep true side own = refl
+own_asleep false side own = own
+
+later_finds : (past : StoredCell) (new : Later) → ((cell : StoredCell) (images : List (List ℕ)) → HasReached new cell images → HasGoneOn past cell) → NoneIsForeignLater new
+later_finds past (Waits cell next left answered) gone =
+    let kept = (gone cell answered (refl, refl)).kept in
+    none_is_foreign (seen cell (next ∷ left)) (seen_is_seen cell (next ∷ left) kept)
+    (λ client. own_asleep (awaits_client (next ∷ left) client) (cell.clients client) (kept.clients_own client))
+    (λ volume. own_asleep (awaits_volume (next ∷ left) volume) (cell.replicas volume) (kept.replicas_own volume))
+later_finds past (Goes at) gone =
+    let kept = (gone at.cell at.answered (refl, refl)).kept in
+    none_is_foreign at.cell (kept_is_seen at.cell kept) kept.clients_own kept.replicas_own
+later_finds past Strays gone = tt
 
 pub recoveries_find_their_own : RecoveriesFindTheirOwn
 recoveries_find_their_own = record {
-  clients = λ ls report outside cell run client at images new does.
-      client_found cell (always_kept ls report outside cell run) client at images new (missing_named (client_named (state_of cell.made) client) at (RecoversClient cell client) cell images new does);
-  replicas = λ ls report outside cell run server volume at images new does.
-      replica_found cell (always_kept ls report outside cell run) server volume at images new (missing_named (holder_named (state_of cell.made) server volume) at (RecoversReplica cell server volume) cell images new does);
+  first = λ ls report outside cell run. (let kept = always_kept ls report outside cell run in none_is_foreign cell (kept_is_seen cell kept) kept.clients_own kept.replicas_own);
+  later = λ past lines before ls report outside new kept all run. later_finds past new (later_runs_go_on past lines before ls report outside new kept all run).0;
+  clients = λ cell held. client_stands cell (held_seen cell held);
+  replicas = λ cell held. replica_stands cell (held_seen cell held);
 }

@@ -101,9 +101,8 @@ module _ (old new : Recorded) (kept : IsStoredKept old.cell) (all : Bool) (read 
       let broke = broke_plainly old new all read a.0 a.1 written outside a.2 in
       record { cell = new.cell; answers = (a.0, a.1, broke.holds); has_run = has_run new.cell (broke_kept old.cell new.cell all read a.0 a.1 written outside kept broke.holds); same = λ m b. refl; answered = λ m b. broke.answers }
   told BayFault a =
-      let cut = a.1 in
-      let ran = ran_plainly old a.0 all read cut.0 cut.1 cut.2 outside cut.3 in
-      record { cell = a.0.cell; answers = (a.0.cell, (cut.0, cut.1, cut.2, ran.holds, cut.4)); has_run = has_run a.0.cell (ran_kept old.cell a.0.cell all read cut.0 cut.1 cut.2 outside kept ran.holds); same = λ m b. absurd (b refl); answered = λ m b. absurd (b refl) }
+      let ran = ran_plainly old a.0 false read a.1 a.2 written outside a.4 in
+      record { cell = a.0.cell; answers = (a.0.cell, a.1, a.2, a.3, ran.holds, a.5); has_run = has_run a.0.cell (ran_kept old.cell a.0.cell false read a.1 a.2 written outside kept ran.holds); same = λ m b. absurd (b refl); answered = λ m b. absurd (b refl) }
   told Memory a =
       let cut = a.1 in
       let ran = ran_plainly old a.0 all read cut.0 cut.1 cut.2 outside cut.3 in

@@ -14,6 +14,7 @@ use Rattle.coda_cell.specs.Made.{state_of}
 use Rattle.coda_cell.specs.Steps.{alone}
 use Rattle.coda_stored.specs.Cells.{StoredCell, client_header, replica_header, disk_number}
 use Rattle.coda_stored.specs.Foreign.{IsForeignAt, MakesOn}
+use Rattle.coda_stored.specs.Held.{IsHeld}
 use Rattle.coda_stored.specs.Kept.{IsStoredKept}
 use Rattle.coda_stored.specs.Laws.{Begins}
 use Rattle.coda_stored.specs.Lines.{is_built, area_of, refused_fault, refused_foreign, Happens}
@@ -176,7 +177,26 @@ OwnDisksAreNotForeign =
     (cell : StoredCell) (areas : ℕ) (next : Awaited) (left : List Awaited) (said : Line) (at : ℕ) → IsStoredKept cell → AreAwaited cell (length (seen cell (next ∷ left)).made.servers) areas (next ∷ left)
     → is_awaited next said ≡ true → IsForeignAt (seen cell (next ∷ left)) said at → ⊥
 
--- Whatever lines ran, over disks that held nothing, no recovery is refused for the disk of another actor: each is its own.
+-- no recovery in this cell is refused for the disk of another actor
+abbrev pub NoneIsForeign : StoredCell → Type 0
+NoneIsForeign cell =
+    ((client at : ℕ) (outside : List (List ℕ)) (new : StoredCell) → Happens cell (line.RecoverClient client) (refused_foreign at) outside new → ⊥)
+    × ((server volume at : ℕ) (outside : List (List ℕ)) (new : StoredCell) → Happens cell (line.RecoverReplica server volume) (refused_foreign at) outside new → ⊥)
+
+-- nor where a later run stands, also of those who came while others are awaited
+abbrev pub NoneIsForeignLater : Later → Type 0
+NoneIsForeignLater (Waits cell next left answered) = NoneIsForeign (seen cell (next ∷ left))
+NoneIsForeignLater (Goes at) = NoneIsForeign at.cell
+NoneIsForeignLater Strays = Unit {0}
+
+-- Whatever lines ran, over disks that held nothing, or over those of a cell that is kept and in the order in which its actors were made, no recovery is
+-- refused for the disk of another actor: each is its own. And wherever lines ran, over whatever disks are held, only who stands on the disk of another is
+-- refused so.
 pub record RecoveriesFindTheirOwn : Type 0 where
-  pub clients : Always (λ cell. (client at : ℕ) (outside : List (List ℕ)) (new : StoredCell) → Happens cell (line.RecoverClient client) (refused_foreign at) outside new → ⊥)
-  pub replicas : Always (λ cell. (server volume at : ℕ) (outside : List (List ℕ)) (new : StoredCell) → Happens cell (line.RecoverReplica server volume) (refused_foreign at) outside new → ⊥)
+  pub first : Always NoneIsForeign
+  pub later : (past : StoredCell) (lines : List Awaited) (before : List (List ℕ)) (ls : List (List ℕ)) (report : List ℕ) (outside : List (List ℕ)) (new : Later) → IsStoredKept past → MakeAllAgain past lines
+      → Runs LaterGives (resumed (at_rest past) lines before) ls report outside new → NoneIsForeignLater new
+  pub clients : (cell : StoredCell) → IsHeld cell → (client at : ℕ) (outside : List (List ℕ)) (new : StoredCell) → Happens cell (line.RecoverClient client) (refused_foreign at) outside new
+      → (cell.clients client).foreign ≡ true
+  pub replicas : (cell : StoredCell) → IsHeld cell → (server volume at : ℕ) (outside : List (List ℕ)) (new : StoredCell) → Happens cell (line.RecoverReplica server volume) (refused_foreign at) outside new
+      → (cell.replicas volume).foreign ≡ true

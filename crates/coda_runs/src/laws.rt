@@ -230,8 +230,9 @@ pub fn scripts_act_on_made_volumes()
     ensures { ScriptsActOnMadeVolumes }
 {}
 
-/// Whatever lines ran from an empty cell, no recovery is refused for the disk of another actor: each actor's disk is its
-/// own.
+/// Whatever lines ran from an empty cell, or in a run that makes the actors of an earlier one again in their order, no
+/// recovery is refused for the disk of another actor: each actor's disk is its own. Over disks that are held, only who
+/// stands on the disk of another is refused so.
 pub fn recoveries_find_their_own()
     ensures { RecoveriesFindTheirOwn }
 {}

@@ -31,3 +31,11 @@ is_disk_line (line.RecoverReplica server volume) = true
 is_disk_line (line.ArmClient client passes) = true
 is_disk_line (line.ArmReplica server volume passes) = true
 is_disk_line _ = false
+
+-- the lines that may ask the bay for a disk, or for a crash
+abbrev pub asks_bay : Line → Bool
+asks_bay (line.Volume volume servers area) = true
+asks_bay (line.Client client blocks area) = true
+asks_bay (line.CrashClient client choice) = true
+asks_bay (line.CrashReplica server volume choice) = true
+asks_bay _ = false

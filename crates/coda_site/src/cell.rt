@@ -14,6 +14,7 @@ ghost use Rattle.coda_stored.specs.Lines.{is_built, Happens, client_down, replic
 ghost use Rattle.coda_stored.specs.Mounted.{Shelf, HoldsShelf};
 ghost use Rattle.coda_stored.specs.Resuming.{at_rest, Awaited, is_awaited, AreAwaited, MakeAllAgain};
 ghost use Rattle.coda_site.specs.Awaiting.{IsAwaiting, Resumes};
+ghost use Rattle.coda_site.specs.Makings.{asks_bay};
 ghost use Rattle.coda_site.specs.Sites.{IsSite, IsReady, IsClosable};
 ghost use Rattle.coda_site.specs.Steps.{Admits, Becomes, Mounts, Finds};
 ghost use Rattle.coda_site.specs.Totals.{IsCounted, IsFault, has_armed, total, totals};
@@ -110,6 +111,7 @@ impl<B: Bay> Cell<B> {
         ensures posted { self.new.site.net.posted ≤ self.old.site.net.posted + 1 }
         ensures later { B.faults self.old.bay ≤ B.faults self.new.bay }
         ensures bay_cause { result ≡ Err CellFault.Bay → Rose (B.faults self.old.bay) (B.faults self.new.bay) }
+        ensures asked { result ≡ Err CellFault.Bay → asks_bay line.now ≡ true }
         ensures follows { B.follows self.old.bay self.new.bay }
         ensures counts { IsCounted (IsFault result) (has_armed line.now result) (totals B.D.told B.D.faults B.D.arms (B.disk_faults self.old.bay) (B.disk_arms self.old.bay) self.old.site) (totals B.D.told B.D.faults B.D.arms (B.disk_faults self.new.bay) (B.disk_arms self.new.bay) self.new.site) }
     {

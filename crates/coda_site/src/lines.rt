@@ -1,7 +1,7 @@
 // What a line of a script does in a cell.
 ghost use Rattle.std.specs.Prelude.{◌≡◌, ◌≢◌, ◌≤◌, ℕ, true, false, IfOk, IfErr, Ok, Err};
 ghost use Rattle.coda_io.specs.Faults.{Rose};
-ghost use Rattle.coda_site.specs.Makings.{is_disk_line};
+ghost use Rattle.coda_site.specs.Makings.{is_disk_line, asks_bay};
 ghost use Rattle.coda_script.specs.declared.line.Line.TheVariants as line;
 ghost use Rattle.coda_cell.specs.Steps.{is_built_task, is_plain};
 ghost use Rattle.coda_stored.specs.Cells.{StoredCell};
@@ -68,6 +68,19 @@ pub fn is_built(line: &Line) -> bool
         Line::ArmReplica { .. } => true,
         _ => false,
     }
+}
+
+/// Whether a line may ask the bay for a disk, or for a crash. A run is over where the bay refuses.
+pub fn asks_bay(line: &Line) -> bool
+    ensures { result ≡ asks_bay line.now }
+{
+    matches!(
+        line,
+        Line::Volume { .. }
+            | Line::Client { .. }
+            | Line::CrashClient { .. }
+            | Line::CrashReplica { .. }
+    )
 }
 
 /// Sets a link, where the client and the server are there, and the client is up.
@@ -183,6 +196,7 @@ pub fn fail<B: Bay>(bay: &mut B, site: &mut Site<B::D>, line: &Line) -> Result<R
     ensures net { site.new.net ≡ site.old.net }
     ensures later { B.faults bay.old ≤ B.faults bay.new }
     ensures bay_cause { result ≡ Err CellFault.Bay → Rose (B.faults bay.old) (B.faults bay.new) }
+    ensures asked { result ≡ Err CellFault.Bay → asks_bay line.now ≡ true }
     ensures follows { B.follows bay.old bay.new }
     ensures counts { IsCounted (IsFault result) (has_armed line.now result) (totals B.D.told B.D.faults B.D.arms (B.disk_faults bay.old) (B.disk_arms bay.old) site.old) (totals B.D.told B.D.faults B.D.arms (B.disk_faults bay.new) (B.disk_arms bay.new) site.new) }
 {
