@@ -13,9 +13,9 @@ use Rattle.coda_cell.specs.Steps.{is_alone, alone, Named, client_named, holder_n
 use Rattle.coda_stored.specs.Cells.{Side, StoredCell, plain_replica, client_header, replica_header, disk_number, on_disk}
 use Rattle.coda_stored.specs.Foreign.{IsForeignAt}
 use Rattle.coda_stored.specs.Kept.{IsClientSide, IsReplicaSide, IsGiven, IsStoredKept}
-use Rattle.coda_stored.specs.Lines.{area_of, refused_foreign, Becoming, Unless as UnlessStored, replica_disk, RecoversClient, RecoversReplica}
+use Rattle.coda_stored.specs.Lines.{area_of, refused_foreign, Becoming, Unless as UnlessStored, Happens, replica_disk, RecoversClient, RecoversReplica}
 use Rattle.coda_stored.specs.Resuming.{Awaited, ClientAgain, VolumeAgain, is_awaited, awaits_client, awaits_volume, AreAwaited}
-use Rattle.coda_stored.specs.Seen.{asleep, idle_until, seen, lying, own_given, own_client, own_replica, IsClientSeen, IsReplicaSeen, IsSeen}
+use Rattle.coda_stored.specs.Seen.{asleep, idle_until, seen, lying, own_given, own_client as client_alone, own_replica as replica_alone, IsClientSeen, IsReplicaSeen, IsSeen}
 use Rattle.coda_stored.proofs.Held.{held_seen}
 use Rattle.coda_stored.proofs.Seeing.{seen_is_seen, kept_is_seen}
 use Rattle.coda_runs.specs.Later.{Later, Waits, Goes, Strays, HasReached, HasGoneOn, NoneIsForeign, NoneIsForeignLater, OwnDisksAreNotForeign, RecoveriesFindTheirOwn}
@@ -99,26 +99,26 @@ asked_header : {E : Type 0} (given asked : Option Header) (header known : Header
 asked_header given asked header known at actor is knows has other = same_header given header known at actor has (let e : Some known ≡ Some header = sym knows ∙ is in cc) other
 
 -- what a client's own disk was given is what is known of it as its own
-client_given : (side : Side) (header : Header) (at : ℕ) → side.foreign ≡ false → HasOther header side.given at → HasOther header (own_client side).given at
+client_given : (side : Side) (header : Header) (at : ℕ) → side.foreign ≡ false → HasOther header side.given at → HasOther header (client_alone side).given at
 client_given side header at own = subst (λ (g : Option Header). HasOther header g at) (sym (ap (λ (b : Bool). own_given b side.asked side.given) own))
 
-replica_given : (side : Side) (header : Header) (at : ℕ) → side.foreign ≡ false → HasOther header side.given at → HasOther header (own_replica side).given at
+replica_given : (side : Side) (header : Header) (at : ℕ) → side.foreign ≡ false → HasOther header side.given at → HasOther header (replica_alone side).given at
 replica_given side header at own = subst (λ (g : Option Header). HasOther header g at) (sym (ap (λ (b : Bool). own_given b None side.given) own))
 
 -- a client's own disk was given no other header than the one that the client asks for
 client_own : (client : ℕ) (size : Option ℕ) (actor : Actor ClientEntry) (side : Side) (header : Header) (at : ℕ) → IsClientSeen client size actor side → side.asked ≡ Some header → side.foreign ≡ false → HasOther header side.given at → ⊥
 client_own client None actor side header at sides asked own other = (let no : None ≡ Some header = sym sides.0 ∙ asked in cc)
 client_own client (Some blocks) actor side header at ((area, sized, one, under, some, few, knows, has), beside, down) asked own other =
-    asked_header (own_client side).given side.asked header _ at actor asked knows has (client_given side header at own other)
+    asked_header (client_alone side).given side.asked header _ at actor asked knows has (client_given side header at own other)
 
 replica_own : (volume : ℕ) (home : Option ℕ) (actors : ℕ → Actor ReplicaEntry) (side : Side) (header : Header) (at : ℕ) → IsReplicaSeen volume home actors side → side.asked ≡ Some header → side.foreign ≡ false → HasOther header side.given at → ⊥
 replica_own volume None actors side header at sides asked own other = (let no : None ≡ Some header = sym sides.0 ∙ asked in cc)
 replica_own volume (Some server) actors side header at ((area, sized, one, some, few, knows, has), beside) asked own other =
-    asked_header (own_replica side).given side.asked header _ at (actors server) asked knows has (replica_given side header at own other)
+    asked_header (replica_alone side).given side.asked header _ at (actors server) asked knows has (replica_given side header at own other)
 
 unless_false : (b : Bool) → (b ≡ false → ⊥) → b ≡ true
-unless_false true no = refl
-unless_false false no = absurd (no refl)
+unless_false true never = refl
+unless_false false never = absurd (never refl)
 
 client_found : (cell : StoredCell) → IsSeen cell → (client at : ℕ) (outside : List (List ℕ)) (new : StoredCell) → RecoversClient cell client (refused_foreign at) outside new → (cell.clients client).foreign ≡ true
 client_found cell is client at outside new (none, (header, asked, inl did)) = (let no = did.1 in cc)
