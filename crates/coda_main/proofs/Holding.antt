@@ -9,7 +9,6 @@ use Rattle.coda_script.specs.declared.reply.Reply.{Reply}
 use Rattle.coda_script.specs.Ranges.{InRange}
 use Rattle.coda_cell.specs.Made.{state_of}
 use Rattle.coda_plain.specs.Cell.{Actor}
-use Rattle.coda_report.specs.Texts.{reply_text}
 use Rattle.coda_cell.specs.Steps.{alone}
 use Rattle.coda_stored.specs.Cells.{StoredCell, client_header, replica_header}
 use Rattle.coda_stored.specs.Held.{DoesFind}

@@ -13,8 +13,8 @@ of_value : {A E : Type 0} (P R S T U V Q : A → Type 0) (X : Type 0) (r : Resul
 of_value P R S T U V Q X (Ok x) is also more yet then_so last on then_ = then_ x is also more yet then_so last on
 of_value P R S T U V Q X (Err e) is also more yet then_so last on then_ = tt
 
-pub returns-in-Ok-Some-clause-ok : goal.returns-in-Ok-Some-clause-ok
-returns-in-Ok-Some-clause-ok g c =
+pub returns-else-waits-clause-ok : goal.returns-else-waits-clause-ok
+returns-else-waits-clause-ok g c =
     let old = c.args.self.now.cell in
     let new = c.answer-text.new.cell in
     let before = moment (g.B.Bay.out old.bay) (g.B.Bay.has old.bay) (g.B.Bay.answered old.bay) old.site in
