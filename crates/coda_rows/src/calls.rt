@@ -1,8 +1,6 @@
-// Calls on what no script reaches: bytes that are read and written, generated scripts, disks that are files, and what
-// finds no memory.
+// Calls on what no script reaches: bytes that are read and written, generated scripts, and disks that are files.
 mod files;
 mod generated;
-mod memory;
 mod spelled;
 
 use crate::calls::files::put_reached;
@@ -13,8 +11,6 @@ use std::fs;
 enum Call {
     Lines,
     Digest,
-    Operate,
-    Decide,
     Message,
     Fields,
     Client,
@@ -31,8 +27,6 @@ enum Call {
 const CALLS: &[(&str, Call)] = &[
     ("lines", Call::Lines),
     ("digest", Call::Digest),
-    ("operate", Call::Operate),
-    ("decide", Call::Decide),
     ("message", Call::Message),
     ("fields", Call::Fields),
     ("client", Call::Client),
@@ -52,8 +46,6 @@ pub fn put_called(rt: &HostRuntime, call: &str, out: &mut String) {
     match named(CALLS, word(call, 0)) {
         Some(Call::Lines) => generated::put_script(alloc, call, true, out),
         Some(Call::Digest) => generated::put_script(alloc, call, false, out),
-        Some(Call::Operate) => put(out, memory::operated(alloc)),
-        Some(Call::Decide) => put(out, memory::decided(alloc)),
         Some(Call::Message) => spelled::put_message(alloc, call, out),
         Some(Call::Fields) => spelled::put_fields(alloc, call, out),
         Some(Call::Client) => spelled::put_client(alloc, call, out),

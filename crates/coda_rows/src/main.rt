@@ -1,6 +1,5 @@
 //! The worked rows. Each file that the command line names has a script, with its report in a file beside it, or lines
-//! of a script, or calls, each with what must be answered, or what a trace must have of it, on the line below. The
-//! program prints how each row compares.
+//! of a script, or calls, each with what must be answered on the line below. The program prints how each row compares.
 #![tactic(auto)]
 
 mod answers;
@@ -10,13 +9,11 @@ mod outlets;
 mod repeats;
 mod scripts;
 mod texts;
-mod traces;
 
 use crate::answers::{Kind, answered};
 use crate::repeats::repeated;
 use crate::scripts::reported;
 use crate::texts::{compare, named};
-use crate::traces::traced;
 use std::{env, fs, io};
 
 // A file, with its repetitions written out if it is a text. One that can't be read is a text that no row comes to.
@@ -34,14 +31,12 @@ fn contents(rt: &HostRuntime, path: &str) -> Vec<u8> {
 #[derive(Clone, Copy)]
 enum Row {
     Script,
-    Steps,
     Lines(Kind),
 }
 
 // By the ending of its name.
 const ENDINGS: &[(&str, Row)] = &[
     ("coda", Row::Script),
-    ("trace", Row::Steps),
     ("lines", Row::Lines(Kind::Said)),
     ("words", Row::Lines(Kind::Words)),
     ("calls", Row::Lines(Kind::Called)),
@@ -63,7 +58,6 @@ fn compare_row(rt: &HostRuntime, path: &str, place: &str, row: Row, told: &mut S
             &reported(rt.alloc(), &text),
             told,
         ),
-        Row::Steps => compare(rt.alloc(), &text, &traced(rt.alloc(), &text), told),
         Row::Lines(kind) => compare(rt.alloc(), &text, &answered(rt, &text, kind), told),
     }
 }
