@@ -84,9 +84,9 @@ stops_more gives refuses most start new read written more outside TooLong h = (
 )
 stops_more gives refuses most start new read written more outside SinkFault h = (h.0, h.1 ++ more, broke_more read h.0 h.1 written more outside new h.2, h.3)
 stops_more gives refuses most start new read written more outside BayFault h =
-    (h.0, h.1, h.2 ++ more, h.3, ran_more false read h.1 h.2 written more outside h.0 h.4, next_more h.1 h.2 more h.3 h.5)
+    (h.0, h.1 ++ more, h.2, ran_more false read h.0 h.1 written more outside new h.3, next_more h.0 h.1 more h.2 h.4)
 stops_more gives refuses most start new read written more outside Memory h =
-    (h.0, (h.1.0, h.1.1 ++ more, h.1.2, ran_more false read h.1.0 h.1.1 h.1.2 more outside h.0 h.1.3, h.1.4))
+    (h.0, h.1 ++ more, h.2, ran_more false read h.0 h.1 h.2 more outside new h.3, h.4)
 
 pub advances_stop : {M : Type 0} (gives : Gives M) (refuses : Refuses M) (most : ℕ) (a b c : Option (List ℕ)) (p q : Place M) (new : M) (bs cs more all : List ℕ) (status : Status)
     → Advances gives a b p bs q → Stops gives refuses most b c q new cs status → all ≡ (bs ++ cs) ++ more → Stops gives refuses most a c p new all status
@@ -137,8 +137,8 @@ answers_all gives refuses most start new all read written outside (Script line c
     (h.0, h.1, h.2, h.3, next_all all h.0 h.1 h.2 h.4, h.5, h.6)
 answers_all gives refuses most start new all read written outside TooLong h = h
 answers_all gives refuses most start new all read written outside SinkFault h = (h.0, h.1, broke_all all read h.0 h.1 written outside new h.2)
-answers_all gives refuses most start new all read written outside BayFault h = (h.0, h.1, h.2, h.3, h.4, next_all all h.1 h.2 h.3 h.5)
-answers_all gives refuses most start new all read written outside Memory h = (h.0, (h.1.0, h.1.1, h.1.2, ran_all all read h.1.0 h.1.1 h.1.2 outside h.0 h.1.3, h.1.4))
+answers_all gives refuses most start new all read written outside BayFault h = (h.0, h.1, h.2, h.3, next_all all h.0 h.1 h.2 h.4)
+answers_all gives refuses most start new all read written outside Memory h = (h.0, h.1, h.2, ran_all all read h.0 h.1 h.2 outside new h.3, h.4)
 
 -- a list of no length is empty, and others aren't
 pub none_of : (xs : List ℕ) → true ≡ eqb (length xs) 0 → xs ≡ []
@@ -220,16 +220,16 @@ ends_stop gives refuses a b p new SinkFault some h = (
 ends_stop gives refuses a b p new BayFault some h = (
   [],
   [],
-  h,
-  λ start read report outside s. rw (append-nil report, append-nil outside)
-      (p.state, s.front, p.pending, p.pending, s.ran, inr (refl, s.partial, some, rw (← s.ran.split) s.within, refl)),
+  h.0,
+  λ start read report outside s. rw (append-nil report, append-nil outside, h.1)
+      (s.front, p.pending, p.pending, s.ran, inr (refl, s.partial, some, rw (← s.ran.split) s.within, refl)),
 )
 ends_stop gives refuses a b p new Memory some h = (
   [],
   [],
-  h,
-  λ start read report outside s. rw (append-nil report, append-nil outside)
-      (p.state, (s.front, p.pending, report, ran_all true read s.front p.pending report outside p.state s.ran, ([], rw (append-nil report) refl))),
+  h.0,
+  λ start read report outside s. rw (append-nil report, append-nil outside, h.1)
+      (s.front, p.pending, report, ran_all true read s.front p.pending report outside p.state s.ran, ([], rw (append-nil report) refl)),
 )
 
 -- a byte that is no newline
@@ -249,9 +249,9 @@ pub full_stops : {M : Type 0} (gives : Gives M) (refuses : Refuses M) (a : Optio
     → Stops gives refuses 0 a a p p.state (b ∷ []) TooLong
 full_stops gives refuses a p b passed = ([], [], Appends-nil a, λ start read report outside s. stop_long gives refuses read report outside b p s passed)
 
-pub memory_stops : {M : Type 0} (gives : Gives M) (refuses : Refuses M) (a b : Option (List ℕ)) (p : Place M) (new : M) (bs : List ℕ) → Appends a b []
-    → Stops gives refuses 0 a b p new bs Memory
-memory_stops gives refuses a b p new bs held = ([], [], held, λ start read report outside s. stop_memory gives refuses new read report bs outside p s)
+pub memory_stops : {M : Type 0} (gives : Gives M) (refuses : Refuses M) (a b : Option (List ℕ)) (p : Place M) (bs : List ℕ) → Appends a b []
+    → Stops gives refuses 0 a b p p.state bs Memory
+memory_stops gives refuses a b p bs held = ([], [], held, λ start read report outside s. stop_memory gives refuses read report bs outside p s)
 
 pub line_stops : {M : Type 0} (gives : Gives M) (refuses : Refuses M) (a b : Option (List ℕ)) (p : Place M) (new : M) (status : Status) → HasRoom p.pending p.lines p.bytes
     → LineStops gives refuses a b p.state new (strip_carriage_return p.pending) (p.lines + 1) status → Stops gives refuses 0 a b p new (10 ∷ []) status
@@ -264,5 +264,5 @@ line_stops gives refuses a b p new (Script line column kind) free h =
 line_stops gives refuses a b p new SinkFault free h =
     (h.0, h.2, h.5, λ start read report outside s. stop_sink gives refuses read report h.0 h.1 outside h.2 new p s free h.3 h.4)
 line_stops gives refuses a b p new BayFault free h =
-    ([], [], h, λ start read report outside s. stop_bay gives refuses new read report outside p s free)
-line_stops gives refuses a b p new Memory free h = memory_stops gives refuses a b p new (10 ∷ []) h
+    ([], [], h.0, λ start read report outside s. rw h.1 (stop_bay gives refuses read report outside p s free))
+line_stops gives refuses a b p new Memory free h = rw h.1 (memory_stops gives refuses a b p (10 ∷ []) h.0)

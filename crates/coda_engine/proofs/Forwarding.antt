@@ -5,7 +5,7 @@ use Rattle.std.specs.Io.KnownBytes.{Appends}
 use Rattle.std.proofs.lemmas.List.{append-nil, take-append-drop, drop-drop, length-drop, drop_all}
 use Rattle.std.proofs.lemmas.Bool.Decides.{leb_tells}
 use Rattle.std.proofs.KnownBytes.{Appends-nil, Appends-trans}
-use Rattle.coda_engine.specs.Machine.{Gives, Refuses}
+use Rattle.coda_engine.specs.Machine.{Gives, Refuses, Breaks, Leaves}
 use Rattle.coda_engine.specs.Run.{Runs, Ran, BrokeOff}
 use Rattle.coda_engine.specs.Reading.{Place, HasRoom, IsFull, Stands, StopsAmong, Advances, Stops, Ends, LineStops}
 use Rattle.coda_engine.specs.Gathering.{Forwards, LineHalts, Gathers, Halts, IsClosed, Closes}
@@ -80,8 +80,8 @@ pub full_halts : {M : Type 0} (gives : Gives M) (refuses : Refuses M) (a : Optio
     → Halts gives refuses a a w w p p.state (b ∷ []) TooLong
 full_halts gives refuses a w p b passed = inl ([], Appends-nil a, full_stops gives refuses (Some w) p b passed, λ bay. cc)
 
-pub memory_halts : {M : Type 0} (gives : Gives M) (refuses : Refuses M) (a : Option (List ℕ)) (w : List ℕ) (p : Place M) (new : M) (bs : List ℕ) → Halts gives refuses a a w w p new bs Memory
-memory_halts gives refuses a w p new bs = inl ([], Appends-nil a, memory_stops gives refuses (Some w) (Some w) p new bs (Appends-nil (Some w)), λ bay. cc)
+pub memory_halts : {M : Type 0} (gives : Gives M) (refuses : Refuses M) (a : Option (List ℕ)) (w : List ℕ) (p : Place M) (bs : List ℕ) → Halts gives refuses a a w w p p.state bs Memory
+memory_halts gives refuses a w p bs = inl ([], Appends-nil a, memory_stops gives refuses (Some w) (Some w) p bs (Appends-nil (Some w)), λ bay. cc)
 
 pub line_halts : {M : Type 0} (gives : Gives M) (refuses : Refuses M) (a b : Option (List ℕ)) (w x : List ℕ) (p : Place M) (new : M) (status : Status) → HasRoom p.pending p.lines p.bytes
     → LineHalts gives refuses a b w x p.state new (strip_carriage_return p.pending) (p.lines + 1) status → Halts gives refuses a b w x p new (10 ∷ []) status
@@ -307,8 +307,8 @@ among_closed gives refuses start new read all written waited left outside BayFau
     subst Among (sym close.0) (subst Wrote (e ∙ rw (none refl, append-nil written) refl) h)
 among_closed gives refuses start new read all written waited left outside Memory last h e few none close =
     let Among : Status → Type 0 = λ s. StopsAmong gives refuses 65536 start new read written outside s in
-    let cut = h.1.4 in
-    subst Among (sym close) (h.0, (h.1.0, h.1.1, h.1.2, h.1.3, (left ++ cut.0, rw (cut.1, e, append_assoc written left cut.0) refl)))
+    let cut = h.4 in
+    subst Among (sym close) (h.0, h.1, h.2, h.3, (left ++ cut.0, rw (cut.1, e, append_assoc written left cut.0) refl))
 
 -- nothing waits behind what was sent where nothing waited
 none_wait : (sent w left : List ℕ) → w ≡ [] → sent ++ left ≡ w ++ [] → (sent ≡ []) × (left ≡ [])
@@ -318,6 +318,38 @@ none_wait (x ∷ sent) w left none e = let no : x ∷ (sent ++ left) ≡ [] = e 
 -- where the sink refused, what waited is left
 closed_left : (status last : Status) (waited left : List ℕ) → status ≡ SinkFault → Closes status waited left last → (last ≡ SinkFault) × (left ≡ waited)
 closed_left status last waited left is close = let Close : Status → Type 0 = λ s. Closes s waited left last in subst Close is close
+
+-- a run that ended with no fault of the bay and no want of memory left the machine where it was
+pub leaves_same : {M : Type 0} {breaks : Breaks M} (end : M) (status : Status) → status ≢ BayFault → Leaves breaks end end status
+leaves_same end status other = record { same = λ memory bay. refl; broken = λ bay. absurd (other bay) }
+
+-- what a run leaves, it leaves whatever the sink takes of the last replies
+pub closed_leaves : {M : Type 0} {breaks : Breaks M} (end new : M) (waited left : List ℕ) (status last : Status) → Closes status waited left last → Leaves breaks end new status → Leaves breaks end new last
+closed_leaves end new waited left status last close leaves = record {
+  same = λ memory bay. leaves.same (λ e. memory (of_memory (subst (λ s. Closes s waited left last) e close))) (λ e. bay (of_bay (subst (λ s. Closes s waited left last) e close)));
+  broken = λ e. leaves.broken (to_bay status (subst (λ s. Closes status waited left s) e close));
+}
+  where
+    of_memory : Closes Memory waited left last → last ≡ Memory
+    of_memory c = c
+
+    of_bay : Closes BayFault waited left last → last ≡ BayFault
+    of_bay c = c.0
+
+    to_bay : (status : Status) → Closes status waited left BayFault → status ≡ BayFault
+    to_bay BayFault c = refl
+    to_bay SinkFault c = let no = c.0 in cc
+    to_bay Memory c = let no : BayFault ≡ Memory = c in cc
+    to_bay Done (inl c) = sym c.0
+    to_bay Done (inr c) = let no = c.0 in cc
+    to_bay Usage (inl c) = sym c.0
+    to_bay Usage (inr c) = let no = c.0 in cc
+    to_bay SourceFault (inl c) = sym c.0
+    to_bay SourceFault (inr c) = let no = c.0 in cc
+    to_bay TooLong (inl c) = sym c.0
+    to_bay TooLong (inr c) = let no = c.0 in cc
+    to_bay (Script line column kind) (inl c) = sym c.0
+    to_bay (Script line column kind) (inr c) = let no = c.0 in cc
 
 pub close_stops : {M : Type 0} (gives : Gives M) (refuses : Refuses M) (a b c : Option (List ℕ)) (v w left : List ℕ) (p : Place M) (new : M) (bs : List ℕ) (status last : Status) → v ≡ []
     → Halts gives refuses a b v w p new bs status → Forwards b c w left [] → length left ≤ 65536 → Closes status w left last → Stops gives refuses 65536 a c p new bs last
@@ -351,10 +383,10 @@ line_sent gives refuses a b v w old new line number (Script at column kind) firs
     (subst Sent (none_wait h.0 v w first h.2.0).0 h.1, h.2.1, h.2.2, h.2.3)
 line_sent gives refuses a b v w old new line number BayFault first (inl h) =
     let Sent : List ℕ → Type 0 = λ sent. Appends a b sent in
-    subst Sent (none_wait h.0 v w first h.2).0 h.1
+    (subst Sent (none_wait h.0 v w first h.2.0).0 h.1, h.2.1)
 line_sent gives refuses a b v w old new line number Memory first (inl h) =
     let Sent : List ℕ → Type 0 = λ sent. Appends a b sent in
-    subst Sent (none_wait h.0 v w first h.2).0 h.1
+    (subst Sent (none_wait h.0 v w first h.2.0).0 h.1, h.2.1)
 line_sent gives refuses a b v w old new line number SinkFault first (inl h) =
     let stop = h.2 in
     let part = stop.0 in

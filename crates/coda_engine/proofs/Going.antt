@@ -105,4 +105,4 @@ goes_fault gives refuses start l0 l1 l2 h0 h1 p go kept =
 pub memory_at_start : {M : Type 0} (gives : Gives M) (refuses : Refuses M) (start : M) (left held : Option (List ℕ))
     → (outside : List (List ℕ)) × Reports gives refuses start start left left held held outside Memory
 memory_at_start gives refuses start left held =
-    ([], ([], [], Consumes-nil left, Appends-nil held, (start, ([], [], [], none_ran (is_at_end left) gives start, ([], refl))), omega arith))
+    ([], ([], [], Consumes-nil left, Appends-nil held, ([], [], [], none_ran (is_at_end left) gives start, ([], refl)), omega arith))

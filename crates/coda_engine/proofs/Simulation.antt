@@ -1,5 +1,5 @@
 -- What a machine reports, a plainer machine reports whose states it shows.
-use Rattle.std.proofs.Common.{◌≢◌, ℕ, Bool, List, [], ◌∷◌, refl, Option}
+use Rattle.std.proofs.Common.{ℕ, Bool, List, [], ◌∷◌, refl, Option}
 use Rattle.coda_engine.specs.Machine.{Gives, Refuses}
 use Rattle.coda_engine.specs.Run.{Runs, Ran, BrokeOff, Answers, Reports, is_at_end}
 use Rattle.coda_engine.specs.declared.status.Kind.{Kind}
@@ -64,37 +64,36 @@ broke_shown sim p m m' all read front rest written outside shows b =
 -- the answers of a run, by its status
 pub answers_shown : {P M : Type 0} {Shows : P → M → Type 0} {plain : Gives P} {plain_refuses : Refuses P} {gives : Gives M} {refuses : Refuses M} → Simulates Shows plain plain_refuses gives refuses
     → (p : P) (m m' : M) (all : Bool) (read written : List ℕ) (outside : List (List ℕ)) (status : Status) → Shows p m → Answers gives refuses m m' all read written outside status
-    → (p' : P) × Answers plain plain_refuses p p' all read written outside status × (status ≢ Memory → status ≢ BayFault → Shows p' m')
+    → (p' : P) × Answers plain plain_refuses p p' all read written outside status × Shows p' m'
 answers_shown sim p m m' all read written outside Done shows a =
     let ran = ran_shown sim p m m' all read read [] written outside shows a.1 in
-    (ran.0, (a.0, ran.1), λ other bay. ran.2)
+    (ran.0, (a.0, ran.1), ran.2)
 answers_shown sim p m m' all read written outside Usage shows a = absurd a
 answers_shown sim p m m' all read written outside (Script line column kind) shows a =
     let ran = ran_shown sim p m m' _ read a.0 a.1 written outside shows a.3 in
-    (ran.0, (a.0, a.1, a.2, ran.1, a.4, sim.refusal ran.0 m' a.2 column kind ran.2 a.5, a.6), λ other bay. ran.2)
+    (ran.0, (a.0, a.1, a.2, ran.1, a.4, sim.refusal ran.0 m' a.2 column kind ran.2 a.5, a.6), ran.2)
 answers_shown sim p m m' all read written outside TooLong shows a =
     let ran = ran_shown sim p m m' _ read a.0 a.1 written outside shows a.2 in
-    (ran.0, (a.0, a.1, ran.1, a.3), λ other bay. ran.2)
+    (ran.0, (a.0, a.1, ran.1, a.3), ran.2)
 answers_shown sim p m m' all read written outside SourceFault shows a =
     let ran = ran_shown sim p m m' _ read a.0 a.1 written outside shows a.2 in
-    (ran.0, (a.0, a.1, ran.1, a.3, a.4), λ other bay. ran.2)
+    (ran.0, (a.0, a.1, ran.1, a.3, a.4), ran.2)
 answers_shown sim p m m' all read written outside SinkFault shows a =
     let broke = broke_shown sim p m m' all read a.0 a.1 written outside shows a.2 in
-    (broke.0, (a.0, a.1, broke.1), λ other bay. broke.2)
+    (broke.0, (a.0, a.1, broke.1), broke.2)
 answers_shown sim p m m' all read written outside BayFault shows a =
-    let ran = ran_shown sim p m a.0 _ read a.1 a.2 written outside shows a.4 in
-    (p, (ran.0, a.1, a.2, a.3, ran.1, a.5), λ other bay. absurd (bay refl))
+    let ran = ran_shown sim p m m' _ read a.0 a.1 written outside shows a.3 in
+    (ran.0, (a.0, a.1, a.2, ran.1, a.4), ran.2)
 answers_shown sim p m m' all read written outside Memory shows a =
-    let cut = a.1 in
-    let ran = ran_shown sim p m a.0 all read cut.0 cut.1 cut.2 outside shows cut.3 in
-    (p, (ran.0, (cut.0, cut.1, cut.2, ran.1, cut.4)), λ other bay. absurd (other refl))
+    let ran = ran_shown sim p m m' all read a.0 a.1 a.2 outside shows a.3 in
+    (ran.0, (a.0, a.1, a.2, ran.1, a.4), ran.2)
 
--- What a run of the machine reports, a run of the plain machine reports, and the state that the first leaves shows the state
--- that the second leaves, except for want of memory and faults of the bay.
+-- What a run of the machine reports, a run of the plain machine reports, and the state of the first after the last line that ran shows
+-- that of the second.
 pub reports_shown : {P M : Type 0} {Shows : P → M → Type 0} {plain : Gives P} {plain_refuses : Refuses P} {gives : Gives M} {refuses : Refuses M} → Simulates Shows plain plain_refuses gives refuses
     → (p : P) (m m' : M) (left_old left_new held_old held_new : Option (List ℕ)) (outside : List (List ℕ)) (status : Status) → Shows p m
     → Reports gives refuses m m' left_old left_new held_old held_new outside status
-    → (p' : P) × Reports plain plain_refuses p p' left_old left_new held_old held_new outside status × (status ≢ Memory → status ≢ BayFault → Shows p' m')
+    → (p' : P) × Reports plain plain_refuses p p' left_old left_new held_old held_new outside status × Shows p' m'
 reports_shown sim p m m' left_old left_new held_old held_new outside status shows r =
     let a = answers_shown sim p m m' (is_at_end left_new) r.0 r.1 outside status shows r.4 in
     (a.0, (r.0, r.1, r.2, r.3, a.1, r.5), a.2)

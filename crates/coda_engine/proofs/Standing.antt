@@ -178,12 +178,11 @@ stop_script gives refuses read report outside column kind place s free refused =
     )
 
 -- a line at which the bay is at fault
-pub stop_bay : {M : Type 0} (gives : Gives M) (refuses : Refuses M) {start : M} (new : M) (read report : List ℕ) (outside : List (List ℕ)) (place : Place M)
+pub stop_bay : {M : Type 0} (gives : Gives M) (refuses : Refuses M) {start : M} (read report : List ℕ) (outside : List (List ℕ)) (place : Place M)
     → Stands gives start read report outside place → HasRoom place.pending place.lines place.bytes
-    → Answers gives refuses start new false (read ++ 10 ∷ []) (report ++ []) (outside ++ []) BayFault
-stop_bay gives refuses new read report outside place s free =
+    → Answers gives refuses start place.state false (read ++ 10 ∷ []) (report ++ []) (outside ++ []) BayFault
+stop_bay gives refuses read report outside place s free =
     rw (append-nil report, append-nil outside) (
-      place.state,
       s.front,
       place.pending ++ 10 ∷ [],
       strip_carriage_return place.pending,
@@ -223,10 +222,8 @@ stop_sink gives refuses read report part missing outside answered new place s fr
 )
 
 -- want of memory
-pub stop_memory : {M : Type 0} (gives : Gives M) (refuses : Refuses M) {start : M} (new : M) (read report more : List ℕ) (outside : List (List ℕ)) (place : Place M)
-    → Stands gives start read report outside place → Answers gives refuses start new false (read ++ more) (report ++ []) (outside ++ []) Memory
-stop_memory gives refuses new read report more outside place s =
-    rw (append-nil report, append-nil outside) (
-      place.state,
-      (s.front, place.pending ++ more, report, ran_more false read s.front place.pending report more outside place.state s.ran, ([], rw (append-nil report) refl)),
-    )
+pub stop_memory : {M : Type 0} (gives : Gives M) (refuses : Refuses M) {start : M} (read report more : List ℕ) (outside : List (List ℕ)) (place : Place M)
+    → Stands gives start read report outside place → Answers gives refuses start place.state false (read ++ more) (report ++ []) (outside ++ []) Memory
+stop_memory gives refuses read report more outside place s =
+    rw (append-nil report, append-nil outside)
+    (s.front, place.pending ++ more, report, ran_more false read s.front place.pending report more outside place.state s.ran, ([], rw (append-nil report) refl))

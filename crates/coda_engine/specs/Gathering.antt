@@ -24,7 +24,7 @@ abbrev pub Gathers : {M : Type 0} → Gives M → Option (List ℕ) → Option (
 Gathers gives held_old held_new waiting_old waiting_new old bytes new =
     (sent : List ℕ) × Appends held_old held_new sent × Advances gives (Some waiting_old) (Some (sent ++ waiting_new)) old bytes new
 
--- The run ended among these further bytes, and left the machine at new. Of the replies that were gathered none is lost, and at a
+-- The run ended among these further bytes, with the machine at new after the last line that ran. Of the replies that were gathered none is lost, and at a
 -- fault of the bay none waits. Or the lines among the first of these bytes ran, and what had to be written behind them still waits.
 abbrev pub Halts : {M : Type 0} → Gives M → Refuses M → Option (List ℕ) → Option (List ℕ) → List ℕ → List ℕ → Place M → M → List ℕ → Status → Type 0
 Halts {M} gives refuses held_old held_new waiting_old waiting_new old new bytes status =

@@ -8,15 +8,15 @@ use Rattle.coda_engine.specs.Run.{Ran, BrokeOff, Answers}
 use Rattle.coda_engine.specs.declared.status.Status.{Status}
 use Rattle.coda_engine.specs.declared.status.Status.TheVariants.{Done, Usage, Script, SourceFault, SinkFault, TooLong, BayFault, Memory}
 
--- The line with this number may end the run that was at old and is at new, with this status.
+-- The line with this number may end the run that was at old and is at new after the last line that ran, with this status.
 abbrev pub LineStops : {M : Type 0} → Gives M → Refuses M → Option (List ℕ) → Option (List ℕ) → M → M → List ℕ → ℕ → Status → Type 0
 LineStops gives refuses held_old held_new old new line number (Script at column kind) =
     Appends held_old held_new [] × (at ≡ number) × refuses old line column kind × (new ≡ old)
 LineStops gives refuses held_old held_new old new line number SinkFault =
     (part : List ℕ) × (missing : List ℕ) × (answered : List (List ℕ)) × gives old line (part ++ missing) answered new × (missing ≢ [])
     × Appends held_old held_new part
-LineStops gives refuses held_old held_new old new line number BayFault = Appends held_old held_new []
-LineStops gives refuses held_old held_new old new line number Memory = Appends held_old held_new []
+LineStops gives refuses held_old held_new old new line number BayFault = Appends held_old held_new [] × (new ≡ old)
+LineStops gives refuses held_old held_new old new line number Memory = Appends held_old held_new [] × (new ≡ old)
 LineStops gives refuses held_old held_new old new line number Done = ⊥
 LineStops gives refuses held_old held_new old new line number Usage = ⊥
 LineStops gives refuses held_old held_new old new line number SourceFault = ⊥
@@ -67,7 +67,7 @@ StopsAmong gives refuses most start new read written outside TooLong = Answers g
 StopsAmong gives refuses most start new read written outside BayFault = Answers gives refuses start new false read written outside BayFault
 StopsAmong gives refuses most start new read written outside Memory = Answers gives refuses start new false read written outside Memory
 
--- The run ended among these further bytes, and left the machine at new. Where the sink refused, at most so many bytes are missing of
+-- The run ended among these further bytes, with the machine at new after the last line that ran. Where the sink refused, at most so many bytes are missing of
 -- the replies to the lines before the last.
 abbrev pub Stops : {M : Type 0} → Gives M → Refuses M → ℕ → Option (List ℕ) → Option (List ℕ) → Place M → M → List ℕ → Status → Type 0
 Stops {M} gives refuses most held_old held_new old new bytes status =
@@ -75,7 +75,7 @@ Stops {M} gives refuses most held_old held_new old new bytes status =
     × ((start : M) (read report : List ℕ) (outside : List (List ℕ)) → Stands gives start read report outside old
     → StopsAmong gives refuses most start new (read ++ bytes) (report ++ text) (outside ++ answered) status)
 
--- The input ended here, and the run left the machine at new.
+-- The input ended here, and the machine was at new after the last line that ran.
 abbrev pub Ends : {M : Type 0} → Gives M → Refuses M → Option (List ℕ) → Option (List ℕ) → Place M → M → Status → Type 0
 Ends {M} gives refuses held_old held_new old new status =
     (text : List ℕ) × (answered : List (List ℕ)) × Appends held_old held_new text

@@ -39,7 +39,7 @@ IsPassed front rest =
 abbrev pub IsPrefix : List ℕ → List ℕ → Type 0
 IsPrefix text whole = (rest : List ℕ) × (whole ≡ text ++ rest)
 
--- What was written is a prefix of the report of whole lines that were read, and the machine is in this state after them.
+-- What was written is a prefix of the report of whole lines that were read, and the machine was in this state after them.
 abbrev pub IsCutShort : {M : Type 0} → Gives M → M → M → Bool → List ℕ → List ℕ → List (List ℕ) → Type 0
 IsCutShort gives start new all read written outside =
     (front : List ℕ) × (rest : List ℕ) × (report : List ℕ) × Ran gives start all read front rest report outside new × IsPrefix written report
@@ -66,8 +66,8 @@ pub record BrokeOff {M : Type 0} (gives : Gives M) (start : M) (all : Bool) (rea
   pub late : length report ≤ length written + 65536
   pub said : outside ≡ answers ++ answered
 
--- A run from start that left new, read these bytes, which may be all there are, wrote these, and had these answers of the
--- outside may have this status.
+-- A run from start that was at new after the last line that ran, read these bytes, which may be all there are, wrote these, and had
+-- these answers of the outside may have this status.
 abbrev pub Answers : {M : Type 0} → Gives M → Refuses M → M → M → Bool → List ℕ → List ℕ → List (List ℕ) → Status → Type 0
 -- every line ran, and the whole report was written
 Answers gives refuses start new all read written outside Done = IsTrue all × Ran gives start all read read [] written outside new
@@ -84,12 +84,11 @@ Answers gives refuses start new all read written outside SourceFault =
 -- some whole lines ran, and not all of their report was written
 Answers gives refuses start new all read written outside SinkFault =
     (front : List ℕ) × (rest : List ℕ) × BrokeOff gives start all read front rest written outside new
--- all lines before the one at which the bay was at fault ran, and all of their report was written; what that line left of the
--- machine isn't said
-Answers {M} gives refuses start new all read written outside BayFault =
-    (state : M) × (front : List ℕ) × (rest : List ℕ) × (line : List ℕ) × Ran gives start false read front rest written outside state × IsNext all front rest line
--- some whole lines ran; what the machine is after the line that found no memory isn't said
-Answers {M} gives refuses start new all read written outside Memory = (state : M) × IsCutShort gives start state all read written outside
+-- all lines before the one at which the bay was at fault ran, and all of their report was written
+Answers gives refuses start new all read written outside BayFault =
+    (front : List ℕ) × (rest : List ℕ) × (line : List ℕ) × Ran gives start false read front rest written outside new × IsNext all front rest line
+-- some whole lines ran, and a prefix of their report was written
+Answers gives refuses start new all read written outside Memory = IsCutShort gives start new all read written outside
 -- a run has other statuses
 Answers gives refuses start new all read written outside Usage = ⊥
 
@@ -99,8 +98,8 @@ is_at_end None = true
 is_at_end (Some []) = true
 is_at_end (Some (b ∷ bs)) = false
 
--- What a run from start to new took from the source and gave to the sink, where these tell it, and what the outside
--- answered, fit its status; and it took no byte behind the first that passes the limit.
+-- What a run from start that was at new after the last line that ran took from the source and gave to the sink, where these tell
+-- it, and what the outside answered, fit its status; and it took no byte behind the first that passes the limit.
 abbrev pub Reports : {M : Type 0} → Gives M → Refuses M → M → M → Option (List ℕ) → Option (List ℕ) → Option (List ℕ) → Option (List ℕ) → List (List ℕ) → Status → Type 0
 Reports gives refuses start new left_old left_new held_old held_new outside status =
     (read : List ℕ) × (written : List ℕ) × Consumes left_old left_new read × Appends held_old held_new written

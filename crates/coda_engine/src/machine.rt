@@ -41,6 +41,12 @@ pub trait Machine {
     // How many calls the bay refused, up to the end of the count's type.
     ghost faults: { Self → ℕ };
 
+    // The line may ask the bay.
+    ghost asks: { List ℕ → Type 0 };
+
+    // What a line at which the bay was at fault leaves: the first is the state before it.
+    ghost breaks: { Self → Self → Type 0 };
+
     // After so many lines the machine may run another.
     ghost ready: { Self → ℕ → Type 0 };
 
@@ -53,14 +59,14 @@ pub trait Machine {
     ///
     /// # Errors
     ///
-    /// `Refused` where the machine refuses the line, and `Unwritten` where replies must be written before it; nothing has
-    /// changed then. `Bay` where the bay refused a call: its count of faults rose, and no reply waited. `Memory` where there
-    /// was no memory.
+    /// `Refused` where the machine refuses the line, and `Unwritten` where replies must be written before it, since it may
+    /// ask the bay; nothing has changed then. `Bay` where the bay refused a call: its count of faults rose, and no reply
+    /// waited. `Memory` where there was no memory.
     fn run(&mut self, alloc: Global, line: &[u8], waits: bool) -> Result<Vec<u8>, LineStop>
         requires { (lines : ℕ) × (lines ≤ 16777216) × ready self.old lines }
         ensures ready { OnOk result ((lines : ℕ) → ready self.old lines → ready self.new (lines + 1)) }
         ensures ok { IfOk result (λ text. (outside : List (List ℕ)) × gives self.old line.now text.items outside self.new) }
-        ensures reason { IfErr result (HasReason refuses self.old line.now waits self.new) }
+        ensures reason { IfErr result (HasReason refuses asks breaks self.old line.now waits self.new) }
         ensures later { faults self.old ≤ faults self.new }
         ensures follows { follows self.old self.new }
         ensures bay_fault { result ≡ Err LineStop.Bay → Rose (faults self.old) (faults self.new) };

@@ -4,7 +4,7 @@ ghost use Rattle.coda_engine.specs.Lines.{HasNoNewline};
 ghost use Rattle.std.specs.Str.Lines.{strip_carriage_return};
 ghost use Rattle.coda_io.specs.Faults.{Rose};
 ghost use Rattle.coda_engine.specs.Gathering.{Forwards, LineHalts};
-ghost use Rattle.coda_engine.specs.Machine.{IsStopped};
+ghost use Rattle.coda_engine.specs.Machine.{IsStopped, Leaves};
 ghost use Rattle.coda_engine.specs.Waiting.{waiting};
 
 use crate::gathering::Gathered;
@@ -66,7 +66,7 @@ fn answer_of<M: Machine, K: Sink>(
     ensures ready { OnOk result ((lines : ℕ) → M.ready machine.old lines → M.ready machine.new (lines + 1)) }
     ensures sent { Forwards (K.held sink.old) (K.held sink.new) (waiting gathered.old) (waiting gathered.new) [] }
     ensures ok { IfOk result (λ text. (outside : List (List ℕ)) × M.gives machine.old line.now text.items outside machine.new) }
-    ensures stops { IfErr result (IsStopped M.refuses (waiting gathered.new) machine.old machine.new line.now) }
+    ensures stops { IfErr result (IsStopped M.refuses M.breaks (waiting gathered.new) machine.old machine.new line.now) }
     ensures later { K.faults sink.old ≤ K.faults sink.new }
     ensures sink_fault { result ≡ Err LineStop.Unwritten → Rose (K.faults sink.old) (K.faults sink.new) }
     ensures bay_later { M.faults machine.old ≤ M.faults machine.new }
@@ -95,7 +95,7 @@ fn run_line<M: Machine, K: Sink>(
     ensures ready { OnOk result ((lines : ℕ) → M.ready machine.old lines → M.ready machine.new (lines + 1)) }
     ensures ok { OnOk result ((text : List ℕ) × (answered : List (List ℕ)) × Forwards (K.held sink.old) (K.held sink.new) (waiting gathered.old) (waiting gathered.new) text
         × M.gives machine.old line.now text answered machine.new) }
-    ensures stops { IfErr result (LineHalts M.gives M.refuses (K.held sink.old) (K.held sink.new) (waiting gathered.old) (waiting gathered.new) machine.old machine.new line.now number) }
+    ensures stops { IfErr result (λ status. (end : M) × LineHalts M.gives M.refuses (K.held sink.old) (K.held sink.new) (waiting gathered.old) (waiting gathered.new) machine.old end line.now number status × Leaves M.breaks end machine.new status) }
     ensures later { K.faults sink.old ≤ K.faults sink.new }
     ensures sink_fault { result ≡ Err Status.SinkFault → Rose (K.faults sink.old) (K.faults sink.new) }
     ensures bay_later { M.faults machine.old ≤ M.faults machine.new }
@@ -124,6 +124,7 @@ impl Reader {
     ghost use Rattle.coda_io.specs.Faults.{Rose};
     ghost use Rattle.coda_engine.specs.Reading.{HasRoom, IsFull, Advances, Stops, Ends};
     ghost use Rattle.coda_engine.specs.Gathering.{Gathers, Halts};
+    ghost use Rattle.coda_engine.specs.Machine.{Leaves};
     ghost use Rattle.coda_engine.specs.Place.{place};
     ghost use Rattle.coda_engine.specs.Waiting.{waiting};
 
@@ -169,7 +170,7 @@ impl Reader {
         requires ready { M.ready machine.old self.old.lines }
         ensures ready { OnOk result (M.ready machine.new self.new.lines) }
         ensures ok { OnOk result (Gathers M.gives (K.held sink.old) (K.held sink.new) (waiting gathered.old) (waiting gathered.new) (place machine.old self.old) (10 ∷ []) (place machine.new self.new)) }
-        ensures stops { IfErr result (Halts M.gives M.refuses (K.held sink.old) (K.held sink.new) (waiting gathered.old) (waiting gathered.new) (place machine.old self.old) machine.new (10 ∷ [])) }
+        ensures stops { IfErr result (λ status. (end : M) × Halts M.gives M.refuses (K.held sink.old) (K.held sink.new) (waiting gathered.old) (waiting gathered.new) (place machine.old self.old) end (10 ∷ []) status × Leaves M.breaks end machine.new status) }
         ensures later { K.faults sink.old ≤ K.faults sink.new }
         ensures sink_fault { result ≡ Err Status.SinkFault → Rose (K.faults sink.old) (K.faults sink.new) }
         ensures bay_later { M.faults machine.old ≤ M.faults machine.new }
@@ -195,7 +196,7 @@ impl Reader {
         requires { M.ready machine.old self.old.lines }
         ensures ready { OnOk result (M.ready machine.new self.new.lines) }
         ensures ok { OnOk result (Gathers M.gives (K.held sink.old) (K.held sink.new) (waiting gathered.old) (waiting gathered.new) (place machine.old self.old) (byte ∷ []) (place machine.new self.new)) }
-        ensures stops { IfErr result (Halts M.gives M.refuses (K.held sink.old) (K.held sink.new) (waiting gathered.old) (waiting gathered.new) (place machine.old self.old) machine.new (byte ∷ [])) }
+        ensures stops { IfErr result (λ status. (end : M) × Halts M.gives M.refuses (K.held sink.old) (K.held sink.new) (waiting gathered.old) (waiting gathered.new) (place machine.old self.old) end (byte ∷ []) status × Leaves M.breaks end machine.new status) }
         ensures later { K.faults sink.old ≤ K.faults sink.new }
         ensures sink_fault { result ≡ Err Status.SinkFault → Rose (K.faults sink.old) (K.faults sink.new) }
         ensures bay_later { M.faults machine.old ≤ M.faults machine.new }
@@ -254,7 +255,7 @@ impl Reader {
         ensures within { IfOk result (λ count. count ≤ length piece.now) }
         ensures ready { OnOk result (M.ready machine.new self.new.lines) }
         ensures ok { IfOk result (λ count. Gathers M.gives (K.held sink.old) (K.held sink.new) (waiting gathered.old) (waiting gathered.new) (place machine.old self.old) (take count piece.now) (place machine.new self.new)) }
-        ensures stops { IfErr result (Halts M.gives M.refuses (K.held sink.old) (K.held sink.new) (waiting gathered.old) (waiting gathered.new) (place machine.old self.old) machine.new piece.now) }
+        ensures stops { IfErr result (λ status. (end : M) × Halts M.gives M.refuses (K.held sink.old) (K.held sink.new) (waiting gathered.old) (waiting gathered.new) (place machine.old self.old) end piece.now status × Leaves M.breaks end machine.new status) }
         ensures later { K.faults sink.old ≤ K.faults sink.new }
         ensures sink_fault { IsErrOf result Status.SinkFault → Rose (K.faults sink.old) (K.faults sink.new) }
         ensures bay_later { M.faults machine.old ≤ M.faults machine.new }
@@ -283,7 +284,7 @@ impl Reader {
         requires { M.ready machine.old self.old.lines }
         ensures ready { OnOk result (M.ready machine.new self.new.lines) }
         ensures ok { OnOk result (Gathers M.gives (K.held sink.old) (K.held sink.new) (waiting gathered.old) (waiting gathered.new) (place machine.old self.old) piece.now (place machine.new self.new)) }
-        ensures stops { IfErr result (Halts M.gives M.refuses (K.held sink.old) (K.held sink.new) (waiting gathered.old) (waiting gathered.new) (place machine.old self.old) machine.new piece.now) }
+        ensures stops { IfErr result (λ status. (end : M) × Halts M.gives M.refuses (K.held sink.old) (K.held sink.new) (waiting gathered.old) (waiting gathered.new) (place machine.old self.old) end piece.now status × Leaves M.breaks end machine.new status) }
         ensures later { K.faults sink.old ≤ K.faults sink.new }
         ensures sink_fault { result ≡ Err Status.SinkFault → Rose (K.faults sink.old) (K.faults sink.new) }
         ensures bay_later { M.faults machine.old ≤ M.faults machine.new }
@@ -311,7 +312,7 @@ impl Reader {
         requires { M.ready machine.old self.old.lines }
         ensures ready { OnOk result (M.ready machine.new self.new.lines) }
         ensures ok { OnOk result (Advances M.gives (K.held sink.old) (K.held sink.new) (place machine.old self.old) piece.now (place machine.new self.new)) }
-        ensures stops { IfErr result (Stops M.gives M.refuses 65536 (K.held sink.old) (K.held sink.new) (place machine.old self.old) machine.new piece.now) }
+        ensures stops { IfErr result (λ status. (end : M) × Stops M.gives M.refuses 65536 (K.held sink.old) (K.held sink.new) (place machine.old self.old) end piece.now status × Leaves M.breaks end machine.new status) }
         ensures later { K.faults sink.old ≤ K.faults sink.new }
         ensures sink_fault { result ≡ Err Status.SinkFault → Rose (K.faults sink.old) (K.faults sink.new) }
         ensures bay_later { M.faults machine.old ≤ M.faults machine.new }
@@ -331,7 +332,7 @@ impl Reader {
     /// Ends the script: runs a last line that has no newline, and writes its reply.
     pub fn finish<M: Machine, K: Sink>(self, machine: &mut M, sink: &mut K) -> Status
         requires { M.ready machine.old self.lines }
-        ensures ends { Ends M.gives M.refuses (K.held sink.old) (K.held sink.new) (place machine.old self) machine.new result }
+        ensures ends { (end : M) × Ends M.gives M.refuses (K.held sink.old) (K.held sink.new) (place machine.old self) end result × Leaves M.breaks end machine.new result }
         ensures no_source_fault { result ≡ Status.SourceFault → ⊥ }
         ensures later { K.faults sink.old ≤ K.faults sink.new }
         ensures sink_fault { result ≡ Status.SinkFault → Rose (K.faults sink.old) (K.faults sink.new) }

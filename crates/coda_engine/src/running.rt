@@ -1,6 +1,7 @@
 // The run of a script.
 ghost use Rattle.std.specs.Prelude.{◌≡◌, ◌<◌, ◌≤◌, ℕ, List, vec_len, length, IfOk};
 ghost use Rattle.coda_io.specs.Faults.{Rose};
+ghost use Rattle.coda_engine.specs.Machine.{Leaves};
 ghost use Rattle.coda_engine.specs.Run.{Reports};
 
 use crate::machine::Machine;
@@ -28,7 +29,7 @@ fn run_pieces<M: Machine, S: Source, K: Sink>(
 ) -> Status
     requires some { 0 < length buffer.old }
     requires ready { M.ready machine.old 0 }
-    ensures report { (outside : List (List ℕ)) × Reports M.gives M.refuses machine.old machine.new (S.left source.old) (S.left source.new) (K.held sink.old) (K.held sink.new) outside result }
+    ensures report { (outside : List (List ℕ)) × (end : M) × Reports M.gives M.refuses machine.old end (S.left source.old) (S.left source.new) (K.held sink.old) (K.held sink.new) outside result × Leaves M.breaks end machine.new result }
     ensures source_fault { result ≡ Status.SourceFault → Rose (S.faults source.old) (S.faults source.new) }
     ensures sink_fault { result ≡ Status.SinkFault → Rose (K.faults sink.old) (K.faults sink.new) }
     ensures source_later { S.faults source.old ≤ S.faults source.new }
@@ -56,7 +57,8 @@ fn run_pieces<M: Machine, S: Source, K: Sink>(
 /// Runs the script that the source gives over a machine, and writes the replies to the sink.
 ///
 /// The status says how the run ended, and what was read, run and written then; `Usage` is never answered. The machine is
-/// left in the state that it was in after the last line that ran, except at `BayFault` and `Memory`.
+/// left in the state that it was in after the last line that ran; at `BayFault` in what the line at fault made of that one.
+/// Of `Memory` that isn't said.
 pub fn run<M: Machine, S: Source, K: Sink>(
     alloc: Global,
     machine: &mut M,
@@ -64,7 +66,7 @@ pub fn run<M: Machine, S: Source, K: Sink>(
     sink: &mut K,
 ) -> Status
     requires { M.ready machine.old 0 }
-    ensures report { (outside : List (List ℕ)) × Reports M.gives M.refuses machine.old machine.new (S.left source.old) (S.left source.new) (K.held sink.old) (K.held sink.new) outside result }
+    ensures report { (outside : List (List ℕ)) × (end : M) × Reports M.gives M.refuses machine.old end (S.left source.old) (S.left source.new) (K.held sink.old) (K.held sink.new) outside result × Leaves M.breaks end machine.new result }
     ensures source_fault { result ≡ Status.SourceFault → Rose (S.faults source.old) (S.faults source.new) }
     ensures sink_fault { result ≡ Status.SinkFault → Rose (K.faults sink.old) (K.faults sink.new) }
     ensures source_later { S.faults source.old ≤ S.faults source.new }

@@ -16,8 +16,10 @@ returns-in-Ok-eq0-clause-report g c =
     let room = length-take-le c.room-room.result c.loop-reader.buffer c.room-room.ensures.within in
     let zero : c.in-Ok-eq0.field-0 ≡ 0 = search rules in
     let Took : ℕ → Type 0 = λ n. Consumes (g.S.Source.left c.loop-reader.source) (g.S.Source.left c.read.new.self) (take n c.read.new.buf) in
-    goes_end g.M.Machine.gives g.M.Machine.refuses c.args.machine.now _ _ _ _ _ _ _ (place c.loop-reader.machine c.loop-reader.reader) _ c.loop-reader.invariant.0
-    (subst Took zero bytes.0) (bytes.1 zero (omega (arith, room, c.room-room.ensures.some, c.read.auto.buf))) c.finish.ensures.ends
+    let ends = c.finish.ensures.ends in
+    let report = goes_end g.M.Machine.gives g.M.Machine.refuses c.args.machine.now ends.0 _ _ _ _ _ _ (place c.loop-reader.machine c.loop-reader.reader) _ c.loop-reader.invariant.0
+    (subst Took zero bytes.0) (bytes.1 zero (omega (arith, room, c.room-room.ensures.some, c.read.auto.buf))) ends.1 in
+    (report.0, ends.0, report.1, ends.2)
 
 pub loop-reader-smaller : goal.loop-reader-smaller
 loop-reader-smaller g c =
@@ -43,8 +45,10 @@ returns-in-Err-feed-clause-report g c =
     let whole : c.in-Ok.count ≤ length c.read.new.buf = c.in-Ok.ensures.bound.0 in
     let taken = length-take-le c.in-Ok.count c.read.new.buf whole in
     let room = length-take-le c.room-room.result c.loop-reader.buffer c.room-room.ensures.within in
-    goes_stop g.M.Machine.gives g.M.Machine.refuses c.args.machine.now _ _ _ _ _ _ _ (place c.loop-reader.machine c.loop-reader.reader) _ _ c.loop-reader.invariant.0 c.in-Ok.ensures.bytes.0 (omega (arith, taken, whole, room, c.room-room.ensures.few, c.read.auto.buf)) c.in-Err-feed.ensures.stops
+    let stops = c.in-Err-feed.ensures.stops in
+    let report = goes_stop g.M.Machine.gives g.M.Machine.refuses c.args.machine.now stops.0 _ _ _ _ _ _ (place c.loop-reader.machine c.loop-reader.reader) _ _ c.loop-reader.invariant.0 c.in-Ok.ensures.bytes.0 (omega (arith, taken, whole, room, c.room-room.ensures.few, c.read.auto.buf)) stops.1 in
+    (report.0, stops.0, report.1, stops.2)
 
 pub returns-in-Err-feed-clause-source_fault : goal.returns-in-Err-feed-clause-source_fault
 returns-in-Err-feed-clause-source_fault g c =
-    λ e. absurd (goes_no_source_fault g.M.Machine.gives g.M.Machine.refuses c.args.machine.now _ _ _ _ _ _ (place c.loop-reader.machine c.loop-reader.reader) _ _ c.loop-reader.invariant.0 c.in-Err-feed.ensures.stops e)
+    λ e. absurd (goes_no_source_fault g.M.Machine.gives g.M.Machine.refuses c.args.machine.now _ _ _ _ _ _ (place c.loop-reader.machine c.loop-reader.reader) _ _ c.loop-reader.invariant.0 c.in-Err-feed.ensures.stops.1 e)

@@ -8,9 +8,13 @@ use Rattle.coda_engine.proofs.reader.Reader.end_line.Goals as goal
 pub returns-in_err-run_line-clause-stops : goal.returns-in_err-run_line-clause-stops
 returns-in_err-run_line-clause-stops g c =
     let p = err_from_is_err_and c.from_residual.result c.from_residual.ensures.1 in
-    rw (p.1, p.2)
-    (line_halts g.M.Machine.gives g.M.Machine.refuses _ _ _ _ (place c.args.machine.now c.args.self.now) _ _ c.requires.room
-    (rw (c.without_carriage_return-line.ensures, c.deref.ensures.value) at c.in_err-run_line.ensures.stops))
+    let stops = c.in_err-run_line.ensures.stops in
+    rw (p.1, p.2) (
+      stops.0,
+      line_halts g.M.Machine.gives g.M.Machine.refuses _ _ _ _ (place c.args.machine.now c.args.self.now) _ _ c.requires.room
+          (rw (c.without_carriage_return-line.ensures, c.deref.ensures.value) at stops.1),
+      stops.2,
+    )
 
 pub returns-clause-ok : goal.returns-clause-ok
 returns-clause-ok g c =

@@ -27,8 +27,12 @@ returns-in_err-at-clause-stops g c =
     let piece = c.args.piece.now in
     let at = c.loop-at.at in
     let p = err_from_is_err_and c.from_residual.result c.from_residual.ensures.1 in
-    rw (p.1, p.2)
-    (gathers_stop g.M.Machine.gives g.M.Machine.refuses _ _ _ _ _ _ (place c.args.machine.now c.args.self.now) (place c.loop-at.machine c.loop-at.self) _ (take at piece) _ [] piece _ c.loop-at.invariant.1 c.in_err-at.ensures.stops (rw (take_rest piece at) (all_parts at piece)))
+    let stops = c.in_err-at.ensures.stops in
+    rw (p.1, p.2) (
+      stops.0,
+      gathers_stop g.M.Machine.gives g.M.Machine.refuses _ _ _ _ _ _ (place c.args.machine.now c.args.self.now) (place c.loop-at.machine c.loop-at.self) _ (take at piece) _ [] piece _ c.loop-at.invariant.1 stops.1 (rw (take_rest piece at) (all_parts at piece)),
+      stops.2,
+    )
 
 pub returns-clause-ok : goal.returns-clause-ok
 returns-clause-ok g c =

@@ -3,7 +3,8 @@ use Rattle.std.proofs.lemmas.List.{length-take}
 use Rattle.std.proofs.lemmas.Result.{err_from_is_err_and}
 use Rattle.coda_engine.specs.Gathering.{Gathers}
 use Rattle.coda_engine.specs.Place.{place}
-use Rattle.coda_engine.proofs.Forwarding.{gathers_none, gathers_stop, memory_halts}
+use Rattle.coda_engine.specs.declared.status.Status.TheVariants.{Memory}
+use Rattle.coda_engine.proofs.Forwarding.{gathers_none, gathers_stop, leaves_same, memory_halts}
 use Rattle.coda_engine.proofs.Fronts.{behind, front_gathers, first_and_rest}
 use Rattle.coda_engine.proofs.reader.Reader.take_next.Goals as goal
 
@@ -11,9 +12,13 @@ use Rattle.coda_engine.proofs.reader.Reader.take_next.Goals as goal
 pub returns-in_err-take_byte-clause-stops : goal.returns-in_err-take_byte-clause-stops
 returns-in_err-take_byte-clause-stops g c =
     let p = err_from_is_err_and c.from_residual.result c.from_residual.ensures.1 in
-    rw (p.1, p.2)
-    (gathers_stop g.M.Machine.gives g.M.Machine.refuses _ _ _ _ _ _ (place c.args.machine.now c.args.self.now) (place c.args.machine.now c.args.self.now) _ [] _ (drop 1 c.args.piece.now) c.args.piece.now _
-    (gathers_none _ _ (place c.args.machine.now c.args.self.now)) c.in_err-take_byte.ensures.stops (first_and_rest c.args.piece.now c.requires.some))
+    let stops = c.in_err-take_byte.ensures.stops in
+    rw (p.1, p.2) (
+      stops.0,
+      gathers_stop g.M.Machine.gives g.M.Machine.refuses _ _ _ _ _ _ (place c.args.machine.now c.args.self.now) (place c.args.machine.now c.args.self.now) _ [] _ (drop 1 c.args.piece.now) c.args.piece.now _
+          (gathers_none _ _ (place c.args.machine.now c.args.self.now)) stops.1 (first_and_rest c.args.piece.now c.requires.some),
+      stops.2,
+    )
 
 -- src/reader.rt:204:5
 pub returns-in-Ok-clause-ok : goal.returns-in-Ok-clause-ok
@@ -27,4 +32,5 @@ returns-in-Ok-clause-ok g c =
 
 -- src/reader.rt:204:5
 pub returns-in-Err-clause-stops : goal.returns-in-Err-clause-stops
-returns-in-Err-clause-stops g c = memory_halts g.M.Machine.gives g.M.Machine.refuses _ _ (place c.args.machine.now c.args.self.now) c.args.machine.now _
+returns-in-Err-clause-stops g c =
+    (c.args.machine.now, memory_halts g.M.Machine.gives g.M.Machine.refuses _ _ (place c.args.machine.now c.args.self.now) _, leaves_same c.args.machine.now Memory (λ e. cc))
