@@ -18,8 +18,7 @@ returns-in-Ok-clause-stops g c =
     let bytes = c.deref.result.now in
     let ok = c.in-Ok.ensures.ok in
     let Did : List ℕ → Type 0 = λ text. g.M.Machine.gives c.args.machine.now c.args.line.now text ok.0 c.answer_of.new.machine in
-    let forwards = forwards_more _ _ _ _ _ _ [] _ c.answer_of.ensures.sent e.2 in
-    (
+    let forwards = forwards_more _ _ _ _ _ _ [] _ c.answer_of.ensures.sent e.2 in (
       c.answer_of.new.machine,
       inl (
         forwards.0,

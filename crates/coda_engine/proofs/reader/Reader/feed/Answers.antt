@@ -9,8 +9,7 @@ returns-in-Ok-flush-clause-ok g c =
 
 pub returns-in-Ok-clause-stops : goal.returns-in-Ok-clause-stops
 returns-in-Ok-clause-stops g c =
-    let left = c.flush.new.self in
-    (
+    let left = c.flush.new.self in (
       c.take.new.machine,
       flush_stops g.M.Machine.gives g.M.Machine.refuses _ _ _ _ _ _ (place c.args.machine.now c.args.self.now) (place c.take.new.machine c.take.new.self) _ c.new-gathered.ensures c.in-Ok.ensures.ok c.flush.ensures.sent c.in-Err-flush.ensures.err (few_wait left.bytes.items left.taken _ left.bytes.ok.0 left.few),
       leaves_same c.take.new.machine SinkFault (λ e. cc),

@@ -14,8 +14,7 @@ pub returns-in-Ok-clause-ends : goal.returns-in-Ok-clause-ends
 returns-in-Ok-clause-ends g c =
     let ok = c.in-Ok.ensures.ok in
     let Gives : List ℕ → Type 0 = λ line. g.M.Machine.gives c.args.machine.now line ok.0 ok.1 c.run_line.new.machine in
-    let some : c.args.self.pending.items ≢ [] = λ none. some_of c.as_slice-line.result.now c.if-is_empty.ensures (c.as_slice-line.ensures.value ∙ none) in
-    (
+    let some : c.args.self.pending.items ≢ [] = λ none. some_of c.as_slice-line.result.now c.if-is_empty.ensures (c.as_slice-line.ensures.value ∙ none) in (
       c.run_line.new.machine,
       line_ends g.M.Machine.gives g.M.Machine.refuses _ _ _ _ _ _ (place c.args.machine.now c.args.self) ok.0 ok.1 _ _ some c.new-gathered.ensures ok.2 (subst Gives c.as_slice-line.ensures.value ok.3) c.close.ensures.sent c.close.ensures.closes,
       closed_leaves c.run_line.new.machine c.run_line.new.machine [] _ Done _ c.close.ensures.closes (leaves_same c.run_line.new.machine Done (λ e. cc)),
