@@ -1,4 +1,4 @@
-use Rattle.std.proofs.Common.{◌≡◌, ℕ, List, [], length, sym, ap, subst, ◌∙◌, take, drop, arith, inl, inr, refl}
+use Rattle.std.proofs.Common.{ℕ, List, [], length, sym, ap, subst, ◌∙◌, take, drop, arith, inl, inr, refl}
 use Rattle.std.proofs.lemmas.List.{take-append-drop, length-drop}
 use Rattle.coda_engine.specs.declared.status.Status.TheVariants.{SinkFault}
 use Rattle.coda_engine.proofs.Forwarding.{forwards_more, leaves_same}
