@@ -1,5 +1,5 @@
--- What a report that doesn't end in want of memory or a fault of the bay tells of a run of lines.
-use Rattle.std.proofs.Common.{◌≢◌, ℕ, Bool, List, refl}
+-- What a report tells of a run of lines.
+use Rattle.std.proofs.Common.{ℕ, Bool, List}
 use Rattle.std.specs.Prelude.{Option}
 use Rattle.coda_engine.specs.Machine.{Gives, Refuses}
 use Rattle.coda_engine.specs.Run.{Runs, Answers, Reports, is_at_end}
@@ -15,17 +15,17 @@ pub record HaveRun {M : Type 0} (gives : Gives M) (start new : M) : Type 0 where
   pub runs : Runs gives start lines report outside new
 
 module _ {M : Type 0} (gives : Gives M) (refuses : Refuses M) (start new : M) where
-  answers_ran : (all : Bool) (read written : List ℕ) (outside : List (List ℕ)) (status : Status) → status ≢ Memory → status ≢ BayFault → Answers gives refuses start new all read written outside status → HaveRun gives start new
-  answers_ran all read written outside Done memory bay a = record { lines = _; report = _; outside = _; runs = a.1.runs }
-  answers_ran all read written outside Usage memory bay a = absurd a
-  answers_ran all read written outside (Script line column kind) memory bay a = record { lines = _; report = _; outside = _; runs = a.3.runs }
-  answers_ran all read written outside TooLong memory bay a = record { lines = _; report = _; outside = _; runs = a.2.runs }
-  answers_ran all read written outside SourceFault memory bay a = record { lines = _; report = _; outside = _; runs = a.2.runs }
-  answers_ran all read written outside SinkFault memory bay a =
+  answers_ran : (all : Bool) (read written : List ℕ) (outside : List (List ℕ)) (status : Status) → Answers gives refuses start new all read written outside status → HaveRun gives start new
+  answers_ran all read written outside Done a = record { lines = _; report = _; outside = _; runs = a.1.runs }
+  answers_ran all read written outside Usage a = absurd a
+  answers_ran all read written outside (Script line column kind) a = record { lines = _; report = _; outside = _; runs = a.3.runs }
+  answers_ran all read written outside TooLong a = record { lines = _; report = _; outside = _; runs = a.2.runs }
+  answers_ran all read written outside SourceFault a = record { lines = _; report = _; outside = _; runs = a.2.runs }
+  answers_ran all read written outside SinkFault a =
       let b = a.2 in record { lines = _; report = _; outside = _; runs = runs_more gives start b.state new b.before b.line b.report b.text b.answers b.answered b.runs b.did }
-  answers_ran all read written outside BayFault memory bay a = absurd (bay refl)
-  answers_ran all read written outside Memory memory bay a = absurd (memory refl)
+  answers_ran all read written outside BayFault a = record { lines = _; report = _; outside = _; runs = a.3.runs }
+  answers_ran all read written outside Memory a = record { lines = _; report = _; outside = _; runs = a.3.runs }
 
-  pub reports_ran : (left_old left_new held_old held_new : Option (List ℕ)) (outside : List (List ℕ)) (status : Status) → status ≢ Memory → status ≢ BayFault
+  pub reports_ran : (left_old left_new held_old held_new : Option (List ℕ)) (outside : List (List ℕ)) (status : Status)
       → Reports gives refuses start new left_old left_new held_old held_new outside status → HaveRun gives start new
-  reports_ran left_old left_new held_old held_new outside status memory bay r = answers_ran (is_at_end left_new) r.0 r.1 outside status memory bay r.4
+  reports_ran left_old left_new held_old held_new outside status r = answers_ran (is_at_end left_new) r.0 r.1 outside status r.4

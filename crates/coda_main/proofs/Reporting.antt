@@ -4,6 +4,7 @@ use Rattle.std.specs.Prelude.{Option}
 use Rattle.coda_disk.specs.Bays.{plus}
 use Rattle.coda_disk.specs.Told.{Told}
 use Rattle.coda_engine.proofs.Simulation.{reports_shown}
+use Rattle.coda_engine.specs.Machine.{Leaves}
 use Rattle.coda_engine.specs.Run.{Runs, Reports}
 use Rattle.coda_engine.specs.declared.status.Status.{Status}
 use Rattle.coda_engine.specs.declared.status.Status.TheVariants.{Usage, BayFault, Memory}
@@ -32,16 +33,22 @@ use Rattle.coda_main.specs.Later.{ShowsLater, LaterRefuses, MachineGives, IsRepo
 use Rattle.coda_main.specs.Shows.{Moment, Shows, MayGoOn}
 use Rattle.coda_main.proofs.Reaching.{reports_ran}
 use Rattle.coda_site.specs.Totals.{Counts}
-use Rattle.coda_main.specs.Counting.{CountsLine}
+use Rattle.coda_main.specs.Counting.{CountsFault, CountsLine}
 use Rattle.coda_main.specs.Tallies.{Tally, no_tally, TalliedCell, TalliedGives, TalliedRefuses}
-use Rattle.coda_main.proofs.Tallying.{IsTallied, both_shown, records_shown, cells_tallied, tallied_of}
+use Rattle.coda_main.proofs.Tallying.{IsTallied, tallied_left, both_shown, records_shown, cells_tallied, tallied_of}
 use Rattle.coda_main.proofs.Showing.{cells_go_on, lines_good, later_shown, held_shown}
 
-module _ {D M : Type 0} (new old : M) (told : D → Told) (at : M → Moment D) (counts : M → Counts) (left_old left_new held_old held_new : Option (List ℕ)) (outside : List (List ℕ)) (status : Status)
-    (reports : Reports (λ old line text outside new. MachineGives told (at old) line text outside (at new) × CountsLine told (at old) (counts old) line text outside (at new) (counts new)) (λ m line column kind. IsBadLine line column kind) old new left_old left_new held_old held_new outside status) where
+-- The machine was at old, at last after the last line that ran, and is at new.
+module _ {D M : Type 0} (new old last : M) (told : D → Told) (at : M → Moment D) (counts : M → Counts) (left_old left_new held_old held_new : Option (List ℕ)) (outside : List (List ℕ)) (status : Status)
+    (reports : Reports (λ old line text outside new. MachineGives told (at old) line text outside (at new) × CountsLine told (at old) (counts old) line text outside (at new) (counts new)) (λ m line column kind. IsBadLine line column kind) old last left_old left_new held_old held_new outside status)
+    (leaves : Leaves (λ a b. CountsFault (counts a) (counts b)) last new status) where
+  -- what holds of the last moment holds of what the run left
+  at_new : (P : Moment D → Type 0) → status ≢ Memory → status ≢ BayFault → P (at last) → P (at new)
+  at_new P memory bay = subst (λ m. P (at m)) (sym (leaves.same memory bay))
+
   -- Behind a run that wants no memory and met no fault of the bay, the site goes on.
   pub goes_on : MayGoOn told (at old) → status ≢ Memory → status ≢ BayFault → MayGoOn told (at new)
-  goes_on start = (reports_shown (cells_go_on told at counts) tt old new left_old left_new held_old held_new outside status start reports).2
+  goes_on start memory bay = at_new (MayGoOn told) memory bay (reports_shown (cells_go_on told at counts) tt old last left_old left_new held_old held_new outside status start reports).2
 
   -- What a run over disks that hold nothing tells, where the bay, once all is given back, stands for the cell that the run left, and its sums are the
   -- totals.
@@ -55,34 +62,27 @@ module _ {D M : Type 0} (new old : M) (told : D → Told) (at : M → Moment D) 
       let sums : Counts = record { faults = faults_old; arms = arms_old } in
       let shows : Shows told first (at old) = record { kept = stored_cells_are_kept.first; stands = site; answered = first_same } in
       let begins : IsTallied sums no_tally (counts old) = record { faults = omega (arith, f0); arms = a0 } in
-      let both = reports_shown (both_shown told at counts sums) entry old new left_old left_new held_old held_new outside status (shows, begins) reports in
+      let both = reports_shown (both_shown told at counts sums) entry old last left_old left_new held_old held_new outside status (shows, begins) reports in
       let shown = reports_shown records_shown first entry both.0 left_old left_new held_old held_new outside status refl both.1 in
       let tallies = reports_shown cells_tallied (tallied_of entry) entry both.0 left_old left_new held_old held_new outside status refl both.1 in
       let run = reports_tell_of_runs first shown.0 left_old left_new held_old held_new outside status stored_cells_are_kept.first shown.1 in
-      let same : status ≢ Memory → status ≢ BayFault → both.0.0.cell ≡ run.cell = (λ memory bay. ap (λ (r : Recorded). r.cell) (sym (shown.2 memory bay)) ∙ run.same memory bay) in record {
+      let same : both.0.0.cell ≡ run.cell = ap (λ (r : Recorded). r.cell) (sym shown.2) ∙ run.same in
+      let ran = reports_ran LineGives LineRefused nothing_stored run.cell left_old left_new held_old held_new outside status run.reports in record {
         cell = run.cell;
         outside = outside;
         reports = run.reports;
         has_run = run.has_run;
-        answered = λ memory bay. last_same ∙ (both.2 memory bay).0.answered ∙ ap (λ (r : Recorded). r.answered) (sym (shown.2 memory bay)) ∙ run.answered memory bay;
-        on_disks = λ memory bay. subst (AreOnDisks told has) (same memory bay) (closes (goes_on start memory bay) both.0.0.cell (both.2 memory bay).0.stands);
-        resumable = λ memory bay.
-            let ran = reports_ran LineGives LineRefused nothing_stored run.cell left_old left_new held_old held_new outside status memory bay run.reports in
-            (always_kept ran.lines ran.report ran.outside run.cell ran.runs, what_ran_can_be_resumed ran.lines ran.report ran.outside run.cell ran.runs);
-        held = λ memory bay.
-            let ran = reports_ran LineGives LineRefused nothing_stored run.cell left_old left_new held_old held_new outside status memory bay run.reports in
-            what_ran_is_held ran.lines ran.report ran.outside run.cell ran.runs;
-        own = λ memory bay.
-            let ran = reports_ran LineGives LineRefused nothing_stored run.cell left_old left_new held_old held_new outside status memory bay run.reports in
-            scripts_learn_of_their_own ran.lines ran.report ran.outside run.cell ran.runs;
-        acted = λ memory bay.
-            let ran = reports_ran LineGives LineRefused nothing_stored run.cell left_old left_new held_old held_new outside status memory bay run.reports in
-            scripts_act_on_made_volumes ran.lines ran.report ran.outside run.cell ran.runs;
+        answered = λ memory bay. last_same ∙ (at_new (Shows told both.0.0) memory bay both.2.0).answered ∙ ap (λ (r : Recorded). r.answered) (sym shown.2) ∙ run.answered;
+        on_disks = λ memory bay. subst (AreOnDisks told has) same (closes (goes_on start memory bay) both.0.0.cell (at_new (Shows told both.0.0) memory bay both.2.0).stands);
+        resumable = (always_kept ran.lines ran.report ran.outside run.cell ran.runs, what_ran_can_be_resumed ran.lines ran.report ran.outside run.cell ran.runs);
+        held = what_ran_is_held ran.lines ran.report ran.outside run.cell ran.runs;
+        own = scripts_learn_of_their_own ran.lines ran.report ran.outside run.cell ran.runs;
+        acted = scripts_act_on_made_volumes ran.lines ran.report ran.outside run.cell ran.runs;
         tally = both.0.1;
-        tallied = λ memory bay.
-            subst (λ (t : TalliedCell). Reports TalliedGives TalliedRefuses (tallied_of entry) t left_old left_new held_old held_new outside status) (tallies.2 memory bay ∙ ap (λ (c : StoredCell). record { cell = c; tally = both.0.1 }) (same memory bay)) tallies.1;
-        faults = λ memory bay. (let f = (both.2 memory bay).1.faults in omega (arith, f, f1));
-        arms = λ memory bay. a1 ∙ (both.2 memory bay).1.arms;
+        tallied =
+            subst (λ (t : TalliedCell). Reports TalliedGives TalliedRefuses (tallied_of entry) t left_old left_new held_old held_new outside status) (tallies.2 ∙ ap (λ (c : StoredCell). record { cell = c; tally = both.0.1 }) same) tallies.1;
+        faults = λ memory. (let f = (tallied_left counts last new status sums both.0.1 memory leaves both.2.1).faults in omega (arith, f, f1));
+        arms = λ memory. a1 ∙ (tallied_left counts last new status sums both.0.1 memory leaves both.2.1).arms;
       }
 
   -- What a run over the disks that an earlier run left tells, where the bay, once all is given back, stands for the cell that the run left.
@@ -94,28 +94,27 @@ module _ {D M : Type 0} (new old : M) (told : D → Told) (at : M → Moment D) 
     end = shown.0;
     outside = outside;
     reports = shown.1;
-    goes_on = λ memory bay cell images reached.
-        let there = on_disks (goes_on start memory bay) shown.0 (shown.2 memory bay) cell images reached in
-        ((went memory bay).0 cell images reached, there.0, there.1);
-    resumable = λ memory bay. (went memory bay).1;
+    goes_on = went.0;
+    on_disks = λ memory bay cell images reached. stand_for (goes_on start memory bay) shown.0 (at_new (ShowsLater told shown.0) memory bay shown.2) cell images reached;
+    resumable = went.1;
   }
     where
       first : Later
       first = resumed (at_rest past) lines before
 
-      shown : (end : Later) × Reports LaterGives LaterRefuses first end left_old left_new held_old held_new outside status × (status ≢ Memory → status ≢ BayFault → ShowsLater told end (at new))
-      shown = reports_shown (later_shown told at counts) first old new left_old left_new held_old held_new outside status shows reports
+      shown : (end : Later) × Reports LaterGives LaterRefuses first end left_old left_new held_old held_new outside status × ShowsLater told end (at last)
+      shown = reports_shown (later_shown told at counts) first old last left_old left_new held_old held_new outside status shows reports
 
-      went : status ≢ Memory → status ≢ BayFault → ((cell : StoredCell) (images : List (List ℕ)) → HasReached shown.0 cell images → HasGoneOn past cell) × ((reached : Recorded) → shown.0 ≡ Goes reached → CanBeResumed reached.cell)
-      went memory bay =
-          let ran = reports_ran LaterGives LaterRefuses first shown.0 left_old left_new held_old held_new outside status memory bay shown.1 in
+      went : ((cell : StoredCell) (images : List (List ℕ)) → HasReached shown.0 cell images → HasGoneOn past cell) × ((reached : Recorded) → shown.0 ≡ Goes reached → CanBeResumed reached.cell)
+      went =
+          let ran = reports_ran LaterGives LaterRefuses first shown.0 left_old left_new held_old held_new outside status shown.1 in
           later_runs_go_on past lines before ran.lines ran.report ran.outside shown.0 kept all ran.runs
 
-      on_disks : MayGoOn told (at new) → (end : Later) → ShowsLater told end (at new) → (cell : StoredCell) (images : List (List ℕ)) → HasReached end cell images → (after ≡ images) × AreOnDisks told has cell
-      on_disks ready (Waits found next left answered) there cell images reached =
+      stand_for : MayGoOn told (at new) → (end : Later) → ShowsLater told end (at new) → (cell : StoredCell) (images : List (List ℕ)) → HasReached end cell images → (after ≡ images) × AreOnDisks told has cell
+      stand_for ready (Waits found next left answered) there cell images reached =
           (last_same ∙ there.images ∙ sym reached.1, subst (AreOnDisks told has) (sym reached.0) (waits ready found _ _ (next ∷ left) there.kept there.awaited there.stands))
-      on_disks ready (Goes stored) there cell images reached = (last_same ∙ there.answered ∙ sym reached.1, subst (AreOnDisks told has) (sym reached.0) (closes ready stored.cell there.stands))
-      on_disks ready Strays there cell images reached = absurd reached
+      stand_for ready (Goes stored) there cell images reached = (last_same ∙ there.answered ∙ sym reached.1, subst (AreOnDisks told has) (sym reached.0) (closes ready stored.cell there.stands))
+      stand_for ready Strays there cell images reached = absurd reached
 
   -- What a run over the disks that an earlier run left tells, whatever it makes again, where the bay, once all is given back, stands for what was reached.
   pub reported_held : (has : ℕ → Told) (before after : List (List ℕ)) (past : StoredCell) (held : IsHeld past) → MayGoOn told (at old) → ShowsHeld told (record { cell = begun_from past held; answered = before }) (at old)
@@ -125,21 +124,23 @@ module _ {D M : Type 0} (new old : M) (told : D → Told) (at : M → Moment D) 
     end = shown.0;
     outside = outside;
     reports = shown.1;
-    goes_on = λ memory bay.
-        let there = shown.2 memory bay in
-        let ran = reports_ran HeldGives HeldRefuses first shown.0 left_old left_new held_old held_new outside status memory bay shown.1 in
-        (held_runs_go_on past held before ran.lines ran.report ran.outside shown.0 ran.runs, last_same ∙ there.answered, closes (goes_on start memory bay) shown.0.cell there.stands);
+    has_held =
+        let ran = reports_ran HeldGives HeldRefuses first shown.0 left_old left_new held_old held_new outside status shown.1 in
+        held_runs_go_on past held before ran.lines ran.report ran.outside shown.0 ran.runs;
+    on_disks = λ memory bay.
+        let there = at_new (ShowsHeld told shown.0) memory bay shown.2 in
+        (last_same ∙ there.answered, closes (goes_on start memory bay) shown.0.cell there.stands);
   }
     where
       first : Recorded
       first = record { cell = begun_from past held; answered = before }
 
-      shown : (end : Recorded) × Reports HeldGives HeldRefuses first end left_old left_new held_old held_new outside status × (status ≢ Memory → status ≢ BayFault → ShowsHeld told end (at new))
-      shown = reports_shown (held_shown told at counts) first old new left_old left_new held_old held_new outside status shows reports
+      shown : (end : Recorded) × Reports HeldGives HeldRefuses first end left_old left_new held_old held_new outside status × ShowsHeld told end (at last)
+      shown = reports_shown (held_shown told at counts) first old last left_old left_new held_old held_new outside status shows reports
 
   -- What it tells whatever the disks hold.
   pub reported_lines : IsReportOfLines left_old left_new held_old held_new status
-  reported_lines = (outside, (reports_shown (lines_good told at counts) tt old new left_old left_new held_old held_new outside status tt reports).1)
+  reported_lines = (outside, (reports_shown (lines_good told at counts) tt old last left_old left_new held_old held_new outside status tt reports).1)
 
 -- A run doesn't end as wrong words do.
 pub not_usage : (left_old left_new held_old held_new : Option (List ℕ)) (status : Status) → IsReportOfLines left_old left_new held_old held_new status → status ≢ Usage

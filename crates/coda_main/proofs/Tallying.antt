@@ -1,13 +1,15 @@
 -- What a run of a script tells of the disks of its cell.
-use Rattle.std.proofs.Common.{◌≡◌, ◌≤◌, ◌+◌, inl, inr, ◌++◌, ◌⊎◌, None, ℕ, Bool, true, false, List, [], Ok, refl, sym, ap, ◌∙◌, subst, arith}
+use Rattle.std.proofs.Common.{◌≡◌, ◌≢◌, ◌≤◌, ◌+◌, inl, inr, ◌++◌, ◌⊎◌, None, ℕ, Bool, true, false, List, [], Ok, refl, sym, ap, ◌∙◌, subst, arith}
 use Rattle.std.proofs.lemmas.List.{append-nil}
 use Rattle.std.specs.Prelude.{Option, if◌then◌else◌}
 use Rattle.coda_io.specs.Faults.{counted, Rose}
 use Rattle.coda_disk.specs.Bays.{plus}
 use Rattle.coda_disk.specs.Told.{Told}
 use Rattle.coda_engine.proofs.Simulation.{Simulates, reports_shown}
+use Rattle.coda_engine.specs.Machine.{Leaves}
 use Rattle.coda_engine.specs.Run.{Reports}
 use Rattle.coda_engine.specs.declared.status.Status.{Status}
+use Rattle.coda_engine.specs.declared.status.Status.TheVariants.{Done, Usage, Script, SourceFault, SinkFault, TooLong, BayFault, Memory}
 use Rattle.coda_script.specs.declared.line.Line.{Line}
 use Rattle.coda_script.specs.declared.refusal.Refusal.TheVariants.{DiskFault}
 use Rattle.coda_script.specs.declared.reply.Reply.{Reply}
@@ -19,7 +21,7 @@ use Rattle.coda_runs.specs.Runs.{Replies, LineRefused}
 use Rattle.coda_runs.specs.Shows.{Recorded, RecordGives, RecordRefuses}
 use Rattle.coda_script.specs.Lines.{line_of}
 use Rattle.coda_engine.specs.declared.status.Kind.{Kind}
-use Rattle.coda_main.specs.Counting.{CountsLine, RepliesSo}
+use Rattle.coda_main.specs.Counting.{CountsFault, CountsLine, RepliesSo}
 use Rattle.coda_main.specs.Later.{MachineGives}
 use Rattle.coda_main.specs.Shows.{Moment, Shows}
 use Rattle.coda_main.specs.Tallies.{IsReplied, tells_fault, Tally, no_tally, tally_with, TalliedCell, TalliedGives, TalliedRefuses, TallyGives, TallyRefuses, IsReportOfDisks}
@@ -40,6 +42,19 @@ faults_on false first tally old new was later rose = omega (arith, was, later)
 arms_on : (b : Bool) (first tally old new : ℕ) → old ≡ plus first tally → new ≡ (if b then counted old else old) → new ≡ plus first (if b then tally + 1 else tally)
 arms_on true first tally old new was is = omega (arith, was, is)
 arms_on false first tally old new was is = is ∙ was
+
+-- so they did where a run that ended with this status left them
+pub tallied_left : {M : Type 0} (counts : M → Counts) (last new : M) (status : Status) (first : Counts) (tally : Tally) → status ≢ Memory → Leaves (λ a b. CountsFault (counts a) (counts b)) last new status → IsTallied first tally (counts last) → IsTallied first tally (counts new)
+tallied_left counts last new BayFault first tally memory leaves t =
+    let broken = leaves.broken refl in
+    record { faults = (let was = t.faults in let later = broken.faults in omega (arith, was, later)); arms = broken.arms ∙ t.arms }
+tallied_left counts last new Memory first tally memory leaves t = absurd (memory refl)
+tallied_left counts last new Done first tally memory leaves t = subst (λ m. IsTallied first tally (counts m)) (sym (leaves.same memory (λ e. cc))) t
+tallied_left counts last new Usage first tally memory leaves t = subst (λ m. IsTallied first tally (counts m)) (sym (leaves.same memory (λ e. cc))) t
+tallied_left counts last new SourceFault first tally memory leaves t = subst (λ m. IsTallied first tally (counts m)) (sym (leaves.same memory (λ e. cc))) t
+tallied_left counts last new SinkFault first tally memory leaves t = subst (λ m. IsTallied first tally (counts m)) (sym (leaves.same memory (λ e. cc))) t
+tallied_left counts last new TooLong first tally memory leaves t = subst (λ m. IsTallied first tally (counts m)) (sym (leaves.same memory (λ e. cc))) t
+tallied_left counts last new (Script line column kind) first tally memory leaves t = subst (λ m. IsTallied first tally (counts m)) (sym (leaves.same memory (λ e. cc))) t
 
 tallied : (first : Counts) (said : Line) (reply : Reply) (tally : Tally) (old new : Counts) → IsTallied first tally old → IsCounted (IsFault (Ok reply)) (has_armed said (Ok reply)) old new → IsTallied first (tally_with said reply tally) new
 tallied first said reply tally old new was c = record {
@@ -114,17 +129,17 @@ module _ {D M : Type 0} (told : D → Told) (at : M → Moment D) (counts : M �
           ((so.next, tally_with so.replies.said so.replies.reply p.1), inr (so.replies, refl, so.answered), (so.shows, said_so p m m' line text outside c.0 so (tallied first c.0.said c.0.reply p.1 (counts m) (counts m') shows.1 c.1)))
 
   -- What a run tells of disks, where the sums of the bay, once all is given back, are the totals that the run left.
-  pub reported_disks : (new old : M) (left_old left_new held_old held_new : Option (List ℕ)) (outside : List (List ℕ)) (status : Status)
-      → Reports (λ old line text outside new. MachineGives told (at old) line text outside (at new) × CountsLine told (at old) (counts old) line text outside (at new) (counts new)) (λ m line column kind. IsBadLine line column kind) old new left_old left_new held_old held_new outside status
+  pub reported_disks : (new old last : M) (left_old left_new held_old held_new : Option (List ℕ)) (outside : List (List ℕ)) (status : Status)
+      → Reports (λ old line text outside new. MachineGives told (at old) line text outside (at new) × CountsLine told (at old) (counts old) line text outside (at new) (counts new)) (λ m line column kind. IsBadLine line column kind) old last left_old left_new held_old held_new outside status → Leaves (λ a b. CountsFault (counts a) (counts b)) last new status
       → (faults_old faults_new arms_old arms_new : ℕ) → (counts old).faults ≡ plus faults_old 0 → (counts old).arms ≡ plus arms_old 0 → plus faults_new 0 ≡ (counts new).faults → plus arms_new 0 ≡ (counts new).arms
       → IsReportOfDisks faults_old faults_new arms_old arms_new left_old left_new held_old held_new status
-  reported_disks new old left_old left_new held_old held_new outside status reports faults_old faults_new arms_old arms_new f0 a0 f1 a1 =
+  reported_disks new old last left_old left_new held_old held_new outside status reports leaves faults_old faults_new arms_old arms_new f0 a0 f1 a1 =
       let first : Counts = record { faults = faults_old; arms = arms_old } in
       let start : IsTallied first no_tally (counts old) = record { faults = omega (arith, f0); arms = a0 } in
-      let shown = reports_shown (tallies_shown first) no_tally old new left_old left_new held_old held_new outside status start reports in record {
+      let shown = reports_shown (tallies_shown first) no_tally old last left_old left_new held_old held_new outside status start reports in record {
         tally = shown.0;
         outside = outside;
         reports = shown.1;
-        faults = λ memory bay. (let t = shown.2 memory bay in let f = t.faults in omega (arith, f, f1));
-        arms = λ memory bay. a1 ∙ (shown.2 memory bay).arms;
+        faults = λ memory. (let t = tallied_left counts last new status first shown.0 memory leaves shown.2 in let f = t.faults in omega (arith, f, f1));
+        arms = λ memory. a1 ∙ (tallied_left counts last new status first shown.0 memory leaves shown.2).arms;
       }

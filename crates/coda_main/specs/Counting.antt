@@ -1,5 +1,5 @@
 -- What a line counts in the cell of the code, and tells of any cell on disks that it shows.
-use Rattle.std.specs.Prelude.{◌≡◌, ◌⊎◌, ◌++◌, ℕ, List, [], None, Ok}
+use Rattle.std.specs.Prelude.{◌≡◌, ◌≤◌, ◌⊎◌, ◌++◌, ℕ, List, [], None, Ok}
 use Rattle.coda_disk.specs.Told.{Told}
 use Rattle.coda_script.specs.Lines.{line_of}
 use Rattle.coda_site.specs.Totals.{Counts, IsCounted, IsFault, has_armed}
@@ -7,6 +7,11 @@ use Rattle.coda_runs.specs.Runs.{Replies}
 use Rattle.coda_runs.specs.Shows.{Recorded}
 use Rattle.coda_main.specs.Shows.{Moment, Shows}
 use Rattle.coda_main.specs.Tallies.{IsReplied}
+
+-- A line at which the bay was at fault armed no disk, and no fault of a disk is forgotten.
+pub record CountsFault (old new : Counts) : Type 0 where
+  pub faults : old.faults ≤ new.faults
+  pub arms : new.arms ≡ old.arms
 
 -- From a cell on disks the line may have this reply, and what it leaves is shown.
 pub record RepliesSo {D : Type 0} (told : D → Told) (plain : Recorded) (bytes text : List ℕ) (outside : List (List ℕ)) (r : IsReplied bytes text) (new : Moment D) : Type 0 where

@@ -32,10 +32,11 @@ pub record AnsweredHeld {D : Type 0} (told : D → Told) (at : Recorded) (said :
   pub shows : ShowsHeld told next new
 
 -- What was read and written is the report of a run over the disks that an earlier run left, in which each line that makes an actor does it on the disk
--- that it finds, whoever's that is. Unless memory was wanting or the bay at fault, what it reached keeps what is promised of it, the bay answered what
+-- that it finds, whoever's that is. What it reached keeps what is promised of it. Unless memory was wanting or the bay at fault, the bay answered what
 -- the run had of it, and its disks stand for what was reached.
 pub record IsReportOfHeldRun {D : Type 0} (told : D → Told) (has : ℕ → Told) (answered_old answered_new : List (List ℕ)) (left_old left_new held_old held_new : Option (List ℕ)) (status : Status) (past : StoredCell) (held : IsHeld past) : Type 0 where
   pub end : Recorded
   pub outside : List (List ℕ)
   pub reports : Reports HeldGives HeldRefuses (record { cell = begun_from past held; answered = answered_old }) end left_old left_new held_old held_new outside status
-  pub goes_on : status ≢ Memory → status ≢ BayFault → HasHeld past end.cell × (answered_new ≡ end.answered) × AreOnDisks told has end.cell
+  pub has_held : HasHeld past end.cell
+  pub on_disks : status ≢ Memory → status ≢ BayFault → (answered_new ≡ end.answered) × AreOnDisks told has end.cell

@@ -3,6 +3,7 @@ use Rattle.std.specs.Prelude.{◌≡◌, ℕ, true, ◌⊎◌, List, [], Some, N
 use Rattle.coda_engine.specs.declared.status.Kind.{Kind}
 use Rattle.coda_script.specs.declared.line.Line.{Line}
 use Rattle.coda_script.specs.Lines.{line_of}
+use Rattle.coda_site.specs.Makings.{asks_bay}
 use Rattle.coda_stored.specs.Lines.{is_built}
 use Rattle.coda_runs.specs.Runs.{IsUnbuilt}
 
@@ -14,6 +15,10 @@ IsGoodLine bytes text = ((line_of bytes ≡ Ok None) × (text ≡ [])) ⊎ ((sai
 -- isn't built.
 abbrev pub IsBadLine : List ℕ → ℕ → Kind → Type 0
 IsBadLine bytes column kind = (line_of bytes ≡ Err (column, kind)) ⊎ IsUnbuilt bytes column kind
+
+-- The bytes say a line that may ask the bay: one that makes an actor, or a crash.
+abbrev pub AsksBay : List ℕ → Type 0
+AsksBay bytes = (said : Line) × (line_of bytes ≡ Ok (Some said)) × (asks_bay said ≡ true)
 
 -- what the lines of a script give and refuse, of which nothing else is known than the bytes: a machine without a state
 abbrev pub AnyGives : Unit {0} → List ℕ → List ℕ → List (List ℕ) → Unit {0} → Type 0

@@ -22,10 +22,10 @@ IsReportOfLines left_old left_new held_old held_new status =
     (outside : List (List ℕ)) × Reports AnyGives AnyRefuses tt tt left_old left_new held_old held_new outside status
 
 -- What was read and written is the report of a run from the cell in which nothing was made, over disks that hold nothing; the run keeps what is
--- promised of runs. Unless memory was wanting or the bay at fault, clients learned of none but its own replicas, and did nothing on volumes that weren't
--- made; the bay answered what the run had of it, and its disks stand for the cell that the run left; its sum of the faults of disks rose by at least as many as this run has replies that a disk failed, and its sum of `arm` calls by as
--- many as lines that arm a disk were answered `ok`, each up to the last value of a sum; and a later run can go on from it, and another
--- one over its disks, whatever it makes again.
+-- promised of runs, clients learned of none but its own replicas, and did nothing on volumes that weren't made; and a later run can go on from what it
+-- left, and another one over its disks, whatever it makes again. Unless memory was wanting, the bay's sum of the faults of disks rose by at least as
+-- many as this run has replies that a disk failed, and its sum of `arm` calls by as many as lines that arm a disk were answered `ok`, each up to the
+-- last value of a sum. And unless the bay was at fault too, it answered what the run had of it, and its disks stand for the cell that the run left.
 pub record IsReportOfRun {D : Type 0} (told : D → Told) (has : ℕ → Told) (answered_old answered_new : List (List ℕ)) (faults_old faults_new arms_old arms_new : ℕ) (left_old left_new held_old held_new : Option (List ℕ)) (status : Status) : Type 0 where
   pub cell : StoredCell
   pub outside : List (List ℕ)
@@ -33,12 +33,11 @@ pub record IsReportOfRun {D : Type 0} (told : D → Told) (has : ℕ → Told) (
   pub has_run : HasRun cell
   pub answered : status ≢ Memory → status ≢ BayFault → answered_new ≡ answered_old ++ outside
   pub on_disks : status ≢ Memory → status ≢ BayFault → AreOnDisks told has cell
-  pub resumable : status ≢ Memory → status ≢ BayFault → IsStoredKept cell × CanBeResumed cell
-  pub held : status ≢ Memory → status ≢ BayFault → IsHeld cell
-  pub own : status ≢ Memory → status ≢ BayFault → LearnedOfItsOwn cell
-  pub acted : status ≢ Memory → status ≢ BayFault → ActedOnMadeVolumes cell
+  pub resumable : IsStoredKept cell × CanBeResumed cell
+  pub held : IsHeld cell
+  pub own : LearnedOfItsOwn cell
+  pub acted : ActedOnMadeVolumes cell
   pub tally : Tally
-  pub tallied : status ≢ Memory → status ≢ BayFault
-      → Reports TalliedGives TalliedRefuses (record { cell = nothing_stored; tally = no_tally }) (record { cell = cell; tally = tally }) left_old left_new held_old held_new outside status
-  pub faults : status ≢ Memory → status ≢ BayFault → plus faults_old tally.faults ≤ faults_new
-  pub arms : status ≢ Memory → status ≢ BayFault → plus arms_new 0 ≡ plus arms_old tally.arms
+  pub tallied : Reports TalliedGives TalliedRefuses (record { cell = nothing_stored; tally = no_tally }) (record { cell = cell; tally = tally }) left_old left_new held_old held_new outside status
+  pub faults : status ≢ Memory → plus faults_old tally.faults ≤ faults_new
+  pub arms : status ≢ Memory → plus arms_new 0 ≡ plus arms_old tally.arms

@@ -4,7 +4,7 @@ use Rattle.coda_disk.specs.Bays.{plus}
 use Rattle.coda_engine.specs.Run.{Reports}
 use Rattle.coda_engine.specs.declared.status.Kind.{Kind}
 use Rattle.coda_engine.specs.declared.status.Status.{Status}
-use Rattle.coda_engine.specs.declared.status.Status.TheVariants.{BayFault, Memory}
+use Rattle.coda_engine.specs.declared.status.Status.TheVariants.{Memory}
 use Rattle.coda_cml.specs.State.{LogState}
 use Rattle.coda_report.specs.LogTexts.{log_text}
 use Rattle.coda_report.specs.Texts.{reply_text}
@@ -86,12 +86,12 @@ TalliedGives old bytes text outside new =
 abbrev pub TalliedRefuses : TalliedCell → List ℕ → ℕ → Kind → Type 0
 TalliedRefuses old bytes column kind = LineRefused old.cell bytes column kind
 
--- What was read and written is the report of a run with this tally. Unless memory was wanting or the bay at fault, the bay's sum of the faults of
--- disks rose by as many at least as the run has replies that a disk failed, and its sum of `arm` calls by as many as lines that arm a disk were
--- answered `ok`, each up to the last value of a sum.
+-- What was read and written is the report of a run with this tally. Unless memory was wanting, the bay's sum of the faults of disks rose by as many
+-- at least as the run has replies that a disk failed, and its sum of `arm` calls by as many as lines that arm a disk were answered `ok`, each up to
+-- the last value of a sum: also where the bay was at fault at a line, which has no reply.
 pub record IsReportOfDisks (faults_old faults_new arms_old arms_new : ℕ) (left_old left_new held_old held_new : Option (List ℕ)) (status : Status) : Type 0 where
   pub tally : Tally
   pub outside : List (List ℕ)
   pub reports : Reports TallyGives TallyRefuses no_tally tally left_old left_new held_old held_new outside status
-  pub faults : status ≢ Memory → status ≢ BayFault → plus faults_old tally.faults ≤ faults_new
-  pub arms : status ≢ Memory → status ≢ BayFault → plus arms_new 0 ≡ plus arms_old tally.arms
+  pub faults : status ≢ Memory → plus faults_old tally.faults ≤ faults_new
+  pub arms : status ≢ Memory → plus arms_new 0 ≡ plus arms_old tally.arms

@@ -13,6 +13,7 @@ ghost use Rattle.coda_main.specs.Later.{ShowsWaiting, AnsweredAgain, AnsweredBet
 ghost use Rattle.coda_script.specs.declared.reply.Reply.{Reply};
 ghost use Rattle.coda_site.specs.Makings.{asks_bay};
 ghost use Rattle.coda_site.specs.Totals.{IsCounted, IsFault, has_armed, total, totals};
+ghost use Rattle.coda_main.specs.Counting.{CountsFault};
 ghost use Rattle.coda_main.specs.Tallies.{IsText};
 ghost use Rattle.coda_main.specs.Shows.{moment, Shows, MayGoOn, MayClose, Answered, StopsSo, StopsWithin, stop_at};
 
@@ -111,6 +112,7 @@ fn answer<B: Bay>(alloc: Global, cell: &mut Cell<B>, said: &Line) -> Result<Vec<
     ensures later { B.faults cell.old.bay ≤ B.faults cell.new.bay }
     ensures bay_cause { result ≡ Err LineStop.Bay → Rose (B.faults cell.old.bay) (B.faults cell.new.bay) }
     ensures asked { result ≡ Err LineStop.Bay → asks_bay said.now ≡ true }
+    ensures broken { result ≡ Err LineStop.Bay → CountsFault (totals B.D.told B.D.faults B.D.arms (B.disk_faults cell.old.bay) (B.disk_arms cell.old.bay) cell.old.site) (totals B.D.told B.D.faults B.D.arms (B.disk_faults cell.new.bay) (B.disk_arms cell.new.bay) cell.new.site) }
     ensures follows { B.follows cell.old.bay cell.new.bay }
     ensures faults_later { total B.D.told B.D.faults (B.disk_faults cell.old.bay) cell.old.site ≤ total B.D.told B.D.faults (B.disk_faults cell.new.bay) cell.new.site }
 {
@@ -126,10 +128,10 @@ fn answer<B: Bay>(alloc: Global, cell: &mut Cell<B>, said: &Line) -> Result<Vec<
 }
 
 impl<B: Bay> Machine for CellMachine<B> {
-    ghost use Rattle.coda_main.specs.Lines.{IsBadLine};
+    ghost use Rattle.coda_main.specs.Lines.{AsksBay, IsBadLine};
     ghost use Rattle.coda_main.specs.Later.{MachineGives};
     ghost use Rattle.coda_main.specs.Shows.{MayRun};
-    ghost use Rattle.coda_main.specs.Counting.{CountsLine};
+    ghost use Rattle.coda_main.specs.Counting.{CountsFault, CountsLine};
     ghost use Rattle.coda_site.specs.Totals.{total, totals};
     ghost use Rattle.std.proofs.Math.Nat.{le_refl, le_trans};
 
@@ -138,6 +140,10 @@ impl<B: Bay> Machine for CellMachine<B> {
     ghost refuses = { λ machine line column kind. IsBadLine line column kind };
 
     ghost faults = { λ machine. B.faults machine.cell.bay };
+
+    ghost asks = { λ line. AsksBay line };
+
+    ghost breaks = { λ old new. CountsFault (totals B.D.told B.D.faults B.D.arms (B.disk_faults old.cell.bay) (B.disk_arms old.cell.bay) old.cell.site) (totals B.D.told B.D.faults B.D.arms (B.disk_faults new.cell.bay) (B.disk_arms new.cell.bay) new.cell.site) };
 
     ghost ready = { λ machine lines. MayRun B.D.told (moment (B.out machine.cell.bay) (B.has machine.cell.bay) (B.answered machine.cell.bay) machine.cell.site) lines };
 

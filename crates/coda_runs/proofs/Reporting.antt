@@ -1,5 +1,5 @@
 -- What the report of a run tells of cells on disks.
-use Rattle.std.proofs.Common.{◌≡◌, ◌≢◌, ℕ, Bool, false, List, [], ◌∷◌, ◌++◌, refl, sym, ap, ◌∙◌}
+use Rattle.std.proofs.Common.{◌≡◌, ℕ, Bool, false, List, [], ◌∷◌, ◌++◌, refl, sym, ap, ◌∙◌}
 use Rattle.std.proofs.lemmas.List.{append_assoc, append-nil}
 use Rattle.coda_engine.specs.declared.status.Status.{Status}
 use Rattle.coda_engine.specs.declared.status.Status.TheVariants.{Done, Usage, Script, SourceFault, SinkFault, TooLong, BayFault, Memory}
@@ -74,39 +74,38 @@ broke_kept start new all read front rest written outside kept b =
 
 -- ---- what a report tells
 
--- a report of cells, of which the last one has run; it is that of the run, unless memory was wanting or the bay at fault
+-- a report of cells, of which the last one has run, and is recorded
 pub record Told (old : Recorded) (all : Bool) (read written : List ℕ) (outside : List (List ℕ)) (status : Status) (new : Recorded) : Type 0 where
   pub cell : StoredCell
   pub answers : Answers LineGives LineRefused old.cell cell all read written outside status
   pub has_run : HasRun cell
-  pub same : status ≢ Memory → status ≢ BayFault → new.cell ≡ cell
-  pub answered : status ≢ Memory → status ≢ BayFault → new.answered ≡ old.answered ++ outside
+  pub same : new.cell ≡ cell
+  pub answered : new.answered ≡ old.answered ++ outside
 
 module _ (old new : Recorded) (kept : IsStoredKept old.cell) (all : Bool) (read written : List ℕ) (outside : List (List ℕ)) where
   told : (status : Status) → Answers RecordGives RecordRefuses old new all read written outside status → Told old all read written outside status new
   told Done a =
       let ran = ran_plainly old new all read read [] written outside a.1 in
-      record { cell = new.cell; answers = (a.0, ran.holds); has_run = has_run new.cell (ran_kept old.cell new.cell all read read [] written outside kept ran.holds); same = λ m b. refl; answered = λ m b. ran.answers }
+      record { cell = new.cell; answers = (a.0, ran.holds); has_run = has_run new.cell (ran_kept old.cell new.cell all read read [] written outside kept ran.holds); same = refl; answered = ran.answers }
   told Usage a = absurd a
   told (Script line column kind) a =
       let ran = ran_plainly old new false read a.0 a.1 written outside a.3 in
-      record { cell = new.cell; answers = (a.0, a.1, a.2, ran.holds, a.4, a.5, a.6); has_run = has_run new.cell (ran_kept old.cell new.cell false read a.0 a.1 written outside kept ran.holds); same = λ m b. refl; answered = λ m b. ran.answers }
+      record { cell = new.cell; answers = (a.0, a.1, a.2, ran.holds, a.4, a.5, a.6); has_run = has_run new.cell (ran_kept old.cell new.cell false read a.0 a.1 written outside kept ran.holds); same = refl; answered = ran.answers }
   told TooLong a =
       let ran = ran_plainly old new false read a.0 a.1 written outside a.2 in
-      record { cell = new.cell; answers = (a.0, a.1, ran.holds, a.3); has_run = has_run new.cell (ran_kept old.cell new.cell false read a.0 a.1 written outside kept ran.holds); same = λ m b. refl; answered = λ m b. ran.answers }
+      record { cell = new.cell; answers = (a.0, a.1, ran.holds, a.3); has_run = has_run new.cell (ran_kept old.cell new.cell false read a.0 a.1 written outside kept ran.holds); same = refl; answered = ran.answers }
   told SourceFault a =
       let ran = ran_plainly old new false read a.0 a.1 written outside a.2 in
-      record { cell = new.cell; answers = (a.0, a.1, ran.holds, a.3, a.4); has_run = has_run new.cell (ran_kept old.cell new.cell false read a.0 a.1 written outside kept ran.holds); same = λ m b. refl; answered = λ m b. ran.answers }
+      record { cell = new.cell; answers = (a.0, a.1, ran.holds, a.3, a.4); has_run = has_run new.cell (ran_kept old.cell new.cell false read a.0 a.1 written outside kept ran.holds); same = refl; answered = ran.answers }
   told SinkFault a =
       let broke = broke_plainly old new all read a.0 a.1 written outside a.2 in
-      record { cell = new.cell; answers = (a.0, a.1, broke.holds); has_run = has_run new.cell (broke_kept old.cell new.cell all read a.0 a.1 written outside kept broke.holds); same = λ m b. refl; answered = λ m b. broke.answers }
+      record { cell = new.cell; answers = (a.0, a.1, broke.holds); has_run = has_run new.cell (broke_kept old.cell new.cell all read a.0 a.1 written outside kept broke.holds); same = refl; answered = broke.answers }
   told BayFault a =
-      let ran = ran_plainly old a.0 false read a.1 a.2 written outside a.4 in
-      record { cell = a.0.cell; answers = (a.0.cell, a.1, a.2, a.3, ran.holds, a.5); has_run = has_run a.0.cell (ran_kept old.cell a.0.cell false read a.1 a.2 written outside kept ran.holds); same = λ m b. absurd (b refl); answered = λ m b. absurd (b refl) }
+      let ran = ran_plainly old new false read a.0 a.1 written outside a.3 in
+      record { cell = new.cell; answers = (a.0, a.1, a.2, ran.holds, a.4); has_run = has_run new.cell (ran_kept old.cell new.cell false read a.0 a.1 written outside kept ran.holds); same = refl; answered = ran.answers }
   told Memory a =
-      let cut = a.1 in
-      let ran = ran_plainly old a.0 all read cut.0 cut.1 cut.2 outside cut.3 in
-      record { cell = a.0.cell; answers = (a.0.cell, (cut.0, cut.1, cut.2, ran.holds, cut.4)); has_run = has_run a.0.cell (ran_kept old.cell a.0.cell all read cut.0 cut.1 cut.2 outside kept ran.holds); same = λ m b. absurd (m refl); answered = λ m b. absurd (m refl) }
+      let ran = ran_plainly old new all read a.0 a.1 a.2 outside a.3 in
+      record { cell = new.cell; answers = (a.0, a.1, a.2, ran.holds, a.4); has_run = has_run new.cell (ran_kept old.cell new.cell all read a.0 a.1 a.2 outside kept ran.holds); same = refl; answered = ran.answers }
 
 -- the same of what a source and a sink tell
 pub reports_tell_of_runs : ReportsTellOfRuns

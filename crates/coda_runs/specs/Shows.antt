@@ -1,9 +1,8 @@
 -- What is told of runs of cells on disks: what the bay answered, and what may be shown.
-use Rattle.std.specs.Prelude.{◌≡◌, ◌≢◌, ℕ, false, ◌++◌, List, Option, Some}
+use Rattle.std.specs.Prelude.{◌≡◌, ℕ, false, ◌++◌, List, Option, Some}
 use Rattle.coda_engine.specs.Run.{Reports}
 use Rattle.coda_engine.specs.declared.status.Kind.{Kind}
 use Rattle.coda_engine.specs.declared.status.Status.{Status}
-use Rattle.coda_engine.specs.declared.status.Status.TheVariants.{BayFault, Memory}
 use Rattle.coda_script.specs.declared.line.Line.{Line}
 use Rattle.coda_script.specs.declared.reply.Reply.{Reply}
 use Rattle.coda_script.specs.declared.reply.Reply.TheVariants.{ShowVolume, ShowLog}
@@ -27,14 +26,13 @@ RecordGives old bytes text outside new = LineGives old.cell bytes text outside n
 abbrev pub RecordRefuses : Recorded → List ℕ → ℕ → Kind → Type 0
 RecordRefuses old bytes column kind = LineRefused old.cell bytes column kind
 
--- The report is that of a run of cells, of which the last one keeps what is promised of runs. Unless memory was wanting or the bay at fault, the
--- run left that cell, and the bay answered what the run had of it.
+-- The report is that of a run of cells, of which the last one keeps what is promised of runs; that cell is recorded, and what the bay answered.
 pub record IsReported (old : Recorded) (left_old left_new held_old held_new : Option (List ℕ)) (outside : List (List ℕ)) (status : Status) (new : Recorded) : Type 0 where
   pub cell : StoredCell
   pub reports : Reports LineGives LineRefused old.cell cell left_old left_new held_old held_new outside status
   pub has_run : HasRun cell
-  pub same : status ≢ Memory → status ≢ BayFault → new.cell ≡ cell
-  pub answered : status ≢ Memory → status ≢ BayFault → new.answered ≡ old.answered ++ outside
+  pub same : new.cell ≡ cell
+  pub answered : new.answered ≡ old.answered ++ outside
 
 -- what is recorded of a run is so
 abbrev pub ReportsTellOfRuns : Type 0

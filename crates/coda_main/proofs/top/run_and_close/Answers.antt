@@ -15,25 +15,25 @@ pub returns-clause-report : goal.returns-clause-report
 returns-clause-report g c = λ blank.
     let start = c.new.ensures in
     let report = c.run-status.ensures.report in
-    reported c.run-status.new.machine (record { cell = c.new.result }) g.B.D.Disk.told (λ m. moment (g.B.Bay.out m.cell.bay) (g.B.Bay.has m.cell.bay) (g.B.Bay.answered m.cell.bay) m.cell.site) (λ m. totals g.B.D.Disk.told g.B.D.Disk.faults g.B.D.Disk.arms (g.B.Bay.disk_faults m.cell.bay) (g.B.Bay.disk_arms m.cell.bay) m.cell.site) _ _ _ _ report.0 c.run-status.result report.1
+    reported c.run-status.new.machine (record { cell = c.new.result }) report.1 g.B.D.Disk.told (λ m. moment (g.B.Bay.out m.cell.bay) (g.B.Bay.has m.cell.bay) (g.B.Bay.answered m.cell.bay) m.cell.site) (λ m. totals g.B.D.Disk.told g.B.D.Disk.faults g.B.D.Disk.arms (g.B.Bay.disk_faults m.cell.bay) (g.B.Bay.disk_arms m.cell.bay) m.cell.site) _ _ _ _ report.0 c.run-status.result report.2 report.3
     (g.B.Bay.has c.close.result) (g.B.Bay.answered c.args.bay) (g.B.Bay.answered c.close.result) (g.B.Bay.disk_faults c.args.bay) (g.B.Bay.disk_faults c.close.result) (g.B.Bay.disk_arms c.args.bay) (g.B.Bay.disk_arms c.close.result) start.ready (start.stands (subst (λ bay. AreBlank (g.B.Bay.has bay)) (sym start.bay) blank))
     (ap g.B.Bay.answered start.bay) c.close.ensures.answered (λ ready cell stands. c.close.ensures.stands cell ready stands) (ap (λ t. t.faults) start.counts) (ap (λ t. t.arms) start.counts) c.close.ensures.faults_out c.close.ensures.arms_out
 
 pub returns-clause-given_back : goal.returns-clause-given_back
 returns-clause-given_back g c = λ memory bay number.
     let report = c.run-status.ensures.report in
-    c.close.ensures.out (goes_on c.run-status.new.machine (record { cell = c.new.result }) g.B.D.Disk.told (λ m. moment (g.B.Bay.out m.cell.bay) (g.B.Bay.has m.cell.bay) (g.B.Bay.answered m.cell.bay) m.cell.site) (λ m. totals g.B.D.Disk.told g.B.D.Disk.faults g.B.D.Disk.arms (g.B.Bay.disk_faults m.cell.bay) (g.B.Bay.disk_arms m.cell.bay) m.cell.site) _ _ _ _ report.0 c.run-status.result report.1 c.new.ensures.ready memory bay) number
+    c.close.ensures.out (goes_on c.run-status.new.machine (record { cell = c.new.result }) report.1 g.B.D.Disk.told (λ m. moment (g.B.Bay.out m.cell.bay) (g.B.Bay.has m.cell.bay) (g.B.Bay.answered m.cell.bay) m.cell.site) (λ m. totals g.B.D.Disk.told g.B.D.Disk.faults g.B.D.Disk.arms (g.B.Bay.disk_faults m.cell.bay) (g.B.Bay.disk_arms m.cell.bay) m.cell.site) _ _ _ _ report.0 c.run-status.result report.2 report.3 c.new.ensures.ready memory bay) number
 
 pub returns-clause-lines : goal.returns-clause-lines
 returns-clause-lines g c =
     let report = c.run-status.ensures.report in
-    reported_lines c.run-status.new.machine (record { cell = c.new.result }) g.B.D.Disk.told (λ m. moment (g.B.Bay.out m.cell.bay) (g.B.Bay.has m.cell.bay) (g.B.Bay.answered m.cell.bay) m.cell.site) (λ m. totals g.B.D.Disk.told g.B.D.Disk.faults g.B.D.Disk.arms (g.B.Bay.disk_faults m.cell.bay) (g.B.Bay.disk_arms m.cell.bay) m.cell.site) _ _ _ _ report.0 c.run-status.result report.1
+    reported_lines c.run-status.new.machine (record { cell = c.new.result }) report.1 g.B.D.Disk.told (λ m. moment (g.B.Bay.out m.cell.bay) (g.B.Bay.has m.cell.bay) (g.B.Bay.answered m.cell.bay) m.cell.site) (λ m. totals g.B.D.Disk.told g.B.D.Disk.faults g.B.D.Disk.arms (g.B.Bay.disk_faults m.cell.bay) (g.B.Bay.disk_arms m.cell.bay) m.cell.site) _ _ _ _ report.0 c.run-status.result report.2 report.3
 
 pub returns-clause-disks : goal.returns-clause-disks
 returns-clause-disks g c =
     let report = c.run-status.ensures.report in
     reported_disks g.B.D.Disk.told (λ m. moment (g.B.Bay.out m.cell.bay) (g.B.Bay.has m.cell.bay) (g.B.Bay.answered m.cell.bay) m.cell.site)
-    (λ m. totals g.B.D.Disk.told g.B.D.Disk.faults g.B.D.Disk.arms (g.B.Bay.disk_faults m.cell.bay) (g.B.Bay.disk_arms m.cell.bay) m.cell.site) c.run-status.new.machine (record { cell = c.new.result }) _ _ _ _ report.0 c.run-status.result report.1
+    (λ m. totals g.B.D.Disk.told g.B.D.Disk.faults g.B.D.Disk.arms (g.B.Bay.disk_faults m.cell.bay) (g.B.Bay.disk_arms m.cell.bay) m.cell.site) c.run-status.new.machine (record { cell = c.new.result }) report.1 _ _ _ _ report.0 c.run-status.result report.2 report.3
     (g.B.Bay.disk_faults c.args.bay) (g.B.Bay.disk_faults c.close.result) (g.B.Bay.disk_arms c.args.bay) (g.B.Bay.disk_arms c.close.result) (ap (λ t. t.faults) c.new.ensures.counts) (ap (λ t. t.arms) c.new.ensures.counts) c.close.ensures.faults_out c.close.ensures.arms_out
 
 pub returns-clause-later : goal.returns-clause-later
@@ -43,7 +43,7 @@ returns-clause-later g c = λ past lines kept all disks.
     let told = g.B.D.Disk.told in
     let now = moment (g.B.Bay.out c.new.result.bay) (g.B.Bay.has c.new.result.bay) (g.B.Bay.answered c.new.result.bay) c.new.result.site in
     let waits = start.waits past lines kept all (subst (λ bay. AreOnDisks told (g.B.Bay.has bay) past) (sym start.bay) disks) in
-    reported_later c.run-status.new.machine (record { cell = c.new.result }) told (λ m. moment (g.B.Bay.out m.cell.bay) (g.B.Bay.has m.cell.bay) (g.B.Bay.answered m.cell.bay) m.cell.site) (λ m. totals g.B.D.Disk.told g.B.D.Disk.faults g.B.D.Disk.arms (g.B.Bay.disk_faults m.cell.bay) (g.B.Bay.disk_arms m.cell.bay) m.cell.site) _ _ _ _ report.0 c.run-status.result report.1
+    reported_later c.run-status.new.machine (record { cell = c.new.result }) report.1 told (λ m. moment (g.B.Bay.out m.cell.bay) (g.B.Bay.has m.cell.bay) (g.B.Bay.answered m.cell.bay) m.cell.site) (λ m. totals g.B.D.Disk.told g.B.D.Disk.faults g.B.D.Disk.arms (g.B.Bay.disk_faults m.cell.bay) (g.B.Bay.disk_arms m.cell.bay) m.cell.site) _ _ _ _ report.0 c.run-status.result report.2 report.3
     (g.B.Bay.has c.close.result) (g.B.Bay.answered c.args.bay) (g.B.Bay.answered c.close.result) past lines kept all start.ready
     (waits_first told (at_rest past) lines (g.B.Bay.answered c.args.bay) now (cells_are_resumed.rests past kept) all.each start.empty.0 start.empty.1 waits (ap g.B.Bay.answered start.bay))
     c.close.ensures.answered (λ ready cell stands. c.close.ensures.stands cell ready stands) (λ ready cell volumes areas left held awaited stands. c.close.ensures.waits cell volumes areas left ready held awaited stands)
@@ -61,7 +61,7 @@ returns-clause-held g c = λ past held disks.
     let start = c.new.ensures in
     let report = c.run-status.ensures.report in
     let told = g.B.D.Disk.told in
-    reported_held c.run-status.new.machine (record { cell = c.new.result }) told (λ m. moment (g.B.Bay.out m.cell.bay) (g.B.Bay.has m.cell.bay) (g.B.Bay.answered m.cell.bay) m.cell.site) (λ m. totals g.B.D.Disk.told g.B.D.Disk.faults g.B.D.Disk.arms (g.B.Bay.disk_faults m.cell.bay) (g.B.Bay.disk_arms m.cell.bay) m.cell.site) _ _ _ _ report.0 c.run-status.result report.1
+    reported_held c.run-status.new.machine (record { cell = c.new.result }) report.1 told (λ m. moment (g.B.Bay.out m.cell.bay) (g.B.Bay.has m.cell.bay) (g.B.Bay.answered m.cell.bay) m.cell.site) (λ m. totals g.B.D.Disk.told g.B.D.Disk.faults g.B.D.Disk.arms (g.B.Bay.disk_faults m.cell.bay) (g.B.Bay.disk_arms m.cell.bay) m.cell.site) _ _ _ _ report.0 c.run-status.result report.2 report.3
     (g.B.Bay.has c.close.result) (g.B.Bay.answered c.args.bay) (g.B.Bay.answered c.close.result) past held start.ready
     (record { held = held_cells_are_kept.begun past held; stands = start.begins past held (subst (λ bay. AreOnDisks told (g.B.Bay.has bay) past) (sym start.bay) disks); answered = ap g.B.Bay.answered start.bay })
     c.close.ensures.answered (λ ready cell stands. c.close.ensures.stands cell ready stands)
