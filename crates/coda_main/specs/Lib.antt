@@ -7,3 +7,4 @@ pub mod Held
 pub mod Later
 pub mod Tallies
 pub mod Counting
+pub mod Asking

@@ -1,5 +1,6 @@
 // What holds of lines and of replies, whatever cell they are of.
 ghost use Rattle.coda_engine.specs.Exact.{CleanScriptsRun, OneStatus};
+ghost use Rattle.coda_main.specs.Asking.{WhatAsksTheBayIsOfIt};
 ghost use Rattle.coda_main.specs.Cached.{CachedIsHeld};
 ghost use Rattle.coda_main.specs.Lines.{AnyGives, AnyRefuses};
 ghost use Rattle.coda_main.specs.Tallies.{CountedRepliesAreTold};
@@ -24,4 +25,10 @@ pub fn one_status_over_all_bays()
 /// but `ok` has that of `ok`.
 pub fn counted_replies_are_told()
     ensures { CountedRepliesAreTold }
+{}
+
+/// A line before which waiting replies are written, since it may ask the bay, is one that has something of the bay where
+/// it isn't refused: a disk for the actor that it makes, or a crash.
+pub fn what_asks_the_bay_is_of_it()
+    ensures { WhatAsksTheBayIsOfIt }
 {}

@@ -27,6 +27,7 @@ pub use coda_runs::{
     who_never_came_is_as_it_was,
 };
 pub use laws::{
-    cached_is_held, counted_replies_are_told, good_lines_run_over_any_bay, one_status_over_all_bays,
+    cached_is_held, counted_replies_are_told, good_lines_run_over_any_bay,
+    one_status_over_all_bays, what_asks_the_bay_is_of_it,
 };
 pub use top::{coda, run_script};
