@@ -1,5 +1,5 @@
 // A cell: a site, and the bay that has its disks.
-ghost use Rattle.std.specs.Prelude.{◌≡◌, ◌≢◌, ◌≤◌, ◌<◌, ◌+◌, ◌^◌, ℕ, true, false, List, [], ◌∷◌, length, Some, None, MatchOption, IfOk, Err};
+ghost use Rattle.std.specs.Prelude.{◌≡◌, ◌≢◌, ◌≤◌, ◌<◌, ◌+◌, ◌^◌, ℕ, true, false, List, [], ◌∷◌, length, Some, None, MatchOption, IfOk, OnErr, Err};
 ghost use Rattle.coda_io.specs.Faults.{Rose};
 ghost use Rattle.coda_script.specs.Ranges.{InRange};
 ghost use Rattle.coda_cell.specs.Steps.{alone};
@@ -112,6 +112,7 @@ impl<B: Bay> Cell<B> {
         ensures later { B.faults self.old.bay ≤ B.faults self.new.bay }
         ensures bay_cause { result ≡ Err CellFault.Bay → Rose (B.faults self.old.bay) (B.faults self.new.bay) }
         ensures asked { result ≡ Err CellFault.Bay → asks_bay line.now ≡ true }
+        ensures answered_err { OnErr result (B.answered self.new.bay ≡ B.answered self.old.bay) }
         ensures follows { B.follows self.old.bay self.new.bay }
         ensures counts { IsCounted (IsFault result) (has_armed line.now result) (totals B.D.told B.D.faults B.D.arms (B.disk_faults self.old.bay) (B.disk_arms self.old.bay) self.old.site) (totals B.D.told B.D.faults B.D.arms (B.disk_faults self.new.bay) (B.disk_arms self.new.bay) self.new.site) }
     {

@@ -1,5 +1,5 @@
 // Lines that crash actors, recover them, or let their disks fail.
-ghost use Rattle.std.specs.Prelude.{◌≡◌, ◌≢◌, ◌≤◌, false, IfOk, Err};
+ghost use Rattle.std.specs.Prelude.{◌≡◌, ◌≢◌, ◌≤◌, false, IfOk, OnErr, Err};
 ghost use Rattle.coda_io.specs.Faults.{Rose};
 ghost use Rattle.coda_script.specs.declared.line.Line.TheVariants as line;
 ghost use Rattle.coda_stored.specs.Cells.{StoredCell};
@@ -46,6 +46,7 @@ pub fn crash_client<B: Bay>(
     ensures does { (cell : StoredCell) → IsSeen cell → IsSite B.D.told (B.out bay.old) (B.has bay.old) cell site.old
         → IfOk result (λ reply. Becomes B.D.told (B.out bay.new) (B.has bay.new) (Happens cell (line.CrashClient client choice)) reply (B.answered bay.old) (B.answered bay.new) site.new) }
     ensures net { site.new.net ≡ site.old.net }
+    ensures answered_err { OnErr result (B.answered bay.new ≡ B.answered bay.old) }
     ensures later { B.faults bay.old ≤ B.faults bay.new }
     ensures bay_cause { result ≡ Err CellFault.Bay → Rose (B.faults bay.old) (B.faults bay.new) }
     ensures follows { B.follows bay.old bay.new }
@@ -72,6 +73,7 @@ pub fn crash_replica<B: Bay>(
     ensures does { (cell : StoredCell) → IsSeen cell → IsSite B.D.told (B.out bay.old) (B.has bay.old) cell site.old
         → IfOk result (λ reply. Becomes B.D.told (B.out bay.new) (B.has bay.new) (Happens cell (line.CrashReplica server volume choice)) reply (B.answered bay.old) (B.answered bay.new) site.new) }
     ensures net { site.new.net ≡ site.old.net }
+    ensures answered_err { OnErr result (B.answered bay.new ≡ B.answered bay.old) }
     ensures later { B.faults bay.old ≤ B.faults bay.new }
     ensures bay_cause { result ≡ Err CellFault.Bay → Rose (B.faults bay.old) (B.faults bay.new) }
     ensures follows { B.follows bay.old bay.new }

@@ -1,5 +1,5 @@
 // What a line of a script does in a cell.
-ghost use Rattle.std.specs.Prelude.{◌≡◌, ◌≢◌, ◌≤◌, ℕ, true, false, IfOk, IfErr, Ok, Err};
+ghost use Rattle.std.specs.Prelude.{◌≡◌, ◌≢◌, ◌≤◌, ℕ, true, false, IfOk, IfErr, OnErr, Ok, Err};
 ghost use Rattle.coda_io.specs.Faults.{Rose};
 ghost use Rattle.coda_site.specs.Makings.{is_disk_line, asks_bay};
 ghost use Rattle.coda_script.specs.declared.line.Line.TheVariants as line;
@@ -194,6 +194,7 @@ pub fn fail<B: Bay>(bay: &mut B, site: &mut Site<B::D>, line: &Line) -> Result<R
     ensures does { (cell : StoredCell) → IsSeen cell → IsSite B.D.told (B.out bay.old) (B.has bay.old) cell site.old
         → IfOk result (λ reply. Becomes B.D.told (B.out bay.new) (B.has bay.new) (Happens cell line.now) reply (B.answered bay.old) (B.answered bay.new) site.new) }
     ensures net { site.new.net ≡ site.old.net }
+    ensures answered_err { OnErr result (B.answered bay.new ≡ B.answered bay.old) }
     ensures later { B.faults bay.old ≤ B.faults bay.new }
     ensures bay_cause { result ≡ Err CellFault.Bay → Rose (B.faults bay.old) (B.faults bay.new) }
     ensures asked { result ≡ Err CellFault.Bay → asks_bay line.now ≡ true }

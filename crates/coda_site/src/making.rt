@@ -132,6 +132,7 @@ pub fn make_client<B: Bay>(
     ensures finds { (cell : StoredCell) → IsSeen cell → mounts_none cell (line.Client client blocks (Some area)) ≡ false → IsSite B.D.told (B.out bay.old) (B.has bay.old) cell site.old
         → IfOk result (λ said. Becomes B.D.told (B.out bay.new) (B.has bay.new) (ClientFinds cell client blocks area) said (B.answered bay.old) (B.answered bay.new) site.new) }
     ensures net { site.new.net ≡ site.old.net }
+    ensures answered { B.answered bay.new ≡ B.answered bay.old }
     ensures later { B.faults bay.old ≤ B.faults bay.new }
     ensures bay_cause { result ≡ Err CellFault.Bay → Rose (B.faults bay.old) (B.faults bay.new) }
     ensures follows { B.follows bay.old bay.new }
@@ -210,6 +211,7 @@ pub fn make_volume<B: Bay>(
     ensures finds { (cell : StoredCell) (shelf : Shelf) → IsSeen cell → is_some (no_volume cell volume area) ≡ false → IsShelved cell server shelf → IsSite B.D.told (B.out bay.old) (B.has bay.old) cell site.old
         → IfOk result (λ said. Becomes B.D.told (B.out bay.new) (B.has bay.new) (VolumeFinds cell shelf volume server area) said (B.answered bay.old) (B.answered bay.new) site.new) }
     ensures net { site.new.net ≡ site.old.net }
+    ensures answered { B.answered bay.new ≡ B.answered bay.old }
     ensures later { B.faults bay.old ≤ B.faults bay.new }
     ensures bay_cause { result ≡ Err CellFault.Bay → Rose (B.faults bay.old) (B.faults bay.new) }
     ensures follows { B.follows bay.old bay.new }

@@ -77,8 +77,8 @@ pub fn what_is_found_was_there()
 {}
 
 /// A law of cells over disks that earlier runs left, whoever of their actors comes again, in whatever order, and beside whichever new
-/// ones: what each line leaves is kept, whatever disk it finds, unless that one was given another header and a call of it failed; and
-/// the histories keep what is promised.
+/// ones: what each line leaves is kept, whatever disk it finds, and whatever call of that one fails; and the histories keep what is
+/// promised.
 pub fn held_cells_are_kept()
     ensures { HeldCellsAreKept }
 {}
