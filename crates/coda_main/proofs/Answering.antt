@@ -20,6 +20,7 @@ use Rattle.coda_runs.specs.Texts.{text_of}
 use Rattle.coda_runs.proofs.ShownUp.{shows_what_is_up}
 use Rattle.coda_site.specs.Totals.{Counts, IsCounted, IsFault, has_armed}
 use Rattle.coda_main.specs.Counting.{CountsLine}
+use Rattle.coda_main.specs.Held.{ShowsHeld, AnsweredHeld, held_reply}
 use Rattle.coda_main.specs.Shows.{Moment, Shows, MayGoOn, answered_since, CellGives, Answered}
 use Rattle.coda_main.specs.Tallies.{IsText}
 
@@ -68,8 +69,9 @@ silent_gives told now bytes text silent none = record {
 -- what a line that is built counts
 pub line_counts : {D : Type 0} (told : D → Told) (old new : Moment D) (old_counts new_counts : Counts) (bytes text : List ℕ) (said : Line) (reply : Reply) → line_of bytes ≡ Ok (Some said) → is_built said ≡ true → IsText reply text
     → IsCounted (IsFault (Ok reply)) (has_armed said (Ok reply)) old_counts new_counts → ((plain : Recorded) → Shows told plain old → (a : Answered told plain said text old new) × (a.reply ≡ reply))
+    → ((at : Recorded) → ShowsHeld told at old → (a : AnsweredHeld told at said text old new) × (held_reply a.answers ≡ reply))
     → CountsLine told old old_counts bytes text (answered_since old new) new new_counts
-line_counts told old new old_counts new_counts bytes text said reply spelled built printed counted answers = inr (
+line_counts told old new old_counts new_counts bytes text said reply spelled built printed counted answers held = inr (
   record { said = said; reply = reply; spelled = spelled; built = built; printed = printed },
   counted,
   λ plain shows. (let a = (answers plain shows).0 in record {
@@ -80,4 +82,5 @@ line_counts told old new old_counts new_counts bytes text said reply spelled bui
     answered = a.answered;
     shows = a.shows;
   }),
+  λ at shows. (let a = held at shows in record { next = a.0.next; answers = a.0.answers; reply = a.1; shows = a.0.shows }),
 )

@@ -21,7 +21,7 @@ use Rattle.coda_site.specs.Steps.{Admits, Becomes, Finds}
 use Rattle.coda_runs.specs.Shows.{Recorded, CanShow}
 use Rattle.coda_runs.specs.Texts.{text_of}
 use Rattle.coda_runs.proofs.ShownUp.{shows_what_is_up}
-use Rattle.coda_main.specs.Held.{ShowsHeld, AnsweredHeld}
+use Rattle.coda_main.specs.Held.{ShowsHeld, AnsweredHeld, held_reply}
 use Rattle.coda_main.specs.Later.{ShowsNothing}
 use Rattle.coda_main.specs.Shows.{Moment, answered_since}
 use Rattle.coda_main.specs.Tallies.{IsText}
@@ -58,50 +58,58 @@ module _ {D : Type 0} (told : D → Told) (old new : Moment D) (at : Recorded) (
   answered_then : (outside : List (List ℕ)) → new.answered ≡ old.answered ++ outside → new.answered ≡ at.answered ++ answered_since old new
   answered_then outside answered = answered ∙ ap (λ l. l ++ outside) shows.answered ∙ ap (λ l. at.answered ++ l) (sym (since outside answered))
 
+  -- what the line left is shown, and this was its reply
+  abbrev IsHeldSo : Type 0
+  IsHeldSo = (a : AnsweredHeld told at said text old new) × (held_reply a.answers ≡ reply)
+
   done : mounts_none at.cell said ≡ true → Becomes told new.out new.has (Happens at.cell said) reply old.answered new.answered new.site
-      → ((stored : StoredCell) → IsSeen stored → IsSite told new.out new.has stored new.site → CanShow stored reply → text ≡ text_of (state_of stored.made) reply) → AnsweredHeld told at said text old new
+      → ((stored : StoredCell) → IsSeen stored → IsSite told new.out new.has stored new.site → CanShow stored reply → text ≡ text_of (state_of stored.made) reply) → IsHeldSo
   done mounts became printed =
       let held = held_cells_are_kept.lines at.cell became.left said reply became.outside shows.held range mounts became.happens in
-      let same = since became.outside became.answered in
-      record {
-        next = record { cell = became.left; answered = at.answered ++ answered_since old new };
-        answers = inl (record {
-          reply = reply;
-          found = became.left;
-          mounts = mounts;
-          does = subst (λ (l : List (List ℕ)). Happens at.cell said reply l became.left) (sym same) became.happens;
-          printed = printed became.left (held_cells_are_kept.seen became.left held) became.stands (shows_what_is_up at.cell became.left said reply became.outside became.happens);
-          goes_on = refl;
-        });
-        shows = record { held = held; stands = became.stands; answered = answered_then became.outside became.answered };
-      }
+      let same = since became.outside became.answered in (
+        record {
+          next = record { cell = became.left; answered = at.answered ++ answered_since old new };
+          answers = inl (record {
+            reply = reply;
+            found = became.left;
+            mounts = mounts;
+            does = subst (λ (l : List (List ℕ)). Happens at.cell said reply l became.left) (sym same) became.happens;
+            printed = printed became.left (held_cells_are_kept.seen became.left held) became.stands (shows_what_is_up at.cell became.left said reply became.outside became.happens);
+            goes_on = refl;
+          });
+          shows = record { held = held; stands = became.stands; answered = answered_then became.outside became.answered };
+        },
+        refl,
+      )
 
-  finding : (mounts : mounts_none at.cell said ≡ false) (f : DoesFind at.cell said) → Finds told new.out new.has at.cell f.shelf said reply old.answered new.answered new.site → IsText reply text → AnsweredHeld told at said text old new
+  finding : (mounts : mounts_none at.cell said ≡ false) (f : DoesFind at.cell said) → Finds told new.out new.has at.cell f.shelf said reply old.answered new.answered new.site → IsText reply text → IsHeldSo
   finding mounts f became printed =
       let same = since became.outside became.answered in
-      let held = f.kept reply became.outside became.left became.happens in
-      record {
-        next = record { cell = became.left; answered = at.answered ++ answered_since old new };
-        answers = inr (record {
-          reply = reply;
-          found = became.left;
-          shelf = f.shelf;
-          mounts = mounts;
-          holds = f.holds;
-          finds = subst (λ (l : List (List ℕ)). LineFinds at.cell f.shelf said reply l became.left) (sym same) became.happens;
-          held = held;
-          printed = text_told reply text (line_says at.cell f.shelf said reply became.outside became.left became.happens) printed;
-          goes_on = refl;
-        });
-        shows = record { held = held; stands = became.stands; answered = answered_then became.outside became.answered };
-      }
+      let held = f.kept reply became.outside became.left became.happens in (
+        record {
+          next = record { cell = became.left; answered = at.answered ++ answered_since old new };
+          answers = inr (record {
+            reply = reply;
+            found = became.left;
+            shelf = f.shelf;
+            mounts = mounts;
+            holds = f.holds;
+            finds = subst (λ (l : List (List ℕ)). LineFinds at.cell f.shelf said reply l became.left) (sym same) became.happens;
+            held = held;
+            printed = text_told reply text (line_says at.cell f.shelf said reply became.outside became.left became.happens) printed;
+            goes_on = refl;
+          });
+          shows = record { held = held; stands = became.stands; answered = answered_then became.outside became.answered };
+        },
+        refl,
+      )
 
   -- a line that is built was carried out
   pub line_answered_held : ((stored : StoredCell) → Admits stored said → IsSite told old.out old.has stored old.site → Becomes told new.out new.has (Happens stored said) reply old.answered new.answered new.site)
       → ((stored : StoredCell) (shelf : Shelf) → IsSeen stored → mounts_none stored said ≡ false → HoldsShelf stored said shelf → IsSite told old.out old.has stored old.site → Finds told new.out new.has stored shelf said reply old.answered new.answered new.site)
-      → ((stored : StoredCell) → IsSeen stored → IsSite told new.out new.has stored new.site → CanShow stored reply → text ≡ text_of (state_of stored.made) reply) → IsText reply text → AnsweredHeld told at said text old new
+      → ((stored : StoredCell) → IsSeen stored → IsSite told new.out new.has stored new.site → CanShow stored reply → text ≡ text_of (state_of stored.made) reply) → IsText reply text → (a : AnsweredHeld told at said text old new) × (held_reply a.answers ≡ reply)
   line_answered_held does finds shown printed = by (mounts_none at.cell said) refl
     where
-      by : (b : Bool) → mounts_none at.cell said ≡ b → AnsweredHeld told at said text old new
+      by : (b : Bool) → mounts_none at.cell said ≡ b → IsHeldSo
       by true e = done e (does at.cell (sees, λ mounts. (let wrong : true ≡ false = sym e ∙ mounts in cc)) shows.stands) shown
       by false e = (let f = held_cells_are_kept.finds at.cell said shows.held range e in finding e f (finds at.cell f.shelf sees e f.holds shows.stands) printed)

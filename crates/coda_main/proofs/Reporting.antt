@@ -22,7 +22,7 @@ use Rattle.coda_stored.specs.Resuming.{at_rest, Awaited, AreAwaited, MakeAllAgai
 use Rattle.coda_stored.specs.Held.{IsHeld, begun_from}
 use Rattle.coda_runs.specs.Held.{HeldGives}
 use Rattle.coda_runs.proofs.Held.{held_runs_go_on, what_ran_is_held}
-use Rattle.coda_main.specs.Held.{ShowsHeld, HeldRefuses, IsReportOfHeldRun}
+use Rattle.coda_main.specs.Held.{ShowsHeld, HeldRefuses, TalliedHeld, IsReportOfHeldRun}
 use Rattle.coda_runs.specs.Later.{Later, Waits, Goes, Strays, resumed, LaterGives, HasReached, HasGoneOn, CanBeResumed}
 use Rattle.coda_runs.specs.Runs.{LineGives, LineRefused}
 use Rattle.coda_runs.proofs.Later.{later_runs_go_on}
@@ -33,15 +33,15 @@ use Rattle.coda_main.specs.Later.{ShowsLater, LaterRefuses, MachineGives, IsRepo
 use Rattle.coda_main.specs.Shows.{Moment, Shows, MayGoOn}
 use Rattle.coda_main.proofs.Reaching.{reports_ran}
 use Rattle.coda_site.specs.Totals.{Counts}
-use Rattle.coda_main.specs.Counting.{CountsFault, CountsLine}
+use Rattle.coda_main.specs.Counting.{BreaksOff, CountsLine}
 use Rattle.coda_main.specs.Tallies.{Tally, no_tally, TalliedCell, TalliedGives, TalliedRefuses}
-use Rattle.coda_main.proofs.Tallying.{IsTallied, tallied_left, both_shown, records_shown, cells_tallied, tallied_of}
+use Rattle.coda_main.proofs.Tallying.{IsTallied, tallied_left, answered_left, both_shown, records_shown, cells_tallied, tallied_of, held_tallied, held_untallied}
 use Rattle.coda_main.proofs.Showing.{cells_go_on, lines_good, later_shown, held_shown}
 
 -- The machine was at old, at last after the last line that ran, and is at new.
 module _ {D M : Type 0} (new old last : M) (told : D → Told) (at : M → Moment D) (counts : M → Counts) (left_old left_new held_old held_new : Option (List ℕ)) (outside : List (List ℕ)) (status : Status)
     (reports : Reports (λ old line text outside new. MachineGives told (at old) line text outside (at new) × CountsLine told (at old) (counts old) line text outside (at new) (counts new)) (λ m line column kind. IsBadLine line column kind) old last left_old left_new held_old held_new outside status)
-    (leaves : Leaves (λ a b. CountsFault (counts a) (counts b)) last new status) where
+    (leaves : Leaves (λ a b. BreaksOff (at a) (counts a) (at b) (counts b)) last new status) where
   -- what holds of the last moment holds of what the run left
   at_new : (P : Moment D → Type 0) → status ≢ Memory → status ≢ BayFault → P (at last) → P (at new)
   at_new P memory bay = subst (λ m. P (at m)) (sym (leaves.same memory bay))
@@ -72,7 +72,7 @@ module _ {D M : Type 0} (new old last : M) (told : D → Told) (at : M → Momen
         outside = outside;
         reports = run.reports;
         has_run = run.has_run;
-        answered = λ memory bay. last_same ∙ (at_new (Shows told both.0.0) memory bay both.2.0).answered ∙ ap (λ (r : Recorded). r.answered) (sym shown.2) ∙ run.answered;
+        answered = λ memory. last_same ∙ answered_left at counts last new status memory leaves both.0.0.answered both.2.0.answered ∙ ap (λ (r : Recorded). r.answered) (sym shown.2) ∙ run.answered;
         on_disks = λ memory bay. subst (AreOnDisks told has) same (closes (goes_on start memory bay) both.0.0.cell (at_new (Shows told both.0.0) memory bay both.2.0).stands);
         resumable = (always_kept ran.lines ran.report ran.outside run.cell ran.runs, what_ran_can_be_resumed ran.lines ran.report ran.outside run.cell ran.runs);
         held = what_ran_is_held ran.lines ran.report ran.outside run.cell ran.runs;
@@ -81,8 +81,8 @@ module _ {D M : Type 0} (new old last : M) (told : D → Told) (at : M → Momen
         tally = both.0.1;
         tallied =
             subst (λ (t : TalliedCell). Reports TalliedGives TalliedRefuses (tallied_of entry) t left_old left_new held_old held_new outside status) (tallies.2 ∙ ap (λ (c : StoredCell). record { cell = c; tally = both.0.1 }) same) tallies.1;
-        faults = λ memory. (let f = (tallied_left counts last new status sums both.0.1 memory leaves both.2.1).faults in omega (arith, f, f1));
-        arms = λ memory. a1 ∙ (tallied_left counts last new status sums both.0.1 memory leaves both.2.1).arms;
+        faults = λ memory. (let f = (tallied_left at counts last new status memory leaves sums both.0.1 both.2.1).faults in omega (arith, f, f1));
+        arms = λ memory. a1 ∙ (tallied_left at counts last new status memory leaves sums both.0.1 both.2.1).arms;
       }
 
   -- What a run over the disks that an earlier run left tells, where the bay, once all is given back, stands for the cell that the run left.
@@ -95,6 +95,7 @@ module _ {D M : Type 0} (new old last : M) (told : D → Told) (at : M → Momen
     outside = outside;
     reports = shown.1;
     goes_on = went.0;
+    answered = λ memory cell images reached. last_same ∙ answered_left at counts last new status memory leaves images (answered_by shown.0 shown.2 cell images reached);
     on_disks = λ memory bay cell images reached. stand_for (goes_on start memory bay) shown.0 (at_new (ShowsLater told shown.0) memory bay shown.2) cell images reached;
     resumable = went.1;
   }
@@ -110,33 +111,45 @@ module _ {D M : Type 0} (new old last : M) (told : D → Told) (at : M → Momen
           let ran = reports_ran LaterGives LaterRefuses first shown.0 left_old left_new held_old held_new outside status shown.1 in
           later_runs_go_on past lines before ran.lines ran.report ran.outside shown.0 kept all ran.runs
 
-      stand_for : MayGoOn told (at new) → (end : Later) → ShowsLater told end (at new) → (cell : StoredCell) (images : List (List ℕ)) → HasReached end cell images → (after ≡ images) × AreOnDisks told has cell
-      stand_for ready (Waits found next left answered) there cell images reached =
-          (last_same ∙ there.images ∙ sym reached.1, subst (AreOnDisks told has) (sym reached.0) (waits ready found _ _ (next ∷ left) there.kept there.awaited there.stands))
-      stand_for ready (Goes stored) there cell images reached = (last_same ∙ there.answered ∙ sym reached.1, subst (AreOnDisks told has) (sym reached.0) (closes ready stored.cell there.stands))
+      answered_by : (end : Later) → ShowsLater told end (at last) → (cell : StoredCell) (images : List (List ℕ)) → HasReached end cell images → (at last).answered ≡ images
+      answered_by (Waits found next left answered) there cell images reached = there.images ∙ sym reached.1
+      answered_by (Goes stored) there cell images reached = there.answered ∙ sym reached.1
+      answered_by Strays there cell images reached = absurd reached
+
+      stand_for : MayGoOn told (at new) → (end : Later) → ShowsLater told end (at new) → (cell : StoredCell) (images : List (List ℕ)) → HasReached end cell images → AreOnDisks told has cell
+      stand_for ready (Waits found next left answered) there cell images reached = subst (AreOnDisks told has) (sym reached.0) (waits ready found _ _ (next ∷ left) there.kept there.awaited there.stands)
+      stand_for ready (Goes stored) there cell images reached = subst (AreOnDisks told has) (sym reached.0) (closes ready stored.cell there.stands)
       stand_for ready Strays there cell images reached = absurd reached
 
   -- What a run over the disks that an earlier run left tells, whatever it makes again, where the bay, once all is given back, stands for what was reached.
-  pub reported_held : (has : ℕ → Told) (before after : List (List ℕ)) (past : StoredCell) (held : IsHeld past) → MayGoOn told (at old) → ShowsHeld told (record { cell = begun_from past held; answered = before }) (at old)
-      → after ≡ (at new).answered → (MayGoOn told (at new) → (cell : StoredCell) → IsSite told (at new).out (at new).has cell (at new).site → AreOnDisks told has cell)
-      → IsReportOfHeldRun told has before after left_old left_new held_old held_new status past held
-  reported_held has before after past held start shows last_same closes = record {
-    end = shown.0;
-    outside = outside;
-    reports = shown.1;
-    has_held =
-        let ran = reports_ran HeldGives HeldRefuses first shown.0 left_old left_new held_old held_new outside status shown.1 in
-        held_runs_go_on past held before ran.lines ran.report ran.outside shown.0 ran.runs;
-    on_disks = λ memory bay.
-        let there = at_new (ShowsHeld told shown.0) memory bay shown.2 in
-        (last_same ∙ there.answered, closes (goes_on start memory bay) shown.0.cell there.stands);
-  }
-    where
-      first : Recorded
-      first = record { cell = begun_from past held; answered = before }
-
-      shown : (end : Recorded) × Reports HeldGives HeldRefuses first end left_old left_new held_old held_new outside status × ShowsHeld told end (at last)
-      shown = reports_shown (held_shown told at counts) first old last left_old left_new held_old held_new outside status shows reports
+  pub reported_held : (has : ℕ → Told) (before after : List (List ℕ)) (faults_old faults_new arms_old arms_new : ℕ) (past : StoredCell) (held : IsHeld past) → MayGoOn told (at old)
+      → ShowsHeld told (record { cell = begun_from past held; answered = before }) (at old) → after ≡ (at new).answered
+      → (MayGoOn told (at new) → (cell : StoredCell) → IsSite told (at new).out (at new).has cell (at new).site → AreOnDisks told has cell)
+      → (counts old).faults ≡ plus faults_old 0 → (counts old).arms ≡ plus arms_old 0 → plus faults_new 0 ≡ (counts new).faults → plus arms_new 0 ≡ (counts new).arms
+      → IsReportOfHeldRun told has before after faults_old faults_new arms_old arms_new left_old left_new held_old held_new status past held
+  reported_held has before after faults_old faults_new arms_old arms_new past held start shows last_same closes f0 a0 f1 a1 =
+      let first : Recorded = record { cell = begun_from past held; answered = before } in
+      let entry : TalliedHeld = record { at = first; tally = no_tally } in
+      let sums : Counts = record { faults = faults_old; arms = arms_old } in
+      let begins : IsTallied sums no_tally (counts old) = record { faults = omega (arith, f0); arms = a0 } in
+      let both = reports_shown (held_tallied told at counts sums) entry old last left_old left_new held_old held_new outside status (shows, begins) reports in
+      let alone = reports_shown held_untallied first entry both.0 left_old left_new held_old held_new outside status refl both.1 in
+      let end : Recorded = both.0.at in
+      let shown : Reports HeldGives HeldRefuses first end left_old left_new held_old held_new outside status = subst (λ (h : Recorded). Reports HeldGives HeldRefuses first h left_old left_new held_old held_new outside status) alone.2 alone.1 in
+      let ran = reports_ran HeldGives HeldRefuses first end left_old left_new held_old held_new outside status shown in
+      let tallies = λ (memory : status ≢ Memory). tallied_left at counts last new status memory leaves sums both.0.tally both.2.1 in
+      record {
+        end = end;
+        outside = outside;
+        reports = shown;
+        has_held = held_runs_go_on past held before ran.lines ran.report ran.outside end ran.runs;
+        answered = λ memory. last_same ∙ answered_left at counts last new status memory leaves end.answered both.2.0.answered;
+        on_disks = λ memory bay. closes (goes_on start memory bay) end.cell (at_new (ShowsHeld told end) memory bay both.2.0).stands;
+        tally = both.0.tally;
+        tallied = both.1;
+        faults = λ memory. (let f = (tallies memory).faults in omega (arith, f, f1));
+        arms = λ memory. a1 ∙ (tallies memory).arms;
+      }
 
   -- What it tells whatever the disks hold.
   pub reported_lines : IsReportOfLines left_old left_new held_old held_new status

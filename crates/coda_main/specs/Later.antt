@@ -91,11 +91,12 @@ pub record MachineGives {D : Type 0} (told : D → Told) (old : Moment D) (bytes
 -- What was read and written is the report of a run over the disks that an earlier run left: lines make its actors again in this order, some of them or
 -- all, and each other line does what it does where those were made that came so far, or is refused for the disk of another actor, unless one makes an
 -- actor out of this order. What it reached has run and begins with the histories that there were; and where all were made again, a further run can go
--- on from it. Unless memory was wanting or the bay at fault, the bay answered what the run had of it, and its disks stand for what was reached.
+-- on from it. Unless memory was wanting, the bay answered what the run had of it; and unless the bay was at fault too, its disks stand for what was reached.
 pub record IsReportOfLaterRun {D : Type 0} (told : D → Told) (has : ℕ → Told) (answered_old answered_new : List (List ℕ)) (left_old left_new held_old held_new : Option (List ℕ)) (status : Status) (past : StoredCell) (lines : List Awaited) : Type 0 where
   pub end : Later
   pub outside : List (List ℕ)
   pub reports : Reports LaterGives LaterRefuses (resumed (at_rest past) lines answered_old) end left_old left_new held_old held_new outside status
   pub goes_on : (cell : StoredCell) (images : List (List ℕ)) → HasReached end cell images → HasGoneOn past cell
-  pub on_disks : status ≢ Memory → status ≢ BayFault → (cell : StoredCell) (images : List (List ℕ)) → HasReached end cell images → (answered_new ≡ images) × AreOnDisks told has cell
+  pub answered : status ≢ Memory → (cell : StoredCell) (images : List (List ℕ)) → HasReached end cell images → answered_new ≡ images
+  pub on_disks : status ≢ Memory → status ≢ BayFault → (cell : StoredCell) (images : List (List ℕ)) → HasReached end cell images → AreOnDisks told has cell
   pub resumable : (at : Recorded) → end ≡ Goes at → CanBeResumed at.cell

@@ -23,15 +23,15 @@ IsReportOfLines left_old left_new held_old held_new status =
 
 -- What was read and written is the report of a run from the cell in which nothing was made, over disks that hold nothing; the run keeps what is
 -- promised of runs, clients learned of none but its own replicas, and did nothing on volumes that weren't made; and a later run can go on from what it
--- left, and another one over its disks, whatever it makes again. Unless memory was wanting, the bay's sum of the faults of disks rose by at least as
--- many as this run has replies that a disk failed, and its sum of `arm` calls by as many as lines that arm a disk were answered `ok`, each up to the
--- last value of a sum. And unless the bay was at fault too, it answered what the run had of it, and its disks stand for the cell that the run left.
+-- left, and another one over its disks, whatever it makes again. Unless memory was wanting, the bay answered what the run had of it, its sum of the
+-- faults of disks rose by at least as many as this run has replies that a disk failed, and its sum of `arm` calls by as many as lines that arm a disk
+-- were answered `ok`, each up to the last value of a sum. And unless the bay was at fault too, its disks stand for the cell that the run left.
 pub record IsReportOfRun {D : Type 0} (told : D → Told) (has : ℕ → Told) (answered_old answered_new : List (List ℕ)) (faults_old faults_new arms_old arms_new : ℕ) (left_old left_new held_old held_new : Option (List ℕ)) (status : Status) : Type 0 where
   pub cell : StoredCell
   pub outside : List (List ℕ)
   pub reports : Reports LineGives LineRefused nothing_stored cell left_old left_new held_old held_new outside status
   pub has_run : HasRun cell
-  pub answered : status ≢ Memory → status ≢ BayFault → answered_new ≡ answered_old ++ outside
+  pub answered : status ≢ Memory → answered_new ≡ answered_old ++ outside
   pub on_disks : status ≢ Memory → status ≢ BayFault → AreOnDisks told has cell
   pub resumable : IsStoredKept cell × CanBeResumed cell
   pub held : IsHeld cell

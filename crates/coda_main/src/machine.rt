@@ -8,12 +8,12 @@ ghost use Rattle.coda_runs.specs.Shows.{Recorded};
 ghost use Rattle.coda_stored.specs.Cells.{StoredCell};
 ghost use Rattle.coda_stored.specs.Resuming.{Awaited, is_awaited};
 ghost use Rattle.coda_stored.specs.Seen.{seen, mounts_none};
-ghost use Rattle.coda_main.specs.Held.{ShowsHeld, AnsweredHeld};
+ghost use Rattle.coda_main.specs.Held.{ShowsHeld, AnsweredHeld, held_reply};
 ghost use Rattle.coda_main.specs.Later.{ShowsWaiting, AnsweredAgain, AnsweredBetween, AnsweredElsewhere};
 ghost use Rattle.coda_script.specs.declared.reply.Reply.{Reply};
 ghost use Rattle.coda_site.specs.Makings.{asks_bay};
 ghost use Rattle.coda_site.specs.Totals.{IsCounted, IsFault, has_armed, total, totals};
-ghost use Rattle.coda_main.specs.Counting.{CountsFault};
+ghost use Rattle.coda_main.specs.Counting.{BreaksOff};
 ghost use Rattle.coda_main.specs.Tallies.{IsText};
 ghost use Rattle.coda_main.specs.Shows.{moment, Shows, MayGoOn, MayClose, Answered, StopsSo, StopsWithin, stop_at};
 
@@ -106,13 +106,14 @@ fn answer<B: Bay>(alloc: Global, cell: &mut Cell<B>, said: &Line) -> Result<Vec<
     ensures held { IfOk result (λ text. (at : Recorded) → ShowsHeld B.D.told at (moment (B.out cell.old.bay) (B.has cell.old.bay) (B.answered cell.old.bay) cell.old.site)
         → AnsweredHeld B.D.told at said.now text.items (moment (B.out cell.old.bay) (B.has cell.old.bay) (B.answered cell.old.bay) cell.old.site) (moment (B.out cell.new.bay) (B.has cell.new.bay) (B.answered cell.new.bay) cell.new.site)) }
     ensures counts { IfOk result (λ text. (reply : Reply) × IsText reply text.items × IsCounted (IsFault (Ok reply)) (has_armed said.now (Ok reply)) (totals B.D.told B.D.faults B.D.arms (B.disk_faults cell.old.bay) (B.disk_arms cell.old.bay) cell.old.site) (totals B.D.told B.D.faults B.D.arms (B.disk_faults cell.new.bay) (B.disk_arms cell.new.bay) cell.new.site)
-        × ((plain : Recorded) → Shows B.D.told plain (moment (B.out cell.old.bay) (B.has cell.old.bay) (B.answered cell.old.bay) cell.old.site) → (a : Answered B.D.told plain said.now text.items (moment (B.out cell.old.bay) (B.has cell.old.bay) (B.answered cell.old.bay) cell.old.site) (moment (B.out cell.new.bay) (B.has cell.new.bay) (B.answered cell.new.bay) cell.new.site)) × (a.reply ≡ reply))) }
+        × ((plain : Recorded) → Shows B.D.told plain (moment (B.out cell.old.bay) (B.has cell.old.bay) (B.answered cell.old.bay) cell.old.site) → (a : Answered B.D.told plain said.now text.items (moment (B.out cell.old.bay) (B.has cell.old.bay) (B.answered cell.old.bay) cell.old.site) (moment (B.out cell.new.bay) (B.has cell.new.bay) (B.answered cell.new.bay) cell.new.site)) × (a.reply ≡ reply))
+        × ((at : Recorded) → ShowsHeld B.D.told at (moment (B.out cell.old.bay) (B.has cell.old.bay) (B.answered cell.old.bay) cell.old.site) → (a : AnsweredHeld B.D.told at said.now text.items (moment (B.out cell.old.bay) (B.has cell.old.bay) (B.answered cell.old.bay) cell.old.site) (moment (B.out cell.new.bay) (B.has cell.new.bay) (B.answered cell.new.bay) cell.new.site)) × (held_reply a.answers ≡ reply))) }
     ensures stopped { IfErr result StopsWithin }
     ensures posted { cell.new.site.net.posted ≤ cell.old.site.net.posted + 1 }
     ensures later { B.faults cell.old.bay ≤ B.faults cell.new.bay }
     ensures bay_cause { result ≡ Err LineStop.Bay → Rose (B.faults cell.old.bay) (B.faults cell.new.bay) }
     ensures asked { result ≡ Err LineStop.Bay → asks_bay said.now ≡ true }
-    ensures broken { result ≡ Err LineStop.Bay → CountsFault (totals B.D.told B.D.faults B.D.arms (B.disk_faults cell.old.bay) (B.disk_arms cell.old.bay) cell.old.site) (totals B.D.told B.D.faults B.D.arms (B.disk_faults cell.new.bay) (B.disk_arms cell.new.bay) cell.new.site) }
+    ensures broken { result ≡ Err LineStop.Bay → BreaksOff (moment (B.out cell.old.bay) (B.has cell.old.bay) (B.answered cell.old.bay) cell.old.site) (totals B.D.told B.D.faults B.D.arms (B.disk_faults cell.old.bay) (B.disk_arms cell.old.bay) cell.old.site) (moment (B.out cell.new.bay) (B.has cell.new.bay) (B.answered cell.new.bay) cell.new.site) (totals B.D.told B.D.faults B.D.arms (B.disk_faults cell.new.bay) (B.disk_arms cell.new.bay) cell.new.site) }
     ensures follows { B.follows cell.old.bay cell.new.bay }
     ensures faults_later { total B.D.told B.D.faults (B.disk_faults cell.old.bay) cell.old.site ≤ total B.D.told B.D.faults (B.disk_faults cell.new.bay) cell.new.site }
 {
@@ -131,7 +132,7 @@ impl<B: Bay> Machine for CellMachine<B> {
     ghost use Rattle.coda_main.specs.Lines.{AsksBay, IsBadLine};
     ghost use Rattle.coda_main.specs.Later.{MachineGives};
     ghost use Rattle.coda_main.specs.Shows.{MayRun};
-    ghost use Rattle.coda_main.specs.Counting.{CountsFault, CountsLine};
+    ghost use Rattle.coda_main.specs.Counting.{BreaksOff, CountsLine};
     ghost use Rattle.coda_site.specs.Totals.{total, totals};
     ghost use Rattle.std.proofs.Math.Nat.{le_refl, le_trans};
 
@@ -143,7 +144,7 @@ impl<B: Bay> Machine for CellMachine<B> {
 
     ghost asks = { λ line. AsksBay line };
 
-    ghost breaks = { λ old new. CountsFault (totals B.D.told B.D.faults B.D.arms (B.disk_faults old.cell.bay) (B.disk_arms old.cell.bay) old.cell.site) (totals B.D.told B.D.faults B.D.arms (B.disk_faults new.cell.bay) (B.disk_arms new.cell.bay) new.cell.site) };
+    ghost breaks = { λ old new. BreaksOff (moment (B.out old.cell.bay) (B.has old.cell.bay) (B.answered old.cell.bay) old.cell.site) (totals B.D.told B.D.faults B.D.arms (B.disk_faults old.cell.bay) (B.disk_arms old.cell.bay) old.cell.site) (moment (B.out new.cell.bay) (B.has new.cell.bay) (B.answered new.cell.bay) new.cell.site) (totals B.D.told B.D.faults B.D.arms (B.disk_faults new.cell.bay) (B.disk_arms new.cell.bay) new.cell.site) };
 
     ghost ready = { λ machine lines. MayRun B.D.told (moment (B.out machine.cell.bay) (B.has machine.cell.bay) (B.answered machine.cell.bay) machine.cell.site) lines };
 

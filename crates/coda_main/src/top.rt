@@ -35,7 +35,7 @@ fn run_and_close<S: Source, K: Sink, B: Bay + Drop>(
     ensures later { (past : StoredCell) (lines : List Awaited) → IsStoredKept past → MakeAllAgain past lines → AreOnDisks B.D.told (B.has bay) past
         → IsReportOfLaterRun B.D.told (B.has result.1) (B.answered bay) (B.answered result.1) (S.left source.old) (S.left source.new) (K.held sink.old) (K.held sink.new) result.0 past lines }
     ensures held { (past : StoredCell) (held : IsHeld past) → AreOnDisks B.D.told (B.has bay) past
-        → IsReportOfHeldRun B.D.told (B.has result.1) (B.answered bay) (B.answered result.1) (S.left source.old) (S.left source.new) (K.held sink.old) (K.held sink.new) result.0 past held }
+        → IsReportOfHeldRun B.D.told (B.has result.1) (B.answered bay) (B.answered result.1) (B.disk_faults bay) (B.disk_faults result.1) (B.disk_arms bay) (B.disk_arms result.1) (S.left source.old) (S.left source.new) (K.held sink.old) (K.held sink.new) result.0 past held }
     ensures lines { IsReportOfLines (S.left source.old) (S.left source.new) (K.held sink.old) (K.held sink.new) result.0 }
     ensures disks { IsReportOfDisks (B.disk_faults bay) (B.disk_faults result.1) (B.disk_arms bay) (B.disk_arms result.1) (S.left source.old) (S.left source.new) (K.held sink.old) (K.held sink.new) result.0 }
     ensures disk_faults_later { plus (B.disk_faults bay) 0 ≤ B.disk_faults result.1 }
@@ -67,7 +67,7 @@ fn run_lent<'a, S: Source, K: Sink, B: Bay>(
     ensures later { (past : StoredCell) (lines : List Awaited) → IsStoredKept past → MakeAllAgain past lines → AreOnDisks B.D.told (B.has lent.entry.bay.now) past
         → IsReportOfLaterRun B.D.told (B.has result.1.bay.now) (B.answered lent.entry.bay.now) (B.answered result.1.bay.now) (S.left source.old) (S.left source.new) (K.held sink.old) (K.held sink.new) result.0 past lines }
     ensures held { (past : StoredCell) (held : IsHeld past) → AreOnDisks B.D.told (B.has lent.entry.bay.now) past
-        → IsReportOfHeldRun B.D.told (B.has result.1.bay.now) (B.answered lent.entry.bay.now) (B.answered result.1.bay.now) (S.left source.old) (S.left source.new) (K.held sink.old) (K.held sink.new) result.0 past held }
+        → IsReportOfHeldRun B.D.told (B.has result.1.bay.now) (B.answered lent.entry.bay.now) (B.answered result.1.bay.now) (B.disk_faults lent.entry.bay.now) (B.disk_faults result.1.bay.now) (B.disk_arms lent.entry.bay.now) (B.disk_arms result.1.bay.now) (S.left source.old) (S.left source.new) (K.held sink.old) (K.held sink.new) result.0 past held }
     ensures lines { IsReportOfLines (S.left source.old) (S.left source.new) (K.held sink.old) (K.held sink.new) result.0 }
     ensures disks { IsReportOfDisks (B.disk_faults lent.entry.bay.now) (B.disk_faults result.1.bay.now) (B.disk_arms lent.entry.bay.now) (B.disk_arms result.1.bay.now) (S.left source.old) (S.left source.new) (K.held sink.old) (K.held sink.new) result.0 }
     ensures disk_faults_later { plus (B.disk_faults lent.entry.bay.now) 0 ≤ B.disk_faults result.1.bay.now }
@@ -95,12 +95,11 @@ fn run_lent<'a, S: Source, K: Sink, B: Bay>(
 /// Where the disks held what an earlier run left, take lines that make again all that was made there, as it was: the run goes
 /// on from what those of them find that come, the histories that there were, each perhaps with the entry whose append failed,
 /// and all other lines meet those actors alone that came so far. And whatever lines come, in whatever order: each that makes an
-/// actor does it on the disk that it finds, and what follows keeps what is promised, as long as no call of a disk fails on
-/// which a line was to make an actor and which is another's.
+/// actor does it on the disk that it finds, and what follows keeps what is promised, whatever call of whichever disk fails.
 ///
 /// Over any bay, the status is that of the lines: each line that ran is built or says nothing, and one that ended the
-/// run is refused. Unless memory was wanting or the bay at fault, the bay has all its disks again, its sum of their
-/// faults rose by as many at least as the replies tell, and its sum of `arm` calls by the lines that armed a disk.
+/// run is refused. Unless memory was wanting, the bay's sum of the faults of disks rose by as many at least as the replies
+/// tell, and its sum of `arm` calls by the lines that armed a disk; unless the bay was at fault too, it has all its disks again.
 pub fn run_script<S: Source, K: Sink, B: Bay>(
     alloc: Global,
     source: &mut S,
@@ -112,7 +111,7 @@ pub fn run_script<S: Source, K: Sink, B: Bay>(
     ensures later { (past : StoredCell) (lines : List Awaited) → IsStoredKept past → MakeAllAgain past lines → AreOnDisks B.D.told (B.has bay.old) past
         → IsReportOfLaterRun B.D.told (B.has bay.new) (B.answered bay.old) (B.answered bay.new) (S.left source.old) (S.left source.new) (K.held sink.old) (K.held sink.new) result past lines }
     ensures held { (past : StoredCell) (held : IsHeld past) → AreOnDisks B.D.told (B.has bay.old) past
-        → IsReportOfHeldRun B.D.told (B.has bay.new) (B.answered bay.old) (B.answered bay.new) (S.left source.old) (S.left source.new) (K.held sink.old) (K.held sink.new) result past held }
+        → IsReportOfHeldRun B.D.told (B.has bay.new) (B.answered bay.old) (B.answered bay.new) (B.disk_faults bay.old) (B.disk_faults bay.new) (B.disk_arms bay.old) (B.disk_arms bay.new) (S.left source.old) (S.left source.new) (K.held sink.old) (K.held sink.new) result past held }
     ensures lines { IsReportOfLines (S.left source.old) (S.left source.new) (K.held sink.old) (K.held sink.new) result }
     ensures disks { IsReportOfDisks (B.disk_faults bay.old) (B.disk_faults bay.new) (B.disk_arms bay.old) (B.disk_arms bay.new) (S.left source.old) (S.left source.new) (K.held sink.old) (K.held sink.new) result }
     ensures disk_faults_later { plus (B.disk_faults bay.old) 0 ≤ B.disk_faults bay.new }
@@ -147,7 +146,7 @@ pub fn coda<S: Source, K: Sink, B: Bay>(
     ensures later { IsRun (map string_bytes words.now) → (past : StoredCell) (lines : List Awaited) → IsStoredKept past → MakeAllAgain past lines → AreOnDisks B.D.told (B.has bay.old) past
         → IsReportOfLaterRun B.D.told (B.has bay.new) (B.answered bay.old) (B.answered bay.new) (S.left source.old) (S.left source.new) (K.held sink.old) (K.held sink.new) result past lines }
     ensures held { IsRun (map string_bytes words.now) → (past : StoredCell) (held : IsHeld past) → AreOnDisks B.D.told (B.has bay.old) past
-        → IsReportOfHeldRun B.D.told (B.has bay.new) (B.answered bay.old) (B.answered bay.new) (S.left source.old) (S.left source.new) (K.held sink.old) (K.held sink.new) result past held }
+        → IsReportOfHeldRun B.D.told (B.has bay.new) (B.answered bay.old) (B.answered bay.new) (B.disk_faults bay.old) (B.disk_faults bay.new) (B.disk_arms bay.old) (B.disk_arms bay.new) (S.left source.old) (S.left source.new) (K.held sink.old) (K.held sink.new) result past held }
     ensures lines { IsRun (map string_bytes words.now) → IsReportOfLines (S.left source.old) (S.left source.new) (K.held sink.old) (K.held sink.new) result }
     ensures disks { IsRun (map string_bytes words.now) → IsReportOfDisks (B.disk_faults bay.old) (B.disk_faults bay.new) (B.disk_arms bay.old) (B.disk_arms bay.new) (S.left source.old) (S.left source.new) (K.held sink.old) (K.held sink.new) result }
     ensures disk_faults_later { plus (B.disk_faults bay.old) 0 ≤ B.disk_faults bay.new }

@@ -28,6 +28,7 @@ returns-in-Ok-text_of-clause-counts g c =
       subst (IsText c.in-Ok.reply) (sym same) c.in-Ok-text_of.ensures.said,
       c.in-Ok.ensures.counts,
       line_replied g.B.D.Disk.told before behind c.args.said.now c.in-Ok.reply c.into_vec.result.items c.requires.range c.in-Ok.ensures.does (λ stored kept stands can. same ∙ c.in-Ok-text_of.ensures.printed stored kept stands can),
+      λ at shows. line_answered_held g.B.D.Disk.told before behind at c.args.said.now c.in-Ok.reply c.into_vec.result.items c.requires.range shows c.in-Ok.ensures.does c.in-Ok.ensures.finds (λ cell seen stands can. same ∙ c.in-Ok-text_of.ensures.printed cell seen stands can) (subst (IsText c.in-Ok.reply) (sym same) c.in-Ok-text_of.ensures.said),
     )
 
 pub returns-in-Ok-text_of-clause-again : goal.returns-in-Ok-text_of-clause-again
@@ -67,5 +68,5 @@ returns-in-Ok-text_of-clause-held g c = λ at shows.
     let before = moment (g.B.Bay.out old.bay) (g.B.Bay.has old.bay) (g.B.Bay.answered old.bay) old.site in
     let behind = moment (g.B.Bay.out new.bay) (g.B.Bay.has new.bay) (g.B.Bay.answered new.bay) new.site in
     let same : c.into_vec.result.items ≡ c.in-Ok-text_of.text = search rules in
-    line_answered_held g.B.D.Disk.told before behind at c.args.said.now c.in-Ok.reply c.into_vec.result.items c.requires.range shows c.in-Ok.ensures.does c.in-Ok.ensures.finds
-    (λ cell seen stands can. same ∙ c.in-Ok-text_of.ensures.printed cell seen stands can) (subst (IsText c.in-Ok.reply) (sym same) c.in-Ok-text_of.ensures.said)
+    (line_answered_held g.B.D.Disk.told before behind at c.args.said.now c.in-Ok.reply c.into_vec.result.items c.requires.range shows c.in-Ok.ensures.does c.in-Ok.ensures.finds
+    (λ cell seen stands can. same ∙ c.in-Ok-text_of.ensures.printed cell seen stands can) (subst (IsText c.in-Ok.reply) (sym same) c.in-Ok-text_of.ensures.said)).0

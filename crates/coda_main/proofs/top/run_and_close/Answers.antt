@@ -62,6 +62,6 @@ returns-clause-held g c = λ past held disks.
     let report = c.run-status.ensures.report in
     let told = g.B.D.Disk.told in
     reported_held c.run-status.new.machine (record { cell = c.new.result }) report.1 told (λ m. moment (g.B.Bay.out m.cell.bay) (g.B.Bay.has m.cell.bay) (g.B.Bay.answered m.cell.bay) m.cell.site) (λ m. totals g.B.D.Disk.told g.B.D.Disk.faults g.B.D.Disk.arms (g.B.Bay.disk_faults m.cell.bay) (g.B.Bay.disk_arms m.cell.bay) m.cell.site) _ _ _ _ report.0 c.run-status.result report.2 report.3
-    (g.B.Bay.has c.close.result) (g.B.Bay.answered c.args.bay) (g.B.Bay.answered c.close.result) past held start.ready
+    (g.B.Bay.has c.close.result) (g.B.Bay.answered c.args.bay) (g.B.Bay.answered c.close.result) (g.B.Bay.disk_faults c.args.bay) (g.B.Bay.disk_faults c.close.result) (g.B.Bay.disk_arms c.args.bay) (g.B.Bay.disk_arms c.close.result) past held start.ready
     (record { held = held_cells_are_kept.begun past held; stands = start.begins past held (subst (λ bay. AreOnDisks told (g.B.Bay.has bay) past) (sym start.bay) disks); answered = ap g.B.Bay.answered start.bay })
-    c.close.ensures.answered (λ ready cell stands. c.close.ensures.stands cell ready stands)
+    c.close.ensures.answered (λ ready cell stands. c.close.ensures.stands cell ready stands) (ap (λ t. t.faults) start.counts) (ap (λ t. t.arms) start.counts) c.close.ensures.faults_out c.close.ensures.arms_out

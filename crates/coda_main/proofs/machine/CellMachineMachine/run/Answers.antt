@@ -27,7 +27,7 @@ returns-else-waits-clause-ok g c =
       answered_since before behind,
       (
         line_resumes g.B.D.Disk.told before behind c.args.line.now text.items c.in-Ok-Some.said spelled built (line_gives g.B.D.Disk.told before behind c.args.line.now text.items c.in-Ok-Some.said spelled built goes_on answers) again between elsewhere finds,
-        line_counts g.B.D.Disk.told before behind old_counts new_counts c.args.line.now text.items c.in-Ok-Some.said counts.0 spelled built counts.1 counts.2 counts.3,
+        line_counts g.B.D.Disk.told before behind old_counts new_counts c.args.line.now text.items c.in-Ok-Some.said counts.0 spelled built counts.1 counts.2 counts.3 counts.4,
       ),
     ))
 
@@ -36,4 +36,4 @@ returns-in-Ok-None-clause-ok g c =
     let old = c.args.self.now.cell in
     let before = moment (g.B.Bay.out old.bay) (g.B.Bay.has old.bay) (g.B.Bay.answered old.bay) old.site in
     let silent : line_of c.args.line.now ≡ Ok None = search rules in
-    ([], (silent_resumes g.B.D.Disk.told before c.args.line.now c.new.result.items silent c.new.ensures.items (silent_gives g.B.D.Disk.told before c.args.line.now c.new.result.items silent c.new.ensures.items), inl (silent, c.new.ensures.items, refl, refl, λ plain shows. shows)))
+    ([], (silent_resumes g.B.D.Disk.told before c.args.line.now c.new.result.items silent c.new.ensures.items (silent_gives g.B.D.Disk.told before c.args.line.now c.new.result.items silent c.new.ensures.items), inl (silent, c.new.ensures.items, refl, refl, (λ plain shows. shows), λ at shows. shows)))

@@ -1,0 +1,6 @@
+use Rattle.std.proofs.Common.{rules}
+use Rattle.coda_main.proofs.top.run_script.Goals as goal
+
+-- src/top.rt:103:1
+pub returns-clause-held : goal.returns-clause-held
+returns-clause-held g c = λ past held disks. search rules
