@@ -55,7 +55,6 @@ use Rattle.coda_runs.specs.Performed.{HasNoOther, IsNew, IsStored, IsSet, IsGone
 use Rattle.coda_runs.proofs.Performed.{leads, creation_made, made_new, store_at_stored, stored_so, setattr_changed, changed_so, IsNoDir, accept_removed, accept_rmdir_removed, removed_so, accept_renamed, apart_names, rename_leaves, replaced_so}
 use Rattle.coda_runs.proofs.Served.{Keeps, keeps_look, has_fetched, put_off}
 use Rattle.coda_runs.proofs.Unchanged.{others_stay}
-use Rattle.coda_runs.proofs.Running.{always_kept}
 use Rattle.coda_runs.proofs.Meeting.{met, met_kept, ShowsAs, clients_as, Ends, WasDown, DidAll, LackedRoom, HadFault, line_ends}
 
 -- ---- what each operation leaves
@@ -423,5 +422,5 @@ module _ (old new : StoredCell) (kept : IsStoredKept old) (t : Task) (number : â
   ended reply done (HadFault at own events stop does shows is same) = absurd (never_failed number object (sym done âˆ™ is))
 
 pub operations_are_performed : OperationsArePerformed
-operations_are_performed ls report outside cell run t number object answered new happens =
-    ended cell new (always_kept ls report outside cell run) t number object (Done number object) refl (line_ends cell (line.Task t) (Done number object) answered new happens)
+operations_are_performed cell kept t number object answered new happens =
+    ended cell new kept t number object (Done number object) refl (line_ends cell (line.Task t) (Done number object) answered new happens)

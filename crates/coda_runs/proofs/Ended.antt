@@ -26,10 +26,10 @@ use Rattle.coda_cell.specs.Steps.{Doing, Unless, Named, first_missing, on_volume
 use Rattle.coda_cell.specs.Refused.{Refused}
 use Rattle.coda_cell.proofs.Histories.{server_stays}
 use Rattle.coda_cell.proofs.Events.{all_there}
-use Rattle.coda_stored.specs.Cells.{StoredCell, nothing_stored}
+use Rattle.coda_stored.specs.Cells.{StoredCell}
 use Rattle.coda_stored.specs.Lines.{Stop, Happens}
 use Rattle.coda_runs.specs.Runs.{LineGives}
-use Rattle.coda_runs.specs.Lettered.{volume_of, LettersHaveEnds}
+use Rattle.coda_runs.specs.Lettered.{volume_of}
 use Rattle.coda_runs.proofs.Coming.{acting, Leaves, Actors, OneVolume, OneClient, ComesTo, Acted, Aside, line_comes}
 use Rattle.coda_runs.proofs.Meeting.{met, ShowsAs, Ends, WasDown, DidAll, LackedRoom, HadFault}
 
@@ -137,7 +137,7 @@ module _ (cell : MadeCell) where
       by None e = cc
       by (Some blocks) e = (blocks, refl)
 
-  home_of : (client volume server : ℕ) → first_missing (on_holder (state_of cell) client volume server) ≡ None → cell.homes volume ≡ Some server
+  pub home_of : (client volume server : ℕ) → first_missing (on_holder (state_of cell) client volume server) ≡ None → cell.homes volume ≡ Some server
   home_of client volume server all = by (cell.homes volume) (all_there (client_named (state_of cell) client) (volume_named (state_of cell) volume) (holder_named (state_of cell) server volume) all).2
     where
       by : (o : Option ℕ) → option_map_or (λ (r : ReplicaState). r.server == server) (option_map (replica_of (λ s. (cell.acted.replicas s volume).history) volume) o) false ≡ true → o ≡ Some server
@@ -331,11 +331,11 @@ happens_there old new said reply outside all happens = came_there old new said a
 
 -- ---- runs
 
-gives_there : (old new : StoredCell) (bytes text : List ℕ) (outside : List (List ℕ)) → AllThere old.made old.made.waiting → LineGives old bytes text outside new → AllThere new.made new.made.waiting
+pub gives_there : (old new : StoredCell) (bytes text : List ℕ) (outside : List (List ℕ)) → AllThere old.made old.made.waiting → LineGives old bytes text outside new → AllThere new.made new.made.waiting
 gives_there old new bytes text outside all (inl silent) = subst (λ (c : StoredCell). AllThere c.made c.made.waiting) (sym silent.3) all
 gives_there old new bytes text outside all (inr x) = happens_there old new x.said x.reply outside all x.happens
 
-runs_there : (old new : StoredCell) (ls : List (List ℕ)) (report : List ℕ) (outside : List (List ℕ)) → AllThere old.made old.made.waiting → Runs LineGives old ls report outside new → AllThere new.made new.made.waiting
+pub runs_there : (old new : StoredCell) (ls : List (List ℕ)) (report : List ℕ) (outside : List (List ℕ)) → AllThere old.made old.made.waiting → Runs LineGives old ls report outside new → AllThere new.made new.made.waiting
 runs_there old new [] report outside all run = subst (λ (c : StoredCell). AllThere c.made c.made.waiting) (sym run.2) all
 runs_there old new (l ∷ more) report outside all run = runs_there run.0 new more run.2 run.4 (gives_there old run.0 l run.1 run.3 all run.5) run.6
 
@@ -355,8 +355,3 @@ named cell sent there =
     (ap (λ o. is_some (option_map (made_client client (cell.acted.clients client).history) o)) there.0.1)
     (ap (λ o. is_some (option_map replica o)) there.1)
     (ap (λ o. option_map_or (λ (r : ReplicaState). r.server == server) (option_map replica o) false) there.1 ∙ eq-eqb (replica server).server server (server_stays (new_replica server volume) (cell.acted.replicas server volume).history))
-
-pub letters_have_ends : LettersHaveEnds
-letters_have_ends ls report outside cell run number sent is =
-    let there = runs_there nothing_stored cell ls report outside tt run in
-    named cell.made sent (there_at cell.made number cell.made.waiting sent there is)

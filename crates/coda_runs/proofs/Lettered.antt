@@ -46,7 +46,6 @@ use Rattle.coda_stored.specs.Lines.{Stop}
 use Rattle.coda_runs.specs.Lettered.{answer_with, answer_told, WaitsUnder, WentAs, SendTells, CameFor, DeliveryTells, LossTells, TellsLetters, RepliesNameLetters, IsSo, LettersSayWhatIsSo}
 use Rattle.coda_runs.proofs.Coming.{leaves_letters, touches_letters, ComesTo, Acted, Aside, line_comes}
 use Rattle.coda_runs.proofs.Meeting.{met, met_kept, ShowsAs, Ends, WasDown, DidAll, LackedRoom, HadFault}
-use Rattle.coda_runs.proofs.Running.{always_kept}
 use Rattle.coda_runs.proofs.Unlettered.{entries_stay, stopped_entries, task_entries, line_first}
 
 -- ---- letters by their numbers
@@ -57,10 +56,10 @@ some x = Some x
 abbrev none : {A : Type 0} → Option A
 none = None
 
-at_first : (l : ℕ × Sent) (waiting : Waiting) (number : ℕ) → number ≡ l.0 → sent_at number (l ∷ waiting) ≡ Some l.1
+pub at_first : (l : ℕ × Sent) (waiting : Waiting) (number : ℕ) → number ≡ l.0 → sent_at number (l ∷ waiting) ≡ Some l.1
 at_first l waiting number e = rw (eq-eqb number l.0 e) refl
 
-at_later : (l : ℕ × Sent) (waiting : Waiting) (number : ℕ) → (number ≡ l.0 → ⊥) → sent_at number (l ∷ waiting) ≡ sent_at number waiting
+pub at_later : (l : ℕ × Sent) (waiting : Waiting) (number : ℕ) → (number ≡ l.0 → ⊥) → sent_at number (l ∷ waiting) ≡ sent_at number waiting
 at_later l waiting number ne = rw (ne_eqb number l.0 ne) refl
 
 abbrev AreUpTo : ℕ → Waiting → Type 0
@@ -139,7 +138,7 @@ no_some : {A : Type 0} (o : Option A) (x : A) → o ≡ None → o ≡ Some x �
 no_some o x none some = cc
 
 -- a letter that waits has a number above those before it
-above : (before last : ℕ) (waiting : Waiting) → AreNumbered before last waiting → (number : ℕ) (sent : Sent) → sent_at number waiting ≡ Some sent → before < number
+pub above : (before last : ℕ) (waiting : Waiting) → AreNumbered before last waiting → (number : ℕ) (sent : Sent) → sent_at number waiting ≡ Some sent → before < number
 above before last [] numbered number sent e = cc
 above before last (l ∷ waiting) numbered number sent e = elim (nat_eq number l.0) as (λ b. nat_eq number l.0 ≡ b → cond b (Some l.1) (sent_at number waiting) ≡ Some sent → before < number) [
   | true ↦ λ that is. (let first = numbered.0 in let same = eqb-true number l.0 that in omega (arith, first, same))
@@ -412,8 +411,8 @@ module _ (old new : StoredCell) (kept : IsStoredKept old) (said : Line) where
   came reply (Aside none whole leaves) = untouched said reply old.made.waiting new.made.waiting none (leaves_letters old.made new.made leaves)
 
 pub replies_name_letters : RepliesNameLetters
-replies_name_letters ls report outside cell run said reply answered new happens =
-    came cell new (always_kept ls report outside cell run) said reply (line_comes cell reply answered new said happens)
+replies_name_letters cell kept said reply answered new happens =
+    came cell new kept said reply (line_comes cell reply answered new said happens)
 
 -- ---- what letters say
 
@@ -421,7 +420,7 @@ verdict_is : (verdict : Verdict) → plain_answer (answer_with verdict) ≡ Rule
 verdict_is verdicts.Applied = refl
 verdict_is (verdicts.Conflict refused why) = refl
 
-is_so : (cell : MadeCell) (sent : Sent) → IsKept cell → IsWaiting cell.acted sent → IsSo cell sent
+pub is_so : (cell : MadeCell) (sent : Sent) → IsKept cell → IsWaiting cell.acted sent → IsSo cell sent
 is_so cell (ChunkSent client server volume number span) kept there =
     let agree = kept.sound.agree none_joins in
     let deeds = done_on cell.acted client volume in
@@ -433,7 +432,7 @@ is_so cell (AnswerSent server client volume number answer) kept there = λ verdi
     agree.answered there.message server client volume number verdict (there.there ∙ ap (λ a. some (PlainAnswer server client volume number a)) (ap plain_answer is ∙ verdict_is verdict))
 
 pub letters_say_what_is_so : LettersSayWhatIsSo
-letters_say_what_is_so ls report outside cell run message sent is =
+letters_say_what_is_so cell is_kept message sent is =
     let found = whole cell.made none_joins in
-    let kept = (always_kept ls report outside cell run).kept none_joins in
+    let kept = is_kept.kept none_joins in
     is_so found sent kept (waits found.acted message cell.made.waiting sent kept.letters.pooled is)

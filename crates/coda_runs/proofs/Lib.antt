@@ -24,6 +24,8 @@ pub mod Found
 pub mod Foreign
 pub mod NeverCame
 pub mod WhoCame
+pub mod Addressed
+pub mod Standing
 pub mod Held
 pub mod OnMade
 pub mod LaterMade

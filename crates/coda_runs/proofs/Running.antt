@@ -1,5 +1,5 @@
 -- What lines give, and what runs of lines leave.
-use Rattle.std.proofs.Common.{◌≡◌, ℕ, false, List, [], ◌∷◌, Some, Ok, refl, sym, ap, ◌∙◌, subst, inl, inr}
+use Rattle.std.proofs.Common.{◌≡◌, ◌⊎◌, ℕ, false, List, [], ◌∷◌, Some, Ok, refl, sym, ap, ◌∙◌, subst, inl, inr}
 use Rattle.coda_cancel.specs.Cancel.{fold}
 use Rattle.coda_engine.specs.declared.status.Kind.TheVariants.{Mode}
 use Rattle.coda_engine.specs.Run.{Runs}
@@ -7,7 +7,7 @@ use Rattle.coda_script.specs.declared.line.Line.{Line}
 use Rattle.coda_script.specs.Lines.{line_of}
 use Rattle.coda_script.specs.Ranges.{InRange}
 use Rattle.coda_script.proofs.WholeLines.{is_found, is_in_range}
-use Rattle.coda_plain.specs.Deeds.{Settlement, pending_of}
+use Rattle.coda_plain.specs.Deeds.{Settlement, settlements_of, pending_of}
 use Rattle.coda_plain.specs.Histories.{In}
 use Rattle.coda_plain.specs.Logs.{front_by}
 use Rattle.coda_plain.specs.Moves.{done_on}
@@ -24,7 +24,7 @@ use Rattle.coda_stored.specs.Lines.{is_built}
 use Rattle.coda_stored.proofs.Keeping.{stored_cells_are_kept, stored_cells_are_promised}
 use Rattle.coda_runs.proofs.Beginning.{runs_begin}
 use Rattle.coda_runs.specs.Runs.{LineGives, LineRefused}
-use Rattle.coda_runs.specs.Headline.{histories_of, IsOfPending, HasRun, ScriptsRun, ScriptsLearnOfTheirOwn, ChunksAreDecidedOnce, CertifiedChunksAreApplied, ConflictsNameASentRecord, OperationsAreKept, SettlementsAreDecided, LogsArePending}
+use Rattle.coda_runs.specs.Headline.{histories_of, IsOfPending, HasRun, ScriptsRun, ScriptsLearnOfTheirOwn, ChunksAreDecidedOnce, CertifiedChunksAreApplied, ConflictsNameASentRecord, OperationsAreKept, IsDecidedIn, SettlementsAreDecided, LogsArePending}
 
 -- ---- one line
 
@@ -102,12 +102,18 @@ scripts_learn_of_their_own ls report outside cell run client volume = ap (λ (f 
 pub operations_are_kept : OperationsAreKept
 operations_are_kept ls report outside cell run client volume = (promised ls report outside cell run).kept client volume (scripts_learn_of_their_own ls report outside cell run client volume)
 
+settled_in : (cell : StoredCell) → IsStoredKept cell → (client volume : ℕ) (s : Settlement) → In s (settlements_of (done_on cell.made.acted client volume))
+    → IsDecidedIn cell client volume s ⊎ In s (cell.made.acted.learned client volume)
+settled_in cell kept client volume s i = ((kept.kept none_joins).sound.agree none_joins).settled client volume s i
+
 pub settlements_are_decided : SettlementsAreDecided
-settlements_are_decided ls report outside cell run client volume s i =
-    elim ((((always_kept ls report outside cell run).kept none_joins).sound.agree none_joins).settled client volume s i) [
-      | inl decided ↦ decided
-      | inr told ↦ absurd (subst (In s) (scripts_learn_of_their_own ls report outside cell run client volume) told)
-    ]
+settlements_are_decided = record {
+  first = λ ls report outside cell run client volume s i. elim (settled_in cell (always_kept ls report outside cell run) client volume s i) [
+    | inl decided ↦ decided
+    | inr told ↦ absurd (subst (In s) (scripts_learn_of_their_own ls report outside cell run client volume) told)
+  ];
+  each = settled_in;
+}
 
 pub logs_are_pending : LogsArePending
 logs_are_pending ls report outside cell run client volume c is = (scripts_run ls report outside cell run).logs client volume c is

@@ -41,7 +41,6 @@ use Rattle.coda_stored.specs.Kept.{IsStoredKept}
 use Rattle.coda_stored.specs.Lines.{refused_down, refused_full, refused_fault}
 use Rattle.coda_runs.specs.Shown.{Looks, shown_by, WasShown, WhatIsShownIsThere}
 use Rattle.coda_runs.proofs.Performed.{leads}
-use Rattle.coda_runs.proofs.Running.{always_kept}
 use Rattle.coda_runs.proofs.Meeting.{met, met_kept, ShowsAs, clients_as, Ends, WasDown, DidAll, LackedRoom, HadFault, line_ends}
 use Rattle.coda_runs.proofs.Served.{Keeps, keeps_look, has_fetched, put_off}
 
@@ -211,5 +210,5 @@ module _ (old new : StoredCell) (kept : IsStoredKept old) (t : Task) (kind : Nod
   ended reply is (HadFault at own events stop does shows answered same) = never reply refused_fault is refl answered
 
 pub what_is_shown_is_there : WhatIsShownIsThere
-what_is_shown_is_there ls report outside cell run t reply answered new kind happens is =
-    ended cell new (always_kept ls report outside cell run) t kind reply is (line_ends cell (line.Task t) reply answered new happens)
+what_is_shown_is_there cell kept t reply answered new kind happens is =
+    ended cell new kept t kind reply is (line_ends cell (line.Task t) reply answered new happens)

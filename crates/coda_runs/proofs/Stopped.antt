@@ -23,7 +23,6 @@ use Rattle.coda_stored.proofs.Entering.{IsBy, AreBy, by_parts, by_entries}
 use Rattle.coda_runs.specs.Causes.{named_by, IsAnswered, IsNextEntry, DiskCause, IsDown, HasNoRoom, HasFailed, RefusalsHaveCauses}
 use Rattle.coda_runs.proofs.Meeting.{met, met_kept, IsMet, ShowsAs, clients_as, Ends, WasDown, DidAll, LackedRoom, HadFault, line_ends}
 use Rattle.coda_runs.proofs.Refused.{at_named, task_is}
-use Rattle.coda_runs.proofs.Running.{always_kept}
 
 -- ---- who enters what happens
 
@@ -163,5 +162,5 @@ module _ (old new : StoredCell) (kept : IsStoredKept old) (t : Task) (client vol
   ended reply (HadFault at own events stop does shows is same) = fault reply own at events stop does is same
 
 pub refusals_have_causes : RefusalsHaveCauses
-refusals_have_causes ls report outside cell run t reply answers new client volume happens named =
-    ended cell new (always_kept ls report outside cell run) t client volume named reply (line_ends cell (line.Task t) reply answers new happens)
+refusals_have_causes cell kept t reply answers new client volume happens named =
+    ended cell new kept t client volume named reply (line_ends cell (line.Task t) reply answers new happens)

@@ -26,7 +26,6 @@ use Rattle.coda_cell.proofs.KeptLines.{lines_keep_cells}
 use Rattle.coda_stored.specs.Cells.{StoredCell}
 use Rattle.coda_stored.specs.Kept.{IsStoredKept}
 use Rattle.coda_runs.specs.Thawed.{VerdictsThaw}
-use Rattle.coda_runs.proofs.Running.{always_kept}
 use Rattle.coda_runs.proofs.Meeting.{met, met_kept, clients_as, Ends, WasDown, DidAll, LackedRoom, HadFault, line_ends}
 
 -- ---- what a drain comes to
@@ -94,6 +93,6 @@ module _ (old new : StoredCell) (kept : IsStoredKept old) (client volume server 
   ended (HadFault at own events stop does shows answered same) is = cc
 
 pub verdicts_thaw : VerdictsThaw
-verdicts_thaw ls report outside cell run client volume server window number verdict answered new c happens is =
-    ended cell new (always_kept ls report outside cell run) client volume server window number verdict c
+verdicts_thaw cell kept client volume server window number verdict answered new c happens is =
+    ended cell new kept client volume server window number verdict c
     (line_ends cell (line.Task (task.Drain client volume server window)) (Drained number (Decided verdict)) answered new happens) is

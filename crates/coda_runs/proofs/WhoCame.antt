@@ -13,7 +13,7 @@ use Rattle.coda_stored.proofs.Resuming.{again_stays}
 use Rattle.coda_runs.specs.Later.{Later, Waits, Goes, Strays, resumed, LaterGives}
 use Rattle.coda_runs.specs.Lettered.{volume_of}
 use Rattle.coda_runs.specs.NeverCame.{LettersAreOfThoseWhoCame}
-use Rattle.coda_runs.proofs.Ended.{IsThere, AllThere, there_at, all_stay, happens_there, named}
+use Rattle.coda_runs.proofs.Ended.{IsThere, AllThere, there_at, all_stay, happens_there, gives_there, named}
 
 -- ---- who is there where more came
 
@@ -75,11 +75,11 @@ again_came old new next left reply makes all =
 
 abbrev HasCame : Later → Type 0
 HasCame (Waits cell next left answered) = AllCame cell (next ∷ left)
-HasCame (Goes at) = Unit {0}
+HasCame (Goes at) = AllThere at.cell.made at.cell.made.waiting
 HasCame Strays = Unit {0}
 
-resumed_came : (cell : StoredCell) (left : List Awaited) (answered : List (List ℕ)) → AllCame cell left → HasCame (resumed cell left answered)
-resumed_came cell [] answered all = tt
+pub resumed_came : (cell : StoredCell) (left : List Awaited) (answered : List (List ℕ)) → AllCame cell left → HasCame (resumed cell left answered)
+resumed_came cell [] answered all = all
 resumed_came cell (next ∷ left) answered all = all
 
 gives_came : (old new : Later) (bytes text : List ℕ) (outside : List (List ℕ)) → HasCame old → LaterGives old bytes text outside new → HasCame new
@@ -89,10 +89,10 @@ gives_came (Waits cell next left answered) new bytes text outside all (inr (inr 
     subst HasCame (sym b.goes_on) (happens_there (seen cell (next ∷ left)) (seen b.found (next ∷ left)) b.said b.reply outside all b.does.does)
 gives_came (Waits cell next left answered) new bytes text outside all (inr (inr (inr (inl f)))) = subst HasCame (sym f.stays) all
 gives_came (Waits cell next left answered) new bytes text outside all (inr (inr (inr (inr e)))) = subst HasCame (sym e.strays) tt
-gives_came (Goes at) new bytes text outside all (next, gives, same) = subst HasCame (sym same) tt
+gives_came (Goes at) new bytes text outside all (next, gives, same) = subst HasCame (sym same) (gives_there at.cell next.cell bytes text outside all gives.0)
 gives_came Strays new bytes text outside all same = subst HasCame (sym same) tt
 
-runs_came : (old new : Later) (ls : List (List ℕ)) (report : List ℕ) (outside : List (List ℕ)) → HasCame old → Runs LaterGives old ls report outside new → HasCame new
+pub runs_came : (old new : Later) (ls : List (List ℕ)) (report : List ℕ) (outside : List (List ℕ)) → HasCame old → Runs LaterGives old ls report outside new → HasCame new
 runs_came old new [] report outside all run = subst HasCame (sym run.2) all
 runs_came old new (l ∷ more) report outside all run = runs_came run.0 new more run.2 run.4 (gives_came old run.0 l run.1 run.3 all run.5) run.6
 

@@ -29,7 +29,7 @@ use Rattle.coda_plain.specs.Moves.{AtClient}
 use Rattle.coda_stored.specs.Cells.{StoredCell, after_all}
 use Rattle.coda_stored.specs.Lines.{meets, Stop, Happens, client_down, refused_down, refused_full, refused_fault}
 use Rattle.coda_stored.specs.Room.{Lacks}
-use Rattle.coda_runs.specs.Headline.{Always}
+use Rattle.coda_runs.specs.Headline.{InEachKept}
 use Rattle.coda_runs.specs.Performed.{Leads, End, content_of}
 use Rattle.coda_runs.specs.Shown.{shown_by}
 
@@ -247,8 +247,8 @@ pub data DiskCause (old new : StoredCell) (t : Task) (client : ℕ) (reply : Rep
   HasFailed : (entry : ClientEntry) (mid : StoredCell) → reply ≡ refused_fault → IsNextEntry old mid t client entry
       → (new.made.acted.clients client).failed ≡ Some entry → (new.made.acted.clients client).up ≡ false → DiskCause old new t client reply
 
--- Whatever lines ran, an operation, a read or a listing is refused only for a cause that holds.
+-- In every cell that is kept, an operation, a read or a listing is refused only for a cause that holds.
 abbrev pub RefusalsHaveCauses : Type 0
 RefusalsHaveCauses =
-    Always (λ cell. (t : Task) (reply : Reply) (outside : List (List ℕ)) (new : StoredCell) (client volume : ℕ) → Happens cell (line.Task t) reply outside new → named_by t ≡ Some (client, volume)
+    InEachKept (λ cell. (t : Task) (reply : Reply) (outside : List (List ℕ)) (new : StoredCell) (client volume : ℕ) → Happens cell (line.Task t) reply outside new → named_by t ≡ Some (client, volume)
     → IsAnswered t client volume (first_missing (on_volume (state_of cell.made) client volume)) (state_of new.made).clients reply ⊎ DiskCause cell new t client reply)

@@ -1,5 +1,5 @@
 -- What all runs of scripts have in common, in the words of a file system that replays logs, whatever crashes and whatever disks fail.
-use Rattle.std.specs.Prelude.{◌≡◌, ℕ, Some, None, Ok, List, [], ◌++◌, length}
+use Rattle.std.specs.Prelude.{◌≡◌, ◌⊎◌, ℕ, Some, None, Ok, List, [], ◌++◌, length}
 use Rattle.coda_tree.specs.Volume.{Nodes}
 use Rattle.coda_certify.specs.declared.reason.Reason.{Reason}
 use Rattle.coda_certify.specs.declared.verdict.Verdict.TheVariants.{Applied, Conflict}
@@ -20,6 +20,7 @@ use Rattle.coda_script.specs.declared.reply.Reply.TheVariants.{Recovered}
 use Rattle.coda_cell.specs.State.{log_of, ClientState}
 use Rattle.coda_cell.specs.Made.{MadeCell, state_of}
 use Rattle.coda_stored.specs.Cells.{StoredCell, nothing_stored}
+use Rattle.coda_stored.specs.Kept.{IsStoredKept}
 use Rattle.coda_stored.specs.Laws.{Begins}
 use Rattle.coda_stored.specs.Lines.{Happens}
 use Rattle.coda_runs.specs.Runs.{LineGives}
@@ -54,6 +55,10 @@ pub record HasRun (cell : StoredCell) : Type 0 where
 abbrev pub Always : (StoredCell → Type 0) → Type 0
 Always Holds = (ls : List (List ℕ)) (report : List ℕ) (outside : List (List ℕ)) (cell : StoredCell) → Runs LineGives nothing_stored ls report outside cell → Holds cell
 
+-- In every cell that is kept: in each that a run from nothing leaves, and in each that a later run reaches which makes the actors of an earlier one again.
+abbrev pub InEachKept : (StoredCell → Type 0) → Type 0
+InEachKept Holds = (cell : StoredCell) → IsStoredKept cell → Holds cell
+
 -- Whatever lines ran, the cell is a run from nothing.
 abbrev pub ScriptsRun : Type 0
 ScriptsRun = Always HasRun
@@ -82,10 +87,15 @@ ConflictsNameASentRecord =
 abbrev pub OperationsAreKept : Type 0
 OperationsAreKept = Always (λ cell. (client volume : ℕ) → AreKept (histories_of cell) client volume)
 
--- A client settles a chunk only by a verdict that a server of the volume decided on it, whatever letters were lost or came twice.
-abbrev pub SettlementsAreDecided : Type 0
-SettlementsAreDecided =
-    Always (λ cell. (client volume : ℕ) (s : Settlement) → In s (settlements_of (done_on cell.made.acted client volume)) → IsDecided (λ server w. (cell.made.acted.replicas server w).history) volume client s.number s.verdict)
+-- a server of the volume decided the chunk of a settlement, with its verdict
+abbrev pub IsDecidedIn : StoredCell → ℕ → ℕ → Settlement → Type 0
+IsDecidedIn cell client volume s = IsDecided (λ server w. (cell.made.acted.replicas server w).history) volume client s.number s.verdict
+
+-- A client settles a chunk only by a verdict that a server of the volume decided on it, whatever letters were lost or came twice. In every cell that
+-- is kept it does, or it learned of the verdict from a replica that is none of the cell's; of none such did it learn whatever lines ran from nothing.
+pub record SettlementsAreDecided : Type 0 where
+  pub first : Always (λ cell. (client volume : ℕ) (s : Settlement) → In s (settlements_of (done_on cell.made.acted client volume)) → IsDecidedIn cell client volume s)
+  pub each : InEachKept (λ cell. (client volume : ℕ) (s : Settlement) → In s (settlements_of (done_on cell.made.acted client volume)) → IsDecidedIn cell client volume s ⊎ In s (cell.made.acted.learned client volume))
 
 -- A client's log of a volume is what cancellation leaves of its pending operations: of those of the chunk that is on its way, and of the
 -- others.
@@ -98,14 +108,15 @@ abbrev pub AcknowledgedEntriesStay : Type 0
 AcknowledgedEntriesStay =
     Always (λ cell. (ls : List (List ℕ)) (report : List ℕ) (outside : List (List ℕ)) (later : StoredCell) → Runs LineGives cell ls report outside later → Begins later cell)
 
--- A client that is recovered has the history from before, or that one with the one entry whose append failed, and the reply counts its entries.
+-- In whatever cell, a client that is recovered has the history from before, or that one with the one entry whose append failed, and the reply counts
+-- its entries.
 abbrev pub ClientsComeBack : Type 0
 ClientsComeBack =
-    Always (λ cell. (client count : ℕ) (outside : List (List ℕ)) (new : StoredCell) → Happens cell (line.RecoverClient client) (Recovered count) outside new
-    → IsRecovered (cell.made.acted.clients client) (new.made.acted.clients client).history × (count ≡ length (new.made.acted.clients client).history))
+    (cell : StoredCell) (client count : ℕ) (outside : List (List ℕ)) (new : StoredCell) → Happens cell (line.RecoverClient client) (Recovered count) outside new
+    → IsRecovered (cell.made.acted.clients client) (new.made.acted.clients client).history × (count ≡ length (new.made.acted.clients client).history)
 
 -- A server's replica of a volume likewise.
 abbrev pub ReplicasComeBack : Type 0
 ReplicasComeBack =
-    Always (λ cell. (server volume count : ℕ) (outside : List (List ℕ)) (new : StoredCell) → Happens cell (line.RecoverReplica server volume) (Recovered count) outside new
-    → IsRecovered (cell.made.acted.replicas server volume) (new.made.acted.replicas server volume).history × (count ≡ length (new.made.acted.replicas server volume).history))
+    (cell : StoredCell) (server volume count : ℕ) (outside : List (List ℕ)) (new : StoredCell) → Happens cell (line.RecoverReplica server volume) (Recovered count) outside new
+    → IsRecovered (cell.made.acted.replicas server volume) (new.made.acted.replicas server volume).history × (count ≡ length (new.made.acted.replicas server volume).history)

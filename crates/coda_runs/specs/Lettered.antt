@@ -1,6 +1,7 @@
 -- What replies tell of letters, and what letters say.
 use Rattle.std.specs.Prelude.{◌≡◌, ◌≢◌, ◌≤◌, ℕ, List, Some, None}
 use Rattle.coda_fid.specs.declared.op.Record.{Record}
+use Rattle.coda_engine.specs.Run.{Runs}
 use Rattle.coda_certify.specs.declared.verdict.Verdict.{Verdict}
 use Rattle.coda_certify.specs.declared.verdict.Verdict.TheVariants as verdicts
 use Rattle.coda_record.specs.declared.answer.Answer.{Answer}
@@ -22,7 +23,11 @@ use Rattle.coda_cell.specs.Made.{MadeCell, state_of}
 use Rattle.coda_cell.specs.Steps.{first_missing, on_holder}
 use Rattle.coda_stored.specs.Cells.{StoredCell}
 use Rattle.coda_stored.specs.Lines.{Happens}
-use Rattle.coda_runs.specs.Headline.{Always}
+use Rattle.coda_stored.specs.Resuming.{at_rest, Awaited}
+use Rattle.coda_runs.specs.Headline.{Always, InEachKept}
+use Rattle.coda_runs.specs.Later.{Goes, resumed, LaterGives}
+use Rattle.coda_runs.specs.Runs.{LineGives}
+use Rattle.coda_runs.specs.Shows.{Recorded}
 
 -- ---- what a reply tells
 
@@ -104,9 +109,9 @@ TellsLetters (line.Deliver message) reply old new = DeliveryTells message reply 
 TellsLetters (line.Lose message) reply old new = LossTells message reply old new
 TellsLetters _ reply old new = new ≡ old
 
--- Whatever lines ran, a reply that names a letter names one in which what it tells of waits.
+-- In every cell that is kept, a reply that names a letter names one in which what it tells of waits.
 abbrev pub RepliesNameLetters : Type 0
-RepliesNameLetters = Always (λ cell. (said : Line) (reply : Reply) (outside : List (List ℕ)) (new : StoredCell) → Happens cell said reply outside new → TellsLetters said reply cell.made.waiting new.made.waiting)
+RepliesNameLetters = InEachKept (λ cell. (said : Line) (reply : Reply) (outside : List (List ℕ)) (new : StoredCell) → Happens cell said reply outside new → TellsLetters said reply cell.made.waiting new.made.waiting)
 
 -- ---- what a letter says
 
@@ -116,9 +121,9 @@ abbrev pub IsSo : MadeCell → Sent → Type 0
 IsSo cell (ChunkSent client server volume number span) = In (record { number = number; home = server; span = span }) (chunks_of (done_on cell.acted client volume))
 IsSo cell (AnswerSent server client volume number answer) = (verdict : Verdict) → answer ≡ answer_with verdict → IsDecided (λ s w. (cell.acted.replicas s w).history) volume client number verdict
 
--- Whatever lines ran, what a letter says that waits is so, however long it waited and whatever else was lost or came twice.
+-- In every cell that is kept, what a letter says that waits is so, however long it waited and whatever else was lost or came twice.
 abbrev pub LettersSayWhatIsSo : Type 0
-LettersSayWhatIsSo = Always (λ cell. (message : ℕ) (sent : Sent) → sent_at message cell.made.waiting ≡ Some sent → IsSo cell.made sent)
+LettersSayWhatIsSo = InEachKept (λ cell. (message : ℕ) (sent : Sent) → sent_at message cell.made.waiting ≡ Some sent → IsSo cell.made sent)
 
 -- ---- the ends of a letter
 
@@ -127,7 +132,14 @@ abbrev pub volume_of : Sent → ℕ
 volume_of (ChunkSent client server volume number span) = volume
 volume_of (AnswerSent server client volume number answer) = volume
 
--- Whatever lines ran, the client, the volume and the server of a letter that waits are there, so that none is refused for an actor that
--- isn't.
-abbrev pub LettersHaveEnds : Type 0
-LettersHaveEnds = Always (λ cell. (number : ℕ) (sent : Sent) → sent_at number cell.made.waiting ≡ Some sent → first_missing (on_holder (state_of cell.made) (client_of sent) (volume_of sent) (server_of sent)) ≡ None)
+-- the client, the volume and the server of each letter that waits are there, so that none is refused for an actor that isn't
+abbrev pub AreAddressed : StoredCell → Type 0
+AreAddressed cell = (number : ℕ) (sent : Sent) → sent_at number cell.made.waiting ≡ Some sent → first_missing (on_holder (state_of cell.made) (client_of sent) (volume_of sent) (server_of sent)) ≡ None
+
+-- The ends of each letter that waits are there: whatever lines ran from nothing; whatever lines ran from a cell that is kept in which they are, as where
+-- no letter waits; and whatever lines ran over the disks that an earlier run left, once all its actors were made again.
+pub record LettersHaveEnds : Type 0 where
+  pub first : Always AreAddressed
+  pub each : InEachKept (λ cell. AreAddressed cell → (ls : List (List ℕ)) (report : List ℕ) (outside : List (List ℕ)) (new : StoredCell) → Runs LineGives cell ls report outside new → AreAddressed new)
+  pub later : (past : StoredCell) (lines : List Awaited) (before : List (List ℕ)) (ls : List (List ℕ)) (report : List ℕ) (outside : List (List ℕ)) (at : Recorded)
+      → Runs LaterGives (resumed (at_rest past) lines before) ls report outside (Goes at) → AreAddressed at.cell

@@ -12,3 +12,4 @@ pub mod Later
 pub mod NeverCame
 pub mod Held
 pub mod Volumes
+pub mod Standing

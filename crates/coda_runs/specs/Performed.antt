@@ -22,7 +22,7 @@ use Rattle.coda_cell.specs.State.{pending, ClientState, ReplicaState}
 use Rattle.coda_cell.specs.Made.{state_of}
 use Rattle.coda_stored.specs.Cells.{StoredCell}
 use Rattle.coda_stored.specs.Lines.{Happens}
-use Rattle.coda_runs.specs.Headline.{Always}
+use Rattle.coda_runs.specs.Headline.{InEachKept}
 
 -- ---- where paths lead
 
@@ -188,8 +188,8 @@ pub record WasPerformed (t : Task) (clients behind : ℕ → Option ClientState)
   pub others : (other : ℕ) → other ≢ client → behind other ≡ clients other
   pub performed : IsPerformed replicas t old new client volume time number object
 
--- Whatever lines ran, an operation that is answered as done did what its line asked, left all else as it was, and is kept.
+-- In every cell that is kept, an operation that is answered as done did what its line asked, left all else as it was, and is kept.
 abbrev pub OperationsArePerformed : Type 0
 OperationsArePerformed =
-    Always (λ cell. (t : Task) (number : ℕ) (object : Fid) (outside : List (List ℕ)) (new : StoredCell) → Happens cell (line.Task t) (Done number object) outside new
+    InEachKept (λ cell. (t : Task) (number : ℕ) (object : Fid) (outside : List (List ℕ)) (new : StoredCell) → Happens cell (line.Task t) (Done number object) outside new
     → WasPerformed t (state_of cell.made).clients (state_of new.made).clients (state_of cell.made).replicas cell.made.clock number object)

@@ -17,7 +17,7 @@ use Rattle.coda_cell.specs.State.{ClientState, ReplicaState}
 use Rattle.coda_cell.specs.Made.{state_of}
 use Rattle.coda_stored.specs.Cells.{StoredCell}
 use Rattle.coda_stored.specs.Lines.{Happens}
-use Rattle.coda_runs.specs.Headline.{Always}
+use Rattle.coda_runs.specs.Headline.{InEachKept}
 use Rattle.coda_runs.specs.Performed.{Leads, HasFetched}
 
 -- whose path a line shows
@@ -52,8 +52,8 @@ pub record WasShown (t : Task) (clients behind : ℕ → Option ClientState) (re
   pub stands : map.get new.held.nodes object ≡ Some node
   pub kind_is : node.kind ≡ kind
 
--- Whatever lines ran, what a reply shows of a file, a link or a directory is in the object that the line's path leads to.
+-- In every cell that is kept, what a reply shows of a file, a link or a directory is in the object that the line's path leads to.
 abbrev pub WhatIsShownIsThere : Type 0
 WhatIsShownIsThere =
-    Always (λ cell. (t : Task) (reply : Reply) (outside : List (List ℕ)) (new : StoredCell) (kind : NodeKind) → Happens cell (line.Task t) reply outside new → shown_by reply ≡ Some kind
+    InEachKept (λ cell. (t : Task) (reply : Reply) (outside : List (List ℕ)) (new : StoredCell) (kind : NodeKind) → Happens cell (line.Task t) reply outside new → shown_by reply ≡ Some kind
     → WasShown t (state_of cell.made).clients (state_of new.made).clients (state_of cell.made).replicas kind)

@@ -9,11 +9,11 @@ use Rattle.coda_cell.specs.State.{log_of, ClientState}
 use Rattle.coda_cell.specs.Made.{state_of}
 use Rattle.coda_stored.specs.Cells.{StoredCell}
 use Rattle.coda_stored.specs.Lines.{Happens}
-use Rattle.coda_runs.specs.Headline.{Always}
+use Rattle.coda_runs.specs.Headline.{InEachKept}
 
--- Whatever lines ran, a drain that is answered by a verdict leaves no chunk of the client's log frozen.
+-- In every cell that is kept, a drain that is answered by a verdict leaves no chunk of the client's log frozen.
 abbrev pub VerdictsThaw : Type 0
 VerdictsThaw =
-    Always (λ cell. (client volume server : ℕ) (window : Option ℕ) (number : ℕ) (verdict : Verdict) (outside : List (List ℕ)) (new : StoredCell) (c : ClientState)
+    InEachKept (λ cell. (client volume server : ℕ) (window : Option ℕ) (number : ℕ) (verdict : Verdict) (outside : List (List ℕ)) (new : StoredCell) (c : ClientState)
     → Happens cell (line.Task (task.Drain client volume server window)) (Drained number (Decided verdict)) outside new
     → (state_of new.made).clients client ≡ Some c → (log_of (c.volumes volume)).frozen ≡ None)

@@ -12,6 +12,7 @@ ghost use Rattle.coda_runs.specs.Performed.{OperationsArePerformed};
 ghost use Rattle.coda_runs.specs.Runs.{LineGives, LineRefused};
 ghost use Rattle.coda_runs.specs.Shown.{WhatIsShownIsThere};
 ghost use Rattle.coda_runs.specs.Shows.{ReportsTellOfRuns, WhatIsShownIsUp};
+ghost use Rattle.coda_runs.specs.Standing.{ChunksStandWithClients, VerdictsStandAtHome};
 ghost use Rattle.coda_runs.specs.Thawed.{VerdictsThaw};
 ghost use Rattle.coda_runs.specs.Volumes.{LinesActOnMadeVolumes, ScriptsActOnMadeVolumes};
 
@@ -63,8 +64,10 @@ pub fn operations_are_kept()
     ensures { OperationsAreKept }
 {}
 
-/// Whatever lines ran, and whatever letters were lost or came twice, a client settles a chunk only by a verdict
-/// that a server of the volume decided on it.
+/// In every cell that is kept, as each run leaves it, also a later one over the disks of an earlier run, and
+/// whatever letters were lost or came twice, a client settles a chunk only by a verdict that a server of the volume
+/// decided on it, or by one that it learned from a replica that is none of the cell's. Whatever lines ran from an
+/// empty cell, there is none that it learned so.
 pub fn settlements_are_decided()
     ensures { SettlementsAreDecided }
 {}
@@ -82,65 +85,87 @@ pub fn acknowledged_entries_stay()
     ensures { AcknowledgedEntriesStay }
 {}
 
-/// Whatever lines ran, a client that is recovered has the log from before its crash, or that one with the one
-/// operation whose append failed, and the reply counts its entries.
+/// In whatever cell, also in a later run over the disks of an earlier one, a client that is recovered has the log
+/// from before its crash, or that one with the one operation whose append failed, and the reply counts its entries.
 pub fn clients_come_back()
     ensures { ClientsComeBack }
 {}
 
-/// Whatever lines ran, a server's replica of a volume that is recovered has the entries from before its crash, or
-/// those and the one whose append failed, so that a verdict that was answered is kept; and the reply counts them.
+/// In whatever cell, also in a later run over the disks of an earlier one, a server's replica of a volume that is
+/// recovered has the entries from before its crash, or those and the one whose append failed, so that a verdict
+/// that was answered is kept; and the reply counts them.
 pub fn replicas_come_back()
     ensures { ReplicasComeBack }
 {}
 
-/// Whatever lines ran, what a reply tells of a letter is so: the chunk of a `send` waits under the number that is
-/// named, and no letter is added where one waited that says the same; the answer to a chunk that was delivered
-/// waits likewise, and what was delivered waits on; and a letter that is lost waits no more. No other line touches
-/// letters, nor does one that is refused.
+/// In every cell that is kept, as each run leaves it, also a later one over the disks of an earlier run, what a
+/// reply tells of a letter is so: the chunk of a `send` waits under the number that is named, and no letter is
+/// added where one waited that says the same; the answer to a chunk that was delivered waits likewise, and what was
+/// delivered waits on; and a letter that is lost waits no more. No other line touches letters, nor does one that is
+/// refused.
 pub fn replies_name_letters()
     ensures { RepliesNameLetters }
 {}
 
-/// Whatever lines ran, a letter with a chunk says what its client froze for this server under the chunk's number,
-/// and a letter with a verdict says that of a decision of a server of the volume.
+/// In every cell that is kept, as each run leaves it, also a later one over the disks of an earlier run, a letter
+/// with a chunk says what its client froze for this server under the chunk's number, and a letter with a verdict
+/// says that of a decision of a server of the volume.
 pub fn letters_say_what_is_so()
     ensures { LettersSayWhatIsSo }
 {}
 
-/// Whatever lines ran, the client, the volume and the server of a letter that waits are there.
+/// The client, the volume and the server of a letter that waits are there: whatever lines ran from an empty cell;
+/// whatever lines ran from a cell that is kept in which they are there, as where no letter waits; and whatever
+/// lines ran in a later run over the disks of an earlier one, once all actors were made again.
 pub fn letters_have_ends()
     ensures { LettersHaveEnds }
 {}
 
-/// Whatever lines ran, a drain that is answered by a verdict leaves no chunk of the client's log of the volume
-/// frozen.
+/// In every cell that is kept, as each run leaves it, also a later one over the disks of an earlier run, a verdict
+/// that waits in a letter is that of a decision of the server that is the volume's home, and stands on its disk,
+/// whichever of the entries join whose appends failed. So is the verdict on a client's last chunk that a server
+/// keeps, and sends again where the letter was lost.
+pub fn verdicts_stand_at_home()
+    ensures { VerdictsStandAtHome }
+{}
+
+/// In every cell that is kept, as each run leaves it, also a later one over the disks of an earlier run, a chunk
+/// that waits in a letter is one that its client froze for this server, under this number and of these operations,
+/// also by what the client's disk gives back, with the entry whose append failed or without it.
+pub fn chunks_stand_with_clients()
+    ensures { ChunksStandWithClients }
+{}
+
+/// In every cell that is kept, as each run leaves it, also a later one over the disks of an earlier run, a drain
+/// that is answered by a verdict leaves no chunk of the client's log of the volume frozen.
 pub fn verdicts_thaw()
     ensures { VerdictsThaw }
 {}
 
-/// Whatever lines ran, an operation that is answered as done did what its line asked, over what its client held and
-/// fetched for it: the new object stands under the path's last name with the kind, mode and owner that were asked
-/// for, the file has the content, the object has the attributes, is gone with its name, or is bound under the new
-/// name alone. All other objects, and all their names, are as they were, but an object that a rename replaces,
-/// which is gone. The operation is the last of those that no server applied, with the number that is answered. No
-/// other line is answered so.
+/// In every cell that is kept, as each run leaves it, also a later one over the disks of an earlier run, an
+/// operation that is answered as done did what its line asked, over what its client held and fetched for it: the
+/// new object stands under the path's last name with the kind, mode and owner that were asked for, the file has the
+/// content, the object has the attributes, is gone with its name, or is bound under the new name alone. All other
+/// objects, and all their names, are as they were, but an object that a rename replaces, which is gone. The
+/// operation is the last of those that no server applied, with the number that is answered. No other line is
+/// answered so.
 pub fn operations_are_performed()
     ensures { OperationsArePerformed }
 {}
 
-/// Whatever lines ran, what a reply shows of a file, a link or a directory is in the object that the line's path
-/// leads to, over what the client held and what it fetched, which is as the volume's server has it.
+/// In every cell that is kept, as each run leaves it, also a later one over the disks of an earlier run, what a
+/// reply shows of a file, a link or a directory is in the object that the line's path leads to, over what the
+/// client held and what it fetched, which is as the volume's server has it.
 pub fn what_is_shown_is_there()
     ensures { WhatIsShownIsThere }
 {}
 
-/// Whatever lines ran, an operation, a read or a listing is done, or it is refused for a cause that holds, over
-/// what the client held and fetched: names that lead nowhere, since a directory doesn't bind one, an object isn't a
-/// directory or isn't held; what stands at the path isn't what the operation needs; the name is taken; the log is
-/// full, or the client accepted as many operations as it may; an actor that it names isn't there; or the disk of its
-/// client is the cause, since the client is down, its journal has no room for the next entry, or the append of that
-/// failed.
+/// In every cell that is kept, as each run leaves it, also a later one over the disks of an earlier run, an
+/// operation, a read or a listing is done, or it is refused for a cause that holds, over what the client held and
+/// fetched: names that lead nowhere, since a directory doesn't bind one, an object isn't a directory or isn't held;
+/// what stands at the path isn't what the operation needs; the name is taken; the log is full, or the client
+/// accepted as many operations as it may; an actor that it names isn't there; or the disk of its client is the
+/// cause, since the client is down, its journal has no room for the next entry, or the append of that failed.
 pub fn refusals_have_causes()
     ensures { RefusalsHaveCauses }
 {}
