@@ -12,7 +12,7 @@ use Rattle.coda_script.specs.declared.reply.Reply.{Reply}
 use Rattle.coda_script.specs.declared.reply.Reply.TheVariants.{Refused, Accepted, Read, Listed, State, ShowVolume, ShowLog}
 use Rattle.coda_report.specs.Texts.{reply_text}
 use Rattle.coda_stored.specs.Lines.{refused_fault}
-use Rattle.coda_main.specs.Tallies.{IsText, CountedRepliesAreTold}
+use Rattle.coda_main.specs.Tallies.{IsText, tells_fault, CountedRepliesAreTold}
 
 -- whether bytes are the same, one after the other
 alike : List ℕ → List ℕ → Bool
@@ -65,4 +65,4 @@ ok_told (ShowLog client volume) text is e = absurd (false≢true (ap ok_test (sy
 ok_told reply text is e = absurd (false≢true (ap ok_test (sym is ∙ e)))
 
 pub counted_replies_are_told : CountedRepliesAreTold
-counted_replies_are_told reply text is = (fault_told reply text is, ok_told reply text is)
+counted_replies_are_told reply text is = ((λ e. let told = fault_told reply text is e in (told, ap tells_fault told)), ok_told reply text is)

@@ -26,24 +26,8 @@ use Rattle.coda_main.specs.Later.{ShowsNothing}
 use Rattle.coda_main.specs.Shows.{Moment, answered_since}
 use Rattle.coda_main.specs.Tallies.{IsText}
 use Rattle.coda_main.proofs.Answering.{behind}
+use Rattle.coda_main.proofs.Asking.{line_finds, shows_nothing}
 use Rattle.coda_main.proofs.Resuming.{text_told}
-
--- ---- replies
-
--- a line that finds a disk shows nothing
-disk_says : {E : Type 0} (header : Header) (given : Option Header) (actor : Actor E) (make : Making E) (elsewhere old : StoredCell) (reply : Reply) (outside : List (List ℕ)) (new : StoredCell) → FindsDisk header given actor make elsewhere old reply outside new → ShowsNothing reply
-disk_says header given actor make elsewhere old reply outside new (inl refused) = subst ShowsNothing (sym refused.2.0) tt
-disk_says header given actor make elsewhere old reply outside new (inr (inl found)) = subst ShowsNothing (sym found.2.0) tt
-disk_says header given actor make elsewhere old reply outside new (inr (inr (inl fault))) = subst ShowsNothing (sym fault.1.0) tt
-disk_says header given actor make elsewhere old reply outside new (inr (inr (inr (inl fault)))) = subst ShowsNothing (sym fault.1.0) tt
-disk_says header given actor make elsewhere old reply outside new (inr (inr (inr (inr fault)))) = subst ShowsNothing (sym fault.1.0) tt
-
-line_says : (old : StoredCell) (shelf : Shelf) (said : Line) (reply : Reply) (outside : List (List ℕ)) (new : StoredCell) → LineFinds old shelf said reply outside new → ShowsNothing reply
-line_says old shelf (line.Client client blocks area) reply outside new finds =
-    disk_says (client_header client blocks (area_of area)) (old.clients client).given (old.made.acted.clients client) (making_client old client blocks (area_of area)) (client_elsewhere old client blocks (area_of area)) old reply outside new finds
-line_says old shelf (line.Volume volume servers area) reply outside new finds =
-    disk_says (replica_header volume (alone servers) (area_of area)) shelf.given shelf.actor (making_volume old volume (alone servers) (area_of area)) (volume_elsewhere old shelf volume (alone servers) (area_of area)) old reply outside new finds
-line_says old shelf _ reply outside new finds = absurd finds
 
 -- ---- a line
 
@@ -96,7 +80,7 @@ module _ {D : Type 0} (told : D → Told) (old new : Moment D) (at : Recorded) (
             holds = f.holds;
             finds = subst (λ (l : List (List ℕ)). LineFinds at.cell f.shelf said reply l became.left) (sym same) became.happens;
             held = held;
-            printed = text_told reply text (line_says at.cell f.shelf said reply became.outside became.left became.happens) printed;
+            printed = text_told reply text (shows_nothing reply (line_finds at.cell became.left f.shelf said reply became.outside became.happens)) printed;
             goes_on = refl;
           });
           shows = record { held = held; stands = became.stands; answered = answered_then became.outside became.answered };

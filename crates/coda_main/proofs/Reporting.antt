@@ -66,18 +66,18 @@ module _ {D M : Type 0} (new old last : M) (told : D → Told) (at : M → Momen
       let shown = reports_shown records_shown first entry both.0 left_old left_new held_old held_new outside status refl both.1 in
       let tallies = reports_shown cells_tallied (tallied_of entry) entry both.0 left_old left_new held_old held_new outside status refl both.1 in
       let run = reports_tell_of_runs first shown.0 left_old left_new held_old held_new outside status stored_cells_are_kept.first shown.1 in
-      let same : both.0.0.cell ≡ run.cell = ap (λ (r : Recorded). r.cell) (sym shown.2) ∙ run.same in
-      let ran = reports_ran LineGives LineRefused nothing_stored run.cell left_old left_new held_old held_new outside status run.reports in record {
-        cell = run.cell;
+      let same : both.0.0.cell ≡ shown.0.cell = ap (λ (r : Recorded). r.cell) (sym shown.2) in
+      let ran = reports_ran LineGives LineRefused nothing_stored shown.0.cell left_old left_new held_old held_new outside status run.reports in record {
+        cell = shown.0.cell;
         outside = outside;
         reports = run.reports;
         has_run = run.has_run;
         answered = λ memory. last_same ∙ answered_left at counts last new status memory leaves both.0.0.answered both.2.0.answered ∙ ap (λ (r : Recorded). r.answered) (sym shown.2) ∙ run.answered;
         on_disks = λ memory bay. subst (AreOnDisks told has) same (closes (goes_on start memory bay) both.0.0.cell (at_new (Shows told both.0.0) memory bay both.2.0).stands);
-        resumable = (always_kept ran.lines ran.report ran.outside run.cell ran.runs, what_ran_can_be_resumed ran.lines ran.report ran.outside run.cell ran.runs);
-        held = what_ran_is_held ran.lines ran.report ran.outside run.cell ran.runs;
-        own = scripts_learn_of_their_own ran.lines ran.report ran.outside run.cell ran.runs;
-        acted = scripts_act_on_made_volumes ran.lines ran.report ran.outside run.cell ran.runs;
+        resumable = (always_kept ran.lines ran.report ran.outside shown.0.cell ran.runs, what_ran_can_be_resumed ran.lines ran.report ran.outside shown.0.cell ran.runs);
+        held = what_ran_is_held ran.lines ran.report ran.outside shown.0.cell ran.runs;
+        own = scripts_learn_of_their_own ran.lines ran.report ran.outside shown.0.cell ran.runs;
+        acted = scripts_act_on_made_volumes ran.lines ran.report ran.outside shown.0.cell ran.runs;
         tally = both.0.1;
         tallied =
             subst (λ (t : TalliedCell). Reports TalliedGives TalliedRefuses (tallied_of entry) t left_old left_new held_old held_new outside status) (tallies.2 ∙ ap (λ (c : StoredCell). record { cell = c; tally = both.0.1 }) same) tallies.1;

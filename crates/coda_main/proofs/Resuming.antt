@@ -35,6 +35,7 @@ use Rattle.coda_main.specs.Later.{ShowsNothing, ShowsWaiting, ShowsLater, Answer
 use Rattle.coda_main.specs.Shows.{Moment, answered_since, CellGives}
 use Rattle.coda_main.specs.Tallies.{IsText}
 use Rattle.coda_main.proofs.Answering.{behind}
+use Rattle.coda_main.proofs.Asking.{made_again, shows_nothing}
 
 -- ---- replies
 
@@ -42,21 +43,6 @@ pub text_told : (reply : Reply) (text : List ℕ) → ShowsNothing reply → IsT
 text_told (ShowVolume server volume) text none is = absurd none
 text_told (ShowLog client volume) text none is = absurd none
 text_told reply text none is = is
-
-client_says : (old mid : StoredCell) (client : ℕ) (said : Reply) → RecoversClient old client said [] mid → ShowsNothing (opened_as said)
-client_says old mid client said (none, (header, asked, inl did)) = subst (λ (r : Reply). ShowsNothing (opened_as r)) (sym did.1) tt
-client_says old mid client said (none, (header, asked, inr (inr foreign))) = subst (λ (r : Reply). ShowsNothing (opened_as r)) (sym foreign.2) tt
-client_says old mid client said (none, (header, asked, inr (inl did))) = subst (λ (r : Reply). ShowsNothing (opened_as r)) (sym did.3) tt
-
-replica_says : (old mid : StoredCell) (server volume : ℕ) (said : Reply) → RecoversReplica old server volume said [] mid → ShowsNothing (opened_as said)
-replica_says old mid server volume said (none, (header, asked, inl did)) = subst (λ (r : Reply). ShowsNothing (opened_as r)) (sym did.1) tt
-replica_says old mid server volume said (none, (header, asked, inr (inr foreign))) = subst (λ (r : Reply). ShowsNothing (opened_as r)) (sym foreign.2) tt
-replica_says old mid server volume said (none, (header, asked, inr (inl did))) = subst (λ (r : Reply). ShowsNothing (opened_as r)) (sym did.3) tt
-
--- a line that makes an actor again shows nothing
-again_says : (old new : StoredCell) (awaited : Awaited) (reply : Reply) → MakesAgain old awaited reply new → ShowsNothing reply
-again_says old new (ClientAgain client blocks area) reply (said, mid, did, is, same, own) = subst ShowsNothing (sym is) (client_says old mid client said did)
-again_says old new (VolumeAgain volume server area) reply (said, mid, did, is, same, own) = subst ShowsNothing (sym is) (replica_says old mid server volume said did)
 
 -- ---- lines
 
@@ -75,7 +61,7 @@ line_answered_again told old new cell next left images reply text shows resumes 
       found = found;
       reply = reply;
       makes = resumes.makes;
-      printed = text_told reply text (again_says cell found next reply resumes.makes) printed;
+      printed = text_told reply text (shows_nothing reply (made_again cell found next reply resumes.makes)) printed;
       quiet = ap (drop (length old.answered)) (resumes.answered ∙ sym (append-nil old.answered)) ∙ behind old.answered [];
       shows = shown_again told found left images new
           (cells_are_resumed.lines cell found (length old.site.servers.items) old.site.areas next left reply shows.kept shows.awaited resumes.makes)

@@ -26,7 +26,7 @@ use Rattle.coda_main.specs.Counting.{BreaksOff, CountsLine, RepliesSo}
 use Rattle.coda_main.specs.Held.{ShowsHeld, HeldRefuses, TalliedHeld, TalliedHeldGives, TalliedHeldRefuses}
 use Rattle.coda_main.specs.Later.{MachineGives}
 use Rattle.coda_main.specs.Shows.{Moment, Shows}
-use Rattle.coda_main.specs.Tallies.{IsReplied, tells_fault, Tally, no_tally, tally_with, TalliedCell, TalliedGives, TalliedRefuses, TallyGives, TallyRefuses, IsReportOfDisks}
+use Rattle.coda_main.specs.Tallies.{IsText, IsReplied, tells_fault, Tally, no_tally, tally_with, TalliedCell, TalliedGives, TalliedRefuses, TallyGives, TallyRefuses, IsReportOfDisks}
 
 -- the totals of a cell rose from the first ones as the tally says
 pub record IsTallied (first : Counts) (tally : Tally) (now : Counts) : Type 0 where
@@ -162,7 +162,7 @@ module _ {D M : Type 0} (told : D → Told) (at : M → Moment D) (counts : M �
       go p m m' line text outside shows (inr c) =
           let so = c.3 p.at shows.0 in (
             record { at = so.next; tally = tally_with c.0.said c.0.reply p.tally },
-            inr (c.0.said, c.0.spelled, c.0.built, so.answers, ap (λ w. tally_with c.0.said w p.tally) (sym so.reply)),
+            inr (c.0.said, c.0.spelled, c.0.built, so.answers, subst (λ (w : Reply). IsText w text) (sym so.reply) c.0.printed, ap (λ w. tally_with c.0.said w p.tally) (sym so.reply)),
             (so.shows, tallied first c.0.said c.0.reply p.tally (counts m) (counts m') shows.1 c.1),
           )
 

@@ -11,7 +11,7 @@ use Rattle.coda_stored.specs.Lines.{is_built}
 use Rattle.coda_runs.proofs.Made.{cells_tell}
 use Rattle.coda_main.specs.Lines.{IsGoodLine, IsBadLine, AnyGives, AnyRefuses}
 
-said_once : (r : Result (Option Line) Fault) (a b : Line) → r ≡ Ok (Some a) → r ≡ Ok (Some b) → a ≡ b
+pub said_once : (r : Result (Option Line) Fault) (a b : Line) → r ≡ Ok (Some a) → r ≡ Ok (Some b) → a ≡ b
 said_once r a b x y = let z : (let ok : Line → Result (Option Line) Fault = λ l. Ok (Some l) in ok a ≡ ok b) = sym x ∙ y in cc
 
 not_both : (r : Result (Option Line) Fault) (o : Option Line) (fault : Fault) → r ≡ Ok o → r ≡ Err fault → ⊥

@@ -19,7 +19,7 @@ use Rattle.coda_runs.specs.Held.{HeldAnswers, HeldGives, HasHeld}
 use Rattle.coda_runs.specs.Shows.{Recorded}
 use Rattle.coda_main.specs.Lines.{IsBadLine}
 use Rattle.coda_main.specs.Shows.{Moment, answered_since}
-use Rattle.coda_main.specs.Tallies.{Tally, no_tally, tally_with}
+use Rattle.coda_main.specs.Tallies.{IsText, Tally, no_tally, tally_with}
 
 -- The cell that is recorded is held, the site and the bay stand for it, and the bay answered what is recorded.
 pub record ShowsHeld {D : Type 0} (told : D → Told) (at : Recorded) (now : Moment D) : Type 0 where
@@ -47,11 +47,11 @@ pub record TalliedHeld : Type 0 where
   pub at : Recorded
   pub tally : Tally
 
--- The line does what it does in such a run, with this text and these answers of the bay, and the tally is kept of it and of its reply.
+-- The line does what it does in such a run, with this text, which is that of its reply, and these answers of the bay; and the tally is kept of both.
 abbrev pub TalliedHeldGives : TalliedHeld → List ℕ → List ℕ → List (List ℕ) → TalliedHeld → Type 0
 TalliedHeldGives old bytes text outside new =
     ((line_of bytes ≡ Ok None) × (text ≡ []) × (outside ≡ []) × (new ≡ old))
-    ⊎ ((said : Line) × (line_of bytes ≡ Ok (Some said)) × (is_built said ≡ true) × (answers : HeldAnswers old.at said text outside new.at) × (new.tally ≡ tally_with said (held_reply answers) old.tally))
+    ⊎ ((said : Line) × (line_of bytes ≡ Ok (Some said)) × (is_built said ≡ true) × (answers : HeldAnswers old.at said text outside new.at) × IsText (held_reply answers) text × (new.tally ≡ tally_with said (held_reply answers) old.tally))
 
 abbrev pub TalliedHeldRefuses : TalliedHeld → List ℕ → ℕ → Kind → Type 0
 TalliedHeldRefuses old bytes column kind = IsBadLine bytes column kind

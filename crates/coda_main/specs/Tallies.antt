@@ -34,10 +34,12 @@ abbrev pub tells_fault : Reply → Bool
 tells_fault (Refused DiskFault []) = true
 tells_fault _ = false
 
--- A text tells whether the reply is one that is counted: no other than that a disk failed has the text of this one, and no other than `ok` has that.
+-- A text tells whether the reply is one that is counted: no other than that a disk failed has the text of this one, which is counted, and no other than
+-- `ok` has that.
 abbrev pub CountedRepliesAreTold : Type 0
 CountedRepliesAreTold =
-    (reply : Reply) (text : List ℕ) → IsText reply text → (text ≡ reply_text refused_fault → reply ≡ refused_fault) × (text ≡ reply_text Accepted → reply ≡ Accepted)
+    (reply : Reply) (text : List ℕ) → IsText reply text
+    → (text ≡ reply_text refused_fault → (reply ≡ refused_fault) × (tells_fault reply ≡ true)) × (text ≡ reply_text Accepted → reply ≡ Accepted)
 
 -- The bytes say a line that is built; its reply has this text.
 pub record IsReplied (bytes text : List ℕ) : Type 0 where

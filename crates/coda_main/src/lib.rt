@@ -24,7 +24,7 @@ pub use coda_runs::{
     scripts_in_the_grammar_are_clean, scripts_learn_of_their_own, scripts_run,
     settlements_are_decided, verdicts_stand_at_home, verdicts_thaw, what_is_made_again_is_counted,
     what_is_shown_is_there, what_is_shown_is_up, what_others_hold_is_kept, what_ran_can_be_resumed,
-    what_ran_is_held, who_never_came_is_as_it_was,
+    what_ran_is_held, what_ran_is_kept, who_never_came_is_as_it_was,
 };
 pub use coda_stored::{clients_are_recovered, replicas_are_recovered};
 pub use laws::{

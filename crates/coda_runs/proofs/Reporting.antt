@@ -76,39 +76,37 @@ broke_kept start new all read front rest written outside kept b =
 
 -- a report of cells, of which the last one has run, and is recorded
 pub record Told (old : Recorded) (all : Bool) (read written : List ℕ) (outside : List (List ℕ)) (status : Status) (new : Recorded) : Type 0 where
-  pub cell : StoredCell
-  pub answers : Answers LineGives LineRefused old.cell cell all read written outside status
-  pub has_run : HasRun cell
-  pub same : new.cell ≡ cell
+  pub answers : Answers LineGives LineRefused old.cell new.cell all read written outside status
+  pub has_run : HasRun new.cell
   pub answered : new.answered ≡ old.answered ++ outside
 
 module _ (old new : Recorded) (kept : IsStoredKept old.cell) (all : Bool) (read written : List ℕ) (outside : List (List ℕ)) where
   told : (status : Status) → Answers RecordGives RecordRefuses old new all read written outside status → Told old all read written outside status new
   told Done a =
       let ran = ran_plainly old new all read read [] written outside a.1 in
-      record { cell = new.cell; answers = (a.0, ran.holds); has_run = has_run new.cell (ran_kept old.cell new.cell all read read [] written outside kept ran.holds); same = refl; answered = ran.answers }
+      record { answers = (a.0, ran.holds); has_run = has_run new.cell (ran_kept old.cell new.cell all read read [] written outside kept ran.holds); answered = ran.answers }
   told Usage a = absurd a
   told (Script line column kind) a =
       let ran = ran_plainly old new false read a.0 a.1 written outside a.3 in
-      record { cell = new.cell; answers = (a.0, a.1, a.2, ran.holds, a.4, a.5, a.6); has_run = has_run new.cell (ran_kept old.cell new.cell false read a.0 a.1 written outside kept ran.holds); same = refl; answered = ran.answers }
+      record { answers = (a.0, a.1, a.2, ran.holds, a.4, a.5, a.6); has_run = has_run new.cell (ran_kept old.cell new.cell false read a.0 a.1 written outside kept ran.holds); answered = ran.answers }
   told TooLong a =
       let ran = ran_plainly old new false read a.0 a.1 written outside a.2 in
-      record { cell = new.cell; answers = (a.0, a.1, ran.holds, a.3); has_run = has_run new.cell (ran_kept old.cell new.cell false read a.0 a.1 written outside kept ran.holds); same = refl; answered = ran.answers }
+      record { answers = (a.0, a.1, ran.holds, a.3); has_run = has_run new.cell (ran_kept old.cell new.cell false read a.0 a.1 written outside kept ran.holds); answered = ran.answers }
   told SourceFault a =
       let ran = ran_plainly old new false read a.0 a.1 written outside a.2 in
-      record { cell = new.cell; answers = (a.0, a.1, ran.holds, a.3, a.4); has_run = has_run new.cell (ran_kept old.cell new.cell false read a.0 a.1 written outside kept ran.holds); same = refl; answered = ran.answers }
+      record { answers = (a.0, a.1, ran.holds, a.3, a.4); has_run = has_run new.cell (ran_kept old.cell new.cell false read a.0 a.1 written outside kept ran.holds); answered = ran.answers }
   told SinkFault a =
       let broke = broke_plainly old new all read a.0 a.1 written outside a.2 in
-      record { cell = new.cell; answers = (a.0, a.1, broke.holds); has_run = has_run new.cell (broke_kept old.cell new.cell all read a.0 a.1 written outside kept broke.holds); same = refl; answered = broke.answers }
+      record { answers = (a.0, a.1, broke.holds); has_run = has_run new.cell (broke_kept old.cell new.cell all read a.0 a.1 written outside kept broke.holds); answered = broke.answers }
   told BayFault a =
       let ran = ran_plainly old new false read a.0 a.1 written outside a.3 in
-      record { cell = new.cell; answers = (a.0, a.1, a.2, ran.holds, a.4); has_run = has_run new.cell (ran_kept old.cell new.cell false read a.0 a.1 written outside kept ran.holds); same = refl; answered = ran.answers }
+      record { answers = (a.0, a.1, a.2, ran.holds, a.4); has_run = has_run new.cell (ran_kept old.cell new.cell false read a.0 a.1 written outside kept ran.holds); answered = ran.answers }
   told Memory a =
       let ran = ran_plainly old new all read a.0 a.1 a.2 outside a.3 in
-      record { cell = new.cell; answers = (a.0, a.1, a.2, ran.holds, a.4); has_run = has_run new.cell (ran_kept old.cell new.cell all read a.0 a.1 a.2 outside kept ran.holds); same = refl; answered = ran.answers }
+      record { answers = (a.0, a.1, a.2, ran.holds, a.4); has_run = has_run new.cell (ran_kept old.cell new.cell all read a.0 a.1 a.2 outside kept ran.holds); answered = ran.answers }
 
 -- the same of what a source and a sink tell
 pub reports_tell_of_runs : ReportsTellOfRuns
 reports_tell_of_runs old new left_old left_new held_old held_new outside status kept r =
     let t = told old new kept (is_at_end left_new) r.0 r.1 outside status r.4 in
-    record { cell = t.cell; reports = (r.0, r.1, r.2, r.3, t.answers, r.5); has_run = t.has_run; same = t.same; answered = t.answered }
+    record { reports = (r.0, r.1, r.2, r.3, t.answers, r.5); has_run = t.has_run; answered = t.answered }

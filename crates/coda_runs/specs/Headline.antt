@@ -55,9 +55,13 @@ pub record HasRun (cell : StoredCell) : Type 0 where
 abbrev pub Always : (StoredCell → Type 0) → Type 0
 Always Holds = (ls : List (List ℕ)) (report : List ℕ) (outside : List (List ℕ)) (cell : StoredCell) → Runs LineGives nothing_stored ls report outside cell → Holds cell
 
--- In every cell that is kept: in each that a run from nothing leaves, and in each that a later run reaches which makes the actors of an earlier one again.
+-- In every cell that is kept: in each that a run from nothing leaves (`WhatRanIsKept`), and in each that a later run reaches which makes the actors of an earlier one again.
 abbrev pub InEachKept : (StoredCell → Type 0) → Type 0
 InEachKept Holds = (cell : StoredCell) → IsStoredKept cell → Holds cell
+
+-- Whatever lines ran, the cell is kept.
+abbrev pub WhatRanIsKept : Type 0
+WhatRanIsKept = Always IsStoredKept
 
 -- Whatever lines ran, the cell is a run from nothing.
 abbrev pub ScriptsRun : Type 0

@@ -26,12 +26,10 @@ RecordGives old bytes text outside new = LineGives old.cell bytes text outside n
 abbrev pub RecordRefuses : Recorded → List ℕ → ℕ → Kind → Type 0
 RecordRefuses old bytes column kind = LineRefused old.cell bytes column kind
 
--- The report is that of a run of cells, of which the last one keeps what is promised of runs; that cell is recorded, and what the bay answered.
+-- The report is that of a run of cells, of which the last one keeps what is promised of runs; and what the bay answered is recorded.
 pub record IsReported (old : Recorded) (left_old left_new held_old held_new : Option (List ℕ)) (outside : List (List ℕ)) (status : Status) (new : Recorded) : Type 0 where
-  pub cell : StoredCell
-  pub reports : Reports LineGives LineRefused old.cell cell left_old left_new held_old held_new outside status
-  pub has_run : HasRun cell
-  pub same : new.cell ≡ cell
+  pub reports : Reports LineGives LineRefused old.cell new.cell left_old left_new held_old held_new outside status
+  pub has_run : HasRun new.cell
   pub answered : new.answered ≡ old.answered ++ outside
 
 -- what is recorded of a run is so

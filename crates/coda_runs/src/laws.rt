@@ -3,7 +3,7 @@ ghost use Rattle.coda_engine.specs.Exact.{CleanScriptsRun, OneStatus};
 ghost use Rattle.coda_stored.specs.Cells.{nothing_stored};
 ghost use Rattle.coda_runs.specs.Causes.{RefusalsHaveCauses};
 ghost use Rattle.coda_runs.specs.Complete.{ScriptsInGrammarAreClean};
-ghost use Rattle.coda_runs.specs.Headline.{ScriptsLearnOfTheirOwn, ScriptsRun, ChunksAreDecidedOnce, CertifiedChunksAreApplied, ConflictsNameASentRecord, OperationsAreKept, SettlementsAreDecided, LogsArePending, AcknowledgedEntriesStay, ClientsComeBack, ReplicasComeBack};
+ghost use Rattle.coda_runs.specs.Headline.{ScriptsLearnOfTheirOwn, ScriptsRun, ChunksAreDecidedOnce, CertifiedChunksAreApplied, ConflictsNameASentRecord, OperationsAreKept, SettlementsAreDecided, LogsArePending, AcknowledgedEntriesStay, ClientsComeBack, ReplicasComeBack, WhatRanIsKept};
 ghost use Rattle.coda_runs.specs.Held.{HeldRunsGoOn, OthersKeepTheirDisks, WhatRanIsHeld};
 ghost use Rattle.coda_runs.specs.Later.{LaterRunsGoOn, OwnDisksAreNotForeign, RecoveriesFindTheirOwn, WhatIsMadeAgainIsCounted, WhatOthersHoldIsKept, WhatRanCanBeResumed};
 ghost use Rattle.coda_runs.specs.Lettered.{RepliesNameLetters, LettersSayWhatIsSo, LettersHaveEnds};
@@ -64,10 +64,10 @@ pub fn operations_are_kept()
     ensures { OperationsAreKept }
 {}
 
-/// In every cell that is kept, as each run leaves it, also a later one over the disks of an earlier run, and
-/// whatever letters were lost or came twice, a client settles a chunk only by a verdict that a server of the volume
-/// decided on it, or by one that it learned from a replica that is none of the cell's. Whatever lines ran from an
-/// empty cell, there is none that it learned so.
+/// In every cell that is kept, as each run leaves it, also a later one that makes the actors of an earlier run again
+/// in their order, and whatever letters were lost or came twice, a client settles a chunk only by a verdict that a
+/// server of the volume decided on it, or by one that it learned from a replica that is none of the cell's. Whatever
+/// lines ran from an empty cell, there is none that it learned so.
 pub fn settlements_are_decided()
     ensures { SettlementsAreDecided }
 {}
@@ -98,18 +98,18 @@ pub fn replicas_come_back()
     ensures { ReplicasComeBack }
 {}
 
-/// In every cell that is kept, as each run leaves it, also a later one over the disks of an earlier run, what a
-/// reply tells of a letter is so: the chunk of a `send` waits under the number that is named, and no letter is
-/// added where one waited that says the same; the answer to a chunk that was delivered waits likewise, and what was
-/// delivered waits on; and a letter that is lost waits no more. No other line touches letters, nor does one that is
-/// refused.
+/// In every cell that is kept, as each run leaves it, also a later one that makes the actors of an earlier run again
+/// in their order, what a reply tells of a letter is so: the chunk of a `send` waits under the number that is named,
+/// and no letter is added where one waited that says the same; the answer to a chunk that was delivered waits
+/// likewise, and what was delivered waits on; and a letter that is lost waits no more. No other line touches letters,
+/// nor does one that is refused.
 pub fn replies_name_letters()
     ensures { RepliesNameLetters }
 {}
 
-/// In every cell that is kept, as each run leaves it, also a later one over the disks of an earlier run, a letter
-/// with a chunk says what its client froze for this server under the chunk's number, and a letter with a verdict
-/// says that of a decision of a server of the volume.
+/// In every cell that is kept, as each run leaves it, also a later one that makes the actors of an earlier run again
+/// in their order, a letter with a chunk says what its client froze for this server under the chunk's number, and a
+/// letter with a verdict says that of a decision of a server of the volume.
 pub fn letters_say_what_is_so()
     ensures { LettersSayWhatIsSo }
 {}
@@ -121,50 +121,50 @@ pub fn letters_have_ends()
     ensures { LettersHaveEnds }
 {}
 
-/// In every cell that is kept, as each run leaves it, also a later one over the disks of an earlier run, a verdict
-/// that waits in a letter is that of a decision of the server that is the volume's home, and stands on its disk,
-/// whichever of the entries join whose appends failed. So is the verdict on a client's last chunk that a server
-/// keeps, and sends again where the letter was lost.
+/// In every cell that is kept, as each run leaves it, also a later one that makes the actors of an earlier run again
+/// in their order, a verdict that waits in a letter is that of a decision of the server that is the volume's home,
+/// and stands on its disk, whichever of the entries join whose appends failed. So is the verdict on a client's last
+/// chunk that a server keeps, and sends again where the letter was lost.
 pub fn verdicts_stand_at_home()
     ensures { VerdictsStandAtHome }
 {}
 
-/// In every cell that is kept, as each run leaves it, also a later one over the disks of an earlier run, a chunk
-/// that waits in a letter is one that its client froze for this server, under this number and of these operations,
-/// also by what the client's disk gives back, with the entry whose append failed or without it.
+/// In every cell that is kept, as each run leaves it, also a later one that makes the actors of an earlier run again
+/// in their order, a chunk that waits in a letter is one that its client froze for this server, under this number and
+/// of these operations, also by what the client's disk gives back, with the entry whose append failed or without it.
 pub fn chunks_stand_with_clients()
     ensures { ChunksStandWithClients }
 {}
 
-/// In every cell that is kept, as each run leaves it, also a later one over the disks of an earlier run, a drain
-/// that is answered by a verdict leaves no chunk of the client's log of the volume frozen.
+/// In every cell that is kept, as each run leaves it, also a later one that makes the actors of an earlier run again
+/// in their order, a drain that is answered by a verdict leaves no chunk of the client's log of the volume frozen.
 pub fn verdicts_thaw()
     ensures { VerdictsThaw }
 {}
 
-/// In every cell that is kept, as each run leaves it, also a later one over the disks of an earlier run, an
-/// operation that is answered as done did what its line asked, over what its client held and fetched for it: the
-/// new object stands under the path's last name with the kind, mode and owner that were asked for, the file has the
-/// content, the object has the attributes, is gone with its name, or is bound under the new name alone. All other
-/// objects, and all their names, are as they were, but an object that a rename replaces, which is gone. The
-/// operation is the last of those that no server applied, with the number that is answered. No other line is
-/// answered so.
+/// In every cell that is kept, as each run leaves it, also a later one that makes the actors of an earlier run again
+/// in their order, an operation that is answered as done did what its line asked, over what its client held and
+/// fetched for it: the new object stands under the path's last name with the kind, mode and owner that were asked
+/// for, the file has the content, the object has the attributes, is gone with its name, or is bound under the new
+/// name alone. All other objects, and all their names, are as they were, but an object that a rename replaces, which
+/// is gone. The operation is the last of those that no server applied, with the number that is answered. No other
+/// line is answered so.
 pub fn operations_are_performed()
     ensures { OperationsArePerformed }
 {}
 
-/// In every cell that is kept, as each run leaves it, also a later one over the disks of an earlier run, what a
-/// reply shows of a file, a link or a directory is in the object that the line's path leads to, over what the
-/// client held and what it fetched, which is as the volume's server has it.
+/// In every cell that is kept, as each run leaves it, also a later one that makes the actors of an earlier run again
+/// in their order, what a reply shows of a file, a link or a directory is in the object that the line's path leads
+/// to, over what the client held and what it fetched, which is as the volume's server has it.
 pub fn what_is_shown_is_there()
     ensures { WhatIsShownIsThere }
 {}
 
-/// In every cell that is kept, as each run leaves it, also a later one over the disks of an earlier run, an
-/// operation, a read or a listing is done, or it is refused for a cause that holds, over what the client held and
-/// fetched: names that lead nowhere, since a directory doesn't bind one, an object isn't a directory or isn't held;
-/// what stands at the path isn't what the operation needs; the name is taken; the log is full, or the client
-/// accepted as many operations as it may; an actor that it names isn't there; or the disk of its client is the
+/// In every cell that is kept, as each run leaves it, also a later one that makes the actors of an earlier run again
+/// in their order, an operation, a read or a listing is done, or it is refused for a cause that holds, over what the
+/// client held and fetched: names that lead nowhere, since a directory doesn't bind one, an object isn't a directory
+/// or isn't held; what stands at the path isn't what the operation needs; the name is taken; the log is full, or the
+/// client accepted as many operations as it may; an actor that it names isn't there; or the disk of its client is the
 /// cause, since the client is down, its journal has no room for the next entry, or the append of that failed.
 pub fn refusals_have_causes()
     ensures { RefusalsHaveCauses }
@@ -266,4 +266,9 @@ pub fn recoveries_find_their_own()
 /// since a call of it failed, keeps what it holds: no crash and no recovery of the volume takes it.
 pub fn others_keep_their_disks()
     ensures { OthersKeepTheirDisks }
+{}
+
+/// Whatever lines ran from an empty cell, the cell is kept, so that all that is said of kept cells is so in it.
+pub fn what_ran_is_kept()
+    ensures { WhatRanIsKept }
 {}

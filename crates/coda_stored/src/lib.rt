@@ -27,8 +27,8 @@ pub fn entries_stay()
     ensures { EntriesStay }
 {}
 
-/// A law of recoveries: the log of a client that is recovered is the one from before, or that one with the one entry whose append failed,
-/// and it is read from the image that the bay answered at the client's last crash.
+/// A law of recoveries: the log of a client that is recovered is the one from before, or that one with the one entry whose append failed;
+/// and where it crashed since its last recovery, the image that the bay answered then reads as it.
 pub fn clients_are_recovered()
     ensures { ClientsAreRecovered }
 {}
@@ -77,7 +77,7 @@ pub fn what_is_found_was_there()
 {}
 
 /// A law of cells over disks that earlier runs left, whoever of their actors comes again, in whatever order, and beside whichever new
-/// ones: what each line leaves is kept, whatever disk it finds, and whatever call of that one fails; and the histories keep what is
+/// ones: what each line leaves is held, whatever disk it finds, and whatever call of that one fails; and the histories keep what is
 /// promised.
 pub fn held_cells_are_kept()
     ensures { HeldCellsAreKept }

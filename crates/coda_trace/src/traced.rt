@@ -13,6 +13,7 @@ ghost use Rattle.coda_stored.specs.Lines.{is_built, Happens, client_down, replic
 ghost use Rattle.coda_stored.specs.Mounted.{Shelf, HoldsShelf};
 ghost use Rattle.coda_stored.specs.Resuming.{at_rest, Awaited, is_awaited, AreAwaited, MakeAllAgain};
 ghost use Rattle.coda_site.specs.Awaiting.{IsAwaiting, Resumes};
+ghost use Rattle.coda_site.specs.Makings.{asks_bay};
 ghost use Rattle.coda_site.specs.Sites.{IsSite, IsReady, IsClosable};
 ghost use Rattle.coda_site.specs.Steps.{Admits, Becomes, Mounts, Finds};
 ghost use Rattle.coda_site.specs.Totals.{IsCounted, IsFault, has_armed, total, totals};
@@ -105,6 +106,8 @@ impl<B: Bay> TracedCell<B> {
         ensures posted { self.new.cell.site.net.posted ≤ self.old.cell.site.net.posted + 1 }
         ensures later { B.faults self.old.cell.bay ≤ B.faults self.new.cell.bay }
         ensures bay_cause { result ≡ Err CellFault.Bay → Rose (B.faults self.old.cell.bay) (B.faults self.new.cell.bay) }
+        ensures asked { result ≡ Err CellFault.Bay → asks_bay line.now ≡ true }
+        ensures answered_err { OnErr result (B.answered self.new.cell.bay ≡ B.answered self.old.cell.bay) }
         ensures follows { B.follows self.old.cell.bay self.new.cell.bay }
         ensures counts { IsCounted (IsFault result) (has_armed line.now result) (totals B.D.told B.D.faults B.D.arms (B.disk_faults self.old.cell.bay) (B.disk_arms self.old.cell.bay) self.old.cell.site) (totals B.D.told B.D.faults B.D.arms (B.disk_faults self.new.cell.bay) (B.disk_arms self.new.cell.bay) self.new.cell.site) }
         ensures traced { IfOk result (λ reply. IsTraced line.now reply (totals B.D.told B.D.faults B.D.arms (B.disk_faults self.old.cell.bay) (B.disk_arms self.old.cell.bay) self.old.cell.site) (totals B.D.told B.D.faults B.D.arms (B.disk_faults self.new.cell.bay) (B.disk_arms self.new.cell.bay) self.new.cell.site) self.old.events.items self.new.events.items) }
