@@ -1,19 +1,15 @@
 -- What a line that ran says of a run over the disks that an earlier run left, whatever it makes again.
-use Rattle.std.proofs.Common.{◌≡◌, ℕ, Bool, true, false, List, ◌++◌, length, Option, refl, sym, ap, ◌∙◌, subst, inl, inr}
+use Rattle.std.proofs.Common.{◌≡◌, ℕ, Bool, true, false, List, ◌++◌, length, refl, sym, ap, ◌∙◌, subst, inl, inr}
 use Rattle.std.specs.Prelude.{drop}
 use Rattle.coda_disk.specs.Told.{Told}
-use Rattle.coda_journal.specs.declared.header.Header.{Header}
 use Rattle.coda_script.specs.declared.line.Line.{Line}
-use Rattle.coda_script.specs.declared.line.Line.TheVariants as line
 use Rattle.coda_script.specs.declared.reply.Reply.{Reply}
 use Rattle.coda_script.specs.Ranges.{InRange}
 use Rattle.coda_cell.specs.Made.{state_of}
-use Rattle.coda_plain.specs.Cell.{Actor}
-use Rattle.coda_cell.specs.Steps.{alone}
-use Rattle.coda_stored.specs.Cells.{StoredCell, client_header, replica_header}
+use Rattle.coda_stored.specs.Cells.{StoredCell}
 use Rattle.coda_stored.specs.Held.{DoesFind}
-use Rattle.coda_stored.specs.Lines.{area_of, Happens}
-use Rattle.coda_stored.specs.Mounted.{Shelf, HoldsShelf, Making, FindsDisk, LineFinds, making_client, making_volume, client_elsewhere, volume_elsewhere}
+use Rattle.coda_stored.specs.Lines.{Happens}
+use Rattle.coda_stored.specs.Mounted.{Shelf, HoldsShelf, LineFinds}
 use Rattle.coda_stored.specs.Seen.{mounts_none, IsSeen}
 use Rattle.coda_stored.proofs.HeldFinds.{held_cells_are_kept}
 use Rattle.coda_site.specs.Sites.{IsSite}
@@ -22,7 +18,6 @@ use Rattle.coda_runs.specs.Shows.{Recorded, CanShow}
 use Rattle.coda_runs.specs.Texts.{text_of}
 use Rattle.coda_runs.proofs.ShownUp.{shows_what_is_up}
 use Rattle.coda_main.specs.Held.{ShowsHeld, AnsweredHeld, held_reply}
-use Rattle.coda_main.specs.Later.{ShowsNothing}
 use Rattle.coda_main.specs.Shows.{Moment, answered_since}
 use Rattle.coda_main.specs.Tallies.{IsText}
 use Rattle.coda_main.proofs.Answering.{behind}

@@ -5,7 +5,7 @@ use Rattle.coda_disk.specs.Bays.{plus}
 use Rattle.coda_disk.specs.Told.{Told}
 use Rattle.coda_engine.proofs.Simulation.{reports_shown}
 use Rattle.coda_engine.specs.Machine.{Leaves}
-use Rattle.coda_engine.specs.Run.{Runs, Reports}
+use Rattle.coda_engine.specs.Run.{Reports}
 use Rattle.coda_engine.specs.declared.status.Status.{Status}
 use Rattle.coda_engine.specs.declared.status.Status.TheVariants.{Usage, BayFault, Memory}
 use Rattle.coda_stored.specs.Cells.{StoredCell, nothing_stored}
@@ -36,7 +36,7 @@ use Rattle.coda_site.specs.Totals.{Counts}
 use Rattle.coda_main.specs.Counting.{BreaksOff, CountsLine}
 use Rattle.coda_main.specs.Tallies.{Tally, no_tally, TalliedCell, TalliedGives, TalliedRefuses}
 use Rattle.coda_main.proofs.Tallying.{IsTallied, tallied_left, answered_left, both_shown, records_shown, cells_tallied, tallied_of, held_tallied, held_untallied}
-use Rattle.coda_main.proofs.Showing.{cells_go_on, lines_good, later_shown, held_shown}
+use Rattle.coda_main.proofs.Showing.{cells_go_on, lines_good, later_shown}
 
 -- The machine was at old, at last after the last line that ran, and is at new.
 module _ {D M : Type 0} (new old last : M) (told : D → Told) (at : M → Moment D) (counts : M → Counts) (left_old left_new held_old held_new : Option (List ℕ)) (outside : List (List ℕ)) (status : Status)

@@ -12,13 +12,13 @@ use Rattle.coda_cell.specs.Made.{state_of}
 use Rattle.coda_report.specs.Texts.{reply_text}
 use Rattle.coda_stored.specs.Cells.{StoredCell}
 use Rattle.coda_stored.specs.Kept.{IsStoredKept}
-use Rattle.coda_stored.specs.Lines.{is_built, Happens, RecoversClient, RecoversReplica}
+use Rattle.coda_stored.specs.Lines.{is_built, Happens}
 use Rattle.coda_stored.specs.Foreign.{MakesOn}
 use Rattle.coda_stored.specs.Seen.{seen, mounts_none, IsSeen, StayAsleep, Meanwhile}
 use Rattle.coda_stored.proofs.Between.{lines_come_between}
 use Rattle.coda_stored.proofs.Seeing.{seen_is_seen}
 use Rattle.coda_stored.proofs.Sleeping.{stays_same}
-use Rattle.coda_stored.specs.Resuming.{Awaited, ClientAgain, VolumeAgain, is_awaited, AreAwaited, opened_as, MakesAgain}
+use Rattle.coda_stored.specs.Resuming.{Awaited, is_awaited, AreAwaited}
 use Rattle.coda_stored.proofs.Resuming.{cells_are_resumed}
 use Rattle.coda_site.specs.Awaiting.{IsAwaiting, Resumes}
 use Rattle.coda_site.specs.Sites.{IsSite}
