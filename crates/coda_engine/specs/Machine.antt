@@ -36,7 +36,7 @@ IsStopped refuses breaks left old new line Bay = (left ≡ []) × breaks old new
 IsStopped refuses breaks left old new line OutOfMemory = Unit {0}
 
 -- What a run that ends with this status leaves, where the machine was so after the last line that ran: that, unless memory was
--- wanting or the bay at fault; and where it was, what the line at fault made of it.
+-- wanting or the bay at fault; and where the bay was, what the line at fault made of that.
 pub record Leaves {M : Type 0} (breaks : Breaks M) (end new : M) (status : Status) : Type 0 where
   pub same : status ≢ Memory → status ≢ BayFault → new ≡ end
   pub broken : status ≡ BayFault → breaks end new

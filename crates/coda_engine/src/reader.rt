@@ -119,7 +119,7 @@ fn run_line<M: Machine, K: Sink>(
 }
 
 impl Reader {
-    ghost use Rattle.std.specs.Prelude.{◌≡◌, ◌<◌, ◌≤◌, ◌+◌, ◌∷◌, ◌++◌, [], length, take, IfOk, IfErr, OnOk, Err, IsErrOf, MatchBool};
+    ghost use Rattle.std.specs.Prelude.{◌≡◌, ◌<◌, ◌≤◌, ◌+◌, ◌-◌, min, ◌∷◌, ◌++◌, [], length, take, IfOk, IfErr, OnOk, Err, IsErrOf, MatchBool};
     ghost use Rattle.coda_engine.specs.Lines.{HasNoNewline};
     ghost use Rattle.coda_io.specs.Faults.{Rose};
     ghost use Rattle.coda_engine.specs.Reading.{HasRoom, IsFull, Advances, Stops, Ends};
@@ -142,9 +142,11 @@ impl Reader {
         }
     }
 
-    /// How many bytes the run may read into a buffer of this length: none behind the first that passes the limit.
+    /// How many bytes the run may read into a buffer of this length: all that it holds, but none behind the first byte that
+    /// passes the limit.
     pub fn room(&self, len: usize) -> usize
         requires { 0 < len }
+        ensures most { result ≡ min len (16777217 - self.now.bytes) }
         ensures some { 0 < result }
         ensures within { result ≤ len }
         ensures few { self.now.bytes + result ≤ 16777217 }

@@ -1,7 +1,7 @@
 -- The two synced writes by which an entry is added.
 use Rattle.std.proofs.Common.{◌≡◌, inl, inr, ℕ, ◌+◌, ◌<◌, ◌≤◌, List, [], ◌∷◌, ◌++◌, length, get_or, drop, sym, ◌∙◌, ap, subst, arith, append_assoc, length-append}
 use Rattle.std.specs.Int.{w32}
-use Rattle.std.specs.Prelude.{Result, Ok, Err, Some}
+use Rattle.std.specs.Prelude.{Result, Ok, Some}
 use Rattle.coda_disk.specs.Told.{Told, Torn, LeavesOnly}
 use Rattle.coda_journal.specs.Entries.{blocks, body}
 use Rattle.coda_journal.specs.Header.{area_bytes}

@@ -1,11 +1,11 @@
 -- The next chunk of a client, from its entry to what is answered.
-use Rattle.std.proofs.Common.{◌≡◌, ◌≢◌, ℕ, ◌+◌, ◌<◌, ◌≤◌, if◌then◌else◌, true, false, List, [], ◌∷◌, ◌++◌, length, Option, Result, Ok, Err, refl, sym, ap, ◌∙◌, subst, inl, inr, arith}
+use Rattle.std.proofs.Common.{◌≡◌, ◌≢◌, ℕ, ◌+◌, ◌<◌, ◌≤◌, if◌then◌else◌, true, false, List, [], ◌∷◌, ◌++◌, length, Option, Ok, Err, refl, sym, ap, ◌∙◌, subst, inl, inr, arith}
 use Rattle.std.specs.Prelude.{Some}
 use Rattle.std.specs.FinMap as map
 use Rattle.std.specs.Int.{w32}
 use Rattle.std.proofs.lemmas.Bool.{eqb-true}
 use Rattle.coda_fid.specs.declared.op.Record.{Record}
-use Rattle.coda_tree.specs.Volume.{Nodes, Tree}
+use Rattle.coda_tree.specs.Volume.{Nodes}
 use Rattle.coda_certify.specs.Replay.{Replayed, replay}
 use Rattle.coda_certify.specs.Verdicts.{verdict_of, nodes_left}
 use Rattle.coda_certify.specs.declared.verdict.Verdict.{Verdict}
@@ -21,11 +21,11 @@ use Rattle.coda_record.specs.Table as table
 use Rattle.coda_record.specs.declared.entry.ReplicaEntry.{ReplicaEntry}
 use Rattle.coda_record.specs.declared.entry.ReplicaEntry.TheVariants.{Decide}
 use Rattle.coda_record.specs.declared.last.Last.{Last}
-use Rattle.coda_replica.specs.State.{Lasts, ReplicaState, last_for, decided, put_back, with_last}
+use Rattle.coda_replica.specs.State.{ReplicaState, last_for, decided, put_back, with_last}
 use Rattle.coda_replica.specs.Answers.{is_next, answer_of, answer_to, told as told_of}
 use Rattle.coda_plain.specs.Decisions as plain
 use Rattle.coda_record.specs.declared.answer.Answer.{Answer}
-use Rattle.coda_replica.specs.History.{payload_of, payloads_of, state_of, MayFollow, IsHistory}
+use Rattle.coda_replica.specs.History.{payload_of, payloads_of, state_of, MayFollow}
 use Rattle.coda_replica.specs.Standing.{IsUp, StandsFor}
 use Rattle.coda_replica.specs.Deciding.{decision_entry, Keeping, IsFullness, IsBack, IsFull, NextDeciding, Deciding, grown}
 use Rattle.coda_replica.specs.declared.fault.ReplicaFault.{ReplicaFault}

@@ -1,34 +1,33 @@
 -- Histories with one entry more.
-use Rattle.std.proofs.Common.{◌≡◌, ℕ, ◌+◌, ◌<◌, ◌≤◌, List, [], ◌∷◌, ◌++◌, length, map, sym, ap, ◌∙◌, subst, refl, arith}
+use Rattle.std.proofs.Common.{◌≡◌, ℕ, ◌+◌, ◌≤◌, List, [], ◌∷◌, ◌++◌, length, map, sym, ap, subst, refl, arith}
 use Rattle.std.proofs.lemmas.List.{map-append, length-append}
 use Rattle.std.specs.Int.{w32}
 use Rattle.coda_fid.specs.declared.op.Record.{Record}
 use Rattle.coda_certify.specs.Replay.{replay}
 use Rattle.coda_certify.specs.Verdicts.{verdict_of}
-use Rattle.coda_certify.specs.declared.reason.Reason.{Reason}
 use Rattle.coda_certify.specs.declared.verdict.Verdict.{Verdict}
 use Rattle.coda_certify.specs.declared.verdict.Verdict.TheVariants.{Applied, Conflict}
 use Rattle.coda_journal.specs.Entries.{framed, body}
 use Rattle.coda_journal.specs.Lengths.{length_bytes}
 use Rattle.coda_journal.specs.declared.header.Header.{Header}
-use Rattle.coda_journal.proofs.Lengths.{Spells, spells_4}
+use Rattle.coda_journal.proofs.Lengths.{spells_4}
 use Rattle.coda_plain.proofs.Lists.{left_push, follow_push, along}
 use Rattle.coda_record.specs.Entries.{replica_entry}
-use Rattle.coda_record.specs.Form.{Piece, together, four, eight, one}
+use Rattle.coda_record.specs.Form.{together, four, eight, one}
 use Rattle.coda_record.specs.Parts.{u8}
 use Rattle.coda_record.specs.Spelling.{HasSpelling}
 use Rattle.coda_record.specs.Table as table
 use Rattle.coda_record.specs.declared.entry.ReplicaEntry.{ReplicaEntry}
 use Rattle.coda_record.specs.declared.entry.ReplicaEntry.TheVariants.{Decide}
 use Rattle.coda_record.proofs.PartsAgree.{first_true, second_true}
-use Rattle.coda_record.proofs.Spans.{number_span, spans, together_span}
+use Rattle.coda_record.proofs.Spans.{number_span, together_span}
 use Rattle.coda_spelling.specs.Spelled.{IsVolumeSpelled}
 use Rattle.coda_spelling.proofs.SpelledParts.{both_true, within}
 use Rattle.coda_spelling.proofs.SpelledRecords.{records_are}
 use Rattle.coda_spelling.proofs.SpelledNodes.{fresh_spelled, left_spelled}
 use Rattle.coda_spelling.proofs.SpelledVerdicts.{fresh_room, room_left, verdict_spelled}
-use Rattle.coda_replica.specs.State.{ReplicaState, new_replica, decided}
-use Rattle.coda_replica.specs.History.{payload_of, payloads_of, state_after, state_of, IsDecidedIn, MayFollow, IsHistory}
+use Rattle.coda_replica.specs.State.{ReplicaState, new_replica}
+use Rattle.coda_replica.specs.History.{payload_of, payloads_of, state_after, state_of, MayFollow, IsHistory}
 use Rattle.coda_replica.specs.Deciding.{decision_entry}
 
 pub payloads_push : (history : List ReplicaEntry) (entry : ReplicaEntry) → payloads_of (history ++ entry ∷ []) ≡ payloads_of history ++ payload_of entry ∷ []

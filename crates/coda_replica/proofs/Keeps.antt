@@ -1,5 +1,5 @@
 -- How an entry is kept.
-use Rattle.std.proofs.Common.{◌≡◌, ◌≢◌, ℕ, ◌+◌, ◌<◌, ◌≤◌, true, false, List, [], ◌∷◌, length, refl, sym, ap, ◌∙◌, subst}
+use Rattle.std.proofs.Common.{◌≡◌, ◌≢◌, ℕ, List, refl, ap}
 use Rattle.std.specs.Prelude.{Option, Result, Ok, Err, Some, IsErr, IfErr}
 use Rattle.coda_certify.specs.declared.verdict.Verdict.{Verdict}
 use Rattle.coda_disk.specs.Told.{Told, LeavesOnly}

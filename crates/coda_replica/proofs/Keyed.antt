@@ -4,7 +4,7 @@ use Rattle.std.specs.Ordering.{nat_cmp, is_eq, eq_by_cmp}
 use Rattle.std.specs.Cmp.{nat_cmp_total, eq_by_cmp_equiv}
 use Rattle.std.specs.Map.{lookup}
 use Rattle.std.specs.FinMap as map
-use Rattle.std.specs.FinMap.{FinMap, find, nat_cmp-IsAntisymmetric}
+use Rattle.std.specs.FinMap.{find, nat_cmp-IsAntisymmetric}
 
 -- what is kept at a key
 abbrev pub kept_at : {X : Type 0} → List (ℕ × X) → ℕ → Option X

@@ -1,5 +1,5 @@
 -- Payloads that are read as a history, one after the other.
-use Rattle.std.proofs.Common.{◌≡◌, ℕ, suc, ◌+◌, ◌*◌, ◌-◌, ◌^◌, ◌<◌, ◌≤◌, min, List, [], ◌∷◌, ◌++◌, length, take, drop, refl, sym, ap, ◌∙◌, subst, append-nil, append_assoc, arith}
+use Rattle.std.proofs.Common.{◌≡◌, ℕ, suc, ◌+◌, ◌-◌, ◌^◌, ◌<◌, min, List, [], ◌∷◌, ◌++◌, length, take, drop, refl, sym, ap, ◌∙◌, subst, append-nil, arith}
 use Rattle.std.proofs.lemmas.List.{length-append}
 use Rattle.std.proofs.Math.Seq.{take-suc, split_at}
 use Rattle.std.specs.Prelude.{Result, Err, get_or}
@@ -9,13 +9,9 @@ use Rattle.coda_journal.specs.Lengths.{length_bytes}
 use Rattle.coda_journal.specs.declared.header.Header.{Header}
 use Rattle.coda_journal.specs.declared.mounting.MountFault.{MountFault}
 use Rattle.coda_journal.specs.declared.mounting.MountFault.TheVariants.{Foreign}
-use Rattle.coda_journal.proofs.Lengths.{Spells as WidthSpells, spells_4}
-use Rattle.coda_record.specs.Entries.{replica_entry}
-use Rattle.coda_record.specs.Form.{four}
-use Rattle.coda_record.specs.Spelling.{Spells}
-use Rattle.coda_record.specs.declared.entry.ReplicaEntry.{ReplicaEntry}
+use Rattle.coda_journal.proofs.Lengths.{spells_4}
 use Rattle.coda_replica.specs.State.{ReplicaState, new_replica}
-use Rattle.coda_replica.specs.History.{payload_of, payloads_of, state_after, state_of, IsDecidedIn, MayFollow, IsHistory}
+use Rattle.coda_replica.specs.History.{payloads_of, state_after, IsDecidedIn}
 use Rattle.coda_replica.specs.Entering.{Enters, IsUnfit, AreEntered, Breaks}
 use Rattle.coda_replica.proofs.Growing.{payloads_push, state_push, history_push}
 

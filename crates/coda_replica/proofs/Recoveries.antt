@@ -1,8 +1,7 @@
 -- What a mounted journal's payloads say of the recovery.
-use Rattle.std.proofs.Common.{◌≡◌, ◌≢◌, ℕ, ◌+◌, ◌-◌, ◌^◌, ◌<◌, ◌≤◌, min, List, [], ◌∷◌, ◌++◌, length, map, Result, Ok, Err, append-nil, append_assoc, refl, sym, ap, ◌∙◌, subst, inl, inr, ◌⊎◌, arith}
-use Rattle.std.proofs.lemmas.List.{length-map}
+use Rattle.std.proofs.Common.{◌≡◌, ◌≢◌, ℕ, ◌+◌, ◌-◌, ◌<◌, ◌≤◌, List, [], ◌∷◌, ◌++◌, length, Result, Ok, append-nil, append_assoc, refl, sym, ap, ◌∙◌, subst, inl, inr, ◌⊎◌, arith}
 use Rattle.std.specs.Int.{w32}
-use Rattle.coda_disk.specs.Told.{Told, Only, LeavesOnly}
+use Rattle.coda_disk.specs.Told.{Told}
 use Rattle.coda_journal.specs.Entries.{blocks}
 use Rattle.coda_journal.specs.Header.{IsHeader, area_bytes}
 use Rattle.coda_journal.specs.Image.{IsUnmade, Reads, ReadsAs, start_of}
@@ -18,11 +17,10 @@ use Rattle.coda_record.specs.declared.entry.ReplicaEntry.{ReplicaEntry}
 use Rattle.coda_record.proofs.Offsets.{agreeing_is_exact}
 use Rattle.coda_record.proofs.EntriesAgree.{replica_entry_agrees}
 use Rattle.coda_plain.specs.Histories.{DoFollow}
-use Rattle.coda_replica.specs.State.{ReplicaState}
-use Rattle.coda_replica.specs.History.{payload_of, payloads_of, state_of, MayFollow, IsHistory}
-use Rattle.coda_replica.specs.Standing.{IsUp, ReadsAsHistory, IsReplicaDisk}
-use Rattle.coda_replica.specs.Recovering.{Recovered, IsMisfit, HasMisfit, WhyNotRecovered, NotRecovered}
-use Rattle.coda_replica.specs.Entering.{AreEntered, Breaks}
+use Rattle.coda_replica.specs.History.{payload_of, payloads_of, MayFollow}
+use Rattle.coda_replica.specs.Standing.{ReadsAsHistory, IsReplicaDisk}
+use Rattle.coda_replica.specs.Recovering.{Recovered, IsMisfit, WhyNotRecovered, NotRecovered}
+use Rattle.coda_replica.specs.Entering.{Breaks}
 use Rattle.coda_replica.specs.declared.replica.Replica.{Replica}
 use Rattle.coda_replica.proofs.Reading.{blocks_append}
 

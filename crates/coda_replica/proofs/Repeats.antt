@@ -1,16 +1,16 @@
 -- What chunks leave of the last decision of a client, and that decisions follow one another.
-use Rattle.std.proofs.Common.{◌≡◌, ◌≢◌, ◌<◌, ◌≤◌, ℕ, ◌+◌, Bool, true, false, cond, ◌==◌, ◌&&◌, nat_lt, if◌then◌else◌, List, [], ◌∷◌, ◌++◌, refl, sym, ap, ◌∙◌, subst, inl, inr, ◌⊎◌, arith}
+use Rattle.std.proofs.Common.{◌≡◌, ◌≢◌, ◌<◌, ◌≤◌, ℕ, ◌+◌, false, cond, ◌==◌, ◌&&◌, nat_lt, if◌then◌else◌, List, [], ◌∷◌, ◌++◌, refl, sym, ap, ◌∙◌, subst, inl, inr, ◌⊎◌, arith}
 use Rattle.std.proofs.lemmas.Bool.{eq-eqb, ne_eqb, cases_eq, lt-ltb, le-ltb, and_from, and_left, and_right}
 use Rattle.coda_certify.specs.declared.verdict.Verdict.{Verdict}
 use Rattle.coda_certify.specs.Verdicts.{verdict_of}
 use Rattle.coda_plain.specs.Histories.{In}
-use Rattle.coda_plain.specs.Decisions.{ReplicaEntry, Decided, Last, with_last, Kept, kept_after, kept_of, last_of, nodes_of, decision, Decision, decisions_of, MayDecide, AreDecisions}
+use Rattle.coda_plain.specs.Decisions.{ReplicaEntry, Decided, Last, with_last, Kept, last_of, nodes_of, decision, Decision, MayDecide, AreDecisions}
 use Rattle.coda_plain.proofs.AtReplicas.{kept_push, with_last_at}
 use Rattle.coda_plain.proofs.Lists.{follow_push}
 use Rattle.coda_plain.proofs.Once.{DoDiffer, differ}
 use Rattle.coda_record.specs.declared.answer.Answer.{Answer}
 use Rattle.coda_record.specs.declared.answer.Answer.TheVariants.{Behind, Old}
-use Rattle.coda_replica.specs.Answers.{is_next, answer_of, answer_to, told}
+use Rattle.coda_replica.specs.Answers.{answer_of, answer_to, told}
 use Rattle.coda_replica.specs.Comes.{Chunk, IsNext, history_after, history_of, answer_by}
 
 -- the entry that a chunk's decision is

@@ -1,16 +1,15 @@
 -- Disks on which replicas with one header alone wrote.
-use Rattle.std.proofs.Common.{◌≡◌, ℕ, List, [], ◌∷◌, ◌++◌, inl, inr, sym, subst}
+use Rattle.std.proofs.Common.{ℕ, List, [], ◌∷◌, ◌++◌, inl, inr, sym, subst}
 use Rattle.std.specs.Prelude.{Some}
 use Rattle.coda_disk.specs.Told.{Told, LeavesOnly}
 use Rattle.coda_disk.specs.Bays.{Crashed}
 use Rattle.coda_journal.specs.Image.{Reads, ReadsAs}
-use Rattle.coda_journal.specs.Journal.{IsJournal, IsBeforeOrAfter}
+use Rattle.coda_journal.specs.Journal.{IsBeforeOrAfter}
 use Rattle.coda_journal.specs.Open.{IsOpen, MayBe, Stands, IsOurs}
 use Rattle.coda_journal.specs.declared.header.Header.{Header}
-use Rattle.coda_journal.specs.declared.journal.Journal.{Journal}
 use Rattle.coda_journal.proofs.Moments.{started}
 use Rattle.coda_record.specs.declared.entry.ReplicaEntry.{ReplicaEntry}
-use Rattle.coda_replica.specs.History.{payload_of, payloads_of, MayFollow, IsHistory}
+use Rattle.coda_replica.specs.History.{payload_of, payloads_of}
 use Rattle.coda_replica.specs.Standing.{IsUp, StandsFor, ReadsAsHistory, IsReplicaDisk}
 use Rattle.coda_replica.specs.declared.replica.Replica.{Replica}
 use Rattle.coda_replica.proofs.Growing.{payloads_push, history_push}

@@ -1,8 +1,8 @@
 -- What a chunk makes of a replica's history.
-use Rattle.std.specs.Prelude.{◌≡◌, ℕ, ◌+◌, ◌==◌, if◌then◌else◌, List, [], ◌∷◌, ◌++◌}
+use Rattle.std.specs.Prelude.{◌≡◌, ℕ, ◌+◌, if◌then◌else◌, List, [], ◌∷◌, ◌++◌}
 use Rattle.coda_fid.specs.declared.op.Record.{Record}
 use Rattle.coda_certify.specs.Verdicts.{verdict_of}
-use Rattle.coda_plain.specs.Decisions.{ReplicaEntry, Decided, Last, decision, nodes_of, last_of}
+use Rattle.coda_plain.specs.Decisions.{ReplicaEntry, Decided, decision, nodes_of, last_of}
 use Rattle.coda_record.specs.declared.answer.Answer.{Answer}
 use Rattle.coda_replica.specs.State.{ReplicaState, last_for}
 use Rattle.coda_replica.specs.Answers.{is_next, answer_to}

@@ -1,7 +1,7 @@
 -- What holds of chunks that come in any order, any number of times.
-use Rattle.std.specs.Prelude.{◌≡◌, ◌≢◌, ◌<◌, ◌≤◌, ℕ, ◌+◌, ◌⊎◌, List, [], ◌∷◌, ◌++◌}
+use Rattle.std.specs.Prelude.{◌≡◌, ◌≢◌, ◌<◌, ℕ, ◌+◌, ◌⊎◌, List, [], ◌∷◌, ◌++◌}
 use Rattle.coda_certify.specs.declared.verdict.Verdict.{Verdict}
-use Rattle.coda_plain.specs.Decisions.{ReplicaEntry, Last, Decision, decisions_of, MayDecide, AreDecisions}
+use Rattle.coda_plain.specs.Decisions.{ReplicaEntry, Last, Decision, decisions_of, AreDecisions}
 use Rattle.coda_plain.specs.Histories.{In}
 use Rattle.coda_record.specs.declared.answer.Answer.TheVariants.{Behind, Old}
 use Rattle.coda_replica.specs.Answers.{answer_of, answer_to}

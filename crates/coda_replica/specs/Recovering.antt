@@ -13,7 +13,7 @@ use Rattle.coda_record.specs.Form.{four}
 use Rattle.coda_record.specs.Spelling.{Spells}
 use Rattle.coda_record.specs.declared.entry.ReplicaEntry.{ReplicaEntry}
 use Rattle.coda_replica.specs.History.{payloads_of, MayFollow, IsHistory}
-use Rattle.coda_replica.specs.Standing.{IsUp, ReadsAsHistory}
+use Rattle.coda_replica.specs.Standing.{IsUp}
 use Rattle.coda_replica.specs.declared.replica.Replica.{Replica}
 
 -- The replica is up with the history that the disk read as, and so many entries.

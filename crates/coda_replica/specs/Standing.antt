@@ -1,5 +1,5 @@
 -- Which history a replica has, and which its disk stands for.
-use Rattle.std.specs.Prelude.{◌≡◌, ℕ, Bool, true, false, List, Option, Some, None, IfSome, option_map}
+use Rattle.std.specs.Prelude.{◌≡◌, ℕ, false, List, Option, Some, IfSome, option_map}
 use Rattle.coda_disk.specs.Told.{Told}
 use Rattle.coda_journal.specs.Image.{ReadsAs}
 use Rattle.coda_journal.specs.Journal.{IsJournal}

@@ -1,6 +1,5 @@
 -- Reading and spelling are each other's inverse, in any form.
-use Rattle.std.proofs.Common.{◌≡◌, ℕ, ◌+◌, Bool, true, false, cond, ◌⊎◌, inl, inr, List, [], ◌∷◌, ◌++◌, map, Option, Some, None, Result, Ok, Err, refl, sym, ap, subst, ◌∙◌}
-use Rattle.std.specs.Option.{option_map_or}
+use Rattle.std.proofs.Common.{◌≡◌, ℕ, ◌+◌, false, ◌⊎◌, inl, inr, List, [], ◌∷◌, map, Option, Some, None, Result, Ok, refl, sym, ap, subst, ◌∙◌}
 use Rattle.std.proofs.lemmas.List.{map-append}
 use Rattle.coda_engine.specs.declared.status.Kind.{Kind}
 use Rattle.coda_engine.specs.declared.status.Kind.TheVariants as kinds
@@ -8,10 +7,10 @@ use Rattle.coda_text.specs.Words.{Split, Word, rest_of}
 use Rattle.coda_script.specs.declared.line.Line.{Line}
 use Rattle.coda_script.specs.Slots.{NumberSlot, number_in, path_in, name_in, rights_in, text_in, is_word, is_server}
 use Rattle.coda_script.specs.Form.{Form, ends, nothing, either, a_number, a_path, a_name, some_rights, a_text, perhaps, servers_above}
-use Rattle.coda_script.specs.Reading.{Fault, ◌>>=◌, value_at, slot_at, end_at, is_next, servers_at, option_at, read}
+use Rattle.coda_script.specs.Reading.{Fault, ◌>>=◌, slot_at, end_at, is_next, servers_at, option_at, read}
 use Rattle.coda_script.specs.Spelling.{begins, Spells}
 use Rattle.coda_script.proofs.Binding.{split, texts, ok_is, bind_ok, chosen, option_ok, next_begins, texts_cons, texts_nil, first_is, is_itself}
-use Rattle.coda_script.proofs.ServerLists.{TookServers, servers_took, servers_again, texts_parts}
+use Rattle.coda_script.proofs.ServerLists.{servers_took, servers_again, texts_parts}
 
 -- ---- what each part took
 

@@ -1,5 +1,5 @@
 -- Forms whose spellings never begin with certain words.
-use Rattle.std.proofs.Common.{◌≡◌, ℕ, Bool, true, false, ◌⊎◌, inl, inr, List, [], ◌∷◌, Option, Some, None, refl, sym, ap, ◌∙◌}
+use Rattle.std.proofs.Common.{◌≡◌, ℕ, Bool, true, false, inl, inr, List, None, refl, ap, ◌∙◌}
 use Rattle.std.specs.Prelude.{codes, ◌&&◌, not}
 use Rattle.coda_script.specs.declared.line.Line.{Line}
 use Rattle.coda_script.specs.Slots.{is_word}

@@ -1,21 +1,19 @@
 -- Each line whose values are in their ranges has a spelling.
-use Rattle.std.proofs.Common.{◌≡◌, ℕ, Bool, true, false, ◌⊎◌, inl, inr, List, [], ◌∷◌, ◌++◌, map, refl, sym, subst, arith}
+use Rattle.std.proofs.Common.{◌≡◌, ℕ, Bool, true, false, inl, inr, List, [], ◌∷◌, refl, sym, subst, arith}
 use Rattle.std.proofs.lemmas.Bool.{le-leb}
 use Rattle.std.specs.Prelude.{codes, ◌==◌}
-use Rattle.std.specs.Option.{option_map_or}
 use Rattle.std.specs.Fmt.{decimal}
-use Rattle.coda_text.specs.Words.{Word, is_separator, split_of}
-use Rattle.coda_text.proofs.Joining.{IsOneWord, AreWords, join, joined, bare_word, number_again, decimal_word}
+use Rattle.coda_text.specs.Words.{Word}
+use Rattle.coda_text.proofs.Joining.{AreWords, join, joined, bare_word, number_again, decimal_word}
 use Rattle.coda_script.specs.declared.line.Task.{Task as ATask}
 use Rattle.coda_script.specs.declared.line.Line.{Line}
 use Rattle.coda_script.specs.declared.line.Line.TheVariants.{Task, At}
-use Rattle.coda_script.specs.Slots.{between, number_in}
 use Rattle.coda_script.specs.Form.{Form, ends, nothing, either, a_number, a_path, a_name, some_rights, a_text, perhaps, servers_above}
 use Rattle.coda_script.specs.Table.{script, setup_forms, actor_forms, last_forms, extra_forms}
 use Rattle.coda_script.specs.Lines.{first_byte, is_silent}
-use Rattle.coda_script.specs.Spelling.{begins, Spells, SpellsAt, SpellsLine, words_of, Says}
+use Rattle.coda_script.specs.Spelling.{begins, Spells, Says}
 use Rattle.coda_script.specs.Ranges.{IsBetween, TaskInRange, InRange, TaskOfBytes, OfBytes}
-use Rattle.coda_script.proofs.Avoiding.{avoids, avoided}
+use Rattle.coda_script.proofs.Avoiding.{avoided}
 use Rattle.coda_script.proofs.Possible.{spelled}
 use Rattle.coda_script.proofs.Clear.{script_clear}
 use Rattle.coda_script.proofs.Tabled.{held, IsPlain, task_has, line_has}

@@ -1,20 +1,20 @@
 -- What is spelled is in its ranges.
-use Rattle.std.proofs.Common.{◌≡◌, ℕ, ◌+◌, ◌≤◌, Bool, true, false, leb, ◌⊎◌, inl, inr, List, [], ◌∷◌, length, Option, Some, None, refl, sym, ap, subst, ◌∙◌, arith}
+use Rattle.std.proofs.Common.{◌≡◌, ℕ, ◌+◌, ◌≤◌, Bool, true, false, leb, inl, inr, List, [], ◌∷◌, length, Option, Some, None, refl, sym, ap, subst, arith}
 use Rattle.std.specs.Prelude.{◌-◌, ◌*◌, ◌&&◌, if◌then◌else◌, IfSome, option_and_then}
 use Rattle.std.specs.Option.{option_map_or}
 use Rattle.std.proofs.lemmas.Bool.{leb-true, and_parts}
 use Rattle.coda_fid.specs.Name.{is_name}
 use Rattle.coda_fid.specs.Path.{is_path, names_in, ArePathNames}
 use Rattle.coda_fid.proofs.Paths.{path_names_in}
-use Rattle.coda_text.specs.Numbers.{number_of, with_octal, octal_from, octal_of}
+use Rattle.coda_text.specs.Numbers.{number_of, with_octal, octal_from}
 use Rattle.coda_text.specs.Texts.{value_of, is_quoted}
 use Rattle.coda_script.specs.declared.line.Line.{Line}
 use Rattle.coda_script.specs.declared.line.Rights.{Rights}
-use Rattle.coda_script.specs.declared.line.Line.TheVariants.{Task, At}
-use Rattle.coda_script.specs.Slots.{NumberSlot, between, octal, TextSlot, any, sized, within, number_in, path_of, path_in, name_in, text_in, has_room}
+use Rattle.coda_script.specs.declared.line.Line.TheVariants.{Task}
+use Rattle.coda_script.specs.Slots.{NumberSlot, between, octal, TextSlot, any, sized, within, number_in, path_in, name_in, text_in, has_room}
 use Rattle.coda_script.specs.Form.{Form, ends, nothing, either, a_number, a_path, a_name, some_rights, a_text, perhaps, servers_above}
 use Rattle.coda_script.specs.Table.{create_form, mkdir_form, symlink_form, store_form, setattr_form, remove_form, rmdir_form, rename_form, read_form, list_form, drain_form, refresh_form, giveup_form, volume_form, client_form, link_form, tick_form, hoard_add_form, hoard_form, walk_form, send_form, deliver_form, lose_form, breaks_form, crash_form, recover_form, arm_form, resolve_form, repair_form, show_form, trim_form, hardlink_form, acl_form, clone_form, peek_form, unclone_form, asr_form, heal_form, script, setup_forms, actor_forms, last_forms, extra_forms}
-use Rattle.coda_script.specs.Spelling.{SpellServers, Spells, SpellsLine, SpellsAt}
+use Rattle.coda_script.specs.Spelling.{SpellServers, Spells, SpellsLine}
 use Rattle.coda_script.specs.Ranges.{IsBetween, AreServersAbove, InRange}
 use Rattle.coda_script.proofs.Possible.{HasRoom}
 use Rattle.coda_script.proofs.Binding.{some_is}

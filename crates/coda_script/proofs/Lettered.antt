@@ -1,5 +1,5 @@
 -- The word of some rights.
-use Rattle.std.proofs.Common.{◌≡◌, ℕ, Bool, true, false, List, Option, Some, refl}
+use Rattle.std.proofs.Common.{◌≡◌, ℕ, Bool, true, false, List, Some, refl}
 use Rattle.std.specs.Prelude.{codes}
 use Rattle.coda_text.proofs.Joining.{is_bare_word}
 use Rattle.coda_script.specs.declared.line.Rights.{Rights}

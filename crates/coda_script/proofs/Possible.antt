@@ -1,19 +1,18 @@
 -- The lines of a form, with their values in the ranges of its slots; and how each is spelled.
-use Rattle.std.proofs.Common.{◌≡◌, ℕ, ◌+◌, ◌^◌, ◌<◌, ◌≤◌, Bool, true, false, leb, ◌⊎◌, inl, inr, List, [], ◌∷◌, ◌++◌, length, map, Option, Some, None, refl, sym, ap, subst, ◌∙◌, arith}
-use Rattle.std.specs.Prelude.{codes, ◌&&◌, IfSome}
+use Rattle.std.proofs.Common.{◌≡◌, ℕ, ◌+◌, ◌^◌, ◌<◌, ◌≤◌, Bool, true, false, leb, ◌⊎◌, inl, inr, List, [], ◌∷◌, ◌++◌, length, map, Option, Some, None, refl, ap, arith}
+use Rattle.std.specs.Prelude.{IfSome}
 use Rattle.std.specs.Fmt.{decimal}
-use Rattle.std.proofs.lemmas.Bool.{le-leb, leb-true}
+use Rattle.std.proofs.lemmas.Bool.{le-leb}
 use Rattle.coda_fid.specs.Name.{is_name}
 use Rattle.coda_fid.specs.Path.{path_text, is_path, names_in, ArePathNames}
 use Rattle.coda_fid.proofs.Paths.{names_in-path_text, test_from_path}
-use Rattle.coda_text.specs.Numbers.{number_of, octal_of}
 use Rattle.coda_text.specs.Texts.{printed, quoted, value_of}
 use Rattle.coda_text.specs.Printed.{AreBytes}
 use Rattle.coda_text.proofs.OneWord.{printed_word}
 use Rattle.coda_text.proofs.Joining.{IsOneWord, AreWords, are_words, is_bare_word, bare_word, number_again, decimal_word, decimal_begins, octal_text, octal_again, octal_word, printed_one_word, quoted_one_word, quoted_again}
 use Rattle.coda_script.specs.declared.line.Line.{Line}
 use Rattle.coda_script.specs.declared.line.Rights.{Rights}
-use Rattle.coda_script.specs.Slots.{NumberSlot, between, octal, TextSlot, any, sized, number_in, path_of, path_in, name_in, rights_in, text_in, has_room, is_word, is_server}
+use Rattle.coda_script.specs.Slots.{NumberSlot, between, octal, TextSlot, any, sized, number_in, path_in, name_in, text_in, has_room, is_word, is_server}
 use Rattle.coda_script.specs.Form.{Form, ends, nothing, either, a_number, a_path, a_name, some_rights, a_text, perhaps, servers_above}
 use Rattle.coda_script.specs.Spelling.{begins, SpellServers, Spells}
 use Rattle.coda_script.specs.Ranges.{IsBetween, AreServersAbove}

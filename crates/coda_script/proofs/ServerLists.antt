@@ -1,12 +1,12 @@
 -- Reading servers, and their spellings.
-use Rattle.std.proofs.Common.{◌≡◌, ℕ, ◌+◌, Bool, true, false, ◌⊎◌, inl, inr, List, [], ◌∷◌, ◌++◌, map, Option, Some, None, Result, Ok, Err, refl, sym, ap, subst, ◌∙◌}
+use Rattle.std.proofs.Common.{◌≡◌, ℕ, ◌+◌, Bool, false, inl, inr, List, [], ◌∷◌, ◌++◌, map, Option, Ok, Err, refl, ap, subst, ◌∙◌}
 use Rattle.std.specs.Option.{option_map_or}
 use Rattle.coda_engine.specs.declared.status.Kind.TheVariants as kinds
 use Rattle.coda_text.specs.Words.{Split, Word}
 use Rattle.coda_script.specs.Slots.{between, number_in, is_server}
-use Rattle.coda_script.specs.Reading.{Fault, ◌>>=◌, is_next, servers_at}
-use Rattle.coda_script.specs.Spelling.{begins, SpellServers}
-use Rattle.coda_script.proofs.Binding.{split, texts, ok_is, bind_ok, chosen, option_ok, texts_cons, next_begins, behind_word}
+use Rattle.coda_script.specs.Reading.{◌>>=◌, is_next, servers_at}
+use Rattle.coda_script.specs.Spelling.{SpellServers}
+use Rattle.coda_script.proofs.Binding.{split, texts, ok_is, bind_ok, chosen, option_ok, texts_cons, behind_word}
 
 -- what reading servers took
 abbrev pub TookServers : Bool → ℕ → List Word → ℕ → Option ℕ → List ℕ × Split → Type 0

@@ -1,10 +1,9 @@
 -- Each line whose values are in their ranges is one of the table.
-use Rattle.std.proofs.Common.{◌≡◌, ℕ, ◌+◌, ◌^◌, ◌<◌, ◌≤◌, Bool, true, false, ◌⊎◌, inl, inr, List, [], ◌∷◌, length, Option, Some, None, refl, arith}
+use Rattle.std.proofs.Common.{◌≡◌, ℕ, ◌+◌, ◌^◌, ◌<◌, true, inl, inr, List, [], ◌∷◌, Option, Some, None, refl, arith}
 use Rattle.std.specs.Prelude.{IfSome, is_some, ◌||◌}
 use Rattle.coda_fid.specs.Name.{is_name}
 use Rattle.coda_fid.specs.Path.{path_text, ArePathNames}
 use Rattle.coda_text.specs.Printed.{AreBytes}
-use Rattle.coda_script.specs.declared.line.Content.{Content}
 use Rattle.coda_script.specs.declared.line.Content.TheVariants as contents
 use Rattle.coda_script.specs.declared.line.Expansion.{Expansion}
 use Rattle.coda_script.specs.declared.line.Expansion.TheVariants.{Alone, Children, Descendants}
@@ -20,7 +19,7 @@ use Rattle.coda_script.specs.declared.line.Line.TheVariants.{Task}
 use Rattle.coda_script.specs.Slots.{between, octal}
 use Rattle.coda_script.specs.Form.{Form}
 use Rattle.coda_script.specs.Table.{place, create_form, mkdir_form, symlink_form, store_form, setattr_form, remove_form, rmdir_form, rename_form, read_form, list_form, drain_form, refresh_form, giveup_form, volume_form, client_form, link_form, tick_form, hoard_add_form, hoard_form, walk_form, send_form, deliver_form, lose_form, breaks_form, crash_form, recover_form, arm_form, resolve_form, repair_form, show_form, trim_form, hardlink_form, acl_form, clone_form, peek_form, unclone_form, asr_form, heal_form, script, setup_forms, actor_forms, last_forms, extra_forms}
-use Rattle.coda_script.specs.Ranges.{IsBetween, IsClient, IsVolume, IsServer, IsNumber, IsOwner, IsMode, AreServers, AreTwoServers, AreServersAbove, TaskInRange, InRange, TaskOfBytes, OfBytes}
+use Rattle.coda_script.specs.Ranges.{IsBetween, IsClient, IsVolume, IsServer, IsNumber, IsOwner, IsMode, AreServers, AreTwoServers, TaskInRange, InRange, TaskOfBytes, OfBytes}
 use Rattle.coda_script.proofs.Possible.{Holds, Has}
 
 -- ---- numbers that slots hold

@@ -1,14 +1,13 @@
 -- Reading the threads of a line one after the other.
-use Rattle.std.proofs.Common.{◌≡◌, ℕ, ◌+◌, ◌<◌, Bool, true, false, List, [], ◌∷◌, length, Option, Some, None, Result, Ok, Err, refl, sym, ap, ◌∙◌, arith}
+use Rattle.std.proofs.Common.{◌≡◌, ℕ, ◌+◌, ◌<◌, true, false, List, [], ◌∷◌, length, Option, Result, Ok, Err, refl, ap, ◌∙◌, arith}
 use Rattle.std.specs.Prelude.{codes}
-use Rattle.std.specs.Option.{option_map_or}
 use Rattle.coda_engine.specs.declared.status.Kind.TheVariants as kinds
 use Rattle.coda_text.specs.Words.{Split, Word, rest_of}
 use Rattle.coda_script.specs.declared.fault.LineFault.{LineFault}
 use Rattle.coda_script.specs.declared.fault.LineFault.TheVariants.{Memory, BadLine}
 use Rattle.coda_script.specs.declared.turns.Turns.{Turns}
 use Rattle.coda_script.specs.Slots.{between, number_in, is_word}
-use Rattle.coda_script.specs.Reading.{Fault, ◌>>=◌, slot_at, is_next}
+use Rattle.coda_script.specs.Reading.{Fault, slot_at, is_next}
 use Rattle.coda_script.specs.Lines.{with_thread, turns_at}
 use Rattle.coda_script.specs.Outcome.{Fails}
 use Rattle.coda_script.proofs.Binding.{split}

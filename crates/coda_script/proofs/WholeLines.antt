@@ -1,9 +1,9 @@
 -- Reading and spelling are each other's inverse, for whole lines.
-use Rattle.std.proofs.Common.{◌≡◌, ℕ, ◌+◌, Bool, true, false, ◌⊎◌, inl, inr, List, [], ◌∷◌, Option, Some, None, Result, Ok, Err, refl, sym, ap, subst, ◌∙◌}
+use Rattle.std.proofs.Common.{◌≡◌, ℕ, ◌+◌, true, ◌⊎◌, inl, inr, List, [], ◌∷◌, Option, Some, None, Result, Ok, Err, refl, sym, ap, subst, ◌∙◌}
 use Rattle.std.specs.Prelude.{codes, IfOk, IfSome, IfNone}
 use Rattle.std.specs.Option.{option_map_or}
 use Rattle.coda_engine.specs.declared.status.Kind.TheVariants as kinds
-use Rattle.coda_text.specs.Words.{Split, Word, split_of, rest_of}
+use Rattle.coda_text.specs.Words.{Split, Word, split_of}
 use Rattle.coda_script.specs.declared.fault.LineFault.{LineFault}
 use Rattle.coda_script.specs.declared.line.Line.{Line}
 use Rattle.coda_script.specs.declared.line.Line.TheVariants.{Task, At}
@@ -12,13 +12,13 @@ use Rattle.coda_script.specs.declared.turns.Turns.{Turns}
 use Rattle.coda_script.specs.declared.turns.Turns.TheVariants.{Unnamed, Thread, Several}
 use Rattle.coda_script.specs.Outcome.{Gives}
 use Rattle.coda_script.specs.Slots.{between, number_in, is_word}
-use Rattle.coda_script.specs.Reading.{Fault, ◌>>=◌, missing, is_next, read}
+use Rattle.coda_script.specs.Reading.{Fault, ◌>>=◌, missing, read}
 use Rattle.coda_script.specs.Table.{script}
-use Rattle.coda_script.specs.Lines.{is_silent, with_thread, turns_at, placed, read_words, line_of}
-use Rattle.coda_script.specs.Spelling.{begins, Spells, SpellsAt, SpellsLine, Says, words_of}
+use Rattle.coda_script.specs.Lines.{is_silent, turns_at, placed, read_words, line_of}
+use Rattle.coda_script.specs.Spelling.{begins, Spells, SpellsLine, Says, words_of}
 use Rattle.coda_script.specs.Ranges.{InRange}
 use Rattle.coda_script.proofs.InRanges.{spelled_in_range}
-use Rattle.coda_script.proofs.Binding.{split, texts, ok_is, some_is, bind_ok, chosen, option_ok, next_begins, texts_cons, is_itself, word_is}
+use Rattle.coda_script.proofs.Binding.{split, texts, ok_is, some_is, bind_ok, chosen, option_ok, next_begins, texts_cons, word_is}
 use Rattle.coda_script.proofs.Avoiding.{script_avoids_at}
 use Rattle.coda_script.proofs.TurnSteps.{turns_stop}
 use Rattle.coda_script.proofs.AnyForm.{sound, complete}

@@ -1,6 +1,5 @@
 -- No line begins with the words up to a wrong column: `wrong`, by recursion on the form.
-use Rattle.std.proofs.Common.{◌≡◌, ℕ, ◌+◌, Bool, true, false, cond, ◌⊎◌, inl, inr, List, [], ◌∷◌, ◌++◌, map, Option, Some, None, Result, Ok, Err, refl, sym, ap, subst, ◌∙◌}
-use Rattle.std.specs.Option.{option_map_or}
+use Rattle.std.proofs.Common.{◌≡◌, ℕ, ◌+◌, Bool, true, false, ◌⊎◌, inl, inr, List, [], ◌∷◌, ◌++◌, Option, Some, None, Result, Ok, Err, refl, sym, ap, subst, ◌∙◌}
 use Rattle.std.proofs.lemmas.Bool.{false≢true}
 use Rattle.coda_engine.specs.declared.status.Kind.{Kind}
 use Rattle.coda_engine.specs.declared.status.Kind.TheVariants as kinds
@@ -8,9 +7,9 @@ use Rattle.coda_text.specs.Words.{Split, Word, rest_of}
 use Rattle.coda_script.specs.declared.line.Line.{Line}
 use Rattle.coda_script.specs.Slots.{NumberSlot, between, number_in, path_in, name_in, rights_in, text_in, is_word, is_server}
 use Rattle.coda_script.specs.Form.{Form, ends, nothing, either, a_number, a_path, a_name, some_rights, a_text, perhaps, servers_above}
-use Rattle.coda_script.specs.Reading.{Fault, ◌>>=◌, slot_at, value_at, end_at, is_next, wrong_at, missing, servers_at, option_at, read}
+use Rattle.coda_script.specs.Reading.{Fault, ◌>>=◌, slot_at, is_next, missing, servers_at, option_at, read}
 use Rattle.coda_script.specs.Spelling.{begins, SpellServers, Spells}
-use Rattle.coda_script.specs.FirstWrong.{column_of, NoneBegins, IsWrongColumn}
+use Rattle.coda_script.specs.FirstWrong.{NoneBegins, IsWrongColumn}
 use Rattle.coda_script.proofs.Binding.{split, texts, chosen, first_is, is_itself, some_is}
 
 -- ---- small steps

@@ -1,5 +1,5 @@
 -- What a wrong column says: no line begins with the words before it and the word at it.
-use Rattle.std.specs.Prelude.{◌≡◌, ℕ, ◌+◌, List, [], ◌∷◌, ◌++◌, map, Option, None, Err}
+use Rattle.std.specs.Prelude.{◌≡◌, ℕ, ◌+◌, List, [], ◌∷◌, ◌++◌, map, None, Err}
 use Rattle.coda_engine.specs.declared.status.Kind.{Kind}
 use Rattle.coda_text.specs.Words.{Split, Word}
 use Rattle.coda_script.specs.declared.line.Line.{Line}

@@ -1,5 +1,5 @@
 -- What a line says, and its first wrong column.
-use Rattle.std.specs.Prelude.{codes, ℕ, ◌+◌, Bool, true, false, ◌==◌, if◌then◌else◌, List, [], ◌∷◌, Option, Some, None, Result, Ok, Err}
+use Rattle.std.specs.Prelude.{codes, ℕ, ◌+◌, Bool, true, ◌==◌, if◌then◌else◌, List, [], ◌∷◌, Option, Some, None, Result, Ok, Err}
 use Rattle.std.specs.Option.{option_map_or}
 use Rattle.coda_engine.specs.declared.status.Kind.TheVariants as kinds
 use Rattle.coda_text.specs.Words.{Split, Word, rest_of, split_of, is_separator}

@@ -1,6 +1,5 @@
 -- The ranges of what lines name.
 use Rattle.std.specs.Prelude.{◌≡◌, ℕ, ◌+◌, ◌≤◌, List, [], ◌∷◌, length, IfSome, is_some, true, ◌||◌}
-use Rattle.std.specs.List.{AllByRecursion}
 use Rattle.coda_fid.specs.Name.{is_name}
 use Rattle.coda_fid.specs.Path.{path_text, ArePathNames}
 use Rattle.coda_text.specs.Printed.{AreBytes}

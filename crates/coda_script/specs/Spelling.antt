@@ -1,6 +1,6 @@
 -- Which words spell which line, apart from reading.
 use Rattle.std.specs.Prelude.{◌≡◌, codes, ℕ, ◌+◌, ◌⊎◌, Bool, true, false, List, [], ◌∷◌, ◌++◌, map, Option, Some, None, Result, Ok}
-use Rattle.coda_text.specs.Words.{Split, Word, split_of}
+use Rattle.coda_text.specs.Words.{Word, split_of}
 use Rattle.coda_script.specs.declared.line.Line.{Line}
 use Rattle.coda_script.specs.declared.line.Rights.{Rights}
 use Rattle.coda_script.specs.declared.line.Line.TheVariants.{Task, At}

@@ -1,6 +1,5 @@
 -- The grammar: every form of a line, in one table. Columns of reading and spellings follow from it.
 use Rattle.std.specs.Prelude.{codes, ℕ, ◌+◌, true, false, if◌then◌else◌, List, ◌∷◌, Option, Some, None, is_some}
-use Rattle.coda_engine.specs.declared.status.Kind.{Kind}
 use Rattle.coda_engine.specs.declared.status.Kind.TheVariants.{Word, Count}
 use Rattle.coda_script.specs.declared.line.Line.{Line}
 use Rattle.coda_script.specs.declared.line.Line.TheVariants as lines

@@ -1,12 +1,12 @@
 -- Actors on disks, on their own and on those of others.
-use Rattle.std.proofs.Common.{◌≡◌, ℕ, Bool, true, false, List, [], Option, Some, None, refl, sym, subst, ◌∙◌}
+use Rattle.std.proofs.Common.{◌≡◌, ℕ, Bool, true, false, [], Some, None, refl, sym, subst, ◌∙◌}
 use Rattle.std.proofs.lemmas.Bool.{false≢true}
 use Rattle.coda_journal.specs.declared.header.Header.{Header}
 use Rattle.coda_actors.specs.Plain.{PlainDisk, PlainActor}
 use Rattle.coda_plain.specs.Cell.{Actor}
 use Rattle.coda_plain.specs.Decisions.{ReplicaEntry}
 use Rattle.coda_record.specs.declared.entry.ReplicaEntry.{ReplicaEntry as KeptEntry}
-use Rattle.coda_stored.specs.Cells.{Side, StoredCell, plain_replica, on_disk, standing, IsAnothers, replica_header}
+use Rattle.coda_stored.specs.Cells.{Side, StoredCell, plain_replica, on_disk, standing, replica_header}
 use Rattle.coda_stored.specs.Kept.{IsGiven}
 use Rattle.coda_stored.specs.Seen.{own_given, IsReplicaSeen, AreOthersBeside}
 

@@ -1,5 +1,5 @@
 -- Actors that are new to the disks that an earlier run left.
-use Rattle.std.specs.Prelude.{◌≡◌, ◌≤◌, ◌<◌, ◌+◌, ℕ, List, [], ◌∷◌, ◌++◌, length, Some, None}
+use Rattle.std.specs.Prelude.{◌≡◌, ◌≤◌, ◌<◌, ◌+◌, ℕ, List, [], ◌∷◌, ◌++◌, length, None}
 use Rattle.coda_disk.specs.Told.{Told}
 use Rattle.coda_plain.specs.Moves.{TheClient, TheReplica, Crashes}
 use Rattle.coda_stored.specs.Cells.{StoredCell, client_header, replica_header, moved}

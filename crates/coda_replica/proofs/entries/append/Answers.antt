@@ -1,5 +1,4 @@
-use Rattle.std.proofs.Common.{rules, arith, ap, ◌∙◌, ◌<◌, ◌≤◌, ◌+◌, ◌∷◌, [], List, ℕ, length, drop, length-append, subst, sym}
-use Rattle.std.specs.Prelude.{Result, Ok, Err, Some, IsErr}
+use Rattle.std.proofs.Common.{rules, arith, ap, ◌∙◌, ◌<◌, ◌+◌, ◌∷◌, [], List, ℕ, length, drop, length-append}
 use Rattle.std.specs.Int.{w32}
 use Rattle.coda_journal.specs.Entries.{body}
 use Rattle.coda_replica.proofs.Appends.{leaves1, leaves2, done, stands}

@@ -1,7 +1,6 @@
-use Rattle.std.proofs.Common.{rules, arith, ap, sym, subst, ◌∙◌, ◌≡◌, ◌+◌, ◌<◌, ◌^◌, ◌-◌, min, List, ℕ, suc, ◌∷◌, ◌++◌, [], length, take, drop}
+use Rattle.std.proofs.Common.{rules, ap, sym, subst, ◌∙◌, ◌≡◌, ◌+◌, ◌^◌, ◌-◌, min, List, ℕ, suc, length, take, drop}
 use Rattle.std.specs.Int.{w32}
 use Rattle.coda_journal.specs.Entries.{blocks}
-use Rattle.coda_journal.specs.declared.header.Header.{Header}
 use Rattle.coda_replica.specs.Entering.{AreEntered, IsUnfit, Enters}
 use Rattle.coda_replica.proofs.Reading.{entered_push, breaks_at, place_push, one_more, parted, foreign_place}
 use Rattle.coda_replica.proofs.recovery.enter_all.Goals as goal

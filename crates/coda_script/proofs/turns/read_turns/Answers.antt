@@ -1,4 +1,4 @@
-use Rattle.std.proofs.Common.{sym, ◌∙◌, ap}
+use Rattle.std.proofs.Common.{sym, ◌∙◌}
 use Rattle.std.proofs.lemmas.Result.{err_from_is_err_and}
 use Rattle.coda_script.proofs.TurnSteps.{turn_goes, turn_fails, turns_stop}
 use Rattle.coda_script.proofs.turns.read_turns.Goals as goal

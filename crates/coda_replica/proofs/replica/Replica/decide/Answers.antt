@@ -1,4 +1,4 @@
-use Rattle.std.proofs.Common.{◌≡◌, true, ap, ◌∙◌, sym, subst}
+use Rattle.std.proofs.Common.{◌≡◌, true, ap, ◌∙◌, sym}
 use Rattle.coda_plain.specs.Decisions.{Last}
 use Rattle.coda_replica.specs.Answers.{is_next}
 use Rattle.coda_replica.specs.State.{last_for}

@@ -1,13 +1,9 @@
-use Rattle.std.proofs.Common.{rules, refl, inr, arith, ap, sym, subst, ◌∙◌, ◌≡◌, ◌+◌, ◌≤◌, length}
-use Rattle.std.specs.Prelude.{Err, Ok, IsSome}
+use Rattle.std.proofs.Common.{rules, refl, inr, arith, ap, sym, subst, ◌∙◌, ◌≡◌, length}
+use Rattle.std.specs.Prelude.{Err, IsSome}
 use Rattle.std.specs.FinMap as map
-use Rattle.std.specs.Int.{w32}
 use Rattle.coda_certify.specs.Replay.{replay}
 use Rattle.coda_certify.specs.Verdicts.{verdict_of}
-use Rattle.coda_certify.specs.declared.verdict.Verdict.TheVariants.{Applied}
-use Rattle.coda_journal.specs.Entries.{framed}
 use Rattle.coda_record.specs.declared.last.Last.{Last}
-use Rattle.coda_record.specs.declared.entry.ReplicaEntry.TheVariants.{Decide}
 use Rattle.coda_replica.specs.State.{ReplicaState}
 use Rattle.coda_replica.specs.History.{payload_of, payloads_of}
 use Rattle.coda_replica.specs.Deciding.{decision_entry, NextDeciding}

@@ -1,4 +1,4 @@
-use Rattle.std.proofs.Common.{arith, ap, sym, subst, ◌+◌, ◌≤◌, ◌<◌}
+use Rattle.std.proofs.Common.{arith, sym, subst}
 use Rattle.coda_certify.specs.declared.verdict.Verdict.{Verdict}
 use Rattle.coda_certify.specs.declared.verdict.Verdict.TheVariants.{Applied}
 use Rattle.coda_record.specs.declared.entry.ReplicaEntry.TheVariants.{Decide}

@@ -1,9 +1,7 @@
-use Rattle.std.proofs.Common.{rules, arith, ap, sym, subst, ◌≡◌, ◌≢◌, ◌+◌, ◌≤◌, ◌<◌, ℕ, List}
+use Rattle.std.proofs.Common.{rules, arith, ap, sym, subst, ◌≡◌, ◌+◌, ◌≤◌, ◌<◌, ℕ, List}
 use Rattle.std.specs.Prelude.{Err, IfErr}
-use Rattle.coda_disk.specs.Told.{Told}
 use Rattle.coda_journal.specs.Header.{area_bytes}
 use Rattle.coda_journal.specs.Image.{ReadsAs}
-use Rattle.coda_journal.specs.declared.mounting.MountFault.TheVariants.{Foreign, DiskFault}
 use Rattle.coda_replica.specs.Entering.{Breaks}
 use Rattle.coda_replica.specs.Recovering.{NotRecovered}
 use Rattle.coda_replica.specs.Standing.{IsReplicaDisk}
