@@ -1,6 +1,7 @@
 """The worked rows of crates/coda_rows: what a second reading of the rules says of their scripts and lines."""
 
 import glob
+import itertools
 import os
 import re
 import sys
@@ -12,6 +13,8 @@ AGAIN = b"# again\n"
 # The first lines of a run that say what it needs or how it ends; all others are comments.
 SAYS = re.compile(rb"# (status|words|pieces|source|sink|bay|disk|images)\b")
 IS_FOLLOWED = re.compile(rb"# (pieces of \d+ bytes|status 3: line \d+ column \d+: \w+)")
+# What ends a run at a place that isn't told here: of its report that alone is written which came before.
+IS_CUT_OFF = re.compile(rb"# (?:sink takes (\d+) bytes|(?:source|sink|bay) fails at call \d+|status [456]: .*)")
 ENDS = re.compile(rb"# status 3: line (\d+) column (\d+): (\w+)")
 MOST_BYTES = 200_000
 
@@ -38,16 +41,18 @@ def said_of(run):
 
 
 def is_read(script):
-    """Whether a worked script is read here: it isn't very large, and its runs need nothing but pieces, and end by their lines."""
-    return len(script) < MOST_BYTES and all(IS_FOLLOWED.fullmatch(line) for run in runs_of(script) for line in said_of(run))
+    """Whether a worked script is read here: it isn't very large and needs nothing of disks, and no run follows one that is cut off."""
+    said = [line for run in runs_of(script) for line in said_of(run) if not IS_FOLLOWED.fullmatch(line)]
+    return len(script) < MOST_BYTES and all(map(IS_CUT_OFF.fullmatch, said)) and (said == [] or len(runs_of(script)) == 1)
 
 
 def cut(run):
     """A run up to the line at which it ends, where its first lines say one; and whether that line is wrong there, and as that."""
-    ends = next(filter(None, map(ENDS.match, said_of(run))), None)
+    ends, lines = next(filter(None, map(ENDS.match, said_of(run))), None), run.split(b"\n")
     if ends is None:
-        return run, True
-    lines = run.split(b"\n")
+        # (a line behind the place at which a run is cut off may be wrong)
+        right = itertools.takewhile(lambda line: first_wrong(line.removesuffix(b"\r")) is None, lines)
+        return b"\n".join(right) if any(map(IS_CUT_OFF.fullmatch, said_of(run))) else run, True
     number, column, kind = int(ends[1]), int(ends[2]), ends[3].decode()
     line = lines[number - 1].removesuffix(b"\r") if number < len(lines) else lines[number - 1]
     # (a line of the grammar that isn't built ends a run at its first column)
@@ -58,7 +63,11 @@ def cut(run):
 def is_as_said(path, script):
     """Whether the report that stands beside a script is the one of its runs, and these end where it says."""
     runs, report = [cut(run) for run in runs_of(script)], read_row(path.removesuffix("coda") + "report")
-    return all(ends for _, ends in runs) and report_of(AGAIN.join(run for run, _ in runs)) == report
+    cuts = [found for run, _ in runs for found in map(IS_CUT_OFF.fullmatch, said_of(run)) if found]
+    whole = report_of(AGAIN.join(run for run, _ in runs))
+    most = [int(found[1]) for found in cuts if found[1]]
+    is_written = whole[: most[0]] == report if most else whole.startswith(report) if cuts else whole == report
+    return all(ends for _, ends in runs) and is_written
 
 
 def are_lines_as_said(path):
