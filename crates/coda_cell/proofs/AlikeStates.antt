@@ -74,6 +74,8 @@ pub record AreAlike (s t : CellState) (said : Line) : Type 0 where
   pub links : s.links ≡ t.links
   pub waiting : s.waiting ≡ t.waiting
   pub posted : s.posted ≡ t.posted
+  pub copies : s.copies ≡ t.copies
+  pub uses : s.uses ≡ t.uses
   pub there : (client : ℕ) → is_some (s.clients client) ≡ is_some (t.clients client)
   pub homes : (volume : ℕ) → home_of (s.replicas volume) ≡ home_of (t.replicas volume)
   pub client : (client : ℕ) → client_in said s.waiting ≡ Some client → s.clients client ≡ t.clients client
@@ -227,6 +229,6 @@ module _ (t : CellState) (replicas : ℕ → Option ReplicaState) (clients : ℕ
 pub does_alike : (s t : CellState) (said : Line) (reply : Reply) (events : List Event) → AreAlike s t said → Does s said reply events → Does t said reply events
 does_alike s t said reply events alike does =
     let same : s ≡ record t { replicas = s.replicas; clients = s.clients } =
-    (λ i. record { clock = alike.clock i; servers = alike.servers i; replicas = s.replicas; clients = s.clients; links = alike.links i; waiting = alike.waiting i; posted = alike.posted i }) in
+    (λ i. record { clock = alike.clock i; servers = alike.servers i; replicas = s.replicas; clients = s.clients; links = alike.links i; waiting = alike.waiting i; posted = alike.posted i; copies = alike.copies i; uses = alike.uses i }) in
     line_same t s.replicas s.clients alike.there alike.homes reply events said (λ client is. alike.client client (ap (client_in said) alike.waiting ∙ is))
     (λ volume is. alike.replica volume (ap (replica_in said) alike.waiting ∙ is)) (subst (λ x. Does x said reply events) same does)

@@ -12,7 +12,7 @@ use Rattle.coda_plain.specs.Histories.{left_by}
 use Rattle.coda_plain.specs.Deeds.{Deed, Operated, Froze, Settled, Gaveup, operation_in, full_of, created_by, created_in, Cut, Course, course_after, course_of, pending_of, MayDo, AreLawful}
 use Rattle.coda_plain.specs.Decisions.{ReplicaEntry, Decided, Resolved, with_last, no_lasts, Kept, kept_after, nodes_of, last_of, decision}
 use Rattle.coda_plain.specs.Logs.{front_by, back_by, front_of, back_of, LogAfter}
-use Rattle.coda_plain.specs.Cell.{ClientEntry, Fetched, Did, deed_on, deeds_of}
+use Rattle.coda_plain.specs.Cell.{ClientEntry, Fetched, Did, Dropping, deed_on, deeds_of}
 use Rattle.coda_plain.proofs.Lists.{left_push, follow_push, along}
 use Rattle.coda_plain.proofs.Chunking.{course_push, full_push}
 use Rattle.coda_plain.proofs.Ledger.{orderly}
@@ -82,6 +82,7 @@ left_both step s (e ∷ first) rest = left_both step (step s e) first rest
 entered_on : (c : ClientState) (entry : ClientEntry) (volume : ℕ) → (client_after c entry).volumes volume ≡ left_by volume_after (c.volumes volume) (deed_on volume entry)
 entered_on c (Fetched fid parent node) volume = refl
 entered_on c (Did at deed) volume = did_on c.volumes volume at deed
+entered_on c (Dropping gone entry) volume = entered_on c entry volume
 
 volumes_after_all : (c : ClientState) (entries : List ClientEntry) (volume : ℕ) → (client_after_all c entries).volumes volume ≡ left_by volume_after (c.volumes volume) (deeds_of volume entries)
 volumes_after_all c [] volume = refl

@@ -1,5 +1,5 @@
 -- Cells that are kept: the first one, what is pending there, and lines that make an actor or change no history.
-use Rattle.std.proofs.Common.{◌≡◌, ◌≢◌, ℕ, ◌==◌, true, false, cond, List, [], ◌∷◌, Option, Some, None, is_some, option_map, refl, sym, ap, ◌∙◌, subst}
+use Rattle.std.proofs.Common.{◌≡◌, ◌≢◌, ℕ, ◌==◌, Bool, true, false, cond, List, [], ◌∷◌, Option, Some, None, is_some, option_map, refl, sym, ap, ◌∙◌, subst}
 use Rattle.std.specs.FinMap as finite
 use Rattle.std.proofs.lemmas.Bool.{eqb-true, false≢true}
 use Rattle.coda_fid.specs.Fid.{fid_cmp}
@@ -11,9 +11,11 @@ use Rattle.coda_plain.specs.Cell.{ClientEntry, PlainCell, empty_cell}
 use Rattle.coda_plain.specs.Moves.{done_on}
 use Rattle.coda_plain.proofs.Soundness.{none_joins, runs_are_sound}
 use Rattle.coda_plain.proofs.Promised.{sound_cells_are_promised}
-use Rattle.coda_cell.specs.State.{pending, ClientState, VolumeMade, ClientMade, Ticked, LinkSet}
+use Rattle.coda_cell.specs.State.{pending, ClientState, VolumeMade, ClientMade, Ticked, LinkSet, after, unless_from, cut_by}
+use Rattle.coda_script.specs.declared.line.Strength.TheVariants.{Strong, Weak, Down}
 use Rattle.coda_cell.specs.Kept.{IsHolding}
-use Rattle.coda_cell.specs.Made.{MadeCell, nothing_made, client_of, state_of}
+use Rattle.coda_fid.specs.declared.fid.Fid.{Fid}
+use Rattle.coda_cell.specs.Made.{Copy, MadeCell, nothing_made, client_of, state_of}
 use Rattle.coda_cell.specs.Cells.{IsOrderly, AreOrderly}
 use Rattle.coda_cell.specs.Runs.{IsKept, IsLeft, CellsAreKept}
 use Rattle.coda_cell.proofs.Histories.{volumes_are, pending_are}
@@ -126,9 +128,29 @@ ticked_left cell seconds kept = record {
   shown = refl;
 }
 
+-- what is seen of copies that a link takes is what the link takes of those that are seen
+cut_one : (server : ℕ) (o : Option Copy) → option_map (λ (copy : Copy). copy.server) (unless_from (λ (copy : Copy). copy.server) server o) ≡ unless_from (λ n. n) server (option_map (λ (copy : Copy). copy.server) o)
+cut_one server None = refl
+cut_one server (Some copy) = go (copy.server == server)
+  where
+    go : (b : Bool) → option_map (λ (c : Copy). c.server) (cond b None (Some copy)) ≡ cond b None (Some copy.server)
+    go true = refl
+    go false = refl
+
+cut_seen : (strength : Strength) (copies : ℕ → Fid → Option Copy) (client server c : ℕ) (f : Fid)
+    → option_map (λ (copy : Copy). copy.server) (cut_by (λ (copy : Copy). copy.server) strength copies client server c f) ≡ cut_by (λ n. n) strength (λ d g. option_map (λ (copy : Copy). copy.server) (copies d g)) client server c f
+cut_seen Strong copies client server c f = refl
+cut_seen Weak copies client server c f = refl
+cut_seen Down copies client server c f = go (c == client)
+  where
+    go : (b : Bool) → option_map (λ (copy : Copy). copy.server) (cond b (unless_from (λ (copy : Copy). copy.server) server (copies c f)) (copies c f))
+        ≡ cond b (unless_from (λ n. n) server (option_map (λ (copy : Copy). copy.server) (copies c f))) (option_map (λ (copy : Copy). copy.server) (copies c f))
+    go true = cut_one server (copies c f)
+    go false = refl
+
 pub linked_left : (cell : MadeCell) (client server : ℕ) (strength : Strength) → IsKept cell → IsLeft cell (LinkSet client server strength ∷ [])
 linked_left cell client server strength kept = record {
   moved = refl;
   kept = record { sound = kept.sound; up = kept.up; made = record { numbered = kept.made.numbered; clients = kept.made.clients; replicas = kept.made.replicas }; holding = kept.holding; letters = record { numbered = kept.letters.numbered; pooled = kept.letters.pooled } };
-  shown = refl;
+  shown = λ i. record (after (state_of cell) (LinkSet client server strength)) { copies = λ c f. cut_seen strength cell.copies client server c f i };
 }

@@ -13,7 +13,7 @@ use Rattle.coda_record.specs.declared.answer.Answer.TheVariants.{Applied, Confli
 use Rattle.coda_script.specs.declared.line.Strength.{Strength}
 use Rattle.coda_script.specs.declared.line.Strength.TheVariants.{Strong, Weak, Down}
 use Rattle.coda_plain.specs.Deeds.{Cut, Course, course_of, MaySettle}
-use Rattle.coda_plain.specs.Cell.{Letter, ChunkSent as PlainChunk, AnswerSent as PlainAnswer, Ruled, Behind as PlainBehind, Old as PlainOld, PlainCell}
+use Rattle.coda_plain.specs.Cell.{Letter, ChunkSent as PlainChunk, AnswerSent as PlainAnswer, BreakSent as PlainBreak, Ruled, Behind as PlainBehind, Old as PlainOld, PlainCell}
 use Rattle.coda_plain.specs.Moves.{Posts, Loses, after as after_move, done_on, MayPost}
 use Rattle.coda_plain.proofs.Soundness.{moves_keep_sound}
 use Rattle.coda_letters.specs.Sent.{Sent, ChunkSent, AnswerSent, Waiting, sent_at, lost_by, number_of, without}
@@ -127,6 +127,7 @@ may_post_on cell message (PlainChunk client server volume number) may = record {
 may_post_on cell message (PlainAnswer server client volume number (Ruled verdict)) may = record { up = may.up; some = may.some; last = may.last }
 may_post_on cell message (PlainAnswer server client volume number (PlainBehind last)) may = tt
 may_post_on cell message (PlainAnswer server client volume number (PlainOld last)) may = tt
+may_post_on cell message (PlainBreak server client fids) may = tt
 
 put_out_left : (going : Waiting) (cell : MadeCell) (sent : Sent) → IsKept cell → MayPost cell.acted (plain_letter sent) → IsSaid cell.acted sent → AreLeft cell (map (λ l. Lost l.0) going ++ Posted sent ∷ [])
 put_out_left [] cell sent kept may said = are_left_one cell (Posted sent) (posted_left cell sent kept may said)

@@ -8,7 +8,7 @@ use Rattle.coda_plain.specs.Logs.{BeginsWith}
 use Rattle.coda_plain.specs.Moves.{with_client, grown as grown_actor, Append, AtClient, AtReplica, Move, Does, after as after_move, done_on, Moved}
 use Rattle.coda_plain.proofs.AtClients.{made_more}
 use Rattle.coda_plain.proofs.Staying.{clients_run}
-use Rattle.coda_cell.specs.State.{CellState, Event, VolumeMade, ClientMade, Ticked, LinkSet, Entered, Posted, Lost, after, after_all, at_client}
+use Rattle.coda_cell.specs.State.{CellState, Event, VolumeMade, ClientMade, Ticked, LinkSet, Entered, Posted, Lost, Used, Kept, Stale, after, after_all, at_client}
 use Rattle.coda_cell.specs.Made.{MadeCell, state_of, grown, grown_all, move_of, moves_of}
 use Rattle.coda_cell.specs.Runs.{AreUp, IsKept, IsLeft}
 use Rattle.coda_cell.proofs.Grown.{client_grown}
@@ -86,6 +86,9 @@ up_grown cell (LinkSet client server strength) up = up
 up_grown cell (Entered append) up = up_after cell.acted append up
 up_grown cell (Posted sent) up = record { clients = up.clients; replicas = up.replicas }
 up_grown cell (Lost message) up = record { clients = up.clients; replicas = up.replicas }
+up_grown cell (Used client fids) up = up
+up_grown cell (Kept client server fid) up = up
+up_grown cell (Stale client fids) up = up
 
 pub up_all : (cell : MadeCell) (events : List Event) → AreUp cell.acted → AreUp (grown_all cell events).acted
 up_all cell [] up = up

@@ -3,7 +3,10 @@ use Rattle.std.proofs.Common.{◌≡◌, ℕ, ◌==◌, ◌&&◌, true, false, c
 use Rattle.std.proofs.lemmas.Bool.{eqb-true, cases_Bool, and_parts}
 use Rattle.std.specs.FinMap as map
 use Rattle.coda_fid.specs.declared.op.Record.{Record}
-use Rattle.coda_tree.specs.Volume.{child_of}
+use Rattle.coda_fid.specs.declared.fid.Fid.{Fid}
+use Rattle.coda_fid.proofs.Fids.{fids_total, exact_fids}
+use Rattle.coda_tree.specs.Volume.{Nodes, child, child_of}
+use Rattle.coda_tree.proofs.Order.{fid_cases, gone_here, gone_else}
 use Rattle.coda_certify.specs.declared.verdict.Verdict.TheVariants.{Applied}
 use Rattle.coda_certify.specs.Verdicts.{verdict_of}
 use Rattle.coda_cancel.specs.Cancel.{fold}
@@ -15,18 +18,19 @@ use Rattle.coda_record.specs.Spelling.{HasSpelling}
 use Rattle.coda_record.specs.Table as table
 use Rattle.coda_plain.specs.Histories.{In}
 use Rattle.coda_plain.specs.Deeds.{Deed, Operated, Froze, Settled, Gaveup, operation_in, full_of, Course, course_of, pending_of, Chunk, chunk_at, chunks_of, span_in, span_of, MayDo, AreLawful}
+use Rattle.coda_plain.specs.Objects.{nodes_in}
 use Rattle.coda_plain.specs.Decisions.{ReplicaEntry, Decided, Resolved, Last, Kept, kept_after, kept_of, nodes_of, decision}
-use Rattle.coda_plain.specs.Cell.{ClientEntry, Fetched, Did, deeds_of, PlainCell, empty_cell}
+use Rattle.coda_plain.specs.Cell.{ClientEntry, Fetched, Did, Dropping, deeds_of, PlainCell, empty_cell}
 use Rattle.coda_plain.specs.Moves.{grown as grown_actor, Append, AtClient, AtReplica, Move, Does, Fails, Posts, Loses, Crashes, Recovers, after, done_on, MayAppend, Moved}
 use Rattle.coda_plain.specs.Sound.{IsSound}
 use Rattle.coda_plain.proofs.AtReplicas.{kept_push, with_last_at}
 use Rattle.coda_plain.proofs.Chunking.{course_push, full_push, spans_in}
 use Rattle.coda_plain.proofs.Ledger.{orderly}
 use Rattle.coda_plain.proofs.Lists.{in_parts, told_last, follow_push, along}
-use Rattle.coda_plain.proofs.Places.{deeds_push}
+use Rattle.coda_plain.proofs.Places.{deeds_push, deeds_beside}
 use Rattle.coda_plain.proofs.Ranges.{both_parts, above_rising}
 use Rattle.coda_plain.proofs.Soundness.{none_joins, moves_keep_sound}
-use Rattle.coda_cell.specs.Held.{Held, held_after}
+use Rattle.coda_cell.specs.Held.{Held, held_after, held_after_drops}
 use Rattle.coda_cell.specs.State.{ClientState, new_client}
 use Rattle.coda_cell.specs.Made.{client_of}
 use Rattle.coda_spelling.specs.Spelled.{IsSpelled, AreSpelled, AreAllSpelled}
@@ -119,6 +123,7 @@ deed_spelled client deeds deed are is = (
 abbrev pub IsEntrySpelled : ℕ → ClientEntry → Type 0
 IsEntrySpelled client (Fetched fid parent node) = Unit {0}
 IsEntrySpelled client (Did volume deed) = IsDeedSpelled client deed
+IsEntrySpelled client (Dropping gone entry) = IsEntrySpelled client entry
 
 entry_spelled : (client volume : ℕ) (history : List ClientEntry) (entry : ClientEntry) → AreDeedsSpelled (deeds_of volume history) → IsEntrySpelled client entry → AreDeedsSpelled (deeds_of volume (history ++ entry ∷ []))
 entry_spelled client volume history (Fetched fid parent node) are is = subst AreDeedsSpelled (sym (deeds_push volume history (Fetched fid parent node) ∙ append-nil (deeds_of volume history))) are
@@ -127,6 +132,7 @@ entry_spelled client volume history (Did at deed) are is = subst AreDeedsSpelled
       | true ↦ deed_spelled client (deeds_of volume history) deed are is
       | false ↦ subst AreDeedsSpelled (sym (append-nil (deeds_of volume history))) are
     ])
+entry_spelled client volume history (Dropping gone entry) are is = subst AreDeedsSpelled (sym (deeds_beside gone volume entry history)) (entry_spelled client volume history entry are is)
 
 -- what is held; what is fetched comes from nodes that can be spelled
 held_by_deed : (h : Held) (client : ℕ) (volume : ℕ) (deed : Deed) → AreSpelled h.nodes → IsDeedSpelled client deed → AreSpelled (held_after h client (Did volume deed)).nodes
@@ -135,11 +141,28 @@ held_by_deed h client volume (Froze number home last) are is = are
 held_by_deed h client volume (Settled number verdict) are is = are
 held_by_deed h client volume Gaveup are is = are
 
+after_drop : (m : Nodes) (fid : Fid) → AreSpelled m → AreSpelled (map.remove m fid)
+after_drop m fid are = record {
+  versions = λ other node e. elim (fid_cases other fid) [
+    | inl same ↦ (let none : None ≡ Some node = sym (ap (map.get (map.remove m fid)) same ∙ gone_here fids_total m fid) ∙ e in cc)
+    | inr off ↦ are.versions other node (sym (gone_else fids_total exact_fids m fid other off) ∙ e)
+  ];
+  bound = λ dir kid name e. elim (fid_cases dir fid) [
+    | inl same ↦ (let none : None ≡ Some kid = sym (ap (λ o. child_of o name) (ap (map.get (map.remove m fid)) same ∙ gone_here fids_total m fid)) ∙ e in cc)
+    | inr off ↦ are.bound dir kid name (sym (ap (λ o. child_of o name) (gone_else fids_total exact_fids m fid dir off)) ∙ e)
+  ];
+}
+
+after_drops : (h : Held) (gone : List Fid) → AreSpelled h.nodes → AreSpelled (held_after_drops h gone).nodes
+after_drops h [] are = are
+after_drops h (fid ∷ gone) are = after_drops (record { nodes = map.remove h.nodes fid; parents = map.remove h.parents fid }) gone (after_drop h.nodes fid are)
+
 held_by : (cell : PlainCell) (h : Held) (client : ℕ) (entry : ClientEntry) → DidSpelled cell → MayAppend cell (AtClient client entry) → AreSpelled h.nodes → IsEntrySpelled client entry → AreSpelled (held_after h client entry).nodes
 held_by cell h client (Fetched fid parent node) did may are is =
     let from = may.1 in
     after_fetch h.nodes (nodes_of from.1 (cell.replicas from.0 from.1).history) fid node are (did.replicas from.0 from.1).nodes from.3
 held_by cell h client (Did volume deed) did may are is = held_by_deed h client volume deed are is
+held_by cell h client (Dropping gone entry) did may are is = held_by cell (held_after_drops h gone) client entry did may (after_drops h gone are) is
 
 -- an entry more of a client
 at_client_spelled : (cell : PlainCell) (client : ℕ) (entry : ClientEntry) → DidSpelled cell → MayAppend cell (AtClient client entry) → IsEntrySpelled client entry → DidSpelled (after cell (Does (AtClient client entry)))
@@ -165,7 +188,7 @@ at_client_spelled cell client entry did may is = record { operations = λ c v. (
 
 abbrev pub IsDecisionSpelled : ReplicaEntry → Type 0
 IsDecisionSpelled (Decided client number span) = HasSpelling u8 client
-IsDecisionSpelled (Resolved nodes lasts) = IsReplicaSpelled (record { nodes = nodes; lasts = lasts })
+IsDecisionSpelled (Resolved objects lasts) = IsReplicaSpelled (record { nodes = nodes_in objects; lasts = lasts })
 
 -- what a replica has behind its entry
 kept_by : (kept : Kept) (entry : ReplicaEntry) → IsReplicaSpelled kept → IsDecisionSpelled entry → ((client number : ℕ) (span : List Record) → entry ≡ Decided client number span → AreAllSpelled span) → IsReplicaSpelled (kept_after kept entry)

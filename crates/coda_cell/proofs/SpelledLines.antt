@@ -43,7 +43,7 @@ use Rattle.coda_plain.proofs.Soundness.{none_joins}
 use Rattle.coda_cell.specs.Ask.{Asked, Create, Mkdir, Symlink, Store, Setattr, Remove, Rmdir, Rename, too_long, too_big, object_of}
 use Rattle.coda_cell.specs.Held.{Held, Fetch, held_after_fetches}
 use Rattle.coda_cell.specs.Looking.{offered, fetch_of, looked, look_along, entries_of}
-use Rattle.coda_cell.specs.State.{ClientVolume, ClientState, ReplicaState, new_client, Event, VolumeMade, ClientMade, Ticked, LinkSet, Entered, Posted, Lost, CellState, at_client}
+use Rattle.coda_cell.specs.State.{ClientVolume, ClientState, ReplicaState, new_client, Event, VolumeMade, ClientMade, Ticked, LinkSet, Entered, Posted, Lost, Used, Kept, Stale, CellState, at_client}
 use Rattle.coda_cell.specs.Accepting.{Accepted, sight_of, accept}
 use Rattle.coda_cell.specs.Asking.{Answer, answers, look_ups, behind_fetches, next_record, has_room, is_full, answer_to, operate_unless, operate, read, list}
 use Rattle.coda_cell.specs.Made.{MadeCell, client_of, state_of, grown, grown_all, moves_of}
@@ -76,6 +76,9 @@ IsEventSpelled (LinkSet client server strength) = Unit {0}
 IsEventSpelled (Entered append) = IsAppendSpelled append
 IsEventSpelled (Posted sent) = Unit {0}
 IsEventSpelled (Lost message) = Unit {0}
+IsEventSpelled (Used client fids) = Unit {0}
+IsEventSpelled (Kept client server fid) = Unit {0}
+IsEventSpelled (Stale client fids) = Unit {0}
 
 abbrev pub AreEventsSpelled : List Event → Type 0
 AreEventsSpelled [] = Unit {0}
@@ -94,6 +97,9 @@ moves_are (LinkSet client server strength ∷ events) are = moves_are events are
 moves_are (Entered append ∷ events) are = (are.0, moves_are events are.1)
 moves_are (Posted sent ∷ events) are = moves_are events are.1
 moves_are (Lost message ∷ events) are = moves_are events are.1
+moves_are (Used client fids ∷ events) are = moves_are events are.1
+moves_are (Kept client server fid ∷ events) are = moves_are events are.1
+moves_are (Stale client fids ∷ events) are = moves_are events are.1
 
 -- the clock, the clients and the volumes
 record IsNamed (cell : MadeCell) : Type 0 where
@@ -130,6 +136,9 @@ named_after cell (LinkSet client server strength) are is = record { clock = are.
 named_after cell (Entered append) are is = record { clock = are.clock; clients = are.clients; volumes = are.volumes }
 named_after cell (Posted sent) are is = record { clock = are.clock; clients = are.clients; volumes = are.volumes }
 named_after cell (Lost message) are is = record { clock = are.clock; clients = are.clients; volumes = are.volumes }
+named_after cell (Used client fids) are is = record { clock = are.clock; clients = are.clients; volumes = are.volumes }
+named_after cell (Kept client server fid) are is = record { clock = are.clock; clients = are.clients; volumes = are.volumes }
+named_after cell (Stale client fids) are is = record { clock = are.clock; clients = are.clients; volumes = are.volumes }
 
 named_all : (cell : MadeCell) (events : List Event) → IsNamed cell → AreEventsSpelled events → IsNamed (grown_all cell events)
 named_all cell [] named are = named

@@ -14,7 +14,7 @@ use Rattle.coda_tree.specs.declared.node.Node.{Node}
 use Rattle.coda_tree.specs.Bindings.{Name}
 use Rattle.coda_tree.specs.Volume.{Nodes, child}
 use Rattle.coda_certify.specs.Replay.{applied}
-use Rattle.coda_plain.specs.Cell.{ClientEntry, Fetched, Did}
+use Rattle.coda_plain.specs.Cell.{ClientEntry, Fetched, Did, Dropping}
 use Rattle.coda_plain.specs.Deeds.{Deed, Operated, Froze, Settled, Gaveup}
 
 -- the parent of each object that has one
@@ -89,9 +89,15 @@ held_after_deed held client Gaveup = held
 abbrev pub held_after_fetch : Held → Fid → Option Fid → Node → Held
 held_after_fetch held fid parent node = record { nodes = map.insert held.nodes fid node; parents = with_parent held.parents fid parent }
 
+-- what is held once these were dropped
+abbrev pub held_after_drops : Held → List Fid → Held
+held_after_drops held [] = held
+held_after_drops held (fid ∷ gone) = held_after_drops (record { nodes = map.remove held.nodes fid; parents = map.remove held.parents fid }) gone
+
 abbrev pub held_after : Held → ℕ → ClientEntry → Held
 held_after held client (Fetched fid parent node) = held_after_fetch held fid parent node
 held_after held client (Did volume deed) = held_after_deed held client deed
+held_after held client (Dropping gone entry) = held_after (held_after_drops held gone) client entry
 
 -- a fetch
 pub record Fetch : Type 0 where

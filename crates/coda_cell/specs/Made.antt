@@ -1,6 +1,7 @@
 -- A cell by what was made in it and by the histories of its actors. All else is computed from these.
-use Rattle.std.specs.Prelude.{ℕ, ◌+◌, List, [], ◌∷◌, ◌++◌, Option, Some, None}
+use Rattle.std.specs.Prelude.{ℕ, ◌+◌, length, List, [], ◌∷◌, ◌++◌, Option, Some, None}
 use Rattle.std.specs.Option.{option_map}
+use Rattle.coda_fid.specs.declared.fid.Fid.{Fid}
 use Rattle.coda_script.specs.declared.line.Strength.{Strength}
 use Rattle.coda_script.specs.declared.line.Strength.TheVariants.{Down}
 use Rattle.coda_certify.specs.declared.verdict.Verdict.TheVariants as verdict
@@ -10,10 +11,15 @@ use Rattle.coda_letters.specs.Sent.{Sent, ChunkSent, AnswerSent, Waiting, withou
 use Rattle.coda_plain.specs.Decisions.{ReplicaEntry}
 use Rattle.coda_plain.specs.Cell.{ClientEntry, Letter, ChunkSent as PlainChunk, AnswerSent as PlainAnswer, Answer as PlainReply, Ruled, Behind, Old, PlainCell, empty_cell}
 use Rattle.coda_plain.specs.Moves.{Move, Does, Posts, Loses, after as after_move}
-use Rattle.coda_cell.specs.State.{put, later, linked, ClientState, new_client, client_after_all, ReplicaState, new_replica, replica_after_all, CellState, Event, VolumeMade, ClientMade, Ticked, LinkSet, Entered, Posted, Lost}
+use Rattle.coda_cell.specs.State.{put, later, linked, ClientState, new_client, client_after_all, ReplicaState, new_replica, replica_after_all, CellState, Event, VolumeMade, ClientMade, Ticked, LinkSet, Entered, Posted, Lost, Used, Kept, Stale, but_of, with_copy, cut_by, used_then}
 
 -- the clock, the servers of the volumes in the order of making, the server of each volume and the blocks of each client once it was
 -- made, the links, what waits in letters, and the histories of clients and replicas with how many letters were posted
+-- Beside these, of each client: its valid copies, each with its server and how many entries the server's history had then; and the order in which it used objects.
+pub record Copy : Type 0 where
+  pub server : ℕ
+  pub position : ℕ
+
 pub record MadeCell : Type 0 where
   pub clock : ℕ
   pub servers : List ℕ
@@ -22,10 +28,12 @@ pub record MadeCell : Type 0 where
   pub links : ℕ → ℕ → Strength
   pub waiting : Waiting
   pub acted : PlainCell
+  pub copies : ℕ → Fid → Option Copy
+  pub uses : ℕ → List Fid
 
 -- a cell in which nothing was made
 abbrev pub nothing_made : MadeCell
-nothing_made = record { clock = 0; servers = []; homes = λ volume. None; sizes = λ client. None; links = λ client server. Down; waiting = []; acted = empty_cell }
+nothing_made = record { clock = 0; servers = []; homes = λ volume. None; sizes = λ client. None; links = λ client server. Down; waiting = []; acted = empty_cell; copies = λ client fid. None; uses = λ client. [] }
 
 -- what the history of a client leaves
 abbrev pub client_of : ℕ → List ClientEntry → ℕ → ClientState
@@ -45,6 +53,8 @@ state_of cell = record {
   links = cell.links;
   waiting = cell.waiting;
   posted = cell.acted.posted;
+  copies = λ client fid. option_map (λ (copy : Copy). copy.server) (cell.copies client fid);
+  uses = cell.uses;
 }
 
 -- an answer by its verdict, and a letter by the chunk's number alone, as histories have them
@@ -63,10 +73,13 @@ abbrev pub grown : MadeCell → Event → MadeCell
 grown cell (VolumeMade volume server) = record cell { servers = cell.servers ++ server ∷ []; homes = put cell.homes volume (Some server) }
 grown cell (ClientMade client blocks) = record cell { sizes = put cell.sizes client (Some blocks) }
 grown cell (Ticked seconds) = record cell { clock = later cell.clock seconds }
-grown cell (LinkSet client server strength) = record cell { links = linked cell.links client server strength }
+grown cell (LinkSet client server strength) = record cell { links = linked cell.links client server strength; copies = cut_by (λ (copy : Copy). copy.server) strength cell.copies client server }
 grown cell (Entered append) = record cell { acted = after_move cell.acted (Does append) }
 grown cell (Posted sent) = record cell { waiting = cell.waiting ++ (cell.acted.posted + 1, sent) ∷ []; acted = after_move cell.acted (Posts (plain_letter sent)) }
 grown cell (Lost message) = record cell { waiting = without message cell.waiting; acted = after_move cell.acted (Loses message) }
+grown cell (Used client fids) = record cell { uses = put cell.uses client (used_then (cell.uses client) fids) }
+grown cell (Kept client server fid) = record cell { copies = with_copy cell.copies client fid (record { server = server; position = length (cell.acted.replicas server fid.volume).history }) }
+grown cell (Stale client fids) = record cell { copies = but_of cell.copies client fids }
 
 -- a cell with what events add in order
 abbrev pub grown_all : MadeCell → List Event → MadeCell
@@ -82,6 +95,9 @@ move_of (LinkSet client server strength) = []
 move_of (Entered append) = Does append ∷ []
 move_of (Posted sent) = Posts (plain_letter sent) ∷ []
 move_of (Lost message) = Loses message ∷ []
+move_of (Used client fids) = []
+move_of (Kept client server fid) = []
+move_of (Stale client fids) = []
 
 abbrev pub moves_of : List Event → List Move
 moves_of [] = []

@@ -1,6 +1,9 @@
 -- What a cell is at a moment, and what an entry of a history makes of it.
-use Rattle.std.specs.Prelude.{ℕ, ◌+◌, min, ◌==◌, ◌&&◌, if◌then◌else◌, List, [], ◌∷◌, ◌++◌, Option, Some, None}
+use Rattle.std.specs.Prelude.{ℕ, ◌+◌, min, not, ◌==◌, ◌&&◌, if◌then◌else◌, List, [], ◌∷◌, ◌++◌, Option, Some, None}
 use Rattle.std.specs.Option.{option_map}
+use Rattle.std.specs.List.{list_any, filter}
+use Rattle.coda_fid.specs.Fid.{same_fid}
+use Rattle.coda_fid.specs.declared.fid.Fid.{Fid}
 use Rattle.coda_fid.specs.declared.op.Record.{Record}
 use Rattle.coda_tree.specs.Volume.{Nodes, Tree, fresh}
 use Rattle.coda_certify.specs.Verdicts.{verdict_of, nodes_left}
@@ -10,10 +13,11 @@ use Rattle.coda_cml.specs.State.{LogState}
 use Rattle.coda_cml.specs.Steps.{pending_after}
 use Rattle.coda_cml.specs.declared.frozen.Frozen.{Frozen}
 use Rattle.coda_script.specs.declared.line.Strength.{Strength}
-use Rattle.coda_script.specs.declared.line.Strength.TheVariants.{Down}
+use Rattle.coda_script.specs.declared.line.Strength.TheVariants.{Strong, Weak, Down}
 use Rattle.coda_plain.specs.Deeds.{Deed, Operated, Froze, Settled, Gaveup, created_by}
+use Rattle.coda_plain.specs.Objects.{nodes_in}
 use Rattle.coda_plain.specs.Decisions.{ReplicaEntry, Decided, Resolved, Last, with_last, no_lasts, decision}
-use Rattle.coda_plain.specs.Cell.{ClientEntry, Fetched, Did}
+use Rattle.coda_plain.specs.Cell.{ClientEntry, Fetched, Did, Dropping}
 use Rattle.coda_plain.specs.Moves.{Append, AtClient, AtReplica}
 use Rattle.coda_letters.specs.Sent.{Sent, Waiting, without}
 use Rattle.coda_replica.specs.State.{ReplicaState as Replica, last_for}
@@ -80,6 +84,7 @@ new_client number blocks = record { number = number; blocks = blocks; held = not
 abbrev pub volumes_after : (ℕ → ClientVolume) → ClientEntry → ℕ → ClientVolume
 volumes_after volumes (Fetched fid parent node) = volumes
 volumes_after volumes (Did volume deed) = put volumes volume (volume_after (volumes volume) deed)
+volumes_after volumes (Dropping gone entry) = volumes_after volumes entry
 
 -- a client after an entry
 abbrev pub client_after : ClientState → ClientEntry → ClientState
@@ -112,7 +117,7 @@ replica_after r (Decided client number span) = record r {
   tree = with_nodes r.tree (nodes_left r.tree.nodes (decision r.tree.nodes client span));
   lasts = with_last r.lasts client (record { number = number; verdict = verdict_of (decision r.tree.nodes client span) });
 }
-replica_after r (Resolved nodes lasts) = record r { tree = with_nodes r.tree nodes; lasts = lasts }
+replica_after r (Resolved objects lasts) = record r { tree = with_nodes r.tree (nodes_in objects); lasts = lasts }
 
 -- a replica after entries in order
 abbrev pub replica_after_all : ReplicaState → List ReplicaEntry → ReplicaState
@@ -132,6 +137,9 @@ pub record CellState : Type 0 where
   pub links : ℕ → ℕ → Strength
   pub waiting : Waiting
   pub posted : ℕ
+  -- the server of each valid copy of a client, and the objects in the order in which it used them
+  pub copies : ℕ → Fid → Option ℕ
+  pub uses : ℕ → List Fid
 
 -- what happens in a cell
 pub data Event : Type 0 where
@@ -149,6 +157,12 @@ pub data Event : Type 0 where
   Posted : (sent : Sent) → Event
   -- the letter of this number is lost
   Lost : (message : ℕ) → Event
+  -- a client looked these up, in this order
+  Used : (client : ℕ) (fids : List Fid) → Event
+  -- its copy of an object is valid, as a server gave it
+  Kept : (client server : ℕ) (fid : Fid) → Event
+  -- its copies of these aren't valid any more
+  Stale : (client : ℕ) (fids : List Fid) → Event
 
 -- an entry of a client, as it happens
 abbrev pub at_client : ℕ → ClientEntry → Event
@@ -156,7 +170,7 @@ at_client client entry = Entered (AtClient client entry)
 
 -- a cell in which nothing was made; all links are down
 abbrev pub empty_state : CellState
-empty_state = record { clock = 0; servers = []; replicas = λ volume. None; clients = λ client. None; links = λ client server. Down; waiting = []; posted = 0 }
+empty_state = record { clock = 0; servers = []; replicas = λ volume. None; clients = λ client. None; links = λ client server. Down; waiting = []; posted = 0; copies = λ client fid. None; uses = λ client. [] }
 
 -- a clock some seconds later; it stops at the last number of 64 bits
 abbrev pub later : ℕ → ℕ → ℕ
@@ -165,6 +179,32 @@ later clock seconds = min (clock + seconds) 18446744073709551615
 -- the links, with another strength between a client and a server
 abbrev pub linked : (ℕ → ℕ → Strength) → ℕ → ℕ → Strength → ℕ → ℕ → Strength
 linked links client server strength c s = if (c == client) && (s == server) then strength else links c s
+
+-- ---- beside the histories
+
+-- the valid copies of a client, without those of these objects
+abbrev pub but_of : {A : Type 0} → (ℕ → Fid → Option A) → ℕ → List Fid → ℕ → Fid → Option A
+but_of copies client fids c f = if (c == client) && list_any (λ g. same_fid g f) fids then None else copies c f
+
+-- with one of an object
+abbrev pub with_copy : {A : Type 0} → (ℕ → Fid → Option A) → ℕ → Fid → A → ℕ → Fid → Option A
+with_copy copies client fid copy c f = if (c == client) && same_fid f fid then Some copy else copies c f
+
+-- the copy, unless it is from this server
+abbrev pub unless_from : {A : Type 0} → (A → ℕ) → ℕ → Option A → Option A
+unless_from from server None = None
+unless_from from server (Some copy) = if from copy == server then None else Some copy
+
+-- a link that is down takes the copies from its server
+abbrev pub cut_by : {A : Type 0} → (A → ℕ) → Strength → (ℕ → Fid → Option A) → ℕ → ℕ → ℕ → Fid → Option A
+cut_by from Down copies client server c f = if c == client then unless_from from server (copies c f) else copies c f
+cut_by from Weak copies client server c f = copies c f
+cut_by from Strong copies client server c f = copies c f
+
+-- objects in the order of their use, with these used last
+abbrev pub used_then : List Fid → List Fid → List Fid
+used_then uses [] = uses
+used_then uses (fid ∷ fids) = used_then (filter (λ g. not (same_fid g fid)) uses ++ fid ∷ []) fids
 
 -- a replica after an entry of the one on this server
 abbrev pub replica_after_at : ℕ → ReplicaEntry → ReplicaState → ReplicaState
@@ -175,11 +215,14 @@ abbrev pub after : CellState → Event → CellState
 after s (VolumeMade volume server) = record s { servers = s.servers ++ server ∷ []; replicas = put s.replicas volume (Some (new_replica server volume)) }
 after s (ClientMade client blocks) = record s { clients = put s.clients client (Some (new_client client blocks)) }
 after s (Ticked seconds) = record s { clock = later s.clock seconds }
-after s (LinkSet client server strength) = record s { links = linked s.links client server strength }
+after s (LinkSet client server strength) = record s { links = linked s.links client server strength; copies = cut_by (λ n. n) strength s.copies client server }
 after s (Entered (AtClient client entry)) = record s { clients = put s.clients client (option_map (λ c. client_after c entry) (s.clients client)) }
 after s (Entered (AtReplica server volume entry)) = record s { replicas = put s.replicas volume (option_map (replica_after_at server entry) (s.replicas volume)) }
 after s (Posted sent) = record s { waiting = s.waiting ++ (s.posted + 1, sent) ∷ []; posted = s.posted + 1 }
 after s (Lost message) = record s { waiting = without message s.waiting }
+after s (Used client fids) = record s { uses = put s.uses client (used_then (s.uses client) fids) }
+after s (Kept client server fid) = record s { copies = with_copy s.copies client fid server }
+after s (Stale client fids) = record s { copies = but_of s.copies client fids }
 
 -- a cell after events in order
 abbrev pub after_all : CellState → List Event → CellState

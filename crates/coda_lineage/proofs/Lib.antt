@@ -1,21 +1,10 @@
-mod Booleans
-mod Places
-mod Merging
-mod Standing
-mod OneHistory
-mod Unions
-mod Remembering
-mod Resolving
+pub mod Booleans
 mod Edits
-mod Renames
 mod Operations
-mod Deciding
-mod Decided
-mod AllDecided
+pub mod Deciding
 mod Sparing
-mod Bases
-mod RepairedTrees
-mod Repairing
-mod Reaching
+pub mod RepairedTrees
+pub mod Staying
+pub mod Reaching
 mod Possible
 mod Merges

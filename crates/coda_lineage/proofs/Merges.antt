@@ -31,12 +31,7 @@ module _ (root : Fid) (before after : Group) (all : Replicas) where
       z.0)
 
 pub merges_resolve : MergesAreResolutions
-merges_resolve root before after some changes one other apart one_in other_in answers installed others made = record {
-  one = one;
-  other = other;
-  apart = apart;
-  one_in = one_in;
-  other_in = other_in;
+merges_resolve root before after some changes answers installed others made = record {
   each = λ s. ⊎_elim
       (λ (i : IsIn s some). ⊎_elim
       (λ (e : after.holds s ≡ before.holds s). inl e)

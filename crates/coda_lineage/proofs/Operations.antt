@@ -1,5 +1,5 @@
--- What a certified operation leaves: a volume, by its deeds.
-use Rattle.std.proofs.Common.{◌≡◌, ◌≢◌, ℕ, false, cond, Option, Some, None, is_some, refl, sym, ap, ◌∙◌, subst}
+-- What a certified operation leaves: a volume, in which each object has the kind that it had.
+use Rattle.std.proofs.Common.{◌≡◌, ◌≢◌, ℕ, false, cond, Option, Some, None, is_some, refl, sym, ap, ◌∙◌, subst, inr}
 use Rattle.std.specs.FinMap as map
 use Rattle.std.proofs.lemmas.Bool.{true≢false}
 use Rattle.std.proofs.lemmas.Option.{same_Some}
@@ -21,24 +21,12 @@ use Rattle.coda_tree.proofs.KeptMoved.{kept_moved, kept_replaced}
 use Rattle.coda_tree.proofs.KeptParents.{kept_written}
 use Rattle.coda_tree.proofs.Moved.{detached_is, moved_is}
 use Rattle.coda_tree.proofs.Parents.{parent_is, parent_sound}
+use Rattle.coda_tree.proofs.Changes.{binder_is_dir}
 use Rattle.coda_certify.specs.Checks.{certify}
 use Rattle.coda_certify.specs.Replay.{MayCreate, MayRemove, effects, sid_of, applied}
 use Rattle.coda_certify.proofs.Passed.{may_edit, may_move, may_replace}
-use Rattle.coda_resolve.specs.Resolution.{Objects}
-use Rattle.coda_lineage.specs.Deeds.{deed_at, makes}
-use Rattle.coda_lineage.proofs.Edits.{fid_same, fid_other, IsEdit, created, removed, wrote_edit}
-use Rattle.coda_lineage.proofs.Renames.{shift_free, shift_over, renamed}
-
--- the directory in which an operation makes an object
-abbrev pub makes_in : Op → Option Fid
-makes_in (Create dir name fid mode owner) = Some dir
-makes_in (Mkdir dir name fid mode owner) = Some dir
-makes_in (Symlink dir name fid target mode owner) = Some dir
-makes_in (Store fid pre content) = None
-makes_in (Setattr fid pre attrs) = None
-makes_in (Remove dir name fid pre) = None
-makes_in (Rmdir dir name fid pre) = None
-makes_in (Rename from_dir from to_dir to fid over) = None
+use Rattle.coda_lineage.specs.Deeds.{makes}
+use Rattle.coda_lineage.proofs.Edits.{fid_same, fid_other, KeepsKinds, KeepsKindsBut, keeps_created, keeps_less, keeps_wrote, keeps_moved, keeps_replaced}
 
 replaced_edits : (m : Nodes) (old from : Fid) (name : Name) (to : Fid) (at : Name) (f : Fid) → replaced m old from name to at f ≡ edited_all m (replacements old from name to at f)
 unfolding replaced
@@ -118,24 +106,27 @@ module _ {root : Fid} (m : Nodes) (v : IsVolume root m) where
   unfolding applied
   applied_volume client rec c = volume_after rec.time (sid_of client rec) rec.op c
 
-  edit_of : (objects : Objects) (time : ℕ) (sid : Sid) (op : Op) → certify m op ≡ None → IsEdit m (edited_all m (effects time sid op)) (deed_at objects op) (makes op) (makes_in op)
-  unfolding certify deed_at
-  edit_of objects time sid (Create dir name fid mode owner) c = created m v dir name fid _ (may_edit m (Create dir name fid mode owner) c) (λ n. map.get-empty name_cmp n) refl
-  edit_of objects time sid (Mkdir dir name fid mode owner) c = created m v dir name fid _ (may_edit m (Mkdir dir name fid mode owner) c) (λ n. map.get-empty name_cmp n) refl
-  edit_of objects time sid (Symlink dir name fid target mode owner) c = created m v dir name fid _ (may_edit m (Symlink dir name fid target mode owner) c) (λ n. map.get-empty name_cmp n) refl
-  edit_of objects time sid (Store fid pre content) c = wrote_edit m v fid (content_patch content time) sid
-  edit_of objects time sid (Setattr fid pre attrs) c = wrote_edit m v fid (attrs_patch attrs) sid
-  edit_of objects time sid (Remove dir name fid pre) c = removed m v objects dir name fid (may_edit m (Remove dir name fid pre) c)
-  edit_of objects time sid (Rmdir dir name fid pre) c = removed m v objects dir name fid (may_edit m (Rmdir dir name fid pre) c)
-  edit_of objects time sid (Rename from_dir from to_dir to fid None) c =
-      let may = may_move m from_dir from to_dir to fid c in
-      renamed objects m _ v from_dir from to_dir to fid None (shift_free m v from_dir from to_dir to fid may.1 may.0.to_dir may.0.free (not_below from_dir from to_dir to fid may.0 may.1))
-  edit_of objects time sid (Rename from_dir from to_dir to fid (Some over)) c =
-      let may = may_replace m from_dir from to_dir to fid over c in
-      renamed objects m _ v from_dir from to_dir to fid (Some over) (shift_over objects m v over.fid from_dir from to_dir to fid may.1 may.0.had
-      (differ over.fid from_dir from to_dir to fid may.0 may.1) (leaf over.fid from_dir from to_dir to fid may.0 may.1) may.0.old_leaf)
+  -- what makes nothing keeps all kinds
+  kept : (left : Nodes) → KeepsKinds m left → KeepsKindsBut None m left
+  kept left keeps f node e = inr (keeps f node e)
 
-  -- and its deeds tell what it does
-  pub applied_edit : (objects : Objects) (client : ℕ) (rec : Record) → certify m rec.op ≡ None → IsEdit m (applied m client rec) (deed_at objects rec.op) (makes rec.op) (makes_in rec.op)
+  keeps_after : (time : ℕ) (sid : Sid) (op : Op) → certify m op ≡ None → KeepsKindsBut (makes op) m (edited_all m (effects time sid op))
+  unfolding certify
+  keeps_after time sid (Create dir name fid mode owner) c = keeps_created m dir name fid _ (may_edit m (Create dir name fid mode owner) c)
+  keeps_after time sid (Mkdir dir name fid mode owner) c = keeps_created m dir name fid _ (may_edit m (Mkdir dir name fid mode owner) c)
+  keeps_after time sid (Symlink dir name fid target mode owner) c = keeps_created m dir name fid _ (may_edit m (Symlink dir name fid target mode owner) c)
+  keeps_after time sid (Store fid pre content) c = kept _ (keeps_wrote m fid (content_patch content time) sid)
+  keeps_after time sid (Setattr fid pre attrs) c = kept _ (keeps_wrote m fid (attrs_patch attrs) sid)
+  keeps_after time sid (Remove dir name fid pre) c = kept _ (keeps_less m dir name fid (may_edit m (Remove dir name fid pre) c))
+  keeps_after time sid (Rmdir dir name fid pre) c = kept _ (keeps_less m dir name fid (may_edit m (Rmdir dir name fid pre) c))
+  keeps_after time sid (Rename from_dir from to_dir to fid None) c =
+      let may = may_move m from_dir from to_dir to fid c in
+      kept _ (keeps_moved m from_dir from to_dir to fid (binder_is_dir m from_dir from fid may.1) may.0.to_dir)
+  keeps_after time sid (Rename from_dir from to_dir to fid (Some over)) c =
+      let may = may_replace m from_dir from to_dir to fid over c in
+      kept _ (keeps_replaced m over.fid from_dir from to_dir to fid may.1 may.0.had may.0.old_leaf)
+
+  -- and each node has the kind that it had, but for the one that is made
+  pub applied_keeps : (client : ℕ) (rec : Record) → certify m rec.op ≡ None → KeepsKindsBut (makes rec.op) m (applied m client rec)
   unfolding applied
-  applied_edit objects client rec c = edit_of objects rec.time (sid_of client rec) rec.op c
+  applied_keeps client rec c = keeps_after rec.time (sid_of client rec) rec.op c

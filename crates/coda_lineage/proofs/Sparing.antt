@@ -3,7 +3,6 @@ use Rattle.std.proofs.Common.{◌≡◌, Bool, true, false, cond, not, List, [],
 use Rattle.std.specs.FinMap as finmap
 use Rattle.std.specs.Ordering.{eq_by_cmp}
 use Rattle.std.specs.Cmp.{Equal-is}
-use Rattle.std.proofs.lemmas.Bool.{true≢false}
 use Rattle.std.proofs.lemmas.Map.Lookups.{exact_bytes}
 use Rattle.coda_fid.specs.Name.{name_cmp}
 use Rattle.coda_fid.specs.declared.fid.Fid.{Fid}
@@ -14,7 +13,6 @@ use Rattle.coda_tree.specs.Tree.{Child, IsTree, IsBelow, itself, under}
 use Rattle.coda_tree.specs.Volume.{bindings}
 use Rattle.coda_tree.proofs.Trees.{below_below}
 use Rattle.coda_reslog.specs.declared.change.Held.{Held}
-use Rattle.coda_resolve.specs.Copies.{log_of}
 use Rattle.coda_resolve.specs.Settled.{is_dir}
 use Rattle.coda_resolve.specs.Resolution.{Objects, child_in}
 use Rattle.coda_resolve.specs.Placement.{IsIn}
@@ -47,24 +45,6 @@ no_cycle {c = c} t g x (under p k y b up) (under d j z b2 up2) e n down bound =
 -- ---- what is spared
 
 module _ (subtree : Fid → Bool) (top : Fid) where
-  pub spared_vector : (held : Held) (k : NodeKind) → (spared_by subtree top held k).vector.0 ≡ held.vector.0
-  spared_vector held (File content) = refl
-  spared_vector held (Link target) = refl
-  spared_vector held (Dir entries) = go (binds_one subtree top entries)
-    where
-      go : (b : Bool) → (cond b (record held { node = record held.node { kind = Dir (others_of subtree top entries); marked = true } }) held).vector.0 ≡ held.vector.0
-      go true = refl
-      go false = refl
-
-  pub spared_log : (held : Held) (k : NodeKind) → log_of (Some (spared_by subtree top held k)) ≡ log_of (Some held)
-  spared_log held (File content) = refl
-  spared_log held (Link target) = refl
-  spared_log held (Dir entries) = go (binds_one subtree top entries)
-    where
-      go : (b : Bool) → log_of (Some (cond b (record held { node = record held.node { kind = Dir (others_of subtree top entries); marked = true } }) held)) ≡ log_of (Some held)
-      go true = refl
-      go false = refl
-
   pub spared_kind : (held : Held) (k : NodeKind) → held.node.kind ≡ k → is_dir (spared_by subtree top held k).node.kind ≡ is_dir held.node.kind
   spared_kind held (File content) e = refl
   spared_kind held (Link target) e = refl
@@ -73,25 +53,6 @@ module _ (subtree : Fid → Bool) (top : Fid) where
       go : (b : Bool) → is_dir (cond b (record held { node = record held.node { kind = Dir (others_of subtree top entries); marked = true } }) held).node.kind ≡ is_dir held.node.kind
       go true = sym (ap is_dir e)
       go false = refl
-
-  pub spared_marked : (held : Held) (k : NodeKind) → held.node.marked ≡ true → (spared_by subtree top held k).node.marked ≡ true
-  spared_marked held (File content) e = e
-  spared_marked held (Link target) e = e
-  spared_marked held (Dir entries) e = go (binds_one subtree top entries)
-    where
-      go : (b : Bool) → (cond b (record held { node = record held.node { kind = Dir (others_of subtree top entries); marked = true } }) held).node.marked ≡ true
-      go true = refl
-      go false = e
-
-  -- where it isn't marked it is as it was
-  pub spared_same : (held : Held) (k : NodeKind) → (spared_by subtree top held k).node.marked ≡ false → spared_by subtree top held k ≡ held
-  spared_same held (File content) e = refl
-  spared_same held (Link target) e = refl
-  spared_same held (Dir entries) e = go (binds_one subtree top entries) e
-    where
-      go : (b : Bool) → (cond b (record held { node = record held.node { kind = Dir (others_of subtree top entries); marked = true } }) held).node.marked ≡ false → cond b (record held { node = record held.node { kind = Dir (others_of subtree top entries); marked = true } }) held ≡ held
-      go true e = absurd (true≢false e)
-      go false e = refl
 
   pub keyed : (es : Bindings) (n : Name) (f : Fid) → finmap.get es n ≡ Some f → IsIn n (finmap.keys es)
   keyed es n f e =

@@ -1,12 +1,13 @@
 ghost use Rattle.coda_lineage.specs.Deeds.{CertifiedRecordsAreDecided};
-ghost use Rattle.coda_lineage.specs.Lineage.{ReplicasStayOfOneHistory, MergesAreResolutions};
+ghost use Rattle.coda_lineage.specs.Lineage.{ReplicasStayTreesOfOneKind, MergesAreResolutions};
 
 /// A law of replicated volumes: whatever records were decided at its replicas since a volume was new, whichever of
-/// them were resolved, and whatever was repaired at all, any of its replicas are of one history (Kumar and
+/// them were resolved, whatever was repaired, and whichever of them installed what that left, any of its replicas are
+/// trees whose root is a directory, and what any two of them hold under one fid is of one kind (Kumar and
 /// Satyanarayanan 1993). So what a resolution leaves at each is a tree, and what it takes up is equal or marked
 /// everywhere.
-pub fn replicas_stay_of_one_history()
-    ensures { ReplicasStayOfOneHistory }
+pub fn replicas_stay_trees_of_one_kind()
+    ensures { ReplicasStayTreesOfOneKind }
 {}
 
 /// A law of decisions: each replica has its nodes, and whatever record certification finds nothing against there can

@@ -1,5 +1,5 @@
 -- What a client's history in a cell leaves, and what its journal leaves.
-use Rattle.std.proofs.Common.{◌≡◌, ℕ, List, [], ◌∷◌, ◌++◌, append_assoc, append-nil, Option, Some, None, refl, sym, ap, ◌∙◌, subst}
+use Rattle.std.proofs.Common.{◌≡◌, ℕ, List, [], ◌∷◌, ◌++◌, map as map_list, append_assoc, append-nil, Option, Some, None, refl, sym, ap, ◌∙◌, subst}
 use Rattle.std.specs.FinMap as map
 use Rattle.coda_fid.specs.declared.fid.Fid.{Fid}
 use Rattle.coda_fid.specs.declared.op.Over.{Over}
@@ -10,17 +10,19 @@ use Rattle.coda_cml.specs.Steady.{IsSteady}
 use Rattle.coda_journal.specs.declared.header.Header.{Header}
 use Rattle.coda_plain.specs.Histories.{DoFollow}
 use Rattle.coda_plain.specs.Deeds.{Deed, Operated, Froze, Settled, Gaveup, MayDo, AreLawful}
-use Rattle.coda_plain.specs.Cell.{ClientEntry, Fetched, Did, deed_on, deeds_of}
+use Rattle.coda_plain.specs.Cell.{ClientEntry, Fetched, Did, Dropping, deed_on, deeds_of}
 use Rattle.coda_plain.proofs.Ledger.{orderly}
 use Rattle.coda_plain.proofs.Lists.{left_push, follow_push}
 use Rattle.coda_venus.specs.Held.{with_parent as venus_with_parent, without_over as venus_without_over, parents_after as venus_parents_after}
-use Rattle.coda_venus.specs.History.{Payload, state_of, MayEnter, MayFollow, IsHistory}
+use Rattle.coda_record.specs.declared.entry.ClientEntry.{ClientEntry as KeptEntry}
+use Rattle.coda_record.specs.declared.entry.ClientEntry.TheVariants as kept
+use Rattle.coda_venus.specs.History.{Payload, state_of, MayEnter, MayEnterAll, MayFollow, IsHistory}
 use Rattle.coda_venus.specs.State.{ClientState as VenusState, new_client as new_venus, client_after as venus_after, client_after_all as venus_after_all, volume_after as venus_volume_after}
-use Rattle.coda_cell.specs.Held.{Parents, with_parent, without_over, parents_after}
+use Rattle.coda_cell.specs.Held.{Parents, held_after_drops, with_parent, without_over, parents_after}
 use Rattle.coda_cell.specs.State.{volume_after, pending, ClientState, client_after}
 use Rattle.coda_cell.specs.Made.{client_of}
 use Rattle.coda_cell.proofs.Histories.{client_push, volumes_are, volume_of, pending_are}
-use Rattle.coda_matching.specs.Clients.{entry_of, payload_by, journal_by, IsClientHistory, IsOneClient}
+use Rattle.coda_matching.specs.Clients.{entry_of, gone_with, payload_by, journal_by, IsClientHistory, IsOneClient}
 use Rattle.coda_matching.specs.Laws.{JournalsLeaveClients}
 use Rattle.coda_matching.proofs.Volumes.{IsAlike, one_volume, new_alike, deed_alike, may_come, put_alike}
 
@@ -113,9 +115,25 @@ did_alike c d volume Gaveup a steady may = record {
       (deed_alike (c.volumes volume) (d.volumes volume) Gaveup (a.volumes volume) steady (may_come d volume Gaveup may));
 }
 
+-- what is dropped leaves both alike
+drops_alike : (c : ClientState) (d : VenusState) (gone : List Fid) → AreAlike c d → AreAlike (record c { held = held_after_drops c.held gone }) (venus_after_all d (map_list kept.Dropped gone))
+drops_alike c d [] a = record { number = a.number; blocks = a.blocks; nodes = a.nodes; parents = a.parents; volumes = a.volumes }
+drops_alike c d (fid ∷ gone) a =
+    drops_alike (record c { held = record { nodes = map.remove c.held.nodes fid; parents = map.remove c.held.parents fid } }) (venus_after d (kept.Dropped fid)) gone
+    (record { number = a.number; blocks = a.blocks; nodes = λ i. map.remove (a.nodes i) fid; parents = λ i. map.remove (a.parents i) fid; volumes = a.volumes })
+
+-- entries of a payload behind others of it
+after_both : (d : VenusState) (front back : Payload) → venus_after_all d (front ++ back) ≡ venus_after_all (venus_after_all d front) back
+after_both d [] back = refl
+after_both d (e ∷ front) back = after_both (venus_after d e) front back
+
+may_behind : (d : VenusState) (front back : Payload) → MayEnterAll d (front ++ back) → MayEnterAll (venus_after_all d front) back
+may_behind d [] back may = may
+may_behind d (e ∷ front) back may = may_behind (venus_after d e) front back may.1
+
 -- one entry more, where what is pending on each volume is steady
-pub entry_alike : (c : ClientState) (d : VenusState) (entry : ClientEntry) → AreAlike c d → ((volume : ℕ) → IsSteady (pending (c.volumes volume))) → MayEnter d (entry_of entry)
-    → AreAlike (client_after c entry) (venus_after d (entry_of entry))
+pub entry_alike : (c : ClientState) (d : VenusState) (entry : ClientEntry) → AreAlike c d → ((volume : ℕ) → IsSteady (pending (c.volumes volume))) → MayEnterAll d (payload_by entry)
+    → AreAlike (client_after c entry) (venus_after_all d (payload_by entry))
 entry_alike c d (Fetched fid parent node) a steady may = record {
   number = a.number;
   blocks = a.blocks;
@@ -123,7 +141,12 @@ entry_alike c d (Fetched fid parent node) a steady may = record {
   parents = ap (λ p. venus_with_parent p fid parent) a.parents ∙ parent_same c.held.parents fid parent;
   volumes = a.volumes;
 }
-entry_alike c d (Did volume deed) a steady may = did_alike c d volume deed a (steady volume) may
+entry_alike c d (Did volume deed) a steady may = did_alike c d volume deed a (steady volume) may.0
+entry_alike c d (Dropping gone entry) a steady may =
+    let whole : payload_by (Dropping gone entry) ≡ map_list kept.Dropped gone ++ payload_by entry = append_assoc (map_list kept.Dropped gone) (gone_with entry) (entry_of entry ∷ []) in
+    subst (AreAlike (client_after c (Dropping gone entry))) (sym (ap (venus_after_all d) whole ∙ after_both d (map_list kept.Dropped gone) (payload_by entry)))
+    (entry_alike (record c { held = held_after_drops c.held gone }) (venus_after_all d (map_list kept.Dropped gone)) entry (drops_alike c d gone a) steady
+    (may_behind d (map_list kept.Dropped gone) (payload_by entry) (subst (MayEnterAll d) whole may)))
 
 -- ---- a history
 
@@ -137,14 +160,14 @@ module _ (header : Header) where
   abbrev Alike : List ClientEntry → Type 0
   Alike past = AreAlike (client_of header.number past header.cache) (state_of header (journal_by past))
 
-  state_push : (past : List ClientEntry) (entry : ClientEntry) → state_of header (journal_by (past ++ entry ∷ [])) ≡ venus_after (state_of header (journal_by past)) (entry_of entry)
+  state_push : (past : List ClientEntry) (entry : ClientEntry) → state_of header (journal_by (past ++ entry ∷ [])) ≡ venus_after_all (state_of header (journal_by past)) (payload_by entry)
   state_push past entry = ap (state_of header) (journal_push past entry) ∙ left_push venus_after_all (new_venus header.number header.cache) (journal_by past) (payload_by entry)
 
   alike_push : (past : List ClientEntry) (entry : ClientEntry) → ((volume : ℕ) → AreLawful (deeds_of volume past)) → Alike past → MayFollow header (journal_by past) (payload_by entry) → Alike (past ++ entry ∷ [])
   alike_push past entry laws a may =
       subst (λ (c : ClientState). AreAlike c (state_of header (journal_by (past ++ entry ∷ [])))) (sym (client_push _ past entry))
       (subst (AreAlike (client_after (client_of header.number past header.cache) entry)) (sym (state_push past entry))
-      (entry_alike (client_of header.number past header.cache) (state_of header (journal_by past)) entry a (λ volume. steady_of header.number header.cache past volume (laws volume)) may.0.0))
+      (entry_alike (client_of header.number past header.cache) (state_of header (journal_by past)) entry a (λ volume. steady_of header.number header.cache past volume (laws volume)) may.0))
 
   alike_from : (past rest : List ClientEntry) → ((volume : ℕ) → AreLawful (deeds_of volume (past ++ rest))) → Alike past → DoFollow (MayFollow header) (journal_by past) (journal_by rest) → Alike (past ++ rest)
   alike_from past [] laws a follow = subst Alike (sym (append-nil past)) a

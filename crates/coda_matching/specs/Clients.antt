@@ -5,7 +5,7 @@ use Rattle.coda_disk.specs.Told.{Told}
 use Rattle.coda_journal.specs.Entries.{blocks, framed}
 use Rattle.coda_journal.specs.Header.{area_bytes}
 use Rattle.coda_journal.specs.declared.header.Header.{Header}
-use Rattle.coda_plain.specs.Cell.{ClientEntry, Fetched, Did, deeds_of}
+use Rattle.coda_plain.specs.Cell.{ClientEntry, Fetched, Did, Dropping, deeds_of}
 use Rattle.coda_plain.specs.Deeds.{Operated, Froze, Settled, Gaveup, AreLawful}
 use Rattle.coda_record.specs.declared.entry.ClientEntry.{ClientEntry as KeptEntry}
 use Rattle.coda_record.specs.declared.entry.ClientEntry.TheVariants as kept
@@ -21,17 +21,24 @@ use Rattle.coda_cell.specs.Refused as refused
 
 -- ---- what stands in a journal
 
--- an entry of a history, as a journal keeps it
+-- an entry of a history, as a journal keeps it behind what was dropped at once with it
 abbrev pub entry_of : ClientEntry → KeptEntry
 entry_of (Fetched fid parent node) = kept.Fetched fid parent node
 entry_of (Did volume (Operated rec)) = kept.Op volume rec
 entry_of (Did volume (Froze number home last)) = kept.Freeze volume number home last
 entry_of (Did volume (Settled number verdict)) = kept.Settled volume number verdict
 entry_of (Did volume Gaveup) = kept.Giveup volume
+entry_of (Dropping gone entry) = entry_of entry
 
--- each entry is written by itself
+-- what was dropped at once with an entry, as a journal keeps it
+abbrev pub gone_with : ClientEntry → Payload
+gone_with (Fetched fid parent node) = []
+gone_with (Did volume deed) = []
+gone_with (Dropping gone entry) = map kept.Dropped gone ++ gone_with entry
+
+-- each entry is written by itself, behind what was dropped with it
 abbrev pub payload_by : ClientEntry → Payload
-payload_by entry = entry_of entry ∷ []
+payload_by entry = gone_with entry ++ entry_of entry ∷ []
 
 abbrev pub journal_by : List ClientEntry → List Payload
 journal_by history = map payload_by history

@@ -6,6 +6,7 @@ use Rattle.coda_tree.specs.Volume.{has, fresh}
 use Rattle.coda_certify.specs.declared.verdict.Verdict.{Verdict}
 use Rattle.coda_plain.specs.Histories.{In}
 use Rattle.coda_plain.specs.Deeds.{IsMade, course_of}
+use Rattle.coda_plain.specs.Objects.{nodes_in}
 use Rattle.coda_plain.specs.Decisions.{ReplicaEntry, Decided, Resolved, Last, with_last, no_lasts, Kept, kept_after, kept_of, last_of, nodes_of, Decision, decision_at, decisions_of, MayDecide, AreDecisions}
 use Rattle.coda_plain.specs.Cell.{Letter, Histories}
 use Rattle.coda_plain.specs.Sound.{deeds_in, HasFrozen, IsDecided, DoAgree}
@@ -17,9 +18,9 @@ use Rattle.coda_plain.proofs.Places.{IsGrown, at_grown}
 -- what a replica decides was frozen for it, and what it takes over is kept by replicas
 abbrev pub IsMet : Histories → ℕ → ℕ → ReplicaEntry → Type 0
 IsMet h server volume (Decided client number span) = HasFrozen h client volume number server span
-IsMet h server volume (Resolved nodes lasts) =
+IsMet h server volume (Resolved objects lasts) =
     ((client : ℕ) → (other : ℕ) × (lasts client ≡ last_of volume (h.replicas other volume) client))
-    × ((fid : Fid) → has nodes fid ≡ true → (other : ℕ) × (has (nodes_of volume (h.replicas other volume)) fid ≡ true))
+    × ((fid : Fid) → has (nodes_in objects) fid ≡ true → (other : ℕ) × (has (nodes_of volume (h.replicas other volume)) fid ≡ true))
 
 pub kept_push : (volume : ℕ) (es : List ReplicaEntry) (e : ReplicaEntry) → kept_of volume (es ++ e ∷ []) ≡ kept_after (kept_of volume es) e
 kept_push volume es e = left_push kept_after (record { nodes = (fresh volume).nodes; lasts = no_lasts }) es e

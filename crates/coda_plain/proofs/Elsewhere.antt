@@ -26,7 +26,7 @@ pub told_begins : {E A : Type 0} (tells : List E → E → List A) (es more : Li
 told_begins tells es [] x i = subst (λ l. In x (told tells [] l)) (sym (append-nil es)) i
 told_begins tells es (e ∷ more) x i = subst (λ l. In x (told tells [] l)) (append_assoc es (e ∷ []) more) (told_begins tells (es ++ e ∷ []) more x (told_more tells es e x i))
 
-made_begins : (volume : ℕ) (deeds more : List Deed) (fid : Fid) → IsMade volume deeds fid → IsMade volume (deeds ++ more) fid
+pub made_begins : (volume : ℕ) (deeds more : List Deed) (fid : Fid) → IsMade volume deeds fid → IsMade volume (deeds ++ more) fid
 made_begins volume deeds [] fid made = subst (λ l. IsMade volume l fid) (sym (append-nil deeds)) made
 made_begins volume deeds (deed ∷ more) fid made = subst (λ l. IsMade volume l fid) (append_assoc deeds (deed ∷ []) more) (made_begins volume (deeds ++ deed ∷ []) more fid (made_more volume deeds deed fid made))
 
@@ -43,13 +43,13 @@ chunks_from deeds (deed ∷ more) f =
 
 module _ (old new : ℕ → List ClientEntry) (begins : (client : ℕ) → BeginsWith (new client) (old client)) (lawful : (client volume : ℕ) → AreLawful (deeds_of volume (new client))) where
   -- what the client did behind
-  abbrev behind : (client volume : ℕ) → List Deed
+  abbrev pub behind : (client volume : ℕ) → List Deed
   behind client volume = deeds_of volume (begins client).0
 
-  deeds_are : (client volume : ℕ) → deeds_of volume (new client) ≡ deeds_of volume (old client) ++ behind client volume
+  pub deeds_are : (client volume : ℕ) → deeds_of volume (new client) ≡ deeds_of volume (old client) ++ behind client volume
   deeds_are client volume = ap (deeds_of volume) (begins client).1 ∙ deeds_append volume (old client) (begins client).0
 
-  chunks_grow : (client volume : ℕ) → (course_of (deeds_of volume (old client))).chunks ≤ (course_of (deeds_of volume (new client))).chunks
+  pub chunks_grow : (client volume : ℕ) → (course_of (deeds_of volume (old client))).chunks ≤ (course_of (deeds_of volume (new client))).chunks
   chunks_grow client volume =
       let is = deeds_are client volume in
       subst (λ l. (course_of (deeds_of volume (old client))).chunks ≤ (course_of l).chunks) (sym is)

@@ -1,4 +1,5 @@
 pub mod Lists
+pub mod Objects
 pub mod Chunking
 pub mod Places
 pub mod AtClients

@@ -12,13 +12,13 @@ use Rattle.coda_certify.specs.declared.verdict.Verdict.{Verdict}
 use Rattle.coda_plain.specs.Histories.{In}
 use Rattle.coda_plain.specs.Deeds.{Deed, Operated, Froze, Settled, Gaveup, IsMade, course_of, Chunk, chunk_at, chunks_of, span_of, MayDo, AreLawful}
 use Rattle.coda_plain.specs.Decisions.{ReplicaEntry, Decided, Resolved, Last, nodes_of, last_of, MayDecide}
-use Rattle.coda_plain.specs.Cell.{ClientEntry, Fetched, Did, deeds_of, Ruled, Behind, Old, Letter, ChunkSent, AnswerSent, Actor, PlainCell, empty_cell, joined_to, found, Histories, Joins, found_in}
-use Rattle.coda_plain.specs.Moves.{AtClient, AtReplica, TheClient, TheReplica, Move, Does, Fails, Posts, Loses, Crashes, Recovers, with_client, with_replica, grown, fallen, crashed, recovered, after, done_on, IsFrozenFor, IsKeptBy, IsSent, IsToldOf, IsNext, IsBacked, IsGiven, MayAppend, MayPost, May, Moved}
+use Rattle.coda_plain.specs.Cell.{ClientEntry, Fetched, Did, Dropping, deeds_of, Ruled, Behind, Old, Letter, ChunkSent, AnswerSent, BreakSent, Actor, PlainCell, empty_cell, joined_to, found, Histories, Joins, found_in}
+use Rattle.coda_plain.specs.Moves.{AtClient, AtReplica, TheClient, TheReplica, Move, Does, Fails, Posts, Loses, Crashes, Recovers, with_client, with_replica, grown, fallen, crashed, recovered, after, done_on, IsFrozenFor, IsKeptBy, IsSent, IsToldOf, IsNext, IsBacked, IsGiven, MayEnter, MayAppend, MayPost, May, Moved}
 use Rattle.coda_plain.specs.Sound.{deeds_in, HasFrozen, IsDecided, DoAgree, IsSound}
 use Rattle.coda_plain.specs.Laws.{MovesKeepSound, RunsAreSound}
 use Rattle.coda_plain.proofs.Lists.{told_more}
 use Rattle.coda_plain.proofs.Chunking.{numbered}
-use Rattle.coda_plain.proofs.Places.{IsGrown, at_grown, deeds_grown, deeds_fetched}
+use Rattle.coda_plain.proofs.Places.{IsGrown, at_grown, deeds_grown, deeds_fetched, deeds_beside, IsBeside, beside}
 use Rattle.coda_plain.proofs.AtClients.{IsRuled, IsNamed, made_more, agree_client, agree_same}
 use Rattle.coda_plain.proofs.AtReplicas.{IsMet, agree_replica}
 
@@ -34,14 +34,14 @@ module _ {E : Type 0} where
   pub found_up : (b : Bool) (actor : Actor E) → actor.failed ≡ None → found b actor ≡ actor.history
   found_up b actor none = joined_none b actor.history actor.failed none
 
-  grown_found : (entry : E) (b : Bool) (actor : Actor E) → actor.failed ≡ None → IsGrown (Unit {0}) entry (found b actor) (found b (grown entry actor))
+  pub grown_found : (entry : E) (b : Bool) (actor : Actor E) → actor.failed ≡ None → IsGrown (Unit {0}) entry (found b actor) (found b (grown entry actor))
   grown_found entry b actor none = inr (tt, found_up b (grown entry actor) none ∙ ap (λ (h : List E). h ++ entry ∷ []) (sym (found_up b actor none)))
 
-  fallen_found : (entry : E) (b : Bool) (actor : Actor E) → actor.failed ≡ None → IsGrown (Unit {0}) entry (found b actor) (found b (fallen entry actor))
+  pub fallen_found : (entry : E) (b : Bool) (actor : Actor E) → actor.failed ≡ None → IsGrown (Unit {0}) entry (found b actor) (found b (fallen entry actor))
   fallen_found entry true actor none = inr (tt, ap (λ (h : List E). h ++ entry ∷ []) (sym (found_up true actor none)))
   fallen_found entry false actor none = inl refl
 
-  recovered_found : (j b : Bool) (actor : Actor E) → found b (recovered j actor) ≡ found j actor
+  pub recovered_found : (j b : Bool) (actor : Actor E) → found b (recovered j actor) ≡ found j actor
   recovered_found j b actor = found_up b (recovered j actor) refl
 
 -- what a client did stands in what is found of it
@@ -51,6 +51,7 @@ found_chunk volume true history (Some (Fetched fid parent node)) chunk i =
 found_chunk volume true history (Some (Did at deed)) chunk i =
     at_grown ((0 ≡ 0) × (volume ≡ at)) deed (deeds_of volume history) (deeds_of volume (history ++ Did at deed ∷ [])) (λ ds. In chunk (chunks_of ds))
     (deeds_grown 0 volume 0 at deed history (history ++ Did at deed ∷ []) (inr (refl, refl))) i (λ here. told_more chunk_at (deeds_of volume history) deed chunk i)
+found_chunk volume true history (Some (Dropping gone entry)) chunk i = subst (λ ds. In chunk (chunks_of ds)) (sym (deeds_beside gone volume entry history)) (found_chunk volume true history (Some entry) chunk i)
 found_chunk volume true history None chunk i = i
 found_chunk volume false history failed chunk i = i
 
@@ -60,6 +61,7 @@ found_made volume true history (Some (Fetched other parent node)) fid m =
 found_made volume true history (Some (Did at deed)) fid m =
     at_grown ((0 ≡ 0) × (volume ≡ at)) deed (deeds_of volume history) (deeds_of volume (history ++ Did at deed ∷ [])) (λ ds. IsMade volume ds fid)
     (deeds_grown 0 volume 0 at deed history (history ++ Did at deed ∷ []) (inr (refl, refl))) m (λ here. made_more volume (deeds_of volume history) deed fid m)
+found_made volume true history (Some (Dropping gone entry)) fid m = subst (λ ds. IsMade volume ds fid) (sym (deeds_beside gone volume entry history)) (found_made volume true history (Some entry) fid m)
 found_made volume true history None fid m = m
 found_made volume false history failed fid m = m
 
@@ -106,11 +108,11 @@ module _ (cell : PlainCell) (sound : IsSound cell) where
       let last : last_of volume ((found_in cell joins).replicas server volume) client ≡ record { number = number; verdict = verdict } = ap (λ h. last_of volume h client) (replica_up joins server volume is.up) ∙ is.last in
       subst (λ (l : Last). 0 < l.number → IsDecided (found_in cell joins).replicas volume client l.number l.verdict) last ((sound.agree joins).kept server volume client) is.some
 
-  told_now : (joins : Joins) (client volume number : ℕ) (verdict : Verdict) → IsToldOf cell client volume number verdict → IsDecided (found_in cell joins).replicas volume client number verdict
+  pub told_now : (joins : Joins) (client volume number : ℕ) (verdict : Verdict) → IsToldOf cell client volume number verdict → IsDecided (found_in cell joins).replicas volume client number verdict
   told_now joins client volume number verdict (server, inl letter) = (sound.agree joins).answered letter.0 server client volume number verdict letter.1
   told_now joins client volume number verdict (server, inr is) = kept_now joins client server volume number verdict is
 
-  ruled_now : (joins : Joins) (client volume : ℕ) (deed : Deed) → IsBacked cell client volume deed → IsRuled (found_in cell joins).replicas volume client deed
+  pub ruled_now : (joins : Joins) (client volume : ℕ) (deed : Deed) → IsBacked cell client volume deed → IsRuled (found_in cell joins).replicas volume client deed
   ruled_now joins client volume (Operated rec) backed = tt
   ruled_now joins client volume (Froze number home last) backed = tt
   ruled_now joins client volume (Settled number verdict) backed = told_now joins client volume number verdict backed
@@ -147,7 +149,7 @@ module _ (cell : PlainCell) (sound : IsSound cell) where
       elim ((s == server) && (v == volume)) as (λ b. (cond b next (cell.replicas s v)).up ≡ true → (cond b next (cell.replicas s v)).failed ≡ None) [ true ↦ ok | false ↦ sound.replicas_up s v ]
 
   -- what is found of the clients, with one entry more of one
-  found_grown : (client : ℕ) (entry : ClientEntry) (next : Actor ClientEntry) (joins : Joins) → ((b : Bool) → IsGrown (Unit {0}) entry (found b (cell.clients client)) (found b next))
+  pub found_grown : (client : ℕ) (entry : ClientEntry) (next : Actor ClientEntry) (joins : Joins) → ((b : Bool) → IsGrown (Unit {0}) entry (found b (cell.clients client)) (found b next))
       → (c : ℕ) → IsGrown (c ≡ client) entry ((found_in cell joins).clients c) ((found_in (with_client cell client next) joins).clients c)
   found_grown client entry next joins more c = elim (cases_Bool (c == client)) [
     | inl e ↦ (
@@ -160,21 +162,25 @@ module _ (cell : PlainCell) (sound : IsSound cell) where
     | inr e ↦ inl (ap (λ b. found (joins.clients c) (cond b next (cell.clients c))) e)
   ]
 
+  -- the histories agree with one entry more of a client
+  agree_entry : (client : ℕ) (entry : ClientEntry) (joins : Joins) (clients : ℕ → List ClientEntry) → ((c : ℕ) → IsGrown (c ≡ client) entry ((found_in cell joins).clients c) (clients c)) → (cell.clients client).up ≡ true → MayEnter cell client entry
+      → DoAgree (record (found_in cell joins) { clients = clients }) cell.pool
+  agree_entry client (Fetched fid parent node) joins clients grown up may =
+      agree_same (found_in cell joins) cell.pool clients (sound.agree joins) (λ c v. deeds_fetched (c ≡ client) v fid parent node ((found_in cell joins).clients c) (clients c) (grown c))
+  agree_entry client (Did volume deed) joins clients grown up may =
+      agree_client (found_in cell joins) cell.pool (sound.agree joins) clients client volume deed grown
+      (subst (λ h. MayDo (deeds_of volume h) deed) (sym (client_up joins client up)) may.0) (ruled_now joins client volume deed may.1) (named_now joins client volume deed up may.1)
+  agree_entry client (Dropping gone entry) joins clients grown up may =
+      let alone : (c : ℕ) → IsBeside (c ≡ client) entry ((found_in cell joins).clients c) (clients c) = λ c. beside (c ≡ client) gone entry ((found_in cell joins).clients c) (clients c) (grown c) in
+      agree_same (record (found_in cell joins) { clients = λ c. (alone c).alone }) cell.pool clients
+      (agree_entry client entry joins (λ c. (alone c).alone) (λ c. (alone c).grown) up may) (λ c v. (alone c).same v)
+
   append_client : (client : ℕ) (entry : ClientEntry) (next : Actor ClientEntry) → (next.up ≡ true → next.failed ≡ None) → ((b : Bool) → IsGrown (Unit {0}) entry (found b (cell.clients client)) (found b next))
       → MayAppend cell (AtClient client entry) → IsSound (with_client cell client next)
-  append_client client (Fetched fid parent node) next ok more may = record {
+  append_client client entry next ok more may = record {
     clients_up = clients_up_with client next ok;
     replicas_up = sound.replicas_up;
-    agree = λ joins. agree_same (found_in cell joins) cell.pool (found_in (with_client cell client next) joins).clients (sound.agree joins)
-        (λ c v. deeds_fetched (c ≡ client) v fid parent node ((found_in cell joins).clients c) ((found_in (with_client cell client next) joins).clients c) (found_grown client (Fetched fid parent node) next joins more c));
-  }
-  append_client client (Did volume deed) next ok more may = record {
-    clients_up = clients_up_with client next ok;
-    replicas_up = sound.replicas_up;
-    agree = λ joins. agree_client (found_in cell joins) cell.pool (sound.agree joins) (found_in (with_client cell client next) joins).clients client volume deed
-        (found_grown client (Did volume deed) next joins more)
-        (subst (λ h. MayDo (deeds_of volume h) deed) (sym (client_up joins client may.0)) may.1.0)
-        (ruled_now joins client volume deed may.1.1) (named_now joins client volume deed may.0 may.1.1);
+    agree = λ joins. agree_entry client entry joins (found_in (with_client cell client next) joins).clients (found_grown client entry next joins more) may.0 may.1;
   }
 
   append_replica : (server volume : ℕ) (entry : ReplicaEntry) (next : Actor ReplicaEntry) → (next.up ≡ true → next.failed ≡ None) → ((b : Bool) → IsGrown (Unit {0}) entry (found b (cell.replicas server volume)) (found b next))
@@ -242,18 +248,21 @@ module _ (cell : PlainCell) (sound : IsSound cell) where
   Says h (AnswerSent server client volume number (Ruled verdict)) = IsDecided h.replicas volume client number verdict
   Says h (AnswerSent server client volume number (Behind last)) = Unit {0}
   Says h (AnswerSent server client volume number (Old last)) = Unit {0}
+  Says h (BreakSent server client fids) = Unit {0}
 
   says_now : (joins : Joins) (letter : Letter) → MayPost cell letter → Says (found_in cell joins) letter
   says_now joins (ChunkSent client server volume number) may = (span_of (done_on cell client volume) number, sent_now joins client server volume number (inr may))
   says_now joins (AnswerSent server client volume number (Ruled verdict)) may = kept_now joins client server volume number verdict may
   says_now joins (AnswerSent server client volume number (Behind last)) may = tt
   says_now joins (AnswerSent server client volume number (Old last)) may = tt
+  says_now joins (BreakSent server client fids) may = tt
 
   says_old : (joins : Joins) (message : ℕ) (letter : Letter) → cell.pool message ≡ Some letter → Says (found_in cell joins) letter
   says_old joins message (ChunkSent client server volume number) e = (sound.agree joins).sent message client server volume number e
   says_old joins message (AnswerSent server client volume number (Ruled verdict)) e = (sound.agree joins).answered message server client volume number verdict e
   says_old joins message (AnswerSent server client volume number (Behind last)) e = tt
   says_old joins message (AnswerSent server client volume number (Old last)) e = tt
+  says_old joins message (BreakSent server client fids) e = tt
 
   -- another pool, each letter of which says what is so
   other_pool : (pool : ℕ → Option Letter) (posted : ℕ) → ((joins : Joins) (message : ℕ) (letter : Letter) → pool message ≡ Some letter → Says (found_in cell joins) letter) → IsSound (record cell { pool = pool; posted = posted })

@@ -12,10 +12,13 @@ pub data ClientEntry : Type 0 where
   Fetched : (fid : Fid) (parent : Option Fid) (node : Node) → ClientEntry
   -- it did something on a volume
   Did : (volume : ℕ) (deed : Deed) → ClientEntry
+  -- it dropped nodes, to make room for what it did at once with that
+  Dropping : (gone : List Fid) (entry : ClientEntry) → ClientEntry
 
 abbrev pub deed_on : ℕ → ClientEntry → List Deed
 deed_on volume (Fetched fid parent node) = []
 deed_on volume (Did at deed) = if volume == at then deed ∷ [] else []
+deed_on volume (Dropping gone entry) = deed_on volume entry
 
 -- what a client did on one volume
 abbrev pub deeds_of : ℕ → List ClientEntry → List Deed
@@ -32,6 +35,8 @@ pub data Answer : Type 0 where
 pub data Letter : Type 0 where
   ChunkSent : (client server volume number : ℕ) → Letter
   AnswerSent : (server client volume number : ℕ) (answer : Answer) → Letter
+  -- the server tells the client of objects that changed
+  BreakSent : (server client : ℕ) (fids : List Fid) → Letter
 
 -- an actor: the entries that are on its disk, the entry whose append failed, which may be there too, and whether it is up
 pub record Actor (E : Type 0) : Type 0 where

@@ -1,5 +1,6 @@
 pub mod Histories
 pub mod Deeds
+pub mod Objects
 pub mod Decisions
 pub mod Cell
 pub mod Moves

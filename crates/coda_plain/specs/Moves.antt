@@ -7,8 +7,9 @@ use Rattle.coda_tree.specs.Volume.{has}
 use Rattle.coda_certify.specs.declared.verdict.Verdict.{Verdict}
 use Rattle.coda_cancel.specs.Dropping.{mentioning, creates}
 use Rattle.coda_plain.specs.Deeds.{Deed, Operated, Froze, Settled, Gaveup, Cut, full_of, created_in, IsMade, course_of, span_of, MayDo}
+use Rattle.coda_plain.specs.Objects.{nodes_in}
 use Rattle.coda_plain.specs.Decisions.{ReplicaEntry, Decided, Resolved, nodes_of, last_of, MayDecide}
-use Rattle.coda_plain.specs.Cell.{ClientEntry, Fetched, Did, deeds_of, Ruled, Behind, Old, Letter, ChunkSent, AnswerSent, Actor, joined_to, PlainCell}
+use Rattle.coda_plain.specs.Cell.{ClientEntry, Fetched, Did, Dropping, deeds_of, Ruled, Behind, Old, Letter, ChunkSent, AnswerSent, BreakSent, Actor, joined_to, PlainCell}
 
 -- one entry more of a client, or of a replica
 pub data Append : Type 0 where
@@ -118,15 +119,16 @@ IsBacked cell client volume Gaveup = Unit {0}
 -- a replica decides the operations of a chunk that was sent to it; and it takes over last numbers and objects of replicas that are up
 abbrev pub IsGiven : PlainCell → ℕ → ℕ → ReplicaEntry → Type 0
 IsGiven cell server volume (Decided client number span) = IsSent cell client server volume number × (span ≡ span_of (done_on cell client volume) number)
-IsGiven cell server volume (Resolved nodes lasts) =
+IsGiven cell server volume (Resolved objects lasts) =
     ((client : ℕ) → (other : ℕ) × ((cell.replicas other volume).up ≡ true) × (lasts client ≡ last_of volume (cell.replicas other volume).history client))
-    × ((fid : Fid) → has nodes fid ≡ true → (other : ℕ) × ((cell.replicas other volume).up ≡ true) × (has (nodes_of volume (cell.replicas other volume).history) fid ≡ true))
+    × ((fid : Fid) → has (nodes_in objects) fid ≡ true → (other : ℕ) × ((cell.replicas other volume).up ≡ true) × (has (nodes_of volume (cell.replicas other volume).history) fid ≡ true))
 
 -- a client fetches a node that a replica has which is up; what it does on a volume may follow what it did there
 abbrev pub MayEnter : PlainCell → ℕ → ClientEntry → Type 0
 MayEnter cell client (Fetched fid parent node) =
     (server : ℕ) × (volume : ℕ) × ((cell.replicas server volume).up ≡ true) × (map.get (nodes_of volume (cell.replicas server volume).history) fid ≡ Some node)
 MayEnter cell client (Did volume deed) = MayDo (done_on cell client volume) deed × IsBacked cell client volume deed
+MayEnter cell client (Dropping gone entry) = MayEnter cell client entry
 
 abbrev pub MayAppend : PlainCell → Append → Type 0
 MayAppend cell (AtClient client entry) = ((cell.clients client).up ≡ true) × MayEnter cell client entry
@@ -138,6 +140,7 @@ MayPost cell (ChunkSent client server volume number) = IsFrozenFor cell client s
 MayPost cell (AnswerSent server client volume number (Ruled verdict)) = IsKeptBy cell client server volume number verdict
 MayPost cell (AnswerSent server client volume number (Behind last)) = Unit {0}
 MayPost cell (AnswerSent server client volume number (Old last)) = Unit {0}
+MayPost cell (BreakSent server client fids) = Unit {0}
 
 abbrev pub May : PlainCell → Move → Type 0
 May cell (Does append) = MayAppend cell append

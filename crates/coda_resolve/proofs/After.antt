@@ -1,5 +1,5 @@
 -- What the replicas hold after their changes.
-use Rattle.std.proofs.Common.{◌≡◌, ℕ, Bool, true, false, cond, not, List, [], ◌∷◌, Option, Some, None, is_some, length, refl, sym, ap, ◌∙◌, subst, ◌⊎◌, inl, inr, ⊎_elim, map}
+use Rattle.std.proofs.Common.{◌≡◌, ◌≢◌, ℕ, Bool, true, false, cond, not, List, [], ◌∷◌, Option, Some, None, is_some, length, refl, sym, ap, ◌∙◌, subst, ◌⊎◌, inl, inr, ⊎_elim, map}
 use Rattle.std.specs.FinMap as finmap
 use Rattle.std.specs.FinMap.Entries.{is_sorted, find}
 use Rattle.std.specs.List.{AllByRecursion, AllZip, filter, filter_map, list_any, cons_option}
@@ -21,7 +21,7 @@ use Rattle.coda_resolve.specs.Causes.{cause}
 use Rattle.coda_resolve.specs.Settling.{Fate, Same, Marked, Gone, dominating, leaf_fate, dir_fate, fate_by, fate_from, fate, settled_copy, stand_in_by, is_new}
 use Rattle.coda_resolve.specs.Settled.{is_dir, HasKind, IsEverywhere}
 use Rattle.coda_resolve.specs.Resolution.{Objects, Replicas, copies_at, fate_at, settled_at, IsTakenUp, at_root, below, IsResolved, has_in, child_in, IsTreeView, AreTrees}
-use Rattle.coda_resolve.specs.Placement.{IsIn, AreOfOneHistory, ArePlaced, ArePartedCopies}
+use Rattle.coda_resolve.specs.Placement.{IsIn, AreTreesOfOneKind}
 use Rattle.coda_resolve.specs.Trees.{KeepsOwn, marked_there, further, IsInstalled}
 use Rattle.coda_resolve.specs.Outcome.{mark_by, taken_up, levels_of}
 use Rattle.coda_resolve.specs.Views.{objects_in}
@@ -31,8 +31,8 @@ use Rattle.coda_resolve.proofs.Lists.{some_none}
 use Rattle.coda_resolve.proofs.Settled.{marked_everywhere}
 use Rattle.coda_resolve.proofs.Twice.{is_same, picked, own_dominating, lowest_kind, leaf_same, dir_same}
 use Rattle.coda_resolve.proofs.Whole.{gone_absent, second_changes_nothing}
-use Rattle.coda_resolve.proofs.There.{taken_up_is_there}
-use Rattle.coda_resolve.proofs.Trees.{tree_of, tree_after}
+use Rattle.coda_resolve.proofs.There.{taken_up_is_there, tree_of}
+use Rattle.coda_resolve.proofs.Trees.{tree_after}
 use Rattle.coda_resolve.proofs.Walked.{walk_is_taken_up}
 use Rattle.coda_resolve.proofs.Changed.{in_among, keys_has}
 
@@ -57,10 +57,10 @@ fated (Marked why) None copies there low = absurd (low refl)
 fated (Marked why) (Some held) copies there low = marked_everywhere why held copies
 fated Gone lowest copies there low = absurd (there refl)
 
-there : (views : Replicas) (root : Fid) → AreOfOneHistory views root → (f : Fid) → IsTakenUp views root f → fate_at views f ≡ Gone → ⊥
+there : (views : Replicas) (root : Fid) → AreTreesOfOneKind views root → (f : Fid) → IsTakenUp views root f → fate_at views f ≡ Gone → ⊥
 there views root history f up e = taken_up_is_there views root history.trees f up (gone_absent (copies_at views f) (copies_at views) (first_some (copies_at views f)) e)
 
-pub as_fated : (views : Replicas) (root f : Fid) (changes : List Change) → AreOfOneHistory views root → AreChanges views root changes → IsTakenUp views root f → AreAsFated (fate_at views f) (copies_at (afterwards views changes) f)
+pub as_fated : (views : Replicas) (root f : Fid) (changes : List Change) → AreTreesOfOneKind views root → AreChanges views root changes → IsTakenUp views root f → AreAsFated (fate_at views f) (copies_at (afterwards views changes) f)
 as_fated views root f changes history a up = subst (AreAsFated (fate_at views f)) (sym (resolved_after views root changes a f up)) (fated (fate_at views f) (first_some (copies_at views f)) (copies_at views f) (there views root history f up) (taken_up_is_there views root history.trees f up))
 
 -- ---- one kind
@@ -98,76 +98,78 @@ settled_kind b copies look copy kinds own = by (fate copies look) refl (first_so
     by (Marked why) e lowest at (Some held) own = own
     by Gone e lowest at c own = own
 
-kind_after : (all : Replicas) (root f : Fid) (b : Bool) (view : Objects) (change : Change) → AllByRecursion (HasKind b) (copies_at all f) → HasKind b (finmap.get view f) → IsReplicaChange all root view change → HasKind b (finmap.get (changed view change) f)
-kind_after all root f b view change kinds own is = by (finmap.get (changed view change) f) refl
+-- what a replica is left with has the kind that it had at the replicas
+pub kind_after : (all : Replicas) (root f : Fid) (b : Bool) (view after : Objects) → AllByRecursion (HasKind b) (copies_at all f) → HasKind b (finmap.get view f) → IsInstalled all root view after → HasKind b (finmap.get after f)
+kind_after all root f b view after kinds own installed = by (finmap.get after f) refl
   where
-    taken : IsTakenUp all root f → HasKind b (finmap.get (changed view change) f)
-    taken up = subst (HasKind b) (sym (is.installed.taken f up)) (settled_kind b (copies_at all f) (copies_at all) (finmap.get view f) kinds own)
+    taken : IsTakenUp all root f → HasKind b (finmap.get after f)
+    taken up = subst (HasKind b) (sym (installed.taken f up)) (settled_kind b (copies_at all f) (copies_at all) (finmap.get view f) kinds own)
 
-    kept : (g : Fid) → g ≡ f → KeepsOwn all root view g → HasKind b (finmap.get (changed view change) f)
+    kept : (g : Fid) → g ≡ f → KeepsOwn all root view g → HasKind b (finmap.get after f)
     kept g e (marked_there d why up at) = taken (subst (IsTakenUp all root) e up)
-    kept g e (further d n h keeps bound) = subst (λ x. HasKind b (finmap.get (changed view change) x)) e (subst (HasKind b) (sym (is.installed.kept d n h keeps bound)) (subst (λ x. HasKind b (finmap.get view x)) (sym e) own))
+    kept g e (further d n h keeps bound) = subst (λ x. HasKind b (finmap.get after x)) e (subst (HasKind b) (sym (installed.kept d n h keeps bound)) (subst (λ x. HasKind b (finmap.get view x)) (sym e) own))
 
-    by : (o : Option Held) → finmap.get (changed view change) f ≡ o → HasKind b o
+    by : (o : Option Held) → finmap.get after f ≡ o → HasKind b o
     by None e = tt
-    by (Some held) e = subst (HasKind b) e (⊎_elim taken (kept f refl) (is.installed.only f (ap is_some e)))
+    by (Some held) e = subst (HasKind b) e (⊎_elim taken (kept f refl) (installed.only f (ap is_some e)))
 
 kinds_after : (all : Replicas) (root f : Fid) (b : Bool) → AllByRecursion (HasKind b) (copies_at all f) → (views : Replicas) (changes : List Change) → AllByRecursion (HasKind b) (copies_at views f) → AllZip (IsReplicaChange all root) views changes → AllByRecursion (HasKind b) (copies_at (afterwards views changes) f)
 kinds_after all root f b kinds [] [] own a = tt
 kinds_after all root f b kinds [] (change ∷ changes) own a = absurd a
 kinds_after all root f b kinds (view ∷ views) [] own a = absurd a
-kinds_after all root f b kinds (view ∷ views) (change ∷ changes) own a = (kind_after all root f b view change kinds own.0 a.0, kinds_after all root f b kinds views changes own.1 a.1)
+kinds_after all root f b kinds (view ∷ views) (change ∷ changes) own a = (kind_after all root f b view (changed view change) kinds own.0 a.0.installed, kinds_after all root f b kinds views changes own.1 a.1)
 
 -- ---- trees
 
-trees_after : (all : Replicas) (root : Fid) → AreOfOneHistory all root → (views : Replicas) (changes : List Change) → ((v : Objects) → IsIn v views → IsIn v all) → AllZip (IsReplicaChange all root) views changes → AllByRecursion (IsTreeView root) (afterwards views changes)
+trees_after : (all : Replicas) (root : Fid) → AreTreesOfOneKind all root → (views : Replicas) (changes : List Change) → ((v : Objects) → IsIn v views → IsIn v all) → AllZip (IsReplicaChange all root) views changes → AllByRecursion (IsTreeView root) (afterwards views changes)
 trees_after all root history [] [] within a = tt
 trees_after all root history [] (change ∷ changes) within a = absurd a
 trees_after all root history (view ∷ views) [] within a = absurd a
 trees_after all root history (view ∷ views) (change ∷ changes) within a = (tree_after all root view (changed view change) history (within view (inl refl)) a.0.installed, trees_after all root history views changes (λ v s. within v (inr s)) a.1)
 
-are_trees : (views : Replicas) (root : Fid) (changes : List Change) → AreOfOneHistory views root → AreChanges views root changes → AreTrees root (afterwards views changes)
+are_trees : (views : Replicas) (root : Fid) (changes : List Change) → AreTreesOfOneKind views root → AreChanges views root changes → AreTrees root (afterwards views changes)
 are_trees [] root changes history a = absurd history.trees
 are_trees (view ∷ views) root [] history a = absurd a
 are_trees (view ∷ views) root (change ∷ changes) history a = trees_after (view ∷ views) root history (view ∷ views) (change ∷ changes) (λ v s. s) a
 
--- ---- placed
+-- ---- trees of one kind
 
 pub each_copy : (P : Option Held → Type 0) (views : Replicas) (f : Fid) (v : Objects) → AllByRecursion P (copies_at views f) → IsIn v views → P (finmap.get v f)
 each_copy P [] f v a s = absurd s
 each_copy P (view ∷ views) f v a (inl is) = subst (λ x. P (finmap.get x f)) is a.0
 each_copy P (view ∷ views) f v a (inr s) = each_copy P views f v a.1 s
 
-pub one_history_after : (views : Replicas) (root : Fid) (changes : List Change) → AreOfOneHistory views root → AreChanges views root changes → AreOfOneHistory (afterwards views changes) root
-one_history_after views root changes history a = record {
-  trees = trees;
-  kinds = λ f. let k = history.kinds f in (k.0, kinds_after views root f k.0 k.1 views changes k.1 a);
-  placed = placed;
+pub all_copies : (P : Option Held → Type 0) (views : Replicas) (f : Fid) → ((v : Objects) → IsIn v views → P (finmap.get v f)) → AllByRecursion P (copies_at views f)
+all_copies P [] f h = tt
+all_copies P (view ∷ views) f h = (h view (inl refl), all_copies P views f (λ v s. h v (inr s)))
+
+all_views : (P : Objects → Type 0) (views : Replicas) → ((v : Objects) → IsIn v views → P v) → AllByRecursion P views
+all_views P [] h = tt
+all_views P (view ∷ views) h = (h view (inl refl), all_views P views (λ v s. h v (inr s)))
+
+pub all_trees : (root : Fid) (views : Replicas) → views ≢ [] → ((v : Objects) → IsIn v views → IsTreeView root v) → AreTrees root views
+all_trees root [] ne h = absurd (ne refl)
+all_trees root (view ∷ views) ne h = all_views (IsTreeView root) (view ∷ views) h
+
+-- whichever replicas the changes are installed at
+pub trees_of_one_kind_after : (views later : Replicas) (root : Fid) (changes : List Change) → AreTreesOfOneKind views root → AreChanges views root changes → later ≢ [] → ((view : Objects) → IsIn view later → IsIn view views ⊎ IsIn view (afterwards views changes)) → AreTreesOfOneKind later root
+trees_of_one_kind_after views later root changes history a ne each = record {
+  trees = all_trees root later ne (λ v s. ⊎_elim (tree_of root v views history.trees) (tree_of root v (afterwards views changes) (are_trees views root changes history a)) (each v s));
+  top = kept root true history.top;
+  kinds = λ f. let k = history.kinds f in (k.0, kept f k.0 k.1);
 }
   where
-    trees : AreTrees root (afterwards views changes)
-    trees = are_trees views root changes history a
-
-    placed : ArePlaced (afterwards views changes) root
-    placed one other d e f n k in_one in_other bound_one bound_other apart up =
-        let was = (second_changes_nothing views (afterwards views changes) root history.kinds (resolved_after views root changes a) d up).0 in
-        by (fate_at views d) (as_fated views root d changes history a was)
-      where
-        by : (result : Fate) → AreAsFated result (copies_at (afterwards views changes) d) → ArePartedCopies (copies_at (afterwards views changes) d) (finmap.get one d) (finmap.get other d)
-        by (Same held) s =
-            let here : child_in other d n ≡ Some f = ap (λ c. finmap.get (bindings_of c) n) (each_copy (λ c. c ≡ Some held) (afterwards views changes) d other s in_other ∙ sym (each_copy (λ c. c ≡ Some held) (afterwards views changes) d one s in_one)) ∙ bound_one in
-            absurd (apart ((tree_of root other (afterwards views changes) trees in_other).once d n e k f here bound_other).0)
-        by (Marked why) s = inl (inl (each_copy (λ c. is_marked c ≡ true) (afterwards views changes) d one s in_one))
-        by Gone s = absurd s
+    kept : (f : Fid) (b : Bool) → AllByRecursion (HasKind b) (copies_at views f) → AllByRecursion (HasKind b) (copies_at later f)
+    kept f b k = all_copies (HasKind b) later f (λ v s. ⊎_elim (each_copy (HasKind b) views f v k) (each_copy (HasKind b) (afterwards views changes) f v (kinds_after views root f b k views changes k a)) (each v s))
 
 -- ---- a second resolution
 
-module _ (views : Replicas) (root : Fid) (changes : List Change) (history : AreOfOneHistory views root) (a : AreChanges views root changes) where
+module _ (views : Replicas) (root : Fid) (changes : List Change) (history : AreTreesOfOneKind views root) (a : AreChanges views root changes) where
   abbrev now : Replicas
   now = afterwards views changes
 
-  still : AreOfOneHistory now root
-  still = one_history_after views root changes history a
+  still : AreTreesOfOneKind now root
+  still = trees_of_one_kind_after views now root changes history a (λ none. subst (AreTrees root) none (are_trees views root changes history a)) (λ v s. inr s)
 
   settles_now : (f : Fid) → IsTakenUp now root f → IsTakenUp views root f × ((settled_at now f ≡ copies_at now f) × (is_new (copies_at now f) (fate_at now f) ≡ false))
   settles_now f up = second_changes_nothing views now root history.kinds (resolved_after views root changes a) f up

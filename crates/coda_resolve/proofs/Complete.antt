@@ -20,13 +20,12 @@ use Rattle.coda_reslog.specs.declared.change.Held.{Held}
 use Rattle.coda_resolve.specs.Copies.{first_some}
 use Rattle.coda_resolve.specs.Settling.{Same}
 use Rattle.coda_resolve.specs.Resolution.{Replicas, copies_at, fate_at, IsTakenUp, at_root, below}
-use Rattle.coda_resolve.specs.Placement.{IsIn, AreOfOneHistory}
+use Rattle.coda_resolve.specs.Placement.{IsIn, AreTreesOfOneKind}
 use Rattle.coda_resolve.specs.Outcome.{next_up, walk, levels_of, taken_up}
 use Rattle.coda_resolve.proofs.MergedNames.{any_append}
 use Rattle.coda_resolve.proofs.Logged.{any_in, in_flat}
-use Rattle.coda_resolve.proofs.There.{Binds, fate_bound, taken_up_is_there}
+use Rattle.coda_resolve.proofs.There.{Binds, fate_bound, taken_up_is_there, tree_of}
 use Rattle.coda_resolve.proofs.Apart.{bind_apart, some_view}
-use Rattle.coda_resolve.proofs.Trees.{tree_of}
 
 -- ---- lists and maps
 
@@ -103,7 +102,7 @@ pub at_taken : (views : Replicas) (root : Fid) (k : ℕ) (f : Fid) → At views 
 at_taken views root zero f is = at_root f is
 at_taken views root (suc k) f a = below a.0 a.1.0.name f a.1.0.held a.1.0.same a.1.0.bound (at_taken views root k a.0 a.1.1)
 
-module _ (views : Replicas) (root : Fid) (history : AreOfOneHistory views root) where
+module _ (views : Replicas) (root : Fid) (history : AreTreesOfOneKind views root) where
   never_root : (d : Fid) → IsNext views d root → ⊥
   never_root d next =
       let v = some_view (Binds next.name root) d views (fate_bound (copies_at views d) (copies_at views) next.held next.name root next.same next.bound) in
@@ -114,7 +113,7 @@ module _ (views : Replicas) (root : Fid) (history : AreOfOneHistory views root) 
   one_depth zero (suc j) f a b = absurd (never_root b.0 (subst (IsNext views b.0) a b.1.0))
   one_depth (suc i) zero f a b = absurd (never_root a.0 (subst (IsNext views a.0) b a.1.0))
   one_depth (suc i) (suc j) f a b =
-      let is : a.0 ≡ b.0 = bind_apart views root a.0 b.0 f a.1.0.name b.1.0.name a.1.0.held b.1.0.held history (at_taken views root i a.0 a.1.1) (at_taken views root j b.0 b.1.1) a.1.0.same b.1.0.same a.1.0.bound b.1.0.bound in
+      let is : a.0 ≡ b.0 = bind_apart views root a.0 b.0 f a.1.0.name b.1.0.name a.1.0.held b.1.0.held history a.1.0.same b.1.0.same a.1.0.bound b.1.0.bound in
       ap suc (one_depth i j b.0 (subst (At views root i) is a.1.1) b.1.1)
 
   -- the object and what stands above it
@@ -177,7 +176,7 @@ walk_meets views zero k g f a lt = absurd (omega arith)
 walk_meets views (suc levels) zero g f a lt = inl (sym a)
 walk_meets views (suc levels) (suc k) g f a lt = inr (in_flat (walk levels views) (next_up (fate_at views g)) a.0 f (next_in views g a.0 a.1.0) (walk_meets views levels k a.0 f a.1.1 (omega arith)))
 
-pub taken_up_is_met : (views : Replicas) (root f : Fid) → AreOfOneHistory views root → IsTakenUp views root f → IsIn f (taken_up views root)
+pub taken_up_is_met : (views : Replicas) (root f : Fid) → AreTreesOfOneKind views root → IsTakenUp views root f → IsIn f (taken_up views root)
 taken_up_is_met views root f history up =
     let m = taken_at views root f up in
     walk_meets views (levels_of views) m.0 root f (at_down views root m.0 f m.1) (not_deep views root history m.0 f m.1)

@@ -1,8 +1,8 @@
 -- How often fids stand in a list.
-use Rattle.std.proofs.Common.{◌≡◌, ℕ, ◌+◌, ◌≤◌, ◌<◌, zero, suc, Bool, true, false, cond, not, List, [], ◌∷◌, ◌++◌, Some, None, Option, slice_get, get_or, length, take, refl, sym, ap, ◌∙◌, subst, map, arith, ◌||◌}
+use Rattle.std.proofs.Common.{◌≡◌, ℕ, ◌+◌, ◌≤◌, ◌<◌, zero, suc, Bool, true, false, cond, not, List, [], ◌∷◌, ◌++◌, Some, None, Option, slice_get, get_or, length, take, refl, sym, ap, ◌∙◌, subst, map, arith, ◌||◌, ◌&&◌, inl, inr}
 use Rattle.std.specs.Prelude.{nat_le}
 use Rattle.std.specs.FinMap as finmap
-use Rattle.std.specs.List.{filter, fold, flat_map, list_any}
+use Rattle.std.specs.List.{filter, fold, flat_map, list_any, zip}
 use Rattle.std.specs.Ordering.{is_eq}
 use Rattle.std.specs.Cmp.{Equal-is}
 use Rattle.std.specs.BTreeSet.{BTreeSet, Updates}
@@ -17,10 +17,13 @@ use Rattle.coda_reslog.specs.declared.entry.ResEntry.{ResEntry}
 use Rattle.coda_resolve.specs.Copies.{Copies}
 use Rattle.coda_resolve.specs.Missing.{missing}
 use Rattle.coda_resolve.specs.Merged.{merged_bindings}
-use Rattle.coda_resolve.specs.Causes.{times, fids_lost, is_double, least, least_with}
-use Rattle.coda_resolve.specs.Counted.{has_fid, AreFids, AreTwice}
+use Rattle.coda_resolve.specs.Causes.{times, fids_lost, is_elsewhere, is_double, least, least_with}
+use Rattle.coda_resolve.specs.Counted.{has_fid, AreFids, AreTwice, AreLeftOf, is_in_one}
+use Rattle.coda_resolve.specs.Placement.{IsIn}
+use Rattle.coda_resolve.proofs.Changed.{among_filter, filter_alike_in}
 use Rattle.coda_resolve.proofs.Collected.{one_more}
 use Rattle.coda_resolve.proofs.Lists.{both_ways}
+use Rattle.coda_resolve.proofs.Logged.{in_any}
 use Rattle.coda_resolve.proofs.LeastNames.{least_of_two}
 
 -- ---- the fids that a directory binds
@@ -104,22 +107,50 @@ met_again once once' twice twice' g fids added more known are = record {
         sym (le-leb 2 (times f fids + cond (same_fid f g) 1 0) (subst (λ b. 2 ≤ times f fids + cond b 1 0) (sym e) (omega arith)))
     by f false e = count_more 2 (times f fids) (cond (same_fid f g) 1 0) (has_fid twice f) (are.two f) (ap (λ b. cond b 1 0) e)
 
--- tests that pass alike filter alike
-pub filter_alike : {X : Type 0} (t u : X → Bool) (xs : List X) → ((x : X) → t x ≡ u x) → filter t xs ≡ filter u xs
-filter_alike t u [] h = refl
-filter_alike t u (x ∷ xs) h = λ i. cond (h x i) (x ∷ filter_alike t u xs h i) (filter_alike t u xs h i)
-
-pub doubles_found : (copies : Copies) (entries : Bindings) (updates : List ResEntry) (twice lost : BTreeSet Fid) (counted fids : List Fid) (found : Option Fid) → entries ≡ merged_bindings copies → updates ≡ missing copies → counted ≡ finmap.values entries → fids ≡ finmap.values entries → ((f : Fid) → has_fid twice f ≡ nat_le 2 (times f counted)) → AreFids lost (flat_map (λ u. fids_lost u.lost) updates) → found ≡ least fid_cmp (filter (λ f. has_fid twice f || has_fid lost f) fids) → found ≡ least fid_cmp (filter (is_double copies) (finmap.values (merged_bindings copies)))
-doubles_found copies entries updates twice lost counted fids found is us at_counted at_fids are_twice are_lost e =
-    e
-    ∙ ap (λ l. least fid_cmp (filter (λ f. has_fid twice f || has_fid lost f) l)) (at_fids ∙ ap finmap.values is)
-    ∙ ap (least fid_cmp) (filter_alike (λ f. has_fid twice f || has_fid lost f) (is_double copies) (finmap.values (merged_bindings copies)) (λ f.
-    (λ i. are_twice f i || are_lost f i) ∙ (λ i. nat_le 2 (times f ((at_counted ∙ ap finmap.values is) i)) || list_any (same_fid f) (flat_map (λ u. fids_lost u.lost) (us i)))))
-
 at_index : (fids : List Fid) (i : ℕ) (d : Fid) → i < length fids → slice_get fids i ≡ Some (get_or fids i d)
 at_index [] i d lt = absurd (omega arith)
 at_index (y ∷ fids) zero d lt = refl
 at_index (y ∷ fids) (suc i) d lt = at_index fids i d (omega arith)
+
+-- one fid more of a list
+pub one_fid_more : (set : BTreeSet Fid) (fids : List Fid) (i : ℕ) (d : Fid) → i < length fids → AreFids set (take i fids ++ get_or fids i d ∷ []) → AreFids set (take (i + 1) fids)
+one_fid_more set fids i d lt are = subst (λ l. AreFids set l) (sym (one_more fids i (get_or fids i d) (sym (at_index fids i d lt)))) are
+
+-- ---- fids that are left
+
+slice_in : (fids : List Fid) (i : ℕ) (f : Fid) → Some f ≡ slice_get fids i → IsIn f fids
+slice_in [] i f e = absurd cc
+slice_in (g ∷ fids) zero f e = let same : f ≡ g = cc in inl (sym same)
+slice_in (g ∷ fids) (suc i) f e = inr (slice_in fids i f e)
+
+pub value_found : (m : Bindings) (i : ℕ) (n : Name) (f g : Fid) → Some (n, f) ≡ slice_get (finmap.entries m) i → same_fid f g ≡ true → list_any (same_fid g) (finmap.values m) ≡ true
+value_found m i n f g at same = in_any (same_fid g) (finmap.values m) f (slice_in (finmap.values m) i f (value_at (finmap.entries m) i n f at)) (subst (λ x. same_fid g x ≡ true) (sym (same_fid_is f g same)) (same_fid_refl g))
+
+-- of the fids that are left those that are there and not bound are those of all that are
+pub left_entries : (own : Bindings) (fids left : List Fid) (has : Fid → Bool) → AreLeftOf own fids left → (f : Fid) → (list_any (same_fid f) (filter has left) && not (list_any (same_fid f) (finmap.values own))) ≡ (list_any (same_fid f) fids && (has f && not (list_any (same_fid f) (finmap.values own))))
+left_entries own fids left has are f = ap (λ b. b && not (list_any (same_fid f) (finmap.values own))) (among_filter has left f) ∙ by (list_any (same_fid f) left) refl (list_any (same_fid f) fids) refl (has f) (list_any (same_fid f) (finmap.values own)) refl
+  where
+    by : (a : Bool) → list_any (same_fid f) left ≡ a → (b : Bool) → list_any (same_fid f) fids ≡ b → (h o : Bool) → list_any (same_fid f) (finmap.values own) ≡ o → ((h && a) && not o) ≡ (b && (h && not o))
+    by true e false k h o l = absurd (true≢false (sym (are.among f e) ∙ k))
+    by true e true k true o l = refl
+    by true e true k false o l = refl
+    by false e true k h false l = absurd (true≢false (sym (are.bound f k e) ∙ l))
+    by false e true k true true l = refl
+    by false e true k false true l = refl
+    by false e false k true o l = refl
+    by false e false k false o l = refl
+
+-- ---- fids that a replica has elsewhere
+
+pub doubles_found : (copies : Copies) (look : Fid → Copies) (entries : Bindings) (updates : List ResEntry) (twice lost elsewhere : BTreeSet Fid) (counted fids : List Fid) (found : Option Fid) → entries ≡ merged_bindings copies → updates ≡ missing copies → counted ≡ finmap.values entries → fids ≡ finmap.values entries → ((f : Fid) → has_fid twice f ≡ nat_le 2 (times f counted)) → AreFids lost (flat_map (λ u. fids_lost u.lost) updates) → ((f : Fid) → has_fid elsewhere f ≡ (list_any (same_fid f) counted && list_any (is_elsewhere f) (zip copies (look f)))) → found ≡ least fid_cmp (filter (is_in_one twice lost elsewhere) fids) → found ≡ least fid_cmp (filter (is_double copies look) (finmap.values (merged_bindings copies)))
+doubles_found copies look entries updates twice lost elsewhere counted fids found is us at_counted at_fids are_twice are_lost are_elsewhere e =
+    e
+    ∙ ap (λ l. least fid_cmp (filter (is_in_one twice lost elsewhere) l)) (at_fids ∙ ap finmap.values is)
+    ∙ ap (least fid_cmp) (filter_alike_in (is_in_one twice lost elsewhere) (is_double copies look) (finmap.values (merged_bindings copies)) (λ f s.
+    (λ i. are_twice f i || (are_lost f i || (are_elsewhere f ∙ here f s) i)) ∙ (λ i. nat_le 2 (times f ((at_counted ∙ ap finmap.values is) i)) || (list_any (same_fid f) (flat_map (λ u. fids_lost u.lost) (us i)) || list_any (is_elsewhere f) (zip copies (look f))))))
+  where
+    here : (f : Fid) → IsIn f (finmap.values (merged_bindings copies)) → (list_any (same_fid f) counted && list_any (is_elsewhere f) (zip copies (look f))) ≡ list_any (is_elsewhere f) (zip copies (look f))
+    here f s = ap (λ b. b && list_any (is_elsewhere f) (zip copies (look f))) (in_any (same_fid f) counted f (subst (IsIn f) (sym (at_counted ∙ ap finmap.values is)) s) (same_fid_refl f))
 
 -- the next of the fids
 pub least_item : (t : Fid → Bool) (fids : List Fid) (i : ℕ) (d : Fid) (mid end : Option Fid) → i < length fids → mid ≡ fold (least_with fid_cmp) None (filter t (take i fids)) → end ≡ fold (least_with fid_cmp) mid (filter t (get_or fids i d ∷ [])) → end ≡ fold (least_with fid_cmp) None (filter t (take (i + 1) fids))

@@ -1,5 +1,5 @@
 -- Objects that are bound twice, and objects that were taken out and are bound or updated elsewhere.
-use Rattle.std.proofs.Common.{◌≡◌, ◌≢◌, ◌≤◌, ◌+◌, ℕ, zero, suc, arith, Bool, true, false, cond, not, List, [], ◌∷◌, Option, Some, None, refl, sym, ap, ◌∙◌, subst, map, length, ◌&&◌, ◌||◌, ◌⊎◌, inl, inr}
+use Rattle.std.proofs.Common.{◌≡◌, ◌≢◌, ◌≤◌, ◌+◌, ℕ, zero, suc, arith, Bool, true, false, cond, not, List, [], ◌∷◌, Option, Some, None, is_some, refl, sym, ap, ◌∙◌, subst, map, length, ◌&&◌, ◌||◌, ◌⊎◌, inl, inr}
 use Rattle.std.specs.Prelude.{nat_le, slice_get, T}
 use Rattle.std.specs.List.{list_any, filter, flat_map, zip}
 use Rattle.std.specs.FinMap as finmap
@@ -23,14 +23,15 @@ use Rattle.coda_reslog.specs.declared.change.Held.{Held}
 use Rattle.coda_resolve.specs.Copies.{Copies, bindings_of}
 use Rattle.coda_resolve.specs.Missing.{has_update, missing}
 use Rattle.coda_resolve.specs.Merged.{merged_bindings}
-use Rattle.coda_resolve.specs.Causes.{fids_lost, all_lost, times, is_double, is_newer, is_updated, updated_of}
+use Rattle.coda_resolve.specs.Causes.{fids_lost, all_lost, times, binds_fid, is_elsewhere, is_double, is_newer, is_updated, updated_of}
 use Rattle.coda_resolve.specs.Placement.{IsIn}
 use Rattle.coda_resolve.specs.Resolution.{Replicas, copies_at}
-use Rattle.coda_resolve.specs.FirstCause.{IsMissing, TookOut, IsTwice, IsStillBound, HasMore, IsUpdatedElsewhere}
+use Rattle.coda_resolve.specs.FirstCause.{IsMissing, TookOut, IsTwice, IsStillBound, IsBoundElsewhere, HasMore, IsUpdatedElsewhere}
 use Rattle.coda_resolve.proofs.Leaders.{filtered}
 use Rattle.coda_resolve.proofs.Logged.{any_in, in_any, in_flat, in_filter}
 use Rattle.coda_resolve.proofs.Once.{two_values, entry_in, value_in}
-use Rattle.coda_resolve.proofs.Reasons.{not_true, unfiltered, missing_is, is_missing_in, not_itself, zipped, in_zip}
+use Rattle.coda_resolve.proofs.Reasons.{not_true, unfiltered, missing_is, is_missing_in, not_itself}
+use Rattle.coda_resolve.proofs.Elsewhere.{zipped, in_zip, binds_by, by_name}
 use Rattle.coda_resolve.proofs.Single.{in_flat_from}
 use Rattle.coda_resolve.proofs.Walked.{value_at}
 
@@ -119,26 +120,83 @@ module _ (copies : Copies) where
   lost_in u f counts m t =
       in_any (same_fid f) (all_lost copies) f (in_flat (λ (v : ResEntry). fids_lost v.lost) (missing copies) u f (is_missing_in copies u m) (subst (λ o. IsIn f (fids_lost o)) (sym t.is) (inl t.object))) (same_fid_refl f)
 
-  abbrev pub Doubled : Fid → Type 0
-  Doubled f = IsTwice copies f ⊎ IsStillBound copies f
+module _ (views : Replicas) (d : Fid) where
+  abbrev copies : Copies
+  copies = copies_at views d
 
-  pub doubled_in : (f : Fid) → Doubled f → IsIn f (filter (is_double copies) (finmap.values (merged_bindings copies)))
+  abbrev twice_bound : Fid → Bool
+  twice_bound f = nat_le 2 (times f (finmap.values (merged_bindings copies)))
+
+  abbrev taken_out : Fid → Bool
+  taken_out f = list_any (same_fid f) (all_lost copies)
+
+  abbrev elsewhere : Fid → Bool
+  elsewhere f = list_any (is_elsewhere f) (zip copies (copies_at views f))
+
+  abbrev pub Doubled : Fid → Type 0
+  Doubled f = IsTwice copies f ⊎ (IsStillBound copies f ⊎ IsBoundElsewhere views d f)
+
+  elsewhere_by : (f : Fid) → IsBoundElsewhere views d f → elsewhere f ≡ true
+  elsewhere_by f b =
+      in_any (is_elsewhere f) (zip copies (copies_at views f)) (finmap.get b.view d, finmap.get b.view f) (in_zip d f views b.view b.replica)
+      (and_from (is_some (finmap.get b.view f)) (not (binds_fid f (finmap.get b.view d))) (ap is_some b.has) (ap not (unbound (binds_fid f (finmap.get b.view d)) refl)))
+    where
+      unbound : (t : Bool) → binds_fid f (finmap.get b.view d) ≡ t → t ≡ false
+      unbound true e = let m = by_name f (finmap.get b.view d) e in absurd (b.unbound m.0 m.1)
+      unbound false e = refl
+
+  by_elsewhere : (f : Fid) (n : Name) → finmap.get (merged_bindings copies) n ≡ Some f → elsewhere f ≡ true → IsBoundElsewhere views d f
+  by_elsewhere f n bound e =
+      let p = any_in (is_elsewhere f) (zip copies (copies_at views f)) e in
+      let parts = and_parts (is_some p.0.1) (not (binds_fid f p.0.0)) p.1.1 in
+      let v = zipped d f views p.0 p.1.0 in
+      let held = is_there (finmap.get v.0 f) (ap is_some v.1.1.1 ∙ parts.0) in
+      record {
+        name = n;
+        bound = bound;
+        view = v.0;
+        replica = v.1.0;
+        held = held.0;
+        has = held.1;
+        unbound = λ k is. true≢false (sym (ap (binds_fid f) (sym v.1.1.0) ∙ binds_by f (finmap.get v.0 d) k is) ∙ not_true (binds_fid f p.0.0) parts.1);
+      }
+    where
+      is_there : (o : Option Held) → is_some o ≡ true → (held : Held) × (o ≡ Some held)
+      is_there None e = absurd (true≢false (sym e))
+      is_there (Some held) e = (held, refl)
+
+  pub doubled_in : (f : Fid) → Doubled f → IsIn f (filter (is_double copies (copies_at views)) (finmap.values (merged_bindings copies)))
   doubled_in f (inl t) =
       let le = two_values (finmap.entries (merged_bindings copies)) t.one t.other f t.apart (entry_in (merged_bindings copies) t.one f t.at_one) (entry_in (merged_bindings copies) t.other f t.at_other) in
-      in_filter (is_double copies) (finmap.values (merged_bindings copies)) f (value_in (merged_bindings copies) t.one f t.at_one)
-      (or_left (nat_le 2 (times f (finmap.values (merged_bindings copies)))) (list_any (same_fid f) (all_lost copies)) (le-leb 2 (times f (finmap.values (merged_bindings copies))) le))
-  doubled_in f (inr b) =
-      in_filter (is_double copies) (finmap.values (merged_bindings copies)) f (value_in (merged_bindings copies) b.name f b.bound)
-      (or_right (nat_le 2 (times f (finmap.values (merged_bindings copies)))) (list_any (same_fid f) (all_lost copies)) (lost_in b.update f b.counts b.missing b.took))
+      in_filter (is_double copies (copies_at views)) (finmap.values (merged_bindings copies)) f (value_in (merged_bindings copies) t.one f t.at_one)
+      (or_left (twice_bound f) (taken_out f || elsewhere f) (le-leb 2 (times f (finmap.values (merged_bindings copies))) le))
+  doubled_in f (inr (inl b)) =
+      in_filter (is_double copies (copies_at views)) (finmap.values (merged_bindings copies)) f (value_in (merged_bindings copies) b.name f b.bound)
+      (or_right (twice_bound f) (taken_out f || elsewhere f) (or_left (taken_out f) (elsewhere f) (lost_in copies b.update f b.counts b.missing b.took)))
+  doubled_in f (inr (inr b)) =
+      in_filter (is_double copies (copies_at views)) (finmap.values (merged_bindings copies)) f (value_in (merged_bindings copies) b.name f b.bound)
+      (or_right (twice_bound f) (taken_out f || elsewhere f) (or_right (taken_out f) (elsewhere f) (elsewhere_by f b)))
 
-  pub in_doubled : (f : Fid) → IsIn f (filter (is_double copies) (finmap.values (merged_bindings copies))) → Doubled f
-  in_doubled f s = by (nat_le 2 (times f (finmap.values (merged_bindings copies)))) refl (filtered (is_double copies) (finmap.values (merged_bindings copies)) f s)
+  pub in_doubled : (f : Fid) → IsIn f (filter (is_double copies (copies_at views)) (finmap.values (merged_bindings copies))) → Doubled f
+  in_doubled f s = by (twice_bound f) refl (filtered (is_double copies (copies_at views)) (finmap.values (merged_bindings copies)) f s)
     where
       up : (b : Bool) → T b → b ≡ true
       up true t = refl
       up false t = absurd t
 
-      by : (b : Bool) → nat_le 2 (times f (finmap.values (merged_bindings copies))) ≡ b → (b || list_any (same_fid f) (all_lost copies)) ≡ true → Doubled f
+      bound : (n : Name) × (finmap.get (merged_bindings copies) n ≡ Some f)
+      bound = value_at (merged_bindings copies) f (unfiltered (is_double copies (copies_at views)) (finmap.values (merged_bindings copies)) f s)
+
+      by_lost : (b : Bool) → taken_out f ≡ b → (b || elsewhere f) ≡ true → IsStillBound copies f ⊎ IsBoundElsewhere views d f
+      by_lost true is e =
+          let g = any_in (same_fid f) (all_lost copies) is in
+          let same = same_fid_is f g.0 g.1.1 in
+          let u = in_flat_from (λ (v : ResEntry). fids_lost v.lost) (missing copies) f (subst (λ h. IsIn h (all_lost copies)) (sym same) g.1.0) in
+          let t = took u.0 f u.1.1 in
+          inl (record { name = bound.0; bound = bound.1; update = u.0; missing = missing_is copies u.0 u.1.0; counts = t.0; took = t.1 })
+      by_lost false is e = inr (by_elsewhere f bound.0 bound.1 e)
+
+      by : (b : Bool) → twice_bound f ≡ b → (b || (taken_out f || elsewhere f)) ≡ true → Doubled f
       by true is e =
           let two = two_at f (finmap.entries (merged_bindings copies)) (up _ (finmap.entries_sorted (merged_bindings copies))) (leb-true 2 (times f (finmap.values (merged_bindings copies))) is) in
           inl (record {
@@ -148,13 +206,7 @@ module _ (copies : Copies) where
             at_one = bound_by (merged_bindings copies) two.0 f two.1.1.0.0 two.1.1.0.1;
             at_other = bound_by (merged_bindings copies) two.1.0 f two.1.1.1.0.0 two.1.1.1.0.1;
           })
-      by false is e =
-          let bound = value_at (merged_bindings copies) f (unfiltered (is_double copies) (finmap.values (merged_bindings copies)) f s) in
-          let g = any_in (same_fid f) (all_lost copies) e in
-          let same = same_fid_is f g.0 g.1.1 in
-          let u = in_flat_from (λ (v : ResEntry). fids_lost v.lost) (missing copies) f (subst (λ h. IsIn h (all_lost copies)) (sym same) g.1.0) in
-          let t = took u.0 f u.1.1 in
-          inr (record { name = bound.0; bound = bound.1; update = u.0; missing = missing_is copies u.0 u.1.0; counts = t.0; took = t.1 })
+      by false is e = inr (by_lost (taken_out f) refl e)
 
 -- ---- objects that were taken out and updated elsewhere
 

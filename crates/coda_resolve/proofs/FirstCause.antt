@@ -114,7 +114,7 @@ module _ (views : Replicas) (d : Fid) where
   conflicts = flat_map (conflicts_of c) (missing c)
 
   abbrev doubles : List Fid
-  doubles = filter (is_double c) (finmap.values (merged_bindings c))
+  doubles = filter (is_double c (copies_at views)) (finmap.values (merged_bindings c))
 
   abbrev updates : List Fid
   updates = updated views d
@@ -123,7 +123,7 @@ module _ (views : Replicas) (d : Fid) where
   names_said n e = let m = least_is name_cmp nat_list_cmp_total exact_bytes conflicts n e in (refl, (in_contested c n m.0, λ k h. m.1 k (contested_in c k h)))
 
   doubles_said : (f : Fid) → least fid_cmp doubles ≡ Some f → IsSaid 4 (DoubleName f)
-  doubles_said f e = let m = least_is fid_cmp fids_total exact_fids doubles f e in (refl, (in_doubled c f m.0, λ g h. m.1 g (doubled_in c g h)))
+  doubles_said f e = let m = least_is fid_cmp fids_total exact_fids doubles f e in (refl, (in_doubled views d f m.0, λ g h. m.1 g (doubled_in views d g h)))
 
   updates_said : (f : Fid) → least fid_cmp updates ≡ Some f → IsSaid 5 (RemoveUpdate f)
   updates_said f e = let m = least_is fid_cmp fids_total exact_fids updates f e in (refl, (in_updated views d f m.0, λ g h. m.1 g (updated_in views d g h)))
@@ -137,7 +137,7 @@ module _ (views : Replicas) (d : Fid) where
 
   -- the table, as it is asked
   abbrev table : List (Option Why)
-  table = kept c ∷ option_map (λ (gap : ℕ × ℕ). Wrapped gap.0 gap.1) (wrapped c) ∷ cross_rename c ∷ name_name c ∷ double_name c ∷ remove_update c (copies_at views) ∷ attr_attr c ∷ []
+  table = kept c ∷ option_map (λ (gap : ℕ × ℕ). Wrapped gap.0 gap.1) (wrapped c) ∷ cross_rename c ∷ name_name c ∷ double_name c (copies_at views) ∷ remove_update c (copies_at views) ∷ attr_attr c ∷ []
 
   said : AreRows IsSaid 0 table
   said = (
@@ -178,7 +178,7 @@ module _ (views : Replicas) (d : Fid) where
   unsaid (Wrapped origin seq) e h = forgotten_none c (unmapped (λ (gap : ℕ × ℕ). Wrapped gap.0 gap.1) (wrapped c) e) origin seq h
   unsaid CrossRename e h = untested (list_any (λ (u : ResEntry). is_cross_kind u.kind) (missing c)) CrossRename e (is_crossed h)
   unsaid (NameName n) e h = not_in n conflicts (contested_in c n h) (least_none name_cmp conflicts (unmapped NameName (least name_cmp conflicts) e))
-  unsaid (DoubleName f) e h = not_in f doubles (doubled_in c f h) (least_none fid_cmp doubles (unmapped DoubleName (least fid_cmp doubles) e))
+  unsaid (DoubleName f) e h = not_in f doubles (doubled_in views d f h) (least_none fid_cmp doubles (unmapped DoubleName (least fid_cmp doubles) e))
   unsaid (RemoveUpdate f) e h = not_in f updates (updated_in views d f h) (least_none fid_cmp updates (unmapped RemoveUpdate (least fid_cmp updates) e))
   unsaid AttrAttr e h = by (attributes_of c) refl e
     where
@@ -213,7 +213,7 @@ module _ (views : Replicas) (d : Fid) where
   first_said (Wrapped origin seq) h l = same_gap (wrapped c) origin seq refl h l
   first_said CrossRename h l = ap (λ b. where_so b CrossRename) (is_crossed h)
   first_said (NameName n) h l = ap (option_map NameName) (same_least name_cmp nat_list_cmp_total exact_bytes conflicts n (least name_cmp conflicts) refl (contested_in c n h) (λ k s. l k (in_contested c k s)))
-  first_said (DoubleName f) h l = ap (option_map DoubleName) (same_least fid_cmp fids_total exact_fids doubles f (least fid_cmp doubles) refl (doubled_in c f h) (λ g s. l g (in_doubled c g s)))
+  first_said (DoubleName f) h l = ap (option_map DoubleName) (same_least fid_cmp fids_total exact_fids doubles f (least fid_cmp doubles) refl (doubled_in views d f h) (λ g s. l g (in_doubled views d g s)))
   first_said (RemoveUpdate f) h l = ap (option_map RemoveUpdate) (same_least fid_cmp fids_total exact_fids updates f (least fid_cmp updates) refl (updated_in views d f h) (λ g s. l g (in_updated views d g s)))
   first_said AttrAttr h l = by (attributes_of c) refl
     where

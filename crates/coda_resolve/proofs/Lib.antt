@@ -8,13 +8,13 @@ pub mod There
 pub mod Told
 pub mod Logged
 pub mod Once
+mod Elsewhere
 pub mod Apart
 pub mod Trees
 mod Walked
 mod Complete
 mod Single
 pub mod Leaders
-pub mod Past
 pub mod Settled
 mod Collected
 mod Stamped

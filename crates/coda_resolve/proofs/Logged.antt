@@ -1,18 +1,14 @@
 -- A missing update of a directory without a cause stands in a log.
-use Rattle.std.proofs.Common.{◌≡◌, ℕ, ◌+◌, ◌-◌, ◌<◌, ◌≤◌, zero, suc, Bool, true, false, cond, not, List, [], ◌∷◌, ◌++◌, Option, Some, None, refl, sym, ap, ◌∙◌, subst, map, ◌&&◌, ◌||◌, ◌⊎◌, inl, inr, ⊎_elim, arith}
+use Rattle.std.proofs.Common.{◌≡◌, ℕ, ◌+◌, ◌-◌, ◌<◌, ◌≤◌, zero, suc, Bool, true, false, cond, List, [], ◌∷◌, ◌++◌, Option, Some, None, refl, sym, ap, ◌∙◌, subst, map, ◌||◌, ◌⊎◌, inl, inr, ⊎_elim, arith}
 use Rattle.std.specs.List.{list_any, find, filter, flat_map, range_with_len}
 use Rattle.std.proofs.Math.Dec.{eqb}
-use Rattle.std.proofs.lemmas.Bool.{true≢false, leb-true, leb-false, eqb-true, and_parts, eqb-false, cases_order}
-use Rattle.coda_fid.specs.declared.fid.Fid.{Fid}
+use Rattle.std.proofs.lemmas.Bool.{true≢false, leb-true, leb-false, eqb-true, eqb-false, cases_order}
 use Rattle.coda_vv.specs.Vector.{count}
-use Rattle.coda_reslog.specs.declared.entry.ResEntry.{ResEntry}
 use Rattle.coda_reslog.specs.declared.change.Held.{Held}
-use Rattle.coda_resolve.specs.Copies.{Copies, vector_of, log_of}
-use Rattle.coda_resolve.specs.Missing.{knows, has_update, is_missing, missing, fewest, most, gaps, is_logged, servers}
-use Rattle.coda_resolve.specs.Causes.{cause}
+use Rattle.coda_resolve.specs.Copies.{Copies, vector_of}
+use Rattle.coda_resolve.specs.Missing.{knows, fewest, most, gaps, servers}
 use Rattle.coda_resolve.specs.Placement.{SomeOf, IsIn}
 use Rattle.coda_resolve.proofs.Lists.{some_none}
-use Rattle.coda_resolve.proofs.Again.{not_wrapped_so}
 
 -- ---- lists
 
@@ -121,21 +117,3 @@ is_gap copies a b origin seq ina inb low high one other =
         let p = leb-true seq (count (vector_of a) origin) one in
         let q = leb-false seq (count (vector_of b) origin) other in
         in_range (most origin copies - fewest origin copies) (fewest origin copies + 1) seq (omega arith) (omega arith)
-
--- an update that one copy has and another lacks stands among the missing ones, unless the directory has a cause
-pub stands_missing : (copies : Copies) (look : Fid → Copies) (a b : Option Held) (origin seq : ℕ) → cause copies look ≡ None → IsIn a copies → IsIn b copies → 1 ≤ origin → origin ≤ 8 → knows a origin seq ≡ true → knows b origin seq ≡ false → (u : ResEntry) × (IsIn u (missing copies) × (IsIn u (flat_map log_of copies) × ((u.origin ≡ origin) × (u.seq ≡ seq))))
-stands_missing copies look a b origin seq free ina inb low high one other =
-    let gap = is_gap copies a b origin seq ina inb low high one other in
-    let logged : is_logged copies (origin, seq) ≡ true = not_false (is_logged copies (origin, seq)) (find_passes (λ g. not (is_logged copies g)) (gaps copies) (origin, seq) (not_wrapped_so copies look free) gap) in
-    let m = any_in (λ (u : ResEntry). eqb u.origin origin && eqb u.seq seq) (flat_map log_of copies) logged in
-    let u = m.0 in
-    let is = and_parts (eqb u.origin origin) (eqb u.seq seq) m.1.1 in
-    let o : u.origin ≡ origin = eqb-true u.origin origin is.0 in
-    let s : u.seq ≡ seq = eqb-true u.seq seq is.1 in
-    let yes_one : has_update u a ≡ true = (λ i. knows a (o i) (s i)) ∙ one in
-    let no_other : not (has_update u b) ≡ true = ap not ((λ i. knows b (o i) (s i)) ∙ other) in
-    (u, (in_filter (is_missing copies) (flat_map log_of copies) u m.1.0 (ap (λ x. x && list_any (λ copy. not (has_update u copy)) copies) (in_any (has_update u) copies a ina yes_one) ∙ in_any (λ copy. not (has_update u copy)) copies b inb no_other), (m.1.0, (o, s))))
-  where
-    not_false : (b : Bool) → not b ≡ false → b ≡ true
-    not_false true e = refl
-    not_false false e = absurd (true≢false e)

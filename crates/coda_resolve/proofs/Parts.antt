@@ -19,7 +19,7 @@ use Rattle.coda_resolve.specs.Survey.{AreOthers}
 use Rattle.coda_resolve.specs.Taken.{fids_of, AreFates}
 use Rattle.coda_resolve.specs.Reached.{IsReached, start, onward, AreReached}
 use Rattle.coda_resolve.specs.Resolution.{Objects, Replicas, fate_at, IsTakenUp, at_root, has_in}
-use Rattle.coda_resolve.specs.Placement.{IsIn, AreOfOneHistory}
+use Rattle.coda_resolve.specs.Placement.{IsIn, AreTreesOfOneKind}
 use Rattle.coda_resolve.specs.Outcome.{taken_up, levels_of}
 use Rattle.coda_resolve.specs.Trees.{KeepsOwn, marked_there, further, IsInstalled}
 use Rattle.coda_resolve.specs.Changes.{is_among, changed, node_of, IsChange}
@@ -39,7 +39,7 @@ none_of : {X : Type 0} (o : Option X) → is_some o ≡ false → o ≡ None
 none_of None e = refl
 none_of (Some x) e = absurd (true≢false e)
 
-module _ (views : Replicas) (root : Fid) (view : Objects) (history : AreOfOneHistory views root) (inview : IsIn view views) (objects : List Fid) (all : objects ≡ taken_up views root) where
+module _ (views : Replicas) (root : Fid) (view : Objects) (history : AreTreesOfOneKind views root) (inview : IsIn view views) (objects : List Fid) (all : objects ≡ taken_up views root) where
   -- the objects are those that are taken up
   pub taken_among : (f : Fid) → IsTakenUp views root f → is_among objects f ≡ true
   taken_among f up = ap (λ fids. is_among fids f) all ∙ in_among (taken_up views root) f (taken_up_is_met views root f history up)
@@ -186,7 +186,7 @@ is_marked_among views (t ∷ objects) f why are e is = by (is_mark t.fate) refl 
     by true at more = ⊎_elim (λ same. ap (λ b. b || is_among (marked_among objects) f) same) (λ rest. or_right (same_fid f t.fid) (is_among (marked_among objects) f) (more rest is)) (or_cases (same_fid f t.fid) (is_among (fids_of objects) f) e)
     by false at more = ⊎_elim (λ same. absurd (true≢false (sym (mark_here same) ∙ at))) (λ rest. more rest is) (or_cases (same_fid f t.fid) (is_among (fids_of objects) f) e)
 
-pub part_from : (views : Replicas) (root : Fid) (view : Objects) → AreOfOneHistory views root → IsIn view views → (fids : List Fid) (others : List Taken) → fids ≡ taken_up views root → AreOthers views fids others → (change : Change) (held : BTreeMap Fid Held) (touched : List Fid) (seen : BTreeSet Fid) (left : Fid → Bool) (marks : List Fid) → marks ≡ marked_among others → AreReached view marks seen → ((f : Fid) → left f ≡ (has_fid seen f || is_among fids f)) → AreRenewed views view (fids_of others) held touched → is_sorted fid_cmp change.held ≡ true → ((f : Fid) → finmap.get (objects_in change.held) f ≡ get fid_cmp held f) → change.gone ≡ filter (λ f. not (left f)) (finmap.keys view) → IsPart views root view change (touched ++ change.gone)
+pub part_from : (views : Replicas) (root : Fid) (view : Objects) → AreTreesOfOneKind views root → IsIn view views → (fids : List Fid) (others : List Taken) → fids ≡ taken_up views root → AreOthers views fids others → (change : Change) (held : BTreeMap Fid Held) (touched : List Fid) (seen : BTreeSet Fid) (left : Fid → Bool) (marks : List Fid) → marks ≡ marked_among others → AreReached view marks seen → ((f : Fid) → left f ≡ (has_fid seen f || is_among fids f)) → AreRenewed views view (fids_of others) held touched → is_sorted fid_cmp change.held ≡ true → ((f : Fid) → finmap.get (objects_in change.held) f ≡ get fid_cmp held f) → change.gone ≡ filter (λ f. not (left f)) (finmap.keys view) → IsPart views root view change (touched ++ change.gone)
 part_from views root view history inview fids others all are change held touched seen left marks marks_are reached left_are renewed up same gone =
     part_made views root view history inview fids all change held touched left (renewed_all views view fids others held touched inview are renewed) up same gone
     (λ f e. ⊎_elim (λ s. from_reached f (reached.only f s)) (λ a. inl (taken f a)) (or_cases (has_fid seen f) (is_among fids f) (sym (left_are f) ∙ e)))

@@ -1,21 +1,18 @@
 -- Lists, missing updates and the least, for the causes of a mark in words.
 use Rattle.std.proofs.Common.{◌≡◌, ◌≢◌, Bool, true, false, cond, not, List, [], ◌∷◌, Option, Some, refl, sym, ap, ◌∙◌, subst, ◌&&◌, ◌||◌, inl, inr}
-use Rattle.std.specs.List.{list_any, list_all, find, filter, flat_map, fold, zip}
+use Rattle.std.specs.List.{list_any, list_all, find, filter, flat_map, fold}
 use Rattle.std.specs.declared.cmp.Ordering.{Ordering}
 use Rattle.std.specs.declared.cmp.Ordering.TheVariants.{Less, Equal, Greater}
 use Rattle.std.specs.Ordering.{is_lt, ordering_reverse}
 use Rattle.std.specs.Cmp.{IsTotalOrder}
-use Rattle.std.specs.FinMap as finmap
 use Rattle.std.proofs.lemmas.Bool.{true≢false, and_parts, and_from}
 use Rattle.std.proofs.lemmas.Map.Lookups.{CmpEqualImpliesEq}
-use Rattle.coda_fid.specs.declared.fid.Fid.{Fid}
 use Rattle.coda_reslog.specs.declared.entry.ResEntry.{ResEntry}
 use Rattle.coda_reslog.specs.declared.change.Held.{Held}
 use Rattle.coda_resolve.specs.Copies.{Copies, log_of}
 use Rattle.coda_resolve.specs.Missing.{has_update, is_missing, missing, leads}
 use Rattle.coda_resolve.specs.Causes.{lesser_by, least_with, least}
 use Rattle.coda_resolve.specs.Placement.{SomeOf, IsIn}
-use Rattle.coda_resolve.specs.Resolution.{Objects, Replicas, copies_at}
 use Rattle.coda_resolve.specs.FirstCause.{IsMissing}
 use Rattle.coda_resolve.proofs.Lists.{some_none}
 use Rattle.coda_resolve.proofs.Logged.{any_in, in_any, in_filter, in_flat}
@@ -164,16 +161,3 @@ module _ {X : Type 0} (cmp : X → X → Ordering) (total : IsTotalOrder cmp) (e
   pub least_is : (xs : List X) (m : X) → least cmp xs ≡ Some m → IsIn m xs × ((y : X) → IsIn y xs → cmp y m ≢ Less)
   least_is [] m e = absurd (some_none m (sym e))
   least_is (x ∷ xs) m e = folded xs x m e
-
--- ---- replicas
-
--- what two fids have at the replicas, side by side
-pub zipped : (d f : Fid) (views : Replicas) (p : Option Held × Option Held) → IsIn p (zip (copies_at views d) (copies_at views f)) → (view : Objects) × (IsIn view views × ((finmap.get view d ≡ p.0) × (finmap.get view f ≡ p.1)))
-zipped d f [] p s = absurd s
-zipped d f (view ∷ views) p (inl is) = (view, (inl refl, (ap (λ (q : Option Held × Option Held). q.0) is, ap (λ (q : Option Held × Option Held). q.1) is)))
-zipped d f (view ∷ views) p (inr s) = let m = zipped d f views p s in (m.0, (inr m.1.0, m.1.1))
-
-pub in_zip : (d f : Fid) (views : Replicas) (view : Objects) → IsIn view views → IsIn (finmap.get view d, finmap.get view f) (zip (copies_at views d) (copies_at views f))
-in_zip d f [] view s = absurd s
-in_zip d f (v ∷ views) view (inl is) = inl (λ i. (finmap.get (is i) d, finmap.get (is i) f))
-in_zip d f (v ∷ views) view (inr s) = inr (in_zip d f views view s)

@@ -12,11 +12,11 @@ use Rattle.coda_resolve.specs.Causes.{times, is_double}
 use Rattle.coda_resolve.specs.Merged.{merged_bindings}
 use Rattle.coda_resolve.specs.Settling.{Fate, Same, Marked, Gone}
 use Rattle.coda_resolve.specs.Resolution.{Replicas, copies_at, fate_at}
-use Rattle.coda_resolve.specs.Placement.{IsIn, AreOfOneHistory}
+use Rattle.coda_resolve.specs.Placement.{IsIn, AreTreesOfOneKind}
 use Rattle.coda_resolve.specs.Outcome.{next_up, walk, levels_of, taken_up}
 use Rattle.coda_resolve.proofs.Again.{single}
 use Rattle.coda_resolve.proofs.Apart.{bind_apart, no_cause_of, merged_of}
-use Rattle.coda_resolve.proofs.Complete.{IsNext, At, Down, one_fid, one_fid_is, one_itself, at_taken, one_depth, all_from_in}
+use Rattle.coda_resolve.proofs.Complete.{IsNext, At, Down, one_fid, one_fid_is, one_itself, one_depth, all_from_in}
 use Rattle.coda_resolve.proofs.Logged.{filter_passes}
 use Rattle.coda_resolve.proofs.Walked.{value_at}
 
@@ -88,7 +88,7 @@ all_at_in P (y ∷ xs) x a (inr s) = all_at_in P xs x a.1 s
 
 -- ---- the walk
 
-module _ (views : Replicas) (root : Fid) (history : AreOfOneHistory views root) where
+module _ (views : Replicas) (root : Fid) (history : AreTreesOfOneKind views root) where
   pub next_from : (g h : Fid) → IsIn h (next_up (fate_at views g)) → IsNext views g h
   next_from g h s = by (fate_at views g) refl s
     where
@@ -121,7 +121,7 @@ module _ (views : Replicas) (root : Fid) (history : AreOfOneHistory views root) 
   one_above k (suc j) g h x a b c d =
       let m = last_step j g x c in
       let n = last_step j h x d in
-      let same : m.0 ≡ n.0 = bind_apart views root m.0 n.0 x m.1.1.name n.1.1.name m.1.1.held n.1.1.held history (at_taken views root (k + j) m.0 (at_below k j g m.0 a m.1.0)) (at_taken views root (k + j) n.0 (at_below k j h n.0 b n.1.0)) m.1.1.same n.1.1.same m.1.1.bound n.1.1.bound in
+      let same : m.0 ≡ n.0 = bind_apart views root m.0 n.0 x m.1.1.name n.1.1.name m.1.1.held n.1.1.held history m.1.1.same n.1.1.same m.1.1.bound n.1.1.bound in
       one_above k j g h n.0 a b (subst (Down views j g) same m.1.0) n.1.0
 
   -- what a directory binds that is the same everywhere it binds once
@@ -133,7 +133,7 @@ module _ (views : Replicas) (root : Fid) (history : AreOfOneHistory views root) 
           let m = value_at (bindings held.node.kind) f s in
           let free = no_cause_of (copies_at views g) (copies_at views) held m.0 f (history.kinds g) e m.1 in
           let is = merged_of (copies_at views g) (copies_at views) held m.0 f (history.kinds g) e m.1 in
-          let double = filter_passes (is_double (copies_at views g)) (finmap.values (merged_bindings (copies_at views g))) f (single (copies_at views g) (copies_at views) free) (subst (λ b. IsIn f (finmap.values b)) (sym is) s) in
+          let double = filter_passes (is_double (copies_at views g) (copies_at views)) (finmap.values (merged_bindings (copies_at views g))) f (single (copies_at views g) (copies_at views) free) (subst (λ b. IsIn f (finmap.values b)) (sym is) s) in
           let less : times f (finmap.values (merged_bindings (copies_at views g))) < 2 = leb-false 2 (times f (finmap.values (merged_bindings (copies_at views g)))) (left _ _ double) in
           subst (λ b. times f (finmap.values b) < 2) is less
         where
@@ -193,5 +193,5 @@ module _ (views : Replicas) (root : Fid) (history : AreOfOneHistory views root) 
     each_distinct levels (suc k) (next_up (fate_at views g)) (next_distinct k g a) (λ h s. (g, (next_from g h s, a))) (λ h b. walk_distinct levels (suc k) h b),
   )
 
-pub met_once : (views : Replicas) (root : Fid) → AreOfOneHistory views root → IsDistinct one_fid (taken_up views root)
+pub met_once : (views : Replicas) (root : Fid) → AreTreesOfOneKind views root → IsDistinct one_fid (taken_up views root)
 met_once views root history = walk_distinct views root history (levels_of views) 0 root refl

@@ -3,7 +3,7 @@ use Rattle.std.proofs.Common.{◌≡◌, ◌<◌, ◌≤◌, ◌+◌, ◌-◌, �
 use Rattle.std.specs.List.{flat_map, AllByRecursion}
 use Rattle.coda_fid.specs.declared.fid.Fid.{Fid}
 use Rattle.coda_resolve.specs.Resolution.{Replicas, fate_at}
-use Rattle.coda_resolve.specs.Placement.{IsIn, AreOfOneHistory}
+use Rattle.coda_resolve.specs.Placement.{IsIn, AreTreesOfOneKind}
 use Rattle.coda_resolve.specs.Outcome.{next_up, walk, levels_of, taken_up}
 use Rattle.std.proofs.lemmas.List.{reverse-append, map-append, length-map}
 use Rattle.std.proofs.Math.Seq.{drop-cons}
@@ -31,7 +31,7 @@ flat_both f (x ∷ xs) ys = ap (λ rest. f x ++ rest) (flat_both f xs ys) ∙ sy
 abbrev pub AllBelow : Replicas → Fid → List Fid → Type 0
 AllBelow views root fids = AllByRecursion (λ g. (k : ℕ) × At views root k g) fids
 
-module _ (views : Replicas) (root : Fid) (history : AreOfOneHistory views root) where
+module _ (views : Replicas) (root : Fid) (history : AreTreesOfOneKind views root) where
   -- further levels add nothing where all levels are there
   enough : (levels k : ℕ) (g : Fid) → At views root k g → levels_of views ≤ levels + k → walk levels views g ≡ walk (suc levels) views g
   enough zero k g a le = let lt = not_deep views root history k g a in absurd (omega arith)

@@ -15,8 +15,8 @@ use Rattle.coda_resolve.specs.Merged.{same_binding, shared, agreed, is_on, bindi
 use Rattle.coda_resolve.specs.Causes.{cause}
 use Rattle.coda_resolve.specs.Settling.{Same, dominating, fate_by, fate_from, fate}
 use Rattle.coda_resolve.specs.Settled.{IsEqualOrMarked}
-use Rattle.coda_resolve.specs.Resolution.{Replicas, copies_at, IsTakenUp, at_root, below, IsResolved, IsTreeView, AreTrees}
-use Rattle.coda_resolve.specs.Placement.{SomeOf}
+use Rattle.coda_resolve.specs.Resolution.{Objects, Replicas, copies_at, IsTakenUp, at_root, below, IsResolved, IsTreeView, AreTrees}
+use Rattle.coda_resolve.specs.Placement.{IsIn, SomeOf}
 use Rattle.coda_resolve.proofs.Lists.{some_none}
 use Rattle.coda_resolve.proofs.MergedNames.{among, get_made}
 use Rattle.coda_resolve.proofs.Settled.{equal_or_marked}
@@ -108,6 +108,17 @@ pub taken_up_is_there : (views : Replicas) (root : Fid) → AreTrees root views 
 taken_up_is_there [] root trees g up e = trees
 taken_up_is_there (view ∷ views) root trees g (at_root f is) e = true≢false (sym (trees.0.rooted) ∙ ap is_some (ap (finmap.get view) (sym is) ∙ (none_first (finmap.get view f) (copies_at views f) e).0))
 taken_up_is_there (view ∷ views) root trees g (below d n f held same is up) e = there root d f n (view ∷ views) trees (fate_bound (copies_at (view ∷ views) d) (copies_at (view ∷ views)) held n f same is) e
+
+-- ---- replicas
+
+tree_in : (root : Fid) (view : Objects) (views : Replicas) → AllByRecursion (IsTreeView root) views → IsIn view views → IsTreeView root view
+tree_in root view [] trees s = absurd s
+tree_in root view (v ∷ views) trees (inl is) = subst (IsTreeView root) is trees.0
+tree_in root view (v ∷ views) trees (inr s) = tree_in root view views trees.1 s
+
+pub tree_of : (root : Fid) (view : Objects) (views : Replicas) → AreTrees root views → IsIn view views → IsTreeView root view
+tree_of root view [] trees s = absurd s
+tree_of root view (v ∷ views) trees s = tree_in root view (v ∷ views) trees s
 
 pub taken_up_equal_or_marked : (views later : Replicas) (root f : Fid) → AreTrees root views → IsResolved views root later → IsTakenUp views root f → IsEqualOrMarked (copies_at later f)
 taken_up_equal_or_marked views later root f trees resolved up =

@@ -1,7 +1,6 @@
 -- A replica is a tree again after a resolution.
-use Rattle.std.proofs.Common.{◌≡◌, true, [], ◌∷◌, Option, Some, None, is_some, refl, sym, ap, ◌∙◌, subst, ◌⊎◌, inl, inr, ⊎_elim}
+use Rattle.std.proofs.Common.{◌≡◌, true, Option, Some, None, is_some, refl, sym, ap, ◌∙◌, subst, ◌⊎◌, inl, inr, ⊎_elim}
 use Rattle.std.specs.FinMap as finmap
-use Rattle.std.specs.List.{AllByRecursion}
 use Rattle.std.proofs.lemmas.Bool.{true≢false}
 use Rattle.coda_fid.specs.Name.{name_cmp}
 use Rattle.coda_fid.specs.declared.fid.Fid.{Fid}
@@ -14,25 +13,16 @@ use Rattle.coda_reslog.specs.declared.change.Held.{Held}
 use Rattle.coda_resolve.specs.declared.why.Why.{Why}
 use Rattle.coda_resolve.specs.Copies.{bindings_of, first_some}
 use Rattle.coda_resolve.specs.Settling.{Fate, Same, Marked, Gone, settled_copy, stand_in_by}
-use Rattle.coda_resolve.specs.Resolution.{Objects, Replicas, copies_at, fate_at, IsTakenUp, at_root, below, IsTreeView, AreTrees, has_in, child_in}
-use Rattle.coda_resolve.specs.Placement.{IsIn, AreOfOneHistory}
+use Rattle.coda_resolve.specs.Resolution.{Objects, Replicas, copies_at, fate_at, IsTakenUp, at_root, below, IsTreeView, has_in, child_in}
+use Rattle.coda_resolve.specs.Placement.{IsIn, AreTreesOfOneKind}
 use Rattle.coda_resolve.specs.Trees.{KeepsOwn, marked_there, further, IsInstalled}
 use Rattle.coda_resolve.proofs.Lists.{some_none}
 use Rattle.coda_resolve.proofs.Whole.{gone_absent}
 use Rattle.coda_resolve.proofs.Twice.{is_same}
-use Rattle.coda_resolve.proofs.There.{Binds, fate_bound, taken_up_is_there}
+use Rattle.coda_resolve.proofs.There.{Binds, fate_bound, taken_up_is_there, tree_of}
 use Rattle.coda_resolve.proofs.Apart.{bind_alone, some_view, bind_once}
 
 -- ---- views
-
-tree_in : (root : Fid) (view : Objects) (views : Replicas) → AllByRecursion (IsTreeView root) views → IsIn view views → IsTreeView root view
-tree_in root view [] trees s = absurd s
-tree_in root view (v ∷ views) trees (inl is) = subst (IsTreeView root) is trees.0
-tree_in root view (v ∷ views) trees (inr s) = tree_in root view views trees.1 s
-
-pub tree_of : (root : Fid) (view : Objects) (views : Replicas) → AreTrees root views → IsIn view views → IsTreeView root view
-tree_of root view [] trees s = absurd s
-tree_of root view (v ∷ views) trees s = tree_in root view (v ∷ views) trees s
 
 pub held_where : (copy : Option Held) (n : Name) (f : Fid) → finmap.get (bindings_of copy) n ≡ Some f → (held : Held) × (copy ≡ Some held)
 held_where None n f e = absurd (some_none f (sym e ∙ finmap.get-empty name_cmp n))
@@ -60,21 +50,21 @@ settled_binds (Marked why) (Some low) None n f there e = absurd (stand_in_binds 
 settled_binds (Marked why) lowest (Some own) n f there e = inr (why, (refl, e))
 settled_binds Gone lowest copy n f there e = absurd (there refl)
 
-module _ (views : Replicas) (root : Fid) (view : Objects) (history : AreOfOneHistory views root) (inview : IsIn view views) where
+module _ (views : Replicas) (root : Fid) (view : Objects) (history : AreTreesOfOneKind views root) (inview : IsIn view views) where
   -- nothing that is taken up and the same everywhere stands below a marked directory
   pub own_apart : (d : Fid) → KeepsOwn views root view d → (one : Held) → IsTakenUp views root d → fate_at views d ≡ Same one → ⊥
   own_apart e (marked_there d why up is) one up_too same = true≢false (ap is_same (sym same ∙ is))
   own_apart e (further d n f keeps bound) one (at_root g is) same = (tree_of root view views history.trees inview).unbound d n (bound ∙ ap Some is)
   own_apart e (further d n f keeps bound) one (below c k g held same_c is up) same =
-      own_apart c (subst (KeepsOwn views root view) (sym (bind_alone views root c d f k n held view history up same_c is inview bound)) keeps) held up same_c
+      own_apart c (subst (KeepsOwn views root view) (sym (bind_alone views root c d f k n held view history same_c is inview bound)) keeps) held up same_c
 
   -- nothing that is taken up is bound in a directory that keeps what it binds
   pub kept_apart : (d : Fid) (n : Name) (f : Fid) → KeepsOwn views root view d → child_in view d n ≡ Some f → IsTakenUp views root f → ⊥
   kept_apart d n g keeps bound (at_root f is) = (tree_of root view views history.trees inview).unbound d n (bound ∙ ap Some is)
   kept_apart d n g keeps bound (below c k f held same is up) =
-      own_apart c (subst (KeepsOwn views root view) (sym (bind_alone views root c d f k n held view history up same is inview bound)) keeps) held up same
+      own_apart c (subst (KeepsOwn views root view) (sym (bind_alone views root c d f k n held view history same is inview bound)) keeps) held up same
 
-module _ (views : Replicas) (root : Fid) (view after : Objects) (history : AreOfOneHistory views root) (inview : IsIn view views) (installed : IsInstalled views root view after) where
+module _ (views : Replicas) (root : Fid) (view after : Objects) (history : AreTreesOfOneKind views root) (inview : IsIn view views) (installed : IsInstalled views root view after) where
   own : IsTreeView root view
   own = tree_of root view views history.trees inview
 
@@ -137,13 +127,13 @@ module _ (views : Replicas) (root : Fid) (view after : Objects) (history : AreOf
     once = λ d n e k f is_d is_e. ⊎_elim
         (λ (m : (one : Held) × (IsTakenUp views root d × ((fate_at views d ≡ Same one) × (finmap.get (bindings one.node.kind) n ≡ Some f)))). ⊎_elim
         (λ (o : (one : Held) × (IsTakenUp views root e × ((fate_at views e ≡ Same one) × (finmap.get (bindings one.node.kind) k ≡ Some f)))).
-        bind_once views root d e f n k m.0 o.0 history m.1.0 o.1.0 m.1.1.0 o.1.1.0 m.1.1.1 o.1.1.1)
+        bind_once views root d e f n k m.0 o.0 history m.1.1.0 o.1.1.0 m.1.1.1 o.1.1.1)
         (λ (o : KeepsOwn views root view e × (child_in view e k ≡ Some f)).
-        absurd (own_apart views root view history inview d (subst (KeepsOwn views root view) (sym (bind_alone views root d e f n k m.0 view history m.1.0 m.1.1.0 m.1.1.1 inview o.1)) o.0) m.0 m.1.0 m.1.1.0))
+        absurd (own_apart views root view history inview d (subst (KeepsOwn views root view) (sym (bind_alone views root d e f n k m.0 view history m.1.1.0 m.1.1.1 inview o.1)) o.0) m.0 m.1.0 m.1.1.0))
         (child_cases e k f is_e))
         (λ (m : KeepsOwn views root view d × (child_in view d n ≡ Some f)). ⊎_elim
         (λ (o : (one : Held) × (IsTakenUp views root e × ((fate_at views e ≡ Same one) × (finmap.get (bindings one.node.kind) k ≡ Some f)))).
-        absurd (own_apart views root view history inview e (subst (KeepsOwn views root view) (sym (bind_alone views root e d f k n o.0 view history o.1.0 o.1.1.0 o.1.1.1 inview m.1)) m.0) o.0 o.1.0 o.1.1.0))
+        absurd (own_apart views root view history inview e (subst (KeepsOwn views root view) (sym (bind_alone views root e d f k n o.0 view history o.1.1.0 o.1.1.1 inview m.1)) m.0) o.0 o.1.0 o.1.1.0))
         (λ (o : KeepsOwn views root view e × (child_in view e k ≡ Some f)). own.once d n e k f m.1 o.1)
         (child_cases e k f is_e))
         (child_cases d n f is_d);

@@ -78,13 +78,21 @@ abbrev pub times : Fid → List Fid → ℕ
 times f [] = 0
 times f (g ∷ gs) = cond (same_fid f g) 1 0 + times f gs
 
--- whether the fid is bound twice, or taken out by a missing update
-abbrev pub is_double : Copies → Fid → Bool
-is_double copies f = nat_le 2 (times f (finmap.values (merged_bindings copies))) || list_any (same_fid f) (all_lost copies)
+-- whether the copy binds the fid
+abbrev pub binds_fid : Fid → Option Held → Bool
+binds_fid f copy = list_any (same_fid f) (finmap.values (bindings_of copy))
 
--- the least fid that the merged directory binds twice, or binds though a missing update took it out
-abbrev pub double_name : Copies → Option Why
-double_name copies = option_map DoubleName (least fid_cmp (filter (is_double copies) (finmap.values (merged_bindings copies))))
+-- whether a replica with these copies of the directory and of the object has the object, and doesn't bind it in the directory
+abbrev pub is_elsewhere : Fid → Option Held × Option Held → Bool
+is_elsewhere f p = is_some p.1 && not (binds_fid f p.0)
+
+-- whether the fid is bound twice, or taken out by a missing update, or some replica has it and doesn't bind it in the directory
+abbrev pub is_double : Copies → (Fid → Copies) → Fid → Bool
+is_double copies look f = nat_le 2 (times f (finmap.values (merged_bindings copies))) || (list_any (same_fid f) (all_lost copies) || list_any (is_elsewhere f) (zip copies (look f)))
+
+-- the least fid that the merged directory binds twice, or binds though a missing update took it out or though some replica has it elsewhere
+abbrev pub double_name : Copies → (Fid → Copies) → Option Why
+double_name copies look = option_map DoubleName (least fid_cmp (filter (is_double copies look) (finmap.values (merged_bindings copies))))
 
 -- whether there is a copy that binds something or has updates that the vector hasn't
 abbrev pub is_newer : Counts → Option Held → Bool
@@ -119,7 +127,7 @@ cause copies look = first_some (
     ∷ option_map (λ (gap : ℕ × ℕ). Wrapped gap.0 gap.1) (wrapped copies)
     ∷ cross_rename copies
     ∷ name_name copies
-    ∷ double_name copies
+    ∷ double_name copies look
     ∷ remove_update copies look
     ∷ attr_attr copies
     ∷ [])

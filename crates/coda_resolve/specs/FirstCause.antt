@@ -20,7 +20,7 @@ use Rattle.coda_resolve.specs.Missing.{knows, has_update}
 use Rattle.coda_resolve.specs.Merged.{merged_bindings}
 use Rattle.coda_resolve.specs.Settling.{Marked}
 use Rattle.coda_resolve.specs.Settled.{HasKind}
-use Rattle.coda_resolve.specs.Resolution.{Objects, Replicas, copies_at, fate_at}
+use Rattle.coda_resolve.specs.Resolution.{Objects, Replicas, copies_at, fate_at, child_in}
 use Rattle.coda_resolve.specs.Placement.{SomeOf, IsIn}
 use Rattle.coda_resolve.specs.Outcome.{marks_of}
 
@@ -86,6 +86,16 @@ pub record IsStillBound (copies : Copies) (f : Fid) : Type 0 where
   pub counts : Counts
   pub took : TookOut update f counts
 
+-- the merged directory would bind the object, and a replica that has it doesn't bind it in this directory: it binds it in another one
+pub record IsBoundElsewhere (views : Replicas) (d f : Fid) : Type 0 where
+  pub name : Name
+  pub bound : finmap.get (merged_bindings (copies_at views d)) name ≡ Some f
+  pub view : Objects
+  pub replica : IsIn view views
+  pub held : Held
+  pub has : finmap.get view f ≡ Some held
+  pub unbound : (n : Name) → child_in view d n ≢ Some f
+
 -- what is held has an update that isn't among these, or binds something
 abbrev pub HasMore : Held → Counts → Type 0
 HasMore held counts = (includes counts held.vector.0 ≡ false) ⊎ ((n : Name) × ((g : Fid) × (finmap.get (bindings_of (Some held)) n ≡ Some g)))
@@ -113,7 +123,7 @@ Holds views d Kept = SomeOf (λ copy. is_marked copy ≡ true) (copies_at views 
 Holds views d (Wrapped origin seq) = IsForgotten (copies_at views d) origin seq
 Holds views d CrossRename = (u : ResEntry) × (IsMissing (copies_at views d) u × (u.kind ≡ Cross))
 Holds views d (NameName n) = IsContested (copies_at views d) n
-Holds views d (DoubleName f) = IsTwice (copies_at views d) f ⊎ IsStillBound (copies_at views d) f
+Holds views d (DoubleName f) = IsTwice (copies_at views d) f ⊎ (IsStillBound (copies_at views d) f ⊎ IsBoundElsewhere views d f)
 Holds views d (RemoveUpdate f) = IsUpdatedElsewhere views d f
 Holds views d AttrAttr = AreAttributesContested (copies_at views d)
 Holds views d FileFile = ⊥

@@ -10,7 +10,7 @@ use Rattle.coda_resolve.specs.declared.why.Mark.{Mark}
 use Rattle.coda_resolve.specs.Copies.{Copies}
 use Rattle.coda_resolve.specs.Settling.{Fate, Same, Marked, Gone, is_new}
 use Rattle.coda_resolve.specs.Resolution.{Replicas, copies_at, fate_at, IsTakenUp}
-use Rattle.coda_resolve.specs.Placement.{IsIn, AreOfOneHistory}
+use Rattle.coda_resolve.specs.Placement.{IsIn, AreTreesOfOneKind}
 
 -- ---- the walk
 
@@ -48,8 +48,8 @@ marks_of views root = filter_map (λ f. mark_by (copies_at views f) f (fate_at v
 
 -- ---- the law of the walk
 
--- the walk meets nothing but what is taken up, and of replicas of one history all of it, each object once
+-- the walk meets nothing but what is taken up, and of trees of one kind all of it, each object once
 pub record WalkIsTakenUp : Type 0 where
   pub nothing_else : (views : Replicas) (root f : Fid) → IsIn f (taken_up views root) → IsTakenUp views root f
-  pub all : (views : Replicas) (root f : Fid) → AreOfOneHistory views root → IsTakenUp views root f → IsIn f (taken_up views root)
-  pub once : (views : Replicas) (root : Fid) → AreOfOneHistory views root → IsDistinct (eq_by_cmp fid_cmp) (taken_up views root)
+  pub all : (views : Replicas) (root f : Fid) → AreTreesOfOneKind views root → IsTakenUp views root f → IsIn f (taken_up views root)
+  pub once : (views : Replicas) (root : Fid) → AreTreesOfOneKind views root → IsDistinct (eq_by_cmp fid_cmp) (taken_up views root)

@@ -10,13 +10,13 @@ use Rattle.coda_resolve.specs.Copies.{Copies, is_marked, log_of}
 use Rattle.coda_resolve.specs.Lasts.{joined_lasts}
 use Rattle.coda_resolve.specs.Merged.{stands_in, followed_by, log_of_copies}
 use Rattle.coda_resolve.specs.Outcome.{marks_of}
-use Rattle.coda_resolve.specs.Placement.{IsIn, AreOfOneHistory}
+use Rattle.coda_resolve.specs.Placement.{IsIn, AreTreesOfOneKind}
 use Rattle.coda_resolve.specs.Resolution.{Replicas, copies_at, fate_at, IsTakenUp}
 use Rattle.coda_resolve.specs.Settling.{Marked}
 
 -- an object that is taken up and marked was marked at all replicas before, or it is among the new marks, with its cause
 abbrev pub MarksAreTold : Type 0
-MarksAreTold = (views : Replicas) (root f : Fid) (why : Why) → AreOfOneHistory views root → IsTakenUp views root f → fate_at views f ≡ Marked why → (list_all is_marked (copies_at views f) ≡ true) ⊎ IsIn (record { fid = f; why = why }) (marks_of views root)
+MarksAreTold = (views : Replicas) (root f : Fid) (why : Why) → AreTreesOfOneKind views root → IsTakenUp views root f → fate_at views f ≡ Marked why → (list_all is_marked (copies_at views f) ≡ true) ⊎ IsIn (record { fid = f; why = why }) (marks_of views root)
 
 -- of each decision that is known one of the same client with a number at least as great is among the joined ones
 abbrev pub GreatestAreJoined : Type 0

@@ -81,9 +81,9 @@ fn late_cause(
     requires order { AreInOrder views.now }
     requires updates { lent updates.now ≡ missing (map option_copied copies.now) }
     requires entries { entries.now ≡ merged_bindings (map option_copied copies.now) }
-    ensures { IfOk result (λ why. why ≡ first_some (double_name (map option_copied copies.now) ∷ remove_update (map option_copied copies.now) (copies_at (replicas_of views.now)) ∷ [])) }
+    ensures { IfOk result (λ why. why ≡ first_some (double_name (map option_copied copies.now) (copies_at (replicas_of views.now)) ∷ remove_update (map option_copied copies.now) (copies_at (replicas_of views.now)) ∷ [])) }
 {
-    if let Some(fid) = least_double(alloc, entries, updates)? {
+    if let Some(fid) = least_double(alloc, views, copies, entries, updates)? {
         return Ok(Some(Why::DoubleName(fid)));
     }
     match least_updated(alloc, views, copies, updates)? {
@@ -148,7 +148,7 @@ fn entries_fate(
     requires order { AreInOrder views.now }
     requires updates { lent updates.now ≡ missing (map option_copied copies.now) }
     requires entries { entries ≡ merged_bindings (map option_copied copies.now) }
-    ensures { IfOk result (λ fate. fate ≡ dir_fate (map option_copied copies.now) (first_some (double_name (map option_copied copies.now) ∷ remove_update (map option_copied copies.now) (copies_at (replicas_of views.now)) ∷ attr_attr (map option_copied copies.now) ∷ [])) (attributes_of (map option_copied copies.now))) }
+    ensures { IfOk result (λ fate. fate ≡ dir_fate (map option_copied copies.now) (first_some (double_name (map option_copied copies.now) (copies_at (replicas_of views.now)) ∷ remove_update (map option_copied copies.now) (copies_at (replicas_of views.now)) ∷ attr_attr (map option_copied copies.now) ∷ [])) (attributes_of (map option_copied copies.now))) }
 {
     match late_cause(alloc, views, copies, updates, &entries)? {
         Some(why) => Ok(Fate::Marked(why)),
@@ -165,7 +165,7 @@ fn names_fate(
 ) -> Result<Fate, AllocError>
     requires order { AreInOrder views.now }
     requires updates { lent updates.now ≡ missing (map option_copied copies.now) }
-    ensures { IfOk result (λ fate. fate ≡ dir_fate (map option_copied copies.now) (first_some (name_name (map option_copied copies.now) ∷ double_name (map option_copied copies.now) ∷ remove_update (map option_copied copies.now) (copies_at (replicas_of views.now)) ∷ attr_attr (map option_copied copies.now) ∷ [])) (attributes_of (map option_copied copies.now))) }
+    ensures { IfOk result (λ fate. fate ≡ dir_fate (map option_copied copies.now) (first_some (name_name (map option_copied copies.now) ∷ double_name (map option_copied copies.now) (copies_at (replicas_of views.now)) ∷ remove_update (map option_copied copies.now) (copies_at (replicas_of views.now)) ∷ attr_attr (map option_copied copies.now) ∷ [])) (attributes_of (map option_copied copies.now))) }
 {
     let claims = claims(alloc, copies, updates)?;
     match name_cause(&claims, copies, updates)? {

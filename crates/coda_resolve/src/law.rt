@@ -2,11 +2,10 @@ ghost use Rattle.coda_resolve.specs.Settled.{ResolvedAreEqualOrMarked, ResolvedS
 ghost use Rattle.coda_resolve.specs.Resolution.{TakenUpAreEqualOrMarked, SecondChangesNothing};
 ghost use Rattle.coda_resolve.specs.Placement.{SettledBindApart, SettledBindAlone, LeadersHaveAll};
 ghost use Rattle.coda_resolve.specs.Trees.{TreesStayTrees};
-ghost use Rattle.coda_resolve.specs.Past.{RecalledAreOfOneHistory};
 ghost use Rattle.coda_resolve.specs.Outcome.{WalkIsTakenUp};
 ghost use Rattle.coda_resolve.specs.Told.{MarksAreTold, GreatestAreJoined, MergedLogsKeepTheLatest};
 ghost use Rattle.coda_resolve.specs.FirstCause.{MarksNameTheFirstCause};
-ghost use Rattle.coda_resolve.specs.Outcomes.{ChangesLeaveEqualOrMarked, ChangesKeepOneHistory, SecondOutcomeIsNothing};
+ghost use Rattle.coda_resolve.specs.Outcomes.{ChangesLeaveEqualOrMarked, ChangesKeepTreesOfOneKind, SecondOutcomeIsNothing};
 
 /// A law of resolution: an object that some replica has is the same at all replicas after its
 /// resolution, or marked at all of them (Kumar and Satyanarayanan 1993).
@@ -38,33 +37,27 @@ pub fn second_changes_nothing()
     ensures { SecondChangesNothing }
 {}
 
-/// A law of resolution: of replicas of one history, no two directories that are the same everywhere
+/// A law of resolution: of replicas that are trees of one kind, no two directories that are the same everywhere
 /// after a resolution bind one object.
 pub fn settled_bind_apart()
     ensures { SettledBindApart }
 {}
 
-/// A law of resolution: no replica of one history binds an object in another directory than the one that
-/// is the same everywhere after the resolution and binds it.
+/// A law of resolution: none of the replicas, where they are trees of one kind, binds an object in another directory
+/// than the one that is the same everywhere after the resolution and binds it.
 pub fn settled_bind_alone()
     ensures { SettledBindAlone }
 {}
 
-/// A law of resolution: each replica of one history is a tree again after a resolution.
+/// A law of resolution: each of the replicas, where they are trees of one kind, is a tree again after a resolution.
 pub fn trees_stay_trees()
     ensures { TreesStayTrees }
 {}
 
-/// A law of resolution: the walk in path order meets nothing but what is taken up, and of replicas of one
-/// history all of it, each object once.
+/// A law of resolution: the walk in path order meets nothing but what is taken up, and of replicas that are trees of
+/// one kind all of it, each object once.
 pub fn walk_is_taken_up()
     ensures { WalkIsTakenUp }
-{}
-
-/// A law of resolution: replicas that are placed, and remember what took out what they lost, are of one
-/// history.
-pub fn recalled_are_of_one_history()
-    ensures { RecalledAreOfOneHistory }
 {}
 
 /// A law of resolution: the missing updates of a kind that a copy has contain every other copy's just where
@@ -80,10 +73,10 @@ pub fn changes_leave_equal_or_marked()
     ensures { ChangesLeaveEqualOrMarked }
 {}
 
-/// A law of resolution: after the changes that `merge` makes of replicas of one history, they are of one history again;
-/// so each is a tree.
-pub fn changes_keep_one_history()
-    ensures { ChangesKeepOneHistory }
+/// A law of resolution: at whichever replicas the changes that `merge` makes of trees of one kind are installed, the
+/// replicas are trees of one kind again.
+pub fn changes_keep_trees_of_one_kind()
+    ensures { ChangesKeepTreesOfOneKind }
 {}
 
 /// A law of resolution: a second `merge` right after the changes of a first has no change, no mark, and touches nothing.
@@ -91,7 +84,7 @@ pub fn second_outcome_is_nothing()
     ensures { SecondOutcomeIsNothing }
 {}
 
-/// A law of resolution: of replicas of one history, an object that a resolution takes up and marks was marked
+/// A law of resolution: of replicas that are trees of one kind, an object that a resolution takes up and marks was marked
 /// at all of them before, or it is among the new marks, with the cause.
 pub fn marks_are_told()
     ensures { MarksAreTold }
@@ -111,7 +104,8 @@ pub fn merged_logs_keep_the_latest()
 
 /// A law of resolution: a directory is marked for a cause just where that is the first of the table that holds, and the new marks
 /// name it. A mark that is there comes first, then an update that no log has any more, a move between directories, a name, an
-/// object that would be bound twice or though it was taken out, one that was taken out and updated elsewhere, and attributes.
+/// object that would be bound twice, or though it was taken out or a replica has it elsewhere, one that was taken out and updated
+/// elsewhere, and attributes.
 pub fn marks_name_the_first_cause()
     ensures { MarksNameTheFirstCause }
 {}

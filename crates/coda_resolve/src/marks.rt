@@ -2,7 +2,7 @@ ghost use Rattle.std.specs.Prelude.{◌≡◌, ◌++◌, not, option_copied, map
 ghost use Rattle.std.specs.List.{list_any};
 ghost use Rattle.coda_resolve.specs.Copies.{is_marked};
 ghost use Rattle.coda_resolve.specs.Outcome.{mark_by, marks_of};
-ghost use Rattle.coda_resolve.specs.Placement.{AreOfOneHistory};
+ghost use Rattle.coda_resolve.specs.Placement.{AreTreesOfOneKind};
 ghost use Rattle.coda_resolve.specs.Resolution.{copies_at};
 ghost use Rattle.coda_resolve.specs.Survey.{marks_among};
 ghost use Rattle.coda_resolve.specs.Views.{replicas_of, AreInOrder};
@@ -84,14 +84,14 @@ pub(crate) fn marks_among(
 
 /// The marks that a resolution makes anew, in path order.
 ///
-/// That they are all of them holds of replicas of one history.
+/// That they are all of them holds of replicas that are trees of one kind.
 ///
 /// # Errors
 ///
 /// There is no memory.
 pub fn new_marks(alloc: Global, views: &[View], root: Fid) -> Result<Vec<Mark>, AllocError>
     requires { AreInOrder views.now }
-    ensures { IfOk result (λ marks. AreOfOneHistory (replicas_of views.now) root → marks.items ≡ marks_of (replicas_of views.now) root) }
+    ensures { IfOk result (λ marks. AreTreesOfOneKind (replicas_of views.now) root → marks.items ≡ marks_of (replicas_of views.now) root) }
 {
     let objects = walk(alloc, views, root)?;
     let marks = marks_among(alloc, views, &objects)?;

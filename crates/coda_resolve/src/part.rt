@@ -8,7 +8,7 @@ ghost use Rattle.coda_fid.specs.Fid.{fid_cmp};
 ghost use Rattle.coda_fid.specs.declared.fid.Fid.{Fid};
 ghost use Rattle.coda_resolve.specs.Counted.{has_fid, has_hashed};
 ghost use Rattle.coda_resolve.specs.Outcome.{taken_up};
-ghost use Rattle.coda_resolve.specs.Placement.{IsIn, AreOfOneHistory};
+ghost use Rattle.coda_resolve.specs.Placement.{IsIn, AreTreesOfOneKind};
 ghost use Rattle.coda_resolve.specs.Resolution.{Objects, Replicas};
 ghost use Rattle.coda_resolve.specs.Changes.{is_among};
 ghost use Rattle.coda_resolve.specs.Renewals.{IsRenewal, left_at, AreRenewed, is_mark, marked_among, IsPart};
@@ -249,7 +249,7 @@ pub(crate) fn part_of(
     requires changed { ArePlain (replicas_of views.now) changed.now }
     requires others { AreOthersBut (replicas_of views.now) changed.now survey.now.fids.items survey.now.others.items }
     requires own { AreRenewed (replicas_of views.now) (objects_of view.now) changed.now own.held own.touched.items }
-    ensures { IfOk result (λ part. (root : Fid) → AreOfOneHistory (replicas_of views.now) root → survey.now.fids.items ≡ taken_up (replicas_of views.now) root → IsIn (objects_of view.now) (replicas_of views.now) → IsPart (replicas_of views.now) root (objects_of view.now) part.change part.touched.items) }
+    ensures { IfOk result (λ part. (root : Fid) → AreTreesOfOneKind (replicas_of views.now) root → survey.now.fids.items ≡ taken_up (replicas_of views.now) root → IsIn (objects_of view.now) (replicas_of views.now) → IsPart (replicas_of views.now) root (objects_of view.now) part.change part.touched.items) }
 {
     let marked = marked(alloc, &survey.others)?;
     let below = below(alloc, view, &marked)?;

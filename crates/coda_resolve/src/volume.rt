@@ -8,7 +8,7 @@ ghost use Rattle.coda_resolve.specs.Changes.{is_among, IsOutcome};
 ghost use Rattle.coda_resolve.specs.Counted.{has_fid};
 ghost use Rattle.coda_resolve.specs.Lasts.{joined_lasts};
 ghost use Rattle.coda_resolve.specs.Outcome.{taken_up};
-ghost use Rattle.coda_resolve.specs.Placement.{AreOfOneHistory};
+ghost use Rattle.coda_resolve.specs.Placement.{AreTreesOfOneKind};
 ghost use Rattle.coda_resolve.specs.Renewals.{IsPart, AreParts, changes_of};
 ghost use Rattle.coda_resolve.specs.Resolution.{Objects, Replicas};
 ghost use Rattle.coda_resolve.specs.Reading.{AreAllRenewed};
@@ -154,7 +154,7 @@ fn parts_of(
     requires others { AreOthersBut (replicas_of views.now) changed.now survey.now.fids.items survey.now.others.items }
     requires renewals { AreAllRenewed (replicas_of views.now) views.now changed.now (reverse renewals.items) }
     ensures servers { IfOk result (λ parts. map (λ (change : ℕ × Change). change.0) parts.changes.items ≡ map (λ (view : View). view.server) views.now) }
-    ensures parts { IfOk result (λ parts. (root : Fid) → AreOfOneHistory (replicas_of views.now) root → survey.now.fids.items ≡ taken_up (replicas_of views.now) root → AreParts (replicas_of views.now) root (replicas_of views.now) parts.changes.items parts.touched) }
+    ensures parts { IfOk result (λ parts. (root : Fid) → AreTreesOfOneKind (replicas_of views.now) root → survey.now.fids.items ≡ taken_up (replicas_of views.now) root → AreParts (replicas_of views.now) root (replicas_of views.now) parts.changes.items parts.touched) }
 {
     let mut changes = Vec::new(alloc);
     let mut touched = BTreeSet::new(alloc);
@@ -182,8 +182,8 @@ fn volume_of(views: &[View]) -> u32
 /// Resolves the replicas of a volume by their logs, directory by directory from the root down (Kumar and Satyanarayanan
 /// 1993).
 ///
-/// The views are of one volume, in the order of servers, each with its objects in the order of fids. Of replicas of one
-/// history the outcome is exact: each change makes of its replica what the resolution leaves of it and names nothing else,
+/// The views are of one volume, in the order of servers, each with its objects in the order of fids. Of replicas that are
+/// trees, in which an object is a directory at all that have it or at none, the outcome is exact: each change makes of its replica what the resolution leaves of it and names nothing else,
 /// the marks are the new ones in path order, and so many objects are touched. The work is linear in what each directory
 /// binds and in the entries of its logs, times a logarithm; no node is compared twice, unless copies with the same updates differ.
 ///
@@ -194,7 +194,7 @@ pub fn merge(alloc: Global, views: &[View]) -> Result<Outcome, AllocError>
     requires { AreInOrder views.now }
     ensures servers { IfOk result (λ outcome. map (λ (change : ℕ × Change). change.0) outcome.changes ≡ map (λ (view : View). view.server) views.now) }
     ensures lasts { IfOk result (λ outcome. outcome.lasts ≡ joined_lasts (flat_map (λ (view : View). view.lasts) views.now)) }
-    ensures outcome { IfOk result (λ outcome. AreOfOneHistory (replicas_of views.now) (root_of (volume_of views.now)) → IsOutcome (replicas_of views.now) (root_of (volume_of views.now)) (changes_of outcome.changes) outcome.marks outcome.touched) }
+    ensures outcome { IfOk result (λ outcome. AreTreesOfOneKind (replicas_of views.now) (root_of (volume_of views.now)) → IsOutcome (replicas_of views.now) (root_of (volume_of views.now)) (changes_of outcome.changes) outcome.marks outcome.touched) }
 {
     let mut hints = all_hints(alloc, views)?;
     let reading = read(alloc, views, &mut hints)?;

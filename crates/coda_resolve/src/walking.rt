@@ -1,7 +1,7 @@
 ghost use Rattle.std.specs.Prelude.{◌≡◌, ◌++◌, ◌∷◌, [], List, reverse, Some, IfOk, OnOk};
 ghost use Rattle.coda_fid.specs.declared.fid.Fid.{Fid};
 ghost use Rattle.coda_resolve.specs.Outcome.{next_up, taken_up};
-ghost use Rattle.coda_resolve.specs.Placement.{AreOfOneHistory};
+ghost use Rattle.coda_resolve.specs.Placement.{AreTreesOfOneKind};
 ghost use Rattle.coda_resolve.specs.Views.{replicas_of, AreInOrder};
 ghost use Rattle.coda_resolve.specs.Resolution.{Replicas, fate_at};
 ghost use Rattle.coda_resolve.specs.Reading.{AreKnown};
@@ -57,7 +57,7 @@ fn push_next(alloc: Global, stack: Vec<Fid>, fate: &Fate) -> Result<Vec<Fid>, Al
 
 /// What a resolution takes up, in path order, with what becomes of each object.
 ///
-/// That it is all of that, each object once, holds of replicas of one history; of others the walk may want memory without
+/// That it is all of that, each object once, holds of replicas that are trees of one kind; of others the walk may want memory without
 /// end. A tree may be as deep as it has objects: the walk has a stack of its own.
 ///
 /// # Errors
@@ -65,7 +65,7 @@ fn push_next(alloc: Global, stack: Vec<Fid>, fate: &Fate) -> Result<Vec<Fid>, Al
 /// There is no memory.
 pub fn walk(alloc: Global, views: &[View], root: Fid) -> Result<Vec<Taken>, AllocError>
     requires { AreInOrder views.now }
-    ensures fids { IfOk result (λ taken. AreOfOneHistory (replicas_of views.now) root → fids_of taken.items ≡ taken_up (replicas_of views.now) root) }
+    ensures fids { IfOk result (λ taken. AreTreesOfOneKind (replicas_of views.now) root → fids_of taken.items ≡ taken_up (replicas_of views.now) root) }
     ensures fates { IfOk result (λ taken. AreFates (replicas_of views.now) taken.items) }
 {
     let mut hints = all_hints(alloc, views)?;
@@ -133,7 +133,7 @@ pub(crate) fn take_up(
 ) -> Result<Survey, AllocError>
     requires order { AreInOrder views.now }
     requires known { AreKnown (replicas_of views.now) known.now.changed.items known.now.sights.items }
-    ensures fids { IfOk result (λ survey. AreOfOneHistory (replicas_of views.now) root → survey.fids.items ≡ taken_up (replicas_of views.now) root) }
+    ensures fids { IfOk result (λ survey. AreTreesOfOneKind (replicas_of views.now) root → survey.fids.items ≡ taken_up (replicas_of views.now) root) }
     ensures others { IfOk result (λ survey. AreOthersBut (replicas_of views.now) known.now.changed.items survey.fids.items survey.others.items) }
 {
     let mut hints = hints;

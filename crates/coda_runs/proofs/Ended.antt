@@ -18,7 +18,7 @@ use Rattle.coda_script.specs.declared.line.Line.{Line}
 use Rattle.coda_script.specs.declared.line.Line.TheVariants as line
 use Rattle.coda_script.specs.declared.reply.Reply.{Reply}
 use Rattle.coda_cell.specs.Asking.{Answer as ClientAnswer}
-use Rattle.coda_cell.specs.State.{put, new_replica, ClientVolume, ClientState, ReplicaState, Event, VolumeMade, ClientMade, Ticked, LinkSet, Entered, Posted, Lost, at_client}
+use Rattle.coda_cell.specs.State.{put, new_replica, ClientVolume, ClientState, ReplicaState, Event, VolumeMade, ClientMade, Ticked, LinkSet, Entered, Posted, Lost, Used, Kept, Stale, at_client}
 use Rattle.coda_cell.specs.Made.{MadeCell, client_of as made_client, replica_of, state_of, grown, grown_all}
 use Rattle.coda_cell.specs.Messages.{over, posting, going_by, sends_of, ruled_in, taken_in}
 use Rattle.coda_cell.specs.Sending.{Freezing, freezing, Ruling, ruling, Taking, taking, deeds_at, entries_at, answered_to, ruled_on, drained_of, drain}
@@ -72,6 +72,9 @@ IsFine cell (LinkSet client server strength) = Unit {0}
 IsFine cell (Entered append) = Unit {0}
 IsFine cell (Posted sent) = IsThere cell sent
 IsFine cell (Lost message) = Unit {0}
+IsFine cell (Used client fids) = Unit {0}
+IsFine cell (Kept client server fid) = Unit {0}
+IsFine cell (Stale client fids) = Unit {0}
 
 abbrev AreFine : MadeCell → List Event → Type 0
 AreFine cell [] = Unit {0}
@@ -97,6 +100,9 @@ one cell (Posted sent) fine all =
     let new = grown cell (Posted sent) in
     all_behind new cell.waiting ((cell.acted.posted + 1, sent) ∷ []) (all_stay cell new (λ other there. there) cell.waiting all) (fine, tt)
 one cell (Lost message) fine all = (let new = grown cell (Lost message) in all_without new message cell.waiting (all_stay cell new (λ sent there. there) cell.waiting all))
+one cell (Used client fids) fine all = all_stay cell (grown cell (Used client fids)) (λ sent there. there) cell.waiting all
+one cell (Kept client server fid) fine all = all_stay cell (grown cell (Kept client server fid)) (λ sent there. there) cell.waiting all
+one cell (Stale client fids) fine all = all_stay cell (grown cell (Stale client fids)) (λ sent there. there) cell.waiting all
 
 each : (cell : MadeCell) (events : List Event) → AreFine cell events → AllThere cell cell.waiting → AllThere (grown_all cell events) (grown_all cell events).waiting
 each cell [] fine all = all

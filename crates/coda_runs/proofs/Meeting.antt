@@ -10,7 +10,7 @@ use Rattle.coda_letters.specs.Sent.{without}
 use Rattle.coda_plain.specs.Cell.{Actor}
 use Rattle.coda_plain.specs.Moves.{Append, AtClient, AtReplica, grown as grown_actor, fallen}
 use Rattle.coda_plain.proofs.Soundness.{none_joins}
-use Rattle.coda_cell.specs.State.{put, later, Event, VolumeMade, ClientMade, Ticked, LinkSet, Entered, Posted, Lost}
+use Rattle.coda_cell.specs.State.{put, later, Event, VolumeMade, ClientMade, Ticked, LinkSet, Entered, Posted, Lost, Used, Kept, Stale}
 use Rattle.coda_cell.specs.Made.{MadeCell, client_of, state_of, grown, grown_all}
 use Rattle.coda_cell.specs.Runs.{IsKept}
 use Rattle.coda_cell.specs.Steps.{Does}
@@ -134,6 +134,36 @@ shows_after a b (Lost message) s = record {
   homes = s.homes;
   sizes = s.sizes;
   waiting = ap (without message) s.waiting;
+  posted = s.posted;
+  clients = s.clients;
+  replicas = s.replicas;
+}
+shows_after a b (Used client fids) s = record {
+  clock = s.clock;
+  servers = s.servers;
+  homes = s.homes;
+  sizes = s.sizes;
+  waiting = s.waiting;
+  posted = s.posted;
+  clients = s.clients;
+  replicas = s.replicas;
+}
+shows_after a b (Kept client server fid) s = record {
+  clock = s.clock;
+  servers = s.servers;
+  homes = s.homes;
+  sizes = s.sizes;
+  waiting = s.waiting;
+  posted = s.posted;
+  clients = s.clients;
+  replicas = s.replicas;
+}
+shows_after a b (Stale client fids) s = record {
+  clock = s.clock;
+  servers = s.servers;
+  homes = s.homes;
+  sizes = s.sizes;
+  waiting = s.waiting;
   posted = s.posted;
   clients = s.clients;
   replicas = s.replicas;

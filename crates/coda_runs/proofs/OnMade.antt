@@ -18,7 +18,7 @@ use Rattle.coda_script.specs.declared.line.Task.TheVariants as task
 use Rattle.coda_script.specs.declared.reply.Reply.{Reply}
 use Rattle.coda_script.specs.declared.reply.Reply.TheVariants.{Opened as IsOpened, Accepted as IsAccepted, ShowVolume as IsShown, ShowLog as LogIsShown}
 use Rattle.coda_letters.specs.Sent.{Sent, ChunkSent, AnswerSent, Waiting, lost_by, number_of, sent_at}
-use Rattle.coda_plain.specs.Cell.{ClientEntry, Fetched, Did, deed_on, deeds_of, Actor, new_actor, found, joined_to}
+use Rattle.coda_plain.specs.Cell.{ClientEntry, Fetched, Did, Dropping, deed_on, deeds_of, Actor, new_actor, found, joined_to}
 use Rattle.coda_plain.specs.Decisions.{ReplicaEntry}
 use Rattle.coda_plain.specs.Deeds.{Deed, Operated}
 use Rattle.coda_plain.specs.Moves.{Append, AtClient, AtReplica, Who, TheClient, TheReplica, Crashes, Recovers, crashed, recovered, grown as grown_actor, fallen}
@@ -31,7 +31,7 @@ use Rattle.coda_cell.specs.Made.{MadeCell, replica_of, state_of}
 use Rattle.coda_cell.specs.Messages.{over, posting, going_by, sends_of, sends, ruled_in, chunk_comes, taken_in, answer_comes}
 use Rattle.coda_cell.specs.Refused.{Refused}
 use Rattle.coda_cell.specs.Sending.{Freezing, freezing, Ruling, ruling_of, Taking, taking, deeds_at, entries_at, decides, answered_to, ruled_on, drained_of, drain}
-use Rattle.coda_cell.specs.State.{ClientVolume, ClientState, ReplicaState, CellState, Event, VolumeMade, ClientMade, Ticked, LinkSet, Entered, Posted, Lost, at_client}
+use Rattle.coda_cell.specs.State.{ClientVolume, ClientState, ReplicaState, CellState, Event, VolumeMade, ClientMade, Ticked, LinkSet, Entered, Posted, Lost, Used, Kept, Stale, at_client}
 use Rattle.coda_cell.specs.Steps.{client_named, volume_named, server_named, holder_named, on_volume, on_holder, first_missing, no_volume as no_volume_in, no_client as no_client_in, Doing, Unless, Happens as HappensOne, Says, ByClient, ByBoth, BySend, ByRuling, ByTaking, bytes_of, Comes, link_down, Delivers, Loses, alone, Does}
 use Rattle.coda_cell.proofs.Events.{are_there, all_there}
 use Rattle.coda_cell.proofs.Moving.{deeds_both}
@@ -43,8 +43,13 @@ use Rattle.coda_runs.specs.Volumes.{DidNoMore, LinesActOnMadeVolumes, ActedOnMad
 -- ---- whose deeds are on which volumes
 
 -- a deed of a client is on one of these volumes
+abbrev IsEntryOn : (ℕ → Type 0) → ClientEntry → Type 0
+IsEntryOn V (Fetched fid parent node) = Unit {0}
+IsEntryOn V (Did volume deed) = V volume
+IsEntryOn V (Dropping gone entry) = IsEntryOn V entry
+
 abbrev IsOn : (ℕ → Type 0) → Event → Type 0
-IsOn V (Entered (AtClient client (Did volume deed))) = V volume
+IsOn V (Entered (AtClient client entry)) = IsEntryOn V entry
 IsOn V event = Unit {0}
 
 abbrev AreOn : (ℕ → Type 0) → List Event → Type 0
@@ -266,6 +271,7 @@ some_home cell volume (Some home) e = refl
 deed_elsewhere : (volume : ℕ) (V : ℕ → Type 0) → (V volume → ⊥) → (client : ℕ) (entry : ClientEntry) → IsOn V (at_client client entry) → deed_on volume entry ≡ []
 deed_elsewhere volume V not client (Fetched fid parent node) on = refl
 deed_elsewhere volume V not client (Did at deed) on = ap (λ b. cond b (deed ∷ []) []) (ne_eqb volume at (λ same. not (subst V (sym same) on)))
+deed_elsewhere volume V not client (Dropping gone entry) on = deed_elsewhere volume V not client entry on
 
 -- what would be found, with an entry more that is no deed on the volume
 deeds_more : (volume : ℕ) (history : List ClientEntry) (entry : ClientEntry) → deed_on volume entry ≡ [] → deeds_of volume (history ++ entry ∷ []) ≡ deeds_of volume history
@@ -315,9 +321,13 @@ module _ (V : ℕ → Type 0) (volume : ℕ) (not : V volume → ⊥) where
   event_same cell (LinkSet c s strength) on client = same_on volume (cell.made.acted.clients client)
   event_same cell (Entered (AtClient c (Fetched fid parent node))) on client = put_same cell c (grown_actor (Fetched fid parent node) (cell.made.acted.clients c)) volume (λ joins. (joins, grown_same volume (cell.made.acted.clients c) (Fetched fid parent node) joins refl)) client
   event_same cell (Entered (AtClient c (Did v deed))) on client = put_same cell c (grown_actor (Did v deed) (cell.made.acted.clients c)) volume (λ joins. (joins, grown_same volume (cell.made.acted.clients c) (Did v deed) joins (deed_elsewhere volume V not c (Did v deed) on))) client
+  event_same cell (Entered (AtClient c (Dropping gone entry))) on client = put_same cell c (grown_actor (Dropping gone entry) (cell.made.acted.clients c)) volume (λ joins. (joins, grown_same volume (cell.made.acted.clients c) (Dropping gone entry) joins (deed_elsewhere volume V not c (Dropping gone entry) on))) client
   event_same cell (Entered (AtReplica server v entry)) on client = same_on volume (cell.made.acted.clients client)
   event_same cell (Posted sent) on client = same_on volume (cell.made.acted.clients client)
   event_same cell (Lost message) on client = same_on volume (cell.made.acted.clients client)
+  event_same cell (Used c fids) on client = same_on volume (cell.made.acted.clients client)
+  event_same cell (Kept c server fid) on client = same_on volume (cell.made.acted.clients client)
+  event_same cell (Stale c fids) on client = same_on volume (cell.made.acted.clients client)
 
   events_same : (cell : StoredCell) (events : List Event) → AreOn V events → (client : ℕ) → IsSameOn volume ((after_all cell events).made.acted.clients client) (cell.made.acted.clients client)
   events_same cell [] on client = same_on volume (cell.made.acted.clients client)
@@ -327,6 +337,7 @@ module _ (V : ℕ → Type 0) (volume : ℕ) (not : V volume → ⊥) where
   failed_same : (cell : StoredCell) (append : Append) → IsOn V (Entered append) → (client : ℕ) → IsSameOn volume ((failed cell append).made.acted.clients client) (cell.made.acted.clients client)
   failed_same cell (AtClient c (Fetched fid parent node)) on client = put_same cell c (fallen (Fetched fid parent node) (cell.made.acted.clients c)) volume (fallen_same volume (cell.made.acted.clients c) (Fetched fid parent node) refl) client
   failed_same cell (AtClient c (Did v deed)) on client = put_same cell c (fallen (Did v deed) (cell.made.acted.clients c)) volume (fallen_same volume (cell.made.acted.clients c) (Did v deed) (deed_elsewhere volume V not c (Did v deed) on)) client
+  failed_same cell (AtClient c (Dropping gone entry)) on client = put_same cell c (fallen (Dropping gone entry) (cell.made.acted.clients c)) volume (fallen_same volume (cell.made.acted.clients c) (Dropping gone entry) (deed_elsewhere volume V not c (Dropping gone entry) on)) client
   failed_same cell (AtReplica server v entry) on client = same_on volume (cell.made.acted.clients client)
 
 -- a volume that isn't made behind an event wasn't made before it
@@ -342,6 +353,9 @@ event_unmade cell (LinkSet c s strength) volume none = none
 event_unmade cell (Entered append) volume none = none
 event_unmade cell (Posted sent) volume none = none
 event_unmade cell (Lost message) volume none = none
+event_unmade cell (Used c fids) volume none = none
+event_unmade cell (Kept c server fid) volume none = none
+event_unmade cell (Stale c fids) volume none = none
 
 events_unmade : (cell : StoredCell) (events : List Event) (volume : ℕ) → (after_all cell events).made.homes volume ≡ None → cell.made.homes volume ≡ None
 events_unmade cell [] volume none = none

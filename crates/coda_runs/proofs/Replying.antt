@@ -16,7 +16,7 @@ use Rattle.coda_script.specs.declared.reply.Reply.TheVariants.{Opened, Accepted,
 use Rattle.coda_cell.specs.Refused.{Refused}
 use Rattle.coda_cell.specs.Refused.{NoSuchActor, NoMessage}
 use Rattle.coda_cell.specs.Refusing.{refusal}
-use Rattle.coda_cell.specs.State.{ClientState, CellState, Event, VolumeMade, ClientMade, Ticked, LinkSet, Entered, Posted, Lost as LetterLost, at_client}
+use Rattle.coda_cell.specs.State.{ClientState, CellState, Event, VolumeMade, ClientMade, Ticked, LinkSet, Entered, Posted, Lost as LetterLost, Used, Kept, Stale, at_client}
 use Rattle.coda_cell.specs.Asking.{Answer}
 use Rattle.coda_cell.specs.Steps.{Doing, Unless, Naming, Happens as HappensOne, ByClient, ByBoth, BySend, ByRuling, ByTaking, Comes, link_down, Delivers, Loses, Does, DoesTask, first_missing, client_named, volume_named, server_named, holder_named, on_volume, on_holder, offers_of, reply_to, alone, is_built_task}
 use Rattle.coda_letters.specs.Sent.{Sent, ChunkSent, AnswerSent, client_of as sender_of, server_of, sent_at}
@@ -128,6 +128,9 @@ none_fits cell (LinkSet client server strength ∷ events) none = (tt, none_fits
 none_fits cell (Entered append ∷ events) none = absurd none.0
 none_fits cell (Posted sent ∷ events) none = (tt, none_fits (after cell (Posted sent)) events none.1)
 none_fits cell (LetterLost message ∷ events) none = (tt, none_fits (after cell (LetterLost message)) events none.1)
+none_fits cell (Used client fids ∷ events) none = (tt, none_fits (after cell (Used client fids)) events none.1)
+none_fits cell (Kept client server fid ∷ events) none = (tt, none_fits (after cell (Kept client server fid)) events none.1)
+none_fits cell (Stale client fids ∷ events) none = (tt, none_fits (after cell (Stale client fids)) events none.1)
 
 -- no entry is among them, or there is a first one
 abbrev FirstEntry : List Event → Type 0
@@ -147,6 +150,9 @@ first_entry (Ticked seconds ∷ events) = one_more (Ticked seconds) events (tt, 
 first_entry (LinkSet client server strength ∷ events) = one_more (LinkSet client server strength) events (tt, tt) (first_entry events)
 first_entry (Posted sent ∷ events) = one_more (Posted sent) events (tt, tt) (first_entry events)
 first_entry (LetterLost message ∷ events) = one_more (LetterLost message) events (tt, tt) (first_entry events)
+first_entry (Used client fids ∷ events) = one_more (Used client fids) events (tt, tt) (first_entry events)
+first_entry (Kept client server fid ∷ events) = one_more (Kept client server fid) events (tt, tt) (first_entry events)
+first_entry (Stale client fids ∷ events) = one_more (Stale client fids) events (tt, tt) (first_entry events)
 
 -- a line may be stopped by a fault of the disk at its first entry
 ends_some : (old : StoredCell) (events : List Event) (own : Reply) → FirstEntry events → (reply : Reply) × (new : StoredCell) × EndsBy old events own reply new

@@ -13,7 +13,7 @@ use Rattle.coda_letters.specs.Sent.{sent_at}
 use Rattle.coda_plain.specs.Moves.{Append, AtClient, AtReplica, Who, TheClient, TheReplica, Crashes, Recovers}
 use Rattle.coda_cell.specs.Made.{state_of}
 use Rattle.coda_cell.specs.Refused.{Refused}
-use Rattle.coda_cell.specs.State.{put, Event, VolumeMade, ClientMade, Ticked, LinkSet, Entered, Posted, Lost}
+use Rattle.coda_cell.specs.State.{put, Event, VolumeMade, ClientMade, Ticked, LinkSet, Entered, Posted, Lost, Used, Kept, Stale}
 use Rattle.coda_cell.specs.Steps.{client_named, holder_named, on_volume, first_missing, alone, no_room}
 use Rattle.coda_stored.specs.Cells.{Side, StoredCell, nothing_stored, client_header, replica_header, disk_number, after, after_all, moved, failed}
 use Rattle.coda_stored.specs.Kept.{IsStoredKept}
@@ -292,6 +292,9 @@ event_nothing C R cell (Entered (AtClient client entry)) by = record { sizes = r
 event_nothing C R cell (Entered (AtReplica server volume entry)) by = record { sizes = refl; homes = refl; servers = refl; places = refl; areas = refl; clients = λ k. refl; replicas = λ k. refl }
 event_nothing C R cell (Posted sent) by = record { sizes = refl; homes = refl; servers = refl; places = refl; areas = refl; clients = λ k. refl; replicas = λ k. refl }
 event_nothing C R cell (Lost message) by = record { sizes = refl; homes = refl; servers = refl; places = refl; areas = refl; clients = λ k. refl; replicas = λ k. refl }
+event_nothing C R cell (Used client fids) by = record { sizes = refl; homes = refl; servers = refl; places = refl; areas = refl; clients = λ k. refl; replicas = λ k. refl }
+event_nothing C R cell (Kept client server fid) by = record { sizes = refl; homes = refl; servers = refl; places = refl; areas = refl; clients = λ k. refl; replicas = λ k. refl }
+event_nothing C R cell (Stale client fids) by = record { sizes = refl; homes = refl; servers = refl; places = refl; areas = refl; clients = λ k. refl; replicas = λ k. refl }
 
 events_nothing : (C : ℕ → Type 0) (R : ℕ → ℕ → Type 0) (cell : StoredCell) (events : List Event) → AreBy C R events → MakesNothing (after_all cell events) cell
 events_nothing C R cell [] are = nothing_same cell

@@ -15,7 +15,7 @@ use Rattle.coda_script.specs.declared.line.Line.{Line}
 use Rattle.coda_script.specs.declared.line.Line.TheVariants as line
 use Rattle.coda_script.specs.declared.reply.Reply.{Reply}
 use Rattle.coda_cell.specs.Asking.{Answer as ClientAnswer}
-use Rattle.coda_cell.specs.State.{ClientVolume, ClientState, ReplicaState, CellState, Event, VolumeMade, ClientMade, Ticked, LinkSet, Entered, Posted, Lost, at_client}
+use Rattle.coda_cell.specs.State.{ClientVolume, ClientState, ReplicaState, CellState, Event, VolumeMade, ClientMade, Ticked, LinkSet, Entered, Posted, Lost, Used, Kept, Stale, at_client}
 use Rattle.coda_cell.specs.Made.{MadeCell, grown, grown_all}
 use Rattle.coda_cell.specs.Messages.{over, posting, going_by, sends_of, ruled_in, taken_in}
 use Rattle.coda_cell.specs.Sending.{Freezing, freezing, Ruling, ruling, Taking, taking, deeds_at, entries_at, answered_to, ruled_on, drained_of, drain}
@@ -27,6 +27,9 @@ use Rattle.coda_stored.specs.Lines.{Stop}
 
 abbrev IsEntry : Event → Type 0
 IsEntry (Entered append) = Unit {0}
+IsEntry (Used client fids) = Unit {0}
+IsEntry (Kept client server fid) = Unit {0}
+IsEntry (Stale client fids) = Unit {0}
 IsEntry _ = ⊥
 
 abbrev IsNoEntry : Event → Type 0
@@ -51,6 +54,9 @@ ComeFirst (Ticked seconds ∷ events) = AreNoEntries events
 ComeFirst (LinkSet client server strength ∷ events) = AreNoEntries events
 ComeFirst (Posted sent ∷ events) = AreNoEntries events
 ComeFirst (Lost message ∷ events) = AreNoEntries events
+ComeFirst (Used client fids ∷ events) = ComeFirst events
+ComeFirst (Kept client server fid ∷ events) = ComeFirst events
+ComeFirst (Stale client fids ∷ events) = ComeFirst events
 
 -- what waits behind entries is what waited before them
 pub entries_stay : (cell : MadeCell) (events : List Event) → AreEntries events → (grown_all cell events).waiting ≡ cell.waiting
@@ -65,6 +71,9 @@ entries_stay cell (Ticked seconds ∷ events) are = absurd are.0
 entries_stay cell (LinkSet client server strength ∷ events) are = absurd are.0
 entries_stay cell (Posted sent ∷ events) are = absurd are.0
 entries_stay cell (Lost message ∷ events) are = absurd are.0
+entries_stay cell (Used client fids ∷ events) are = entries_stay (grown cell (Used client fids)) events are.1
+entries_stay cell (Kept client server fid ∷ events) are = entries_stay (grown cell (Kept client server fid)) events are.1
+entries_stay cell (Stale client fids ∷ events) are = entries_stay (grown cell (Stale client fids)) events are.1
 
 both_entries : (first rest : List Event) → AreEntries first → AreEntries rest → AreEntries (first ++ rest)
 both_entries [] rest f r = r
@@ -79,6 +88,9 @@ others_first (Ticked seconds ∷ events) are = are.1
 others_first (LinkSet client server strength ∷ events) are = are.1
 others_first (Posted sent ∷ events) are = are.1
 others_first (Lost message ∷ events) are = are.1
+others_first (Used client fids ∷ events) are = others_first events are.1
+others_first (Kept client server fid ∷ events) are = others_first events are.1
+others_first (Stale client fids ∷ events) are = others_first events are.1
 
 entries_first : (first rest : List Event) → AreEntries first → ComeFirst rest → ComeFirst (first ++ rest)
 entries_first [] rest f r = r
@@ -89,6 +101,9 @@ entries_first (Ticked seconds ∷ first) rest f r = absurd f.0
 entries_first (LinkSet client server strength ∷ first) rest f r = absurd f.0
 entries_first (Posted sent ∷ first) rest f r = absurd f.0
 entries_first (Lost message ∷ first) rest f r = absurd f.0
+entries_first (Used client fids ∷ first) rest f r = entries_first first rest f.1 r
+entries_first (Kept client server fid ∷ first) rest f r = entries_first first rest f.1 r
+entries_first (Stale client fids ∷ first) rest f r = entries_first first rest f.1 r
 
 no_entry : (done rest : List Event) (next : Append) → AreNoEntries (done ++ Entered next ∷ rest) → ⊥
 no_entry [] rest next are = are.0
@@ -104,6 +119,9 @@ before_entry (Ticked seconds ∷ done) rest next come = absurd (no_entry done re
 before_entry (LinkSet client server strength ∷ done) rest next come = absurd (no_entry done rest next come)
 before_entry (Posted sent ∷ done) rest next come = absurd (no_entry done rest next come)
 before_entry (Lost message ∷ done) rest next come = absurd (no_entry done rest next come)
+before_entry (Used client fids ∷ done) rest next come = (tt, before_entry done rest next come)
+before_entry (Kept client server fid ∷ done) rest next come = (tt, before_entry done rest next come)
+before_entry (Stale client fids ∷ done) rest next come = (tt, before_entry done rest next come)
 
 -- so where events stop at an entry, those are done
 pub stopped_entries : (events : List Event) → ComeFirst events → (stop : Stop events) → AreEntries stop.done
@@ -128,6 +146,9 @@ are_first (Ticked seconds ∷ events) are = absurd are.0
 are_first (LinkSet client server strength ∷ events) are = absurd are.0
 are_first (Posted sent ∷ events) are = absurd are.0
 are_first (Lost message ∷ events) are = absurd are.0
+are_first (Used client fids ∷ events) are = are_first events are.1
+are_first (Kept client server fid ∷ events) are = are_first events are.1
+are_first (Stale client fids ∷ events) are = are_first events are.1
 
 -- ---- tasks
 

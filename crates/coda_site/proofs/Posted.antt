@@ -7,7 +7,7 @@ use Rattle.coda_letters.specs.Calls.{IsPosted, IsSent, IsSentAs}
 use Rattle.coda_cell.specs.Cells.{IsNetwork}
 use Rattle.coda_cell.specs.Made.{state_of}
 use Rattle.coda_cell.specs.Messages.{posting, going_by, going}
-use Rattle.coda_cell.specs.State.{Event, VolumeMade, ClientMade, Ticked, LinkSet, Entered, Posted, Lost, CellState, after_all as state_after_all}
+use Rattle.coda_cell.specs.State.{Event, VolumeMade, ClientMade, Ticked, LinkSet, Entered, Posted, Lost, Used, Kept, Stale, CellState, after_all as state_after_all}
 use Rattle.coda_cell.proofs.CarriedLetters.{linked_same, network_posted, posting_after}
 use Rattle.coda_stored.specs.Cells.{StoredCell, after, after_all}
 use Rattle.coda_stored.specs.Room.{Fits as FitsEvents}
@@ -26,6 +26,9 @@ AreMail (ClientMade client blocks ∷ events) = ⊥
 AreMail (Ticked seconds ∷ events) = ⊥
 AreMail (LinkSet client server strength ∷ events) = ⊥
 AreMail (Entered append ∷ events) = ⊥
+AreMail (Used c fids ∷ events) = ⊥
+AreMail (Kept c s fid ∷ events) = ⊥
+AreMail (Stale c fids ∷ events) = ⊥
 AreMail (Posted sent ∷ events) = AreMail events
 AreMail (Lost message ∷ events) = AreMail events
 
@@ -44,6 +47,9 @@ mail_fits cell (ClientMade client blocks ∷ events) are = absurd are
 mail_fits cell (Ticked seconds ∷ events) are = absurd are
 mail_fits cell (LinkSet client server strength ∷ events) are = absurd are
 mail_fits cell (Entered append ∷ events) are = absurd are
+mail_fits cell (Used c fids ∷ events) are = absurd are
+mail_fits cell (Kept c s fid ∷ events) are = absurd are
+mail_fits cell (Stale c fids ∷ events) are = absurd are
 mail_fits cell (Posted sent ∷ events) are = (tt, mail_fits (after cell (Posted sent)) events are)
 mail_fits cell (Lost message ∷ events) are = (tt, mail_fits (after cell (Lost message)) events are)
 
@@ -59,6 +65,9 @@ mail_left cell (ClientMade client blocks ∷ events) are = absurd are
 mail_left cell (Ticked seconds ∷ events) are = absurd are
 mail_left cell (LinkSet client server strength ∷ events) are = absurd are
 mail_left cell (Entered append ∷ events) are = absurd are
+mail_left cell (Used c fids ∷ events) are = absurd are
+mail_left cell (Kept c s fid ∷ events) are = absurd are
+mail_left cell (Stale c fids ∷ events) are = absurd are
 mail_left cell (Posted sent ∷ events) are = mail_left (after cell (Posted sent)) events are
 mail_left cell (Lost message ∷ events) are = mail_left (after cell (Lost message)) events are
 
@@ -70,6 +79,9 @@ mail_shown cell (ClientMade client blocks ∷ events) are = absurd are
 mail_shown cell (Ticked seconds ∷ events) are = absurd are
 mail_shown cell (LinkSet client server strength ∷ events) are = absurd are
 mail_shown cell (Entered append ∷ events) are = absurd are
+mail_shown cell (Used c fids ∷ events) are = absurd are
+mail_shown cell (Kept c s fid ∷ events) are = absurd are
+mail_shown cell (Stale c fids ∷ events) are = absurd are
 mail_shown cell (Posted sent ∷ events) are = mail_shown (after cell (Posted sent)) events are
 mail_shown cell (Lost message ∷ events) are = mail_shown (after cell (Lost message)) events are
 

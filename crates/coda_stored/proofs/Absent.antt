@@ -232,6 +232,8 @@ nothing_changed new old left stays same idle = λ i. record {
     links = (same i).made.links;
     waiting = (same i).made.waiting;
     acted = (same i).made.acted;
+    copies = (same i).made.copies;
+    uses = (same i).made.uses;
   };
   areas = stays.areas i;
   places = stays.places i;

@@ -124,6 +124,8 @@ module _ (old : StoredCell) (clean : AreClean old.made.acted) where
     links = refl;
     waiting = refl;
     posted = refl;
+    copies = refl;
+    uses = refl;
     there = same_there joins;
     homes = λ volume. home_same volume (λ server. (old.made.acted.replicas server volume).history) (λ server. found (joins.replicas server volume) (old.made.acted.replicas server volume)) (old.made.homes volume);
     client = λ client is. same_client joins client (clients client is);

@@ -10,7 +10,7 @@ use Rattle.coda_replica.specs.Answers.{told, is_next}
 use Rattle.coda_script.specs.declared.line.Strength.{Strength}
 use Rattle.coda_script.specs.declared.line.Strength.TheVariants.{Strong, Weak, Down}
 use Rattle.coda_letters.specs.Sent.{Sent, ChunkSent, AnswerSent, Waiting, lost_by, number_of}
-use Rattle.coda_cell.specs.State.{ClientVolume, ReplicaState, CellState, Event, VolumeMade, ClientMade, Ticked, LinkSet, Entered, Posted, Lost, at_client}
+use Rattle.coda_cell.specs.State.{ClientVolume, ReplicaState, CellState, Event, VolumeMade, ClientMade, Ticked, LinkSet, Entered, Posted, Lost, Used, Kept, Stale, at_client}
 use Rattle.coda_cell.specs.Messages.{over, posting, going_by, sends_of, sends, ruled_in, chunk_comes, taken_in, answer_comes}
 use Rattle.coda_cell.specs.Sending.{Freezing, freezing, Ruling, ruling_of, Taking, taking, deeds_at, entries_at, decides, answered_to, ruled_on, drained_of, drain}
 use Rattle.coda_cell.specs.Refused.{Refused}
@@ -26,6 +26,9 @@ IsBy C R (Entered (AtClient client entry)) = C client
 IsBy C R (Entered (AtReplica server volume entry)) = R server volume × IsDecision entry
 IsBy C R (Posted sent) = Unit {0}
 IsBy C R (Lost message) = Unit {0}
+IsBy C R (Used client fids) = Unit {0}
+IsBy C R (Kept client server fid) = R server fid.volume
+IsBy C R (Stale client fids) = Unit {0}
 
 abbrev pub AreBy : (ℕ → Type 0) → (ℕ → ℕ → Type 0) → List Event → Type 0
 AreBy C R [] = Unit {0}

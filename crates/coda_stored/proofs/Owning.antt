@@ -14,7 +14,7 @@ use Rattle.coda_script.specs.declared.reply.Reply.{Reply}
 use Rattle.coda_script.specs.declared.reply.Reply.TheVariants as replies
 use Rattle.coda_cell.specs.Made.{state_of}
 use Rattle.coda_cell.specs.Refused.{Refused}
-use Rattle.coda_cell.specs.State.{put, CellState, Event, VolumeMade, ClientMade, Ticked, LinkSet, Entered, Posted, Lost}
+use Rattle.coda_cell.specs.State.{put, CellState, Event, VolumeMade, ClientMade, Ticked, LinkSet, Entered, Posted, Lost, Used, Kept, Stale}
 use Rattle.coda_cell.specs.Steps.{client_named, holder_named, first_missing, alone, Does}
 use Rattle.coda_stored.specs.Cells.{Side, StoredCell, client_header, replica_header, after, after_all, moved, failed}
 use Rattle.coda_stored.specs.Held.{owned}
@@ -58,6 +58,9 @@ own_fits cell (Ticked seconds ∷ events) fits = (tt, own_fits (after cell (Tick
 own_fits cell (LinkSet client server strength ∷ events) fits = (tt, own_fits (after cell (LinkSet client server strength)) events fits.1)
 own_fits cell (Posted sent ∷ events) fits = (tt, own_fits (after cell (Posted sent)) events fits.1)
 own_fits cell (Lost message ∷ events) fits = (tt, own_fits (after cell (Lost message)) events fits.1)
+own_fits cell (Used client fids ∷ events) fits = (tt, own_fits (after cell (Used client fids)) events fits.1)
+own_fits cell (Kept client server fid ∷ events) fits = (tt, own_fits (after cell (Kept client server fid)) events fits.1)
+own_fits cell (Stale client fids ∷ events) fits = (tt, own_fits (after cell (Stale client fids)) events fits.1)
 
 own_after : (cell : StoredCell) (events : List Event) → owned (after_all cell events) ≡ after_all (owned cell) events
 own_after cell [] = refl
@@ -147,6 +150,9 @@ event_rises cell (Entered (AtClient client entry)) = record { clients = refl; re
 event_rises cell (Entered (AtReplica server volume entry)) = record { clients = refl; replicas = refl; down = λ client is. is }
 event_rises cell (Posted sent) = record { clients = refl; replicas = refl; down = λ client is. is }
 event_rises cell (Lost message) = record { clients = refl; replicas = refl; down = λ client is. is }
+event_rises cell (Used client fids) = record { clients = refl; replicas = refl; down = λ c is. is }
+event_rises cell (Kept client server fid) = record { clients = refl; replicas = refl; down = λ c is. is }
+event_rises cell (Stale client fids) = record { clients = refl; replicas = refl; down = λ c is. is }
 
 events_rise : (cell : StoredCell) (events : List Event) → NoneRises (after_all cell events) cell
 events_rise cell [] = record { clients = refl; replicas = refl; down = λ client is. is }

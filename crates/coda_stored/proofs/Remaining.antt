@@ -11,7 +11,7 @@ use Rattle.coda_plain.specs.Decisions.{ReplicaEntry}
 use Rattle.coda_plain.specs.Logs.{BeginsWith}
 use Rattle.coda_plain.specs.Moves.{Append, AtClient, AtReplica, Who, TheClient, TheReplica, Crashes, Recovers, with_client, with_replica, grown as grown_actor, fallen, crashed, recovered}
 use Rattle.coda_cell.specs.Made.{MadeCell, state_of}
-use Rattle.coda_cell.specs.State.{Event, VolumeMade, ClientMade, Ticked, LinkSet, Entered, Posted, Lost}
+use Rattle.coda_cell.specs.State.{Event, VolumeMade, ClientMade, Ticked, LinkSet, Entered, Posted, Lost, Used, Kept, Stale}
 use Rattle.coda_cell.specs.Steps.{client_named, holder_named, first_missing, alone}
 use Rattle.coda_cell.specs.Refused.{Refused}
 use Rattle.coda_stored.specs.Cells.{Side, StoredCell, client_header, replica_header, after, after_all, moved, failed}
@@ -93,6 +93,9 @@ module _ (cell : StoredCell) where
   event_begins (Entered (AtReplica server volume entry)) = replica_begins server volume (grown_actor entry (cell.made.acted.replicas server volume)) (entry ∷ [], refl)
   event_begins (Posted sent) = record { clients = λ c. same_entries (cell.made.acted.clients c).history; replicas = λ s v. same_entries (cell.made.acted.replicas s v).history; learned = refl }
   event_begins (Lost message) = record { clients = λ c. same_entries (cell.made.acted.clients c).history; replicas = λ s v. same_entries (cell.made.acted.replicas s v).history; learned = refl }
+  event_begins (Used client fids) = record { clients = λ c. same_entries (cell.made.acted.clients c).history; replicas = λ s v. same_entries (cell.made.acted.replicas s v).history; learned = refl }
+  event_begins (Kept client server fid) = record { clients = λ c. same_entries (cell.made.acted.clients c).history; replicas = λ s v. same_entries (cell.made.acted.replicas s v).history; learned = refl }
+  event_begins (Stale client fids) = record { clients = λ c. same_entries (cell.made.acted.clients c).history; replicas = λ s v. same_entries (cell.made.acted.replicas s v).history; learned = refl }
 
 all_begin : (cell : StoredCell) (events : List Event) → Begins (after_all cell events) cell
 all_begin cell [] = begins_same cell

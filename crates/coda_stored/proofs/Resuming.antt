@@ -35,6 +35,8 @@ quiet cell = record {
   links = λ client server. Down;
   waiting = [];
   acted = record cell.acted { pool = λ message. None; posted = 0 };
+  copies = λ client fid. None;
+  uses = λ client. [];
 }
 
 quiet_kept : (cell : MadeCell) → IsKept cell → IsKept (quiet cell)

@@ -5,7 +5,7 @@ use Rattle.coda_plain.specs.Cell.{ClientEntry, Actor}
 use Rattle.coda_plain.specs.Decisions.{ReplicaEntry}
 use Rattle.coda_plain.specs.Moves.{Append, AtClient, AtReplica, Who, TheClient, TheReplica, Crashes, Recovers, grown as grown_actor, fallen, crashed, recovered}
 use Rattle.coda_script.specs.declared.reply.Reply.{Reply}
-use Rattle.coda_cell.specs.State.{put, Event, VolumeMade, ClientMade, Ticked, LinkSet, Entered, Posted, Lost}
+use Rattle.coda_cell.specs.State.{put, Event, VolumeMade, ClientMade, Ticked, LinkSet, Entered, Posted, Lost, Used, Kept, Stale}
 use Rattle.coda_stored.specs.Cells.{Side, StoredCell, on_disk, plain_replica, after, after_all, moved, failed}
 use Rattle.coda_stored.specs.Lines.{EndsBy, with_client_side, with_replica_side}
 use Rattle.coda_stored.specs.Resuming.{Awaited, ClientAgain, VolumeAgain, awaits_client, awaits_volume}
@@ -147,6 +147,9 @@ module _ (left : List Awaited) where
     event_stays (Entered (AtReplica server volume entry)) by = replica_stays server volume (grown_actor entry (cell.made.acted.replicas server volume)) by.0
     event_stays (Posted sent) by = record { sizes = refl; homes = refl; servers = refl; areas = refl; places = refl; clients = λ c waits. (refl, refl); replicas = λ s v waits. (refl, refl); others = refl; clients_ask = λ c. refl; replicas_ask = λ v. refl }
     event_stays (Lost message) by = record { sizes = refl; homes = refl; servers = refl; areas = refl; places = refl; clients = λ c waits. (refl, refl); replicas = λ s v waits. (refl, refl); others = refl; clients_ask = λ c. refl; replicas_ask = λ v. refl }
+    event_stays (Used client fids) by = record { sizes = refl; homes = refl; servers = refl; areas = refl; places = refl; clients = λ c waits. (refl, refl); replicas = λ s v waits. (refl, refl); others = refl; clients_ask = λ c. refl; replicas_ask = λ v. refl }
+    event_stays (Kept client server fid) by = record { sizes = refl; homes = refl; servers = refl; areas = refl; places = refl; clients = λ c waits. (refl, refl); replicas = λ s v waits. (refl, refl); others = refl; clients_ask = λ c. refl; replicas_ask = λ v. refl }
+    event_stays (Stale client fids) by = record { sizes = refl; homes = refl; servers = refl; areas = refl; places = refl; clients = λ c waits. (refl, refl); replicas = λ s v waits. (refl, refl); others = refl; clients_ask = λ c. refl; replicas_ask = λ v. refl }
 
     event_seen : (event : Event) → IsBy Awake AwakeAt event → after (seen cell left) event ≡ seen (after cell event) left
     event_seen (VolumeMade v s) by = absurd by
@@ -157,6 +160,9 @@ module _ (left : List Awaited) where
     event_seen (Entered (AtReplica server volume entry)) by = by_idle (after cell (Entered (AtReplica server volume entry))) cell (event_stays (Entered (AtReplica server volume entry)) by) refl
     event_seen (Posted sent) by = by_idle (after cell (Posted sent)) cell (event_stays (Posted sent) by) refl
     event_seen (Lost message) by = by_idle (after cell (Lost message)) cell (event_stays (Lost message) by) refl
+    event_seen (Used client fids) by = by_idle (after cell (Used client fids)) cell (event_stays (Used client fids) by) refl
+    event_seen (Kept client server fid) by = by_idle (after cell (Kept client server fid)) cell (event_stays (Kept client server fid) by) refl
+    event_seen (Stale client fids) by = by_idle (after cell (Stale client fids)) cell (event_stays (Stale client fids) by) refl
 
     -- an append that failed
     failed_stays : (append : Append) → IsBy Awake AwakeAt (Entered append) → StayAsleep left (failed cell append) cell
@@ -181,6 +187,9 @@ module _ (left : List Awaited) where
     fits_same (Entered append) by fits = subst (λ (T : Type 0). ¬ T) (lacks_same append by) fits
     fits_same (Posted sent) by fits = fits
     fits_same (Lost message) by fits = fits
+    fits_same (Used client fids) by fits = fits
+    fits_same (Kept client server fid) by fits = fits
+    fits_same (Stale client fids) by fits = fits
 
     -- ---- crashes and recoveries
 

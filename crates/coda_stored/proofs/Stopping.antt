@@ -1,10 +1,10 @@
 -- However the events of a line end, the cell behind them is kept.
-use Rattle.std.proofs.Common.{◌≡◌, ℕ, ◌==◌, ◌&&◌, true, false, cond, List, [], ◌∷◌, ◌++◌, append_assoc, append-nil, refl, sym, ap, ◌∙◌, subst, inl, inr, ◌⊎◌}
+use Rattle.std.proofs.Common.{◌≡◌, ℕ, ◌==◌, ◌&&◌, true, false, cond, List, [], ◌∷◌, ◌++◌, append_assoc, append-nil, length, refl, sym, ap, ◌∙◌, subst, inl, inr, ◌⊎◌}
 use Rattle.coda_script.specs.declared.line.Line.{Line}
 use Rattle.coda_script.specs.declared.reply.Reply.{Reply}
 use Rattle.coda_plain.specs.Cell.{Joins}
 use Rattle.coda_plain.specs.Moves.{Append, AtClient, AtReplica, grown as grown_actor, fallen}
-use Rattle.coda_cell.specs.State.{Event, VolumeMade, ClientMade, Ticked, LinkSet, Entered, Posted, Lost}
+use Rattle.coda_cell.specs.State.{Event, VolumeMade, ClientMade, Ticked, LinkSet, Entered, Posted, Lost, Used, Kept, Stale, with_copy}
 use Rattle.coda_cell.specs.Made.{MadeCell, state_of, grown, grown_all}
 use Rattle.coda_cell.specs.Runs.{IsKept, MakesNumbered}
 use Rattle.coda_cell.specs.Steps.{Does}
@@ -16,7 +16,7 @@ use Rattle.coda_stored.specs.Lines.{Stop, EndsBy}
 use Rattle.coda_stored.proofs.Acting.{UpClient, UpReplica, IsActed}
 use Rattle.coda_stored.proofs.Entering.{IsBy, AreBy, by_parts}
 use Rattle.coda_stored.proofs.Sides.{AreClean, AreSided, clean_in, sided_in, stored_kept, goes_grown, goes_fallen, alone_grown, alone_fallen, clean_client, clean_replica, sided_client, sided_replica}
-use Rattle.coda_stored.proofs.Wholes.{relinked, kept_relinked, kept_grown, whole_grown_client, whole_grown_replica, whole_failed_client, whole_failed_replica}
+use Rattle.coda_stored.proofs.Wholes.{found_same, relinked, kept_relinked, kept_grown, whole_grown_client, whole_grown_replica, whole_failed_client, whole_failed_replica}
 
 -- ---- who is up stays up
 
@@ -30,6 +30,9 @@ up_client_after cell (Entered (AtClient c entry)) client by up =
 up_client_after cell (Entered (AtReplica server volume entry)) client by up = up
 up_client_after cell (Posted sent) client by up = up
 up_client_after cell (Lost message) client by up = up
+up_client_after cell (Used c fids) client by up = up
+up_client_after cell (Kept c server fid) client by up = up
+up_client_after cell (Stale c fids) client by up = up
 
 up_replica_after : (cell : MadeCell) (event : Event) (server volume : ℕ) → IsBy (UpClient cell) (UpReplica cell) event → UpReplica cell server volume → UpReplica (grown cell event) server volume
 up_replica_after cell (VolumeMade v s) server volume by up = absurd by
@@ -41,6 +44,9 @@ up_replica_after cell (Entered (AtReplica s v entry)) server volume by up =
     (elim ((server == s) && (volume == v)) as (λ b. (cond b (grown_actor entry (cell.acted.replicas s v)) (cell.acted.replicas server volume)).up ≡ true) [ true ↦ by.0.0 | false ↦ up.0 ], up.1)
 up_replica_after cell (Posted sent) server volume by up = up
 up_replica_after cell (Lost message) server volume by up = up
+up_replica_after cell (Used c fids) server volume by up = up
+up_replica_after cell (Kept c s fid) server volume by up = up
+up_replica_after cell (Stale c fids) server volume by up = up
 
 by_more : (C D : ℕ → Type 0) (R S : ℕ → ℕ → Type 0) → ((client : ℕ) → C client → D client) → ((server volume : ℕ) → R server volume → S server volume) → (events : List Event) → AreBy C R events → AreBy D S events
 by_more C D R S f g [] are = tt
@@ -52,6 +58,9 @@ by_more C D R S f g (Entered (AtClient client entry) ∷ events) are = (f client
 by_more C D R S f g (Entered (AtReplica server volume entry) ∷ events) are = ((g server volume are.0.0, are.0.1), by_more C D R S f g events are.1)
 by_more C D R S f g (Posted sent ∷ events) are = (tt, by_more C D R S f g events are.1)
 by_more C D R S f g (Lost message ∷ events) are = (tt, by_more C D R S f g events are.1)
+by_more C D R S f g (Used client fids ∷ events) are = (tt, by_more C D R S f g events are.1)
+by_more C D R S f g (Kept client server fid ∷ events) are = (g server fid.volume are.0, by_more C D R S f g events are.1)
+by_more C D R S f g (Stale client fids ∷ events) are = (tt, by_more C D R S f g events are.1)
 
 by_after : (cell : MadeCell) (event : Event) (events : List Event) → IsBy (UpClient cell) (UpReplica cell) event → AreBy (UpClient cell) (UpReplica cell) events → AreBy (UpClient (grown cell event)) (UpReplica (grown cell event)) events
 by_after cell event events by are = by_more (UpClient cell) (UpClient (grown cell event)) (UpReplica cell) (UpReplica (grown cell event)) (λ client. up_client_after cell event client by) (λ server volume. up_replica_after cell event server volume by) events are
@@ -68,6 +77,9 @@ clean_after cell (Entered (AtReplica server volume entry)) clean sided by = clea
     (alone_grown (cell.made.acted.replicas server volume) entry by.1 (clean.replicas server volume by.0.0) (clean.alone server volume))
 clean_after cell (Posted sent) clean sided by = record { clients = clean.clients; replicas = clean.replicas; alone = clean.alone }
 clean_after cell (Lost message) clean sided by = record { clients = clean.clients; replicas = clean.replicas; alone = clean.alone }
+clean_after cell (Used client fids) clean sided by = clean
+clean_after cell (Kept client server fid) clean sided by = clean
+clean_after cell (Stale client fids) clean sided by = clean
 
 sided_after : (cell : StoredCell) (event : Event) → AreClean cell.made.acted → AreSided cell → IsBy (UpClient cell.made) (UpReplica cell.made) event → AreSided (after cell event)
 sided_after cell (VolumeMade v s) clean sided by = absurd by
@@ -80,6 +92,9 @@ sided_after cell (Entered (AtReplica server volume entry)) clean sided by =
     sided_replica cell clean sided server volume (grown_actor entry (cell.made.acted.replicas server volume)) by.0.1 (goes_grown (cell.replicas volume).given (cell.made.acted.replicas server volume) entry by.0.0 (clean.replicas server volume))
 sided_after cell (Posted sent) clean sided by = record { clients = sided.clients; replicas = sided.replicas; placed = sided.placed; apart = sided.apart; clients_own = sided.clients_own; replicas_own = sided.replicas_own }
 sided_after cell (Lost message) clean sided by = record { clients = sided.clients; replicas = sided.replicas; placed = sided.placed; apart = sided.apart; clients_own = sided.clients_own; replicas_own = sided.replicas_own }
+sided_after cell (Used client fids) clean sided by = record { clients = sided.clients; replicas = sided.replicas; placed = sided.placed; apart = sided.apart; clients_own = sided.clients_own; replicas_own = sided.replicas_own }
+sided_after cell (Kept client server fid) clean sided by = record { clients = sided.clients; replicas = sided.replicas; placed = sided.placed; apart = sided.apart; clients_own = sided.clients_own; replicas_own = sided.replicas_own }
+sided_after cell (Stale client fids) clean sided by = record { clients = sided.clients; replicas = sided.replicas; placed = sided.placed; apart = sided.apart; clients_own = sided.clients_own; replicas_own = sided.replicas_own }
 
 whole_after : (cell : StoredCell) (joins : Joins) (event : Event) → AreClean cell.made.acted → IsBy (UpClient cell.made) (UpReplica cell.made) event → whole (after cell event).made joins ≡ grown (whole cell.made joins) event
 whole_after cell joins (VolumeMade v s) clean by = refl
@@ -90,6 +105,11 @@ whole_after cell joins (Entered (AtClient client entry)) clean by = whole_grown_
 whole_after cell joins (Entered (AtReplica server volume entry)) clean by = whole_grown_replica cell.made joins server volume entry (clean.replicas server volume by.0.0)
 whole_after cell joins (Posted sent) clean by = refl
 whole_after cell joins (Lost message) clean by = refl
+whole_after cell joins (Used client fids) clean by = refl
+whole_after cell joins (Kept client server fid) clean by =
+    let same = found_same (joins.replicas server fid.volume) (cell.made.acted.replicas server fid.volume) (clean.replicas server fid.volume by.0) in
+    λ i. record (whole cell.made joins) { copies = with_copy cell.made.copies client fid (record { server = server; position = length (sym same i) }) }
+whole_after cell joins (Stale client fids) clean by = refl
 
 -- ---- events in order
 

@@ -5,7 +5,7 @@ use Rattle.coda_plain.specs.Cell.{ClientEntry, Actor, Joins, found, joined_to}
 use Rattle.coda_plain.specs.Decisions.{ReplicaEntry}
 use Rattle.coda_plain.specs.Moves.{AtClient, AtReplica, TheClient, TheReplica, Fails, Crashes, Recovers, with_client, with_replica, grown as grown_actor, fallen, crashed, recovered, after as after_move}
 use Rattle.coda_script.specs.declared.line.Strength.{Strength}
-use Rattle.coda_cell.specs.State.{Event, VolumeMade, ClientMade, Ticked, LinkSet, Entered, Posted, Lost}
+use Rattle.coda_cell.specs.State.{Event, VolumeMade, ClientMade, Ticked, LinkSet, Entered, Posted, Lost, Used, Kept, Stale}
 use Rattle.coda_cell.specs.Made.{MadeCell, grown, grown_all}
 use Rattle.coda_cell.specs.Runs.{IsKept}
 use Rattle.coda_stored.specs.Kept.{found_up, whole}
@@ -176,6 +176,9 @@ grown_relinked cell (LinkSet client server strength ∷ events) links other = gr
 grown_relinked cell (Entered append ∷ events) links other = grown_relinked (grown cell (Entered append)) events links other
 grown_relinked cell (Posted sent ∷ events) links other = grown_relinked (grown cell (Posted sent)) events links other
 grown_relinked cell (Lost message ∷ events) links other = grown_relinked (grown cell (Lost message)) events links other
+grown_relinked cell (Used client fids ∷ events) links other = grown_relinked (grown cell (Used client fids)) events links other
+grown_relinked cell (Kept client server fid ∷ events) links other = grown_relinked (grown cell (Kept client server fid)) events links other
+grown_relinked cell (Stale client fids ∷ events) links other = grown_relinked (grown cell (Stale client fids)) events links other
 
 pub kept_grown : (cell : MadeCell) (events : List Event) (links : ℕ → ℕ → Strength) → IsKept (grown_all (relinked cell links) events) → IsKept (grown_all cell events)
 kept_grown cell events links kept =

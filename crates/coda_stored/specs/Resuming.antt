@@ -43,6 +43,8 @@ at_rest cell = record {
       posted = 0;
       learned = cell.made.acted.learned;
     };
+    copies = λ client fid. None;
+    uses = λ client. [];
   };
   areas = 0;
   places = cell.places;
