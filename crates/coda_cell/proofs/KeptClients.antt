@@ -167,12 +167,15 @@ module _ (cell : MadeCell) (number blocks : ℕ) (kept : IsKept cell) (there : c
       }
 
   all_named : AreNamed cell.acted number volume op
-  all_named fid mentions =
-      let n = names fid mentions in
-      elim n.1 [
-        | inl held ↦ inr (subst (λ v. IsMade v (done_on cell.acted fid.vnode v) fid) n.0 (holds.made fid held))
-        | inr new ↦ inl (next_named fid new.0)
-      ]
+  all_named = record {
+    known = λ fid mentions.
+        let n = names fid mentions in
+        elim n.1 [
+          | inl held ↦ inr (subst (λ v. IsMade v (done_on cell.acted fid.vnode v) fid) n.0 (holds.made fid held))
+          | inr new ↦ inl (next_named fid new.0)
+        ];
+    next = next_named;
+  }
 
   may_operate : MayOperate deeds next_operation
   may_operate = record {

@@ -13,13 +13,14 @@ use Rattle.coda_plain.specs.Cell.{ClientEntry, Letter, ChunkSent as PlainChunk, 
 use Rattle.coda_plain.specs.Moves.{Move, Does, Posts, Loses, after as after_move}
 use Rattle.coda_cell.specs.State.{put, later, linked, ClientState, new_client, client_after_all, ReplicaState, new_replica, replica_after_all, CellState, Event, VolumeMade, ClientMade, Ticked, LinkSet, Entered, Posted, Lost, Used, Kept, Stale, but_of, with_copy, cut_by, used_then}
 
--- the clock, the servers of the volumes in the order of making, the server of each volume and the blocks of each client once it was
--- made, the links, what waits in letters, and the histories of clients and replicas with how many letters were posted
--- Beside these, of each client: its valid copies, each with its server and how many entries the server's history had then; and the order in which it used objects.
+-- a valid copy: the server that gave it, and how many entries the server's history of the volume had then
 pub record Copy : Type 0 where
   pub server : ℕ
   pub position : ℕ
 
+-- the clock, the servers of the volumes in the order of making, the server of each volume and the blocks of each client once it was
+-- made, the links, what waits in letters, and the histories of clients and replicas with how many letters were posted; and beside these the
+-- valid copies of each client, and the objects in the order in which it used them
 pub record MadeCell : Type 0 where
   pub clock : ℕ
   pub servers : List ℕ

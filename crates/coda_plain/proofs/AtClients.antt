@@ -8,12 +8,13 @@ use Rattle.coda_cancel.specs.Dropping.{mentioning, creates}
 use Rattle.coda_plain.specs.Moves.{IsNext}
 use Rattle.coda_fid.specs.declared.op.Record.{Record}
 use Rattle.coda_plain.specs.Histories.{In}
-use Rattle.coda_plain.specs.Deeds.{Deed, Operated, Froze, Settled, Gaveup, operation_in, full_of, created_by, created_in, IsMade, course_of, Chunk, chunk_at, chunks_of, Settlement, settlement_at, settlements_of, MayDo, AreLawful}
+use Rattle.coda_plain.specs.Deeds.{Deed, Operated, Froze, Settled, Gaveup, operation_in, full_of, created_by, created_in, IsMade, AreNumberedObjects, course_of, Chunk, chunk_at, chunks_of, Settlement, settlement_at, settlements_of, MayDo, AreLawful}
 use Rattle.coda_plain.specs.Decisions.{ReplicaEntry, last_of}
 use Rattle.coda_plain.specs.Cell.{ClientEntry, Did, deeds_of, Letter, Histories}
 use Rattle.coda_plain.specs.Sound.{deeds_in, HasFrozen, IsDecided, DoAgree}
 use Rattle.coda_plain.proofs.Lists.{told_more, told_last, follow_push, in_parts}
 use Rattle.coda_plain.proofs.Chunking.{chunks_more, full_push}
+use Rattle.coda_plain.proofs.Numbering.{CreatesNext, objects_push}
 use Rattle.coda_plain.proofs.Places.{IsGrown, at_grown, deeds_grown}
 
 -- what is settled is decided
@@ -30,9 +31,11 @@ settled_at replicas volume client past (Settled number verdict) s ruled (inl e) 
 settled_at replicas volume client past (Settled number verdict) s ruled (inr none) = absurd none
 settled_at replicas volume client past Gaveup s ruled i = absurd i
 
--- what an operation mentions is the next object, or was created
+-- what an operation mentions is the next object, or was created; and what it creates is the next one
 abbrev pub IsNamed : Histories → ℕ → ℕ → Deed → Type 0
-IsNamed h volume client (Operated rec) = (fid : Fid) → mentioning fid rec.op ≡ true → IsNext volume (deeds_in h client volume) client rec.op fid ⊎ IsMade volume (deeds_in h fid.vnode volume) fid
+IsNamed h volume client (Operated rec) =
+    ((fid : Fid) → mentioning fid rec.op ≡ true → IsNext volume (deeds_in h client volume) client rec.op fid ⊎ IsMade volume (deeds_in h fid.vnode volume) fid)
+    × ((fid : Fid) → creates fid rec.op ≡ true → IsNext volume (deeds_in h client volume) client rec.op fid)
 IsNamed h volume client (Froze number home last) = Unit {0}
 IsNamed h volume client (Settled number verdict) = Unit {0}
 IsNamed h volume client Gaveup = Unit {0}
@@ -102,12 +105,18 @@ module _ (h : Histories) (pool : ℕ → Option Letter) (a : DoAgree h pool) (cl
   named_at : (c v : ℕ) → (c ≡ client) × (v ≡ at_volume) → IsNamed h v c deed
   named_at c v here = subst (λ n. IsNamed h v n deed) (sym here.0) (subst (λ n. IsNamed h n client deed) (sym here.1) named)
 
+  creates_next : (c v : ℕ) (d : Deed) → IsNamed h v c d → CreatesNext v c (deeds_in h c v) d
+  creates_next c v (Operated rec) names = names.1
+  creates_next c v (Froze number home last) names = tt
+  creates_next c v (Settled number verdict) names = tt
+  creates_next c v Gaveup names = tt
+
   still_made : (v : ℕ) (fid : Fid) → IsMade v (deeds_in h fid.vnode v) fid → IsMade v (deeds_in New fid.vnode v) fid
   still_made v fid made = at fid.vnode v (λ ds. IsMade v ds fid) made (λ here. made_more v (deeds_in h fid.vnode v) deed fid made)
 
   -- the operation that came mentions what is made
   made_now : (c v : ℕ) (rec : Record) (fid : Fid) → IsNamed h v c (Operated rec) → mentioning fid rec.op ≡ true → deeds_in New c v ≡ deeds_in h c v ++ Operated rec ∷ [] → IsMade v (deeds_in New fid.vnode v) fid
-  made_now c v rec fid names m is = elim (names fid m) [
+  made_now c v rec fid names m is = elim (names.0 fid m) [
     | inl next ↦ subst (λ n. IsMade v (deeds_in New n v) fid) (sym next.own) (subst (λ ds. IsMade v ds fid) (sym is) (next_made v (deeds_in h c v) c rec fid next))
     | inr made ↦ still_made v fid made
   ]
@@ -126,6 +135,7 @@ module _ (h : Histories) (pool : ℕ → Option Letter) (a : DoAgree h pool) (cl
   agree_client = record {
     lawful = λ c v. at c v AreLawful (a.lawful c v) (λ here. follow_push MayDo (deeds_in h c v) deed (a.lawful c v) (may_at c v here));
     ruled = a.ruled;
+    numbered = λ c v. at c v (AreNumberedObjects v c) (a.numbered c v) (λ here. objects_push v c (deeds_in h c v) deed (a.numbered c v) (creates_next c v deed (named_at c v here)));
     made = λ c v rec i fid m. made_in c v rec (deeds_grown client v c at_volume deed (h.clients c) (clients c) (grown c)) i fid m;
     held = λ s v fid m. still_made v fid (a.held s v fid m);
     frozen = λ s v d i. still_frozen d.client v d.number s d.span (a.frozen s v d i);
@@ -150,6 +160,7 @@ agree_same h pool clients a same =
     record {
       lawful = λ c v. subst AreLawful (sym (same c v)) (a.lawful c v);
       ruled = a.ruled;
+      numbered = λ c v. subst (AreNumberedObjects v c) (sym (same c v)) (a.numbered c v);
       made = λ c v rec i fid m. made v fid (a.made c v rec (subst (λ ds. In rec (full_of ds)) (same c v) i) fid m);
       held = λ s v fid m. made v fid (a.held s v fid m);
       frozen = λ s v d i. frozen d.client v d.number s d.span (a.frozen s v d i);

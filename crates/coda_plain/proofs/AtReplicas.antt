@@ -104,6 +104,7 @@ module _ (h : Histories) (pool : ℕ → Option Letter) (a : DoAgree h pool) (re
       let place = at h pool a replicas server volume entry grown may met in
       record {
         lawful = a.lawful;
+        numbered = a.numbered;
         made = a.made;
         ruled = λ s v. place s v (AreDecisions v) (a.ruled s v) (λ here. follow_push (MayDecide v) (h.replicas s v) entry (a.ruled s v) (mays s v here));
         held = λ s v fid. place s v (λ es. has (nodes_of v es) fid ≡ true → IsMade v (deeds_in h fid.vnode v) fid) (a.held s v fid)

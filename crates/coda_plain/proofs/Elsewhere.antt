@@ -112,6 +112,7 @@ module _ (h : Histories) (pool : ℕ → Option Letter) (away : ℕ → Bool) (l
   agree_without = record {
     lawful = a.lawful;
     ruled = λ s v. at_gone s v (AreDecisions v) tt (λ here. a.ruled s v);
+    numbered = a.numbered;
     made = a.made;
     held = λ s v fid. at_gone s v (λ es. has (nodes_of v es) fid ≡ true → IsMade v (deeds_in h fid.vnode v) fid) (root_made v (deeds_in h fid.vnode v) fid) (λ here. a.held s v fid);
     frozen = λ s v d. at_gone s v (λ es. In d (decisions_of v es) → HasFrozen h d.client v d.number s d.span) (λ i. absurd i) (λ here. a.frozen s v d);
@@ -168,6 +169,7 @@ module _ (h : Histories) (pool : ℕ → Option Letter) (server volume : ℕ) (e
   agree_with = record {
     lawful = a.lawful;
     ruled = λ s v. at_came s v (λ t w es. AreDecisions w es) fit.ruled (a.ruled s v);
+    numbered = a.numbered;
     made = a.made;
     held = λ s v fid. at_came s v (λ t w es. has (nodes_of w es) fid ≡ true → IsMade w (deeds_in h fid.vnode w) fid) (fit.held fid) (a.held s v fid);
     frozen = λ s v d. at_came s v (λ t w es. In d (decisions_of w es) → HasFrozen h d.client w d.number t d.span) (fit.frozen d) (a.frozen s v d);

@@ -1,6 +1,7 @@
 pub mod Lists
 pub mod Objects
 pub mod Chunking
+pub mod Numbering
 pub mod Places
 pub mod AtClients
 pub mod AtReplicas

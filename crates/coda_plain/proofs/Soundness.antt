@@ -123,10 +123,12 @@ module _ (cell : PlainCell) (sound : IsSound cell) where
   made_found joins client volume fid made = found_made volume (joins.clients client) (cell.clients client).history (cell.clients client).failed fid made
 
   named_now : (joins : Joins) (client volume : ℕ) (deed : Deed) → (cell.clients client).up ≡ true → IsBacked cell client volume deed → IsNamed (found_in cell joins) volume client deed
-  named_now joins client volume (Operated rec) up backed = λ fid m. elim (backed fid m) [
-    | inl next ↦ inl (subst (λ h. IsNext volume (deeds_of volume h) client rec.op fid) (sym (client_up joins client up)) next)
-    | inr made ↦ inr (made_found joins fid.vnode volume fid made)
-  ]
+  named_now joins client volume (Operated rec) up backed =
+      let found_next : (fid : Fid) → IsNext volume (done_on cell client volume) client rec.op fid → IsNext volume (deeds_in (found_in cell joins) client volume) client rec.op fid =
+      λ fid. subst (λ h. IsNext volume (deeds_of volume h) client rec.op fid) (sym (client_up joins client up)) in (
+        (λ fid m. elim (backed.known fid m) [ inl next ↦ inl (found_next fid next) | inr made ↦ inr (made_found joins fid.vnode volume fid made) ]),
+        (λ fid e. found_next fid (backed.next fid e)),
+      )
   named_now joins client volume (Froze number home last) up backed = tt
   named_now joins client volume (Settled number verdict) up backed = tt
   named_now joins client volume Gaveup up backed = tt
@@ -274,6 +276,7 @@ module _ (cell : PlainCell) (sound : IsSound cell) where
         record {
           lawful = a.lawful;
           ruled = a.ruled;
+          numbered = a.numbered;
           made = a.made;
           held = a.held;
           frozen = a.frozen;
@@ -344,6 +347,7 @@ empty_sound = record {
       subst (λ (h : Histories). DoAgree h empty_cell.pool) is (record {
         lawful = λ c v. tt;
         ruled = λ s v. tt;
+        numbered = λ c v. tt;
         made = λ c v rec i. absurd i;
         held = λ s v fid m. root_made v [] fid m;
         frozen = λ s v d i. absurd i;

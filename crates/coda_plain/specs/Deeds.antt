@@ -1,11 +1,12 @@
 -- What a client did on one volume: its operations, chunks and settlements, and what is pending.
-use Rattle.std.specs.Prelude.{◌≡◌, ℕ, ◌+◌, ◌<◌, ◌≤◌, ◌==◌, ◌⊎◌, if◌then◌else◌, Option, Some, None, List, [], ◌∷◌, ◌++◌}
+use Rattle.std.specs.Prelude.{◌≡◌, true, ℕ, ◌+◌, ◌<◌, ◌≤◌, ◌==◌, ◌⊎◌, if◌then◌else◌, Option, Some, None, List, [], ◌∷◌, ◌++◌}
 use Rattle.coda_fid.specs.declared.fid.Fid.{Fid}
 use Rattle.coda_fid.specs.declared.op.Op.{Op}
 use Rattle.coda_fid.specs.declared.op.Op.TheVariants.{Create, Mkdir, Symlink, Store, Setattr, Remove, Rmdir, Rename}
 use Rattle.coda_fid.specs.declared.op.Record.{Record}
 use Rattle.coda_certify.specs.declared.verdict.Verdict.{Verdict}
 use Rattle.coda_certify.specs.declared.verdict.Verdict.TheVariants.{Applied, Conflict}
+use Rattle.coda_cancel.specs.Dropping.{creates}
 use Rattle.coda_cml.specs.Steady.{IsFresh, RemovesEmpty}
 use Rattle.coda_cml.specs.Segments.{IsCut, records_upto, records_above}
 use Rattle.coda_plain.specs.Histories.{left_by, told, DoFollow}
@@ -54,6 +55,22 @@ created_in (rec ∷ recs) = created_by rec.op + created_in recs
 -- the object is of the volume, and it is the root or its client created so many there
 abbrev pub IsMade : ℕ → List Deed → Fid → Type 0
 IsMade volume deeds fid = (fid.volume ≡ volume) × ((fid.vnode ≡ 0) ⊎ (fid.uniq ≤ created_in (full_of deeds)))
+
+-- the object of this number among those that a client creates in a volume
+pub record IsNumbered (volume client number : ℕ) (fid : Fid) : Type 0 where
+  pub here : fid.volume ≡ volume
+  pub own : fid.vnode ≡ client
+  pub number_is : fid.uniq ≡ number
+
+-- what the operations create has the client's numbers, one behind the other, after so many
+abbrev pub AreNumberedFrom : ℕ → ℕ → ℕ → List Record → Type 0
+AreNumberedFrom volume client before [] = Unit {0}
+AreNumberedFrom volume client before (rec ∷ recs) =
+    ((fid : Fid) → creates fid rec.op ≡ true → IsNumbered volume client (before + 1) fid) × AreNumberedFrom volume client (before + created_by rec.op) recs
+
+-- a client numbers what it creates in a volume from 1 on
+abbrev pub AreNumberedObjects : ℕ → ℕ → List Deed → Type 0
+AreNumberedObjects volume client deeds = AreNumberedFrom volume client 0 (full_of deeds)
 
 -- ---- the course of the volume
 

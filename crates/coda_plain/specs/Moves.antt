@@ -105,9 +105,10 @@ pub record IsNext (volume : ℕ) (deeds : List Deed) (client : ℕ) (op : Op) (f
   pub own : fid.vnode ≡ client
   pub next : fid.uniq ≡ created_in (full_of deeds) + 1
 
--- each object that the operation mentions is the one that it creates, or was created by its client
-abbrev pub AreNamed : PlainCell → ℕ → ℕ → Op → Type 0
-AreNamed cell client volume op = (fid : Fid) → mentioning fid op ≡ true → IsNext volume (done_on cell client volume) client op fid ⊎ IsMade volume (done_on cell fid.vnode volume) fid
+-- each object that the operation mentions is the one that it creates, or was created by its client; and what it creates is its client's next object
+pub record AreNamed (cell : PlainCell) (client volume : ℕ) (op : Op) : Type 0 where
+  pub known : (fid : Fid) → mentioning fid op ≡ true → IsNext volume (done_on cell client volume) client op fid ⊎ IsMade volume (done_on cell fid.vnode volume) fid
+  pub next : (fid : Fid) → creates fid op ≡ true → IsNext volume (done_on cell client volume) client op fid
 
 -- a client has seen what an operation mentions, and is told of what it settles
 abbrev pub IsBacked : PlainCell → ℕ → ℕ → Deed → Type 0

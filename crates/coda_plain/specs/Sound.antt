@@ -6,7 +6,7 @@ use Rattle.coda_tree.specs.Volume.{has}
 use Rattle.coda_certify.specs.declared.verdict.Verdict.{Verdict}
 use Rattle.coda_cancel.specs.Dropping.{mentioning}
 use Rattle.coda_plain.specs.Histories.{In}
-use Rattle.coda_plain.specs.Deeds.{Deed, Settlement, full_of, IsMade, course_of, chunks_of, settlements_of, AreLawful}
+use Rattle.coda_plain.specs.Deeds.{Deed, Settlement, full_of, IsMade, AreNumberedObjects, course_of, chunks_of, settlements_of, AreLawful}
 use Rattle.coda_plain.specs.Decisions.{ReplicaEntry, Decision, verdict_on, decisions_of, nodes_of, last_of, AreDecisions}
 use Rattle.coda_plain.specs.Cell.{deeds_of, Ruled, Letter, ChunkSent, AnswerSent, PlainCell, Histories, Joins, found_in}
 
@@ -32,6 +32,8 @@ pub record DoAgree (h : Histories) (pool : ℕ → Option Letter) : Type 0 where
   -- each entry may follow those before it
   pub lawful : (client volume : ℕ) → AreLawful (deeds_in h client volume)
   pub ruled : (server volume : ℕ) → AreDecisions volume (h.replicas server volume)
+  -- each client numbers what it creates
+  pub numbered : (client volume : ℕ) → AreNumberedObjects volume client (deeds_in h client volume)
   -- no operation mentions an object above its client's count of creations
   pub made : (client volume : ℕ) (rec : Record) → In rec (full_of (deeds_in h client volume)) → (fid : Fid) → mentioning fid rec.op ≡ true → IsMade volume (deeds_in h fid.vnode volume) fid
   -- nor does a replica hold one
