@@ -36,3 +36,11 @@ pub mod Counting
 pub mod Foreigners
 pub mod Finding
 pub mod Begun
+pub mod Leaving
+pub mod Entering
+pub mod Behind
+pub mod Stepping
+pub mod Showing
+pub mod Giving
+pub mod Beginning
+pub mod BlankShelves

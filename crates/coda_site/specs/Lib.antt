@@ -8,3 +8,4 @@ pub mod Makings
 pub mod Awaiting
 pub mod Totals
 pub mod NewActors
+pub mod Shelves

@@ -13,6 +13,10 @@ ghost use Rattle.coda_stored.specs.Seen.{mounts_none, IsSeen};
 ghost use Rattle.coda_stored.specs.Lines.{is_built, Happens, client_down, replica_down};
 ghost use Rattle.coda_stored.specs.Mounted.{Shelf, HoldsShelf};
 ghost use Rattle.coda_stored.specs.Resuming.{at_rest, Awaited, is_awaited, AreAwaited, MakeAllAgain};
+ghost use Rattle.coda_shelves.specs.Cells.{Cell as PlainCell, begun_on, shelves_of};
+ghost use Rattle.coda_shelves.specs.Kept.{AreKept};
+ghost use Rattle.coda_shelves.specs.Shelves.{Shelves};
+ghost use Rattle.coda_site.specs.Shelves.{Shows, AreOnDisks as OnShelves};
 ghost use Rattle.coda_site.specs.Awaiting.{IsAwaiting, Resumes};
 ghost use Rattle.coda_site.specs.Makings.{asks_bay};
 ghost use Rattle.coda_site.specs.Sites.{IsSite, IsReady, IsClosable};
@@ -68,6 +72,7 @@ impl<B: Bay> Cell<B> {
         ensures waits { (cell : StoredCell) (lines : List Awaited) → IsStoredKept cell → MakeAllAgain cell lines → AreOnDisks B.D.told (B.has result.bay) cell
             → IsAwaiting B.D.told (B.out result.bay) (B.has result.bay) (at_rest cell) lines result.site }
         ensures begins { (cell : StoredCell) (held : IsHeld cell) → AreOnDisks B.D.told (B.has result.bay) cell → IsSite B.D.told (B.out result.bay) (B.has result.bay) (begun_from cell held) result.site }
+        ensures shelves { (shelves : Shelves) → AreKept shelves → OnShelves B.D.told (B.has result.bay) shelves → Shows B.D.told (B.out result.bay) (B.has result.bay) (begun_on shelves) result.site }
         ensures counts { totals B.D.told B.D.faults B.D.arms (B.disk_faults result.bay) (B.disk_arms result.bay) result.site ≡ record { faults = plus (B.disk_faults bay) 0; arms = plus (B.disk_arms bay) 0 } }
     {
         let clients = unmade(alloc, &bay);
@@ -165,6 +170,7 @@ impl<B: Bay> Cell<B> {
         ensures stands { (cell : StoredCell) → IsReady B.D.told (B.out self.bay) self.site → IsSite B.D.told (B.out self.bay) (B.has self.bay) cell self.site → AreOnDisks B.D.told (B.has result) cell }
         ensures waits { (cell : StoredCell) (volumes areas : ℕ) (left : List Awaited) → IsReady B.D.told (B.out self.bay) self.site → IsStoredKept cell → AreAwaited cell volumes areas left
             → IsAwaiting B.D.told (B.out self.bay) (B.has self.bay) cell left self.site → AreOnDisks B.D.told (B.has result) cell }
+        ensures shelves { (plain : PlainCell) → IsReady B.D.told (B.out self.bay) self.site → Shows B.D.told (B.out self.bay) (B.has self.bay) plain self.site → OnShelves B.D.told (B.has result) (shelves_of plain) }
         ensures answered { B.answered result ≡ B.answered self.bay }
         ensures faults { B.faults result ≡ B.faults self.bay }
         ensures follows { B.follows self.bay result }

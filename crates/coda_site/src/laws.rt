@@ -1,4 +1,5 @@
 // Laws of cells and the disks that stand for them.
+ghost use Rattle.coda_site.specs.Shelves.{BlankDisksStand};
 ghost use Rattle.coda_site.specs.NewActors.{NewClientsMayCome, NewVolumesMayCome, NewActorsAreMadeAgain};
 
 use coda_disk::Bay;
@@ -19,4 +20,9 @@ pub fn new_volumes_may_come<B: Bay>(_bay: &B)
 /// the cell again with this client; and so with a new volume, whose line comes behind those of the volumes that there were.
 pub fn new_actors_are_made_again()
     ensures { NewActorsAreMadeAgain }
+{}
+
+/// A law of the disks of a bay: where none of them was ever given a header, they stand for shelves on which nothing stands.
+pub fn blank_disks_stand<B: Bay>(_bay: &B)
+    ensures { BlankDisksStand B.D.told (B.has _bay.now) }
 {}

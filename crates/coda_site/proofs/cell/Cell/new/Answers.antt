@@ -7,6 +7,7 @@ use Rattle.coda_stored.specs.Cells.{plain_client, unmade}
 use Rattle.coda_stored.specs.Held.{clients_among}
 use Rattle.coda_stored.specs.Resuming.{awaits_volume, servers_of}
 use Rattle.coda_site.specs.Sites.{is_client_disk, is_replica_disk}
+use Rattle.coda_site.proofs.Beginning.{begun_shows}
 use Rattle.coda_site.proofs.Begun.{servers_begun, home_begun, clients_begun, replicas_begun}
 use Rattle.coda_site.proofs.Blank.{at_entry}
 use Rattle.coda_site.proofs.Closing.{vacant_held}
@@ -74,3 +75,10 @@ returns-clause-begins g c = λ cell held disks.
       );
       net = search rules;
     }
+
+pub returns-clause-shelves : goal.returns-clause-shelves
+returns-clause-shelves g c = λ shelves kept on.
+    begun_shows g.B.D.Disk.told (g.B.Bay.out c.args.bay) (g.B.Bay.has c.args.bay) shelves on _ kept refl (sym c.new.ensures.items) (λ volume. search rules) refl
+    (λ plain at. c.unmade-clients.ensures.fits is_client_disk plain (λ number in_crew. c.requires number) at)
+    (λ plain at. c.unmade-replicas.ensures.fits is_replica_disk plain (λ number in_crew. c.requires number) at)
+    (search rules)

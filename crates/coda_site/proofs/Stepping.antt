@@ -1,0 +1,82 @@
+-- What a line does to a site of the program is what it does in the cell that is its disks.
+use Rattle.std.proofs.Common.{◌≡◌, ℕ, Bool, true, false, List, ◌++◌, Result, Ok, Err, refl, sym, ◌∙◌, inl, inr}
+use Rattle.std.specs.Prelude.{IfOk}
+use Rattle.std.proofs.lemmas.Bool.{cases_Bool}
+use Rattle.coda_disk.specs.Told.{Told}
+use Rattle.coda_script.specs.Ranges.{InRange}
+use Rattle.coda_script.specs.declared.line.Line.{Line}
+use Rattle.coda_script.specs.declared.line.Line.TheVariants as line
+use Rattle.coda_script.specs.declared.reply.Reply.{Reply}
+use Rattle.coda_stored.specs.Cells.{StoredCell}
+use Rattle.coda_stored.specs.Lines as todays
+use Rattle.coda_stored.specs.Mounted.{Shelf, HoldsShelf}
+use Rattle.coda_stored.specs.Seen.{mounts_none, IsSeen}
+use Rattle.coda_site.specs.Sites as today
+use Rattle.coda_site.specs.Steps as today_steps
+use Rattle.coda_site.specs.declared.site.Site.{Site}
+use Rattle.coda_shelves.specs.Cells.{Cell}
+use Rattle.coda_shelves.specs.Lines.{is_built, Happens}
+use Rattle.coda_shelves.specs.Today.{IsToday, shelf_for, DoesToday}
+use Rattle.coda_shelves.proofs.Keeping.{shelves_are_kept}
+use Rattle.coda_shelves.proofs.Placed.{lines_keep_places}
+use Rattle.coda_shelves.proofs.TodayLines.{todays_lines_happen}
+use Rattle.coda_site.specs.Shelves.{Shows, Becomes}
+use Rattle.coda_site.proofs.Behind.{behind, stands, is_now, seen}
+use Rattle.coda_site.proofs.Leaving.{site_leaves}
+
+built_same : (said : Line) → todays.is_built said ≡ is_built said
+built_same (line.Volume volume servers area) = refl
+built_same (line.Client client blocks area) = refl
+built_same (line.Link client server strength) = refl
+built_same (line.Task t) = refl
+built_same _ = refl
+
+module _ {D Fault : Type 0} (told : D → Told) (out0 out1 : ℕ → Bool) (has0 has1 : ℕ → Told) (said : Line) (o : Result Reply Fault) (answers0 answers1 : List (List ℕ)) (site0 site1 : Site D) (range : InRange said) (built_today : todays.is_built said ≡ true)
+    (does : (cell : StoredCell) → today_steps.Admits cell said → today.IsSite told out0 has0 cell site0 → IfOk o (λ reply. today_steps.Becomes told out1 has1 (todays.Happens cell said) reply answers0 answers1 site1))
+    (finds : (cell : StoredCell) (shelf : Shelf) → IsSeen cell → mounts_none cell said ≡ false → HoldsShelf cell said shelf → today.IsSite told out0 has0 cell site0 → IfOk o (λ reply. today_steps.Finds told out1 has1 cell shelf said reply answers0 answers1 site1)) where
+  module _ (cell : Cell) (shows : Shows told out0 has0 cell site0) where
+    abbrev old : StoredCell
+    old = behind told out0 has0 cell site0 shows
+
+    built : is_built said ≡ true
+    built = sym (built_same said) ∙ built_today
+
+    on : today.IsSite told out0 has0 old site0
+    on = stands told out0 has0 cell site0 shows
+
+    now : IsToday old cell
+    now = is_now told out0 has0 cell site0 shows
+
+    is_known : IsSeen old
+    is_known = seen told out0 has0 cell site0 shows
+
+    becomes : (reply : Reply) (outside : List (List ℕ)) (end : StoredCell) → DoesToday cell said reply outside end → answers1 ≡ answers0 ++ outside → today.IsSite told out1 has1 end site1 → Becomes told out1 has1 (Happens cell said) reply answers0 answers1 site1
+    becomes reply outside end d answered stood =
+        let kept = shelves_are_kept.lines cell d.next said reply outside shows.kept range d.happens in
+        let placed = lines_keep_places.lines cell d.next said reply outside shows.kept shows.placed range built d.happens in
+        record {
+          outside = outside;
+          left = d.next;
+          happens = d.happens;
+          answered = answered;
+          shows = record { kept = kept; placed = placed; stands = site_leaves told out1 has1 end d.next d.today kept placed site1 stood };
+        }
+
+    from_done : (reply : Reply) → mounts_none old said ≡ true → today_steps.Becomes told out1 has1 (todays.Happens old said) reply answers0 answers1 site1 → Becomes told out1 has1 (Happens cell said) reply answers0 answers1 site1
+    from_done reply mounts b = becomes reply b.outside b.left (todays_lines_happen.lines old b.left cell said reply b.outside now shows.kept range built mounts b.happens) b.answered b.stands
+
+    from_found : (reply : Reply) → mounts_none old said ≡ false → today_steps.Finds told out1 has1 old (shelf_for cell said) said reply answers0 answers1 site1 → Becomes told out1 has1 (Happens cell said) reply answers0 answers1 site1
+    from_found reply mounts b = becomes reply b.outside b.left (todays_lines_happen.makes old b.left cell said reply b.outside now shows.kept range built mounts b.happens) b.answered b.stands
+
+    by_ok : {P Q : Reply → Type 0} → ((reply : Reply) → P reply → Q reply) → IfOk o P → IfOk o Q
+    by_ok {P = P} {Q = Q} f = by o
+      where
+        by : (x : Result Reply Fault) → IfOk x P → IfOk x Q
+        by (Ok reply) p = f reply p
+        by (Err why) p = tt
+
+    pub stepped : IfOk o (λ reply. Becomes told out1 has1 (Happens cell said) reply answers0 answers1 site1)
+    stepped = elim (cases_Bool (mounts_none old said)) [
+      | inl none ↦ by_ok (λ reply. from_done reply none) (does old (is_known, λ f. (let no : true ≡ false = sym none ∙ f in cc)) on)
+      | inr mounts ↦ by_ok (λ reply. from_found reply mounts) (finds old (shelf_for cell said) is_known mounts (todays_lines_happen.holds old cell said now shows.kept range built) on)
+    ]
