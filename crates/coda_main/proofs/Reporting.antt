@@ -30,6 +30,7 @@ use Rattle.coda_runs.proofs.Resumable.{what_ran_can_be_resumed}
 use Rattle.coda_runs.proofs.OnMade.{scripts_act_on_made_volumes}
 use Rattle.coda_runs.proofs.Running.{always_kept, scripts_learn_of_their_own}
 use Rattle.coda_main.specs.Later.{ShowsLater, LaterRefuses, MachineGives, IsReportOfLaterRun}
+use Rattle.coda_main.specs.Shelved.{LineRan}
 use Rattle.coda_main.specs.Shows.{Moment, Shows, MayGoOn}
 use Rattle.coda_main.proofs.Reaching.{reports_ran}
 use Rattle.coda_site.specs.Totals.{Counts}
@@ -40,7 +41,7 @@ use Rattle.coda_main.proofs.Showing.{cells_go_on, lines_good, later_shown}
 
 -- The machine was at old, at last after the last line that ran, and is at new.
 module _ {D M : Type 0} (new old last : M) (told : D → Told) (at : M → Moment D) (counts : M → Counts) (left_old left_new held_old held_new : Option (List ℕ)) (outside : List (List ℕ)) (status : Status)
-    (reports : Reports (λ old line text outside new. MachineGives told (at old) line text outside (at new) × CountsLine told (at old) (counts old) line text outside (at new) (counts new)) (λ m line column kind. IsBadLine line column kind) old last left_old left_new held_old held_new outside status)
+    (reports : Reports (λ old line text outside new. MachineGives told (at old) line text outside (at new) × CountsLine told (at old) (counts old) line text outside (at new) (counts new) × LineRan told (at old) (counts old) line text outside (at new) (counts new)) (λ m line column kind. IsBadLine line column kind) old last left_old left_new held_old held_new outside status)
     (leaves : Leaves (λ a b. BreaksOff (at a) (counts a) (at b) (counts b)) last new status) where
   -- what holds of the last moment holds of what the run left
   at_new : (P : Moment D → Type 0) → status ≢ Memory → status ≢ BayFault → P (at last) → P (at new)

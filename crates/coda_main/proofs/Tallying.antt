@@ -25,6 +25,7 @@ use Rattle.coda_engine.specs.declared.status.Kind.{Kind}
 use Rattle.coda_main.specs.Counting.{BreaksOff, CountsLine, RepliesSo}
 use Rattle.coda_main.specs.Held.{ShowsHeld, HeldRefuses, TalliedHeld, TalliedHeldGives, TalliedHeldRefuses}
 use Rattle.coda_main.specs.Later.{MachineGives}
+use Rattle.coda_main.specs.Shelved.{LineRan}
 use Rattle.coda_main.specs.Shows.{Moment, Shows}
 use Rattle.coda_main.specs.Tallies.{IsText, IsReplied, tells_fault, Tally, no_tally, tally_with, TalliedCell, TalliedGives, TalliedRefuses, TallyGives, TallyRefuses, IsReportOfDisks}
 
@@ -65,7 +66,7 @@ module _ {D M : Type 0} (at : M → Moment D) (counts : M → Counts) (last new 
   pub answered_left : (images : List (List ℕ)) → (at last).answered ≡ images → (at new).answered ≡ images
   answered_left images = kept_left (λ m. (at m).answered ≡ images) last new status memory leaves (λ broken same. broken.answered ∙ same)
 
-tallied : (first : Counts) (said : Line) (reply : Reply) (tally : Tally) (old new : Counts) → IsTallied first tally old → IsCounted (IsFault (Ok reply)) (has_armed said (Ok reply)) old new → IsTallied first (tally_with said reply tally) new
+pub tallied : (first : Counts) (said : Line) (reply : Reply) (tally : Tally) (old new : Counts) → IsTallied first tally old → IsCounted (IsFault (Ok reply)) (has_armed said (Ok reply)) old new → IsTallied first (tally_with said reply tally) new
 tallied first said reply tally old new was c = record {
   faults = faults_on (tells_fault reply) first.faults tally.faults old.faults new.faults was.faults c.later (λ e. c.cause (ap Ok (fault_is reply e)));
   arms = arms_on (has_armed said (Ok reply)) first.arms tally.arms old.arms new.arms was.arms c.arms;
@@ -119,7 +120,7 @@ held_untallied = record {
 
 module _ {D M : Type 0} (told : D → Told) (at : M → Moment D) (counts : M → Counts) where
   tallies_shown : (first : Counts) → Simulates (λ (tally : Tally) (m : M). IsTallied first tally (counts m)) TallyGives TallyRefuses
-      (λ old line text outside new. MachineGives told (at old) line text outside (at new) × CountsLine told (at old) (counts old) line text outside (at new) (counts new)) (λ m line column kind. IsBadLine line column kind)
+      (λ old line text outside new. MachineGives told (at old) line text outside (at new) × CountsLine told (at old) (counts old) line text outside (at new) (counts new) × LineRan told (at old) (counts old) line text outside (at new) (counts new)) (λ m line column kind. IsBadLine line column kind)
   tallies_shown first = record {
     step = λ tally m m' line text outside shows ran. go tally m m' line text outside shows ran.1;
     refusal = λ tally m line column kind shows refuses. refuses;
@@ -130,7 +131,7 @@ module _ {D M : Type 0} (told : D → Told) (at : M → Moment D) (counts : M �
       go tally m m' line text outside shows (inr c) = (tally_with c.0.said c.0.reply tally, inr (c.0, refl), tallied first c.0.said c.0.reply tally (counts m) (counts m') shows c.1)
 
   pub both_shown : (first : Counts) → Simulates (λ (p : Recorded × Tally) (m : M). Shows told p.0 (at m) × IsTallied first p.1 (counts m)) BothGives BothRefuse
-      (λ old line text outside new. MachineGives told (at old) line text outside (at new) × CountsLine told (at old) (counts old) line text outside (at new) (counts new)) (λ m line column kind. IsBadLine line column kind)
+      (λ old line text outside new. MachineGives told (at old) line text outside (at new) × CountsLine told (at old) (counts old) line text outside (at new) (counts new) × LineRan told (at old) (counts old) line text outside (at new) (counts new)) (λ m line column kind. IsBadLine line column kind)
   both_shown first = record {
     step = λ p m m' line text outside shows ran. go p m m' line text outside shows ran.1;
     refusal = λ p m line column kind shows refuses. refuses;
@@ -150,7 +151,7 @@ module _ {D M : Type 0} (told : D → Told) (at : M → Moment D) (counts : M �
 
   -- a run over the disks that an earlier run left, with its tally
   pub held_tallied : (first : Counts) → Simulates (λ (p : TalliedHeld) (m : M). ShowsHeld told p.at (at m) × IsTallied first p.tally (counts m)) TalliedHeldGives TalliedHeldRefuses
-      (λ old line text outside new. MachineGives told (at old) line text outside (at new) × CountsLine told (at old) (counts old) line text outside (at new) (counts new)) (λ m line column kind. IsBadLine line column kind)
+      (λ old line text outside new. MachineGives told (at old) line text outside (at new) × CountsLine told (at old) (counts old) line text outside (at new) (counts new) × LineRan told (at old) (counts old) line text outside (at new) (counts new)) (λ m line column kind. IsBadLine line column kind)
   held_tallied first = record {
     step = λ p m m' line text outside shows ran. go p m m' line text outside shows ran.1;
     refusal = λ p m line column kind shows refuses. refuses;
@@ -168,7 +169,7 @@ module _ {D M : Type 0} (told : D → Told) (at : M → Moment D) (counts : M �
 
   -- What a run tells of disks, where the sums of the bay, once all is given back, are the totals that the run left.
   pub reported_disks : (new old last : M) (left_old left_new held_old held_new : Option (List ℕ)) (outside : List (List ℕ)) (status : Status)
-      → Reports (λ old line text outside new. MachineGives told (at old) line text outside (at new) × CountsLine told (at old) (counts old) line text outside (at new) (counts new)) (λ m line column kind. IsBadLine line column kind) old last left_old left_new held_old held_new outside status → Leaves (λ a b. BreaksOff (at a) (counts a) (at b) (counts b)) last new status
+      → Reports (λ old line text outside new. MachineGives told (at old) line text outside (at new) × CountsLine told (at old) (counts old) line text outside (at new) (counts new) × LineRan told (at old) (counts old) line text outside (at new) (counts new)) (λ m line column kind. IsBadLine line column kind) old last left_old left_new held_old held_new outside status → Leaves (λ a b. BreaksOff (at a) (counts a) (at b) (counts b)) last new status
       → (faults_old faults_new arms_old arms_new : ℕ) → (counts old).faults ≡ plus faults_old 0 → (counts old).arms ≡ plus arms_old 0 → plus faults_new 0 ≡ (counts new).faults → plus arms_new 0 ≡ (counts new).arms
       → IsReportOfDisks faults_old faults_new arms_old arms_new left_old left_new held_old held_new status
   reported_disks new old last left_old left_new held_old held_new outside status reports leaves faults_old faults_new arms_old arms_new f0 a0 f1 a1 =

@@ -8,3 +8,4 @@ pub mod Later
 pub mod Tallies
 pub mod Counting
 pub mod Asking
+pub mod Shelved

@@ -6,7 +6,11 @@ ghost use Rattle.coda_stored.specs.Cells.{StoredCell};
 ghost use Rattle.coda_stored.specs.Held.{IsHeld};
 ghost use Rattle.coda_stored.specs.Kept.{IsStoredKept};
 ghost use Rattle.coda_stored.specs.Resuming.{Awaited, MakeAllAgain};
+ghost use Rattle.coda_shelves.specs.Kept.{AreKept};
+ghost use Rattle.coda_shelves.specs.Shelves.{Shelves};
 ghost use Rattle.coda_site.specs.Cells.{AreBlank, AreOnDisks};
+ghost use Rattle.coda_site.specs.Shelves.{AreOnDisks as OnShelves};
+ghost use Rattle.coda_main.specs.Shelved.{IsReport};
 ghost use Rattle.coda_main.specs.Held.{IsReportOfHeldRun};
 ghost use Rattle.coda_main.specs.Later.{IsReportOfLaterRun};
 ghost use Rattle.coda_disk.specs.Bays.{plus};
@@ -36,6 +40,8 @@ fn run_and_close<S: Source, K: Sink, B: Bay + Drop>(
         → IsReportOfLaterRun B.D.told (B.has result.1) (B.answered bay) (B.answered result.1) (S.left source.old) (S.left source.new) (K.held sink.old) (K.held sink.new) result.0 past lines }
     ensures held { (past : StoredCell) (held : IsHeld past) → AreOnDisks B.D.told (B.has bay) past
         → IsReportOfHeldRun B.D.told (B.has result.1) (B.answered bay) (B.answered result.1) (B.disk_faults bay) (B.disk_faults result.1) (B.disk_arms bay) (B.disk_arms result.1) (S.left source.old) (S.left source.new) (K.held sink.old) (K.held sink.new) result.0 past held }
+    ensures shelves { (shelves : Shelves) → AreKept shelves → OnShelves B.D.told (B.has bay) shelves
+        → IsReport B.D.told (B.has result.1) (B.answered bay) (B.answered result.1) (B.disk_faults bay) (B.disk_faults result.1) (B.disk_arms bay) (B.disk_arms result.1) (S.left source.old) (S.left source.new) (K.held sink.old) (K.held sink.new) result.0 shelves }
     ensures lines { IsReportOfLines (S.left source.old) (S.left source.new) (K.held sink.old) (K.held sink.new) result.0 }
     ensures disks { IsReportOfDisks (B.disk_faults bay) (B.disk_faults result.1) (B.disk_arms bay) (B.disk_arms result.1) (S.left source.old) (S.left source.new) (K.held sink.old) (K.held sink.new) result.0 }
     ensures disk_faults_later { plus (B.disk_faults bay) 0 ≤ B.disk_faults result.1 }
@@ -68,6 +74,8 @@ fn run_lent<'a, S: Source, K: Sink, B: Bay>(
         → IsReportOfLaterRun B.D.told (B.has result.1.bay.now) (B.answered lent.entry.bay.now) (B.answered result.1.bay.now) (S.left source.old) (S.left source.new) (K.held sink.old) (K.held sink.new) result.0 past lines }
     ensures held { (past : StoredCell) (held : IsHeld past) → AreOnDisks B.D.told (B.has lent.entry.bay.now) past
         → IsReportOfHeldRun B.D.told (B.has result.1.bay.now) (B.answered lent.entry.bay.now) (B.answered result.1.bay.now) (B.disk_faults lent.entry.bay.now) (B.disk_faults result.1.bay.now) (B.disk_arms lent.entry.bay.now) (B.disk_arms result.1.bay.now) (S.left source.old) (S.left source.new) (K.held sink.old) (K.held sink.new) result.0 past held }
+    ensures shelves { (shelves : Shelves) → AreKept shelves → OnShelves B.D.told (B.has lent.entry.bay.now) shelves
+        → IsReport B.D.told (B.has result.1.bay.now) (B.answered lent.entry.bay.now) (B.answered result.1.bay.now) (B.disk_faults lent.entry.bay.now) (B.disk_faults result.1.bay.now) (B.disk_arms lent.entry.bay.now) (B.disk_arms result.1.bay.now) (S.left source.old) (S.left source.new) (K.held sink.old) (K.held sink.new) result.0 shelves }
     ensures lines { IsReportOfLines (S.left source.old) (S.left source.new) (K.held sink.old) (K.held sink.new) result.0 }
     ensures disks { IsReportOfDisks (B.disk_faults lent.entry.bay.now) (B.disk_faults result.1.bay.now) (B.disk_arms lent.entry.bay.now) (B.disk_arms result.1.bay.now) (S.left source.old) (S.left source.new) (K.held sink.old) (K.held sink.new) result.0 }
     ensures disk_faults_later { plus (B.disk_faults lent.entry.bay.now) 0 ≤ B.disk_faults result.1.bay.now }
@@ -97,6 +105,10 @@ fn run_lent<'a, S: Source, K: Sink, B: Bay>(
 /// and all other lines meet those actors alone that came so far. And whatever lines come, in whatever order: each that makes an
 /// actor does it on the disk that it finds, and what follows keeps what is promised, whatever call of whichever disk fails.
 ///
+/// All this is one sentence where the disks are the cell: whatever stands on them, if it is kept, as each run leaves it and as empty
+/// disks are, and whatever lines come, in whatever order they make actors, on whichever disks, what was written is the report of a
+/// run over it; each history begins with what stood there; and the disks then stand for what the run left, where the next one goes on.
+///
 /// Over any bay, the status is that of the lines: each line that ran is built or says nothing, and one that ended the
 /// run is refused. Unless memory was wanting, the bay's sum of the faults of disks rose by as many at least as the replies
 /// tell, and its sum of `arm` calls by the lines that armed a disk; unless the bay was at fault too, it has all its disks again.
@@ -112,6 +124,8 @@ pub fn run_script<S: Source, K: Sink, B: Bay>(
         → IsReportOfLaterRun B.D.told (B.has bay.new) (B.answered bay.old) (B.answered bay.new) (S.left source.old) (S.left source.new) (K.held sink.old) (K.held sink.new) result past lines }
     ensures held { (past : StoredCell) (held : IsHeld past) → AreOnDisks B.D.told (B.has bay.old) past
         → IsReportOfHeldRun B.D.told (B.has bay.new) (B.answered bay.old) (B.answered bay.new) (B.disk_faults bay.old) (B.disk_faults bay.new) (B.disk_arms bay.old) (B.disk_arms bay.new) (S.left source.old) (S.left source.new) (K.held sink.old) (K.held sink.new) result past held }
+    ensures shelves { (shelves : Shelves) → AreKept shelves → OnShelves B.D.told (B.has bay.old) shelves
+        → IsReport B.D.told (B.has bay.new) (B.answered bay.old) (B.answered bay.new) (B.disk_faults bay.old) (B.disk_faults bay.new) (B.disk_arms bay.old) (B.disk_arms bay.new) (S.left source.old) (S.left source.new) (K.held sink.old) (K.held sink.new) result shelves }
     ensures lines { IsReportOfLines (S.left source.old) (S.left source.new) (K.held sink.old) (K.held sink.new) result }
     ensures disks { IsReportOfDisks (B.disk_faults bay.old) (B.disk_faults bay.new) (B.disk_arms bay.old) (B.disk_arms bay.new) (S.left source.old) (S.left source.new) (K.held sink.old) (K.held sink.new) result }
     ensures disk_faults_later { plus (B.disk_faults bay.old) 0 ≤ B.disk_faults bay.new }
@@ -147,6 +161,8 @@ pub fn coda<S: Source, K: Sink, B: Bay>(
         → IsReportOfLaterRun B.D.told (B.has bay.new) (B.answered bay.old) (B.answered bay.new) (S.left source.old) (S.left source.new) (K.held sink.old) (K.held sink.new) result past lines }
     ensures held { IsRun (map string_bytes words.now) → (past : StoredCell) (held : IsHeld past) → AreOnDisks B.D.told (B.has bay.old) past
         → IsReportOfHeldRun B.D.told (B.has bay.new) (B.answered bay.old) (B.answered bay.new) (B.disk_faults bay.old) (B.disk_faults bay.new) (B.disk_arms bay.old) (B.disk_arms bay.new) (S.left source.old) (S.left source.new) (K.held sink.old) (K.held sink.new) result past held }
+    ensures shelves { IsRun (map string_bytes words.now) → (shelves : Shelves) → AreKept shelves → OnShelves B.D.told (B.has bay.old) shelves
+        → IsReport B.D.told (B.has bay.new) (B.answered bay.old) (B.answered bay.new) (B.disk_faults bay.old) (B.disk_faults bay.new) (B.disk_arms bay.old) (B.disk_arms bay.new) (S.left source.old) (S.left source.new) (K.held sink.old) (K.held sink.new) result shelves }
     ensures lines { IsRun (map string_bytes words.now) → IsReportOfLines (S.left source.old) (S.left source.new) (K.held sink.old) (K.held sink.new) result }
     ensures disks { IsRun (map string_bytes words.now) → IsReportOfDisks (B.disk_faults bay.old) (B.disk_faults bay.new) (B.disk_arms bay.old) (B.disk_arms bay.new) (S.left source.old) (S.left source.new) (K.held sink.old) (K.held sink.new) result }
     ensures disk_faults_later { plus (B.disk_faults bay.old) 0 ≤ B.disk_faults bay.new }

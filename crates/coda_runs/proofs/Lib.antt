@@ -30,3 +30,4 @@ pub mod Held
 pub mod OnMade
 pub mod LaterMade
 pub mod Others
+pub mod Shelved

@@ -13,3 +13,4 @@ pub mod NeverCame
 pub mod Held
 pub mod Volumes
 pub mod Standing
+pub mod Shelved

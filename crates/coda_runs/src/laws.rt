@@ -10,6 +10,7 @@ ghost use Rattle.coda_runs.specs.Lettered.{RepliesNameLetters, LettersSayWhatIsS
 ghost use Rattle.coda_runs.specs.NeverCame.{LettersAreOfThoseWhoCame, WhoNeverCameIsAsItWas};
 ghost use Rattle.coda_runs.specs.Performed.{OperationsArePerformed};
 ghost use Rattle.coda_runs.specs.Runs.{LineGives, LineRefused};
+ghost use Rattle.coda_runs.specs.Shelved.{RunsGoOn, RunsFromBlankGoOn};
 ghost use Rattle.coda_runs.specs.Shown.{WhatIsShownIsThere};
 ghost use Rattle.coda_runs.specs.Shows.{ReportsTellOfRuns, WhatIsShownIsUp};
 ghost use Rattle.coda_runs.specs.Standing.{ChunksStandWithClients, VerdictsStandAtHome};
@@ -271,4 +272,16 @@ pub fn others_keep_their_disks()
 /// Whatever lines ran from an empty cell, the cell is kept, so that all that is said of kept cells is so in it.
 pub fn what_ran_is_kept()
     ensures { WhatRanIsKept }
+{}
+
+/// Whatever stands on the disks of a bay, if it is kept, and whatever lines run there, in whatever order they make actors and on
+/// whichever disks: what they leave is kept, so that the next run begins there; it keeps what is promised; no entry that stood on
+/// a disk is lost; and each log is what cancellation leaves of what is pending.
+pub fn runs_go_on()
+    ensures { RunsGoOn }
+{}
+
+/// Whatever lines ran over disks that held nothing, what is promised of servers and volumes is promised of what they left.
+pub fn runs_from_blank_go_on()
+    ensures { RunsFromBlankGoOn }
 {}

@@ -1,5 +1,5 @@
 -- What a line does to a site of the program is what it does in the cell that is its disks.
-use Rattle.std.proofs.Common.{◌≡◌, ℕ, Bool, true, false, List, ◌++◌, Result, Ok, Err, refl, sym, ◌∙◌, inl, inr}
+use Rattle.std.proofs.Common.{◌≡◌, ℕ, Bool, true, false, List, ◌++◌, Result, Ok, Err, refl, sym, ◌∙◌, inl, inr, ◌⊎◌}
 use Rattle.std.specs.Prelude.{IfOk}
 use Rattle.std.proofs.lemmas.Bool.{cases_Bool}
 use Rattle.coda_disk.specs.Told.{Told}
@@ -9,7 +9,7 @@ use Rattle.coda_script.specs.declared.line.Line.TheVariants as line
 use Rattle.coda_script.specs.declared.reply.Reply.{Reply}
 use Rattle.coda_stored.specs.Cells.{StoredCell}
 use Rattle.coda_stored.specs.Lines as todays
-use Rattle.coda_stored.specs.Mounted.{Shelf, HoldsShelf}
+use Rattle.coda_stored.specs.Mounted.{Shelf, HoldsShelf, LineFinds}
 use Rattle.coda_stored.specs.Seen.{mounts_none, IsSeen}
 use Rattle.coda_site.specs.Sites as today
 use Rattle.coda_site.specs.Steps as today_steps
@@ -24,12 +24,19 @@ use Rattle.coda_site.specs.Shelves.{Shows, Becomes}
 use Rattle.coda_site.proofs.Behind.{behind, stands, is_now, seen}
 use Rattle.coda_site.proofs.Leaving.{site_leaves}
 
-built_same : (said : Line) → todays.is_built said ≡ is_built said
+pub built_same : (said : Line) → todays.is_built said ≡ is_built said
 built_same (line.Volume volume servers area) = refl
 built_same (line.Client client blocks area) = refl
 built_same (line.Link client server strength) = refl
 built_same (line.Task t) = refl
 built_same _ = refl
+
+-- A line has this reply, and the site shows the cell that it leaves; so it is in the cell on disks that stood behind the cell before, with what stands for it then.
+pub record IsStepped {D : Type 0} (told : D → Told) (out : ℕ → Bool) (has : ℕ → Told) (cell : Cell) (old : StoredCell) (said : Line) (reply : Reply) (answers0 answers1 : List (List ℕ)) (site : Site D) : Type 0 where
+  pub becomes : Becomes told out has (Happens cell said) reply answers0 answers1 site
+  pub end : StoredCell
+  pub today : IsToday end becomes.left
+  pub did : todays.Happens old said reply becomes.outside end ⊎ LineFinds old (shelf_for cell said) said reply becomes.outside end
 
 module _ {D Fault : Type 0} (told : D → Told) (out0 out1 : ℕ → Bool) (has0 has1 : ℕ → Told) (said : Line) (o : Result Reply Fault) (answers0 answers1 : List (List ℕ)) (site0 site1 : Site D) (range : InRange said) (built_today : todays.is_built said ≡ true)
     (does : (cell : StoredCell) → today_steps.Admits cell said → today.IsSite told out0 has0 cell site0 → IfOk o (λ reply. today_steps.Becomes told out1 has1 (todays.Happens cell said) reply answers0 answers1 site1))
@@ -50,23 +57,29 @@ module _ {D Fault : Type 0} (told : D → Told) (out0 out1 : ℕ → Bool) (has0
     is_known : IsSeen old
     is_known = seen told out0 has0 cell site0 shows
 
-    becomes : (reply : Reply) (outside : List (List ℕ)) (end : StoredCell) → DoesToday cell said reply outside end → answers1 ≡ answers0 ++ outside → today.IsSite told out1 has1 end site1 → Becomes told out1 has1 (Happens cell said) reply answers0 answers1 site1
-    becomes reply outside end d answered stood =
+    steps_to : (reply : Reply) (outside : List (List ℕ)) (end : StoredCell) → DoesToday cell said reply outside end → answers1 ≡ answers0 ++ outside → today.IsSite told out1 has1 end site1
+        → todays.Happens old said reply outside end ⊎ LineFinds old (shelf_for cell said) said reply outside end → IsStepped told out1 has1 cell old said reply answers0 answers1 site1
+    steps_to reply outside end d answered stood did =
         let kept = shelves_are_kept.lines cell d.next said reply outside shows.kept range d.happens in
         let placed = lines_keep_places.lines cell d.next said reply outside shows.kept shows.placed range built d.happens in
         record {
-          outside = outside;
-          left = d.next;
-          happens = d.happens;
-          answered = answered;
-          shows = record { kept = kept; placed = placed; stands = site_leaves told out1 has1 end d.next d.today kept placed site1 stood };
+          becomes = record {
+            outside = outside;
+            left = d.next;
+            happens = d.happens;
+            answered = answered;
+            shows = record { kept = kept; placed = placed; stands = site_leaves told out1 has1 end d.next d.today kept placed site1 stood };
+          };
+          end = end;
+          today = d.today;
+          did = did;
         }
 
-    from_done : (reply : Reply) → mounts_none old said ≡ true → today_steps.Becomes told out1 has1 (todays.Happens old said) reply answers0 answers1 site1 → Becomes told out1 has1 (Happens cell said) reply answers0 answers1 site1
-    from_done reply mounts b = becomes reply b.outside b.left (todays_lines_happen.lines old b.left cell said reply b.outside now shows.kept range built mounts b.happens) b.answered b.stands
+    from_done : (reply : Reply) → mounts_none old said ≡ true → today_steps.Becomes told out1 has1 (todays.Happens old said) reply answers0 answers1 site1 → IsStepped told out1 has1 cell old said reply answers0 answers1 site1
+    from_done reply mounts b = steps_to reply b.outside b.left (todays_lines_happen.lines old b.left cell said reply b.outside now shows.kept range built mounts b.happens) b.answered b.stands (inl b.happens)
 
-    from_found : (reply : Reply) → mounts_none old said ≡ false → today_steps.Finds told out1 has1 old (shelf_for cell said) said reply answers0 answers1 site1 → Becomes told out1 has1 (Happens cell said) reply answers0 answers1 site1
-    from_found reply mounts b = becomes reply b.outside b.left (todays_lines_happen.makes old b.left cell said reply b.outside now shows.kept range built mounts b.happens) b.answered b.stands
+    from_found : (reply : Reply) → mounts_none old said ≡ false → today_steps.Finds told out1 has1 old (shelf_for cell said) said reply answers0 answers1 site1 → IsStepped told out1 has1 cell old said reply answers0 answers1 site1
+    from_found reply mounts b = steps_to reply b.outside b.left (todays_lines_happen.makes old b.left cell said reply b.outside now shows.kept range built mounts b.happens) b.answered b.stands (inr b.happens)
 
     by_ok : {P Q : Reply → Type 0} → ((reply : Reply) → P reply → Q reply) → IfOk o P → IfOk o Q
     by_ok {P = P} {Q = Q} f = by o
@@ -75,7 +88,7 @@ module _ {D Fault : Type 0} (told : D → Told) (out0 out1 : ℕ → Bool) (has0
         by (Ok reply) p = f reply p
         by (Err why) p = tt
 
-    pub stepped : IfOk o (λ reply. Becomes told out1 has1 (Happens cell said) reply answers0 answers1 site1)
+    pub stepped : IfOk o (λ reply. IsStepped told out1 has1 cell old said reply answers0 answers1 site1)
     stepped = elim (cases_Bool (mounts_none old said)) [
       | inl none ↦ by_ok (λ reply. from_done reply none) (does old (is_known, λ f. (let no : true ≡ false = sym none ∙ f in cc)) on)
       | inr mounts ↦ by_ok (λ reply. from_found reply mounts) (finds old (shelf_for cell said) is_known mounts (todays_lines_happen.holds old cell said now shows.kept range built) on)

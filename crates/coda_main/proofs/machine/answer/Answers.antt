@@ -6,6 +6,7 @@ use Rattle.coda_main.specs.Shows.{moment}
 use Rattle.coda_main.proofs.Answering.{line_replied}
 use Rattle.coda_main.proofs.Holding.{line_answered_held}
 use Rattle.coda_main.proofs.Resuming.{line_answered_again, line_answered_between, line_answered_elsewhere}
+use Rattle.coda_main.proofs.Shelved.{line_shelved}
 use Rattle.coda_main.proofs.machine.answer.Goals as goal
 
 pub returns-in-Ok-text_of-clause-answered : goal.returns-in-Ok-text_of-clause-answered
@@ -70,3 +71,16 @@ returns-in-Ok-text_of-clause-held g c = λ at shows.
     let same : c.into_vec.result.items ≡ c.in-Ok-text_of.text = search rules in
     (line_answered_held g.B.D.Disk.told before behind at c.args.said.now c.in-Ok.reply c.into_vec.result.items c.requires.range shows c.in-Ok.ensures.does c.in-Ok.ensures.finds
     (λ cell seen stands can. same ∙ c.in-Ok-text_of.ensures.printed cell seen stands can) (subst (IsText c.in-Ok.reply) (sym same) c.in-Ok-text_of.ensures.said)).0
+
+pub returns-in-Ok-text_of-clause-shelved : goal.returns-in-Ok-text_of-clause-shelved
+returns-in-Ok-text_of-clause-shelved g c =
+    let old = c.args.cell.now in
+    let new = c.step.new.self in
+    let before = moment (g.B.Bay.out old.bay) (g.B.Bay.has old.bay) (g.B.Bay.answered old.bay) old.site in
+    let after = moment (g.B.Bay.out new.bay) (g.B.Bay.has new.bay) (g.B.Bay.answered new.bay) new.site in
+    let same : c.into_vec.result.items ≡ c.in-Ok-text_of.text = search rules in (
+      c.in-Ok.reply,
+      subst (IsText c.in-Ok.reply) (sym same) c.in-Ok-text_of.ensures.said,
+      c.in-Ok.ensures.counts,
+      line_shelved g.B.D.Disk.told before after c.args.said.now c.in-Ok.reply c.into_vec.result.items c.requires.range c.requires.built c.in-Ok.ensures.does c.in-Ok.ensures.finds (λ cell seen stands can. same ∙ c.in-Ok-text_of.ensures.printed cell seen stands can),
+    )

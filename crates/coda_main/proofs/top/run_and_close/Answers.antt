@@ -9,6 +9,8 @@ use Rattle.coda_main.specs.Shows.{moment}
 use Rattle.coda_main.proofs.Tallying.{reported_disks}
 use Rattle.coda_main.proofs.Reporting.{goes_on, reported, reported_later, reported_held, reported_lines}
 use Rattle.coda_main.proofs.Resuming.{waits_first}
+use Rattle.coda_site.specs.Shelves.{AreOnDisks as OnShelves}
+use Rattle.coda_main.proofs.Shelved.{reported_shelves}
 use Rattle.coda_main.proofs.top.run_and_close.Goals as goal
 
 pub returns-clause-report : goal.returns-clause-report
@@ -65,3 +67,13 @@ returns-clause-held g c = λ past held disks.
     (g.B.Bay.has c.close.result) (g.B.Bay.answered c.args.bay) (g.B.Bay.answered c.close.result) (g.B.Bay.disk_faults c.args.bay) (g.B.Bay.disk_faults c.close.result) (g.B.Bay.disk_arms c.args.bay) (g.B.Bay.disk_arms c.close.result) past held start.ready
     (record { held = held_cells_are_kept.begun past held; stands = start.begins past held (subst (λ bay. AreOnDisks told (g.B.Bay.has bay) past) (sym start.bay) disks); answered = ap g.B.Bay.answered start.bay })
     c.close.ensures.answered (λ ready cell stands. c.close.ensures.stands cell ready stands) (ap (λ t. t.faults) start.counts) (ap (λ t. t.arms) start.counts) c.close.ensures.faults_out c.close.ensures.arms_out
+
+pub returns-clause-shelves : goal.returns-clause-shelves
+returns-clause-shelves g c = λ shelves kept on.
+    let start = c.new.ensures in
+    let report = c.run-status.ensures.report in
+    let told = g.B.D.Disk.told in
+    reported_shelves c.run-status.new.machine (record { cell = c.new.result }) report.1 told (λ m. moment (g.B.Bay.out m.cell.bay) (g.B.Bay.has m.cell.bay) (g.B.Bay.answered m.cell.bay) m.cell.site) (λ m. totals told g.B.D.Disk.faults g.B.D.Disk.arms (g.B.Bay.disk_faults m.cell.bay) (g.B.Bay.disk_arms m.cell.bay) m.cell.site) _ _ _ _ report.0 c.run-status.result report.2 report.3
+    shelves (g.B.Bay.has c.close.result) (g.B.Bay.answered c.args.bay) (g.B.Bay.answered c.close.result) (g.B.Bay.disk_faults c.args.bay) (g.B.Bay.disk_faults c.close.result) (g.B.Bay.disk_arms c.args.bay) (g.B.Bay.disk_arms c.close.result) kept start.ready
+    (start.shelves shelves kept (subst (λ bay. OnShelves told (g.B.Bay.has bay) shelves) (sym start.bay) on), ap g.B.Bay.answered start.bay)
+    c.close.ensures.answered (λ ready cell shows. c.close.ensures.shelves cell ready shows) (ap (λ t. t.faults) start.counts) (ap (λ t. t.arms) start.counts) c.close.ensures.faults_out c.close.ensures.arms_out

@@ -1,0 +1,258 @@
+-- What the cell of the code tells of a run over whatever stands on the disks of a bay.
+use Rattle.std.proofs.Common.{◌≡◌, ◌≢◌, ◌≤◌, ◌+◌, ◌++◌, ◌⊎◌, ℕ, Bool, true, false, not, List, [], ◌∷◌, Option, Some, None, Ok, refl, sym, ap, ◌∙◌, subst, inl, inr, arith}
+use Rattle.std.proofs.lemmas.List.{append_assoc, append-nil}
+use Rattle.std.specs.Prelude.{drop, length}
+use Rattle.std.specs.Option.{option_map, option_map_or}
+use Rattle.coda_disk.specs.Bays.{plus}
+use Rattle.coda_disk.specs.Told.{Told}
+use Rattle.coda_engine.proofs.Simulation.{Simulates, reports_shown}
+use Rattle.coda_engine.specs.Machine.{Gives, Refuses, Leaves}
+use Rattle.coda_engine.specs.Run.{Runs, BrokeOff, Answers, Reports, is_at_end}
+use Rattle.coda_engine.specs.declared.status.Status.{Status}
+use Rattle.coda_engine.specs.declared.status.Status.TheVariants.{Done, Usage, Script, SourceFault, SinkFault, TooLong, BayFault, Memory}
+use Rattle.coda_script.specs.declared.line.Line.{Line}
+use Rattle.coda_script.specs.declared.reply.Reply.{Reply}
+use Rattle.coda_script.specs.declared.reply.Reply.TheVariants.{ShowVolume, ShowLog}
+use Rattle.coda_script.specs.Lines.{line_of}
+use Rattle.coda_script.specs.Ranges.{InRange}
+use Rattle.coda_cell.specs.Cells.{volume_at}
+use Rattle.coda_cell.specs.Made.{state_of as stored_state}
+use Rattle.coda_cell.specs.State.{ClientState, ReplicaState}
+use Rattle.coda_cell.specs.Steps.{alone}
+use Rattle.coda_stored.specs.Cells.{StoredCell}
+use Rattle.coda_stored.specs.Lines as stored
+use Rattle.coda_stored.specs.Mounted.{Shelf, HoldsShelf, LineFinds}
+use Rattle.coda_stored.specs.Seen.{mounts_none, IsSeen}
+use Rattle.coda_shelves.specs.Cells.{Cell, begun_on, shelves_of, is_up, Stand, stand_of, state_of}
+use Rattle.coda_shelves.specs.Kept.{AreKept}
+use Rattle.coda_shelves.specs.Lines.{is_built, Happens}
+use Rattle.coda_shelves.specs.Shelves.{Shelves}
+use Rattle.coda_shelves.specs.Today.{IsToday, shelf_for}
+use Rattle.coda_shelves.proofs.TodayStates.{client_states, client_down_same, volume_by, volume_now, replica_up_same, replica_down_is}
+use Rattle.coda_site.specs.Shelves.{Shows, AreOnDisks}
+use Rattle.coda_site.specs.Sites as sites
+use Rattle.coda_site.specs.Steps as steps
+use Rattle.coda_site.specs.Totals.{Counts, IsCounted, IsFault, has_armed}
+use Rattle.coda_site.proofs.Behind as stand
+use Rattle.coda_site.proofs.Stepping.{IsStepped, stepped, built_same}
+use Rattle.coda_runs.specs.Runs.{LineRefused}
+use Rattle.coda_runs.specs.Shelved.{LineGives}
+use Rattle.coda_runs.specs.Shows.{CanShow}
+use Rattle.coda_runs.specs.Texts.{shown_volume, shown_log, text_of}
+use Rattle.coda_runs.proofs.Shelved.{runs_go_on}
+use Rattle.coda_runs.proofs.ShownUp.{shows_what_is_up}
+use Rattle.coda_main.specs.Counting.{BreaksOff, CountsLine}
+use Rattle.coda_main.specs.Later.{ShowsNothing, MachineGives}
+use Rattle.coda_main.specs.Lines.{IsBadLine}
+use Rattle.coda_main.specs.Shelved.{ShowsAt, Answered, LineRan, TalliedCell, TalliedGives, TalliedRefuses, IsReport}
+use Rattle.coda_main.specs.Shows.{Moment, answered_since, MayGoOn}
+use Rattle.coda_main.specs.Tallies.{IsText, Tally, no_tally, tally_with}
+use Rattle.coda_main.proofs.Answering.{behind}
+use Rattle.coda_main.proofs.Asking.{line_finds, shows_nothing}
+use Rattle.coda_main.proofs.Reaching.{reports_ran}
+use Rattle.coda_main.proofs.Reporting.{goes_on}
+use Rattle.coda_main.proofs.Tallying.{IsTallied, tallied, tallied_left, answered_left}
+
+-- ---- texts
+
+is_true : (b : Bool) → not b ≡ false → b ≡ true
+is_true true e = refl
+is_true false e = cc
+
+module _ (end : StoredCell) (next : Cell) (is : IsToday end next) where
+  replica_same : (volume : ℕ) → stored.replica_down end volume ≡ false → (o : Option Stand) → stand_of next volume ≡ o → (stored_state end.made).replicas volume ≡ (state_of next).replicas volume
+  replica_same volume up None e = volume_by end next is volume None e ∙ sym (volume_now end next is volume None e)
+  replica_same volume up (Some at) e = replica_up_same end next is volume at e (is_true _ (sym (replica_down_is end next is volume at e) ∙ up))
+
+  -- what is shown of actors that are up is the same
+  text_same : (reply : Reply) → CanShow end reply → text_of (stored_state end.made) reply ≡ text_of (state_of next) reply
+  text_same (ShowVolume server volume) can = ap (λ (r : Option ReplicaState). shown_volume server (volume_at r server)) (replica_same volume can (stand_of next volume) refl)
+  text_same (ShowLog client volume) can = ap (λ (c : Option ClientState). shown_log c volume) (client_states end next is client)
+  text_same _ can = refl
+
+-- two cells on disks that stand for one cell show the same
+module _ (end other : StoredCell) (next : Cell) (is : IsToday end next) (that : IsToday other next) where
+  down_by : (cell : StoredCell) → IsToday cell next → (volume : ℕ) (o : Option Stand) → stand_of next volume ≡ o → stored.replica_down cell volume ≡ option_map_or (λ (at : Stand). not (is_up (next.replicas at.row (alone at.servers)).life)) o false
+  down_by cell same volume None e =
+      ap (λ (f : ℕ → Option ℕ). option_map_or (λ server. not (cell.made.acted.replicas server volume).up) (f volume) false) same.homes
+      ∙ ap (λ (o : Option Stand). option_map_or (λ server. not (cell.made.acted.replicas server volume).up) (option_map (λ (at : Stand). alone at.servers) o) false) e
+  down_by cell same volume (Some at) e = replica_down_is cell next same volume at e
+
+  can_same : (reply : Reply) → CanShow end reply → CanShow other reply
+  can_same (ShowVolume server volume) can = down_by other that volume (stand_of next volume) refl ∙ sym (down_by end is volume (stand_of next volume) refl) ∙ can
+  can_same (ShowLog client volume) can = (
+    client_down_same other next that client ∙ sym (client_down_same end next is client) ∙ can.0,
+    (can.1.0, client_states other next that client ∙ sym (client_states end next is client) ∙ can.1.1),
+  )
+  can_same _ can = tt
+
+-- what shows nothing may be shown
+nothing_can : (cell : StoredCell) (reply : Reply) → ShowsNothing reply → CanShow cell reply
+nothing_can cell (ShowVolume server volume) none = absurd none
+nothing_can cell (ShowLog client volume) none = absurd none
+nothing_can cell _ none = tt
+
+-- ---- lines
+
+-- A line was carried out with this reply, and this is its text in each cell on disks that the site stands for then.
+module _ {D : Type 0} (told : D → Told) (old new : Moment D) (said : Line) (reply : Reply) (text : List ℕ) (range : InRange said) (built : stored.is_built said ≡ true)
+    (does : (cell : StoredCell) → steps.Admits cell said → sites.IsSite told old.out old.has cell old.site → steps.Becomes told new.out new.has (stored.Happens cell said) reply old.answered new.answered new.site)
+    (finds : (cell : StoredCell) (shelf : Shelf) → IsSeen cell → mounts_none cell said ≡ false → HoldsShelf cell said shelf → sites.IsSite told old.out old.has cell old.site → steps.Finds told new.out new.has cell shelf said reply old.answered new.answered new.site)
+    (printed : (cell : StoredCell) → IsSeen cell → sites.IsSite told new.out new.has cell new.site → CanShow cell reply → text ≡ text_of (stored_state cell.made) reply) where
+  can_show : (past end : StoredCell) (shelf : Shelf) (outside : List (List ℕ)) → stored.Happens past said reply outside end ⊎ LineFinds past shelf said reply outside end → CanShow end reply
+  can_show past end shelf outside (inl did) = shows_what_is_up past end said reply outside did
+  can_show past end shelf outside (inr found) = nothing_can end reply (shows_nothing reply (line_finds past end shelf said reply outside found))
+
+  pub line_shelved : (plain : Cell) → Shows told old.out old.has plain old.site → Answered told plain said reply text old new
+  line_shelved plain shows =
+      let s : IsStepped told new.out new.has plain (stand.behind told old.out old.has plain old.site shows) said reply old.answered new.answered new.site
+          = stepped told old.out new.out old.has new.has said (Ok {E = Unit {0}} reply) old.answered new.answered old.site new.site range built does finds plain shows in
+      let became = s.becomes in
+      let past = stand.behind told old.out old.has plain old.site shows in
+      let same : answered_since old new ≡ became.outside = ap (λ images. drop (length old.answered) images) became.answered ∙ behind old.answered became.outside in
+      let other = stand.behind told new.out new.has became.left new.site became.shows in
+      let that = stand.is_now told new.out new.has became.left new.site became.shows in
+      let can = can_same s.end other became.left s.today that reply (can_show past s.end (shelf_for plain said) became.outside s.did) in
+      record {
+        next = became.left;
+        happens = subst (λ outside. Happens plain said reply outside became.left) (sym same) became.happens;
+        printed = printed other (stand.seen told new.out new.has became.left new.site became.shows) (stand.stands told new.out new.has became.left new.site became.shows) can ∙ text_same other became.left that reply can;
+        answered = became.answered ∙ ap (λ outside. old.answered ++ outside) (sym same);
+        shows = became.shows;
+      }
+
+-- what a line that is built counts and tells
+pub line_ran : {D : Type 0} (told : D → Told) (old new : Moment D) (old_counts new_counts : Counts) (bytes text : List ℕ) (said : Line) (reply : Reply) → line_of bytes ≡ Ok (Some said) → stored.is_built said ≡ true → IsText reply text
+    → IsCounted (IsFault (Ok reply)) (has_armed said (Ok reply)) old_counts new_counts → ((plain : Cell) → Shows told old.out old.has plain old.site → Answered told plain said reply text old new)
+    → LineRan told old old_counts bytes text (answered_since old new) new new_counts
+line_ran told old new old_counts new_counts bytes text said reply spelled built printed counted answers = inr (
+  record { said = said; reply = reply; spelled = spelled; built = built; printed = printed },
+  counted,
+  λ plain images shows. (let a = answers plain shows.0 in record {
+    next = a.next;
+    replies = record { said = said; reply = reply; spelled = spelled; built = sym (built_same said) ∙ built; happens = a.happens; printed = a.printed };
+    said = refl;
+    reply = refl;
+    shows = (a.shows, a.answered ∙ ap (λ o. o ++ answered_since old new) shows.1);
+  }),
+)
+
+-- ---- what a run answered, where each line says what it answers
+
+module _ {M : Type 0} (images : M → List (List ℕ)) (gives : Gives M) (refuses : Refuses M) (each : (old new : M) (bytes text : List ℕ) (outside : List (List ℕ)) → gives old bytes text outside new → images new ≡ images old ++ outside) where
+  runs_say : (old new : M) (ls : List (List ℕ)) (report : List ℕ) (outside : List (List ℕ)) → Runs gives old ls report outside new → images new ≡ images old ++ outside
+  runs_say old new [] report outside run = ap images run.2 ∙ sym (append-nil (images old)) ∙ ap (λ o. images old ++ o) (sym run.1)
+  runs_say old new (l ∷ more) report outside run =
+      runs_say run.0 new more run.2 run.4 run.6 ∙ ap (λ a. a ++ run.4) (each old run.0 l run.1 run.3 run.5) ∙ append_assoc (images old) run.3 run.4 ∙ ap (λ o. images old ++ o) (sym run.8)
+
+  broke_say : (old new : M) (all : Bool) (read front rest written : List ℕ) (outside : List (List ℕ)) → BrokeOff gives old all read front rest written outside new → images new ≡ images old ++ outside
+  broke_say old new all read front rest written outside b =
+      each b.state new b.line b.text b.answered b.did ∙ ap (λ a. a ++ b.answered) (runs_say old b.state b.before b.report b.answers b.runs) ∙ append_assoc (images old) b.answers b.answered ∙ ap (λ o. images old ++ o) (sym b.said)
+
+  answers_say : (old new : M) (all : Bool) (read written : List ℕ) (outside : List (List ℕ)) (status : Status) → Answers gives refuses old new all read written outside status → images new ≡ images old ++ outside
+  answers_say old new all read written outside Done a = runs_say old new _ written outside a.1.runs
+  answers_say old new all read written outside Usage a = absurd a
+  answers_say old new all read written outside (Script line column kind) a = runs_say old new _ written outside a.3.runs
+  answers_say old new all read written outside TooLong a = runs_say old new _ written outside a.2.runs
+  answers_say old new all read written outside SourceFault a = runs_say old new _ written outside a.2.runs
+  answers_say old new all read written outside SinkFault a = broke_say old new all read a.0 a.1 written outside a.2
+  answers_say old new all read written outside BayFault a = runs_say old new _ written outside a.3.runs
+  answers_say old new all read written outside Memory a = runs_say old new _ a.2 outside a.3.runs
+
+  pub reports_say : (old new : M) (left_old left_new held_old held_new : Option (List ℕ)) (outside : List (List ℕ)) (status : Status) → Reports gives refuses old new left_old left_new held_old held_new outside status → images new ≡ images old ++ outside
+  reports_say old new left_old left_new held_old held_new outside status r = answers_say old new (is_at_end left_new) r.0 r.1 outside status r.4
+
+-- ---- cells that are shown, with their tallies and what the bay answered
+
+pub record Both : Type 0 where
+  pub at : TalliedCell
+  pub images : List (List ℕ)
+
+abbrev pub BothGive : Gives Both
+BothGive old bytes text outside new = TalliedGives old.at bytes text outside new.at × (new.images ≡ old.images ++ outside)
+
+abbrev pub BothRefuse : Refuses Both
+BothRefuse old bytes column kind = IsBadLine bytes column kind
+
+pub alone_shown : Simulates (λ (t : TalliedCell) (b : Both). t ≡ b.at) TalliedGives TalliedRefuses BothGive BothRefuse
+alone_shown = record {
+  step = λ t b b' line text outside is ran. (b'.at, subst (λ (x : TalliedCell). TalliedGives x line text outside b'.at) (sym is) ran.0, refl);
+  refusal = λ t b line column kind is refuses. refuses;
+}
+
+-- the cell alone
+pub untallied : Simulates (λ (c : Cell) (t : TalliedCell). c ≡ t.cell) LineGives LineRefused TalliedGives TalliedRefuses
+untallied = record {
+  step = λ c t t' line text outside is ran. (t'.cell, subst (λ (x : Cell). LineGives x line text outside t'.cell) (sym is) (go t t' line text outside ran), refl);
+  refusal = λ c t line column kind is refuses. refuses;
+}
+  where
+    go : (t t' : TalliedCell) (line text : List ℕ) (outside : List (List ℕ)) → TalliedGives t line text outside t' → LineGives t.cell line text outside t'.cell
+    go t t' line text outside (inl s) = inl (s.0, s.1, s.2, ap (λ (x : TalliedCell). x.cell) s.3)
+    go t t' line text outside (inr r) = inr r.0
+
+module _ {D M : Type 0} (told : D → Told) (at : M → Moment D) (counts : M → Counts) where
+  abbrev pub IsShown : Counts → Both → M → Type 0
+  IsShown first b m = ShowsAt told b.at.cell b.images (at m) × IsTallied first b.at.tally (counts m)
+
+  pub both_shown : (first : Counts) → Simulates (IsShown first) BothGive BothRefuse (λ old line text outside new. MachineGives told (at old) line text outside (at new) × CountsLine told (at old) (counts old) line text outside (at new) (counts new) × LineRan told (at old) (counts old) line text outside (at new) (counts new)) (λ m line column kind. IsBadLine line column kind)
+  both_shown first = record {
+    step = λ b m m' line text outside shows ran. go b m m' line text outside shows ran.2;
+    refusal = λ b m line column kind shows refuses. refuses;
+  }
+    where
+      said_so : (b : Both) (m' : M) (said : Line) (reply : Reply) (said2 : Line) (reply2 : Reply) → said2 ≡ said → reply2 ≡ reply
+          → IsTallied first (tally_with said reply b.at.tally) (counts m') → IsTallied first (tally_with said2 reply2 b.at.tally) (counts m')
+      said_so b m' said reply said2 reply2 e f t =
+          subst (λ (s : Line). IsTallied first (tally_with s reply2 b.at.tally) (counts m')) (sym e) (subst (λ (w : Reply). IsTallied first (tally_with said w b.at.tally) (counts m')) (sym f) t)
+
+      go : (b : Both) (m m' : M) (line text : List ℕ) (outside : List (List ℕ)) → IsShown first b m → LineRan told (at m) (counts m) line text outside (at m') (counts m') → (next : Both) × BothGive b line text outside next × IsShown first next m'
+      go b m m' line text outside shows (inl s) =
+          (b, (inl (s.0, s.1, s.2, refl), sym (append-nil b.images) ∙ ap (λ o. b.images ++ o) (sym s.2)), (s.4 b.at.cell b.images shows.0, subst (IsTallied first b.at.tally) (sym s.3) shows.1))
+      go b m m' line text outside shows (inr c) =
+          let so = c.2 b.at.cell b.images shows.0 in (
+            record { at = record { cell = so.next; tally = tally_with so.replies.said so.replies.reply b.at.tally }; images = b.images ++ outside },
+            (inr (so.replies, refl), refl),
+            (so.shows, said_so b m' c.0.said c.0.reply so.replies.said so.replies.reply so.said so.reply (tallied first c.0.said c.0.reply b.at.tally (counts m) (counts m') shows.1 c.1)),
+          )
+
+-- ---- the report
+
+-- The machine was at old, at last after the last line that ran, and is at new.
+module _ {D M : Type 0} (new old last : M) (told : D → Told) (at : M → Moment D) (counts : M → Counts) (left_old left_new held_old held_new : Option (List ℕ)) (outside : List (List ℕ)) (status : Status)
+    (reports : Reports (λ old line text outside new. MachineGives told (at old) line text outside (at new) × CountsLine told (at old) (counts old) line text outside (at new) (counts new) × LineRan told (at old) (counts old) line text outside (at new) (counts new)) (λ m line column kind. IsBadLine line column kind) old last left_old left_new held_old held_new outside status)
+    (leaves : Leaves (λ a b. BreaksOff (at a) (counts a) (at b) (counts b)) last new status) where
+  -- what holds of the last moment holds of what the run left
+  at_new : (P : Moment D → Type 0) → status ≢ Memory → status ≢ BayFault → P (at last) → P (at new)
+  at_new P memory bay = subst (λ m. P (at m)) (sym (leaves.same memory bay))
+
+  -- What a run tells over whatever shelves that are kept, where the bay, once all is given back, stands for those that the run left, and its sums are the totals.
+  pub reported_shelves : (shelves : Shelves) (has : ℕ → Told) (before after : List (List ℕ)) (faults_old faults_new arms_old arms_new : ℕ) → AreKept shelves → MayGoOn told (at old) → ShowsAt told (begun_on shelves) before (at old)
+      → after ≡ (at new).answered → (MayGoOn told (at new) → (cell : Cell) → Shows told (at new).out (at new).has cell (at new).site → AreOnDisks told has (shelves_of cell))
+      → (counts old).faults ≡ plus faults_old 0 → (counts old).arms ≡ plus arms_old 0 → plus faults_new 0 ≡ (counts new).faults → plus arms_new 0 ≡ (counts new).arms
+      → IsReport told has before after faults_old faults_new arms_old arms_new left_old left_new held_old held_new status shelves
+  reported_shelves shelves has before after faults_old faults_new arms_old arms_new kept start shows last_same closes f0 a0 f1 a1 =
+      let first : TalliedCell = record { cell = begun_on shelves; tally = no_tally } in
+      let entry : Both = record { at = first; images = before } in
+      let sums : Counts = record { faults = faults_old; arms = arms_old } in
+      let begins : IsTallied sums no_tally (counts old) = record { faults = omega (arith, f0); arms = a0 } in
+      let both = reports_shown (both_shown told at counts sums) entry old last left_old left_new held_old held_new outside status (shows, begins) reports in
+      let end : Both = both.0 in
+      let alone = reports_shown alone_shown first entry end left_old left_new held_old held_new outside status refl both.1 in
+      let shown : Reports TalliedGives TalliedRefuses first end.at left_old left_new held_old held_new outside status = subst (λ (t : TalliedCell). Reports TalliedGives TalliedRefuses first t left_old left_new held_old held_new outside status) alone.2 alone.1 in
+      let cells = reports_shown untallied (begun_on shelves) first end.at left_old left_new held_old held_new outside status refl shown in
+      let cell_run : Reports LineGives LineRefused (begun_on shelves) end.at.cell left_old left_new held_old held_new outside status = subst (λ (c : Cell). Reports LineGives LineRefused (begun_on shelves) c left_old left_new held_old held_new outside status) cells.2 cells.1 in
+      let ran = reports_ran LineGives LineRefused (begun_on shelves) end.at.cell left_old left_new held_old held_new outside status cell_run in
+      let tallies = λ (memory : status ≢ Memory). tallied_left at counts last new status memory leaves sums end.at.tally both.2.1 in
+      record {
+        cell = end.at.cell;
+        outside = outside;
+        tally = end.at.tally;
+        reports = shown;
+        has_run = runs_go_on shelves end.at.cell ran.lines ran.report ran.outside kept ran.runs;
+        answered = λ memory. last_same ∙ answered_left at counts last new status memory leaves end.images both.2.0.1
+            ∙ reports_say (λ (b : Both). b.images) BothGive BothRefuse (λ old new bytes text outside gives. gives.1) entry end left_old left_new held_old held_new outside status both.1;
+        faults = λ memory. (let f = (tallies memory).faults in omega (arith, f, f1));
+        arms = λ memory. a1 ∙ (tallies memory).arms;
+        on_disks = λ memory bay. closes (goes_on new old last told at counts left_old left_new held_old held_new outside status reports leaves start memory bay) end.at.cell (at_new (λ (x : Moment D). Shows told x.out x.has end.at.cell x.site) memory bay both.2.0.0);
+      }
