@@ -20,8 +20,8 @@ use Rattle.coda_plain.specs.Cell.{Histories}
 use Rattle.coda_plain.specs.Promises.{Decides}
 use Rattle.coda_plain.proofs.Lists.{told_more, told_new, some_record}
 use Rattle.coda_plain.proofs.Volumes.{volumes, sent_decides}
-use Rattle.coda_group.specs.Holdings.{held_by, objects_left, objects_of}
-use Rattle.coda_group.specs.Groups.{holdings, IsCreated, IsReplica, IsOneGroup}
+use Rattle.coda_group.specs.Holdings.{held_by, objects_left, replica_objects}
+use Rattle.coda_group.specs.Groups.{holdings, IsCreatedByChunk, IsReplica, IsOneGroup}
 use Rattle.coda_group.proofs.Mapping.{nodes_held_by, is_decision, holding, objects_push}
 use Rattle.coda_group.proofs.Making.{made_at, AreNew}
 use Rattle.coda_group.proofs.Folding.{created_sent}
@@ -94,7 +94,7 @@ module _ (root : Fid) (servers : List ℕ) (server client : ℕ) (at : IsIn serv
 
 -- ---- histories
 
-pub created_stays : (h h' : Histories) (volume : ℕ) (f : Fid) → ((s : ℕ) (d : Decision) → Decides h s volume d → Decides h' s volume d) → IsCreated h volume f → IsCreated h' volume f
+pub created_stays : (h h' : Histories) (volume : ℕ) (f : Fid) → ((s : ℕ) (d : Decision) → Decides h s volume d → Decides h' s volume d) → IsCreatedByChunk h volume f → IsCreatedByChunk h' volume f
 created_stays h h' volume f more it = record { server = it.server; by = it.by; there = more it.server it.by it.there; applied = it.applied; rec = it.rec; in_span = it.in_span; creates_it = it.creates_it }
 
 -- replicas that hold the same are the same group
@@ -115,7 +115,7 @@ group_same servers h h' volume same more g = record {
 
 module _ (servers : List ℕ) (h h' : Histories) (volume server client number : ℕ) (span : List Record) (g : IsOneGroup h servers volume) (at : IsIn server servers) (law : AreDecisions volume (h.replicas server volume))
     (grown : h'.replicas server volume ≡ h.replicas server volume ++ Decided client number span ∷ []) (others : (s : ℕ) → s ≢ server → h'.replicas s volume ≡ h.replicas s volume)
-    (new : (made : Fid → Bool) → ((f : Fid) → made f ≡ true → (f ≡ root_of volume) ⊎ IsCreated h volume f) → AreNew made (sent_of span)) where
+    (new : (made : Fid → Bool) → ((f : Fid) → made f ≡ true → (f ≡ root_of volume) ⊎ IsCreatedByChunk h volume f) → AreNew made (sent_of span)) where
   abbrev objs : Objects
   objs = holdings h volume server
 
@@ -133,10 +133,10 @@ module _ (servers : List ℕ) (h h' : Histories) (volume server client number : 
   ]
 
   holds_then : (r : Replayed) → decision (nodes_in objs) client span ≡ r → holdings h' volume server ≡ objects_left server client (sent_of span) objs r
-  holds_then r e = ap (objects_of server volume) grown ∙ objects_push server volume (h.replicas server volume) (Decided client number span) ∙ ap (objects_left server client (sent_of span) objs) e
+  holds_then r e = ap (replica_objects server volume) grown ∙ objects_push server volume (h.replicas server volume) (Decided client number span) ∙ ap (objects_left server client (sent_of span) objs) e
 
   holds_else : (s : ℕ) → s ≢ server → holdings h' volume s ≡ holdings h volume s
-  holds_else s ne = ap (objects_of s volume) (others s ne)
+  holds_else s ne = ap (replica_objects s volume) (others s ne)
 
   abbrev it : Decision
   it = record { client = client; number = number; span = span; before = nodes_of volume (h.replicas server volume) }

@@ -26,7 +26,7 @@ use Rattle.coda_plain.proofs.Lists.{left_push, follow_push, along}
 use Rattle.coda_plain.proofs.Objects.{get_mapped, get_nodes}
 use Rattle.coda_plain.proofs.AtReplicas.{kept_push}
 use Rattle.coda_plain.proofs.Volumes.{volumes, sent_decides}
-use Rattle.coda_group.specs.Holdings.{held_by, objects_left, objects_after, new_objects, objects_of}
+use Rattle.coda_group.specs.Holdings.{held_by, objects_left, objects_after, new_objects, replica_objects}
 
 -- ---- a record
 
@@ -100,16 +100,16 @@ decided_nodes server client span objects volume v = go (decision (nodes_in objec
     go (Ok m) e = sym (nodes_left_by server client (sent_of span) objects m (applies_from_replay client (nodes_in objects) m (sent_of span) (sym (sent_decides (root_of volume) (nodes_in objects) client span v) ∙ e)))
     go (Err why) e = refl
 
-pub objects_push : (server volume : ℕ) (es : List ReplicaEntry) (e : ReplicaEntry) → objects_of server volume (es ++ e ∷ []) ≡ objects_after server (objects_of server volume es) e
+pub objects_push : (server volume : ℕ) (es : List ReplicaEntry) (e : ReplicaEntry) → replica_objects server volume (es ++ e ∷ []) ≡ objects_after server (replica_objects server volume es) e
 objects_push server volume es e = left_push (objects_after server) (new_objects volume) es e
 
 abbrev IsHolding : ℕ → ℕ → List ReplicaEntry → Type 0
-IsHolding server volume es = AreDecisions volume es × (nodes_of volume es ≡ nodes_in (objects_of server volume es))
+IsHolding server volume es = AreDecisions volume es × (nodes_of volume es ≡ nodes_in (replica_objects server volume es))
 
-after_entry : (server volume : ℕ) (es : List ReplicaEntry) (e : ReplicaEntry) → nodes_of volume es ≡ nodes_in (objects_of server volume es) → IsVolume (root_of volume) (nodes_of volume es)
-    → (kept_after (kept_of volume es) e).nodes ≡ nodes_in (objects_after server (objects_of server volume es) e)
+after_entry : (server volume : ℕ) (es : List ReplicaEntry) (e : ReplicaEntry) → nodes_of volume es ≡ nodes_in (replica_objects server volume es) → IsVolume (root_of volume) (nodes_of volume es)
+    → (kept_after (kept_of volume es) e).nodes ≡ nodes_in (objects_after server (replica_objects server volume es) e)
 after_entry server volume es (Decided client number span) h v =
-    ap (λ n. nodes_left n (decision n client span)) h ∙ decided_nodes server client span (objects_of server volume es) volume (subst (IsVolume (root_of volume)) h v)
+    ap (λ n. nodes_left n (decision n client span)) h ∙ decided_nodes server client span (replica_objects server volume es) volume (subst (IsVolume (root_of volume)) h v)
 after_entry server volume es (Resolved objects lasts) h v = refl
 
 holding_push : (server volume : ℕ) (es : List ReplicaEntry) (e : ReplicaEntry) → IsHolding server volume es → MayDecide volume es e → IsHolding server volume (es ++ e ∷ [])
@@ -119,5 +119,5 @@ holding_push server volume es e h may = (
 )
 
 -- the nodes that a replica's decisions met and left are those of what it holds
-pub holding : (server volume : ℕ) (history : List ReplicaEntry) → AreDecisions volume history → nodes_of volume history ≡ nodes_in (objects_of server volume history)
+pub holding : (server volume : ℕ) (history : List ReplicaEntry) → AreDecisions volume history → nodes_of volume history ≡ nodes_in (replica_objects server volume history)
 holding server volume history law = (along (MayDecide volume) (IsHolding server volume) (holding_push server volume) history (tt, sym (new_nodes volume)) law).1

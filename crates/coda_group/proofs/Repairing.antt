@@ -19,9 +19,9 @@ use Rattle.coda_plain.specs.Cell.{Histories, PlainCell, Joins, found_in}
 use Rattle.coda_plain.specs.Promises.{Decides}
 use Rattle.coda_plain.proofs.Lists.{told_more}
 use Rattle.coda_plain.proofs.Soundness.{none_joins, found_up}
-use Rattle.coda_group.specs.Holdings.{objects_of}
+use Rattle.coda_group.specs.Holdings.{replica_objects}
 use Rattle.coda_group.specs.Groups.{holdings, IsOneGroup}
-use Rattle.coda_group.specs.Steps.{entries_at, objects_at, views_at, last_at, Install, IsRepairOf, MayRepair}
+use Rattle.coda_group.specs.Steps.{history_at, objects_at, views_at, last_at, Install, IsRepairOf, MayRepair}
 use Rattle.coda_group.specs.Sound.{IsGroupSound}
 use Rattle.coda_group.proofs.Mapping.{objects_push}
 use Rattle.coda_group.proofs.OneGroup.{repaired_stands, made_in, group_of, stands, known, one_group}
@@ -173,7 +173,7 @@ module _ (servers : ℕ → List ℕ) (start : PlainCell) (gs : IsGroupSound ser
 
   -- ---- the replicas are one group behind it
 
-  start_found : (joins : Joins) (s : ℕ) → IsIn s some → (found_in start joins).replicas s volume ≡ entries_at start volume s
+  start_found : (joins : Joins) (s : ℕ) → IsIn s some → (found_in start joins).replicas s volume ≡ history_at start volume s
   start_found joins s i = found_up (joins.replicas s volume) (start.replicas s volume) (gs.sound.replicas_up s volume (may.up s i))
 
   module _ (cell : PlainCell) (b : IsRepairBehind cell) (joins : Joins) where
@@ -191,8 +191,8 @@ module _ (servers : ℕ → List ℕ) (start : PlainCell) (gs : IsGroupSound ser
 
     holds_or : (s : ℕ) → (holdings later volume s ≡ holdings h volume s) ⊎ (IsIn s some × Left s (holdings later volume s))
     holds_or s = elim (b.each joins s) [
-      | inl same ↦ inl (ap (objects_of s volume) same)
-      | inr put ↦ inr (put.there, subst (λ o. Left s o) (sym (ap (objects_of s volume) put.more ∙ objects_push s volume (h.replicas s volume) (Resolved put.objects (lasts s)))) put.left)
+      | inl same ↦ inl (ap (replica_objects s volume) same)
+      | inr put ↦ inr (put.there, subst (λ o. Left s o) (sym (ap (replica_objects s volume) put.more ∙ objects_push s volume (h.replicas s volume) (Resolved put.objects (lasts s)))) put.left)
     ]
 
     pub group_repaired : IsOneGroup later (servers volume) volume
@@ -200,7 +200,7 @@ module _ (servers : ℕ → List ℕ) (start : PlainCell) (gs : IsGroupSound ser
         let g = (gs.stand joins).groups volume in
         let made = made_in h (servers volume) volume in
         let after : Group = record { holds = holdings later volume; made = made } in
-        let step = as_step made (holdings h volume) (holdings later volume) (λ s i. ap (objects_of s volume) (sym (start_found joins s i))) holds_or in
+        let step = as_step made (holdings h volume) (holdings later volume) (λ s i. ap (replica_objects s volume) (sym (start_found joins s i))) holds_or in
         one_group later (servers volume) volume made
         (repaired_stands root (servers volume) (group_of h (servers volume) volume) (stands h (servers volume) volume g) some may.among source may.source_in names after step)
         (λ f m. elim (known h (servers volume) volume g f m) [ inl is ↦ inl is | inr created ↦ inr (created_stays h later volume f decides_more created) ])

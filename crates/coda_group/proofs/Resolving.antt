@@ -19,9 +19,9 @@ use Rattle.coda_plain.specs.Objects.{Objects, nodes_in}
 use Rattle.coda_plain.specs.Decisions.{Last}
 use Rattle.coda_plain.specs.Cell.{PlainCell, Joins, found_in}
 use Rattle.coda_plain.proofs.Soundness.{none_joins, found_up}
-use Rattle.coda_group.specs.Holdings.{objects_of}
+use Rattle.coda_group.specs.Holdings.{replica_objects}
 use Rattle.coda_group.specs.Groups.{holdings, IsOneGroup}
-use Rattle.coda_group.specs.Steps.{entries_at, objects_at, views_at, last_at, Install, IsResolution, MayResolve}
+use Rattle.coda_group.specs.Steps.{history_at, objects_at, views_at, last_at, Install, IsResolution, MayResolve}
 use Rattle.coda_group.specs.Sound.{IsGroupSound}
 use Rattle.coda_group.proofs.Deciding.{put_at, put_here, put_else}
 use Rattle.coda_group.proofs.Volumes.{standing_volume, group_trees, resolved_group}
@@ -135,13 +135,13 @@ module _ (servers : ℕ → List ℕ) (start : PlainCell) (gs : IsGroupSound ser
 
   -- ---- the replicas are one group behind it
 
-  start_found : (joins : Joins) (s : ℕ) → IsIn s some → (found_in start joins).replicas s volume ≡ entries_at start volume s
+  start_found : (joins : Joins) (s : ℕ) → IsIn s some → (found_in start joins).replicas s volume ≡ history_at start volume s
   start_found joins s i = found_up (joins.replicas s volume) (start.replicas s volume) (gs.sound.replicas_up s volume (may.up s i))
 
   views_found : (joins : Joins) (list : List ℕ) → AreAmong list some → views_at start volume list ≡ map (holdings (found_in start joins) volume) list
   views_found joins [] sub = refl
   views_found joins (s ∷ list) sub =
-      let at : objects_at start volume s ≡ holdings (found_in start joins) volume s = ap (objects_of s volume) (sym (start_found joins s (sub s (inl refl)))) in
+      let at : objects_at start volume s ≡ holdings (found_in start joins) volume s = ap (replica_objects s volume) (sym (start_found joins s (sub s (inl refl)))) in
       λ i. at i ∷ views_found joins list (λ t j. sub t (inr j)) i
 
   pub group_behind : (cell : PlainCell) → IsResolutionBehind cell → (joins : Joins) → IsOneGroup (found_in cell joins) (servers volume) volume
@@ -154,6 +154,6 @@ module _ (servers : ℕ → List ℕ) (start : PlainCell) (gs : IsGroupSound ser
           among = put.there;
           grown = put.more;
           left = subst (λ vs. IsInstalled vs (root_of volume) (holdings (found_in start joins) volume s) put.objects) (views_found joins some (λ t j. j))
-              (subst (λ es. IsInstalled views (root_of volume) (objects_of s volume es) put.objects) (sym (start_found joins s put.there)) put.left);
+              (subst (λ es. IsInstalled views (root_of volume) (replica_objects s volume es) put.objects) (sym (start_found joins s put.there)) put.left);
         })
       ])

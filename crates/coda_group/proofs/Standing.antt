@@ -23,9 +23,9 @@ use Rattle.coda_plain.proofs.AtReplicas.{kept_push}
 use Rattle.coda_plain.proofs.Chunking.{full_push}
 use Rattle.coda_plain.proofs.Places.{IsGrown, at_grown, deeds_grown, deeds_fetched, IsBeside, beside}
 use Rattle.coda_plain.proofs.Soundness.{found_up, grown_found, fallen_found, recovered_found, found_grown, told_now, moves_keep_sound, runs_are_sound}
-use Rattle.coda_group.specs.Holdings.{objects_of}
-use Rattle.coda_group.specs.Groups.{IsNumbered, AreNumberedFrom, IsCreated, IsReplica, IsOneGroup, IsFrozenNow, WasDecided, DoStand}
-use Rattle.coda_group.specs.Steps.{Step, Moves, Resolves, Repairs, CreatesNext, IsAlone, IsAloneBy, after_step, Stepped}
+use Rattle.coda_group.specs.Holdings.{replica_objects}
+use Rattle.coda_group.specs.Groups.{IsObjectNumbered, AreNumberedFrom, IsCreatedByChunk, IsReplica, IsOneGroup, IsFrozenNow, WasDecided, DoGroupsStand}
+use Rattle.coda_group.specs.Steps.{GroupStep, Moves, Resolves, Repairs, CreatesNext, MayAppendAlone, MayMoveAlone, after_step, GroupStepped}
 use Rattle.coda_group.specs.Sound.{IsGroupSound}
 use Rattle.coda_group.specs.Laws.{StepsAreMoves, StepsKeepGroupSound, GroupRunsAreSound}
 use Rattle.coda_group.proofs.Making.{numbered_push, AreNew}
@@ -41,7 +41,7 @@ use Rattle.coda_group.proofs.Repairing.{repair_done, group_repaired}
 
 -- what an entry creates is the next object
 abbrev CreatesIn : ℕ → ℕ → List Deed → Deed → Type 0
-CreatesIn volume client past (Operated rec) = (f : Fid) → creates f rec.op ≡ true → IsNumbered volume client (created_in (full_of past) + 1) f
+CreatesIn volume client past (Operated rec) = (f : Fid) → creates f rec.op ≡ true → IsObjectNumbered volume client (created_in (full_of past) + 1) f
 CreatesIn volume client past (Froze number home last) = Unit {0}
 CreatesIn volume client past (Settled number verdict) = Unit {0}
 CreatesIn volume client past Gaveup = Unit {0}
@@ -69,7 +69,7 @@ module _ (servers : ℕ → List ℕ) (cell : PlainCell) (gs : IsGroupSound serv
   -- ---- a client
 
   -- histories stand with clients that did the same
-  stand_same : (h : Histories) (clients : ℕ → List ClientEntry) → DoStand servers h cell.pool → ((c v : ℕ) → deeds_of v (clients c) ≡ deeds_in h c v) → DoStand servers (record h { clients = clients }) cell.pool
+  stand_same : (h : Histories) (clients : ℕ → List ClientEntry) → DoGroupsStand servers h cell.pool → ((c v : ℕ) → deeds_of v (clients c) ≡ deeds_in h c v) → DoGroupsStand servers (record h { clients = clients }) cell.pool
   stand_same h clients st at = record {
     numbered = λ c v. subst (AreNumbers v c) (sym (at c v)) (st.numbered c v);
     truths = λ s v d verdict i. subst (λ ds. In (record { number = d.number; verdict = verdict }) (settlements_of ds) → verdict ≡ verdict_on d) (sym (at d.client v)) (st.truths s v d verdict i);
@@ -86,7 +86,7 @@ module _ (servers : ℕ → List ℕ) (cell : PlainCell) (gs : IsGroupSound serv
     abbrev is : Histories
     is = record (found_in cell joins) { clients = clients }
 
-    abbrev st : DoStand servers was cell.pool
+    abbrev st : DoGroupsStand servers was cell.pool
     st = gs.stand joins
 
     client_found : was.clients client ≡ (cell.clients client).history
@@ -108,7 +108,7 @@ module _ (servers : ℕ → List ℕ) (cell : PlainCell) (gs : IsGroupSound serv
     told_here : (c v : ℕ) → (c ≡ client) × (v ≡ volume) → (number : ℕ) (verdict : Verdict) → deed ≡ Settled number verdict → IsDecided was.replicas v c number verdict
     told_here c v at number verdict e = subst (λ n. IsDecided was.replicas v n number verdict) (sym at.0) (subst (λ n. IsDecided was.replicas n client number verdict) (sym at.1) (told_there number verdict e))
 
-    pub stand_did : DoStand servers is cell.pool
+    pub stand_did : DoGroupsStand servers is cell.pool
     stand_did = record {
       numbered = λ c v. at_deeds c v (AreNumbers v c) (st.numbered c v)
           (λ at. numbers_push v c (deeds_of v (was.clients c)) deed (st.numbered c v) (here_as c v at (λ n m ds. CreatesIn m n ds deed) (creates_in cell client volume deed creation)));
@@ -129,7 +129,7 @@ module _ (servers : ℕ → List ℕ) (cell : PlainCell) (gs : IsGroupSound serv
 
   -- what an entry leaves of a client, whatever was dropped at once with it
   stand_entry : (client : ℕ) (entry : ClientEntry) (joins : Joins) (clients : ℕ → List ClientEntry) → ((c : ℕ) → IsGrown (c ≡ client) entry ((found_in cell joins).clients c) (clients c))
-      → MayAppend cell (AtClient client entry) → IsAlone servers cell (AtClient client entry) → DoStand servers (record (found_in cell joins) { clients = clients }) cell.pool
+      → MayAppend cell (AtClient client entry) → MayAppendAlone servers cell (AtClient client entry) → DoGroupsStand servers (record (found_in cell joins) { clients = clients }) cell.pool
   stand_entry client (Fetched fid parent node) joins clients more may alone =
       stand_same (found_in cell joins) clients (gs.stand joins) (λ c v. deeds_fetched (c ≡ client) v fid parent node ((found_in cell joins).clients c) (clients c) (more c))
   stand_entry client (Did volume deed) joins clients more may alone = stand_did client volume deed joins clients more may alone
@@ -156,7 +156,7 @@ module _ (servers : ℕ → List ℕ) (cell : PlainCell) (gs : IsGroupSound serv
 
     -- where no replica of the volume has an entry more, the group is the same
     group_stays : (v : ℕ) → ((s : ℕ) → new.replicas s v ≡ old.replicas s v) → IsOneGroup new (servers v) v
-    group_stays v same = group_same (servers v) old new v (λ s. ap (objects_of s v) (sym (same s))) (λ s d i. subst (λ es. In d (decisions_of v es)) (sym (same s)) i) ((gs.stand joins).groups v)
+    group_stays v same = group_same (servers v) old new v (λ s. ap (replica_objects s v) (sym (same s))) (λ s d i. subst (λ es. In d (decisions_of v es)) (sym (same s)) i) ((gs.stand joins).groups v)
 
     others : (s : ℕ) → s ≢ server → new.replicas s volume ≡ old.replicas s volume
     others s ne = elim (here_or s volume) [ inl same ↦ same | inr grew ↦ absurd (ne grew.0.0) ]
@@ -176,7 +176,7 @@ module _ (servers : ℕ → List ℕ) (cell : PlainCell) (gs : IsGroupSound serv
         let it : Decision = record { client = client; number = number; span = span; before = nodes_of volume (old.replicas server volume) } in
         (sound.agree joins).frozen server volume it (subst (λ es. In it (decisions_of volume es)) (sym grew) (told_new (decision_at volume) (old.replicas server volume) entry it (inl refl)))
 
-    fresh : new.replicas server volume ≡ old.replicas server volume ++ entry ∷ [] → (made : Fid → Bool) → ((f : Fid) → made f ≡ true → (f ≡ root_of volume) ⊎ IsCreated old volume f) → AreNew made (sent_of span)
+    fresh : new.replicas server volume ≡ old.replicas server volume ++ entry ∷ [] → (made : Fid → Bool) → ((f : Fid) → made f ≡ true → (f ≡ root_of volume) ⊎ IsCreatedByChunk old volume f) → AreNew made (sent_of span)
     fresh grew = new_span old cell.pool (gs.sound.agree joins) volume (λ c. (gs.stand joins).numbered c volume) client (λ s d verdict. (gs.stand joins).truths s volume d verdict) server number span is_next (frozen_here grew) under
 
     no_settlement : new.replicas server volume ≡ old.replicas server volume ++ entry ∷ [] → (verdict : Verdict) → In (record { number = number; verdict = verdict }) (settlements_of (deeds_in old client volume)) → ⊥
@@ -222,7 +222,7 @@ module _ (servers : ℕ → List ℕ) (cell : PlainCell) (gs : IsGroupSound serv
           ]
         ]
 
-    pub stand_decided : DoStand servers new cell.pool
+    pub stand_decided : DoGroupsStand servers new cell.pool
     stand_decided = record {
       numbered = (gs.stand joins).numbered;
       truths = truths_then;
@@ -239,14 +239,14 @@ module _ (servers : ℕ → List ℕ) (cell : PlainCell) (gs : IsGroupSound serv
 
   -- ---- each move
 
-  after_client : (client : ℕ) (entry : ClientEntry) (next : Actor ClientEntry) → ((b : Bool) → IsGrown (Unit {0}) entry (found b (cell.clients client)) (found b next)) → MayAppend cell (AtClient client entry) → IsAlone servers cell (AtClient client entry)
+  after_client : (client : ℕ) (entry : ClientEntry) (next : Actor ClientEntry) → ((b : Bool) → IsGrown (Unit {0}) entry (found b (cell.clients client)) (found b next)) → MayAppend cell (AtClient client entry) → MayAppendAlone servers cell (AtClient client entry)
       → IsSound (with_client cell client next) → IsGroupSound servers (with_client cell client next)
   after_client client entry next more may alone sound = record {
     sound = sound;
     stand = λ joins. stand_entry client entry joins (found_in (with_client cell client next) joins).clients (found_grown cell gs.sound client entry next joins more) may alone;
   }
 
-  after_replica : (server volume : ℕ) (entry : ReplicaEntry) (next : Actor ReplicaEntry) → ((b : Bool) → IsGrown (Unit {0}) entry (found b (cell.replicas server volume)) (found b next)) → MayAppend cell (AtReplica server volume entry) → IsAlone servers cell (AtReplica server volume entry)
+  after_replica : (server volume : ℕ) (entry : ReplicaEntry) (next : Actor ReplicaEntry) → ((b : Bool) → IsGrown (Unit {0}) entry (found b (cell.replicas server volume)) (found b next)) → MayAppend cell (AtReplica server volume entry) → MayAppendAlone servers cell (AtReplica server volume entry)
       → IsSound (with_replica cell server volume next) → IsGroupSound servers (with_replica cell server volume next)
   after_replica server volume (Decided client number span) next more may alone sound = record {
     sound = sound;
@@ -259,7 +259,7 @@ module _ (servers : ℕ → List ℕ) (cell : PlainCell) (gs : IsGroupSound serv
   abbrev IsSentStill : Joins → ℕ → ℕ → ℕ → Type 0
   IsSentStill joins c v n = IsFrozenNow (deeds_in (found_in cell joins) c v) n ⊎ WasDecided (found_in cell joins) v c n
 
-  other_pool : (joins : Joins) (pool : ℕ → Option Letter) → ((m c s v n : ℕ) → pool m ≡ Some (ChunkSent c s v n) → IsSentStill joins c v n) → DoStand servers (found_in cell joins) pool
+  other_pool : (joins : Joins) (pool : ℕ → Option Letter) → ((m c s v n : ℕ) → pool m ≡ Some (ChunkSent c s v n) → IsSentStill joins c v n) → DoGroupsStand servers (found_in cell joins) pool
   other_pool joins pool sent = record { numbered = (gs.stand joins).numbered; truths = (gs.stand joins).truths; sent = sent; taken = (gs.stand joins).taken; groups = (gs.stand joins).groups }
 
   by_letter : (joins : Joins) (letter : Letter) (c s v n : ℕ) → MayPost cell letter → letter ≡ ChunkSent c s v n → IsSentStill joins c v n
@@ -278,7 +278,7 @@ module _ (servers : ℕ → List ℕ) (cell : PlainCell) (gs : IsGroupSound serv
   lost joins m c s v n true e = cc
   lost joins m c s v n false e = (gs.stand joins).sent m c s v n e
 
-  moved : (move : Move) → May cell move → IsAloneBy servers cell move → IsGroupSound servers (after cell move)
+  moved : (move : Move) → May cell move → MayMoveAlone servers cell move → IsGroupSound servers (after cell move)
   moved (Does (AtClient client entry)) may alone =
       after_client client entry (grown entry (cell.clients client)) (λ b. grown_found entry b (cell.clients client) (gs.sound.clients_up client may.0)) may alone (moves_keep_sound cell (Does (AtClient client entry)) may gs.sound)
   moved (Does (AtReplica server volume entry)) may alone =
@@ -297,19 +297,19 @@ module _ (servers : ℕ → List ℕ) (cell : PlainCell) (gs : IsGroupSound serv
   }
   moved (Crashes (TheClient client)) may alone = record {
     sound = moves_keep_sound cell (Crashes (TheClient client)) may gs.sound;
-    stand = λ joins. (let other = other_client cell client (crashed (cell.clients client)) (λ b. b) (λ b. refl) joins in subst (λ h. DoStand servers h cell.pool) other.1 (gs.stand other.0));
+    stand = λ joins. (let other = other_client cell client (crashed (cell.clients client)) (λ b. b) (λ b. refl) joins in subst (λ h. DoGroupsStand servers h cell.pool) other.1 (gs.stand other.0));
   }
   moved (Crashes (TheReplica server volume)) may alone = record {
     sound = moves_keep_sound cell (Crashes (TheReplica server volume)) may gs.sound;
-    stand = λ joins. (let other = other_replica cell server volume (crashed (cell.replicas server volume)) (λ b. b) (λ b. refl) joins in subst (λ h. DoStand servers h cell.pool) other.1 (gs.stand other.0));
+    stand = λ joins. (let other = other_replica cell server volume (crashed (cell.replicas server volume)) (λ b. b) (λ b. refl) joins in subst (λ h. DoGroupsStand servers h cell.pool) other.1 (gs.stand other.0));
   }
   moved (Recovers (TheClient client) j) may alone = record {
     sound = moves_keep_sound cell (Recovers (TheClient client) j) may gs.sound;
-    stand = λ joins. (let other = other_client cell client (recovered j (cell.clients client)) (λ b. j) (λ b. recovered_found j b (cell.clients client)) joins in subst (λ h. DoStand servers h cell.pool) other.1 (gs.stand other.0));
+    stand = λ joins. (let other = other_client cell client (recovered j (cell.clients client)) (λ b. j) (λ b. recovered_found j b (cell.clients client)) joins in subst (λ h. DoGroupsStand servers h cell.pool) other.1 (gs.stand other.0));
   }
   moved (Recovers (TheReplica server volume) j) may alone = record {
     sound = moves_keep_sound cell (Recovers (TheReplica server volume) j) may gs.sound;
-    stand = λ joins. (let other = other_replica cell server volume (recovered j (cell.replicas server volume)) (λ b. j) (λ b. recovered_found j b (cell.replicas server volume)) joins in subst (λ h. DoStand servers h cell.pool) other.1 (gs.stand other.0));
+    stand = λ joins. (let other = other_replica cell server volume (recovered j (cell.replicas server volume)) (λ b. j) (λ b. recovered_found j b (cell.replicas server volume)) joins in subst (λ h. DoGroupsStand servers h cell.pool) other.1 (gs.stand other.0));
   }
 
   -- ---- something left at replicas of a volume
@@ -374,7 +374,7 @@ module _ (servers : ℕ → List ℕ) (cell : PlainCell) (gs : IsGroupSound serv
           ];
           groups = λ v. elim (cases_eq v volume) [
             | inl is ↦ subst (λ n. IsOneGroup (found_in final joins) (servers n) n) (sym is) (group joins)
-            | inr ne ↦ group_same (servers v) (found_in cell joins) (found_in final joins) v (λ s. ap (objects_of s v) (sym (elsewhere joins s v ne)))
+            | inr ne ↦ group_same (servers v) (found_in cell joins) (found_in final joins) v (λ s. ap (replica_objects s v) (sym (elsewhere joins s v ne)))
                 (λ s d i. subst (λ es. In d (decisions_of v es)) (sym (elsewhere joins s v ne)) i) ((gs.stand joins).groups v)
           ];
         };
@@ -405,7 +405,7 @@ pub new_group : (servers : List ℕ) (h : Histories) (volume : ℕ) → ((s : �
 new_group servers h volume none = record {
   kind = λ f. true;
   top = refl;
-  each = λ s i. subst (IsReplica h volume (λ f. true)) (sym (ap (objects_of s volume) (none s))) (
+  each = λ s i. subst (IsReplica h volume (λ f. true)) (sym (ap (replica_objects s volume) (none s))) (
       let root = root_of volume in
       let at = new_sound root (λ f. same_fid f root) (λ f. refl) in
       record { tree = at.tree; kinds = at.kinds; rings = new_ringed root; known = λ f e. inl (same_fid_is f root (at.was_made f e)) });
@@ -426,7 +426,7 @@ empty_stands servers = record {
   };
 }
 
-pub stepped_sound : (servers : ℕ → List ℕ) (steps : List Step) (before behind : PlainCell) → Stepped servers before steps behind → IsGroupSound servers before → IsGroupSound servers behind
+pub stepped_sound : (servers : ℕ → List ℕ) (steps : List GroupStep) (before behind : PlainCell) → GroupStepped servers before steps behind → IsGroupSound servers before → IsGroupSound servers behind
 stepped_sound servers [] before behind run gs = subst (λ c. IsGroupSound servers c) (sym run) gs
 stepped_sound servers (step ∷ steps) before behind run gs = stepped_sound servers steps (after_step before step) behind run.1 (steps_keep_group_sound servers before step run.0 gs)
 

@@ -24,7 +24,7 @@ use Rattle.coda_plain.specs.Decisions.{Resolved, Last, Decision, decision_at, de
 use Rattle.coda_plain.specs.Cell.{Histories}
 use Rattle.coda_plain.specs.Promises.{Decides}
 use Rattle.coda_plain.proofs.Lists.{told_more}
-use Rattle.coda_group.specs.Holdings.{objects_of}
+use Rattle.coda_group.specs.Holdings.{replica_objects}
 use Rattle.coda_group.specs.Groups.{holdings, IsOneGroup}
 use Rattle.coda_plain.proofs.Objects.{get_nodes}
 use Rattle.coda_group.proofs.Mapping.{objects_push}
@@ -99,11 +99,11 @@ module _ (servers : List ℕ) (h h' : Histories) (volume : ℕ) (some : List ℕ
 
   holds_or : (s : ℕ) → (holdings h' volume s ≡ holdings h volume s) ⊎ (IsIn s some × IsInstalled (map (holdings h volume) some) (root_of volume) (holdings h volume s) (holdings h' volume s))
   holds_or s = elim (each s) [
-    | inl same ↦ inl (ap (objects_of s volume) same)
+    | inl same ↦ inl (ap (replica_objects s volume) same)
     | inr left ↦ inr (
       left.among,
       subst (IsInstalled (map (holdings h volume) some) (root_of volume) (holdings h volume s))
-          (sym (ap (objects_of s volume) left.grown ∙ objects_push s volume (h.replicas s volume) (Resolved left.objects left.lasts))) left.left,
+          (sym (ap (replica_objects s volume) left.grown ∙ objects_push s volume (h.replicas s volume) (Resolved left.objects left.lasts))) left.left,
     )
   ]
 

@@ -17,7 +17,7 @@ use Rattle.coda_plain.specs.Promises.{Decides, AreListed, IsUnderWay, IsApplied,
 use Rattle.coda_resolve.specs.Resolution.{Replicas}
 use Rattle.coda_resolve.specs.Placement.{IsIn, AreTreesOfOneKind}
 use Rattle.coda_lineage.specs.Lineage.{AreAmong}
-use Rattle.coda_group.specs.Groups.{holdings, IsRinged, WasDecided}
+use Rattle.coda_group.specs.Groups.{holdings, HasLogIfDirectory, WasDecided}
 
 -- ---- decided once, also where decisions were taken over
 
@@ -86,10 +86,10 @@ views_in h volume (server ∷ servers) = holdings h volume server ∷ views_in h
 
 -- Each replica is a volume, whose nodes are those that its decisions met and left, with logs exactly at its directories; and any of them are trees of one kind, which
 -- a resolution may take.
-pub record AreReplicas (h : Histories) (servers : List ℕ) (volume : ℕ) : Type 0 where
+pub record ArePromisedReplicas (h : Histories) (servers : List ℕ) (volume : ℕ) : Type 0 where
   pub nodes : (server : ℕ) → nodes_of volume (h.replicas server volume) ≡ nodes_in (holdings h volume server)
   pub volumes : (server : ℕ) → IsIn server servers → IsVolume (root_of volume) (nodes_in (holdings h volume server))
-  pub rings : (server : ℕ) (f : Fid) → IsIn server servers → IsRinged (finmap.get (holdings h volume server) f)
+  pub rings : (server : ℕ) (f : Fid) → IsIn server servers → HasLogIfDirectory (finmap.get (holdings h volume server) f)
   pub trees : (some : List ℕ) → AreAmong some servers → some ≢ [] → AreTreesOfOneKind (views_in h volume some) (root_of volume)
 
 -- ---- all of it
@@ -104,4 +104,4 @@ pub record AreGroupPromised (servers : ℕ → List ℕ) (h : Histories) : Type 
   pub lasts : (volume : ℕ) → AreLastsTrue h volume
   pub order : (volume : ℕ) → IsNoneSkipped h volume
   pub settled : (client volume : ℕ) (s : Settlement) → In s (settlements_of (deeds_in h client volume)) → IsDecidedAtHome h volume client s.number s.verdict ⊎ In s (h.learned client volume)
-  pub replicas : (volume : ℕ) → AreReplicas h (servers volume) volume
+  pub replicas : (volume : ℕ) → ArePromisedReplicas h (servers volume) volume

@@ -1,6 +1,6 @@
 // What holds of cells whose volumes have several replicas, and of all their runs.
 ghost use Rattle.coda_group.specs.Elsewhere.{GroupsStandElsewhere};
-ghost use Rattle.coda_group.specs.Laws.{StepsAreMoves, StepsKeepGroupSound, GroupRunsAreSound, GroupCellsArePromised, ResolvedAreEqualOrMarked, RepairedAreEqual, SomeChunkIsTakenOver, MergesAreResolutions, JoinedListsAreJoined, SomeVolumeIsRepaired, LettersAreTrue, StepsRun};
+ghost use Rattle.coda_group.specs.Laws.{StepsAreMoves, StepsKeepGroupSound, GroupRunsAreSound, GroupCellsArePromised, ResolvedReplicasAreEqualOrMarked, RepairedAreEqual, SomeChunkIsTakenOver, MergeChangesAreResolutions, JoinedListsAreJoined, SomeVolumeIsRepaired, LettersAreTrue, StepsRun};
 
 /// A law of cells: what a step is made of may happen, entry by entry and letter by letter.
 pub fn steps_are_moves()
@@ -24,8 +24,8 @@ pub fn group_cells_are_promised()
 
 /// A law of resolutions: behind one, each object that it took up is the same, or marked, at all replicas where what it
 /// leaves is installed, and each of these keeps the latest decision of each client.
-pub fn resolved_are_equal_or_marked()
-    ensures { ResolvedAreEqualOrMarked }
+pub fn resolved_replicas_are_equal_or_marked()
+    ensures { ResolvedReplicasAreEqualOrMarked }
 {}
 
 /// A law of replicas whose disks stand where no line has made their volumes: histories stand when those of a volume go, and
@@ -48,8 +48,8 @@ pub fn some_chunk_is_taken_over()
 
 /// A law of resolutions: the changes that a merge answers make of each replica what the resolution leaves there, and one
 /// that has nothing leaves it as it is.
-pub fn merges_are_resolutions()
-    ensures { MergesAreResolutions }
+pub fn merge_changes_are_resolutions()
+    ensures { MergeChangesAreResolutions }
 {}
 
 /// A law of resolutions: the latest of all lists of last decisions that replicas keep are their last decisions, joined.

@@ -1,0 +1,28 @@
+-- An entry spares a copy that it doesn't take away.
+use Rattle.std.proofs.Common.{◌≡◌, ℕ, Bool, false, ◌&&◌, ◌==◌, sym, ap, ◌∙◌}
+use Rattle.std.proofs.lemmas.Bool.{eq-eqb}
+use Rattle.coda_fid.specs.declared.fid.Fid.{Fid}
+use Rattle.coda_certify.specs.declared.verdict.Verdict.{Verdict}
+use Rattle.coda_certify.specs.declared.verdict.Verdict.TheVariants.{Applied, Conflict}
+use Rattle.coda_cml.specs.State.{LogState}
+use Rattle.coda_record.specs.declared.entry.ClientEntry.{ClientEntry}
+use Rattle.coda_record.specs.declared.entry.ClientEntry.TheVariants.{Op, Freeze, Settled, Giveup, Fetched, Dropped}
+use Rattle.coda_cancel.proofs.Keys.{fid_false}
+use Rattle.coda_copies.specs.Copies.{SettlementLeavesCopy, LeavesCopy}
+use Rattle.coda_venus.specs.State.{ClientState}
+use Rattle.coda_coherence.specs.Cell.{settlement_invalidates, invalidates}
+
+second : (w volume : ℕ) (b : Bool) → ((w == volume) && b) ≡ false → w ≡ volume → b ≡ false
+second w volume b h e = ap (λ x. x && b) (sym (eq-eqb w volume e)) ∙ h
+
+spared_by : (verdict : Verdict) (log : LogState) (fid : Fid) → settlement_invalidates verdict log fid ≡ false → SettlementLeavesCopy verdict log fid
+spared_by Applied log fid h = h
+spared_by (Conflict number why) log fid h = tt
+
+pub spared : (c : ClientState) (entry : ClientEntry) (fid : Fid) → invalidates c entry fid ≡ false → LeavesCopy c entry fid
+spared c (Op volume rec) fid h = h
+spared c (Freeze volume number home last) fid h = tt
+spared c (Settled volume number verdict) fid h = λ e. spared_by verdict (c.volumes volume).log fid (second fid.volume volume _ h e)
+spared c (Giveup volume) fid h = λ e. second fid.volume volume _ h e
+spared c (Fetched at parent node) fid h = fid_false fid at h
+spared c (Dropped at) fid h = fid_false fid at h
