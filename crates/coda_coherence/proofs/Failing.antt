@@ -1,5 +1,7 @@
--- A client fetches the root of a volume, and the server takes over another volume, without one: wrong words make the client's copy stale without word.
-use Rattle.std.proofs.Common.{◌≡◌, ℕ, Bool, true, false, cond, not, ◌&&◌, ◌||◌, ◌==◌, [], ◌∷◌, Option, Some, None, option_map, refl, sym, ap, ◌∙◌, subst, inr, ⊎_elim, arith}
+-- A client fetches the root of a volume, and the server takes over another volume, without one: wrong words make the
+-- client's copy stale without word.
+use Rattle.std.proofs.Common.{◌≡◌, ℕ, Bool, true, false, cond, not, ◌&&◌, ◌||◌, ◌==◌, [], ◌∷◌, Option, Some, None}
+use Rattle.std.proofs.Common.{option_map, refl, sym, ap, ◌∙◌, subst, inr, ⊎_elim, arith}
 use Rattle.std.specs.FinMap as map
 use Rattle.std.specs.FinSet as set
 use Rattle.std.specs.List.Sorted.{IsStrictlySortedBy}
@@ -12,16 +14,20 @@ use Rattle.coda_cancel.proofs.Keys.{fid_other}
 use Rattle.coda_tree.specs.declared.node.Node.{Node}
 use Rattle.coda_tree.specs.Volume.{fresh_root}
 use Rattle.coda_tree.proofs.Order.{get_here}
-use Rattle.coda_callback.specs.Callbacks.{Callbacks, interest_cmp, interest, names, is_promised, is_waiting, no_callbacks, promised, broken_where, IsOutbox}
+use Rattle.coda_callback.specs.Callbacks.{Callbacks, interest_cmp, interest, names, is_promised, is_waiting}
+use Rattle.coda_callback.specs.Callbacks.{no_callbacks, promised, broken_where, IsOutbox}
 use Rattle.coda_reslog.specs.declared.change.Held.{Held}
 use Rattle.coda_plain.specs.Decisions.{ReplicaEntry, Resolved, no_lasts}
 use Rattle.coda_plain.proofs.Objects.{get_nodes}
 use Rattle.coda_venus.specs.Accepting.{is_mentioned}
-use Rattle.coda_coherence.specs.Cell.{CachingCell, Fetched, Decided, Posted, LinkUp, empty_caching_cell, node_at, cell_after, MayFetch}
+use Rattle.coda_coherence.specs.Cell.{CachingCell, Fetched, Decided, Posted, LinkUp, empty_caching_cell, node_at}
+use Rattle.coda_coherence.specs.Cell.{cell_after, MayFetch}
 use Rattle.coda_coherence.specs.Fact.{IsBreakUnderWay, IsChangedSince, CallbackFact}
 use Rattle.coda_coherence.specs.Changes.{changes}
 use Rattle.coda_coherence.specs.Shortcuts.{lost_with_link_up, decided_sparing, IsReachedCell, ShortcutsFail}
-use Rattle.coda_coherence.proofs.Interests.{interests_total, alike, waiting_promise, waiting_broken, waiting_collected, promised_promise, same_interest, same_interest_is, same_interest_refl}
+use Rattle.coda_coherence.proofs.Interests.{interests_total, alike, waiting_promise, waiting_broken}
+use Rattle.coda_coherence.proofs.Interests.{waiting_collected, promised_promise, same_interest, same_interest_is}
+use Rattle.coda_coherence.proofs.Interests.{same_interest_refl}
 use Rattle.coda_coherence.proofs.Telling.{changes_tell}
 
 abbrev root : Fid
@@ -109,7 +115,8 @@ alone f = (tt, tt)
 outbox : IsOutbox (broken_where owed (changes [] other)) 1 (root ∷ [])
 outbox = record { increasing = alone root; exact = λ f. sym (waiting_broken owed (changes [] other) 1 f ∙ (λ i. never_waits f i || (promises_root f i && changes [] other f)) ∙ at f (same_interest (interest 1 f) (interest 1 root)) refl) }
   where
-    at : (f : Fid) (b : Bool) → same_interest (interest 1 f) (interest 1 root) ≡ b → (b && changes [] other f) ≡ names (root ∷ []) f
+    at : (f : Fid) (b : Bool) → same_interest (interest 1 f) (interest 1 root) ≡ b
+        → (b && changes [] other f) ≡ names (root ∷ []) f
     at f true e = let one = same_interest_is (interest 1 f) (interest 1 root) e in let same : f ≡ root = λ i. (one i).fid in
         ap (changes [] other) same ∙ changed ∙ sym (ap (λ x. same_fid root x || false) same ∙ ap (λ b. b || false) (same_fid_refl root))
     at f false e = sym (ap (λ b. b || false) (fid_other root f (λ h. true≢false (sym (same_interest_refl (interest 1 root)) ∙ (ap (λ x. same_interest (interest 1 x) (interest 1 root)) h ∙ e)))))

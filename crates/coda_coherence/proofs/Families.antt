@@ -1,5 +1,6 @@
 -- Families with one member changed, copies that some pass a test are taken out of, and histories that grow.
-use Rattle.std.proofs.Common.{◌≡◌, ℕ, ◌≤◌, Bool, true, false, cond, ◌&&◌, ◌||◌, ◌==◌, List, ◌++◌, length, take, Option, Some, None, refl, ap, arith}
+use Rattle.std.proofs.Common.{◌≡◌, ℕ, ◌≤◌, Bool, true, false, cond, ◌&&◌, ◌||◌, ◌==◌, List, ◌++◌, length, take}
+use Rattle.std.proofs.Common.{Option, Some, None, refl, ap, arith}
 use Rattle.std.specs.Option.{option_and_then}
 use Rattle.std.proofs.lemmas.Bool.{and_parts, and_from, eqb-true, eq-eqb, ne_eqb}
 use Rattle.std.proofs.lemmas.List.{length-append, take-append-le}
@@ -8,7 +9,8 @@ use Rattle.coda_fid.specs.declared.fid.Fid.{Fid}
 use Rattle.coda_fid.proofs.Fids.{same_fid_is}
 use Rattle.coda_coherence.specs.Cell.{Copy, put, put_pair, put_copy, unless_gone, copies_left}
 
-pub pair_at : {A : Type 0} (P : A → Type 0) (f : ℕ → ℕ → A) (k l : ℕ) (x : A) (q r : ℕ) → (q ≡ k → r ≡ l → P x) → P (f q r) → P (put_pair f k l x q r)
+pub pair_at : {A : Type 0} (P : A → Type 0) (f : ℕ → ℕ → A) (k l : ℕ) (x : A) (q r : ℕ) → (q ≡ k → r ≡ l → P x)
+    → P (f q r) → P (put_pair f k l x q r)
 pair_at P f k l x q r here there =
     elim ((q == k) && (r == l)) as (λ b. ((q == k) && (r == l)) ≡ b → P (cond b x (f q r))) [
       | true ↦ λ e. let p = and_parts (q == k) (r == l) e in here (eqb-true q k p.0) (eqb-true r l p.1)
@@ -16,7 +18,8 @@ pair_at P f k l x q r here there =
     ] refl
 
 -- the same of two families
-pub pairs_at : {A B : Type 0} (P : A → B → Type 0) (f : ℕ → ℕ → A) (g : ℕ → ℕ → B) (k l : ℕ) (x : A) (y : B) (q r : ℕ) → (q ≡ k → r ≡ l → P x y) → P (f q r) (g q r)
+pub pairs_at : {A B : Type 0} (P : A → B → Type 0) (f : ℕ → ℕ → A) (g : ℕ → ℕ → B) (k l : ℕ) (x : A) (y : B) (q r : ℕ)
+    → (q ≡ k → r ≡ l → P x y) → P (f q r) (g q r)
     → P (put_pair f k l x q r) (put_pair g k l y q r)
 pairs_at P f g k l x y q r here there =
     elim ((q == k) && (r == l)) as (λ b. ((q == k) && (r == l)) ≡ b → P (cond b x (f q r)) (cond b y (g q r))) [
@@ -44,7 +47,8 @@ put_else f k x q apart = ap (λ b. cond b x (f q)) (ne_eqb q k apart)
 
 -- ---- copies
 
-left : (o : Option Copy) (gone : Copy → Bool) (copy : Copy) → option_and_then (λ x. unless_gone (gone x) x) o ≡ Some copy → (o ≡ Some copy) × (gone copy ≡ false)
+left : (o : Option Copy) (gone : Copy → Bool) (copy : Copy)
+    → option_and_then (λ x. unless_gone (gone x) x) o ≡ Some copy → (o ≡ Some copy) × (gone copy ≡ false)
 left None gone copy h = cc
 left (Some x) gone copy h =
     elim (gone x) as (λ b. gone x ≡ b → unless_gone b x ≡ Some copy → (Some x ≡ Some copy) × (gone copy ≡ false)) [
@@ -52,7 +56,8 @@ left (Some x) gone copy h =
       | false ↦ λ e is. (is, cc)
     ] refl h
 
-pub kept_copy : (valid : ℕ → Fid → Option Copy) (gone : ℕ → Fid → Copy → Bool) (c : ℕ) (f : Fid) (copy : Copy) → copies_left valid gone c f ≡ Some copy → (valid c f ≡ Some copy) × (gone c f copy ≡ false)
+pub kept_copy : (valid : ℕ → Fid → Option Copy) (gone : ℕ → Fid → Copy → Bool) (c : ℕ) (f : Fid) (copy : Copy)
+    → copies_left valid gone c f ≡ Some copy → (valid c f ≡ Some copy) × (gone c f copy ≡ false)
 kept_copy valid gone c f copy h = left (valid c f) (gone c f) copy h
 
 -- ---- histories
@@ -61,7 +66,8 @@ pub longer : {Entry : Type 0} (p : ℕ) (h g : List Entry) → p ≤ length h �
 longer p h g le = omega (arith, length-append h g)
 
 -- the front of a history that grows
-pub same_front : {Entry A : Type 0} (see : List Entry → A) (p : ℕ) (h g : List Entry) → p ≤ length h → see (take p (h ++ g)) ≡ see (take p h)
+pub same_front : {Entry A : Type 0} (see : List Entry → A) (p : ℕ) (h g : List Entry) → p ≤ length h
+    → see (take p (h ++ g)) ≡ see (take p h)
 same_front see p h g le = ap see (take-append-le p h g le)
 
 -- ---- tests

@@ -1,22 +1,33 @@
--- Each event keeps, of each valid copy, that its client has a promise and the object is unchanged, or that word is on its way; and that it is what the log makes of it.
-use Rattle.std.proofs.Common.{◌≡◌, ℕ, ◌+◌, ◌≤◌, Bool, true, false, not, cond, ◌&&◌, ◌||◌, ◌==◌, List, [], ◌∷◌, ◌++◌, length, take, Option, Some, None, refl, ap, sym, subst, ◌∙◌, inl, inr, ◌⊎◌, arith}
+-- Each event keeps, of each valid copy, that its client has a promise and the object is unchanged, or that word is on
+-- its way; and that it is what the log makes of it.
+use Rattle.std.proofs.Common.{◌≡◌, ℕ, ◌+◌, ◌≤◌, Bool, true, false, not, cond, ◌&&◌, ◌||◌, ◌==◌, List, [], ◌∷◌, ◌++◌}
+use Rattle.std.proofs.Common.{length, take, Option, Some, None, refl, ap, sym, subst, ◌∙◌, inl, inr, ◌⊎◌, arith}
 use Rattle.std.proofs.lemmas.Bool.{and_from, eqb-true, eq-eqb, cases_lt, both_ways}
 use Rattle.std.proofs.lemmas.List.{length-append, take-append-le, take_all}
 use Rattle.coda_fid.specs.Fid.{same_fid}
 use Rattle.coda_fid.specs.declared.fid.Fid.{Fid}
 use Rattle.coda_fid.proofs.Fids.{same_fid_refl}
 use Rattle.coda_tree.specs.declared.node.Node.{Node}
-use Rattle.coda_callback.specs.Callbacks.{Callbacks, interest, names, is_promised, is_waiting, promised, broken_where, IsOutbox, collected, dropped}
+use Rattle.coda_callback.specs.Callbacks.{Callbacks, interest, names, is_promised, is_waiting, promised, broken_where}
+use Rattle.coda_callback.specs.Callbacks.{IsOutbox, collected, dropped}
 use Rattle.coda_plain.specs.Decisions.{ReplicaEntry}
 use Rattle.coda_record.specs.declared.entry.ClientEntry.{ClientEntry}
 use Rattle.coda_record.specs.declared.entry.ClientEntry.TheVariants as entry
 use Rattle.coda_copies.specs.Copies.{IsCopyOf}
 use Rattle.coda_copies.proofs.Led.{copies_led, fetches_copies, clean_copies}
 use Rattle.coda_venus.specs.State.{ClientState, client_after}
-use Rattle.coda_coherence.specs.Cell.{Copy, Break, CachingCell, CacheEvent, Fetched, Refused, Acted, Decided, Posted, Refreshed, OtherPosted, Delivered, Lost, LinkUp, LinkDown, ClientGone, ReplicaGone, empty_caching_cell, put, put_pair, copies_left, invalidates, link_cut, break_delivered, break_lost, node_at, given, copy_now, cell_after, MayFetch, MayAct, MayHappen, IsCacheRun, MissesNoChange}
-use Rattle.coda_coherence.specs.Fact.{IsBreakUnderWay, IsChangedSince, CallbackFact, CallbackFactHolds, IsUnchangedSince, IsPromisedOrTold, IsCoherent}
-use Rattle.coda_coherence.proofs.Families.{pair_at, pair_here, pairs_at, copies_at, put_here, put_else, kept_copy, longer, same_front, or_left, or_both}
-use Rattle.coda_coherence.proofs.Interests.{same_interest, same_interest_is, same_interest_refl, promised_promise, waiting_promise, promised_broken, waiting_broken, waiting_collected, promised_dropped, waiting_dropped}
+use Rattle.coda_coherence.specs.Cell.{Copy, Break, CachingCell, CacheEvent, Fetched, Refused, Acted, Decided, Posted}
+use Rattle.coda_coherence.specs.Cell.{Refreshed, OtherPosted, Delivered, Lost, LinkUp, LinkDown, ClientGone}
+use Rattle.coda_coherence.specs.Cell.{ReplicaGone, empty_caching_cell, put, put_pair, copies_left, invalidates}
+use Rattle.coda_coherence.specs.Cell.{link_cut, break_delivered, break_lost, node_at, given, copy_now, cell_after}
+use Rattle.coda_coherence.specs.Cell.{MayFetch, MayAct, MayHappen, IsCacheRun, MissesNoChange}
+use Rattle.coda_coherence.specs.Fact.{IsBreakUnderWay, IsChangedSince, CallbackFact, CallbackFactHolds}
+use Rattle.coda_coherence.specs.Fact.{IsUnchangedSince, IsPromisedOrTold, IsCoherent}
+use Rattle.coda_coherence.proofs.Families.{pair_at, pair_here, pairs_at, copies_at, put_here, put_else, kept_copy}
+use Rattle.coda_coherence.proofs.Families.{longer, same_front, or_left, or_both}
+use Rattle.coda_coherence.proofs.Interests.{same_interest, same_interest_is, same_interest_refl, promised_promise}
+use Rattle.coda_coherence.proofs.Interests.{waiting_promise, promised_broken, waiting_broken, waiting_collected}
+use Rattle.coda_coherence.proofs.Interests.{promised_dropped, waiting_dropped}
 use Rattle.coda_coherence.proofs.Sparing.{spared}
 
 -- a Break under way, in a pool where another place changed
@@ -32,7 +43,8 @@ still_under_way pool n x s c f u apart = record {
 }
 
 -- the numbers of the letters of a pool where one place changed
-numbered_put : (pool : ℕ → Option Break) (k : ℕ) (x : Option Break) (m n : ℕ) → ((number : ℕ) (letter : Break) → pool number ≡ Some letter → number ≤ m) → m ≤ n → k ≤ n
+numbered_put : (pool : ℕ → Option Break) (k : ℕ) (x : Option Break) (m n : ℕ)
+    → ((number : ℕ) (letter : Break) → pool number ≡ Some letter → number ≤ m) → m ≤ n → k ≤ n
     → (number : ℕ) (letter : Break) → put pool k x number ≡ Some letter → number ≤ n
 numbered_put pool k x m n numbered more here number letter is =
     elim (number == k) as (λ b. (number == k) ≡ b → cond b x (pool number) ≡ Some letter → number ≤ n) [
@@ -70,7 +82,8 @@ module _ (changes : List ReplicaEntry → ReplicaEntry → Fid → Bool) (tell :
   promised_now k c f = promised_promise k c f c f ∙ or_left _ (is_promised k c f) (same_interest_refl (interest c f))
 
   -- others have what they had
-  told_beside : (h : List ReplicaEntry) (k : Callbacks) (pool : ℕ → Option Break) (c d : ℕ) (f g : Fid) (copy : Copy) → ((d ≡ c) → (g ≡ f) → ⊥)
+  told_beside : (h : List ReplicaEntry) (k : Callbacks) (pool : ℕ → Option Break) (c d : ℕ) (f g : Fid) (copy : Copy)
+      → ((d ≡ c) → (g ≡ f) → ⊥)
       → IsPromisedOrTold h k pool d g copy → IsPromisedOrTold h (promised k c f) pool d g copy
   told_beside h k pool c d f g copy apart =
       let differ : same_interest (interest d g) (interest c f) ≡ false =
@@ -83,7 +96,8 @@ module _ (changes : List ReplicaEntry → ReplicaEntry → Fid → Bool) (tell :
 
   -- ---- an entry
 
-  quiet_on : (h : List ReplicaEntry) (e : ReplicaEntry) (p : ℕ) (f : Fid) → p ≤ length h → IsUnchangedSince h p f → node_at (h ++ e ∷ []) f ≡ node_at h f → IsUnchangedSince (h ++ e ∷ []) p f
+  quiet_on : (h : List ReplicaEntry) (e : ReplicaEntry) (p : ℕ) (f : Fid) → p ≤ length h → IsUnchangedSince h p f
+      → node_at (h ++ e ∷ []) f ≡ node_at h f → IsUnchangedSince (h ++ e ∷ []) p f
   quiet_on h e p f le quiet same at from below = elim (cases_lt at (length h)) [
     | inl lt ↦ same_front (λ l. node_at l f) (at + 1) h (e ∷ []) (omega arith) ∙ quiet at from lt ∙ sym (same_front (λ l. node_at l f) at h (e ∷ []) (omega arith))
     | inr ge ↦
@@ -174,7 +188,9 @@ module _ (changes : List ReplicaEntry → ReplicaEntry → Fid → Bool) (tell :
         | false ↦ λ _. told
       ] refl
 
-  linked_cut : (old : CachingCell) (client server c : ℕ) (copy : Copy) → ((c == client) && (copy.server == server)) ≡ false → old.links c copy.server ≡ true → put_pair old.links client server false c copy.server ≡ true
+  linked_cut : (old : CachingCell) (client server c : ℕ) (copy : Copy)
+      → ((c == client) && (copy.server == server)) ≡ false → old.links c copy.server ≡ true
+      → put_pair old.links client server false c copy.server ≡ true
   linked_cut old client server c copy away up =
       pair_at (λ b. b ≡ true) old.links client server false c copy.server (λ ec es. absurd (both_ways (copy.server == server) (other_test c client (copy.server == server) away ec) (eq-eqb copy.server server es))) up
 
@@ -185,7 +201,8 @@ module _ (changes : List ReplicaEntry → ReplicaEntry → Fid → Bool) (tell :
 
   -- ---- each event
 
-  kept_refused : (old : CachingCell) (client : ℕ) (fid : Fid) (server : ℕ) → old.copies client fid ≡ None → IsCoherent old → IsCoherent (cell_after changes old (Refused client server fid))
+  kept_refused : (old : CachingCell) (client : ℕ) (fid : Fid) (server : ℕ) → old.copies client fid ≡ None
+      → IsCoherent old → IsCoherent (cell_after changes old (Refused client server fid))
   kept_refused old client fid server none kept =
       kept_all old (cell_after changes old (Refused client server fid)).callbacks old.breaks old.posted old.links kept (λ c f copy up. up) kept.numbered
       (λ c f copy is told. pair_at (λ k. IsPromisedOrTold (old.histories copy.server f.volume) k old.breaks c f copy) old.callbacks server fid.volume (promised (old.callbacks server fid.volume) client fid) copy.server f.volume
@@ -194,7 +211,9 @@ module _ (changes : List ReplicaEntry → ReplicaEntry → Fid → Bool) (tell :
       (subst (λ k. IsPromisedOrTold (old.histories copy.server f.volume) k old.breaks c f copy) (λ i. old.callbacks (es i) (ev i)) told))
       told)
 
-  kept_posted : (old : CachingCell) (server client volume : ℕ) (fids : List Fid) → IsOutbox (old.callbacks server volume) client fids → IsCoherent old → IsCoherent (cell_after changes old (Posted server client volume fids))
+  kept_posted : (old : CachingCell) (server client volume : ℕ) (fids : List Fid)
+      → IsOutbox (old.callbacks server volume) client fids → IsCoherent old
+      → IsCoherent (cell_after changes old (Posted server client volume fids))
   kept_posted old server client volume fids outbox kept =
       let next = cell_after changes old (Posted server client volume fids) in
       kept_all old next.callbacks next.breaks next.posted old.links kept (λ c f copy up. up)
@@ -205,7 +224,9 @@ module _ (changes : List ReplicaEntry → ReplicaEntry → Fid → Bool) (tell :
       (on_its_way (old.histories copy.server f.volume) (old.callbacks copy.server f.volume) (old.callbacks copy.server f.volume) old.breaks next.breaks c f copy (λ x. x) (λ x. x)
       (λ u. still_under_way old.breaks (old.posted + 1) _ copy.server c f u (λ e. let le : u.number ≤ old.posted = kept.numbered u.number u.letter u.posted in omega arith)) told))
 
-  kept_refreshed : (old : CachingCell) (server client volume : ℕ) (fids : List Fid) → IsOutbox (old.callbacks server volume) client fids → IsCoherent old → IsCoherent (cell_after changes old (Refreshed server client volume fids))
+  kept_refreshed : (old : CachingCell) (server client volume : ℕ) (fids : List Fid)
+      → IsOutbox (old.callbacks server volume) client fids → IsCoherent old
+      → IsCoherent (cell_after changes old (Refreshed server client volume fids))
   kept_refreshed old server client volume fids outbox kept =
       let next = cell_after changes old (Refreshed server client volume fids) in
       let k = old.callbacks server volume in
@@ -221,7 +242,8 @@ module _ (changes : List ReplicaEntry → ReplicaEntry → Fid → Bool) (tell :
       (subst (λ k'. IsPromisedOrTold (old.histories copy.server f.volume) k' old.breaks c f copy) (λ i. old.callbacks (es i) (ev i)) told))
       told)
 
-  arrived_kept : (old : CachingCell) (number : ℕ) (o : Option Break) → old.breaks number ≡ o → IsCoherent old → IsCoherent (break_delivered old number o)
+  arrived_kept : (old : CachingCell) (number : ℕ) (o : Option Break) → old.breaks number ≡ o → IsCoherent old
+      → IsCoherent (break_delivered old number o)
   arrived_kept old number None is kept = kept
   arrived_kept old number (Some letter) is kept =
       let next = break_delivered old number (Some letter) in
@@ -234,7 +256,8 @@ module _ (changes : List ReplicaEntry → ReplicaEntry → Fid → Bool) (tell :
       both_ways (names letter.fids f) (other_test c letter.client (names letter.fids f) away (sym u.to_client ∙ ap (λ (l : Break). l.client) same)) (ap (λ (l : Break). names l.fids f) (sym same) ∙ u.named)))
       told)
 
-  gone_kept : (old : CachingCell) (number : ℕ) (o : Option Break) → old.breaks number ≡ o → IsCoherent old → IsCoherent (break_lost old number o)
+  gone_kept : (old : CachingCell) (number : ℕ) (o : Option Break) → old.breaks number ≡ o → IsCoherent old
+      → IsCoherent (break_lost old number o)
   gone_kept old number None is kept = kept
   gone_kept old number (Some letter) is kept =
       let next = break_lost old number (Some letter) in
@@ -249,7 +272,8 @@ module _ (changes : List ReplicaEntry → ReplicaEntry → Fid → Bool) (tell :
       (eq-eqb copy.server letter.server (sym u.from_server ∙ ap (λ (l : Break). l.server) same))))
       told))
 
-  kept_client_gone : (old : CachingCell) (client : ℕ) (state : ClientState) → IsCoherent old → IsCoherent (cell_after changes old (ClientGone client state))
+  kept_client_gone : (old : CachingCell) (client : ℕ) (state : ClientState) → IsCoherent old
+      → IsCoherent (cell_after changes old (ClientGone client state))
   kept_client_gone old client state kept =
       let gone : ℕ → Fid → Copy → Bool = λ c f copy. c == client in
       record {
@@ -265,7 +289,8 @@ module _ (changes : List ReplicaEntry → ReplicaEntry → Fid → Bool) (tell :
             on_its_way (old.histories copy.server f.volume) k (dropped k client) old.breaks old.breaks c f copy (λ is. promised_dropped k client c f ∙ and_from _ _ is (ap not was.1)) (λ is. waiting_dropped k client c f ∙ and_from _ _ is (ap not was.1)) (λ u. u) (kept.told c f copy was.0);
       }
 
-  kept_entered : (old : CachingCell) (server volume : ℕ) (e : ReplicaEntry) → IsCoherent old → IsCoherent (cell_after changes old (Decided server volume e))
+  kept_entered : (old : CachingCell) (server volume : ℕ) (e : ReplicaEntry) → IsCoherent old
+      → IsCoherent (cell_after changes old (Decided server volume e))
   kept_entered old server volume e kept = record {
     linked = kept.linked;
     numbered = kept.numbered;
@@ -282,7 +307,8 @@ module _ (changes : List ReplicaEntry → ReplicaEntry → Fid → Bool) (tell :
         (kept.told c f copy is);
   }
 
-  kept_replica_gone : (old : CachingCell) (server volume : ℕ) (found : List ReplicaEntry) → IsCoherent old → IsCoherent (cell_after changes old (ReplicaGone server volume found))
+  kept_replica_gone : (old : CachingCell) (server volume : ℕ) (found : List ReplicaEntry) → IsCoherent old
+      → IsCoherent (cell_after changes old (ReplicaGone server volume found))
   kept_replica_gone old server volume found kept =
       let gone : ℕ → Fid → Copy → Bool = λ c f copy. (copy.server == server) && (f.volume == volume) in
       let away : (f : Fid) (copy : Copy) → ((copy.server == server) && (f.volume == volume)) ≡ false → copy.server ≡ server → f.volume ≡ volume → ⊥ =
@@ -302,10 +328,12 @@ module _ (changes : List ReplicaEntry → ReplicaEntry → Fid → Bool) (tell :
       }
 
   -- what is asked of a client, where one changed
-  clients_at : (P : ClientState → Type 0) (clients : ℕ → ClientState) (client : ℕ) (x : ClientState) (c : ℕ) → (c ≡ client → P x) → ((c == client) ≡ false → P (clients c)) → P (put clients client x c)
+  clients_at : (P : ClientState → Type 0) (clients : ℕ → ClientState) (client : ℕ) (x : ClientState) (c : ℕ)
+      → (c ≡ client → P x) → ((c == client) ≡ false → P (clients c)) → P (put clients client x c)
   clients_at P clients client x c here there = elim (c == client) as (λ b. (c == client) ≡ b → P (cond b x (clients c))) [ true ↦ λ e. here (eqb-true c client e) | false ↦ there ] refl
 
-  kept_acted : (old : CachingCell) (client : ℕ) (e : ClientEntry) → MayAct old client e → IsCoherent old → IsCoherent (cell_after changes old (Acted client e))
+  kept_acted : (old : CachingCell) (client : ℕ) (e : ClientEntry) → MayAct old client e → IsCoherent old
+      → IsCoherent (cell_after changes old (Acted client e))
   kept_acted old client e can kept =
       let gone : ℕ → Fid → Copy → Bool = λ c f copy. (c == client) && invalidates (old.clients client) e f in
       record {
@@ -329,7 +357,9 @@ module _ (changes : List ReplicaEntry → ReplicaEntry → Fid → Bool) (tell :
   quiet_yet : (h : List ReplicaEntry) (f : Fid) → IsUnchangedSince h (length h) f
   quiet_yet h f at from below = absurd (omega arith)
 
-  kept_fetched : (old : CachingCell) (client server : ℕ) (fid : Fid) (parent : Option Fid) (node : Node) → MayFetch old client server fid parent node → IsCoherent old → IsCoherent (cell_after changes old (Fetched client server fid parent node))
+  kept_fetched : (old : CachingCell) (client server : ℕ) (fid : Fid) (parent : Option Fid) (node : Node)
+      → MayFetch old client server fid parent node → IsCoherent old
+      → IsCoherent (cell_after changes old (Fetched client server fid parent node))
   kept_fetched old client server fid parent node can kept =
       let next = cell_after changes old (Fetched client server fid parent node) in
       let new = copy_now old fid server in
@@ -368,7 +398,8 @@ module _ (changes : List ReplicaEntry → ReplicaEntry → Fid → Bool) (tell :
 
   -- ---- every event, and every run
 
-  pub kept_after : (old : CachingCell) (event : CacheEvent) → MayHappen old event → IsCoherent old → IsCoherent (cell_after changes old event)
+  pub kept_after : (old : CachingCell) (event : CacheEvent) → MayHappen old event → IsCoherent old
+      → IsCoherent (cell_after changes old event)
   kept_after old (Fetched client server fid parent node) can kept = kept_fetched old client server fid parent node can kept
   kept_after old (Refused client server fid) can kept = kept_refused old client fid server can.1 kept
   kept_after old (Acted client e) can kept = kept_acted old client e can kept
@@ -392,13 +423,15 @@ module _ (changes : List ReplicaEntry → ReplicaEntry → Fid → Bool) (tell :
     told = λ c f copy is. absurd (cc);
   }
 
-  pub kept_run : (old : CachingCell) (events : List CacheEvent) (new : CachingCell) → IsCoherent old → IsCacheRun changes old events new → IsCoherent new
+  pub kept_run : (old : CachingCell) (events : List CacheEvent) (new : CachingCell) → IsCoherent old
+      → IsCacheRun changes old events new → IsCoherent new
   kept_run old [] new kept is = subst IsCoherent (sym is) kept
   kept_run old (event ∷ events) new kept run = kept_run (cell_after changes old event) events new (kept_after old event run.0 kept) run.1
 
 -- ---- the fact
 
-heard : (h : List ReplicaEntry) (k : Callbacks) (pool : ℕ → Option Break) (c : ℕ) (f : Fid) (copy : Copy) → IsPromisedOrTold h k pool c f copy → IsChangedSince h copy.position f
+heard : (h : List ReplicaEntry) (k : Callbacks) (pool : ℕ → Option Break) (c : ℕ) (f : Fid) (copy : Copy)
+    → IsPromisedOrTold h k pool c f copy → IsChangedSince h copy.position f
     → (is_waiting k c f ≡ true) ⊎ IsBreakUnderWay pool copy.server c f
 heard h k pool c f copy (inl is) changed = absurd (changed.3 (is.1 changed.0 changed.1 changed.2))
 heard h k pool c f copy (inr is) changed = is

@@ -15,11 +15,13 @@ use Rattle.coda_coherence.specs.Cell.{settlement_invalidates, invalidates}
 second : (w volume : ℕ) (b : Bool) → ((w == volume) && b) ≡ false → w ≡ volume → b ≡ false
 second w volume b h e = ap (λ x. x && b) (sym (eq-eqb w volume e)) ∙ h
 
-spared_by : (verdict : Verdict) (log : LogState) (fid : Fid) → settlement_invalidates verdict log fid ≡ false → SettlementLeavesCopy verdict log fid
+spared_by : (verdict : Verdict) (log : LogState) (fid : Fid) → settlement_invalidates verdict log fid ≡ false
+    → SettlementLeavesCopy verdict log fid
 spared_by Applied log fid h = h
 spared_by (Conflict number why) log fid h = tt
 
-pub spared : (c : ClientState) (entry : ClientEntry) (fid : Fid) → invalidates c entry fid ≡ false → LeavesCopy c entry fid
+pub spared : (c : ClientState) (entry : ClientEntry) (fid : Fid) → invalidates c entry fid ≡ false
+    → LeavesCopy c entry fid
 spared c (Op volume rec) fid h = h
 spared c (Freeze volume number home last) fid h = tt
 spared c (Settled volume number verdict) fid h = λ e. spared_by verdict (c.volumes volume).log fid (second fid.volume volume _ h e)

@@ -1,10 +1,12 @@
 -- Two nodes are the same exactly where the test says so.
-use Rattle.std.proofs.Common.{◌≡◌, ◌≢◌, ℕ, Bool, true, false, not, ◌||◌, ◌==◌, List, [], ◌∷◌, ◌++◌, Option, Some, None, is_some, refl, sym, ap, ◌∙◌, subst, ⊎_elim}
+use Rattle.std.proofs.Common.{◌≡◌, ◌≢◌, ℕ, Bool, true, false, not, ◌||◌, ◌==◌, List, [], ◌∷◌, ◌++◌, Option, Some}
+use Rattle.std.proofs.Common.{None, is_some, refl, sym, ap, ◌∙◌, subst, ⊎_elim}
 use Rattle.std.specs.FinMap as map
 use Rattle.std.specs.List.{list_any}
 use Rattle.std.specs.Ordering.{eq_by_cmp}
 use Rattle.std.specs.Cmp.{Equal-is, eq_by_cmp_equiv}
-use Rattle.std.proofs.lemmas.Bool.{and_parts, and_from, or_left, or_right, or_cases, eqb-true, eq-eqb, false≢true, true≢false}
+use Rattle.std.proofs.lemmas.Bool.{and_parts, and_from, or_left, or_right, or_cases, eqb-true, eq-eqb, false≢true}
+use Rattle.std.proofs.lemmas.Bool.{true≢false}
 use Rattle.std.proofs.lemmas.Cmp.{nat_list_cmp_total}
 use Rattle.std.proofs.lemmas.Map.Lookups.{exact_bytes}
 use Rattle.coda_fid.specs.Fid.{same_sid}
@@ -18,7 +20,8 @@ use Rattle.coda_tree.specs.declared.node.NodeKind.{NodeKind}
 use Rattle.coda_tree.specs.declared.node.NodeKind.TheVariants.{File, Link, Dir}
 use Rattle.coda_plain.specs.Decisions.{ReplicaEntry}
 use Rattle.coda_coherence.specs.Cell.{node_at}
-use Rattle.coda_coherence.specs.Changes.{same_bound, differ_at, same_bindings, same_kind, same_flag, same_node, same_there, changes, ChangesTell}
+use Rattle.coda_coherence.specs.Changes.{same_bound, differ_at, same_bindings, same_kind, same_flag, same_node}
+use Rattle.coda_coherence.specs.Changes.{same_there, changes, ChangesTell}
 
 same_list : (a b : List ℕ) → eq_by_cmp name_cmp a b ≡ true → a ≡ b
 same_list a b e = exact_bytes a b ((Equal-is (name_cmp a b)).0 e)
@@ -44,7 +47,8 @@ not_false : (b : Bool) → not b ≡ false → b ≡ true
 not_false true e = refl
 not_false false e = absurd (true≢false e)
 
-found_name : (test : Name → Bool) (names : List Name) (n : Name) → list_any (eq_by_cmp name_cmp n) names ≡ true → test n ≡ true → list_any test names ≡ true
+found_name : (test : Name → Bool) (names : List Name) (n : Name) → list_any (eq_by_cmp name_cmp n) names ≡ true
+    → test n ≡ true → list_any test names ≡ true
 found_name test [] n among passes = absurd (false≢true among)
 found_name test (x ∷ names) n among passes = ⊎_elim
     (λ (is : eq_by_cmp name_cmp n x ≡ true). or_left (test x) (list_any test names) (ap test (sym (same_list n x is)) ∙ passes))
@@ -52,7 +56,8 @@ found_name test (x ∷ names) n among passes = ⊎_elim
     (or_cases (eq_by_cmp name_cmp n x) (list_any (eq_by_cmp name_cmp n) names) among)
 
 -- at a name that one of the two binds they bind the same
-same_at : (a b m : Bindings) (n : Name) → differ_at a b (map.keys m) ≡ false → is_some (map.get m n) ≡ true → map.get a n ≡ map.get b n
+same_at : (a b m : Bindings) (n : Name) → differ_at a b (map.keys m) ≡ false → is_some (map.get m n) ≡ true
+    → map.get a n ≡ map.get b n
 same_at a b m n none there = bound_is (map.get a n) (map.get b n) (go (same_bound (map.get a n) (map.get b n)) refl)
   where
     go : (t : Bool) → same_bound (map.get a n) (map.get b n) ≡ t → same_bound (map.get a n) (map.get b n) ≡ true
@@ -122,11 +127,13 @@ there_itself : (a : Option Node) → same_there a a ≡ true
 there_itself None = refl
 there_itself (Some a) = node_itself a
 
-if_changed : (history : List ReplicaEntry) (e : ReplicaEntry) (fid : Fid) → changes history e fid ≡ true → node_at (history ++ e ∷ []) fid ≢ node_at history fid
+if_changed : (history : List ReplicaEntry) (e : ReplicaEntry) (fid : Fid) → changes history e fid ≡ true
+    → node_at (history ++ e ∷ []) fid ≢ node_at history fid
 unfolding changes
 if_changed history e fid changed same = false≢true (ap not (sym (subst (λ o. same_there (node_at (history ++ e ∷ []) fid) o ≡ true) same (there_itself (node_at (history ++ e ∷ []) fid)))) ∙ changed)
 
-if_same : (history : List ReplicaEntry) (e : ReplicaEntry) (fid : Fid) → changes history e fid ≡ false → node_at (history ++ e ∷ []) fid ≡ node_at history fid
+if_same : (history : List ReplicaEntry) (e : ReplicaEntry) (fid : Fid) → changes history e fid ≡ false
+    → node_at (history ++ e ∷ []) fid ≡ node_at history fid
 unfolding changes
 if_same history e fid quiet = there_is (node_at (history ++ e ∷ []) fid) (node_at history fid) (not_false _ quiet)
 

@@ -1,5 +1,7 @@
--- A cell as its caches see it: what servers decided and remember of their clients, what clients have and hold valid copies of, and which Breaks are under way.
-use Rattle.std.specs.Prelude.{◌≡◌, ◌≢◌, ℕ, ◌+◌, Bool, true, false, cond, ◌&&◌, ◌==◌, List, [], ◌∷◌, ◌++◌, length, take, Option, Some, None, IsSome}
+-- A cell as its caches see it: what servers decided and remember of their clients, what clients have and hold valid
+-- copies of, and which Breaks are under way.
+use Rattle.std.specs.Prelude.{◌≡◌, ◌≢◌, ℕ, ◌+◌, Bool, true, false, cond, ◌&&◌, ◌==◌, List, [], ◌∷◌, ◌++◌, length}
+use Rattle.std.specs.Prelude.{take, Option, Some, None, IsSome}
 use Rattle.std.specs.Option.{option_and_then}
 use Rattle.std.specs.FinMap as map
 use Rattle.coda_fid.specs.Fid.{same_fid}
@@ -10,7 +12,8 @@ use Rattle.coda_certify.specs.declared.verdict.Verdict.TheVariants.{Applied, Con
 use Rattle.coda_cancel.specs.Dropping.{mentioning}
 use Rattle.coda_cml.specs.State.{LogState}
 use Rattle.coda_cml.specs.Steady.{any_record}
-use Rattle.coda_callback.specs.Callbacks.{Callbacks, names, no_callbacks, promised, broken_where, IsOutbox, collected, dropped}
+use Rattle.coda_callback.specs.Callbacks.{Callbacks, names, no_callbacks, promised, broken_where, IsOutbox, collected}
+use Rattle.coda_callback.specs.Callbacks.{dropped}
 use Rattle.coda_plain.specs.Decisions.{ReplicaEntry, nodes_of}
 use Rattle.coda_record.specs.declared.entry.ClientEntry.{ClientEntry}
 use Rattle.coda_record.specs.declared.entry.ClientEntry.TheVariants as entry
@@ -32,8 +35,8 @@ pub record Break : Type 0 where
   pub fids : List Fid
   pub delivered : Bool
 
--- Histories and callbacks are by server and volume; clients by number; valid copies by client and object; Breaks by the numbers of their letters, of which so many were
--- posted; links, which are up or down, by client and server.
+-- Histories and callbacks are by server and volume; clients by number; valid copies by client and object; Breaks by
+-- the numbers of their letters, of which so many were posted; links, which are up or down, by client and server.
 pub record CachingCell : Type 0 where
   pub histories : ℕ → ℕ → List ReplicaEntry
   pub callbacks : ℕ → ℕ → Callbacks
@@ -72,7 +75,8 @@ unless_gone gone copy = cond gone None (Some copy)
 
 -- the copies without those that pass a test
 abbrev pub copies_left : (ℕ → Fid → Option Copy) → (ℕ → Fid → Copy → Bool) → ℕ → Fid → Option Copy
-copies_left copies gone client fid = option_and_then (λ copy. unless_gone (gone client fid copy) copy) (copies client fid)
+copies_left copies gone client fid =
+    option_and_then (λ copy. unless_gone (gone client fid copy) copy) (copies client fid)
 
 -- ---- what a server gave
 
@@ -95,8 +99,10 @@ settlement_invalidates (Conflict number why) log fid = false
 abbrev pub invalidates : ClientState → ClientEntry → Fid → Bool
 invalidates c (entry.Op volume rec) fid = takes_out fid rec.op
 invalidates c (entry.Freeze volume number home last) fid = false
-invalidates c (entry.Settled volume number verdict) fid = (fid.volume == volume) && settlement_invalidates verdict (c.volumes volume).log fid
-invalidates c (entry.Giveup volume) fid = (fid.volume == volume) && any_record (mentioning fid) (log_records (c.volumes volume))
+invalidates c (entry.Settled volume number verdict) fid =
+    (fid.volume == volume) && settlement_invalidates verdict (c.volumes volume).log fid
+invalidates c (entry.Giveup volume) fid =
+    (fid.volume == volume) && any_record (mentioning fid) (log_records (c.volumes volume))
 invalidates c (entry.Fetched at parent node) fid = same_fid fid at
 invalidates c (entry.Dropped at) fid = same_fid fid at
 
@@ -145,7 +151,8 @@ break_delivered cell number (Some letter) = record cell {
 -- a Break is lost, and with it the link between its ends
 abbrev pub break_lost : CachingCell → ℕ → Option Break → CachingCell
 break_lost cell number None = cell
-break_lost cell number (Some letter) = link_cut (record cell { breaks = put cell.breaks number None }) letter.client letter.server
+break_lost cell number (Some letter) =
+    link_cut (record cell { breaks = put cell.breaks number None }) letter.client letter.server
 
 -- the copy that a server gives now
 abbrev pub copy_now : CachingCell → Fid → ℕ → Copy
@@ -159,17 +166,23 @@ module _ (changes : List ReplicaEntry → ReplicaEntry → Fid → Bool) where
     copies = put_copy cell.copies client fid (Some (copy_now cell fid server));
     callbacks = put_pair cell.callbacks server fid.volume (promised (cell.callbacks server fid.volume) client fid);
   }
-  cell_after cell (Refused client server fid) = record cell { callbacks = put_pair cell.callbacks server fid.volume (promised (cell.callbacks server fid.volume) client fid) }
+  cell_after cell (Refused client server fid) = record cell {
+    callbacks = put_pair cell.callbacks server fid.volume (promised (cell.callbacks server fid.volume) client fid);
+  }
   cell_after cell (Acted client entry) = record cell {
     clients = put cell.clients client (client_after (cell.clients client) entry);
     copies = copies_left cell.copies (λ c fid copy. (c == client) && invalidates (cell.clients client) entry fid);
   }
   cell_after cell (Decided server volume entry) = record cell {
     histories = put_pair cell.histories server volume (cell.histories server volume ++ entry ∷ []);
-    callbacks = put_pair cell.callbacks server volume (broken_where (cell.callbacks server volume) (changes (cell.histories server volume) entry));
+    callbacks =
+        put_pair cell.callbacks server volume
+        (broken_where (cell.callbacks server volume) (changes (cell.histories server volume) entry));
   }
   cell_after cell (Posted server client volume fids) = record cell {
-    breaks = put cell.breaks (cell.posted + 1) (Some (record { server = server; client = client; volume = volume; fids = fids; delivered = false }));
+    breaks =
+        put cell.breaks (cell.posted + 1)
+        (Some (record { server = server; client = client; volume = volume; fids = fids; delivered = false }));
     posted = cell.posted + 1;
     callbacks = put_pair cell.callbacks server volume (collected (cell.callbacks server volume) client);
   }
@@ -195,27 +208,33 @@ module _ (changes : List ReplicaEntry → ReplicaEntry → Fid → Bool) where
 
 -- ---- what may happen
 
--- a client fetches the object's node as it is now, where its journal may have it; that binds nothing that the tail of the client's log creates; and an object that isn't cached and
--- that the log mentions is taken out by it
-pub record MayFetch (cell : CachingCell) (client server : ℕ) (fid : Fid) (parent : Option Fid) (node : Node) : Type 0 where
+-- a client fetches the object's node as it is now, where its journal may have it; that binds nothing that the tail of
+-- the client's log creates; and an object that isn't cached and that the log mentions is taken out by it
+pub record MayFetch (cell : CachingCell) (client server : ℕ) (fid : Fid) (parent : Option Fid)
+    (node : Node) : Type 0 where
   pub linked : cell.links client server ≡ true
   pub may : MayEnter (cell.clients client) (entry.Fetched fid parent node)
   pub there : node_at (cell.histories server fid.volume) fid ≡ Some node
   pub predates : Predates fid (Some node) ((cell.clients client).volumes fid.volume).log.records
-  pub taken : cached_node (cell.clients client) fid ≡ None → any_record (mentioning fid) (records_for (cell.clients client) fid) ≡ true → any_record (takes_out fid) (records_for (cell.clients client) fid) ≡ true
+  pub taken : cached_node (cell.clients client) fid ≡ None
+      → any_record (mentioning fid) (records_for (cell.clients client) fid) ≡ true
+      → any_record (takes_out fid) (records_for (cell.clients client) fid) ≡ true
 
 -- a client does what may follow its history, and the cell keeps what is owed to each of its valid copies
 pub record MayAct (cell : CachingCell) (client : ℕ) (entry : ClientEntry) : Type 0 where
   pub may : MayEnter (cell.clients client) entry
-  pub owed : (fid : Fid) (copy : Copy) → cell.copies client fid ≡ Some copy → RespectsGiven (cell.clients client) entry fid (given cell fid copy)
+  pub owed : (fid : Fid) (copy : Copy) → cell.copies client fid ≡ Some copy
+      → RespectsGiven (cell.clients client) entry fid (given cell fid copy)
 
 abbrev pub MayHappen : CachingCell → CacheEvent → Type 0
 MayHappen cell (Fetched client server fid parent node) = MayFetch cell client server fid parent node
 MayHappen cell (Refused client server fid) = (cell.links client server ≡ true) × (cell.copies client fid ≡ None)
 MayHappen cell (Acted client entry) = MayAct cell client entry
 MayHappen cell (Decided server volume entry) = Unit {0}
-MayHappen cell (Posted server client volume fids) = (cell.links client server ≡ true) × IsOutbox (cell.callbacks server volume) client fids
-MayHappen cell (Refreshed server client volume fids) = (cell.links client server ≡ true) × IsOutbox (cell.callbacks server volume) client fids
+MayHappen cell (Posted server client volume fids) = (cell.links client server ≡ true)
+    × IsOutbox (cell.callbacks server volume) client fids
+MayHappen cell (Refreshed server client volume fids) = (cell.links client server ≡ true)
+    × IsOutbox (cell.callbacks server volume) client fids
 MayHappen cell OtherPosted = Unit {0}
 MayHappen cell (Delivered number) = IsSome (cell.breaks number)
 MayHappen cell (Lost number) = IsSome (cell.breaks number)
@@ -225,17 +244,23 @@ MayHappen cell (ClientGone client state) = Unit {0}
 MayHappen cell (ReplicaGone server volume found) = Unit {0}
 
 -- the events happen one after another
-abbrev pub IsCacheRun : (List ReplicaEntry → ReplicaEntry → Fid → Bool) → CachingCell → List CacheEvent → CachingCell → Type 0
+abbrev pub IsCacheRun : (List ReplicaEntry → ReplicaEntry → Fid → Bool) → CachingCell → List CacheEvent → CachingCell
+    → Type 0
 IsCacheRun changes old [] new = new ≡ old
-IsCacheRun changes old (event ∷ events) new = MayHappen old event × IsCacheRun changes (cell_after changes old event) events new
+IsCacheRun changes old (event ∷ events) new = MayHappen old event
+    × IsCacheRun changes (cell_after changes old event) events new
 
 -- ---- which objects an entry changes
 
--- no change is missed: an entry that is said not to change an object leaves its node, whatever history it stands behind
+-- no change is missed: an entry that is said not to change an object leaves its node, whatever history it stands
+-- behind
 abbrev pub MissesNoChange : (List ReplicaEntry → ReplicaEntry → Fid → Bool) → Type 0
-MissesNoChange changes = (history : List ReplicaEntry) (e : ReplicaEntry) (fid : Fid) → changes history e fid ≡ false → node_at (history ++ e ∷ []) fid ≡ node_at history fid
+MissesNoChange changes = (history : List ReplicaEntry) (e : ReplicaEntry) (fid : Fid) → changes history e fid ≡ false
+    → node_at (history ++ e ∷ []) fid ≡ node_at history fid
 
 -- and no word is too much: an entry that is said to change it leaves another node
 pub record TellsExactly (changes : List ReplicaEntry → ReplicaEntry → Fid → Bool) : Type 0 where
-  pub if_changed : (history : List ReplicaEntry) (e : ReplicaEntry) (fid : Fid) → changes history e fid ≡ true → node_at (history ++ e ∷ []) fid ≢ node_at history fid
-  pub if_same : (history : List ReplicaEntry) (e : ReplicaEntry) (fid : Fid) → changes history e fid ≡ false → node_at (history ++ e ∷ []) fid ≡ node_at history fid
+  pub if_changed : (history : List ReplicaEntry) (e : ReplicaEntry) (fid : Fid) → changes history e fid ≡ true
+      → node_at (history ++ e ∷ []) fid ≢ node_at history fid
+  pub if_same : (history : List ReplicaEntry) (e : ReplicaEntry) (fid : Fid) → changes history e fid ≡ false
+      → node_at (history ++ e ∷ []) fid ≡ node_at history fid

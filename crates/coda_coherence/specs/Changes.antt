@@ -1,4 +1,5 @@
--- Which objects an entry of a replica's history changes: those whose node differs before and after the whole entry, one that comes or goes included.
+-- Which objects an entry of a replica's history changes: those whose node differs before and after the whole entry,
+-- one that comes or goes included.
 use Rattle.std.specs.Prelude.{Bool, true, false, not, ◌&&◌, ◌==◌, List, [], ◌∷◌, ◌++◌, Option, Some, None}
 use Rattle.std.specs.FinMap as map
 use Rattle.std.specs.List.{list_any}
@@ -43,7 +44,9 @@ same_flag true b = b
 same_flag false b = not b
 
 abbrev pub same_node : Node → Node → Bool
-same_node a b = same_kind a.kind b.kind && ((a.mode == b.mode) && ((a.owner == b.owner) && ((a.mtime == b.mtime) && (same_sid a.sid b.sid && same_flag a.marked b.marked))))
+same_node a b =
+    same_kind a.kind b.kind && ((a.mode == b.mode) && ((a.owner == b.owner)
+    && ((a.mtime == b.mtime) && (same_sid a.sid b.sid && same_flag a.marked b.marked))))
 
 abbrev pub same_there : Option Node → Option Node → Bool
 same_there None None = true

@@ -22,7 +22,9 @@ broken_sparing s client changed = record {
 abbrev pub decided_sparing : CachingCell → ℕ → ℕ → ℕ → ReplicaEntry → CachingCell
 decided_sparing cell client server volume entry = record cell {
   histories = put_pair cell.histories server volume (cell.histories server volume ++ entry ∷ []);
-  callbacks = put_pair cell.callbacks server volume (broken_sparing (cell.callbacks server volume) client (changes (cell.histories server volume) entry));
+  callbacks =
+      put_pair cell.callbacks server volume
+      (broken_sparing (cell.callbacks server volume) client (changes (cell.histories server volume) entry));
 }
 
 -- a cell is reached
@@ -31,5 +33,7 @@ pub record IsReachedCell (cell : CachingCell) : Type 0 where
   pub runs : IsCacheRun changes (empty_caching_cell (λ client. 100)) events cell
 
 pub record ShortcutsFail : Type 0 where
-  pub lossy : (cell : CachingCell) × (number : ℕ) × IsReachedCell cell × (CallbackFact (lost_with_link_up cell number) → ⊥)
-  pub spared : (cell : CachingCell) × (client : ℕ) × (server : ℕ) × (volume : ℕ) × (entry : ReplicaEntry) × IsReachedCell cell × (CallbackFact (decided_sparing cell client server volume entry) → ⊥)
+  pub lossy : (cell : CachingCell) × (number : ℕ) × IsReachedCell cell
+      × (CallbackFact (lost_with_link_up cell number) → ⊥)
+  pub spared : (cell : CachingCell) × (client : ℕ) × (server : ℕ) × (volume : ℕ) × (entry : ReplicaEntry)
+      × IsReachedCell cell × (CallbackFact (decided_sparing cell client server volume entry) → ⊥)

@@ -1,5 +1,6 @@
 -- Servers lack what tails create.
-use Rattle.std.proofs.Common.{◌≡◌, ℕ, ◌+◌, ◌<◌, true, List, [], ◌∷◌, ◌++◌, Option, Some, None, refl, sym, ap, ◌∙◌, subst, inl, inr, arith}
+use Rattle.std.proofs.Common.{◌≡◌, ℕ, ◌+◌, ◌<◌, true, List, [], ◌∷◌, ◌++◌, Option, Some, None, refl, sym, ap, ◌∙◌}
+use Rattle.std.proofs.Common.{subst, inl, inr, arith}
 use Rattle.std.proofs.lemmas.Bool.{false_from_ne_true}
 use Rattle.coda_fid.specs.declared.fid.Fid.{Fid}
 use Rattle.coda_fid.specs.declared.op.Record.{Record}
@@ -8,15 +9,18 @@ use Rattle.coda_cancel.specs.Dropping.{creates}
 use Rattle.coda_cml.specs.Segments.{records_upto}
 use Rattle.coda_cml.specs.Steady.{any_record}
 use Rattle.coda_plain.specs.Histories.{In, told}
-use Rattle.coda_plain.specs.Deeds.{created_by, full_of, Cut, course_of, pending_of, Ended, InChunk, operations_in, all_in, ended_of}
-use Rattle.coda_plain.specs.Decisions.{ReplicaEntry, Decided, Resolved, Decision, decision_at, verdict_on, kept_after, kept_of, nodes_of}
+use Rattle.coda_plain.specs.Deeds.{created_by, full_of, Cut, course_of, pending_of, Ended, InChunk, operations_in}
+use Rattle.coda_plain.specs.Deeds.{all_in, ended_of}
+use Rattle.coda_plain.specs.Decisions.{ReplicaEntry, Decided, Resolved, Decision, decision_at, verdict_on, kept_after}
+use Rattle.coda_plain.specs.Decisions.{kept_of, nodes_of}
 use Rattle.coda_plain.specs.Cell.{Histories}
 use Rattle.coda_plain.specs.Logs.{back_by, back_of}
 use Rattle.coda_plain.specs.Promises.{Decides, AreKept, IsUnderWay}
 use Rattle.coda_plain.specs.Sound.{deeds_in}
 use Rattle.coda_plain.proofs.Lists.{left_push, some_record, in_left, in_right}
 use Rattle.coda_plain.proofs.Chunking.{in_above}
-use Rattle.coda_creations.specs.Places.{IsBrought, AreCreationsCounted, NoneTookOver, IsOutsideTail, ServersLackWhatTailsCreate}
+use Rattle.coda_creations.specs.Places.{IsBrought, AreCreationsCounted, NoneTookOver, IsOutsideTail}
+use Rattle.coda_creations.specs.Places.{ServersLackWhatTailsCreate}
 use Rattle.coda_creations.proofs.Brought.{replicas_have}
 use Rattle.coda_creations.proofs.Tails.{one_created, later, once, above_by, upto_by}
 
@@ -30,7 +34,8 @@ find volume past (Decided client number span ∷ es) f all (inr more) =
 find volume past (Resolved objects lasts ∷ es) f all by = absurd all
 
 -- no object is created in front of records and in them
-parted : (count : ℕ) (front back : List Record) (f : Fid) (a b : Record) → AreCreationsCounted count (front ++ back) → In a front → In b back → creates f a.op ≡ true → creates f b.op ≡ true → ⊥
+parted : (count : ℕ) (front back : List Record) (f : Fid) (a b : Record) → AreCreationsCounted count (front ++ back)
+    → In a front → In b back → creates f a.op ≡ true → creates f b.op ≡ true → ⊥
 parted count [] back f a b are i j h k = i
 parted count (x ∷ front) back f a b are (inl i) j h k =
     let c : creates f x.op ≡ true = ap (λ (r : Record). creates f r.op) (sym i) ∙ h in
@@ -40,7 +45,8 @@ parted count (x ∷ front) back f a b are (inl i) j h k =
     omega (arith, at, one, more)
 parted count (x ∷ front) back f a b are (inr i) j h k = parted (count + created_by x.op) front back f a b are.1 i j h k
 
-in_ended : (rec : Record) (number : ℕ) (span : List Record) (es : List Ended) → In (InChunk number span) es → In rec span → In rec (all_in es)
+in_ended : (rec : Record) (number : ℕ) (span : List Record) (es : List Ended) → In (InChunk number span) es
+    → In rec span → In rec (all_in es)
 in_ended rec number span [] i j = absurd i
 in_ended rec number span (x ∷ es) (inl same) j = in_left rec (operations_in x) (all_in es) (subst (λ e. In rec (operations_in e)) same j)
 in_ended rec number span (x ∷ es) (inr i) j = in_right rec (operations_in x) (all_in es) (in_ended rec number span es i j)
@@ -54,11 +60,14 @@ back_pending (Some cut) pending rec i = in_above cut.last rec pending i
 
 module _ (h : Histories) (volume server client : ℕ) (f : Fid) (kept : (c : ℕ) → AreKept h c volume) (counted : (c : ℕ) → AreCreationsCounted 0 (full_of (deeds_in h c volume)))
     (own : (c : ℕ) (rec : Record) → In rec (full_of (deeds_in h c volume)) → creates f rec.op ≡ true → c ≡ f.vnode) where
-  in_pending : (c : ℕ) (rec : Record) → In rec (pending_of (deeds_in h c volume)) → In rec (full_of (deeds_in h c volume))
+  in_pending : (c : ℕ) (rec : Record) → In rec (pending_of (deeds_in h c volume))
+      → In rec (full_of (deeds_in h c volume))
   in_pending c rec i = in_above (course_of (deeds_in h c volume)).done rec (full_of (deeds_in h c volume)) i
 
   -- a decision that applied a creation of it, and a pending creation: the decision is of this client, and under way
-  under_way : (d : Decision) → Decides h server volume d → verdict_on d ≡ Applied → any_record (creates f) d.span ≡ true → (b : Record) → In b (pending_of (deeds_in h client volume)) → creates f b.op ≡ true
+  under_way : (d : Decision) → Decides h server volume d → verdict_on d ≡ Applied
+      → any_record (creates f) d.span ≡ true → (b : Record) → In b (pending_of (deeds_in h client volume))
+      → creates f b.op ≡ true
       → (d.client ≡ client) × IsUnderWay (deeds_in h client volume) d.number d.span
   under_way d there applied made b j k =
       let a = some_record (creates f) d.span made in
@@ -75,7 +84,8 @@ module _ (h : Histories) (volume server client : ℕ) (f : Fid) (kept : (c : ℕ
             (mine, subst (λ c. IsUnderWay (deeds_in h c volume) d.number d.span) mine way)
       ]
 
-  lacked : (d : Decision) → Decides h server volume d → verdict_on d ≡ Applied → any_record (creates f) d.span ≡ true → IsOutsideTail h volume server client f
+  lacked : (d : Decision) → Decides h server volume d → verdict_on d ≡ Applied → any_record (creates f) d.span ≡ true
+      → IsOutsideTail h volume server client f
   lacked d there applied made = record {
     tail = false_from_ne_true _ (λ t.
         let b = some_record (creates f) (back_of (deeds_in h client volume)) t in

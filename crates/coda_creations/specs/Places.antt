@@ -23,7 +23,8 @@ use Rattle.coda_plain.specs.Sound.{deeds_in}
 use Rattle.coda_plain.specs.Promises.{Decides, AreKept}
 use Rattle.coda_plain.specs.Logs.{back_of}
 use Rattle.coda_plain.specs.Objects.{nodes_in}
-use Rattle.coda_plain.specs.Decisions.{ReplicaEntry, Decided, Resolved, decision, Kept, kept_after, kept_of, nodes_of, Decision, verdict_on}
+use Rattle.coda_plain.specs.Decisions.{ReplicaEntry, Decided, Resolved, decision, Kept, kept_after, kept_of, nodes_of}
+use Rattle.coda_plain.specs.Decisions.{Decision, verdict_on}
 use Rattle.coda_cell.specs.Accepting.{sight_of, accept}
 use Rattle.coda_cell.specs.Ask.{Asked}
 use Rattle.coda_cell.specs.State.{ClientState}
@@ -31,7 +32,8 @@ use Rattle.coda_overlay.specs.Overlaying.{AreCreatedAt, RemovesInPlace, AllRemov
 
 -- Wherever an object is bound that the records create and don't take from its place, they created it there.
 abbrev pub AreWhereCreated : Nodes → List Record → Type 0
-AreWhereCreated m recs = (fid dir : Fid) (name : Name) → any_record (creates fid) recs ≡ true → any_record (unbinds fid) recs ≡ false → child m dir name ≡ Some fid → AreCreatedAt dir name fid recs
+AreWhereCreated m recs = (fid dir : Fid) (name : Name) → any_record (creates fid) recs ≡ true
+    → any_record (unbinds fid) recs ≡ false → child m dir name ≡ Some fid → AreCreatedAt dir name fid recs
 
 -- the operation creates nothing that the records create, or that is bound
 pub record CreatesUnseen (m : Nodes) (recs : List Record) (op : Op) : Type 0 where
@@ -57,17 +59,27 @@ AllCreateFresh past (rec ∷ recs) = IsFresh rec.op past × AllCreateFresh (past
 
 -- An operation that is accepted where objects are placed removes what it undoes from where that was created.
 abbrev pub AcceptedRemovalsAreInPlace : Type 0
-AcceptedRemovalsAreInPlace = (c : ClientState) (volume : ℕ) (ask : Asked) (op : Op) (recs : List Record) → accept (sight_of c volume) volume ask ≡ Ok op → AreWhereCreated c.held.nodes recs → RemovesInPlace recs op × RemovesUnmoved recs op
+AcceptedRemovalsAreInPlace = (c : ClientState) (volume : ℕ) (ask : Asked) (op : Op) (recs : List Record)
+    → accept (sight_of c volume) volume ask ≡ Ok op → AreWhereCreated c.held.nodes recs
+    → RemovesInPlace recs op × RemovesUnmoved recs op
 
--- Objects stay placed by an operation that creates something unseen; by a fetch of a node that binds nothing which the records create; and by a drop.
+-- Objects stay placed by an operation that creates something unseen; by a fetch of a node that binds nothing which
+-- the records create; and by a drop.
 pub record ObjectsStayWhereCreated : Type 0 where
-  pub operated : (m : Nodes) (client : ℕ) (rec : Record) (front tail : List Record) → CreatesUnseen m (front ++ tail) rec.op → AreWhereCreated m (front ++ tail) → AreWhereCreated (applied m client rec) (front ++ add tail rec)
-  pub fetched : (m : Nodes) (fid : Fid) (node : Node) (recs : List Record) → ((name : Name) (kid : Fid) → child_of (Some node) name ≡ Some kid → any_record (creates kid) recs ≡ false) → AreWhereCreated m recs → AreWhereCreated (map.insert m fid node) recs
-  pub dropped : (m : Nodes) (fid : Fid) (recs : List Record) → AreWhereCreated m recs → AreWhereCreated (map.remove m fid) recs
+  pub operated : (m : Nodes) (client : ℕ) (rec : Record) (front tail : List Record)
+      → CreatesUnseen m (front ++ tail) rec.op → AreWhereCreated m (front ++ tail)
+      → AreWhereCreated (applied m client rec) (front ++ add tail rec)
+  pub fetched : (m : Nodes) (fid : Fid) (node : Node) (recs : List Record)
+      → ((name : Name) (kid : Fid) → child_of (Some node) name ≡ Some kid → any_record (creates kid) recs ≡ false)
+      → AreWhereCreated m recs → AreWhereCreated (map.insert m fid node) recs
+  pub dropped : (m : Nodes) (fid : Fid) (recs : List Record) → AreWhereCreated m recs
+      → AreWhereCreated (map.remove m fid) recs
 
--- Where each removal of chunk and tail is at home, and each creation fresh, the tail is in place as it is added to the chunk.
+-- Where each removal of chunk and tail is at home, and each creation fresh, the tail is in place as it is added to
+-- the chunk.
 abbrev pub UnmovedRemovalsAreInPlace : Type 0
-UnmovedRemovalsAreInPlace = (chunk tail : List Record) → AllRemoveUnmoved chunk tail → AllCreateFresh [] (chunk ++ tail) → AllRemoveInPlace chunk tail
+UnmovedRemovalsAreInPlace = (chunk tail : List Record) → AllRemoveUnmoved chunk tail
+    → AllCreateFresh [] (chunk ++ tail) → AllRemoveInPlace chunk tail
 
 -- ---- what servers have
 
@@ -77,11 +89,14 @@ IsHeldOrBound m f = (has m f ≡ true) ⊎ ((dir : Fid) × (name : Name) × (chi
 
 -- What is known behind a decision was known before it, or an operation of its span created it.
 abbrev pub DecisionsBringCreations : Type 0
-DecisionsBringCreations = (m : Nodes) (client : ℕ) (span : List Record) (f : Fid) → IsHeldOrBound (nodes_left m (decision m client span)) f → IsHeldOrBound m f ⊎ (any_record (creates f) span ≡ true)
+DecisionsBringCreations = (m : Nodes) (client : ℕ) (span : List Record) (f : Fid)
+    → IsHeldOrBound (nodes_left m (decision m client span)) f
+    → IsHeldOrBound m f ⊎ (any_record (creates f) span ≡ true)
 
 -- an entry brought the object: it applied a span that creates it; or it took over nodes in which that is known
 abbrev pub IsBroughtBy : Fid → Kept → ReplicaEntry → Type 0
-IsBroughtBy f kept (Decided client number span) = (verdict_of (decision kept.nodes client span) ≡ Applied) × (any_record (creates f) span ≡ true)
+IsBroughtBy f kept (Decided client number span) = (verdict_of (decision kept.nodes client span) ≡ Applied)
+    × (any_record (creates f) span ≡ true)
 IsBroughtBy f kept (Resolved objects lasts) = IsHeldOrBound (nodes_in objects) f
 
 -- one of the entries did
@@ -91,14 +106,16 @@ IsBrought f kept (e ∷ es) = IsBroughtBy f kept e ⊎ IsBrought f (kept_after k
 
 -- What a replica has or binds is the root of its volume, or was brought by an entry of its history.
 abbrev pub ReplicasHaveWhatWasBrought : Type 0
-ReplicasHaveWhatWasBrought = (volume : ℕ) (history : List ReplicaEntry) (f : Fid) → IsHeldOrBound (nodes_of volume history) f → (f ≡ root_of volume) ⊎ IsBrought f (kept_of volume []) history
+ReplicasHaveWhatWasBrought = (volume : ℕ) (history : List ReplicaEntry) (f : Fid)
+    → IsHeldOrBound (nodes_of volume history) f → (f ≡ root_of volume) ⊎ IsBrought f (kept_of volume []) history
 
 -- ---- what tails create
 
 -- each object that the records create has the next count, so many having been created before
 abbrev pub AreCreationsCounted : ℕ → List Record → Type 0
 AreCreationsCounted count [] = Unit {0}
-AreCreationsCounted count (rec ∷ recs) = ((f : Fid) → creates f rec.op ≡ true → f.uniq ≡ count + 1) × AreCreationsCounted (count + created_by rec.op) recs
+AreCreationsCounted count (rec ∷ recs) = ((f : Fid) → creates f rec.op ≡ true → f.uniq ≡ count + 1)
+    × AreCreationsCounted (count + created_by rec.op) recs
 
 -- the chunk of this number met no conflict
 abbrev pub MetNoConflict : ℕ → List Deed → Type 0
@@ -109,8 +126,10 @@ MetNoConflict number (deed ∷ deeds) = MetNoConflict number deeds
 -- What a chunk creates that met no conflict the tail doesn't create, whatever was done since the chunk was frozen.
 abbrev pub ChunksAndTailsCreateApart : Type 0
 ChunksAndTailsCreateApart =
-    (past more : List Deed) (number home last : ℕ) (f : Fid) → AreLawful (past ++ Froze number home last ∷ more) → AreCreationsCounted 0 (full_of (past ++ Froze number home last ∷ more)) → MetNoConflict number more
-    → any_record (creates f) (records_upto last (pending_of past)) ≡ true → any_record (creates f) (back_of (past ++ Froze number home last ∷ more)) ≡ false
+    (past more : List Deed) (number home last : ℕ) (f : Fid) → AreLawful (past ++ Froze number home last ∷ more)
+    → AreCreationsCounted 0 (full_of (past ++ Froze number home last ∷ more)) → MetNoConflict number more
+    → any_record (creates f) (records_upto last (pending_of past)) ≡ true
+    → any_record (creates f) (back_of (past ++ Froze number home last ∷ more)) ≡ false
 
 -- ---- servers lack what tails create
 
@@ -120,14 +139,20 @@ NoneTookOver [] = Unit {0}
 NoneTookOver (Decided client number span ∷ es) = NoneTookOver es
 NoneTookOver (Resolved objects lasts ∷ es) = ⊥
 
--- What is known at a replica that isn't the root is none of what a tail creates; nor of what a chunk does that this replica didn't apply.
+-- What is known at a replica that isn't the root is none of what a tail creates; nor of what a chunk does that this
+-- replica didn't apply.
 pub record IsOutsideTail (h : Histories) (volume server client : ℕ) (f : Fid) : Type 0 where
   pub tail : any_record (creates f) (back_of (deeds_in h client volume)) ≡ false
-  pub whole : ((d : Decision) → Decides h server volume d → d.client ≡ client → verdict_on d ≡ Applied → d.number ≢ (course_of (deeds_in h client volume)).chunks) → any_record (creates f) (pending_of (deeds_in h client volume)) ≡ false
+  pub whole : ((d : Decision) → Decides h server volume d → d.client ≡ client → verdict_on d ≡ Applied
+        → d.number ≢ (course_of (deeds_in h client volume)).chunks)
+      → any_record (creates f) (pending_of (deeds_in h client volume)) ≡ false
 
 -- So it is where histories keep what is promised, creations are counted, and each is its client's.
 abbrev pub ServersLackWhatTailsCreate : Type 0
 ServersLackWhatTailsCreate =
-    (h : Histories) (volume server client : ℕ) (f : Fid) → ((c : ℕ) → AreKept h c volume) → ((c : ℕ) → AreCreationsCounted 0 (full_of (deeds_in h c volume)))
-    → ((c : ℕ) (rec : Record) → In rec (full_of (deeds_in h c volume)) → creates f rec.op ≡ true → c ≡ f.vnode) → NoneTookOver (h.replicas server volume)
-    → IsHeldOrBound (nodes_of volume (h.replicas server volume)) f → f ≢ root_of volume → IsOutsideTail h volume server client f
+    (h : Histories) (volume server client : ℕ) (f : Fid) → ((c : ℕ) → AreKept h c volume)
+    → ((c : ℕ) → AreCreationsCounted 0 (full_of (deeds_in h c volume)))
+    → ((c : ℕ) (rec : Record) → In rec (full_of (deeds_in h c volume)) → creates f rec.op ≡ true → c ≡ f.vnode)
+    → NoneTookOver (h.replicas server volume)
+    → IsHeldOrBound (nodes_of volume (h.replicas server volume)) f → f ≢ root_of volume
+    → IsOutsideTail h volume server client f

@@ -1,5 +1,6 @@
 -- Behind a resolution what it took up is the same or marked.
-use Rattle.std.proofs.Common.{◌≡◌, ◌≢◌, ℕ, true, false, List, [], ◌∷◌, Option, Some, None, refl, ap, ◌∙◌, subst, inl, inr}
+use Rattle.std.proofs.Common.{◌≡◌, ◌≢◌, ℕ, true, false, List, [], ◌∷◌, Option, Some, None, refl, ap, ◌∙◌, subst, inl}
+use Rattle.std.proofs.Common.{inr}
 use Rattle.std.specs.FinMap as finmap
 use Rattle.coda_fid.specs.Fid.{root_of}
 use Rattle.coda_fid.specs.declared.fid.Fid.{Fid}
@@ -23,7 +24,8 @@ use Rattle.coda_plain.specs.Decisions.{Resolved, Last, Kept, last_of}
 use Rattle.coda_plain.specs.Cell.{PlainCell}
 use Rattle.coda_plain.proofs.Soundness.{none_joins}
 use Rattle.coda_group.specs.Holdings.{replica_objects}
-use Rattle.coda_group.specs.Steps.{Install, HasInstall, Resolves, Repairs, IsResolution, IsRepairOf, after_step, history_at, objects_at, views_at, last_at, MayResolve, MayRepair}
+use Rattle.coda_group.specs.Steps.{Install, HasInstall, Resolves, Repairs, IsResolution, IsRepairOf, after_step}
+use Rattle.coda_group.specs.Steps.{history_at, objects_at, views_at, last_at, MayResolve, MayRepair}
 use Rattle.coda_group.specs.Sound.{IsGroupSound}
 use Rattle.coda_group.specs.Laws.{IsInstalledOrKept, ResolvedReplicasAreEqualOrMarked, RepairedAreEqual}
 use Rattle.coda_lineage.specs.Repairs.{repaired}
@@ -40,7 +42,8 @@ stand_in_marked low (File content) = refl
 stand_in_marked low (Link target) = refl
 stand_in_marked low (Dir entries) = refl
 
-settled_marked : (why : Why) (lowest copy : Option Held) → lowest ≢ None → is_marked (settled_copy (Marked why) lowest copy) ≡ true
+settled_marked : (why : Why) (lowest copy : Option Held) → lowest ≢ None
+    → is_marked (settled_copy (Marked why) lowest copy) ≡ true
 settled_marked why None copy there = absurd (there refl)
 settled_marked why (Some low) None there = stand_in_marked low low.node.kind
 settled_marked why (Some low) (Some own) there = refl
@@ -50,18 +53,24 @@ list_views views [] = []
 list_views views (s ∷ list) = views s ∷ list_views views list
 
 module _ (views : ℕ → Objects) (f : Fid) (lowest : Option Held) (fate : Fate) (olds : ℕ → Option Held) where
-  all_same : (held : Held) → fate ≡ Same held → (list : List ℕ) → ((s : ℕ) → IsIn s list → finmap.get (views s) f ≡ settled_copy fate lowest (olds s)) → IsEverywhere held (copies_at (list_views views list) f)
+  all_same : (held : Held) → fate ≡ Same held → (list : List ℕ)
+      → ((s : ℕ) → IsIn s list → finmap.get (views s) f ≡ settled_copy fate lowest (olds s))
+      → IsEverywhere held (copies_at (list_views views list) f)
   all_same held e [] each = tt
   all_same held e (s ∷ list) each = (each s (inl refl) ∙ ap (λ x. settled_copy x lowest (olds s)) e, all_same held e list (λ t i. each t (inr i)))
 
-  all_marked : (why : Why) → fate ≡ Marked why → lowest ≢ None → (list : List ℕ) → ((s : ℕ) → IsIn s list → finmap.get (views s) f ≡ settled_copy fate lowest (olds s)) → IsMarkedEverywhere (copies_at (list_views views list) f)
+  all_marked : (why : Why) → fate ≡ Marked why → lowest ≢ None → (list : List ℕ)
+      → ((s : ℕ) → IsIn s list → finmap.get (views s) f ≡ settled_copy fate lowest (olds s))
+      → IsMarkedEverywhere (copies_at (list_views views list) f)
   all_marked why e there [] each = tt
   all_marked why e there (s ∷ list) each = (
     ap is_marked (each s (inl refl) ∙ ap (λ x. settled_copy x lowest (olds s)) e) ∙ settled_marked why lowest (olds s) there,
     all_marked why e there list (λ t i. each t (inr i)),
   )
 
-  equal_or_marked : lowest ≢ None → fate ≢ Gone → (list : List ℕ) → ((s : ℕ) → IsIn s list → finmap.get (views s) f ≡ settled_copy fate lowest (olds s)) → IsEqualOrMarked (copies_at (list_views views list) f)
+  equal_or_marked : lowest ≢ None → fate ≢ Gone → (list : List ℕ)
+      → ((s : ℕ) → IsIn s list → finmap.get (views s) f ≡ settled_copy fate lowest (olds s))
+      → IsEqualOrMarked (copies_at (list_views views list) f)
   equal_or_marked there stays list each = go fate refl
     where
       go : (x : Fate) → fate ≡ x → IsEqualOrMarked (copies_at (list_views views list) f)
@@ -69,7 +78,8 @@ module _ (views : ℕ → Objects) (f : Fid) (lowest : Option Held) (fate : Fate
       go (Marked why) e = inr (all_marked why e there list each)
       go Gone e = absurd (stays e)
 
-views_list : (cell : PlainCell) (volume : ℕ) (part : List ℕ) → list_views (objects_at cell volume) part ≡ views_at cell volume part
+views_list : (cell : PlainCell) (volume : ℕ) (part : List ℕ)
+    → list_views (objects_at cell volume) part ≡ views_at cell volume part
 views_list cell volume [] = refl
 views_list cell volume (s ∷ part) = ap (λ l. objects_at cell volume s ∷ l) (views_list cell volume part)
 
@@ -150,7 +160,8 @@ module _ (servers : ℕ → List ℕ) (cell : PlainCell) (volume source : ℕ) (
         ∙ put.left.put f held.0 ((may.repair.below f).1 below) held.1
   ]
 
-  everywhere : (list : List ℕ) → ((s : ℕ) → IsIn s list → finmap.get (objects_at last volume s) f ≡ Some is) → IsEverywhere is (copies_at (views_at last volume list) f)
+  everywhere : (list : List ℕ) → ((s : ℕ) → IsIn s list → finmap.get (objects_at last volume s) f ≡ Some is)
+      → IsEverywhere is (copies_at (views_at last volume list) f)
   everywhere [] all = tt
   everywhere (s ∷ list) all = (all s (inl refl), everywhere list (λ t i. all t (inr i)))
 

@@ -1,5 +1,6 @@
 -- A resolution log stands exactly at each directory.
-use Rattle.std.proofs.Common.{◌≡◌, ℕ, Bool, true, false, cond, List, [], ◌∷◌, Option, Some, None, is_some, option_map, refl, sym, ap, ◌∙◌, subst, inl, inr}
+use Rattle.std.proofs.Common.{◌≡◌, ℕ, Bool, true, false, cond, List, [], ◌∷◌, Option, Some, None, is_some, option_map}
+use Rattle.std.proofs.Common.{refl, sym, ap, ◌∙◌, subst, inl, inr}
 use Rattle.std.specs.FinMap as finmap
 use Rattle.std.specs.List.{AllByRecursion}
 use Rattle.std.proofs.lemmas.Bool.{true≢false}
@@ -34,7 +35,8 @@ use Rattle.coda_group.specs.Groups.{HasLogIfDirectory}
 abbrev pub AreRinged : Objects → Type 0
 AreRinged o = (f : Fid) → HasLogIfDirectory (finmap.get o f)
 
-first_ringed : (server : ℕ) (node : Node) (kind : NodeKind) → node.kind ≡ kind → HasLogIfDirectory (Some (first_by server node kind))
+first_ringed : (server : ℕ) (node : Node) (kind : NodeKind) → node.kind ≡ kind
+    → HasLogIfDirectory (Some (first_by server node kind))
 first_ringed server node (File content) e = sym (ap is_dir e)
 first_ringed server node (Link target) e = sym (ap is_dir e)
 first_ringed server node (Dir entries) e = sym (ap is_dir e)
@@ -45,7 +47,8 @@ some_mapped g (Some x) = refl
 
 -- ---- a decision
 
-pub decided_ringed : (server : ℕ) (sid : Sid) (o : Option Node) (old : Option Held) (deed : Option Deed) → HasLogIfDirectory old
+pub decided_ringed : (server : ℕ) (sid : Sid) (o : Option Node) (old : Option Held) (deed : Option Deed)
+    → HasLogIfDirectory old
     → ((node : Node) (was : Held) → o ≡ Some node → old ≡ Some was → is_dir node.kind ≡ is_dir was.node.kind) → HasLogIfDirectory (version_by server sid o old deed)
 decided_ringed server sid None old deed ringed alike = tt
 decided_ringed server sid (Some node) None deed ringed alike = first_ringed server node node.kind refl
@@ -54,7 +57,8 @@ decided_ringed server sid (Some node) (Some was) (Some deed) ringed alike = some
 
 -- ---- a resolution
 
-fate_ringed : (copies : Copies) (look : Fid → Copies) (held : Held) → AllByRecursion HasLogIfDirectory copies → fate copies look ≡ Same held → HasLogIfDirectory (Some held)
+fate_ringed : (copies : Copies) (look : Fid → Copies) (held : Held) → AllByRecursion HasLogIfDirectory copies
+    → fate copies look ≡ Same held → HasLogIfDirectory (Some held)
 fate_ringed copies look held all e = from (first_some copies) e
   where
     by_kind : (k : NodeKind) → fate_by copies look k ≡ Same held → HasLogIfDirectory (Some held)
@@ -71,12 +75,15 @@ first_all [] all = tt
 first_all (None ∷ copies) all = first_all copies all.1
 first_all (Some held ∷ copies) all = all.0
 
-stand_in_ringed : (low : Held) (kind : NodeKind) → low.node.kind ≡ kind → HasLogIfDirectory (Some low) → HasLogIfDirectory (Some (stand_in_by low kind))
+stand_in_ringed : (low : Held) (kind : NodeKind) → low.node.kind ≡ kind → HasLogIfDirectory (Some low)
+    → HasLogIfDirectory (Some (stand_in_by low kind))
 stand_in_ringed low (File content) e ringed = ringed
 stand_in_ringed low (Link target) e ringed = ringed
 stand_in_ringed low (Dir entries) e ringed = refl
 
-settled_ringed : (fate : Fate) (lowest copy : Option Held) → ((held : Held) → fate ≡ Same held → HasLogIfDirectory (Some held)) → HasLogIfDirectory lowest → HasLogIfDirectory copy → HasLogIfDirectory (settled_copy fate lowest copy)
+settled_ringed : (fate : Fate) (lowest copy : Option Held)
+    → ((held : Held) → fate ≡ Same held → HasLogIfDirectory (Some held)) → HasLogIfDirectory lowest
+    → HasLogIfDirectory copy → HasLogIfDirectory (settled_copy fate lowest copy)
 settled_ringed (Same held) lowest copy same low own = same held refl
 settled_ringed (Marked why) None None same low own = tt
 settled_ringed (Marked why) (Some held) None same low own = stand_in_ringed held held.node.kind refl low
@@ -85,7 +92,8 @@ settled_ringed Gone lowest copy same low own = own
 
 -- ---- a repair
 
-pub spared_ringed : (subtree : Fid → Bool) (top : Fid) (o : Option Held) → HasLogIfDirectory o → HasLogIfDirectory (spared subtree top o)
+pub spared_ringed : (subtree : Fid → Bool) (top : Fid) (o : Option Held) → HasLogIfDirectory o
+    → HasLogIfDirectory (spared subtree top o)
 spared_ringed subtree top None ringed = tt
 spared_ringed subtree top (Some held) ringed = go held.node.kind refl
   where
@@ -108,11 +116,14 @@ new_ringed root f = elim (fid_cases f root) [
 
 -- ---- what a resolution leaves of a replica
 
-all_at : (group : Group) (servers : List ℕ) (f : Fid) → ((s : ℕ) → IsIn s servers → AreRinged (group.holds s)) → (some : List ℕ) → AreAmong some servers → AllByRecursion HasLogIfDirectory (copies_at (held_at group some) f)
+all_at : (group : Group) (servers : List ℕ) (f : Fid) → ((s : ℕ) → IsIn s servers → AreRinged (group.holds s))
+    → (some : List ℕ) → AreAmong some servers → AllByRecursion HasLogIfDirectory (copies_at (held_at group some) f)
 all_at group servers f ringed [] among = tt
 all_at group servers f ringed (s ∷ some) among = (ringed s (among s (inl refl)) f, all_at group servers f ringed some (λ t i. among t (inr i)))
 
-pub installed_ringed : (root : Fid) (servers : List ℕ) (before : Group) (some : List ℕ) (view after : Objects) → ((s : ℕ) → IsIn s servers → AreRinged (before.holds s)) → AreAmong some servers → AreRinged view → IsInstalled (held_at before some) root view after → AreRinged after
+pub installed_ringed : (root : Fid) (servers : List ℕ) (before : Group) (some : List ℕ) (view after : Objects)
+    → ((s : ℕ) → IsIn s servers → AreRinged (before.holds s)) → AreAmong some servers → AreRinged view
+    → IsInstalled (held_at before some) root view after → AreRinged after
 installed_ringed root servers before some view after ringed among own is f = go (finmap.get after f) refl
   where
     taken : (g : Fid) → IsTakenUp (held_at before some) root g → HasLogIfDirectory (finmap.get after g)

@@ -17,7 +17,8 @@ all_moves : List GroupStep → List Move
 all_moves [] = []
 all_moves (step ∷ steps) = moves_of_step step ++ all_moves steps
 
-steps_moved : (servers : ℕ → List ℕ) (steps : List GroupStep) (old new : PlainCell) → IsGroupSound servers old → GroupStepped servers old steps new → Moved old (all_moves steps) new
+steps_moved : (servers : ℕ → List ℕ) (steps : List GroupStep) (old new : PlainCell) → IsGroupSound servers old
+    → GroupStepped servers old steps new → Moved old (all_moves steps) new
 unfolding all_moves
 steps_moved servers [] old new gs run = run
 steps_moved servers (step ∷ steps) old new gs run =

@@ -1,5 +1,6 @@
 -- One object of many nodes, and names in a directory.
-use Rattle.std.proofs.Common.{◌≡◌, ℕ, Bool, true, cond, List, [], ◌∷◌, ◌++◌, Option, Some, None, refl, sym, ap, ◌∙◌, subst}
+use Rattle.std.proofs.Common.{◌≡◌, ℕ, Bool, true, cond, List, [], ◌∷◌, ◌++◌, Option, Some, None, refl, sym, ap, ◌∙◌}
+use Rattle.std.proofs.Common.{subst}
 use Rattle.std.specs.FinMap as map
 use Rattle.std.specs.Ordering.{eq_by_cmp}
 use Rattle.std.specs.Cmp.{Equal-is}
@@ -13,7 +14,8 @@ use Rattle.coda_fid.specs.declared.op.Op.TheVariants.{Create, Mkdir, Symlink, St
 use Rattle.coda_fid.specs.declared.op.Record.{Record}
 use Rattle.coda_tree.specs.declared.node.Node.{Node}
 use Rattle.coda_tree.specs.Bindings.{Name}
-use Rattle.coda_tree.specs.Volume.{Nodes, child_of, bindings, bind_in, IsDirNode, Edit, Put, Bind, TakeOut, Unbind, Write, edited, edited_all}
+use Rattle.coda_tree.specs.Volume.{Nodes, child_of, bindings, bind_in, IsDirNode, Edit, Put, Bind, TakeOut, Unbind}
+use Rattle.coda_tree.specs.Volume.{Write, edited, edited_all}
 use Rattle.coda_certify.specs.Replay.{effects, sid_of, applied}
 use Rattle.coda_cancel.specs.Handing.{with_pre}
 use Rattle.coda_cml.proofs.volumes.Places.{place, act, point, get-edited}
@@ -33,7 +35,8 @@ pub get-edits : (f : Fid) (es : List Edit) (m : Nodes) → map.get (edited_all m
 get-edits f [] m = refl
 get-edits f (e ∷ es) m = get-edits f es (edited m e) ∙ ap (all_edited_at f es) (get-edited m e f ∙ sym (edit_is f e (map.get m f)))
 
-pub get-applied : (f : Fid) (client : ℕ) (rec : Record) (m : Nodes) → map.get (applied m client rec) f ≡ operated_at f client rec (map.get m f)
+pub get-applied : (f : Fid) (client : ℕ) (rec : Record) (m : Nodes)
+    → map.get (applied m client rec) f ≡ operated_at f client rec (map.get m f)
 unfolding applied
 get-applied f client rec m = get-edits f (effects rec.time (sid_of client rec) rec.op) m
 
@@ -47,16 +50,19 @@ pub name_true : (a b : Name) → same_name a b ≡ true → a ≡ b
 name_true a b e = exact_bytes a b ((Equal-is (name_cmp a b)).0 e)
 
 -- what a node binds that binds one name more
-pub child_bound : (node : Node) (n : Name) (g : Fid) (m : Name) → child_of (Some (bind_in node n g)) m ≡ cond (same_name m n) (Some g) (child_of (Some node) m)
+pub child_bound : (node : Node) (n : Name) (g : Fid) (m : Name)
+    → child_of (Some (bind_in node n g)) m ≡ cond (same_name m n) (Some g) (child_of (Some node) m)
 child_bound node n g m = map.get-insert nat_list_cmp_total (bindings node.kind) n g m
 
 -- ---- what is apt stays apt
 
-apt_free : (f : Fid) (a b : Option Node) (dir : Fid) (name : Name) → (child_of a name ≡ None → child_of b name ≡ None) → (IsDirNode a → IsDirNode b) → FindsFreeName f a dir name → FindsFreeName f b dir name
+apt_free : (f : Fid) (a b : Option Node) (dir : Fid) (name : Name) → (child_of a name ≡ None → child_of b name ≡ None)
+    → (IsDirNode a → IsDirNode b) → FindsFreeName f a dir name → FindsFreeName f b dir name
 apt_free f a b dir name same dirs h = record { dir_there = λ e. dirs (h.dir_there e); free = λ e. same (h.free e) }
 
 -- where a node binds what another does, and is a directory where that is one
-pub apt_same : (f : Fid) (a b : Option Node) → ((n : Name) → child_of a n ≡ child_of b n) → (IsDirNode a → IsDirNode b) → (op : Op) → FindsItsNames f a op → FindsItsNames f b op
+pub apt_same : (f : Fid) (a b : Option Node) → ((n : Name) → child_of a n ≡ child_of b n)
+    → (IsDirNode a → IsDirNode b) → (op : Op) → FindsItsNames f a op → FindsItsNames f b op
 apt_same f a b same dirs (Create d n g mode owner) h = apt_free f a b d n (λ e. sym (same n) ∙ e) dirs h
 apt_same f a b same dirs (Mkdir d n g mode owner) h = apt_free f a b d n (λ e. sym (same n) ∙ e) dirs h
 apt_same f a b same dirs (Symlink d n g target mode owner) h = apt_free f a b d n (λ e. sym (same n) ∙ e) dirs h
@@ -66,17 +72,21 @@ apt_same f a b same dirs (Remove d n g pre) h = λ e. sym (same n) ∙ h e
 apt_same f a b same dirs (Rmdir d n g pre) h = λ e. sym (same n) ∙ h e
 apt_same f a b same dirs (Rename d n e m g over) h = (λ x. sym (same n) ∙ h.0 x, λ x. sym (same m) ∙ h.1 x)
 
-pub apt_with_pre : (f : Fid) (a : Option Node) (h : Fid → Sid → Sid) (op : Op) → FindsItsNames f a op → FindsItsNames f a (with_pre h op)
+pub apt_with_pre : (f : Fid) (a : Option Node) (h : Fid → Sid → Sid) (op : Op) → FindsItsNames f a op
+    → FindsItsNames f a (with_pre h op)
 apt_with_pre f a h (Rename d n e m g None) x = x
 apt_with_pre f a h (Rename d n e m g (Some v)) x = x
 apt_with_pre f a h _ x = x
 
 -- ---- lists of records
 
-pub leads_joined : (f : Fid) (client : ℕ) (o mid left : Option Node) (recs more : List Record) → Overlays f client o recs mid → Overlays f client mid more left → Overlays f client o (recs ++ more) left
+pub leads_joined : (f : Fid) (client : ℕ) (o mid left : Option Node) (recs more : List Record)
+    → Overlays f client o recs mid → Overlays f client mid more left → Overlays f client o (recs ++ more) left
 leads_joined f client o mid left [] more a b = subst (λ y. Overlays f client y more left) (sym a) b
 leads_joined f client o mid left (rec ∷ recs) more a b = (a.0, leads_joined f client (operated_at f client rec o) mid left recs more a.1 b)
 
-pub leads_split : (f : Fid) (client : ℕ) (o left : Option Node) (recs more : List Record) → Overlays f client o (recs ++ more) left → (mid : Option Node) × Overlays f client o recs mid × Overlays f client mid more left
+pub leads_split : (f : Fid) (client : ℕ) (o left : Option Node) (recs more : List Record)
+    → Overlays f client o (recs ++ more) left
+    → (mid : Option Node) × Overlays f client o recs mid × Overlays f client mid more left
 leads_split f client o left [] more a = (o, refl, a)
 leads_split f client o left (rec ∷ recs) more a = let s = leads_split f client (operated_at f client rec o) left recs more a.1 in (s.0, (a.0, s.1), s.2)

@@ -1,5 +1,6 @@
 -- A list that drops what an operation makes needless leads one object where the whole list and the operation lead it.
-use Rattle.std.proofs.Common.{◌≡◌, ℕ, Bool, true, false, cond, List, [], ◌∷◌, ◌++◌, Option, Some, None, refl, sym, ap, ◌∙◌, subst}
+use Rattle.std.proofs.Common.{◌≡◌, ℕ, Bool, true, false, cond, List, [], ◌∷◌, ◌++◌, Option, Some, None, refl, sym, ap}
+use Rattle.std.proofs.Common.{◌∙◌, subst}
 use Rattle.std.specs.FinMap as map
 use Rattle.coda_fid.specs.Fid.{fid_cmp}
 use Rattle.coda_fid.specs.Op.{carried}
@@ -17,7 +18,8 @@ use Rattle.coda_cancel.specs.Handing.{Debt, nothing, owe, paid, hand, sid_or}
 use Rattle.coda_cancel.specs.Dropping.{drops}
 use Rattle.coda_cancel.specs.Cancel.{kept, debt, appended}
 use Rattle.coda_cancel.proofs.Keys.{carries}
-use Rattle.coda_cml.proofs.volumes.Overwritten.{no_version, everything, plain, child-written, veiled, veiled_over, edits_alike, look_alike}
+use Rattle.coda_cml.proofs.volumes.Overwritten.{no_version, everything, plain, child-written, veiled, veiled_over}
+use Rattle.coda_cml.proofs.volumes.Overwritten.{edits_alike, look_alike}
 use Rattle.coda_cml.proofs.volumes.Versions.{effects-with_pre}
 use Rattle.coda_cml.proofs.volumes.Appending.{reach, dropped_covered, unseen}
 use Rattle.coda_overlay.specs.Objects.{operated_at}
@@ -55,13 +57,15 @@ abbrev LedIn : Fid → ℕ → Nodes → List Record → Nodes → Type 0
 LedIn q client v [] w = v ≡ w
 LedIn q client v (rec ∷ recs) w = FindsItsNames q (map.get v q) rec.op × LedIn q client (applied v client rec) recs w
 
-led_in : (q : Fid) (client : ℕ) (recs : List Record) (v : Nodes) (o left : Option Node) → map.get v q ≡ o → Overlays q client o recs left → (w : Nodes) × LedIn q client v recs w × (map.get w q ≡ left)
+led_in : (q : Fid) (client : ℕ) (recs : List Record) (v : Nodes) (o left : Option Node) → map.get v q ≡ o
+    → Overlays q client o recs left → (w : Nodes) × LedIn q client v recs w × (map.get w q ≡ left)
 led_in q client [] v o left e h = (v, refl, e ∙ h)
 led_in q client (rec ∷ recs) v o left e h =
     let next = led_in q client recs (applied v client rec) (operated_at q client rec o) left (get-applied q client rec v ∙ ap (operated_at q client rec) e) h.1 in
     (next.0, (subst (λ y. FindsItsNames q y rec.op) (sym e) h.0, next.1), next.2)
 
-led_out : (q : Fid) (client : ℕ) (recs : List Record) (v w : Nodes) → LedIn q client v recs w → Overlays q client (map.get v q) recs (map.get w q)
+led_out : (q : Fid) (client : ℕ) (recs : List Record) (v w : Nodes) → LedIn q client v recs w
+    → Overlays q client (map.get v q) recs (map.get w q)
 led_out q client [] v w h = ap (λ (m : Nodes). map.get m q) h
 led_out q client (rec ∷ recs) v w h = (h.0, subst (λ o. Overlays q client o recs (map.get w q)) (get-applied q client rec v) (led_out q client recs (applied v client rec) w h.1))
 
@@ -79,10 +83,12 @@ module _ (q : Fid) (client : ℕ) (f : Fid) (o : Record) (k : carries f o.op ≡
   abbrev Beside : Nodes → Nodes → Type 0
   Beside v u = veiled f (reach o.time o.op) no_version v ≡ veiled f (reach o.time o.op) no_version u
 
-  apt_beside : (v u : Nodes) → Beside v u → (op : Op) → FindsItsNames q (map.get v q) op → FindsItsNames q (map.get u q) op
+  apt_beside : (v u : Nodes) → Beside v u → (op : Op) → FindsItsNames q (map.get v q) op
+      → FindsItsNames q (map.get u q) op
   apt_beside v u a op h = apt_plain q (map.get v q) (map.get u q) (look_alike f (reach o.time o.op) no_version v u a q) op h
 
-  last : (owed : Debt) (v u : Nodes) → Beside v u → FindsItsNames q (map.get v q) o.op → LedIn q client u (hand owed o ∷ []) (applied v client o)
+  last : (owed : Debt) (v u : Nodes) → Beside v u → FindsItsNames q (map.get v q) o.op
+      → LedIn q client u (hand owed o ∷ []) (applied v client o)
   unfolding applied
   last owed v u a c = (
     apt_with_pre q (map.get u q) (λ g p. sid_or (owed g) p) o.op (apt_beside v u a o.op c),
@@ -96,13 +102,16 @@ module _ (q : Fid) (client : ℕ) (f : Fid) (o : Record) (k : carries f o.op ≡
       let e = h.effect r.time (sid_of client r) in
       subst (λ es. Beside (edited_all v es) u) (sym e.1) (veiled_over f (reach o.time o.op) no_version e.0 (sid_of client r) e.2 v ∙ a)
 
-  after_kept : (owed : Debt) (v u : Nodes) → Beside v u → (r : Record) → Beside (applied v client r) (applied u client (hand owed r))
+  after_kept : (owed : Debt) (v u : Nodes) → Beside v u → (r : Record)
+      → Beside (applied v client r) (applied u client (hand owed r))
   unfolding applied
   after_kept owed v u a r =
       subst (λ es. Beside (edited_all v (effects r.time (sid_of client r) r.op)) (edited_all u es)) (sym (effects-with_pre (λ g p. sid_or (owed g) p) r.time (sid_of client r) r.op))
       (edits_alike f (reach o.time o.op) no_version (effects r.time (sid_of client r) r.op) v u a)
 
-  sim : (rs : List Record) (owed : Debt) (v u w : Nodes) → Beside v u → LedIn q client v rs w → FindsItsNames q (map.get w q) o.op → LedIn q client u (kept (drops o.op) owed rs ++ hand (debt (drops o.op) owed rs) o ∷ []) (applied w client o)
+  sim : (rs : List Record) (owed : Debt) (v u w : Nodes) → Beside v u → LedIn q client v rs w
+      → FindsItsNames q (map.get w q) o.op
+      → LedIn q client u (kept (drops o.op) owed rs ++ hand (debt (drops o.op) owed rs) o ∷ []) (applied w client o)
   sim [] owed v u w a h c = subst (λ x. LedIn q client u (hand owed o ∷ []) (applied x client o)) h (last owed v u a (subst (λ x. FindsItsNames q (map.get x q) o.op) (sym h) c))
   sim (r ∷ rs) owed v u w a h c = go (drops o.op r.op) refl
       (λ d. sim rs (owe owed (carried r.op)) (applied v client r) u w (after_drop v u a r d) h.1 c)
@@ -116,7 +125,8 @@ module _ (q : Fid) (client : ℕ) (f : Fid) (o : Record) (k : carries f o.op ≡
       go false e dropped stays = stays
 
   -- the operation stays, and what it makes needless goes
-  pub appended_leads : (rs : List Record) (given now : Option Node) → Overlays q client given rs now → FindsItsNames q now o.op → Overlays q client given (appended rs o) (operated_at q client o now)
+  pub appended_leads : (rs : List Record) (given now : Option Node) → Overlays q client given rs now
+      → FindsItsNames q now o.op → Overlays q client given (appended rs o) (operated_at q client o now)
   appended_leads rs given now h c =
       let start = only q given in
       let at : map.get start q ≡ given = get-only q given in

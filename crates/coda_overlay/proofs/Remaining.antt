@@ -1,6 +1,8 @@
 -- What takes an object out is dropped by nothing, unless the object was created before.
-use Rattle.std.proofs.Common.{◌≡◌, Bool, true, false, cond, ◌||◌, not, List, [], ◌∷◌, Some, None, refl, sym, ap, ◌∙◌, subst, ⊎_elim, inl, inr, ◌⊎◌}
-use Rattle.std.proofs.lemmas.Bool.{cond_both, and_parts, or_parts, or_cases, or_left, or_right, false≢true, false_from_ne_true}
+use Rattle.std.proofs.Common.{◌≡◌, Bool, true, false, cond, ◌||◌, not, List, [], ◌∷◌, Some, None, refl, sym, ap, ◌∙◌}
+use Rattle.std.proofs.Common.{subst, ⊎_elim, inl, inr, ◌⊎◌}
+use Rattle.std.proofs.lemmas.Bool.{cond_both, and_parts, or_parts, or_cases, or_left, or_right, false≢true}
+use Rattle.std.proofs.lemmas.Bool.{false_from_ne_true}
 use Rattle.std.proofs.lemmas.List.{append-nil}
 use Rattle.coda_fid.specs.Op.{carried}
 use Rattle.coda_fid.specs.declared.fid.Fid.{Fid}
@@ -48,7 +50,8 @@ takes_nothing_made f x (Rmdir d n g pre) h m = false≢true m
 takes_nothing_made f x (Rename d n y m g over) h k = false≢true k
 
 module _ (f : Fid) where
-  kept_takes : (op : Op) (owed : Debt) (rs : List Record) → any_record (takes_out f) rs ≡ true → any_record (takes_out f) (kept (drops op) owed rs) ≡ true
+  kept_takes : (op : Op) (owed : Debt) (rs : List Record) → any_record (takes_out f) rs ≡ true
+      → any_record (takes_out f) (kept (drops op) owed rs) ≡ true
   kept_takes op owed [] h = h
   kept_takes op owed (r ∷ rs) h = go (drops op r.op) refl (or_cases (takes_out f r.op) (any_record (takes_out f) rs) h) (kept_takes op (owe owed (carried r.op)) rs) (kept_takes op (paid owed (carried r.op)) rs)
     where
@@ -59,11 +62,14 @@ module _ (f : Fid) where
       go false e (inl here) one two = or_left (takes_out f (hand owed r).op) _ (takes_with_pre f (λ g p. sid_or (owed g) p) r.op ∙ here)
       go false e (inr later) one two = or_right (takes_out f (hand owed r).op) _ (two later)
 
-  without_takes : (x : Fid) (rs : List Record) → all_records (only_made x) rs ≡ true → any_record (takes_out f) rs ≡ true → any_record (takes_out f) (without x rs) ≡ true
+  without_takes : (x : Fid) (rs : List Record) → all_records (only_made x) rs ≡ true
+      → any_record (takes_out f) rs ≡ true → any_record (takes_out f) (without x rs) ≡ true
   without_takes x [] m h = h
   without_takes x (r ∷ rs) m h = go (mentioning x r.op) refl (or_cases (takes_out f r.op) (any_record (takes_out f) rs) h) (without_takes x rs (and_parts _ _ m).1)
     where
-      go : (b : Bool) → mentioning x r.op ≡ b → (takes_out f r.op ≡ true) ⊎ (any_record (takes_out f) rs ≡ true) → (any_record (takes_out f) rs ≡ true → any_record (takes_out f) (without x rs) ≡ true) → any_record (takes_out f) (cond b (without x rs) (r ∷ without x rs)) ≡ true
+      go : (b : Bool) → mentioning x r.op ≡ b → (takes_out f r.op ≡ true) ⊎ (any_record (takes_out f) rs ≡ true)
+          → (any_record (takes_out f) rs ≡ true → any_record (takes_out f) (without x rs) ≡ true)
+          → any_record (takes_out f) (cond b (without x rs) (r ∷ without x rs)) ≡ true
       go true e (inl here) more = absurd (takes_nothing_made f x r.op here (ap (λ b. not b || (creates x r.op || writes x r.op)) (sym e) ∙ (and_parts _ _ m).0))
       go true e (inr later) more = more later
       go false e (inl here) more = or_left (takes_out f r.op) _ here
@@ -75,12 +81,14 @@ module _ (f : Fid) where
   cancelled (Rmdir d n x pre) rs h = let p = undone_parts x rs h in (p.1, λ same. subst (λ y. any_record (creates y) rs ≡ true) (fid_true x f same) p.0)
   cancelled _ rs h = absurd (false≢true h)
 
-  pub add_before : (rs : List Record) (o : Record) → any_record (takes_out f) rs ≡ true → any_record (takes_out f) (add rs o) ≡ true
+  pub add_before : (rs : List Record) (o : Record) → any_record (takes_out f) rs ≡ true
+      → any_record (takes_out f) (add rs o) ≡ true
   add_before rs o before = cond_both (cancels o.op rs) (without (object (carried o.op)) rs) (appended rs o) (λ l. any_record (takes_out f) l ≡ true)
       (λ c. without_takes (object (carried o.op)) rs (cancelled o.op rs c).0 before)
       (λ c. any-append (takes_out f) (kept (drops o.op) nothing rs) (hand (debt (drops o.op) nothing rs) o ∷ []) ∙ or_left (any_record (takes_out f) (kept (drops o.op) nothing rs)) _ (kept_takes o.op nothing rs before))
 
-  add_takes : (rs : List Record) (o : Record) → any_record (creates f) rs ≡ false → (any_record (takes_out f) rs ≡ true) ⊎ (takes_out f o.op ≡ true) → any_record (takes_out f) (add rs o) ≡ true
+  add_takes : (rs : List Record) (o : Record) → any_record (creates f) rs ≡ false
+      → (any_record (takes_out f) rs ≡ true) ⊎ (takes_out f o.op ≡ true) → any_record (takes_out f) (add rs o) ≡ true
   add_takes rs o none h = cond_both (cancels o.op rs) (without (object (carried o.op)) rs) (appended rs o) (λ l. any_record (takes_out f) l ≡ true)
       (λ c. ⊎_elim
       (λ (before : any_record (takes_out f) rs ≡ true). without_takes (object (carried o.op)) rs (cancelled o.op rs c).0 before)
@@ -91,7 +99,8 @@ module _ (f : Fid) where
       (λ (now : takes_out f o.op ≡ true). or_right (any_record (takes_out f) (kept (drops o.op) nothing rs)) _ (or_left (takes_out f (hand (debt (drops o.op) nothing rs) o).op) false (takes_with_pre f (λ g p. sid_or (debt (drops o.op) nothing rs g) p) o.op ∙ now)))
       h)
 
-none_added : (f : Fid) (log : List Record) (o : Record) → any_record (creates f) log ≡ false → creates f o.op ≡ false → any_record (creates f) (add log o) ≡ false
+none_added : (f : Fid) (log : List Record) (o : Record) → any_record (creates f) log ≡ false → creates f o.op ≡ false
+    → any_record (creates f) (add log o) ≡ false
 none_added f log o a b = false_from_ne_true _ (λ h. ⊎_elim (λ (c : any_record (creates f) log ≡ true). false≢true (sym a ∙ c)) (λ (c : creates f o.op ≡ true). false≢true (sym b ∙ c)) (or_cases _ _ (creates_in_add f log o h)))
 
 pub taken_out_stays : TakenOutStays

@@ -21,8 +21,8 @@ pub record FindsFreeName (f : Fid) (o : Option Node) (dir : Fid) (name : Name) :
   pub dir_there : f ≡ dir → IsDirNode o
   pub free : f ≡ dir → child_of o name ≡ None
 
--- An operation is apt for what stands at f, where that is a directory that it names: a creation finds the name free; a removal and a
--- renaming find the object bound; and the new name is bound to what is replaced.
+-- An operation is apt for what stands at f, where that is a directory that it names: a creation finds the name free;
+-- a removal and a renaming find the object bound; and the new name is bound to what is replaced.
 abbrev pub FindsItsNames : Fid → Option Node → Op → Type 0
 FindsItsNames f o (Create dir name fid mode owner) = FindsFreeName f o dir name
 FindsItsNames f o (Mkdir dir name fid mode owner) = FindsFreeName f o dir name
@@ -31,12 +31,14 @@ FindsItsNames f o (Store fid pre content) = Unit {0}
 FindsItsNames f o (Setattr fid pre attrs) = Unit {0}
 FindsItsNames f o (Remove dir name fid pre) = f ≡ dir → child_of o name ≡ Some fid
 FindsItsNames f o (Rmdir dir name fid pre) = f ≡ dir → child_of o name ≡ Some fid
-FindsItsNames f o (Rename from_dir from to_dir to fid over) = (f ≡ from_dir → child_of o from ≡ Some fid) × (f ≡ to_dir → child_of o to ≡ option_map (λ (v : Over). v.fid) over)
+FindsItsNames f o (Rename from_dir from to_dir to fid over) = (f ≡ from_dir → child_of o from ≡ Some fid)
+    × (f ≡ to_dir → child_of o to ≡ option_map (λ (v : Over). v.fid) over)
 
 -- each of the records is apt for what those before it leave at f, and all leave this
 abbrev pub Overlays : Fid → ℕ → Option Node → List Record → Option Node → Type 0
 Overlays f client o [] left = o ≡ left
-Overlays f client o (rec ∷ recs) left = FindsItsNames f o rec.op × Overlays f client (operated_at f client rec o) recs left
+Overlays f client o (rec ∷ recs) left = FindsItsNames f o rec.op
+    × Overlays f client (operated_at f client rec o) recs left
 
 -- what is bound in the node, where there is one, is none of what the records create, nor is f
 pub record Predates (f : Fid) (o : Option Node) (recs : List Record) : Type 0 where
@@ -44,7 +46,8 @@ pub record Predates (f : Fid) (o : Option Node) (recs : List Record) : Type 0 wh
   pub unbound : (name : Name) (fid : Fid) → child_of o name ≡ Some fid → any_record (creates fid) recs ≡ false
 
 -- A log has led a client's copy of f from what it was given to what it has now.
-pub record IsOverlaid (f : Fid) (client : ℕ) (given : Option Node) (log : List Record) (now : Option Node) : Type 0 where
+pub record IsOverlaid (f : Fid) (client : ℕ) (given : Option Node) (log : List Record)
+    (now : Option Node) : Type 0 where
   pub predates : Predates f given log
   pub overlays : Overlays f client given log now
 
@@ -60,7 +63,8 @@ IsCreatedAt dir name _ = Unit {0}
 -- the records that create the object do so at this name
 abbrev pub AreCreatedAt : Fid → Name → Fid → List Record → Type 0
 AreCreatedAt dir name fid [] = Unit {0}
-AreCreatedAt dir name fid (rec ∷ recs) = (creates fid rec.op ≡ true → IsCreatedAt dir name rec.op) × AreCreatedAt dir name fid recs
+AreCreatedAt dir name fid (rec ∷ recs) = (creates fid rec.op ≡ true → IsCreatedAt dir name rec.op)
+    × AreCreatedAt dir name fid recs
 
 -- a removal that undoes a creation of the records removes the object from where they created it
 abbrev pub RemovesInPlace : List Record → Op → Type 0
@@ -75,7 +79,8 @@ AllRemoveInPlace recs (rec ∷ run) = RemovesInPlace recs rec.op × AllRemoveInP
 
 -- the operation creates neither f nor anything that is bound in what was given
 abbrev pub PredatesOperation : Fid → Option Node → Op → Type 0
-PredatesOperation f given op = (creates f op ≡ false) × ((name : Name) (fid : Fid) → child_of given name ≡ Some fid → creates fid op ≡ false)
+PredatesOperation f given op = (creates f op ≡ false)
+    × ((name : Name) (fid : Fid) → child_of given name ≡ Some fid → creates fid op ≡ false)
 
 -- whether an operation takes the object out: it removes or replaces it
 abbrev pub takes_out : Fid → Op → Bool

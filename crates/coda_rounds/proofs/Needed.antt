@@ -1,12 +1,14 @@
 -- An object that acceptance needs isn't there.
-use Rattle.std.proofs.Common.{◌≡◌, ℕ, ◌||◌, Bool, true, false, cond, List, [], ◌∷◌, Option, Some, None, is_some, Result, Ok, Err, refl, sym, ap, ◌∙◌, inl, inr, ◌⊎◌, ⊎_elim}
+use Rattle.std.proofs.Common.{◌≡◌, ℕ, ◌||◌, Bool, true, false, cond, List, [], ◌∷◌, Option, Some, None, is_some}
+use Rattle.std.proofs.Common.{Result, Ok, Err, refl, sym, ap, ◌∙◌, inl, inr, ◌⊎◌, ⊎_elim}
 use Rattle.std.specs.FinMap as map
 use Rattle.coda_fid.specs.Fid.{root_of, same_fid}
 use Rattle.coda_fid.specs.declared.fid.Fid.{Fid}
 use Rattle.coda_fid.specs.declared.fid.Sid.{Sid}
 use Rattle.coda_fid.specs.declared.op.Over.{Over}
 use Rattle.coda_fid.specs.declared.op.Op.{Op}
-use Rattle.coda_fid.specs.declared.op.Op.TheVariants.{Create as CreateOp, Mkdir as MkdirOp, Symlink as SymlinkOp, Setattr as SetattrOp, Rename as RenameOp}
+use Rattle.coda_fid.specs.declared.op.Op.TheVariants.{Create as CreateOp, Mkdir as MkdirOp, Symlink as SymlinkOp}
+use Rattle.coda_fid.specs.declared.op.Op.TheVariants.{Setattr as SetattrOp, Rename as RenameOp}
 use Rattle.coda_tree.specs.declared.node.Node.{Node}
 use Rattle.coda_tree.specs.declared.node.NodeKind.{NodeKind}
 use Rattle.coda_tree.specs.declared.node.NodeKind.TheVariants.{File, Link, Dir}
@@ -17,14 +19,19 @@ use Rattle.coda_venus.specs.declared.refused.Refused.TheVariants.{Exists, IsDir,
 use Rattle.coda_venus.specs.Ask.{Asked, Create, Mkdir, Symlink, Store, Setattr, Remove, Rmdir, Rename, Ending, ending}
 use Rattle.coda_venus.specs.Held.{Held, is_below}
 use Rattle.coda_venus.specs.Looking.{then_find, held, found, step_in, step_from, resolve}
-use Rattle.coda_venus.specs.Accepting.{Accepted, Sight, next_fid, is_used_up, unless_used, new_fid, new_at, new_in, new_under, new_place, at_root, accept_creation, store_in, store_at, setattr_at, remove_in, remove_at, rmdir_of, rmdir_in, rmdir_at, spot, held_bound, bound_in, bound_at, place, is_dir_at, with_version, replaced_by, move_to, rename_to, rename_root, accept_rename, accept_remove, accept_rmdir, accept}
+use Rattle.coda_venus.specs.Accepting.{Accepted, Sight, next_fid, is_used_up, unless_used, new_fid, new_at, new_in}
+use Rattle.coda_venus.specs.Accepting.{new_under, new_place, at_root, accept_creation, store_in, store_at, setattr_at}
+use Rattle.coda_venus.specs.Accepting.{remove_in, remove_at, rmdir_of, rmdir_in, rmdir_at, spot, held_bound, bound_in}
+use Rattle.coda_venus.specs.Accepting.{bound_at, place, is_dir_at, with_version, replaced_by, move_to, rename_to}
+use Rattle.coda_venus.specs.Accepting.{rename_root, accept_rename, accept_remove, accept_rmdir, accept}
 use Rattle.coda_rounds.specs.Sights.{NeededObjectsAreMissing}
 
 -- the object is needed
 abbrev pub Needs : {A : Type 0} → Fid → Result A Refused → Type 0
 Needs f r = r ≡ Err (Need f)
 
-pub then_needs : {A B : Type 0} (f : Fid) (r : Result A Refused) (next : A → Result B Refused) → Needs f (then_find r next) → Needs f r ⊎ ((y : A) × (r ≡ Ok y) × Needs f (next y))
+pub then_needs : {A B : Type 0} (f : Fid) (r : Result A Refused) (next : A → Result B Refused)
+    → Needs f (then_find r next) → Needs f r ⊎ ((y : A) × (r ≡ Ok y) × Needs f (next y))
 then_needs f (Err why) next h = inl (cc)
 then_needs f (Ok y) next h = inr (y, refl, h)
 
@@ -74,10 +81,12 @@ module _ (f : Fid) where
   abbrev IsOther : Refused → Type 0
   IsOther why = (g : Fid) → ◌≡◌ {A = Refused} why (Need g) → ⊥
 
-  refusal_needs : {A : Type 0} (why : Refused) → IsOther why → (let refuse : Refused → Result A Refused = λ z. Err z in Needs f (refuse why)) → ⊥
+  refusal_needs : {A : Type 0} (why : Refused) → IsOther why
+      → (let refuse : Refused → Result A Refused = λ z. Err z in Needs f (refuse why)) → ⊥
   refusal_needs why other h = other f (cc)
 
-  root_needs : (s : Sight) (volume : ℕ) (why : Refused) → IsOther why → Needs f (at_root s volume why) → None_at s.held.nodes
+  root_needs : (s : Sight) (volume : ℕ) (why : Refused) → IsOther why → Needs f (at_root s volume why)
+      → None_at s.held.nodes
   root_needs s volume why other h = ⊎_elim
       (λ (e : Needs f (held (map.get s.held.nodes (root_of volume)) (root_of volume))). held_needs s.held.nodes (root_of volume) e)
       (λ (e : (y : Fid) × (held (map.get s.held.nodes (root_of volume)) (root_of volume) ≡ Ok y) × (let refuse : Refused → Accepted = λ z. Err z in Needs f (refuse why))). absurd (refusal_needs why other e.2))
@@ -101,14 +110,17 @@ module _ (f : Fid) where
   new_in_needs s volume (Link target) name h = cc
   new_in_needs s volume (Dir entries) name h = new_at_needs s volume (map.get entries name) h
 
-  new_under_needs : (s : Sight) (volume : ℕ) (dir : Fid) (name : Name) → Needs f (new_under s volume (map.get s.held.nodes dir) dir name) → None_at s.held.nodes
+  new_under_needs : (s : Sight) (volume : ℕ) (dir : Fid) (name : Name)
+      → Needs f (new_under s volume (map.get s.held.nodes dir) dir name) → None_at s.held.nodes
   new_under_needs s volume dir name h = go (map.get s.held.nodes dir) refl h
     where
-      go : (o : Option Node) → map.get s.held.nodes dir ≡ o → Needs f (new_under s volume o dir name) → map.get s.held.nodes f ≡ None
+      go : (o : Option Node) → map.get s.held.nodes dir ≡ o → Needs f (new_under s volume o dir name)
+          → map.get s.held.nodes f ≡ None
       go None e h = let same : dir ≡ f = cc in ap (map.get s.held.nodes) (sym same) ∙ e
       go (Some node) e h = absurd (new_in_needs s volume node.kind name h)
 
-  new_place_needs : (s : Sight) (volume : ℕ) (e : List Name × Name) → Needs f (new_place s volume e) → None_at s.held.nodes
+  new_place_needs : (s : Sight) (volume : ℕ) (e : List Name × Name) → Needs f (new_place s volume e)
+      → None_at s.held.nodes
   new_place_needs s volume e h =
       let inner : Fid → Result (Fid × Fid) Refused = λ dir. then_find (new_under s volume (map.get s.held.nodes dir) dir e.1) (λ fid. Ok (dir, fid)) in ⊎_elim
       (λ (a : Needs f (resolve s.held.nodes (root_of volume) e.0)). resolve_needs s.held.nodes (root_of volume) e.0 a)
@@ -118,7 +130,8 @@ module _ (f : Fid) where
       (then_needs f (new_under s volume (map.get s.held.nodes a.0) a.0 e.1) (λ fid. let ok : Fid × Fid → Result (Fid × Fid) Refused = λ z. Ok z in ok (a.0, fid)) a.2))
       (then_needs f (resolve s.held.nodes (root_of volume) e.0) inner h)
 
-  creation_needs : (s : Sight) (volume : ℕ) (e : Ending) (make : Fid → Name → Fid → Op) → Needs f (accept_creation s volume e make) → None_at s.held.nodes
+  creation_needs : (s : Sight) (volume : ℕ) (e : Ending) (make : Fid → Name → Fid → Op)
+      → Needs f (accept_creation s volume e make) → None_at s.held.nodes
   creation_needs s volume None make h = root_needs s volume Exists (λ g e. cc) h
   creation_needs s volume (Some e) make h = ⊎_elim
       (λ (a : Needs f (new_place s volume e)). new_place_needs s volume e a)
@@ -127,27 +140,33 @@ module _ (f : Fid) where
 
   -- ---- operations on an object
 
-  store_in_needs : (kind : NodeKind) (fid : Fid) (pre : Sid) (content : List ℕ) → Needs f (store_in kind fid pre content) → ⊥
+  store_in_needs : (kind : NodeKind) (fid : Fid) (pre : Sid) (content : List ℕ)
+      → Needs f (store_in kind fid pre content) → ⊥
   store_in_needs (File old) fid pre content h = cc
   store_in_needs (Link target) fid pre content h = cc
   store_in_needs (Dir entries) fid pre content h = cc
 
-  remove_in_needs : (kind : NodeKind) (dir : Fid) (name : Name) (fid : Fid) (pre : Sid) → Needs f (remove_in kind dir name fid pre) → ⊥
+  remove_in_needs : (kind : NodeKind) (dir : Fid) (name : Name) (fid : Fid) (pre : Sid)
+      → Needs f (remove_in kind dir name fid pre) → ⊥
   remove_in_needs (File content) dir name fid pre h = cc
   remove_in_needs (Link target) dir name fid pre h = cc
   remove_in_needs (Dir entries) dir name fid pre h = cc
 
-  rmdir_of_needs : (b : Bool) (dir : Fid) (name : Name) (fid : Fid) (pre : Sid) → Needs f (rmdir_of b dir name fid pre) → ⊥
+  rmdir_of_needs : (b : Bool) (dir : Fid) (name : Name) (fid : Fid) (pre : Sid)
+      → Needs f (rmdir_of b dir name fid pre) → ⊥
   rmdir_of_needs true dir name fid pre h = cc
   rmdir_of_needs false dir name fid pre h = cc
 
-  rmdir_in_needs : (s : Sight) (kind : NodeKind) (dir : Fid) (name : Name) (fid : Fid) (pre : Sid) → Needs f (rmdir_in s kind dir name fid pre) → ⊥
+  rmdir_in_needs : (s : Sight) (kind : NodeKind) (dir : Fid) (name : Name) (fid : Fid) (pre : Sid)
+      → Needs f (rmdir_in s kind dir name fid pre) → ⊥
   rmdir_in_needs s (File content) dir name fid pre h = cc
   rmdir_in_needs s (Link target) dir name fid pre h = cc
   rmdir_in_needs s (Dir entries) dir name fid pre h = rmdir_of_needs _ dir name fid pre h
 
   -- what is asked of the node of an object
-  at_node : {A : Type 0} (m : Nodes) (see : Option Node → Fid → Result A Refused) → ((g : Fid) → see None g ≡ Err (Need g)) → ((node : Node) (g : Fid) → Needs f (see (Some node) g) → ⊥) → (at : Fid) → Needs f (see (map.get m at) at) → None_at m
+  at_node : {A : Type 0} (m : Nodes) (see : Option Node → Fid → Result A Refused)
+      → ((g : Fid) → see None g ≡ Err (Need g)) → ((node : Node) (g : Fid) → Needs f (see (Some node) g) → ⊥)
+      → (at : Fid) → Needs f (see (map.get m at) at) → None_at m
   at_node {A} m see none some at h = go (map.get m at) refl h
     where
       go : (o : Option Node) → map.get m at ≡ o → Needs f (see o at) → map.get m f ≡ None
@@ -209,7 +228,8 @@ module _ (f : Fid) where
       (λ (e : Needs f (with_version (map.get m old) old)). version_needs m old e)
       (if_needs f (same_fid old fid || (is_dir_at (map.get m fid) || is_dir_at (map.get m old))) (Err Exists) (with_version (map.get m old) old) h)
 
-  move_needs : (h : Held) (from_dir : Fid) (from : Name) (fid : Fid) (to : Name) (p : Fid × Option Fid) → Needs f (move_to h from_dir from fid to p) → None_at h.nodes
+  move_needs : (h : Held) (from_dir : Fid) (from : Name) (fid : Fid) (to : Name) (p : Fid × Option Fid)
+      → Needs f (move_to h from_dir from fid to p) → None_at h.nodes
   move_needs h from_dir from fid to p n =
       let rest : Accepted = then_find (replaced_by h.nodes fid p.1) (λ over. Ok (RenameOp from_dir from p.0 to fid over)) in ⊎_elim
       (λ (e : Needs f (let refuse : Refused → Accepted = λ z. Err z in refuse Loop)). absurd (cc))
@@ -219,7 +239,8 @@ module _ (f : Fid) where
       (then_needs f (replaced_by h.nodes fid p.1) (λ over. let ok : Op → Accepted = λ z. Ok z in ok (RenameOp from_dir from p.0 to fid over)) e))
       (if_needs f (is_below h.parents p.0 fid) (Err Loop) rest n)
 
-  rename_to_needs : (s : Sight) (volume : ℕ) (from_dir : Fid) (from : Name) (fid : Fid) (e : Ending) → Needs f (rename_to s volume from_dir from fid e) → None_at s.held.nodes
+  rename_to_needs : (s : Sight) (volume : ℕ) (from_dir : Fid) (from : Name) (fid : Fid) (e : Ending)
+      → Needs f (rename_to s volume from_dir from fid e) → None_at s.held.nodes
   rename_to_needs s volume from_dir from fid None h = root_needs s volume Exists (λ g e. cc) h
   rename_to_needs s volume from_dir from fid (Some e) h = ⊎_elim
       (λ (a : Needs f (place s.held.nodes volume e)). place_needs s.held.nodes volume e a)
@@ -233,7 +254,8 @@ module _ (f : Fid) where
       (λ (a : (p : Fid × Option Fid) × (place s.held.nodes volume e ≡ Ok p) × Needs f (let refuse : Refused → Accepted = λ z. Err z in refuse Loop)). absurd (refusal_needs {A = Op} Loop (λ g e. cc) a.2))
       (then_needs f (place s.held.nodes volume e) (λ p. let refuse : Refused → Accepted = λ z. Err z in refuse Loop) h)
 
-  rename_needs : (s : Sight) (volume : ℕ) (from to : Ending) → Needs f (accept_rename s volume from to) → None_at s.held.nodes
+  rename_needs : (s : Sight) (volume : ℕ) (from to : Ending) → Needs f (accept_rename s volume from to)
+      → None_at s.held.nodes
   rename_needs s volume None to h = ⊎_elim
       (λ (a : Needs f (held (map.get s.held.nodes (root_of volume)) (root_of volume))). held_needs s.held.nodes (root_of volume) a)
       (λ (a : (y : Fid) × (held (map.get s.held.nodes (root_of volume)) (root_of volume) ≡ Ok y) × Needs f (rename_root s volume to)). rename_root_needs s volume to a.2)
@@ -246,7 +268,9 @@ module _ (f : Fid) where
   -- ---- every kind
 
   -- what is asked at a spot
-  at_spot : (s : Sight) (volume : ℕ) (e : List Name × Name) (see : (Fid × Fid) → Accepted) → ((at : Fid × Fid) → Needs f (see at) → None_at s.held.nodes) → Needs f (then_find (spot s.held.nodes volume e) see) → None_at s.held.nodes
+  at_spot : (s : Sight) (volume : ℕ) (e : List Name × Name) (see : (Fid × Fid) → Accepted)
+      → ((at : Fid × Fid) → Needs f (see at) → None_at s.held.nodes)
+      → Needs f (then_find (spot s.held.nodes volume e) see) → None_at s.held.nodes
   at_spot s volume e see sees h = ⊎_elim
       (λ (a : Needs f (spot s.held.nodes volume e)). spot_needs s.held.nodes volume e a)
       (λ (a : (at : Fid × Fid) × (spot s.held.nodes volume e ≡ Ok at) × Needs f (see at)). sees a.0 a.2)
@@ -263,7 +287,8 @@ module _ (f : Fid) where
       (λ at n. at_node s.held.nodes (λ o g. rmdir_at s o at.0 e.1 g) (λ g. refl) (λ node g m. rmdir_in_needs s node.kind at.0 e.1 g node.sid m) at.1 n) h
 
   -- what is asked where a path leads
-  at_end : (s : Sight) (volume : ℕ) (path : List Name) (see : Option Node → Fid → Accepted) → ((g : Fid) → see None g ≡ Err (Need g)) → ((node : Node) (g : Fid) → Needs f (see (Some node) g) → ⊥)
+  at_end : (s : Sight) (volume : ℕ) (path : List Name) (see : Option Node → Fid → Accepted)
+      → ((g : Fid) → see None g ≡ Err (Need g)) → ((node : Node) (g : Fid) → Needs f (see (Some node) g) → ⊥)
       → Needs f (then_find (resolve s.held.nodes (root_of volume) path) (λ fid. see (map.get s.held.nodes fid) fid)) → None_at s.held.nodes
   at_end s volume path see none some h = ⊎_elim
       (λ (a : Needs f (resolve s.held.nodes (root_of volume) path)). resolve_needs s.held.nodes (root_of volume) path a)

@@ -1,5 +1,6 @@
 -- What is accepted over a part of what is cached is accepted over the whole.
-use Rattle.std.proofs.Common.{◌≡◌, ℕ, ◌+◌, ◌==◌, ◌||◌, ◌&&◌, not, Bool, true, false, cond, List, [], ◌∷◌, Option, Some, None, is_some, Result, Ok, Err, refl, sym, ap, ◌∙◌}
+use Rattle.std.proofs.Common.{◌≡◌, ℕ, ◌+◌, ◌==◌, ◌||◌, ◌&&◌, not, Bool, true, false, cond, List, [], ◌∷◌, Option}
+use Rattle.std.proofs.Common.{Some, None, is_some, Result, Ok, Err, refl, sym, ap, ◌∙◌}
 use Rattle.std.specs.Prelude.{nat_le}
 use Rattle.std.specs.FinMap as map
 use Rattle.std.proofs.lemmas.Bool.{false≢true}
@@ -8,7 +9,8 @@ use Rattle.coda_fid.specs.declared.fid.Fid.{Fid}
 use Rattle.coda_fid.specs.declared.fid.Sid.{Sid}
 use Rattle.coda_fid.specs.declared.op.Over.{Over}
 use Rattle.coda_fid.specs.declared.op.Op.{Op}
-use Rattle.coda_fid.specs.declared.op.Op.TheVariants.{Create as CreateOp, Mkdir as MkdirOp, Symlink as SymlinkOp, Rename as RenameOp}
+use Rattle.coda_fid.specs.declared.op.Op.TheVariants.{Create as CreateOp, Mkdir as MkdirOp, Symlink as SymlinkOp}
+use Rattle.coda_fid.specs.declared.op.Op.TheVariants.{Rename as RenameOp}
 use Rattle.coda_tree.specs.declared.node.Node.{Node}
 use Rattle.coda_tree.specs.declared.node.NodeKind.{NodeKind}
 use Rattle.coda_tree.specs.declared.node.NodeKind.TheVariants.{File, Link, Dir}
@@ -19,11 +21,16 @@ use Rattle.coda_venus.specs.declared.refused.Refused.TheVariants.{Exists, IsDir,
 use Rattle.coda_venus.specs.Ask.{Asked, Create, Mkdir, Symlink, Store, Setattr, Remove, Rmdir, Rename, Ending, ending}
 use Rattle.coda_venus.specs.Held.{is_below}
 use Rattle.coda_venus.specs.Looking.{then_find, held, step_from, resolve}
-use Rattle.coda_venus.specs.Accepting.{Accepted, Sight, next_fid, is_used_up, unless_used, new_fid, new_at, new_in, new_under, new_place, accept_creation, store_at, setattr_at, remove_at, rmdir_of, rmdir_in, rmdir_at, spot, held_bound, bound_in, bound_at, place, is_dir_at, with_version, replaced_by, move_to, rename_to, rename_root, accept_rename, accept_remove, accept_rmdir, accept}
+use Rattle.coda_venus.specs.Accepting.{Accepted, Sight, next_fid, is_used_up, unless_used, new_fid, new_at, new_in}
+use Rattle.coda_venus.specs.Accepting.{new_under, new_place, accept_creation, store_at, setattr_at, remove_at}
+use Rattle.coda_venus.specs.Accepting.{rmdir_of, rmdir_in, rmdir_at, spot, held_bound, bound_in, bound_at, place}
+use Rattle.coda_venus.specs.Accepting.{is_dir_at, with_version, replaced_by, move_to, rename_to, rename_root}
+use Rattle.coda_venus.specs.Accepting.{accept_rename, accept_remove, accept_rmdir, accept}
 use Rattle.coda_venus.proofs.Accepted.{found_then, not_at_root, new_fid_is, spot_is, unless_is, root_stays}
 use Rattle.coda_rounds.specs.Sights.{IsPartOfSight, PartsAcceptAsTheWhole}
 
-then_ok : {A B : Type 0} (r : Result A Refused) (next : A → Result B Refused) (y : A) (x : B) → r ≡ Ok y → next y ≡ Ok x → then_find r next ≡ Ok x
+then_ok : {A B : Type 0} (r : Result A Refused) (next : A → Result B Refused) (y : A) (x : B) → r ≡ Ok y
+    → next y ≡ Ok x → then_find r next ≡ Ok x
 then_ok r next y x e h = ap (λ z. then_find z next) e ∙ h
 
 module _ (volume : ℕ) (s t : Sight) (part : IsPartOfSight volume s t) where
@@ -34,7 +41,8 @@ module _ (volume : ℕ) (s t : Sight) (part : IsPartOfSight volume s t) where
   T = t.held.nodes
 
   -- what is asked of a node that is there
-  node_up : {A : Type 0} (see : Option Node → Result A Refused) (x : A) (at : Fid) → (see None ≡ Ok x → ⊥) → see (map.get S at) ≡ Ok x → see (map.get T at) ≡ Ok x
+  node_up : {A : Type 0} (see : Option Node → Result A Refused) (x : A) (at : Fid) → (see None ≡ Ok x → ⊥)
+      → see (map.get S at) ≡ Ok x → see (map.get T at) ≡ Ok x
   node_up {A} see x at none h = go (map.get S at) refl h
     where
       go : (o : Option Node) → map.get S at ≡ o → see o ≡ Ok x → see (map.get T at) ≡ Ok x
@@ -61,19 +69,23 @@ module _ (volume : ℕ) (s t : Sight) (part : IsPartOfSight volume s t) where
   new_at_up None fid h = new_fid_up fid h
   new_at_up (Some bound) fid h = absurd (cc)
 
-  new_in_up : (kind : NodeKind) (name : Name) (fid : Fid) → new_in s volume kind name ≡ Ok fid → new_in t volume kind name ≡ Ok fid
+  new_in_up : (kind : NodeKind) (name : Name) (fid : Fid) → new_in s volume kind name ≡ Ok fid
+      → new_in t volume kind name ≡ Ok fid
   new_in_up (File content) name fid h = absurd (cc)
   new_in_up (Link target) name fid h = absurd (cc)
   new_in_up (Dir entries) name fid h = new_at_up (map.get entries name) fid h
 
-  new_under_up : (dir : Fid) (name : Name) (fid : Fid) → new_under s volume (map.get S dir) dir name ≡ Ok fid → new_under t volume (map.get T dir) dir name ≡ Ok fid
+  new_under_up : (dir : Fid) (name : Name) (fid : Fid) → new_under s volume (map.get S dir) dir name ≡ Ok fid
+      → new_under t volume (map.get T dir) dir name ≡ Ok fid
   new_under_up dir name fid h = go (map.get S dir) refl h
     where
-      go : (o : Option Node) → map.get S dir ≡ o → new_under s volume o dir name ≡ Ok fid → new_under t volume (map.get T dir) dir name ≡ Ok fid
+      go : (o : Option Node) → map.get S dir ≡ o → new_under s volume o dir name ≡ Ok fid
+          → new_under t volume (map.get T dir) dir name ≡ Ok fid
       go None e h = absurd (cc)
       go (Some node) e h = ap (λ o. new_under t volume o dir name) (part.nodes dir node e) ∙ new_in_up node.kind name fid h
 
-  creation_up : (e : Ending) (make : Fid → Name → Fid → Op) (op : Op) → accept_creation s volume e make ≡ Ok op → accept_creation t volume e make ≡ Ok op
+  creation_up : (e : Ending) (make : Fid → Name → Fid → Op) (op : Op) → accept_creation s volume e make ≡ Ok op
+      → accept_creation t volume e make ≡ Ok op
   creation_up None make op h = absurd (not_at_root s volume Exists op h)
   creation_up (Some e) make op h =
       let Pair : Type 0 = Fid × Fid in
@@ -106,15 +118,18 @@ module _ (volume : ℕ) (s t : Sight) (part : IsPartOfSight volume s t) where
       let a = found_then (resolve S (root_of volume) path) (λ fid. see (map.get S fid) fid) op h in
       then_ok (resolve T (root_of volume) path) (λ fid. see (map.get T fid) fid) a.0 op (resolve_up (root_of volume) path a.0 a.1) (node_up (λ o. see o a.0) op a.0 (none a.0) a.2)
 
-  rmdir_in_up : (kind : NodeKind) (dir : Fid) (name : Name) (fid : Fid) (pre : Sid) (op : Op) → rmdir_in s kind dir name fid pre ≡ Ok op → rmdir_in t kind dir name fid pre ≡ Ok op
+  rmdir_in_up : (kind : NodeKind) (dir : Fid) (name : Name) (fid : Fid) (pre : Sid) (op : Op)
+      → rmdir_in s kind dir name fid pre ≡ Ok op → rmdir_in t kind dir name fid pre ≡ Ok op
   rmdir_in_up (File content) dir name fid pre op h = absurd (cc)
   rmdir_in_up (Link target) dir name fid pre op h = absurd (cc)
   rmdir_in_up (Dir entries) dir name fid pre op h = ap (λ b. rmdir_of ((map.len entries == 0) && not b) dir name fid pre) (sym (part.dirty_below fid)) ∙ h
 
-  rmdir_up : (dir : Fid) (name : Name) (fid : Fid) (op : Op) → rmdir_at s (map.get S fid) dir name fid ≡ Ok op → rmdir_at t (map.get T fid) dir name fid ≡ Ok op
+  rmdir_up : (dir : Fid) (name : Name) (fid : Fid) (op : Op) → rmdir_at s (map.get S fid) dir name fid ≡ Ok op
+      → rmdir_at t (map.get T fid) dir name fid ≡ Ok op
   rmdir_up dir name fid op h = go (map.get S fid) refl h
     where
-      go : (o : Option Node) → map.get S fid ≡ o → rmdir_at s o dir name fid ≡ Ok op → rmdir_at t (map.get T fid) dir name fid ≡ Ok op
+      go : (o : Option Node) → map.get S fid ≡ o → rmdir_at s o dir name fid ≡ Ok op
+          → rmdir_at t (map.get T fid) dir name fid ≡ Ok op
       go None e h = absurd (cc)
       go (Some node) e h = ap (λ o. rmdir_at t o dir name fid) (part.nodes fid node e) ∙ rmdir_in_up node.kind dir name fid node.sid op h
 
@@ -127,15 +142,18 @@ module _ (volume : ℕ) (s t : Sight) (part : IsPartOfSight volume s t) where
       let a = found_then (held (map.get S fid) fid) ok b h in
       then_ok (held (map.get T fid) fid) ok a.0 b (node_up (λ o. held o fid) a.0 fid (λ x. cc) a.1) a.2
 
-  bound_in_up : (kind : NodeKind) (name : Name) (b : Option Fid) → bound_in S kind name ≡ Ok b → bound_in T kind name ≡ Ok b
+  bound_in_up : (kind : NodeKind) (name : Name) (b : Option Fid) → bound_in S kind name ≡ Ok b
+      → bound_in T kind name ≡ Ok b
   bound_in_up (File content) name b h = absurd (cc)
   bound_in_up (Link target) name b h = absurd (cc)
   bound_in_up (Dir entries) name b h = bound_up (map.get entries name) b h
 
-  bound_at_up : (dir : Fid) (name : Name) (b : Option Fid) → bound_at S (map.get S dir) dir name ≡ Ok b → bound_at T (map.get T dir) dir name ≡ Ok b
+  bound_at_up : (dir : Fid) (name : Name) (b : Option Fid) → bound_at S (map.get S dir) dir name ≡ Ok b
+      → bound_at T (map.get T dir) dir name ≡ Ok b
   bound_at_up dir name b h = go (map.get S dir) refl h
     where
-      go : (o : Option Node) → map.get S dir ≡ o → bound_at S o dir name ≡ Ok b → bound_at T (map.get T dir) dir name ≡ Ok b
+      go : (o : Option Node) → map.get S dir ≡ o → bound_at S o dir name ≡ Ok b
+          → bound_at T (map.get T dir) dir name ≡ Ok b
       go None e h = absurd (cc)
       go (Some node) e h = ap (λ o. bound_at T o dir name) (part.nodes dir node e) ∙ bound_in_up node.kind name b h
 
@@ -158,14 +176,16 @@ module _ (volume : ℕ) (s t : Sight) (part : IsPartOfSight volume s t) where
   version_some None old over h = absurd (cc)
   version_some (Some node) old over h = refl
 
-  replaced_up : (fid : Fid) (o : Option Fid) (over : Option Over) → has S fid ≡ true → replaced_by S fid o ≡ Ok over → replaced_by T fid o ≡ Ok over
+  replaced_up : (fid : Fid) (o : Option Fid) (over : Option Over) → has S fid ≡ true → replaced_by S fid o ≡ Ok over
+      → replaced_by T fid o ≡ Ok over
   replaced_up fid None over there h = h
   replaced_up fid (Some old) over there h =
       let u = unless_is (same_fid old fid || (is_dir_at (map.get S fid) || is_dir_at (map.get S old))) (with_version (map.get S old) old) over h in
       let other = same_there old (version_some (map.get S old) old over u.1) in
       (λ i. cond (same_fid old fid || (is_dir_at (same_there fid there i) || is_dir_at (other i))) (Err Exists) (with_version (other i) old)) ∙ h
 
-  move_up : (from_dir : Fid) (from : Name) (fid : Fid) (to : Name) (p : Fid × Option Fid) (op : Op) → has S fid ≡ true → move_to s.held from_dir from fid to p ≡ Ok op → move_to t.held from_dir from fid to p ≡ Ok op
+  move_up : (from_dir : Fid) (from : Name) (fid : Fid) (to : Name) (p : Fid × Option Fid) (op : Op) → has S fid ≡ true
+      → move_to s.held from_dir from fid to p ≡ Ok op → move_to t.held from_dir from fid to p ≡ Ok op
   move_up from_dir from fid to p op there h =
       let done : Option Over → Accepted = λ over. Ok (RenameOp from_dir from p.0 to fid over) in
       let u = split (is_below s.held.parents p.0 fid) (then_find (replaced_by S fid p.1) done) h in
@@ -176,13 +196,15 @@ module _ (volume : ℕ) (s t : Sight) (part : IsPartOfSight volume s t) where
       split true r h = absurd (cc)
       split false r h = (refl, h)
 
-  rename_to_up : (from_dir : Fid) (from : Name) (fid : Fid) (e : Ending) (op : Op) → has S fid ≡ true → rename_to s volume from_dir from fid e ≡ Ok op → rename_to t volume from_dir from fid e ≡ Ok op
+  rename_to_up : (from_dir : Fid) (from : Name) (fid : Fid) (e : Ending) (op : Op) → has S fid ≡ true
+      → rename_to s volume from_dir from fid e ≡ Ok op → rename_to t volume from_dir from fid e ≡ Ok op
   rename_to_up from_dir from fid None op there h = absurd (not_at_root s volume Exists op h)
   rename_to_up from_dir from fid (Some e) op there h =
       let a = found_then (place S volume e) (λ p. move_to s.held from_dir from fid e.1 p) op h in
       then_ok (place T volume e) (λ p. move_to t.held from_dir from fid e.1 p) a.0 op (place_up e a.0 a.1) (move_up from_dir from fid e.1 a.0 op there a.2)
 
-  rename_up : (from to : Ending) (op : Op) → accept_rename s volume from to ≡ Ok op → accept_rename t volume from to ≡ Ok op
+  rename_up : (from to : Ending) (op : Op) → accept_rename s volume from to ≡ Ok op
+      → accept_rename t volume from to ≡ Ok op
   rename_up None to op h = let a = found_then (held (map.get S (root_of volume)) (root_of volume)) (λ _. rename_root s volume to) op h in absurd (root_stays s volume to op a.2)
   rename_up (Some e) to op h =
       let a = found_then (spot S volume e) (λ at. rename_to s volume at.0 e.1 at.1 to) op h in

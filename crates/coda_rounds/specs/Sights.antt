@@ -9,7 +9,8 @@ use Rattle.coda_venus.specs.Held.{some_below}
 use Rattle.coda_venus.specs.Accepting.{Sight, next_fid, accept}
 use Rattle.coda_venus.specs.declared.refused.Refused.TheVariants.{Need}
 
--- One sight of a volume is part of another: it has some of the nodes, and all else that acceptance looks at; and no node has the next fid.
+-- One sight of a volume is part of another: it has some of the nodes, and all else that acceptance looks at; and no
+-- node has the next fid.
 pub record IsPartOfSight (volume : ℕ) (s t : Sight) : Type 0 where
   pub number : s.number ≡ t.number
   pub creations : s.creations ≡ t.creations
@@ -20,8 +21,10 @@ pub record IsPartOfSight (volume : ℕ) (s t : Sight) : Type 0 where
 
 -- What is accepted over a part is accepted over the whole, as the same operation.
 abbrev pub PartsAcceptAsTheWhole : Type 0
-PartsAcceptAsTheWhole = (s t : Sight) (volume : ℕ) (ask : Asked) (op : Op) → IsPartOfSight volume s t → accept s volume ask ≡ Ok op → accept t volume ask ≡ Ok op
+PartsAcceptAsTheWhole = (s t : Sight) (volume : ℕ) (ask : Asked) (op : Op) → IsPartOfSight volume s t
+    → accept s volume ask ≡ Ok op → accept t volume ask ≡ Ok op
 
 -- An object that is needed isn't there.
 abbrev pub NeededObjectsAreMissing : Type 0
-NeededObjectsAreMissing = (s : Sight) (volume : ℕ) (ask : Asked) (fid : Fid) → accept s volume ask ≡ Err (Need fid) → map.get s.held.nodes fid ≡ None
+NeededObjectsAreMissing = (s : Sight) (volume : ℕ) (ask : Asked) (fid : Fid) → accept s volume ask ≡ Err (Need fid)
+    → map.get s.held.nodes fid ≡ None
