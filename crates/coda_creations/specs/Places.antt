@@ -144,7 +144,7 @@ NoneTookOver (Resolved objects lasts ∷ es) = ⊥
 pub record IsOutsideTail (h : Histories) (volume server client : ℕ) (f : Fid) : Type 0 where
   pub tail : any_record (creates f) (back_of (deeds_in h client volume)) ≡ false
   pub whole : ((d : Decision) → Decides h server volume d → d.client ≡ client → verdict_on d ≡ Applied
-        → d.number ≢ (course_of (deeds_in h client volume)).chunks)
+      → d.number ≢ (course_of (deeds_in h client volume)).chunks)
       → any_record (creates f) (pending_of (deeds_in h client volume)) ≡ false
 
 -- So it is where histories keep what is promised, creations are counted, and each is its client's.

@@ -68,7 +68,7 @@ abbrev pub IsInstalledOrKept : PlainCell → ℕ → List ℕ → (ℕ → Last)
 IsInstalledOrKept cell volume some lasts installs server =
     HasInstall installs server
     ⊎ (IsResolution cell volume some server (objects_at cell volume server)
-      × ((client : ℕ) → last_at cell volume server client ≡ lasts client))
+    × ((client : ℕ) → last_at cell volume server client ≡ lasts client))
 
 -- Behind a resolution each object that it took up is the same, or marked, at all replicas where what it leaves is
 -- installed: at all that were resolved, where no install was refused. And each of these keeps of each client the last
@@ -81,7 +81,7 @@ pub record ResolvedReplicasAreEqualOrMarked : Type 0 where
       → ((server : ℕ) → IsIn server part → IsInstalledOrKept cell volume some lasts installs server)
       → IsTakenUp (views_at cell volume some) (root_of volume) f
       → IsEqualOrMarked
-          (copies_at (views_at (after_step cell (Resolves volume some lasts installs failing)) volume part) f)
+      (copies_at (views_at (after_step cell (Resolves volume some lasts installs failing)) volume part) f)
   pub lasts : (servers : ℕ → List ℕ) (cell : PlainCell) (volume : ℕ) (some : List ℕ) (lasts : ℕ → Last)
       (installs : List Install) (failing : Option Install) (server client : ℕ)
       → IsGroupSound servers cell → MayStep servers cell (Resolves volume some lasts installs failing)
@@ -100,9 +100,9 @@ pub record RepairedAreEqual : Type 0 where
       → (f : Fid) → IsBelow (child_in (objects_at cell volume source)) may.repair.top f
       → (held : Held)
       × ((held.node.marked ≡ false)
-        × IsEverywhere held
-          (copies_at (views_at (after_step cell (Repairs volume source names some lasts installs failing)) volume part)
-            f))
+      × IsEverywhere held
+      (copies_at (views_at (after_step cell (Repairs volume source names some lasts installs failing)) volume part)
+      f))
   pub others : (cell : PlainCell) (volume source : ℕ) (names : List Name) (some : List ℕ) (lasts : ℕ → ℕ → Last)
       (installs : List Install) (failing : Option Install) (server : ℕ)
       → (HasInstall installs server → ⊥)
@@ -119,7 +119,7 @@ abbrev pub SomeChunkIsTakenOver : Type 0
 SomeChunkIsTakenOver =
     (steps : List GroupStep) × ((cell : PlainCell) × (GroupStepped two_servers empty_cell steps cell
     × (((d : Decision) × (In d (decisions_of 7 (history_at cell 7 1)) × (d.number ≡ 1)))
-      × ((e : Decision) × (In e (decisions_of 7 (history_at cell 7 2)) × (e.number ≡ 2))))))
+    × ((e : Decision) × (In e (decisions_of 7 (history_at cell 7 2)) × (e.number ≡ 2))))))
 
 -- And those of a repair can be met: on a new volume the root is repaired as server 1 has it.
 abbrev pub SomeVolumeIsRepaired : Type 0

@@ -65,9 +65,9 @@ pub record AreLastsTrue (h : Histories) (volume : ℕ) : Type 0 where
       → HasFrozen h client volume (last_of volume (h.replicas server volume) client).number server span
       → (d : Decision)
       × (Decides h server volume d
-        × ((d.client ≡ client)
-          × ((d.number ≡ (last_of volume (h.replicas server volume) client).number)
-            × (verdict_on d ≡ (last_of volume (h.replicas server volume) client).verdict))))
+      × ((d.client ≡ client)
+      × ((d.number ≡ (last_of volume (h.replicas server volume) client).number)
+      × (verdict_on d ≡ (last_of volume (h.replicas server volume) client).verdict))))
   -- and two of one number are one
   pub alike : (server other client : ℕ) → 0 < (last_of volume (h.replicas server volume) client).number
       → (last_of volume (h.replicas server volume) client).number ≡

@@ -71,8 +71,8 @@ MayInstallAll Left start volume some lasts cell [] None = Unit {0}
 MayInstallAll Left start volume some lasts cell [] (Some failing) = MayInstall Left start cell volume some failing
 MayInstallAll Left start volume some lasts cell (install ∷ installs) failing =
     MayInstall Left start cell volume some install
-        × MayInstallAll Left start volume some lasts (after cell (Does (install_of volume lasts install))) installs
-        failing
+    × MayInstallAll Left start volume some lasts (after cell (Does (install_of volume lasts install))) installs
+    failing
 
 -- one of the installs is at the server
 abbrev pub HasInstall : List Install → ℕ → Type 0
@@ -99,7 +99,7 @@ abbrev pub IsRepairOf : (cell : PlainCell) (volume source : ℕ) (names : List N
     → IsRepair cell volume source names some → ℕ → Objects → Type 0
 IsRepairOf cell volume source names some repair server objects =
     IsRepairedAt repair.subtree repair.top source (copies_at (views_at cell volume some))
-        (objects_at cell volume source) (objects_at cell volume server) objects
+    (objects_at cell volume source) (objects_at cell volume server) objects
 
 -- ---- steps
 

@@ -1,4 +1,4 @@
--- Operations on a client's copy of one object, as a client accepts them.
+-- A log, replayed on the copy of one object that a server gave, and what a client's acceptance makes sure of there.
 use Rattle.std.specs.Prelude.{◌≡◌, ℕ, Bool, true, false, Option, Some, None, option_map, List, [], ◌∷◌}
 use Rattle.coda_fid.specs.Fid.{same_fid}
 use Rattle.coda_fid.specs.declared.fid.Fid.{Fid}
@@ -16,13 +16,13 @@ use Rattle.coda_overlay.specs.Objects.{operated_at}
 
 -- ---- what an operation finds
 
--- a creation finds a directory in which the name is free
+-- a creation finds what stands at f, where f is its directory, to be a directory in which the name is free
 pub record FindsFreeName (f : Fid) (o : Option Node) (dir : Fid) (name : Name) : Type 0 where
   pub dir_there : f ≡ dir → IsDirNode o
   pub free : f ≡ dir → child_of o name ≡ None
 
--- An operation is apt for what stands at f, where that is a directory that it names: a creation finds the name free;
--- a removal and a renaming find the object bound; and the new name is bound to what is replaced.
+-- An operation finds its names bound at f as it says, where f is a directory that it names: a creation finds the name
+-- free; a removal and a rename find the object bound; and a rename finds the new name bound to what it replaces.
 abbrev pub FindsItsNames : Fid → Option Node → Op → Type 0
 FindsItsNames f o (Create dir name fid mode owner) = FindsFreeName f o dir name
 FindsItsNames f o (Mkdir dir name fid mode owner) = FindsFreeName f o dir name
@@ -34,18 +34,19 @@ FindsItsNames f o (Rmdir dir name fid pre) = f ≡ dir → child_of o name ≡ S
 FindsItsNames f o (Rename from_dir from to_dir to fid over) = (f ≡ from_dir → child_of o from ≡ Some fid)
     × (f ≡ to_dir → child_of o to ≡ option_map (λ (v : Over). v.fid) over)
 
--- each of the records is apt for what those before it leave at f, and all leave this
+-- records, replayed in order on what was given of f, leave this; each finds its names as those before it left them
 abbrev pub Overlays : Fid → ℕ → Option Node → List Record → Option Node → Type 0
 Overlays f client o [] left = o ≡ left
 Overlays f client o (rec ∷ recs) left = FindsItsNames f o rec.op
     × Overlays f client (operated_at f client rec o) recs left
 
--- what is bound in the node, where there is one, is none of what the records create, nor is f
+-- a node of f, where there is one, is older than the records: they create neither f nor anything that it binds
 pub record Predates (f : Fid) (o : Option Node) (recs : List Record) : Type 0 where
   pub not_created : any_record (creates f) recs ≡ false
   pub unbound : (name : Name) (fid : Fid) → child_of o name ≡ Some fid → any_record (creates fid) recs ≡ false
 
--- A log has led a client's copy of f from what it was given to what it has now.
+-- The log, replayed on what was given of f, leaves what the client has of it now; and what was given is older than the
+-- log.
 pub record IsOverlaid (f : Fid) (client : ℕ) (given : Option Node) (log : List Record)
     (now : Option Node) : Type 0 where
   pub predates : Predates f given log
@@ -53,14 +54,14 @@ pub record IsOverlaid (f : Fid) (client : ℕ) (given : Option Node) (log : List
 
 -- ---- where an object that is removed was created
 
--- a creation is at this name of this directory
+-- an operation, where it creates, does so at this name of this directory
 abbrev pub IsCreatedAt : Fid → Name → Op → Type 0
 IsCreatedAt dir name (Create d n fid mode owner) = (d ≡ dir) × (n ≡ name)
 IsCreatedAt dir name (Mkdir d n fid mode owner) = (d ≡ dir) × (n ≡ name)
 IsCreatedAt dir name (Symlink d n fid target mode owner) = (d ≡ dir) × (n ≡ name)
 IsCreatedAt dir name _ = Unit {0}
 
--- the records that create the object do so at this name
+-- those of the records that create the object do so at this name of this directory
 abbrev pub AreCreatedAt : Fid → Name → Fid → List Record → Type 0
 AreCreatedAt dir name fid [] = Unit {0}
 AreCreatedAt dir name fid (rec ∷ recs) = (creates fid rec.op ≡ true → IsCreatedAt dir name rec.op)
@@ -72,12 +73,12 @@ RemovesInPlace recs (Remove dir name fid pre) = is_undone fid recs ≡ true → 
 RemovesInPlace recs (Rmdir dir name fid pre) = is_undone fid recs ≡ true → AreCreatedAt dir name fid recs
 RemovesInPlace recs _ = Unit {0}
 
--- so is each operation of a run that is added to records in turn
+-- each removal of a run is so, as the run is added to records one by one
 abbrev pub AllRemoveInPlace : List Record → List Record → Type 0
 AllRemoveInPlace recs [] = Unit {0}
 AllRemoveInPlace recs (rec ∷ run) = RemovesInPlace recs rec.op × AllRemoveInPlace (add recs rec) run
 
--- the operation creates neither f nor anything that is bound in what was given
+-- what was given of f is older than the operation: it creates neither f nor anything that is bound in what was given
 abbrev pub PredatesOperation : Fid → Option Node → Op → Type 0
 PredatesOperation f given op = (creates f op ≡ false)
     × ((name : Name) (fid : Fid) → child_of given name ≡ Some fid → creates fid op ≡ false)
