@@ -22,7 +22,7 @@ use Rattle.coda_copies.specs.Copies.{log_records, records_for, cached_node, Resp
 use Rattle.coda_venus.specs.History.{MayEnter}
 use Rattle.coda_venus.specs.State.{ClientState, new_client, client_after}
 
--- where a valid copy is from: a server, and how many entries its history had then
+-- where a valid copy is from: a server, and how many entries the history of its replica had when it gave the node
 pub record Copy : Type 0 where
   pub server : ℕ
   pub position : ℕ
@@ -60,42 +60,46 @@ empty_caching_cell sizes = record {
 
 -- ---- families with one member changed
 
+-- a family with one member changed
 abbrev pub put : {A : Type 0} → (ℕ → A) → ℕ → A → ℕ → A
 put f k x q = cond (q == k) x (f q)
 
+-- a family of pairs with one member changed
 abbrev pub put_pair : {A : Type 0} → (ℕ → ℕ → A) → ℕ → ℕ → A → ℕ → ℕ → A
 put_pair f k l x q r = cond ((q == k) && (r == l)) x (f q r)
 
+-- the copies with one of a client changed
 abbrev pub put_copy : {A : Type 0} → (ℕ → Fid → A) → ℕ → Fid → A → ℕ → Fid → A
 put_copy f client fid x q r = cond ((q == client) && same_fid r fid) x (f q r)
 
--- the copy, unless it goes
+-- a copy, unless it goes
 abbrev pub unless_gone : Bool → Copy → Option Copy
 unless_gone gone copy = cond gone None (Some copy)
 
--- the copies without those that pass a test
+-- the copies, without those that pass a test
 abbrev pub copies_left : (ℕ → Fid → Option Copy) → (ℕ → Fid → Copy → Bool) → ℕ → Fid → Option Copy
 copies_left copies gone client fid =
     option_and_then (λ copy. unless_gone (gone client fid copy) copy) (copies client fid)
 
 -- ---- what a server gave
 
--- the node of an object that a history leaves
+-- the node of an object that the history of a replica leaves
 abbrev pub node_at : List ReplicaEntry → Fid → Option Node
 node_at history fid = map.get (nodes_of fid.volume history) fid
 
--- what the server gave: the object's node at the copy's position of the server's history
+-- what the server gave of an object: the node at the copy's position of the replica's history
 abbrev pub given : CachingCell → Fid → Copy → Option Node
 given cell fid copy = node_at (take copy.position (cell.histories copy.server fid.volume)) fid
 
 -- ---- what makes a copy not valid
 
--- a chunk that was applied, of what it mentions
+-- a chunk that was applied makes copies of what it mentions not valid
 abbrev pub settlement_invalidates : Verdict → LogState → Fid → Bool
 settlement_invalidates Applied log fid = any_record (mentioning fid) log.chunk
 settlement_invalidates (Conflict number why) log fid = false
 
--- whether an entry of a client takes its copy of the object away
+-- whether an entry of a client makes its copy of the object not valid: an operation that takes it out, a settlement
+-- of an applied chunk that mentions it, giving up a log that does, a fetch or a drop of it
 abbrev pub invalidates : ClientState → ClientEntry → Fid → Bool
 invalidates c (entry.Op volume rec) fid = takes_out fid rec.op
 invalidates c (entry.Freeze volume number home last) fid = false
@@ -108,6 +112,7 @@ invalidates c (entry.Dropped at) fid = same_fid fid at
 
 -- ---- what happens
 
+-- what happens in a cell
 pub data CacheEvent : Type 0 where
   -- a client fetches an object from a server, and keeps it
   Fetched : (client server : ℕ) (fid : Fid) (parent : Option Fid) (node : Node) → CacheEvent
@@ -208,8 +213,8 @@ module _ (changes : List ReplicaEntry → ReplicaEntry → Fid → Bool) where
 
 -- ---- what may happen
 
--- a client fetches the object's node as it is now, where its journal may have it; that binds nothing that the tail of
--- the client's log creates; and an object that isn't cached and that the log mentions is taken out by it
+-- A client fetches the object's node as it is now, where its journal may have it; that is older than the tail of the
+-- client's log; and an object that isn't cached and that the log mentions is taken out by it.
 pub record MayFetch (cell : CachingCell) (client server : ℕ) (fid : Fid) (parent : Option Fid)
     (node : Node) : Type 0 where
   pub linked : cell.links client server ≡ true
@@ -220,12 +225,14 @@ pub record MayFetch (cell : CachingCell) (client server : ℕ) (fid : Fid) (pare
       → any_record (mentioning fid) (records_for (cell.clients client) fid) ≡ true
       → any_record (takes_out fid) (records_for (cell.clients client) fid) ≡ true
 
--- a client does what may follow its history, and the cell keeps what is owed to each of its valid copies
+-- a client does what may follow its history, and respects what was given of each of its valid copies
 pub record MayAct (cell : CachingCell) (client : ℕ) (entry : ClientEntry) : Type 0 where
   pub may : MayEnter (cell.clients client) entry
   pub owed : (fid : Fid) (copy : Copy) → cell.copies client fid ≡ Some copy
       → RespectsGiven (cell.clients client) entry fid (given cell fid copy)
 
+-- an event may happen: fetches, Breaks and refreshes need the link; Breaks and refreshes name exactly what waits for
+-- the client; a Break that is delivered or lost is there
 abbrev pub MayHappen : CachingCell → CacheEvent → Type 0
 MayHappen cell (Fetched client server fid parent node) = MayFetch cell client server fid parent node
 MayHappen cell (Refused client server fid) = (cell.links client server ≡ true) × (cell.copies client fid ≡ None)
@@ -243,7 +250,7 @@ MayHappen cell (LinkDown client server) = Unit {0}
 MayHappen cell (ClientGone client state) = Unit {0}
 MayHappen cell (ReplicaGone server volume found) = Unit {0}
 
--- the events happen one after another
+-- the events happen one after another; `changes` tells which objects an entry changes
 abbrev pub IsCacheRun : (List ReplicaEntry → ReplicaEntry → Fid → Bool) → CachingCell → List CacheEvent → CachingCell
     → Type 0
 IsCacheRun changes old [] new = new ≡ old
@@ -252,13 +259,13 @@ IsCacheRun changes old (event ∷ events) new = MayHappen old event
 
 -- ---- which objects an entry changes
 
--- no change is missed: an entry that is said not to change an object leaves its node, whatever history it stands
+-- it misses no change: an entry that is said not to change an object leaves its node, whatever history it stands
 -- behind
 abbrev pub MissesNoChange : (List ReplicaEntry → ReplicaEntry → Fid → Bool) → Type 0
 MissesNoChange changes = (history : List ReplicaEntry) (e : ReplicaEntry) (fid : Fid) → changes history e fid ≡ false
     → node_at (history ++ e ∷ []) fid ≡ node_at history fid
 
--- and no word is too much: an entry that is said to change it leaves another node
+-- it misses none and tells none too much: an entry that is said to change an object leaves another node
 pub record TellsExactly (changes : List ReplicaEntry → ReplicaEntry → Fid → Bool) : Type 0 where
   pub if_changed : (history : List ReplicaEntry) (e : ReplicaEntry) (fid : Fid) → changes history e fid ≡ true
       → node_at (history ++ e ∷ []) fid ≢ node_at history fid

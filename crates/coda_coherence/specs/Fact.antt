@@ -24,12 +24,12 @@ abbrev pub IsChangedSince : List ReplicaEntry → ℕ → Fid → Type 0
 IsChangedSince history position fid = (at : ℕ) × (position ≤ at) × (at < length history)
     × (node_at (take (at + 1) history) fid ≢ node_at (take at history) fid)
 
--- a record of its client's log mentions the object
+-- whether a record of its client's log mentions the object
 abbrev pub is_dirty : CachingCell → ℕ → Fid → Bool
 is_dirty cell client fid = is_mentioned ((cell.clients client).volumes fid.volume) fid
 
--- Of each valid copy that isn't dirty: the link to its server is up, it is what the server gave, and where the object
--- changed at that server since, the client's outbox there has it or a Break that names it is under way.
+-- Of a valid copy: the link to its server is up; what is cached is what the server gave; and where the object changed
+-- at that server since, it waits there for the client or a Break that names it is under way.
 pub record IsCalledBack (cell : CachingCell) (client : ℕ) (fid : Fid) (copy : Copy) : Type 0 where
   pub is_linked : cell.links client copy.server ≡ true
   pub is_given : cached_node (cell.clients client) fid ≡ given cell fid copy
@@ -37,11 +37,12 @@ pub record IsCalledBack (cell : CachingCell) (client : ℕ) (fid : Fid) (copy : 
       → (is_waiting (cell.callbacks copy.server fid.volume) client fid ≡ true)
       ⊎ IsBreakUnderWay cell.breaks copy.server client fid
 
+-- So it is of each valid copy that isn't dirty.
 abbrev pub CallbackFact : CachingCell → Type 0
 CallbackFact cell = (client : ℕ) (fid : Fid) (copy : Copy) → cell.copies client fid ≡ Some copy
     → is_dirty cell client fid ≡ false → IsCalledBack cell client fid copy
 
--- it holds whatever happened
+-- It holds whatever happened since a cell was empty.
 abbrev pub CallbackFactHolds : Type 0
 CallbackFactHolds = (changes : List ReplicaEntry → ReplicaEntry → Fid → Bool) (sizes : ℕ → ℕ)
     (events : List CacheEvent) (cell : CachingCell) → MissesNoChange changes
@@ -52,6 +53,7 @@ abbrev pub IsFetchOf : ℕ → Fid → CacheEvent → Type 0
 IsFetchOf client fid (Fetched c server f parent node) = (c ≡ client) × (f ≡ fid)
 IsFetchOf client fid _ = ⊥
 
+-- none of the events is one
 abbrev pub NoneFetches : ℕ → Fid → List CacheEvent → Type 0
 NoneFetches client fid [] = Unit {0}
 NoneFetches client fid (event ∷ events) = (IsFetchOf client fid event → ⊥) × NoneFetches client fid events
@@ -68,20 +70,20 @@ NoCopyOutlivesItsBreak =
 
 -- ---- what each event keeps
 
--- no entry behind the first so many changed the object
+-- no entry of the history behind the first so many changed the object
 abbrev pub IsUnchangedSince : List ReplicaEntry → ℕ → Fid → Type 0
 IsUnchangedSince history position fid = (at : ℕ) → position ≤ at → at < length history
     → node_at (take (at + 1) history) fid ≡ node_at (take at history) fid
 
--- the client has a promise on the object and it is unchanged; or its outbox has it; or a Break that names it is under
--- way
+-- the client has a promise on the object and it is unchanged; or it waits for the client; or a Break that names it is
+-- under way
 abbrev pub IsPromisedOrTold : List ReplicaEntry → Callbacks → (ℕ → Option Break) → ℕ → Fid → Copy → Type 0
 IsPromisedOrTold history callbacks breaks client fid copy =
     ((is_promised callbacks client fid ≡ true) × IsUnchangedSince history copy.position fid)
     ⊎ ((is_waiting callbacks client fid ≡ true) ⊎ IsBreakUnderWay breaks copy.server client fid)
 
--- Of each valid copy, dirty or not: its link is up, it was given, it is what the client's log makes of what was
--- given, and it is told of.
+-- Of each valid copy, dirty or not: its link is up; the server gave it; it is what the client's log leaves of what
+-- was given; and it is promised or told of. Letters are numbered as they are posted.
 pub record IsCoherent (cell : CachingCell) : Type 0 where
   pub linked : (client : ℕ) (fid : Fid) (copy : Copy) → cell.copies client fid ≡ Some copy
       → cell.links client copy.server ≡ true

@@ -24,7 +24,7 @@ use Rattle.coda_group.specs.Holdings.{replica_objects}
 abbrev pub holdings : Histories → ℕ → ℕ → Objects
 holdings h volume server = replica_objects server volume (h.replicas server volume)
 
--- an applied chunk made the object
+-- a chunk that was applied at a replica of the volume made the object
 pub record IsCreatedByChunk (h : Histories) (volume : ℕ) (f : Fid) : Type 0 where
   pub server : ℕ
   pub by : Decision
@@ -60,7 +60,7 @@ pub record IsObjectNumbered (volume client number : ℕ) (f : Fid) : Type 0 wher
   pub some : client ≢ 0
   pub number_is : f.uniq ≡ number
 
--- what the operations create has numbers of its client one behind the other, after so many
+-- what the operations create is numbered by its client, one behind the other, after so many
 abbrev pub AreNumberedFrom : ℕ → ℕ → ℕ → List Record → Type 0
 AreNumberedFrom volume client before [] = Unit {0}
 AreNumberedFrom volume client before (rec ∷ recs) =
@@ -75,9 +75,9 @@ IsFrozenNow deeds number = ((cut : Cut) × ((course_of deeds).cut ≡ Some cut))
 abbrev pub WasDecided : Histories → ℕ → ℕ → ℕ → Type 0
 WasDecided h volume client number = (verdict : Verdict) × IsDecided h.replicas volume client number verdict
 
--- Each last decision that a replica took over is that of a replica. Each client numbers what it creates on a volume;
--- it learned of no chunk another verdict than a replica gave that decided it; a chunk that was sent is frozen or was
--- decided; and the replicas of each volume are one group.
+-- Each client numbers what it creates on a volume; it learned of no chunk another verdict than a replica gave that
+-- decided it; a chunk that was sent is frozen or was decided; each last decision that a replica took over is that of
+-- a replica; and the replicas of each volume are one group.
 pub record DoGroupsStand (servers : ℕ → List ℕ) (h : Histories) (pool : ℕ → Option Letter) : Type 0 where
   pub numbered : (client volume : ℕ) → AreNumberedFrom volume client 0 (full_of (deeds_in h client volume))
   pub truths : (server volume : ℕ) (d : Decision) (verdict : Verdict) → Decides h server volume d

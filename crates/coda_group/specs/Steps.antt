@@ -22,11 +22,11 @@ use Rattle.coda_group.specs.Groups.{IsObjectNumbered}
 
 -- ---- what replicas hold and keep now
 
--- what stands on the disk of a server's replica of a volume
+-- the history that stands on the disk of a server's replica of a volume
 abbrev pub history_at : PlainCell → ℕ → ℕ → List ReplicaEntry
 history_at cell volume server = (cell.replicas server volume).history
 
--- what it holds
+-- what that replica holds
 abbrev pub objects_at : PlainCell → ℕ → ℕ → Objects
 objects_at cell volume server = replica_objects server volume (history_at cell volume server)
 
@@ -116,16 +116,18 @@ pub data GroupStep : Type 0 where
   Repairs : (volume source : ℕ) (names : List Name) (some : List ℕ) (lasts : ℕ → ℕ → Last) (installs : List Install)
       (failing : Option Install) → GroupStep
 
+-- the move of an install at which the append fails, where there is one
 abbrev pub failing_moves : ℕ → (ℕ → ℕ → Last) → Option Install → List Move
 failing_moves volume lasts None = []
 failing_moves volume lasts (Some install) = Fails (install_of volume lasts install) ∷ []
 
+-- the moves of installs in turn, and of one at which the append fails
 abbrev pub install_moves : ℕ → (ℕ → ℕ → Last) → List Install → Option Install → List Move
 install_moves volume lasts [] failing = failing_moves volume lasts failing
 install_moves volume lasts (install ∷ installs) failing =
     Does (install_of volume lasts install) ∷ install_moves volume lasts installs failing
 
--- the moves that it is made of
+-- the moves that a step is made of
 abbrev pub moves_of_step : GroupStep → List Move
 moves_of_step (Moves move) = move ∷ []
 moves_of_step (Resolves volume some lasts installs failing) = install_moves volume (λ server. lasts) installs failing
@@ -139,7 +141,7 @@ CreatesNext cell client volume (Froze number home last) = Unit {0}
 CreatesNext cell client volume (Settled number verdict) = Unit {0}
 CreatesNext cell client volume Gaveup = Unit {0}
 
--- by itself a replica adds decisions alone, at a server of its volume
+-- by itself a replica appends decisions alone, at a server of its volume; and a client creates its next objects
 abbrev pub MayAppendAlone : (ℕ → List ℕ) → PlainCell → Append → Type 0
 MayAppendAlone servers cell (AtClient client (Fetched fid parent node)) = Unit {0}
 MayAppendAlone servers cell (AtClient client (Did volume deed)) = CreatesNext cell client volume deed
@@ -148,6 +150,7 @@ MayAppendAlone servers cell (AtClient client (Dropping gone entry)) =
 MayAppendAlone servers cell (AtReplica server volume (Decided client number span)) = IsIn server (servers volume)
 MayAppendAlone servers cell (AtReplica server volume (Resolved objects lasts)) = ⊥
 
+-- a move appends what may be appended by itself, if anything
 abbrev pub MayMoveAlone : (ℕ → List ℕ) → PlainCell → Move → Type 0
 MayMoveAlone servers cell (Does append) = MayAppendAlone servers cell append
 MayMoveAlone servers cell (Fails append) = MayAppendAlone servers cell append
@@ -176,6 +179,7 @@ pub record MayRepair (servers : ℕ → List ℕ) (cell : PlainCell) (volume sou
   pub installed : MayInstallAll (IsRepairOf cell volume source names some repair) cell volume some lasts cell installs
       failing
 
+-- a step may happen
 abbrev pub MayStep : (ℕ → List ℕ) → PlainCell → GroupStep → Type 0
 MayStep servers cell (Moves move) = May cell move × MayMoveAlone servers cell move
 MayStep servers cell (Resolves volume some lasts installs failing) =
@@ -183,10 +187,12 @@ MayStep servers cell (Resolves volume some lasts installs failing) =
 MayStep servers cell (Repairs volume source names some lasts installs failing) =
     MayRepair servers cell volume source names some lasts installs failing
 
+-- a cell after moves, one behind the other
 abbrev pub after_moves : PlainCell → List Move → PlainCell
 after_moves cell [] = cell
 after_moves cell (move ∷ moves) = after_moves (after cell move) moves
 
+-- a cell after a step
 abbrev pub after_step : PlainCell → GroupStep → PlainCell
 after_step cell step = after_moves cell (moves_of_step step)
 

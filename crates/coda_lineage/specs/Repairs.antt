@@ -50,6 +50,7 @@ spared_by subtree top held (Dir entries) = cond (binds_one subtree top entries)
     (record held { node = record held.node { kind = Dir (others_of subtree top entries); marked = true } })
     held
 
+-- what is left of an object outside the subtree, where a replica has it
 abbrev pub spared : (Fid → Bool) → Fid → Option Held → Option Held
 spared subtree top None = None
 spared subtree top (Some held) = Some (spared_by subtree top held held.node.kind)

@@ -24,7 +24,7 @@ abbrev pub PartsAcceptAsTheWhole : Type 0
 PartsAcceptAsTheWhole = (s t : Sight) (volume : ℕ) (ask : Asked) (op : Op) → IsPartOfSight volume s t
     → accept s volume ask ≡ Ok op → accept t volume ask ≡ Ok op
 
--- An object that is needed isn't there.
+-- An object that acceptance needs isn't among the nodes.
 abbrev pub NeededObjectsAreMissing : Type 0
 NeededObjectsAreMissing = (s : Sight) (volume : ℕ) (ask : Asked) (fid : Fid) → accept s volume ask ≡ Err (Need fid)
     → map.get s.held.nodes fid ≡ None
