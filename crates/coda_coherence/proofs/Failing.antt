@@ -85,8 +85,8 @@ module _ (cell : CachingCell) (history : cell.histories 1 7 ≡ other ∷ []) (c
 
 -- ---- a Break that is lost alone
 
-abbrev owed : Callbacks
-owed = promised no_callbacks 1 root
+abbrev respects : Callbacks
+respects = promised no_callbacks 1 root
 
 abbrev decided : CachingCell
 decided = cell_after changes fetched (Decided 1 7 other)
@@ -94,14 +94,14 @@ decided = cell_after changes fetched (Decided 1 7 other)
 abbrev posted : CachingCell
 posted = cell_after changes decided (Posted 1 1 7 (root ∷ []))
 
-never_waits : (f : Fid) → is_waiting owed 1 f ≡ false
+never_waits : (f : Fid) → is_waiting respects 1 f ≡ false
 never_waits f = waiting_promise no_callbacks 1 root 1 f ∙ off _ (is_waiting no_callbacks 1 f) (set.contains-empty interest_cmp (interest 1 f))
   where
     off : (a b : Bool) → b ≡ false → (not a && b) ≡ false
     off true b e = refl
     off false b e = e
 
-promises_root : (f : Fid) → is_promised owed 1 f ≡ same_interest (interest 1 f) (interest 1 root)
+promises_root : (f : Fid) → is_promised respects 1 f ≡ same_interest (interest 1 f) (interest 1 root)
 promises_root f = promised_promise no_callbacks 1 root 1 f ∙ off (same_interest (interest 1 f) (interest 1 root)) (is_promised no_callbacks 1 f) (set.contains-empty interest_cmp (interest 1 f))
   where
     off : (a b : Bool) → b ≡ false → (a || b) ≡ a
@@ -112,8 +112,8 @@ alone : (f : Fid) → IsStrictlySortedBy fid_cmp (f ∷ [])
 unfolding IsStrictlySortedBy
 alone f = (tt, tt)
 
-outbox : IsOutbox (broken_where owed (changes [] other)) 1 (root ∷ [])
-outbox = record { increasing = alone root; exact = λ f. sym (waiting_broken owed (changes [] other) 1 f ∙ (λ i. never_waits f i || (promises_root f i && changes [] other f)) ∙ at f (same_interest (interest 1 f) (interest 1 root)) refl) }
+outbox : IsOutbox (broken_where respects (changes [] other)) 1 (root ∷ [])
+outbox = record { increasing = alone root; exact = λ f. sym (waiting_broken respects (changes [] other) 1 f ∙ (λ i. never_waits f i || (promises_root f i && changes [] other f)) ∙ at f (same_interest (interest 1 f) (interest 1 root)) refl) }
   where
     at : (f : Fid) (b : Bool) → same_interest (interest 1 f) (interest 1 root) ≡ b
         → (b && changes [] other f) ≡ names (root ∷ []) f
@@ -130,7 +130,7 @@ lossy = (
   posted,
   1,
   record { events = LinkUp 1 1 ∷ Fetched 1 1 root None fresh_root ∷ Decided 1 7 other ∷ Posted 1 1 7 (root ∷ []) ∷ []; runs = (tt, (may_fetch, (tt, ((refl, outbox), refl)))) },
-  fails (lost_with_link_up posted 1) refl refl refl (waiting_collected (broken_where owed (changes [] other)) 1 1 root ∙ and_never _) none,
+  fails (lost_with_link_up posted 1) refl refl refl (waiting_collected (broken_where respects (changes [] other)) 1 1 root ∙ and_never _) none,
 )
   where
     none : IsBreakUnderWay (lost_with_link_up posted 1).breaks 1 1 root → ⊥
@@ -142,8 +142,8 @@ lossy = (
 
 -- ---- a promise that stays
 
-spared : (cell : CachingCell) × (client : ℕ) × (server : ℕ) × (volume : ℕ) × (e : ReplicaEntry) × IsReachedCell cell × (CallbackFact (decided_sparing cell client server volume e) → ⊥)
-spared = (
+sparing : (cell : CachingCell) × (client : ℕ) × (server : ℕ) × (volume : ℕ) × (e : ReplicaEntry) × IsReachedCell cell × (CallbackFact (decided_sparing cell client server volume e) → ⊥)
+sparing = (
   fetched,
   1,
   1,
@@ -151,13 +151,13 @@ spared = (
   other,
   record { events = LinkUp 1 1 ∷ Fetched 1 1 root None fresh_root ∷ []; runs = (tt, (may_fetch, refl)) },
   fails (decided_sparing fetched 1 1 7 other) refl refl refl
-      (set.contains-union interests_total owed.outboxes (set.retain owed.promises (λ i. changes [] other i.fid && not (i.client == 1))) (interest 1 root)
-      ∙ (λ i. never_waits root i || (set.contains-retain owed.promises (λ i. changes [] other i.fid && not (i.client == 1)) (interest 1 root) (alike (λ i. changes [] other i.fid && not (i.client == 1)) (interest 1 root)) ∙ last) i))
+      (set.contains-union interests_total respects.outboxes (set.retain respects.promises (λ i. changes [] other i.fid && not (i.client == 1))) (interest 1 root)
+      ∙ (λ i. never_waits root i || (set.contains-retain respects.promises (λ i. changes [] other i.fid && not (i.client == 1)) (interest 1 root) (alike (λ i. changes [] other i.fid && not (i.client == 1)) (interest 1 root)) ∙ last) i))
       (λ u. none-some u.letter u.posted),
 )
   where
-    last : (set.contains owed.promises (interest 1 root) && (changes [] other root && false)) ≡ false
-    last = ap (λ b. set.contains owed.promises (interest 1 root) && b) (and_never (changes [] other root)) ∙ and_never _
+    last : (set.contains respects.promises (interest 1 root) && (changes [] other root && false)) ≡ false
+    last = ap (λ b. set.contains respects.promises (interest 1 root) && b) (and_never (changes [] other root)) ∙ and_never _
 
 pub shortcuts_fail : ShortcutsFail
-shortcuts_fail = record { lossy = lossy; spared = spared }
+shortcuts_fail = record { lossy = lossy; sparing = sparing }

@@ -14,7 +14,7 @@ use Rattle.coda_plain.specs.Decisions.{ReplicaEntry}
 use Rattle.coda_record.specs.declared.entry.ClientEntry.{ClientEntry}
 use Rattle.coda_record.specs.declared.entry.ClientEntry.TheVariants as entry
 use Rattle.coda_copies.specs.Copies.{IsCopyOf}
-use Rattle.coda_copies.proofs.Led.{copies_led, fetches_copies, clean_copies}
+use Rattle.coda_copies.proofs.Entries.{copies_led, fetches_copies, clean_copies}
 use Rattle.coda_venus.specs.State.{ClientState, client_after}
 use Rattle.coda_coherence.specs.Cell.{Copy, Break, CachingCell, CacheEvent, Fetched, Refused, Acted, Decided, Posted}
 use Rattle.coda_coherence.specs.Cell.{Refreshed, OtherPosted, Delivered, Lost, LinkUp, LinkDown, ClientGone}
@@ -28,7 +28,7 @@ use Rattle.coda_coherence.proofs.Families.{longer, same_front, or_left, or_both}
 use Rattle.coda_coherence.proofs.Interests.{same_interest, same_interest_is, same_interest_refl, promised_promise}
 use Rattle.coda_coherence.proofs.Interests.{waiting_promise, promised_broken, waiting_broken, waiting_collected}
 use Rattle.coda_coherence.proofs.Interests.{promised_dropped, waiting_dropped}
-use Rattle.coda_coherence.proofs.Sparing.{spared}
+use Rattle.coda_coherence.proofs.Leaving.{sparing}
 
 -- a Break under way, in a pool where another place changed
 still_under_way : (pool : ℕ → Option Break) (n : ℕ) (x : Option Break) (s c : ℕ) (f : Fid) (u : IsBreakUnderWay pool s c f) → (u.number ≡ n → ⊥) → IsBreakUnderWay (put pool n x) s c f
@@ -153,7 +153,7 @@ module _ (changes : List ReplicaEntry → ReplicaEntry → Fid → Bool) (tell :
     linked = λ c f copy is. let was = kept_copy old.copies gone c f copy is in linked c f copy was.1 (kept.linked c f copy was.0);
     numbered = numbered;
     behind = λ c f copy is. kept.behind c f copy (kept_copy old.copies gone c f copy is).0;
-    led = λ c f copy is. kept.led c f copy (kept_copy old.copies gone c f copy is).0;
+    copied = λ c f copy is. kept.copied c f copy (kept_copy old.copies gone c f copy is).0;
     told = λ c f copy is. let was = kept_copy old.copies gone c f copy is in told c f copy was.1 (kept.told c f copy was.0);
   }
 
@@ -169,7 +169,7 @@ module _ (changes : List ReplicaEntry → ReplicaEntry → Fid → Bool) (tell :
     linked = λ c f copy is. linked c f copy (kept.linked c f copy is);
     numbered = numbered;
     behind = kept.behind;
-    led = kept.led;
+    copied = kept.copied;
     told = λ c f copy is. told c f copy is (kept.told c f copy is);
   }
 
@@ -280,9 +280,9 @@ module _ (changes : List ReplicaEntry → ReplicaEntry → Fid → Bool) (tell :
         linked = λ c f copy is. kept.linked c f copy (kept_copy old.copies gone c f copy is).0;
         numbered = kept.numbered;
         behind = λ c f copy is. kept.behind c f copy (kept_copy old.copies gone c f copy is).0;
-        led = λ c f copy is.
+        copied = λ c f copy is.
             let was = kept_copy old.copies gone c f copy is in
-            subst (λ s. IsCopyOf s f (given old f copy)) (sym (ap (λ b. cond b state (old.clients c)) was.1)) (kept.led c f copy was.0);
+            subst (λ s. IsCopyOf s f (given old f copy)) (sym (ap (λ b. cond b state (old.clients c)) was.1)) (kept.copied c f copy was.0);
         told = λ c f copy is.
             let was = kept_copy old.copies gone c f copy is in
             let k = old.callbacks copy.server f.volume in
@@ -296,11 +296,11 @@ module _ (changes : List ReplicaEntry → ReplicaEntry → Fid → Bool) (tell :
     numbered = kept.numbered;
     behind = λ c f copy is. pair_at (λ h. copy.position ≤ length h) old.histories server volume (old.histories server volume ++ e ∷ []) copy.server f.volume
         (λ es ev. longer copy.position (old.histories server volume) (e ∷ []) (subst (λ h. copy.position ≤ length h) (λ i. old.histories (es i) (ev i)) (kept.behind c f copy is))) (kept.behind c f copy is);
-    led = λ c f copy is. pair_at (λ h. IsCopyOf (old.clients c) f (node_at (take copy.position h) f)) old.histories server volume (old.histories server volume ++ e ∷ []) copy.server f.volume
+    copied = λ c f copy is. pair_at (λ h. IsCopyOf (old.clients c) f (node_at (take copy.position h) f)) old.histories server volume (old.histories server volume ++ e ∷ []) copy.server f.volume
         (λ es ev. subst (IsCopyOf (old.clients c) f)
         ((λ i. node_at (take copy.position (old.histories (es i) (ev i))) f)
         ∙ sym (same_front (λ h. node_at h f) copy.position (old.histories server volume) (e ∷ []) (subst (λ h. copy.position ≤ length h) (λ i. old.histories (es i) (ev i)) (kept.behind c f copy is))))
-        (kept.led c f copy is)) (kept.led c f copy is);
+        (kept.copied c f copy is)) (kept.copied c f copy is);
     told = λ c f copy is. pairs_at (λ h k. IsPromisedOrTold h k old.breaks c f copy) old.histories old.callbacks server volume _ _ copy.server f.volume
         (λ es ev. told_entered (old.histories server volume) e (old.callbacks server volume) old.breaks c f copy (subst (λ h. copy.position ≤ length h) (λ i. old.histories (es i) (ev i)) (kept.behind c f copy is))
         (subst (λ (p : List ReplicaEntry × Callbacks). IsPromisedOrTold p.0 p.1 old.breaks c f copy) (λ i. (old.histories (es i) (ev i), old.callbacks (es i) (ev i))) (kept.told c f copy is)))
@@ -319,9 +319,9 @@ module _ (changes : List ReplicaEntry → ReplicaEntry → Fid → Bool) (tell :
         behind = λ c f copy is.
             let was = kept_copy old.copies gone c f copy is in
             pair_at (λ h. copy.position ≤ length h) old.histories server volume (old.histories server volume ++ found) copy.server f.volume (λ es ev. absurd (away f copy was.1 es ev)) (kept.behind c f copy was.0);
-        led = λ c f copy is.
+        copied = λ c f copy is.
             let was = kept_copy old.copies gone c f copy is in
-            pair_at (λ h. IsCopyOf (old.clients c) f (node_at (take copy.position h) f)) old.histories server volume (old.histories server volume ++ found) copy.server f.volume (λ es ev. absurd (away f copy was.1 es ev)) (kept.led c f copy was.0);
+            pair_at (λ h. IsCopyOf (old.clients c) f (node_at (take copy.position h) f)) old.histories server volume (old.histories server volume ++ found) copy.server f.volume (λ es ev. absurd (away f copy was.1 es ev)) (kept.copied c f copy was.0);
         told = λ c f copy is.
             let was = kept_copy old.copies gone c f copy is in
             pairs_at (λ h k. IsPromisedOrTold h k old.breaks c f copy) old.histories old.callbacks server volume _ _ copy.server f.volume (λ es ev. absurd (away f copy was.1 es ev)) (kept.told c f copy was.0);
@@ -340,12 +340,12 @@ module _ (changes : List ReplicaEntry → ReplicaEntry → Fid → Bool) (tell :
         linked = λ c f copy is. kept.linked c f copy (kept_copy old.copies gone c f copy is).0;
         numbered = kept.numbered;
         behind = λ c f copy is. kept.behind c f copy (kept_copy old.copies gone c f copy is).0;
-        led = λ c f copy is.
+        copied = λ c f copy is.
             let was = kept_copy old.copies gone c f copy is in
             clients_at (λ s. IsCopyOf s f (given old f copy)) old.clients client (client_after (old.clients client) e) c
-            (λ same. copies_led (old.clients client) e f (given old f copy) can.may (can.owed f copy (subst (λ x. old.copies x f ≡ Some copy) same was.0)) (spared (old.clients client) e f (other_test c client (invalidates (old.clients client) e f) was.1 same))
-            (subst (λ x. IsCopyOf (old.clients x) f (given old f copy)) same (kept.led c f copy was.0)))
-            (λ _. kept.led c f copy was.0);
+            (λ same. copies_led (old.clients client) e f (given old f copy) can.may (can.respects f copy (subst (λ x. old.copies x f ≡ Some copy) same was.0)) (sparing (old.clients client) e f (other_test c client (invalidates (old.clients client) e f) was.1 same))
+            (subst (λ x. IsCopyOf (old.clients x) f (given old f copy)) same (kept.copied c f copy was.0)))
+            (λ _. kept.copied c f copy was.0);
         told = λ c f copy is. kept.told c f copy (kept_copy old.copies gone c f copy is).0;
       }
 
@@ -375,7 +375,7 @@ module _ (changes : List ReplicaEntry → ReplicaEntry → Fid → Bool) (tell :
             (λ ec ef is. let same : new ≡ copy = cc in
             subst (λ (p : Copy × Fid). p.0.position ≤ length (old.histories p.0.server p.1.volume)) (λ i. (same i, sym ef i)) (omega arith))
             (λ _ is. kept.behind c f copy is);
-        led = λ c f copy. copies_at (λ o _. o ≡ Some copy → IsCopyOf (next.clients c) f (given old f copy)) old.copies old.copies client fid (Some new) (Some new) c f
+        copied = λ c f copy. copies_at (λ o _. o ≡ Some copy → IsCopyOf (next.clients c) f (given old f copy)) old.copies old.copies client fid (Some new) (Some new) c f
             (λ ec ef is. let same : new ≡ copy = cc in
             subst (λ (p : ℕ × Fid × Copy). IsCopyOf (next.clients p.0) p.1 (given old p.1 p.2)) (λ i. (sym ec i, sym ef i, same i))
             (subst (λ s. IsCopyOf s fid (given old fid new)) (sym (put_here old.clients client (client_after (old.clients client) (entry.Fetched fid parent node))))
@@ -383,8 +383,8 @@ module _ (changes : List ReplicaEntry → ReplicaEntry → Fid → Bool) (tell :
             (fetches_copies (old.clients client) fid parent node can.may can.predates can.taken))))
             (λ away is. clients_at (λ s. IsCopyOf s f (given old f copy)) old.clients client (client_after (old.clients client) (entry.Fetched fid parent node)) c
             (λ ec. copies_led (old.clients client) (entry.Fetched fid parent node) f (given old f copy) can.may tt (λ ef. both_ways ((c == client) && same_fid f fid) away (and_from (c == client) (same_fid f fid) (eq-eqb c client ec) (ap (λ x. same_fid x fid) ef ∙ same_fid_refl fid)))
-            (subst (λ x. IsCopyOf (old.clients x) f (given old f copy)) ec (kept.led c f copy is)))
-            (λ _. kept.led c f copy is));
+            (subst (λ x. IsCopyOf (old.clients x) f (given old f copy)) ec (kept.copied c f copy is)))
+            (λ _. kept.copied c f copy is));
         told = λ c f copy. copies_at (λ o _. o ≡ Some copy → TellsOf c f copy) old.copies old.copies client fid (Some new) (Some new) c f
             (λ ec ef is. let same : new ≡ copy = cc in
             subst (λ (p : ℕ × Fid × Copy). TellsOf p.0 p.1 p.2) (λ i. (sym ec i, sym ef i, same i))
@@ -419,7 +419,7 @@ module _ (changes : List ReplicaEntry → ReplicaEntry → Fid → Bool) (tell :
     linked = λ c f copy is. cc;
     numbered = λ number letter is. cc;
     behind = λ c f copy is. cc;
-    led = λ c f copy is. absurd (cc);
+    copied = λ c f copy is. absurd (cc);
     told = λ c f copy is. absurd (cc);
   }
 
@@ -439,7 +439,7 @@ heard h k pool c f copy (inr is) changed = is
 pub fact_of_kept : (cell : CachingCell) → IsCoherent cell → CallbackFact cell
 fact_of_kept cell kept client fid copy is clean = record {
   is_linked = kept.linked client fid copy is;
-  is_given = clean_copies (cell.clients client) fid (given cell fid copy) (kept.led client fid copy is) clean;
+  is_given = clean_copies (cell.clients client) fid (given cell fid copy) (kept.copied client fid copy is) clean;
   is_told = heard (cell.histories copy.server fid.volume) (cell.callbacks copy.server fid.volume) cell.breaks client fid copy (kept.told client fid copy is);
 }
 

@@ -228,7 +228,7 @@ pub record MayFetch (cell : CachingCell) (client server : ℕ) (fid : Fid) (pare
 -- a client does what may follow its history, and respects what was given of each of its valid copies
 pub record MayAct (cell : CachingCell) (client : ℕ) (entry : ClientEntry) : Type 0 where
   pub may : MayEnter (cell.clients client) entry
-  pub owed : (fid : Fid) (copy : Copy) → cell.copies client fid ≡ Some copy
+  pub respects : (fid : Fid) (copy : Copy) → cell.copies client fid ≡ Some copy
       → RespectsGiven (cell.clients client) entry fid (given cell fid copy)
 
 -- an event may happen: fetches, Breaks and refreshes need the link; Breaks and refreshes name exactly what waits for

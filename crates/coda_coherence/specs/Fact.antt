@@ -90,7 +90,7 @@ pub record IsCoherent (cell : CachingCell) : Type 0 where
   pub numbered : (number : ℕ) (letter : Break) → cell.breaks number ≡ Some letter → number ≤ cell.posted
   pub behind : (client : ℕ) (fid : Fid) (copy : Copy) → cell.copies client fid ≡ Some copy
       → copy.position ≤ length (cell.histories copy.server fid.volume)
-  pub led : (client : ℕ) (fid : Fid) (copy : Copy) → cell.copies client fid ≡ Some copy
+  pub copied : (client : ℕ) (fid : Fid) (copy : Copy) → cell.copies client fid ≡ Some copy
       → IsCopyOf (cell.clients client) fid (given cell fid copy)
   pub told : (client : ℕ) (fid : Fid) (copy : Copy) → cell.copies client fid ≡ Some copy
       → IsPromisedOrTold (cell.histories copy.server fid.volume) (cell.callbacks copy.server fid.volume) cell.breaks

@@ -38,5 +38,5 @@ pub record IsReachedCell (cell : CachingCell) : Type 0 where
 pub record ShortcutsFail : Type 0 where
   pub lossy : (cell : CachingCell) × (number : ℕ) × IsReachedCell cell
       × (CallbackFact (lost_with_link_up cell number) → ⊥)
-  pub spared : (cell : CachingCell) × (client : ℕ) × (server : ℕ) × (volume : ℕ) × (entry : ReplicaEntry)
+  pub sparing : (cell : CachingCell) × (client : ℕ) × (server : ℕ) × (volume : ℕ) × (entry : ReplicaEntry)
       × IsReachedCell cell × (CallbackFact (decided_sparing cell client server volume entry) → ⊥)

@@ -54,39 +54,39 @@ pub child_bound : (node : Node) (n : Name) (g : Fid) (m : Name)
     → child_of (Some (bind_in node n g)) m ≡ cond (same_name m n) (Some g) (child_of (Some node) m)
 child_bound node n g m = map.get-insert nat_list_cmp_total (bindings node.kind) n g m
 
--- ---- what is apt stays apt
+-- ---- what finds its names goes on finding them
 
-apt_free : (f : Fid) (a b : Option Node) (dir : Fid) (name : Name) → (child_of a name ≡ None → child_of b name ≡ None)
+finds_free : (f : Fid) (a b : Option Node) (dir : Fid) (name : Name) → (child_of a name ≡ None → child_of b name ≡ None)
     → (IsDirNode a → IsDirNode b) → FindsFreeName f a dir name → FindsFreeName f b dir name
-apt_free f a b dir name same dirs h = record { dir_there = λ e. dirs (h.dir_there e); free = λ e. same (h.free e) }
+finds_free f a b dir name same dirs h = record { dir_there = λ e. dirs (h.dir_there e); free = λ e. same (h.free e) }
 
 -- where a node binds what another does, and is a directory where that is one
-pub apt_same : (f : Fid) (a b : Option Node) → ((n : Name) → child_of a n ≡ child_of b n)
+pub finds_same : (f : Fid) (a b : Option Node) → ((n : Name) → child_of a n ≡ child_of b n)
     → (IsDirNode a → IsDirNode b) → (op : Op) → FindsItsNames f a op → FindsItsNames f b op
-apt_same f a b same dirs (Create d n g mode owner) h = apt_free f a b d n (λ e. sym (same n) ∙ e) dirs h
-apt_same f a b same dirs (Mkdir d n g mode owner) h = apt_free f a b d n (λ e. sym (same n) ∙ e) dirs h
-apt_same f a b same dirs (Symlink d n g target mode owner) h = apt_free f a b d n (λ e. sym (same n) ∙ e) dirs h
-apt_same f a b same dirs (Store g pre content) h = tt
-apt_same f a b same dirs (Setattr g pre attrs) h = tt
-apt_same f a b same dirs (Remove d n g pre) h = λ e. sym (same n) ∙ h e
-apt_same f a b same dirs (Rmdir d n g pre) h = λ e. sym (same n) ∙ h e
-apt_same f a b same dirs (Rename d n e m g over) h = (λ x. sym (same n) ∙ h.0 x, λ x. sym (same m) ∙ h.1 x)
+finds_same f a b same dirs (Create d n g mode owner) h = finds_free f a b d n (λ e. sym (same n) ∙ e) dirs h
+finds_same f a b same dirs (Mkdir d n g mode owner) h = finds_free f a b d n (λ e. sym (same n) ∙ e) dirs h
+finds_same f a b same dirs (Symlink d n g target mode owner) h = finds_free f a b d n (λ e. sym (same n) ∙ e) dirs h
+finds_same f a b same dirs (Store g pre content) h = tt
+finds_same f a b same dirs (Setattr g pre attrs) h = tt
+finds_same f a b same dirs (Remove d n g pre) h = λ e. sym (same n) ∙ h e
+finds_same f a b same dirs (Rmdir d n g pre) h = λ e. sym (same n) ∙ h e
+finds_same f a b same dirs (Rename d n e m g over) h = (λ x. sym (same n) ∙ h.0 x, λ x. sym (same m) ∙ h.1 x)
 
-pub apt_with_pre : (f : Fid) (a : Option Node) (h : Fid → Sid → Sid) (op : Op) → FindsItsNames f a op
+pub finds_with_pre : (f : Fid) (a : Option Node) (h : Fid → Sid → Sid) (op : Op) → FindsItsNames f a op
     → FindsItsNames f a (with_pre h op)
-apt_with_pre f a h (Rename d n e m g None) x = x
-apt_with_pre f a h (Rename d n e m g (Some v)) x = x
-apt_with_pre f a h _ x = x
+finds_with_pre f a h (Rename d n e m g None) x = x
+finds_with_pre f a h (Rename d n e m g (Some v)) x = x
+finds_with_pre f a h _ x = x
 
 -- ---- lists of records
 
-pub leads_joined : (f : Fid) (client : ℕ) (o mid left : Option Node) (recs more : List Record)
+pub overlays_joined : (f : Fid) (client : ℕ) (o mid left : Option Node) (recs more : List Record)
     → Overlays f client o recs mid → Overlays f client mid more left → Overlays f client o (recs ++ more) left
-leads_joined f client o mid left [] more a b = subst (λ y. Overlays f client y more left) (sym a) b
-leads_joined f client o mid left (rec ∷ recs) more a b = (a.0, leads_joined f client (operated_at f client rec o) mid left recs more a.1 b)
+overlays_joined f client o mid left [] more a b = subst (λ y. Overlays f client y more left) (sym a) b
+overlays_joined f client o mid left (rec ∷ recs) more a b = (a.0, overlays_joined f client (operated_at f client rec o) mid left recs more a.1 b)
 
-pub leads_split : (f : Fid) (client : ℕ) (o left : Option Node) (recs more : List Record)
+pub overlays_split : (f : Fid) (client : ℕ) (o left : Option Node) (recs more : List Record)
     → Overlays f client o (recs ++ more) left
     → (mid : Option Node) × Overlays f client o recs mid × Overlays f client mid more left
-leads_split f client o left [] more a = (o, refl, a)
-leads_split f client o left (rec ∷ recs) more a = let s = leads_split f client (operated_at f client rec o) left recs more a.1 in (s.0, (a.0, s.1), s.2)
+overlays_split f client o left [] more a = (o, refl, a)
+overlays_split f client o left (rec ∷ recs) more a = let s = overlays_split f client (operated_at f client rec o) left recs more a.1 in (s.0, (a.0, s.1), s.2)

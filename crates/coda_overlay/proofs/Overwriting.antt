@@ -1,4 +1,4 @@
--- A list that drops what an operation makes needless leads one object where the whole list and the operation lead it.
+-- A list that drops what an operation makes needless makes of one object what the whole list and the operation do.
 use Rattle.std.proofs.Common.{◌≡◌, ℕ, Bool, true, false, cond, List, [], ◌∷◌, ◌++◌, Option, Some, None, refl, sym, ap}
 use Rattle.std.proofs.Common.{◌∙◌, subst}
 use Rattle.std.specs.FinMap as map
@@ -24,7 +24,7 @@ use Rattle.coda_cml.proofs.volumes.Versions.{effects-with_pre}
 use Rattle.coda_cml.proofs.volumes.Appending.{reach, dropped_covered, unseen}
 use Rattle.coda_overlay.specs.Objects.{operated_at}
 use Rattle.coda_overlay.specs.Overlaying.{FindsItsNames, Overlays}
-use Rattle.coda_overlay.proofs.Copies.{get-applied, apt_same, apt_with_pre}
+use Rattle.coda_overlay.proofs.Copies.{get-applied, finds_same, finds_with_pre}
 
 -- ---- nodes that look alike
 
@@ -47,12 +47,12 @@ plain_of_dir (Some node) h = go node.kind h
     go (Dir entries) h = h
 
 apt_plain : (f : Fid) (a b : Option Node) → plain a ≡ plain b → (op : Op) → FindsItsNames f a op → FindsItsNames f b op
-apt_plain f a b e op h = apt_same f a b (λ n. sym (child-written everything no_version a n) ∙ ap (λ o. child_of o n) e ∙ child-written everything no_version b n)
+apt_plain f a b e op h = finds_same f a b (λ n. sym (child-written everything no_version a n) ∙ ap (λ o. child_of o n) e ∙ child-written everything no_version b n)
     (λ d. dir_of_plain b (subst IsDirNode e (plain_of_dir a d))) op h
 
 -- ---- one object of many
 
--- each of the records is apt for what stands at q, and all leave these nodes
+-- each of the records finds its names at q, and all leave these nodes
 abbrev LedIn : Fid → ℕ → Nodes → List Record → Nodes → Type 0
 LedIn q client v [] w = v ≡ w
 LedIn q client v (rec ∷ recs) w = FindsItsNames q (map.get v q) rec.op × LedIn q client (applied v client rec) recs w
@@ -91,7 +91,7 @@ module _ (q : Fid) (client : ℕ) (f : Fid) (o : Record) (k : carries f o.op ≡
       → LedIn q client u (hand owed o ∷ []) (applied v client o)
   unfolding applied
   last owed v u a c = (
-    apt_with_pre q (map.get u q) (λ g p. sid_or (owed g) p) o.op (apt_beside v u a o.op c),
+    finds_with_pre q (map.get u q) (λ g p. sid_or (owed g) p) o.op (apt_beside v u a o.op c),
     ap (λ es. edited_all u es) (effects-with_pre (λ g p. sid_or (owed g) p) o.time (sid_of client o) o.op) ∙ (sym (unseen f o.time no_version (sid_of client o) o.op k u) ∙ (ap (λ y. edited_all y (effects o.time (sid_of client o) o.op)) (sym a) ∙ unseen f o.time no_version (sid_of client o) o.op k v)),
   )
 
@@ -115,7 +115,7 @@ module _ (q : Fid) (client : ℕ) (f : Fid) (o : Record) (k : carries f o.op ≡
   sim [] owed v u w a h c = subst (λ x. LedIn q client u (hand owed o ∷ []) (applied x client o)) h (last owed v u a (subst (λ x. FindsItsNames q (map.get x q) o.op) (sym h) c))
   sim (r ∷ rs) owed v u w a h c = go (drops o.op r.op) refl
       (λ d. sim rs (owe owed (carried r.op)) (applied v client r) u w (after_drop v u a r d) h.1 c)
-      (apt_with_pre q (map.get u q) (λ g p. sid_or (owed g) p) r.op (apt_beside v u a r.op h.0), sim rs (paid owed (carried r.op)) (applied v client r) (applied u client (hand owed r)) w (after_kept owed v u a r) h.1 c)
+      (finds_with_pre q (map.get u q) (λ g p. sid_or (owed g) p) r.op (apt_beside v u a r.op h.0), sim rs (paid owed (carried r.op)) (applied v client r) (applied u client (hand owed r)) w (after_kept owed v u a r) h.1 c)
     where
       go : (b : Bool) → drops o.op r.op ≡ b →
           (drops o.op r.op ≡ true → LedIn q client u (kept (drops o.op) (owe owed (carried r.op)) rs ++ hand (debt (drops o.op) (owe owed (carried r.op)) rs) o ∷ []) (applied w client o)) →

@@ -1,4 +1,4 @@
--- A creation that a removal undoes is left out: what is left leads one object where the removal leads it.
+-- A creation that a removal undoes is left out: what is left makes of one object what the removal does.
 use Rattle.std.proofs.Common.{◌≡◌, ◌≢◌, ℕ, Bool, true, false, cond, ◌||◌, not, List, [], ◌∷◌, Option, Some, None}
 use Rattle.std.proofs.Common.{option_map, refl, sym, ap, ◌∙◌, subst, ⊎_elim, inl, inr, ◌⊎◌}
 use Rattle.std.proofs.lemmas.Bool.{cond_both, and_parts, or_parts, false≢true}
@@ -141,7 +141,7 @@ module _ (x q : Fid) (ne : q ≢ x) where
   made_binds dir name t s (Rmdir d n g pre) o k at m h = absurd (false≢true k)
   made_binds dir name t s (Rename d n e y g over) o k at m h = absurd (false≢true k)
 
-  -- ---- records that don't mention x are apt where it is erased
+  -- ---- records that don't mention x find their names where it is erased
 
   dir_erased : (o : Option Node) → IsDirNode o → IsDirNode (erase x o)
   dir_erased None h = h

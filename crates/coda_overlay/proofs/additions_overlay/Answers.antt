@@ -1,4 +1,4 @@
-use Rattle.coda_overlay.proofs.Leading.{additions_overlay as law}
+use Rattle.coda_overlay.proofs.Logs.{additions_overlay as law}
 use Rattle.coda_overlay.proofs.additions_overlay.Goals as goal
 
 pub returns : goal.returns

@@ -1,4 +1,4 @@
-use Rattle.coda_overlay.proofs.Leading.{unmentioned_stay as law}
+use Rattle.coda_overlay.proofs.Logs.{unmentioned_stay as law}
 use Rattle.coda_overlay.proofs.unmentioned_copies_stay.Goals as goal
 
 pub returns : goal.returns

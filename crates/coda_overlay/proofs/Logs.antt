@@ -31,7 +31,7 @@ use Rattle.coda_overlay.specs.Overlaying.{FindsItsNames, Overlays, Predates, IsO
 use Rattle.coda_overlay.specs.Overlaying.{PredatesOperation, IsTailNew}
 use Rattle.coda_overlay.specs.Laws.{AdditionsBehindChunksOverlay, UnmentionedCopiesStay, AdditionsOverlay}
 use Rattle.coda_overlay.specs.Laws.{ThawsOverlay, FoldsOverlay, UnmentionedCopiesAreAsGiven, UnrelatedFrontsGo}
-use Rattle.coda_overlay.proofs.Copies.{edit_is, leads_joined, leads_split}
+use Rattle.coda_overlay.proofs.Copies.{edit_is, overlays_joined, overlays_split}
 use Rattle.coda_overlay.proofs.Overwriting.{appended_leads}
 use Rattle.coda_overlay.proofs.Undoings.{undone_leads}
 
@@ -64,30 +64,30 @@ undone_removal f client given now recs dir name x h u here place =
 removed : (f : Fid) (client : ℕ) (given now : Option Node) (recs : List Record) (t : ℕ) (s : Sid) (op : Op)
     → IsOverlaid f client given recs now → cancels op recs ≡ true → FindsItsNames f now op → RemovesInPlace recs op
     → Overlays f client given (without (object (carried op)) recs) (all_edited_at f (effects t s op) now)
-removed f client given now recs t s (Remove d n x pre) h u apt place = undone_removal f client given now recs d n x h u apt place
-removed f client given now recs t s (Rmdir d n x pre) h u apt place = undone_removal f client given now recs d n x h u apt place
-removed f client given now recs t s _ h u apt place = absurd (false≢true u)
+removed f client given now recs t s (Remove d n x pre) h u finds place = undone_removal f client given now recs d n x h u finds place
+removed f client given now recs t s (Rmdir d n x pre) h u finds place = undone_removal f client given now recs d n x h u finds place
+removed f client given now recs t s _ h u finds place = absurd (false≢true u)
 
 led_by : (f : Fid) (client : ℕ) (given now : Option Node) (recs : List Record) (rec : Record)
     → IsOverlaid f client given recs now → FindsItsNames f now rec.op → RemovesInPlace recs rec.op
     → Overlays f client given (add recs rec) (operated_at f client rec now)
-led_by f client given now recs rec h apt place = cond_both (cancels rec.op recs) _ _ (λ l. Overlays f client given l (operated_at f client rec now))
-    (λ k. removed f client given now recs rec.time (sid_of client rec) rec.op h k apt place)
+led_by f client given now recs rec h finds place = cond_both (cancels rec.op recs) _ _ (λ l. Overlays f client given l (operated_at f client rec now))
+    (λ k. removed f client given now recs rec.time (sid_of client rec) rec.op h k finds place)
     (λ k. go k (carried rec.op) refl)
   where
     plain_one : carried rec.op ≡ None → cancels rec.op recs ≡ false
         → Overlays f client given (appended recs rec) (operated_at f client rec now)
     plain_one e k =
         let same : recs ++ rec ∷ [] ≡ appended recs rec = plain_added recs rec e ∙ ap (λ b. cond b (without (object (carried rec.op)) recs) (appended recs rec)) k in
-        subst (λ l. Overlays f client given l (operated_at f client rec now)) same (leads_joined f client given now (operated_at f client rec now) recs (rec ∷ []) h.overlays (apt, refl))
+        subst (λ l. Overlays f client given l (operated_at f client rec now)) same (overlays_joined f client given now (operated_at f client rec now) recs (rec ∷ []) h.overlays (finds, refl))
 
     go : cancels rec.op recs ≡ false → (o : Option Over) → carried rec.op ≡ o
         → Overlays f client given (appended recs rec) (operated_at f client rec now)
     go k None e = plain_one e k
-    go k (Some v) e = appended_leads f client v.fid rec (ap (over_is v.fid) e ∙ fid_same v.fid v.fid refl) recs given now h.overlays apt
+    go k (Some v) e = appended_leads f client v.fid rec (ap (over_is v.fid) e ∙ fid_same v.fid v.fid refl) recs given now h.overlays finds
 
 pub additions_overlay : AdditionsOverlay
-additions_overlay f client given now log rec h apt place new = record { predates = foreign_added f given log rec h.predates new; overlays = led_by f client given now log rec h apt place }
+additions_overlay f client given now log rec h finds place new = record { predates = foreign_added f given log rec h.predates new; overlays = led_by f client given now log rec h finds place }
 
 -- ---- a run more
 
@@ -123,12 +123,12 @@ rest_foreign f given rec more h = record { not_created = (or_parts _ _ h.not_cre
 pub thaws_overlay : ThawsOverlay
 thaws_overlay f client given now chunk [] h p = subst (λ l. IsOverlaid f client given l now) (append-nil chunk) h
 thaws_overlay f client given now chunk (rec ∷ tail) h p =
-    let s = leads_split f client given now chunk (rec ∷ tail) h.overlays in
+    let s = overlays_split f client given now chunk (rec ∷ tail) h.overlays in
     let back = foreign_back f given chunk (rec ∷ tail) h.predates in
     let one : IsOverlaid f client given (add chunk rec) (operated_at f client rec s.0) =
     additions_overlay f client given s.0 chunk rec (record { predates = foreign_front f given chunk (rec ∷ tail) h.predates; overlays = s.1 }) s.2.0 p.0 (first_new f given rec tail back) in
     thaws_overlay f client given now (add chunk rec) tail
-    (record { predates = foreign_both f given (add chunk rec) tail one.predates (rest_foreign f given rec tail back); overlays = leads_joined f client given (operated_at f client rec s.0) now (add chunk rec) tail one.overlays s.2.1 }) p.1
+    (record { predates = foreign_both f given (add chunk rec) tail one.predates (rest_foreign f given rec tail back); overlays = overlays_joined f client given (operated_at f client rec s.0) now (add chunk rec) tail one.overlays s.2.1 }) p.1
 
 pub folds_overlay : FoldsOverlay
 folds_overlay f client given now run h p = thaws_overlay f client given now [] run h p
@@ -153,7 +153,7 @@ clean_as_given f client given now log h m = sym (none_lead f client log given no
 
 pub fronts_go : UnrelatedFrontsGo
 fronts_go f client given now chunk tail h m =
-    let s = leads_split f client given now chunk tail h in
+    let s = overlays_split f client given now chunk tail h in
     subst (λ y. Overlays f client y tail now) (sym (none_lead f client chunk given s.0 m s.1)) s.2
 
 mentions_rest : (x : Fid) (client : ℕ) (f : Fid) (recs : List Record) (o left : Option Node)
@@ -187,33 +187,33 @@ removed_behind f client given mid now chunk tail dir name x predates new front b
 
 removed_by : (f : Fid) (client : ℕ) (given mid now : Option Node) (chunk tail : List Record) (t : ℕ) (s : Sid) (op : Op) → Predates f given tail → IsTailNew chunk tail → Overlays f client given chunk mid → Overlays f client mid tail now
     → cancels op tail ≡ true → FindsItsNames f now op → RemovesInPlace tail op → Overlays f client mid (without (object (carried op)) tail) (all_edited_at f (effects t s op) now)
-removed_by f client given mid now chunk tail t s (Remove d n x pre) predates new front back u apt place = removed_behind f client given mid now chunk tail d n x predates new front back u apt place
-removed_by f client given mid now chunk tail t s (Rmdir d n x pre) predates new front back u apt place = removed_behind f client given mid now chunk tail d n x predates new front back u apt place
-removed_by f client given mid now chunk tail t s _ predates new front back u apt place = absurd (false≢true u)
+removed_by f client given mid now chunk tail t s (Remove d n x pre) predates new front back u finds place = removed_behind f client given mid now chunk tail d n x predates new front back u finds place
+removed_by f client given mid now chunk tail t s (Rmdir d n x pre) predates new front back u finds place = removed_behind f client given mid now chunk tail d n x predates new front back u finds place
+removed_by f client given mid now chunk tail t s _ predates new front back u finds place = absurd (false≢true u)
 
 led_behind : (f : Fid) (client : ℕ) (given mid now : Option Node) (chunk tail : List Record) (rec : Record)
     → Predates f given tail → IsTailNew chunk tail → Overlays f client given chunk mid
     → Overlays f client mid tail now
     → FindsItsNames f now rec.op → RemovesInPlace tail rec.op → Overlays f client mid (add tail rec) (operated_at f client rec now)
-led_behind f client given mid now chunk tail rec predates new front back apt place = cond_both (cancels rec.op tail) _ _ (λ l. Overlays f client mid l (operated_at f client rec now))
-    (λ k. removed_by f client given mid now chunk tail rec.time (sid_of client rec) rec.op predates new front back k apt place)
+led_behind f client given mid now chunk tail rec predates new front back finds place = cond_both (cancels rec.op tail) _ _ (λ l. Overlays f client mid l (operated_at f client rec now))
+    (λ k. removed_by f client given mid now chunk tail rec.time (sid_of client rec) rec.op predates new front back k finds place)
     (λ k. go k (carried rec.op) refl)
   where
     plain_one : carried rec.op ≡ None → cancels rec.op tail ≡ false
         → Overlays f client mid (appended tail rec) (operated_at f client rec now)
     plain_one e k =
         let same : tail ++ rec ∷ [] ≡ appended tail rec = plain_added tail rec e ∙ ap (λ b. cond b (without (object (carried rec.op)) tail) (appended tail rec)) k in
-        subst (λ l. Overlays f client mid l (operated_at f client rec now)) same (leads_joined f client mid now (operated_at f client rec now) tail (rec ∷ []) back (apt, refl))
+        subst (λ l. Overlays f client mid l (operated_at f client rec now)) same (overlays_joined f client mid now (operated_at f client rec now) tail (rec ∷ []) back (finds, refl))
 
     go : cancels rec.op tail ≡ false → (o : Option Over) → carried rec.op ≡ o
         → Overlays f client mid (appended tail rec) (operated_at f client rec now)
     go k None e = plain_one e k
-    go k (Some v) e = appended_leads f client v.fid rec (ap (over_is v.fid) e ∙ fid_same v.fid v.fid refl) tail mid now back apt
+    go k (Some v) e = appended_leads f client v.fid rec (ap (over_is v.fid) e ∙ fid_same v.fid v.fid refl) tail mid now back finds
 
 pub additions_behind : AdditionsBehindChunksOverlay
-additions_behind f client given now chunk tail rec h predates new apt place fresh =
-    let s = leads_split f client given now chunk tail h in (
-      leads_joined f client given s.0 (operated_at f client rec now) chunk (add tail rec) s.1 (led_behind f client given s.0 now chunk tail rec predates new s.1 s.2 apt place),
+additions_behind f client given now chunk tail rec h predates new finds place fresh =
+    let s = overlays_split f client given now chunk tail h in (
+      overlays_joined f client given s.0 (operated_at f client rec now) chunk (add tail rec) s.1 (led_behind f client given s.0 now chunk tail rec predates new s.1 s.2 finds place),
       foreign_added f given tail rec predates fresh,
     )
 

@@ -1,4 +1,4 @@
--- An entry spares a copy that it doesn't take away.
+-- An entry leaves a copy that it doesn't make not valid.
 use Rattle.std.proofs.Common.{◌≡◌, ℕ, Bool, false, ◌&&◌, ◌==◌, sym, ap, ◌∙◌}
 use Rattle.std.proofs.lemmas.Bool.{eq-eqb}
 use Rattle.coda_fid.specs.declared.fid.Fid.{Fid}
@@ -20,11 +20,11 @@ spared_by : (verdict : Verdict) (log : LogState) (fid : Fid) → settlement_inva
 spared_by Applied log fid h = h
 spared_by (Conflict number why) log fid h = tt
 
-pub spared : (c : ClientState) (entry : ClientEntry) (fid : Fid) → invalidates c entry fid ≡ false
+pub sparing : (c : ClientState) (entry : ClientEntry) (fid : Fid) → invalidates c entry fid ≡ false
     → LeavesCopy c entry fid
-spared c (Op volume rec) fid h = h
-spared c (Freeze volume number home last) fid h = tt
-spared c (Settled volume number verdict) fid h = λ e. spared_by verdict (c.volumes volume).log fid (second fid.volume volume _ h e)
-spared c (Giveup volume) fid h = λ e. second fid.volume volume _ h e
-spared c (Fetched at parent node) fid h = fid_false fid at h
-spared c (Dropped at) fid h = fid_false fid at h
+sparing c (Op volume rec) fid h = h
+sparing c (Freeze volume number home last) fid h = tt
+sparing c (Settled volume number verdict) fid h = λ e. spared_by verdict (c.volumes volume).log fid (second fid.volume volume _ h e)
+sparing c (Giveup volume) fid h = λ e. second fid.volume volume _ h e
+sparing c (Fetched at parent node) fid h = fid_false fid at h
+sparing c (Dropped at) fid h = fid_false fid at h
