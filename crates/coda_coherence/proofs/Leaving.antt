@@ -15,16 +15,16 @@ use Rattle.coda_coherence.specs.Cell.{settlement_invalidates, invalidates}
 second : (w volume : ℕ) (b : Bool) → ((w == volume) && b) ≡ false → w ≡ volume → b ≡ false
 second w volume b h e = ap (λ x. x && b) (sym (eq-eqb w volume e)) ∙ h
 
-spared_by : (verdict : Verdict) (log : LogState) (fid : Fid) → settlement_invalidates verdict log fid ≡ false
+left_by_settlement : (verdict : Verdict) (log : LogState) (fid : Fid) → settlement_invalidates verdict log fid ≡ false
     → SettlementLeavesCopy verdict log fid
-spared_by Applied log fid h = h
-spared_by (Conflict number why) log fid h = tt
+left_by_settlement Applied log fid h = h
+left_by_settlement (Conflict number why) log fid h = tt
 
 pub sparing : (c : ClientState) (entry : ClientEntry) (fid : Fid) → invalidates c entry fid ≡ false
     → LeavesCopy c entry fid
 sparing c (Op volume rec) fid h = h
 sparing c (Freeze volume number home last) fid h = tt
-sparing c (Settled volume number verdict) fid h = λ e. spared_by verdict (c.volumes volume).log fid (second fid.volume volume _ h e)
+sparing c (Settled volume number verdict) fid h = λ e. left_by_settlement verdict (c.volumes volume).log fid (second fid.volume volume _ h e)
 sparing c (Giveup volume) fid h = λ e. second fid.volume volume _ h e
 sparing c (Fetched at parent node) fid h = fid_false fid at h
 sparing c (Dropped at) fid h = fid_false fid at h

@@ -45,9 +45,9 @@ in_neither : (f : Fid) (recs : List Record) (rec : Record) → any_record (creat
     → creates f rec.op ≡ false → any_record (creates f) (add recs rec) ≡ false
 in_neither f recs rec a b = false_from_ne_true _ (λ h. ⊎_elim (λ (c : any_record (creates f) recs ≡ true). false≢true (sym a ∙ c)) (λ (c : creates f rec.op ≡ true). false≢true (sym b ∙ c)) (or_cases _ _ (creates_in_add f recs rec h)))
 
-foreign_added : (f : Fid) (given : Option Node) (recs : List Record) (rec : Record) → Predates f given recs
+predates_added : (f : Fid) (given : Option Node) (recs : List Record) (rec : Record) → Predates f given recs
     → PredatesOperation f given rec.op → Predates f given (add recs rec)
-foreign_added f given recs rec a n = record {
+predates_added f given recs rec a n = record {
   not_created = in_neither f recs rec a.not_created n.0;
   unbound = λ name fid is. in_neither fid recs rec (a.unbound name fid is) (n.1 name fid is);
 }
@@ -87,27 +87,27 @@ led_by f client given now recs rec h finds place = cond_both (cancels rec.op rec
     go k (Some v) e = appended_leads f client v.fid rec (ap (over_is v.fid) e ∙ fid_same v.fid v.fid refl) recs given now h.overlays finds
 
 pub additions_overlay : AdditionsOverlay
-additions_overlay f client given now log rec h finds place new = record { predates = foreign_added f given log rec h.predates new; overlays = led_by f client given now log rec h finds place }
+additions_overlay f client given now log rec h finds place new = record { predates = predates_added f given log rec h.predates new; overlays = led_by f client given now log rec h finds place }
 
 -- ---- a run more
 
-foreign_front : (f : Fid) (given : Option Node) (recs more : List Record) → Predates f given (recs ++ more)
+predates_front : (f : Fid) (given : Option Node) (recs more : List Record) → Predates f given (recs ++ more)
     → Predates f given recs
-foreign_front f given recs more h = record {
+predates_front f given recs more h = record {
   not_created = (or_parts _ _ (sym (any-append (creates f) recs more) ∙ h.not_created)).0;
   unbound = λ name fid is. (or_parts _ _ (sym (any-append (creates fid) recs more) ∙ h.unbound name fid is)).0;
 }
 
-foreign_back : (f : Fid) (given : Option Node) (recs more : List Record) → Predates f given (recs ++ more)
+predates_back : (f : Fid) (given : Option Node) (recs more : List Record) → Predates f given (recs ++ more)
     → Predates f given more
-foreign_back f given recs more h = record {
+predates_back f given recs more h = record {
   not_created = (or_parts _ _ (sym (any-append (creates f) recs more) ∙ h.not_created)).1;
   unbound = λ name fid is. (or_parts _ _ (sym (any-append (creates fid) recs more) ∙ h.unbound name fid is)).1;
 }
 
-foreign_both : (f : Fid) (given : Option Node) (recs more : List Record) → Predates f given recs
+predates_both : (f : Fid) (given : Option Node) (recs more : List Record) → Predates f given recs
     → Predates f given more → Predates f given (recs ++ more)
-foreign_both f given recs more a b = record {
+predates_both f given recs more a b = record {
   not_created = any-append (creates f) recs more ∙ (λ i. a.not_created i || b.not_created i);
   unbound = λ name fid is. any-append (creates fid) recs more ∙ (λ i. a.unbound name fid is i || b.unbound name fid is i);
 }
@@ -116,19 +116,19 @@ first_new : (f : Fid) (given : Option Node) (rec : Record) (more : List Record) 
     → PredatesOperation f given rec.op
 first_new f given rec more h = ((or_parts _ _ h.not_created).0, λ name fid is. (or_parts _ _ (h.unbound name fid is)).0)
 
-rest_foreign : (f : Fid) (given : Option Node) (rec : Record) (more : List Record) → Predates f given (rec ∷ more)
+rest_predates : (f : Fid) (given : Option Node) (rec : Record) (more : List Record) → Predates f given (rec ∷ more)
     → Predates f given more
-rest_foreign f given rec more h = record { not_created = (or_parts _ _ h.not_created).1; unbound = λ name fid is. (or_parts _ _ (h.unbound name fid is)).1 }
+rest_predates f given rec more h = record { not_created = (or_parts _ _ h.not_created).1; unbound = λ name fid is. (or_parts _ _ (h.unbound name fid is)).1 }
 
 pub thaws_overlay : ThawsOverlay
 thaws_overlay f client given now chunk [] h p = subst (λ l. IsOverlaid f client given l now) (append-nil chunk) h
 thaws_overlay f client given now chunk (rec ∷ tail) h p =
     let s = overlays_split f client given now chunk (rec ∷ tail) h.overlays in
-    let back = foreign_back f given chunk (rec ∷ tail) h.predates in
+    let back = predates_back f given chunk (rec ∷ tail) h.predates in
     let one : IsOverlaid f client given (add chunk rec) (operated_at f client rec s.0) =
-    additions_overlay f client given s.0 chunk rec (record { predates = foreign_front f given chunk (rec ∷ tail) h.predates; overlays = s.1 }) s.2.0 p.0 (first_new f given rec tail back) in
+    additions_overlay f client given s.0 chunk rec (record { predates = predates_front f given chunk (rec ∷ tail) h.predates; overlays = s.1 }) s.2.0 p.0 (first_new f given rec tail back) in
     thaws_overlay f client given now (add chunk rec) tail
-    (record { predates = foreign_both f given (add chunk rec) tail one.predates (rest_foreign f given rec tail back); overlays = overlays_joined f client given (operated_at f client rec s.0) now (add chunk rec) tail one.overlays s.2.1 }) p.1
+    (record { predates = predates_both f given (add chunk rec) tail one.predates (rest_predates f given rec tail back); overlays = overlays_joined f client given (operated_at f client rec s.0) now (add chunk rec) tail one.overlays s.2.1 }) p.1
 
 pub folds_overlay : FoldsOverlay
 folds_overlay f client given now run h p = thaws_overlay f client given now [] run h p
@@ -214,27 +214,27 @@ pub additions_behind : AdditionsBehindChunksOverlay
 additions_behind f client given now chunk tail rec h predates new finds place fresh =
     let s = overlays_split f client given now chunk tail h in (
       overlays_joined f client given s.0 (operated_at f client rec now) chunk (add tail rec) s.1 (led_behind f client given s.0 now chunk tail rec predates new s.1 s.2 finds place),
-      foreign_added f given tail rec predates fresh,
+      predates_added f given tail rec predates fresh,
     )
 
 -- ---- an object that no record mentions
 
-apt_unmentioned : (f : Fid) (o : Option Node) (op : Op) → mentioning f op ≡ false → FindsItsNames f o op
-apt_unmentioned f o (Create d n g mode owner) m = let off = (or_parts _ _ m).0 in record { dir_there = λ e. absurd (fid_false d f off (sym e)); free = λ e. absurd (fid_false d f off (sym e)) }
-apt_unmentioned f o (Mkdir d n g mode owner) m = let off = (or_parts _ _ m).0 in record { dir_there = λ e. absurd (fid_false d f off (sym e)); free = λ e. absurd (fid_false d f off (sym e)) }
-apt_unmentioned f o (Symlink d n g target mode owner) m = let off = (or_parts _ _ m).0 in record { dir_there = λ e. absurd (fid_false d f off (sym e)); free = λ e. absurd (fid_false d f off (sym e)) }
-apt_unmentioned f o (Store g pre content) m = tt
-apt_unmentioned f o (Setattr g pre attrs) m = tt
-apt_unmentioned f o (Remove d n g pre) m = λ e. absurd (fid_false d f (or_parts _ _ m).0 (sym e))
-apt_unmentioned f o (Rmdir d n g pre) m = λ e. absurd (fid_false d f (or_parts _ _ m).0 (sym e))
-apt_unmentioned f o (Rename d n e y g over) m = let k = or_parts _ _ m in (λ s. absurd (fid_false d f k.0 (sym s)), λ s. absurd (fid_false e f (or_parts _ _ k.1).0 (sym s)))
+finds_unmentioned : (f : Fid) (o : Option Node) (op : Op) → mentioning f op ≡ false → FindsItsNames f o op
+finds_unmentioned f o (Create d n g mode owner) m = let off = (or_parts _ _ m).0 in record { dir_there = λ e. absurd (fid_false d f off (sym e)); free = λ e. absurd (fid_false d f off (sym e)) }
+finds_unmentioned f o (Mkdir d n g mode owner) m = let off = (or_parts _ _ m).0 in record { dir_there = λ e. absurd (fid_false d f off (sym e)); free = λ e. absurd (fid_false d f off (sym e)) }
+finds_unmentioned f o (Symlink d n g target mode owner) m = let off = (or_parts _ _ m).0 in record { dir_there = λ e. absurd (fid_false d f off (sym e)); free = λ e. absurd (fid_false d f off (sym e)) }
+finds_unmentioned f o (Store g pre content) m = tt
+finds_unmentioned f o (Setattr g pre attrs) m = tt
+finds_unmentioned f o (Remove d n g pre) m = λ e. absurd (fid_false d f (or_parts _ _ m).0 (sym e))
+finds_unmentioned f o (Rmdir d n g pre) m = λ e. absurd (fid_false d f (or_parts _ _ m).0 (sym e))
+finds_unmentioned f o (Rename d n e y g over) m = let k = or_parts _ _ m in (λ s. absurd (fid_false d f k.0 (sym s)), λ s. absurd (fid_false e f (or_parts _ _ k.1).0 (sym s)))
 
 unmentioned_leads : (f : Fid) (client : ℕ) (recs : List Record) (o : Option Node)
     → any_record (mentioning f) recs ≡ false → Overlays f client o recs o
 unmentioned_leads f client [] o m = refl
 unmentioned_leads f client (rec ∷ recs) o m =
     let k = or_parts _ _ m in
-    (apt_unmentioned f o rec.op k.0, subst (λ y. Overlays f client y recs o) (sym (unmentioned f client rec o k.0)) (unmentioned_leads f client recs o k.1))
+    (finds_unmentioned f o rec.op k.0, subst (λ y. Overlays f client y recs o) (sym (unmentioned f client rec o k.0)) (unmentioned_leads f client recs o k.1))
 
 pub unmentioned_stay : UnmentionedCopiesStay
 unmentioned_stay f client given log m = unmentioned_leads f client log given m

@@ -46,8 +46,8 @@ plain_of_dir (Some node) h = go node.kind h
     go (Link target) h = h
     go (Dir entries) h = h
 
-apt_plain : (f : Fid) (a b : Option Node) → plain a ≡ plain b → (op : Op) → FindsItsNames f a op → FindsItsNames f b op
-apt_plain f a b e op h = finds_same f a b (λ n. sym (child-written everything no_version a n) ∙ ap (λ o. child_of o n) e ∙ child-written everything no_version b n)
+finds_plain : (f : Fid) (a b : Option Node) → plain a ≡ plain b → (op : Op) → FindsItsNames f a op → FindsItsNames f b op
+finds_plain f a b e op h = finds_same f a b (λ n. sym (child-written everything no_version a n) ∙ ap (λ o. child_of o n) e ∙ child-written everything no_version b n)
     (λ d. dir_of_plain b (subst IsDirNode e (plain_of_dir a d))) op h
 
 -- ---- one object of many
@@ -83,15 +83,15 @@ module _ (q : Fid) (client : ℕ) (f : Fid) (o : Record) (k : carries f o.op ≡
   abbrev Beside : Nodes → Nodes → Type 0
   Beside v u = veiled f (reach o.time o.op) no_version v ≡ veiled f (reach o.time o.op) no_version u
 
-  apt_beside : (v u : Nodes) → Beside v u → (op : Op) → FindsItsNames q (map.get v q) op
+  finds_beside : (v u : Nodes) → Beside v u → (op : Op) → FindsItsNames q (map.get v q) op
       → FindsItsNames q (map.get u q) op
-  apt_beside v u a op h = apt_plain q (map.get v q) (map.get u q) (look_alike f (reach o.time o.op) no_version v u a q) op h
+  finds_beside v u a op h = finds_plain q (map.get v q) (map.get u q) (look_alike f (reach o.time o.op) no_version v u a q) op h
 
   last : (owed : Debt) (v u : Nodes) → Beside v u → FindsItsNames q (map.get v q) o.op
       → LedIn q client u (hand owed o ∷ []) (applied v client o)
   unfolding applied
   last owed v u a c = (
-    finds_with_pre q (map.get u q) (λ g p. sid_or (owed g) p) o.op (apt_beside v u a o.op c),
+    finds_with_pre q (map.get u q) (λ g p. sid_or (owed g) p) o.op (finds_beside v u a o.op c),
     ap (λ es. edited_all u es) (effects-with_pre (λ g p. sid_or (owed g) p) o.time (sid_of client o) o.op) ∙ (sym (unseen f o.time no_version (sid_of client o) o.op k u) ∙ (ap (λ y. edited_all y (effects o.time (sid_of client o) o.op)) (sym a) ∙ unseen f o.time no_version (sid_of client o) o.op k v)),
   )
 
@@ -115,7 +115,7 @@ module _ (q : Fid) (client : ℕ) (f : Fid) (o : Record) (k : carries f o.op ≡
   sim [] owed v u w a h c = subst (λ x. LedIn q client u (hand owed o ∷ []) (applied x client o)) h (last owed v u a (subst (λ x. FindsItsNames q (map.get x q) o.op) (sym h) c))
   sim (r ∷ rs) owed v u w a h c = go (drops o.op r.op) refl
       (λ d. sim rs (owe owed (carried r.op)) (applied v client r) u w (after_drop v u a r d) h.1 c)
-      (finds_with_pre q (map.get u q) (λ g p. sid_or (owed g) p) r.op (apt_beside v u a r.op h.0), sim rs (paid owed (carried r.op)) (applied v client r) (applied u client (hand owed r)) w (after_kept owed v u a r) h.1 c)
+      (finds_with_pre q (map.get u q) (λ g p. sid_or (owed g) p) r.op (finds_beside v u a r.op h.0), sim rs (paid owed (carried r.op)) (applied v client r) (applied u client (hand owed r)) w (after_kept owed v u a r) h.1 c)
     where
       go : (b : Bool) → drops o.op r.op ≡ b →
           (drops o.op r.op ≡ true → LedIn q client u (kept (drops o.op) (owe owed (carried r.op)) rs ++ hand (debt (drops o.op) (owe owed (carried r.op)) rs) o ∷ []) (applied w client o)) →

@@ -167,19 +167,19 @@ module _ (x q : Fid) (ne : q ≢ x) where
   over_erased o n None other h = none_erased o n h
   over_erased o n (Some v) other h = some_erased o n v.fid (other v refl) h
 
-  apt_erased : (op : Op) (o : Option Node) → mentioning x op ≡ false → FindsItsNames q o op
+  finds_erased : (op : Op) (o : Option Node) → mentioning x op ≡ false → FindsItsNames q o op
       → FindsItsNames q (erase x o) op
-  apt_erased (Create d n g mode owner) o m h = free_erased o d n h
-  apt_erased (Mkdir d n g mode owner) o m h = free_erased o d n h
-  apt_erased (Symlink d n g target mode owner) o m h = free_erased o d n h
-  apt_erased (Store g pre content) o m h = tt
-  apt_erased (Setattr g pre a) o m h = tt
-  apt_erased (Remove d n g pre) o m h = let k = or_parts _ _ m in λ e. some_erased o n g (not_one g x k.1) (h e)
-  apt_erased (Rmdir d n g pre) o m h = let k = or_parts _ _ m in λ e. some_erased o n g (not_one g x k.1) (h e)
-  apt_erased (Rename d n e y g None) o m h =
+  finds_erased (Create d n g mode owner) o m h = free_erased o d n h
+  finds_erased (Mkdir d n g mode owner) o m h = free_erased o d n h
+  finds_erased (Symlink d n g target mode owner) o m h = free_erased o d n h
+  finds_erased (Store g pre content) o m h = tt
+  finds_erased (Setattr g pre a) o m h = tt
+  finds_erased (Remove d n g pre) o m h = let k = or_parts _ _ m in λ e. some_erased o n g (not_one g x k.1) (h e)
+  finds_erased (Rmdir d n g pre) o m h = let k = or_parts _ _ m in λ e. some_erased o n g (not_one g x k.1) (h e)
+  finds_erased (Rename d n e y g None) o m h =
       let k = or_parts _ _ m in let l = or_parts _ _ k.1 in
       (λ s. some_erased o n g (not_one g x l.1) (h.0 s), λ s. none_erased o y (h.1 s))
-  apt_erased (Rename d n e y g (Some v)) o m h =
+  finds_erased (Rename d n e y g (Some v)) o m h =
       let k = or_parts _ _ m in let l = or_parts _ _ k.1 in let i = or_parts _ _ l.1 in
       (λ s. some_erased o n g (fid_false g x i.0) (h.0 s), λ s. some_erased o y v.fid (not_one v.fid x i.1) (h.1 s))
 
@@ -193,7 +193,7 @@ module _ (x q : Fid) (ne : q ≢ x) where
   erased_leads client [] o left b h = ap (erase x) h
   erased_leads client (r ∷ rs) o left b h = cond_both (mentioning x r.op) _ _ (λ l. Overlays q client (erase x o) l (erase x left))
       (λ m. subst (λ y. Overlays q client y (without x rs) (erase x left)) (made_erased r.time (sid_of client r) r.op o (made_of r m (and_parts _ _ b).0) h.0) (erased_leads client rs (operated_at q client r o) left (and_parts _ _ b).1 h.1))
-      (λ m. (apt_erased r.op o m h.0, subst (λ y. Overlays q client y (without x rs) (erase x left)) (sym (edits_aside (effects r.time (sid_of client r) r.op) (all_aside x r.time (sid_of client r) r.op m) o)) (erased_leads client rs (operated_at q client r o) left (and_parts _ _ b).1 h.1)))
+      (λ m. (finds_erased r.op o m h.0, subst (λ y. Overlays q client y (without x rs) (erase x left)) (sym (edits_aside (effects r.time (sid_of client r) r.op) (all_aside x r.time (sid_of client r) r.op m) o)) (erased_leads client rs (operated_at q client r o) left (and_parts _ _ b).1 h.1)))
 
   -- x is bound at most where the records create it
   bound_there : (client : ℕ) (dir : Fid) (name : Name) (rs : List Record) (o left : Option Node)
