@@ -1,5 +1,6 @@
 -- A chunk that a replica decides keeps the replicas of its volume one group.
-use Rattle.std.proofs.Common.{◌≡◌, ◌≢◌, ℕ, ◌==◌, Bool, true, false, cond, ◌||◌, List, [], ◌∷◌, ◌++◌, Ok, Err, refl, sym, ap, ◌∙◌, subst, inl, inr, ◌⊎◌}
+use Rattle.std.proofs.Common.{◌≡◌, ◌≢◌, ℕ, ◌==◌, Bool, true, false, cond, ◌||◌, List, [], ◌∷◌, ◌++◌, Ok, Err, refl}
+use Rattle.std.proofs.Common.{sym, ap, ◌∙◌, subst, inl, inr, ◌⊎◌}
 use Rattle.std.proofs.lemmas.Bool.{eq-eqb, ne_eqb, cases_eq, false≢true}
 use Rattle.coda_fid.specs.Fid.{root_of}
 use Rattle.coda_fid.specs.declared.fid.Fid.{Fid}
@@ -15,13 +16,14 @@ use Rattle.coda_lineage.specs.Deeds.{makes, IsDecision}
 use Rattle.coda_lineage.specs.Lineage.{Group, IsDecided}
 use Rattle.coda_plain.specs.Histories.{In, left_by}
 use Rattle.coda_plain.specs.Objects.{Objects, nodes_in}
-use Rattle.coda_plain.specs.Decisions.{Decided, sent_of, decision, nodes_of, Decision, decision_at, decisions_of, AreDecisions}
+use Rattle.coda_plain.specs.Decisions.{Decided, sent_of, decision, nodes_of, Decision, decision_at, decisions_of}
+use Rattle.coda_plain.specs.Decisions.{AreDecisions}
 use Rattle.coda_plain.specs.Cell.{Histories}
 use Rattle.coda_plain.specs.Promises.{Decides}
 use Rattle.coda_plain.proofs.Lists.{told_more, told_new, some_record}
 use Rattle.coda_plain.proofs.Volumes.{volumes, sent_decides}
-use Rattle.coda_group.specs.Holdings.{held_by, objects_left, objects_of}
-use Rattle.coda_group.specs.Groups.{holdings, IsCreated, IsReplica, IsOneGroup}
+use Rattle.coda_group.specs.Holdings.{held_by, objects_left, replica_objects}
+use Rattle.coda_group.specs.Groups.{holdings, IsCreatedByChunk, IsReplica, IsOneGroup}
 use Rattle.coda_group.proofs.Mapping.{nodes_held_by, is_decision, holding, objects_push}
 use Rattle.coda_group.proofs.Making.{made_at, AreNew}
 use Rattle.coda_group.proofs.Folding.{created_sent}
@@ -46,7 +48,8 @@ second_true : (a b : Bool) → b ≡ true → (a || b) ≡ true
 second_true true b e = refl
 second_true false b e = e
 
-made_before : (made : Fid → Bool) (recs : List Record) (f : Fid) → made_more made recs f ≡ true → (made f ≡ true) ⊎ (any_record (creates f) recs ≡ true)
+made_before : (made : Fid → Bool) (recs : List Record) (f : Fid) → made_more made recs f ≡ true
+    → (made f ≡ true) ⊎ (any_record (creates f) recs ≡ true)
 made_before made [] f e = inl e
 made_before made (rec ∷ recs) f e = elim (made_before (λ f. made f || is_at_fid (makes rec.op) f) recs f e) [
   | inl here ↦ elim (or_true (made f) (is_at_fid (makes rec.op) f) here) [
@@ -63,11 +66,14 @@ put_at holds server objects s = cond (s == server) objects (holds s)
 pub put_here : (holds : ℕ → Objects) (server : ℕ) (objects : Objects) → put_at holds server objects server ≡ objects
 put_here holds server objects = ap (λ b. cond b objects (holds server)) (eq-eqb server server refl)
 
-pub put_else : (holds : ℕ → Objects) (server : ℕ) (objects : Objects) (s : ℕ) → s ≢ server → put_at holds server objects s ≡ holds s
+pub put_else : (holds : ℕ → Objects) (server : ℕ) (objects : Objects) (s : ℕ) → s ≢ server
+    → put_at holds server objects s ≡ holds s
 put_else holds server objects s ne = ap (λ b. cond b objects (holds s)) (ne_eqb s server ne)
 
 module _ (root : Fid) (servers : List ℕ) (server client : ℕ) (at : IsIn server servers) where
-  pub stands_by : (recs : List Record) (holds : ℕ → Objects) (made : Fid → Bool) (m : Nodes) → IsStanding root servers (record { holds = holds; made = made }) → Applies client (nodes_in (holds server)) recs m → AreNew made recs
+  pub stands_by : (recs : List Record) (holds : ℕ → Objects) (made : Fid → Bool) (m : Nodes)
+      → IsStanding root servers (record { holds = holds; made = made })
+      → Applies client (nodes_in (holds server)) recs m → AreNew made recs
       → (final : ℕ → Objects) → ((s : ℕ) → s ≢ server → final s ≡ holds s) → final server ≡ left_by (held_by server client) (holds server) recs → IsStanding root servers (record { holds = final; made = made_more made recs })
   stands_by [] holds made m reach a new final others here =
       let same : (s : ℕ) → holds s ≡ final s = λ s. elim (cases_eq s server) [
@@ -94,11 +100,15 @@ module _ (root : Fid) (servers : List ℕ) (server client : ℕ) (at : IsIn serv
 
 -- ---- histories
 
-pub created_stays : (h h' : Histories) (volume : ℕ) (f : Fid) → ((s : ℕ) (d : Decision) → Decides h s volume d → Decides h' s volume d) → IsCreated h volume f → IsCreated h' volume f
+pub created_stays : (h h' : Histories) (volume : ℕ) (f : Fid)
+    → ((s : ℕ) (d : Decision) → Decides h s volume d → Decides h' s volume d) → IsCreatedByChunk h volume f
+    → IsCreatedByChunk h' volume f
 created_stays h h' volume f more it = record { server = it.server; by = it.by; there = more it.server it.by it.there; applied = it.applied; rec = it.rec; in_span = it.in_span; creates_it = it.creates_it }
 
 -- replicas that hold the same are the same group
-pub group_same : (servers : List ℕ) (h h' : Histories) (volume : ℕ) → ((s : ℕ) → holdings h volume s ≡ holdings h' volume s) → ((s : ℕ) (d : Decision) → Decides h s volume d → Decides h' s volume d)
+pub group_same : (servers : List ℕ) (h h' : Histories) (volume : ℕ)
+    → ((s : ℕ) → holdings h volume s ≡ holdings h' volume s)
+    → ((s : ℕ) (d : Decision) → Decides h s volume d → Decides h' s volume d)
     → IsOneGroup h servers volume → IsOneGroup h' servers volume
 group_same servers h h' volume same more g = record {
   kind = g.kind;
@@ -115,7 +125,7 @@ group_same servers h h' volume same more g = record {
 
 module _ (servers : List ℕ) (h h' : Histories) (volume server client number : ℕ) (span : List Record) (g : IsOneGroup h servers volume) (at : IsIn server servers) (law : AreDecisions volume (h.replicas server volume))
     (grown : h'.replicas server volume ≡ h.replicas server volume ++ Decided client number span ∷ []) (others : (s : ℕ) → s ≢ server → h'.replicas s volume ≡ h.replicas s volume)
-    (new : (made : Fid → Bool) → ((f : Fid) → made f ≡ true → (f ≡ root_of volume) ⊎ IsCreated h volume f) → AreNew made (sent_of span)) where
+    (new : (made : Fid → Bool) → ((f : Fid) → made f ≡ true → (f ≡ root_of volume) ⊎ IsCreatedByChunk h volume f) → AreNew made (sent_of span)) where
   abbrev objs : Objects
   objs = holdings h volume server
 
@@ -132,11 +142,12 @@ module _ (servers : List ℕ) (h h' : Histories) (volume server client number : 
     | inr ne ↦ subst (λ es. In d (decisions_of volume es)) (sym (others s ne)) i
   ]
 
-  holds_then : (r : Replayed) → decision (nodes_in objs) client span ≡ r → holdings h' volume server ≡ objects_left server client (sent_of span) objs r
-  holds_then r e = ap (objects_of server volume) grown ∙ objects_push server volume (h.replicas server volume) (Decided client number span) ∙ ap (objects_left server client (sent_of span) objs) e
+  holds_then : (r : Replayed) → decision (nodes_in objs) client span ≡ r
+      → holdings h' volume server ≡ objects_left server client (sent_of span) objs r
+  holds_then r e = ap (replica_objects server volume) grown ∙ objects_push server volume (h.replicas server volume) (Decided client number span) ∙ ap (objects_left server client (sent_of span) objs) e
 
   holds_else : (s : ℕ) → s ≢ server → holdings h' volume s ≡ holdings h volume s
-  holds_else s ne = ap (objects_of s volume) (others s ne)
+  holds_else s ne = ap (replica_objects s volume) (others s ne)
 
   abbrev it : Decision
   it = record { client = client; number = number; span = span; before = nodes_of volume (h.replicas server volume) }

@@ -1,5 +1,6 @@
 -- A chunk is decided at one server, and its verdict is taken over at another: such a run there is.
-use Rattle.std.proofs.Common.{◌≡◌, ℕ, ◌+◌, ◌≤◌, true, false, ◌||◌, List, [], ◌∷◌, Option, Some, None, Ok, Err, is_some, refl, sym, ap, ◌∙◌, subst, inl, inr, ◌⊎◌, arith}
+use Rattle.std.proofs.Common.{◌≡◌, ℕ, ◌+◌, ◌≤◌, true, false, ◌||◌, List, [], ◌∷◌, Option, Some, None, Ok, Err}
+use Rattle.std.proofs.Common.{is_some, refl, sym, ap, ◌∙◌, subst, inl, inr, ◌⊎◌, arith}
 use Rattle.std.specs.FinMap as finmap
 use Rattle.std.proofs.lemmas.Bool.{cases_Bool, true≢false, false≢true}
 use Rattle.coda_fid.specs.Fid.{root_of, same_fid, fid_cmp}
@@ -33,8 +34,9 @@ use Rattle.coda_plain.specs.Decisions.{ReplicaEntry, Decided, Last, decision}
 use Rattle.coda_plain.specs.Cell.{Did, PlainCell, empty_cell}
 use Rattle.coda_plain.specs.Moves.{AtClient, AtReplica, Does, done_on, IsNext, AreNamed}
 use Rattle.coda_group.specs.Holdings.{objects_left, new_objects}
-use Rattle.coda_group.specs.Groups.{IsNumbered}
-use Rattle.coda_group.specs.Steps.{Install, Step, Moves, Resolves, MayStep, MayResolve, objects_at, last_at, after_step, Stepped}
+use Rattle.coda_group.specs.Groups.{IsObjectNumbered}
+use Rattle.coda_group.specs.Steps.{Install, GroupStep, Moves, Resolves, MayStep, MayResolve, objects_at, last_at}
+use Rattle.coda_group.specs.Steps.{after_step, GroupStepped}
 use Rattle.coda_group.specs.Laws.{two_servers, SomeChunkIsTakenOver}
 
 -- ---- replicas that hold the root alone
@@ -54,7 +56,8 @@ bare_new volume = record {
   ];
 }
 
-settled_some : (fate : Fate) (lowest : Option Held) (own : Held) → (x : Held) × (settled_copy fate lowest (Some own) ≡ Some x)
+settled_some : (fate : Fate) (lowest : Option Held) (own : Held)
+    → (x : Held) × (settled_copy fate lowest (Some own) ≡ Some x)
 settled_some (Same held) lowest own = (held, refl)
 settled_some (Marked why) lowest own = (_, refl)
 settled_some Gone lowest own = (own, refl)
@@ -104,10 +107,10 @@ creation = record { number = 1; time = 0; op = Create (root_of 7) (97 ∷ []) fi
 abbrev removal : Record
 removal = record { number = 2; time = 0; op = Remove (root_of 7) (97 ∷ []) file (record { client = 1; number = 1 }) }
 
-abbrev move_of : ReplicaEntry → ℕ → Step
+abbrev move_of : ReplicaEntry → ℕ → GroupStep
 move_of entry server = Moves (Does (AtReplica server 7 entry))
 
-abbrev did : Deed → Step
+abbrev did : Deed → GroupStep
 did deed = Moves (Does (AtClient 1 (Did 7 deed)))
 
 abbrev decided : PlainCell
@@ -132,13 +135,13 @@ install_one = record { server = 1; objects = left_there (root_of 7) (objects_at 
 abbrev install_two : Install
 install_two = record { server = 2; objects = left_there (root_of 7) (objects_at decided 7 1) (objects_at decided 7 2) one_bare two_bare (objects_at decided 7 2) two_bare }
 
-abbrev resolution : Step
+abbrev resolution : GroupStep
 resolution = Resolves 7 (1 ∷ 2 ∷ []) lasts (install_one ∷ install_two ∷ []) None
 
 abbrev resolved : PlainCell
 resolved = after_step decided resolution
 
-named_file : (f : Fid) → same_fid file f ≡ true → IsNumbered 7 1 1 f
+named_file : (f : Fid) → same_fid file f ≡ true → IsObjectNumbered 7 1 1 f
 named_file f e =
     let is = fid_true file f e in
     record { here = ap (λ (g : Fid). g.volume) (sym is); own = ap (λ (g : Fid). g.vnode) (sym is); some = (λ z. omega (arith, z)); number_is = ap (λ (g : Fid). g.uniq) (sym is) }
@@ -190,7 +193,8 @@ final v = after_step (frozen v) (move_of (Decided 1 2 (span_by v)) 2)
 root_made : (cell : PlainCell) (f : Fid) → same_fid (root_of 7) f ≡ true → IsMade 7 (done_on cell f.vnode 7) f
 root_made cell f e = let is = sym (fid_true (root_of 7) f e) in (ap (λ (g : Fid). g.volume) is, inl (ap (λ (g : Fid). g.vnode) is))
 
-mentioned : (file f : Fid) (P : Type 0) → (same_fid (root_of 7) f || (same_fid file f || false)) ≡ true → (same_fid (root_of 7) f ≡ true → P) → (same_fid file f ≡ true → P) → P
+mentioned : (file f : Fid) (P : Type 0) → (same_fid (root_of 7) f || (same_fid file f || false)) ≡ true
+    → (same_fid (root_of 7) f ≡ true → P) → (same_fid file f ≡ true → P) → P
 mentioned file f P m root own = elim (cases_Bool (same_fid (root_of 7) f)) [
   | inl is ↦ root is
   | inr other ↦ elim (cases_Bool (same_fid file f)) [
@@ -199,12 +203,15 @@ mentioned file f P m root own = elim (cases_Bool (same_fid (root_of 7) f)) [
   ]
 ]
 
-next_at : (file : Fid) (name : Name) (deeds : List Deed) → file.volume ≡ 7 → file.vnode ≡ 1 → file.uniq ≡ created_in (full_of deeds) + 1 → (f : Fid) → same_fid file f ≡ true → IsNext 7 deeds 1 (Create (root_of 7) name file 420 0) f
+next_at : (file : Fid) (name : Name) (deeds : List Deed) → file.volume ≡ 7 → file.vnode ≡ 1
+    → file.uniq ≡ created_in (full_of deeds) + 1 → (f : Fid) → same_fid file f ≡ true
+    → IsNext 7 deeds 1 (Create (root_of 7) name file 420 0) f
 next_at file name deeds volume own number f e =
     let is = sym (fid_true file f e) in
     record { creates_it = e; here = ap (λ (g : Fid). g.volume) is ∙ volume; own = ap (λ (g : Fid). g.vnode) is ∙ own; next = ap (λ (g : Fid). g.uniq) is ∙ number }
 
-numbered_at : (file f : Fid) (n : ℕ) → file.volume ≡ 7 → file.vnode ≡ 1 → file.uniq ≡ n → same_fid file f ≡ true → IsNumbered 7 1 n f
+numbered_at : (file f : Fid) (n : ℕ) → file.volume ≡ 7 → file.vnode ≡ 1 → file.uniq ≡ n → same_fid file f ≡ true
+    → IsObjectNumbered 7 1 n f
 numbered_at file f n volume own number e =
     let is = sym (fid_true file f e) in
     record { here = ap (λ (g : Fid). g.volume) is ∙ volume; own = ap (λ (g : Fid). g.vnode) is ∙ own; some = (λ z. omega (arith, z)); number_is = ap (λ (g : Fid). g.uniq) is ∙ number }
@@ -250,10 +257,12 @@ fourth_step = ((refl, refl, (inr (record { up = refl; cut = record { home = 1; l
 kept_at_two : last_at resolved 7 2 1 ≡ record { number = 1; verdict = (lasts 1).verdict }
 kept_at_two = refl
 
-settle_step : (v : Verdict) → last_at resolved 7 2 1 ≡ record { number = 1; verdict = v } → MayStep two_servers resolved (did (Settled 1 v))
+settle_step : (v : Verdict) → last_at resolved 7 2 1 ≡ record { number = 1; verdict = v }
+    → MayStep two_servers resolved (did (Settled 1 v))
 settle_step v e = ((refl, (record { cut = record { home = 1; last = 2 }; frozen = refl; last = refl }, (2, inr (record { up = refl; some = omega arith; last = e })))), tt)
 
-third_named : (cell : PlainCell) → other_file.uniq ≡ created_in (full_of (done_on cell 1 7)) + 1 → AreNamed cell 1 7 third.op
+third_named : (cell : PlainCell) → other_file.uniq ≡ created_in (full_of (done_on cell 1 7)) + 1
+    → AreNamed cell 1 7 third.op
 third_named cell number f m = mentioned other_file f (IsNext 7 (done_on cell 1 7) 1 third.op f ⊎ IsMade 7 (done_on cell f.vnode 7) f) m
     (λ e. inr (root_made cell f e)) (λ e. inl (next_at other_file (98 ∷ []) (done_on cell 1 7) refl refl number f e))
 
@@ -272,10 +281,11 @@ decide_step : (v : Verdict) → MayStep two_servers (frozen v) (move_of (Decided
 decide_step Applied = ((refl, refl, (inr (record { up = refl; cut = record { home = 2; last = 3 }; frozen = refl; home = refl; last = refl }), refl)), inr (inl refl))
 decide_step (Conflict number why) = ((refl, refl, (inr (record { up = refl; cut = record { home = 2; last = 3 }; frozen = refl; home = refl; last = refl }), refl)), inr (inl refl))
 
-steps_by : Verdict → List Step
+steps_by : Verdict → List GroupStep
 steps_by v = did (Operated creation) ∷ did (Operated removal) ∷ did (Froze 1 1 2) ∷ move_of (Decided 1 1 (creation ∷ removal ∷ [])) 1 ∷ resolution ∷ did (Settled 1 v) ∷ did (Operated third) ∷ did (Froze 2 2 3) ∷ move_of (Decided 1 2 (span_by v)) 2 ∷ []
 
-runs_by : (v : Verdict) → last_at resolved 7 2 1 ≡ record { number = 1; verdict = v } → Stepped two_servers empty_cell (steps_by v) (final v)
+runs_by : (v : Verdict) → last_at resolved 7 2 1 ≡ record { number = 1; verdict = v }
+    → GroupStepped two_servers empty_cell (steps_by v) (final v)
 unfolding steps_by
 runs_by v e = (first_steps, (second_step, (third_step, (fourth_step, (may_resolve, (settle_step v e, (operate_step v, (freeze_step v, (decide_step v, refl)))))))))
 

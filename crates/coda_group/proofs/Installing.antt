@@ -1,5 +1,6 @@
 -- Installing something at replicas of a volume, at one after the other.
-use Rattle.std.proofs.Common.{◌≡◌, ◌≢◌, ℕ, ◌≤◌, ◌==◌, ◌&&◌, Bool, true, false, cond, List, [], ◌∷◌, ◌++◌, length, length-append, Option, Some, None, refl, sym, ap, ◌∙◌, subst, inl, inr, ◌⊎◌, arith}
+use Rattle.std.proofs.Common.{◌≡◌, ◌≢◌, ℕ, ◌≤◌, ◌==◌, ◌&&◌, Bool, true, false, cond, List, [], ◌∷◌, ◌++◌, length}
+use Rattle.std.proofs.Common.{length-append, Option, Some, None, refl, sym, ap, ◌∙◌, subst, inl, inr, ◌⊎◌, arith}
 use Rattle.std.proofs.lemmas.Bool.{eqb-true}
 use Rattle.coda_fid.specs.Fid.{root_of}
 use Rattle.coda_fid.specs.declared.fid.Fid.{Fid}
@@ -16,8 +17,9 @@ use Rattle.coda_plain.proofs.Places.{IsGrown}
 use Rattle.coda_plain.proofs.AtReplicas.{kept_push}
 use Rattle.coda_plain.proofs.Soundness.{none_joins, found_up, grown_found, fallen_found, moves_keep_sound}
 use Rattle.coda_plain.proofs.Staying.{replicas_run}
-use Rattle.coda_group.specs.Holdings.{objects_of}
-use Rattle.coda_group.specs.Steps.{entries_at, objects_at, last_at, Install, install_of, install_moves, after_moves, MayInstall, MayInstallAll, HasInstall}
+use Rattle.coda_group.specs.Holdings.{replica_objects}
+use Rattle.coda_group.specs.Steps.{history_at, objects_at, last_at, Install, install_of, install_moves, after_moves}
+use Rattle.coda_group.specs.Steps.{MayInstall, MayInstallAll, HasInstall}
 use Rattle.coda_group.proofs.Mapping.{holding, objects_push}
 use Rattle.coda_group.proofs.Volumes.{has_same}
 use Rattle.coda_group.proofs.Growing.{here_now, grown_at}
@@ -31,7 +33,8 @@ module _ (start : PlainCell) (start_sound : IsSound start) (volume : ℕ) (some 
     (left_from : (s client : ℕ) → IsIn s some → (t : ℕ) × (IsIn t some × ((lasts s client ≡ last_at start volume t client) × (lasts s client ≡ lasts t client))))
     (left_held : (s : ℕ) (o : Objects) (f : Fid) → IsIn s some → Left s o → has_in o f ≡ true → (t : ℕ) × (IsIn t some × ((has_in (objects_at start volume t) f ≡ true) × ((p : Objects) → Left t p → has_in p f ≡ true)))) where
   -- of a replica that is up its history is found
-  pub start_found : (joins : Joins) (s : ℕ) → IsIn s some → (found_in start joins).replicas s volume ≡ entries_at start volume s
+  pub start_found : (joins : Joins) (s : ℕ) → IsIn s some
+      → (found_in start joins).replicas s volume ≡ history_at start volume s
   start_found joins s i = found_up (joins.replicas s volume) (start.replicas s volume) (start_sound.replicas_up s volume (ups s i))
 
   -- what was left at a replica
@@ -46,7 +49,8 @@ module _ (start : PlainCell) (start_sound : IsSound start) (volume : ℕ) (some 
     pub clients : cell.clients ≡ start.clients
     pub learned : cell.learned ≡ start.learned
     pub pool : cell.pool ≡ start.pool
-    pub elsewhere : (joins : Joins) (s v : ℕ) → v ≢ volume → (found_in cell joins).replicas s v ≡ (found_in start joins).replicas s v
+    pub elsewhere : (joins : Joins) (s v : ℕ) → v ≢ volume
+        → (found_in cell joins).replicas s v ≡ (found_in start joins).replicas s v
     pub each : (joins : Joins) (s : ℕ) → ((found_in cell joins).replicas s volume ≡ (found_in start joins).replicas s volume) ⊎ IsPut ((found_in start joins).replicas s volume) ((found_in cell joins).replicas s volume) s
 
   pub at_start : IsBehind start
@@ -56,13 +60,17 @@ module _ (start : PlainCell) (start_sound : IsSound start) (volume : ℕ) (some 
     abbrev entry : ReplicaEntry
     entry = Resolved install.objects (lasts install.server)
 
-    cell_found : (joins : Joins) (s : ℕ) → IsIn s some → (found_in cell joins).replicas s volume ≡ entries_at cell volume s
+    cell_found : (joins : Joins) (s : ℕ) → IsIn s some
+        → (found_in cell joins).replicas s volume ≡ history_at cell volume s
     cell_found joins s i = found_up (joins.replicas s volume) (cell.replicas s volume) (sound.replicas_up s volume (up s i))
 
-    untouched : (joins : Joins) → (found_in cell joins).replicas install.server volume ≡ (found_in start joins).replicas install.server volume
+    untouched : (joins : Joins)
+        → (found_in cell joins).replicas install.server volume ≡ (found_in start joins).replicas install.server volume
     untouched joins = cell_found joins install.server may.among ∙ may.untouched ∙ sym (start_found joins install.server may.among)
 
-    pub behind_append : (next : Actor ReplicaEntry) → ((c : Bool) → IsGrown (Unit {0}) entry (found c (cell.replicas install.server volume)) (found c next)) → IsBehind (with_replica cell install.server volume next)
+    pub behind_append : (next : Actor ReplicaEntry)
+        → ((c : Bool) → IsGrown (Unit {0}) entry (found c (cell.replicas install.server volume)) (found c next))
+        → IsBehind (with_replica cell install.server volume next)
     behind_append next more = record {
       clients = b.clients;
       learned = b.learned;
@@ -97,7 +105,7 @@ module _ (start : PlainCell) (start_sound : IsSound start) (volume : ℕ) (some 
 
     -- ---- it may be installed
 
-    cell_each : (s : ℕ) → IsIn s some → (entries_at cell volume s ≡ entries_at start volume s) ⊎ IsPut (entries_at start volume s) (entries_at cell volume s) s
+    cell_each : (s : ℕ) → IsIn s some → (history_at cell volume s ≡ history_at start volume s) ⊎ IsPut (history_at start volume s) (history_at cell volume s) s
     cell_each s i = elim (b.each none_joins s) [
       | inl same ↦ inl (sym (cell_found none_joins s i) ∙ same ∙ start_found none_joins s i)
       | inr put ↦ inr (record {
@@ -109,21 +117,24 @@ module _ (start : PlainCell) (start_sound : IsSound start) (volume : ℕ) (some 
     ]
 
     -- no last decision falls
-    falls_none : (client : ℕ) → (last_of volume (entries_at cell volume install.server) client).number ≤ (lasts install.server client).number
+    falls_none : (client : ℕ) → (last_of volume (history_at cell volume install.server) client).number ≤ (lasts install.server client).number
     falls_none client = subst (λ es. (last_of volume es client).number ≤ (lasts install.server client).number) (sym may.untouched) (left_last install.server client may.among)
 
     -- each is one that a replica keeps
-    kept_last : (t client : ℕ) → IsIn t some → lasts install.server client ≡ last_at start volume t client → lasts install.server client ≡ lasts t client → lasts install.server client ≡ last_of volume (entries_at cell volume t) client
+    kept_last : (t client : ℕ) → IsIn t some → lasts install.server client ≡ last_at start volume t client
+        → lasts install.server client ≡ lasts t client
+        → lasts install.server client ≡ last_of volume (history_at cell volume t) client
     kept_last t client i e same = elim (cell_each t i) [
       | inl stays ↦ e ∙ ap (λ es. last_of volume es client) (sym stays)
-      | inr put ↦ same ∙ ap (λ (k : Kept). k.lasts client) (sym (kept_push volume (entries_at start volume t) (Resolved put.objects (lasts t)))) ∙ ap (λ es. last_of volume es client) (sym put.more)
+      | inr put ↦ same ∙ ap (λ (k : Kept). k.lasts client) (sym (kept_push volume (history_at start volume t) (Resolved put.objects (lasts t)))) ∙ ap (λ es. last_of volume es client) (sym put.more)
     ]
 
     -- what each replica holds are its nodes
-    has_then : (s : ℕ) (f : Fid) → IsIn s some → has_in (objects_at cell volume s) f ≡ true → has (nodes_of volume (entries_at cell volume s)) f ≡ true
+    has_then : (s : ℕ) (f : Fid) → IsIn s some → has_in (objects_at cell volume s) f ≡ true
+        → has (nodes_of volume (history_at cell volume s)) f ≡ true
     has_then s f i e =
-        let law : AreDecisions volume (entries_at cell volume s) = subst (AreDecisions volume) (cell_found none_joins s i) ((sound.agree none_joins).ruled s volume) in
-        ap (λ n. has n f) (holding s volume (entries_at cell volume s) law) ∙ has_same (objects_at cell volume s) f ∙ e
+        let law : AreDecisions volume (history_at cell volume s) = subst (AreDecisions volume) (cell_found none_joins s i) ((sound.agree none_joins).ruled s volume) in
+        ap (λ n. has n f) (holding s volume (history_at cell volume s) law) ∙ has_same (objects_at cell volume s) f ∙ e
 
     held_now : (f : Fid) → has (nodes_in install.objects) f ≡ true → (t : ℕ) × ((cell.replicas t volume).up ≡ true) × (has (nodes_of volume (cell.replicas t volume).history) f ≡ true)
     held_now f m =
@@ -131,8 +142,8 @@ module _ (start : PlainCell) (start_sound : IsSound start) (volume : ℕ) (some 
           from.0,
           up from.0 from.1.0,
           has_then from.0 f from.1.0 (elim (cell_each from.0 from.1.0) [
-            | inl stays ↦ ap (λ es. has_in (objects_of from.0 volume es) f) stays ∙ from.1.1.0
-            | inr put ↦ ap (λ o. has_in o f) (ap (objects_of from.0 volume) put.more ∙ objects_push from.0 volume (entries_at start volume from.0) (Resolved put.objects (lasts from.0))) ∙ from.1.1.1 put.objects put.left
+            | inl stays ↦ ap (λ es. has_in (replica_objects from.0 volume es) f) stays ∙ from.1.1.0
+            | inr put ↦ ap (λ o. has_in o f) (ap (replica_objects from.0 volume) put.more ∙ objects_push from.0 volume (history_at start volume from.0) (Resolved put.objects (lasts from.0))) ∙ from.1.1.1 put.objects put.left
           ]),
         )
 
@@ -146,10 +157,12 @@ module _ (start : PlainCell) (start_sound : IsSound start) (volume : ℕ) (some 
       ),
     )
 
-    pub up_does : (s : ℕ) → IsIn s some → ((after cell (Does (install_of volume lasts install))).replicas s volume).up ≡ true
+    pub up_does : (s : ℕ) → IsIn s some
+        → ((after cell (Does (install_of volume lasts install))).replicas s volume).up ≡ true
     up_does s i = go ((s == install.server) && (volume == volume))
       where
-        go : (c : Bool) → (cond c (grown entry (cell.replicas install.server volume)) (cell.replicas s volume)).up ≡ true
+        go : (c : Bool)
+            → (cond c (grown entry (cell.replicas install.server volume)) (cell.replicas s volume)).up ≡ true
         go true = server_up
         go false = up s i
 
@@ -161,7 +174,8 @@ module _ (start : PlainCell) (start_sound : IsSound start) (volume : ℕ) (some 
     pub behind : IsBehind (after_moves cell (install_moves volume lasts installs failing))
     pub sound : IsSound (after_moves cell (install_moves volume lasts installs failing))
 
-  pub install_all : (installs : List Install) (failing : Option Install) (cell : PlainCell) → IsBehind cell → IsSound cell → ((s : ℕ) → IsIn s some → (cell.replicas s volume).up ≡ true)
+  pub install_all : (installs : List Install) (failing : Option Install) (cell : PlainCell) → IsBehind cell
+      → IsSound cell → ((s : ℕ) → IsIn s some → (cell.replicas s volume).up ≡ true)
       → MayInstallAll Left start volume some lasts cell installs failing → IsDone cell installs failing
   install_all [] None cell b sound up may = record { moved = refl; behind = b; sound = sound }
   install_all [] (Some failing) cell b sound up may =
@@ -182,14 +196,17 @@ module _ (start : PlainCell) (start_sound : IsSound start) (volume : ℕ) (some 
 -- a history goes on from what was left
 pub record HasGrown (start final : PlainCell) (volume : ℕ) (lasts : ℕ → ℕ → Last) (s : ℕ) : Type 0 where
   pub objects : Objects
-  pub on : BeginsWith (entries_at final volume s) (entries_at start volume s ++ Resolved objects (lasts s) ∷ [])
+  pub on : BeginsWith (history_at final volume s) (history_at start volume s ++ Resolved objects (lasts s) ∷ [])
 
 grew_at : (cell : PlainCell) (volume : ℕ) (lasts : ℕ → ℕ → Last) (install : Install)
-    → entries_at (after cell (Does (install_of volume lasts install))) volume install.server ≡ entries_at cell volume install.server ++ Resolved install.objects (lasts install.server) ∷ []
+    → history_at (after cell (Does (install_of volume lasts install))) volume install.server ≡ history_at cell volume install.server ++ Resolved install.objects (lasts install.server) ∷ []
 grew_at cell volume lasts install = here_now cell install.server volume (grown (Resolved install.objects (lasts install.server)) (cell.replicas install.server volume)) none_joins
 
 module _ (start final : PlainCell) (volume : ℕ) (some : List ℕ) (lasts : ℕ → ℕ → Last) (Left : ℕ → Objects → Type 0) (failing : Option Install) where
-  installed_grew : (installs : List Install) (cell : PlainCell) → MayInstallAll Left start volume some lasts cell installs failing → Moved cell (install_moves volume lasts installs failing) final → (s : ℕ) → HasInstall installs s → HasGrown start final volume lasts s
+  installed_grew : (installs : List Install) (cell : PlainCell)
+      → MayInstallAll Left start volume some lasts cell installs failing
+      → Moved cell (install_moves volume lasts installs failing) final → (s : ℕ) → HasInstall installs s
+      → HasGrown start final volume lasts s
   installed_grew [] cell may run s has = absurd has.1.0
   installed_grew (install ∷ installs) cell may run s (other, (inl same, at)) =
       let here : install.server ≡ s = ap (λ (i : Install). i.server) same ∙ at in
@@ -201,7 +218,8 @@ module _ (start final : PlainCell) (volume : ℕ) (some : List ℕ) (lasts : ℕ
       })
   installed_grew (install ∷ installs) cell may run s (other, (inr later, at)) = installed_grew installs (after cell (Does (install_of volume lasts install))) may.1 run.1 s (other, (later, at))
 
-pub not_longer : (es : List ReplicaEntry) (e : ReplicaEntry) (more : List ReplicaEntry) → es ≡ (es ++ e ∷ []) ++ more → ⊥
+pub not_longer : (es : List ReplicaEntry) (e : ReplicaEntry) (more : List ReplicaEntry) → es ≡ (es ++ e ∷ []) ++ more
+    → ⊥
 not_longer es e more same =
     let l = ap length same in
     let a = length-append (es ++ e ∷ []) more in
@@ -210,10 +228,10 @@ not_longer es e more same =
 
 -- so it isn't what it was
 pub grew_away : (start final : PlainCell) (volume : ℕ) (some : List ℕ) (lasts : ℕ → ℕ → Last) (Left : ℕ → Objects → Type 0) (failing : Option Install) (installs : List Install)
-    → MayInstallAll Left start volume some lasts start installs failing → Moved start (install_moves volume lasts installs failing) final → (s : ℕ) → HasInstall installs s → entries_at final volume s ≢ entries_at start volume s
+    → MayInstallAll Left start volume some lasts start installs failing → Moved start (install_moves volume lasts installs failing) final → (s : ℕ) → HasInstall installs s → history_at final volume s ≢ history_at start volume s
 grew_away start final volume some lasts Left failing installs may run s has same =
     let grew = installed_grew start final volume some lasts Left failing installs start may run s has in
-    not_longer (entries_at start volume s) (Resolved grew.objects (lasts s)) grew.on.0 (sym same ∙ grew.on.1)
+    not_longer (history_at start volume s) (Resolved grew.objects (lasts s)) grew.on.0 (sym same ∙ grew.on.1)
 
 -- ---- and where none was, the history is what it was
 
@@ -226,16 +244,17 @@ module _ (volume : ℕ) (lasts : ℕ → ℕ → Last) (s : ℕ) where
   at_server server e = eqb-true s server (and_first (s == server) (volume == volume) e)
 
   failing_stays : (cell : PlainCell) (install : Install) (b : Bool) → (b ≡ true → s ≡ install.server)
-      → (cond b (fallen (Resolved install.objects (lasts install.server)) (cell.replicas install.server volume)) (cell.replicas s volume)).history ≡ entries_at cell volume s
-  failing_stays cell install true at = ap (entries_at cell volume) (sym (at refl))
+      → (cond b (fallen (Resolved install.objects (lasts install.server)) (cell.replicas install.server volume)) (cell.replicas s volume)).history ≡ history_at cell volume s
+  failing_stays cell install true at = ap (history_at cell volume) (sym (at refl))
   failing_stays cell install false at = refl
 
-  other_stays : (cell : PlainCell) (install : Install) (b : Bool) → (b ≡ true → s ≡ install.server) → (install.server ≡ s → ⊥)
-      → (cond b (grown (Resolved install.objects (lasts install.server)) (cell.replicas install.server volume)) (cell.replicas s volume)).history ≡ entries_at cell volume s
+  other_stays : (cell : PlainCell) (install : Install) (b : Bool) → (b ≡ true → s ≡ install.server)
+      → (install.server ≡ s → ⊥)
+      → (cond b (grown (Resolved install.objects (lasts install.server)) (cell.replicas install.server volume)) (cell.replicas s volume)).history ≡ history_at cell volume s
   other_stays cell install true at apart = absurd (apart (sym (at refl)))
   other_stays cell install false at apart = refl
 
-  pub none_stays : (installs : List Install) (failing : Option Install) (cell : PlainCell) → (HasInstall installs s → ⊥) → entries_at (after_moves cell (install_moves volume lasts installs failing)) volume s ≡ entries_at cell volume s
+  pub none_stays : (installs : List Install) (failing : Option Install) (cell : PlainCell) → (HasInstall installs s → ⊥) → history_at (after_moves cell (install_moves volume lasts installs failing)) volume s ≡ history_at cell volume s
   none_stays [] None cell none = refl
   none_stays [] (Some install) cell none = failing_stays cell install ((s == install.server) && (volume == volume)) (at_server install.server)
   none_stays (install ∷ installs) failing cell none =

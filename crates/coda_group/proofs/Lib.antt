@@ -17,7 +17,7 @@ pub mod Promised
 pub mod Marked
 pub mod Elsewhere
 pub mod Example
-pub mod Wrong
+pub mod Counterexamples
 pub mod Merged
 pub mod Lasts
 pub mod RepairExample

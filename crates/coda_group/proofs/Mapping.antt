@@ -1,5 +1,6 @@
 -- What a replica holds after records, and its nodes.
-use Rattle.std.proofs.Common.{◌≡◌, ℕ, List, [], ◌∷◌, ◌++◌, Option, Some, None, Ok, Err, option_map, refl, sym, ap, ◌∙◌, subst, inl, inr}
+use Rattle.std.proofs.Common.{◌≡◌, ℕ, List, [], ◌∷◌, ◌++◌, Option, Some, None, Ok, Err, option_map, refl, sym, ap}
+use Rattle.std.proofs.Common.{◌∙◌, subst, inl, inr}
 use Rattle.std.specs.FinMap as finmap
 use Rattle.coda_fid.specs.Fid.{fid_cmp, root_of}
 use Rattle.coda_fid.specs.declared.fid.Fid.{Fid}
@@ -21,16 +22,18 @@ use Rattle.coda_lineage.specs.Deeds.{Deed, deed_at, first_by, held_by_node, vers
 use Rattle.coda_lineage.specs.Lineage.{new_root}
 use Rattle.coda_plain.specs.Histories.{left_by}
 use Rattle.coda_plain.specs.Objects.{Objects, nodes_in}
-use Rattle.coda_plain.specs.Decisions.{ReplicaEntry, Decided, Resolved, sent_of, decision, Kept, kept_after, kept_of, nodes_of, MayDecide, AreDecisions}
+use Rattle.coda_plain.specs.Decisions.{ReplicaEntry, Decided, Resolved, sent_of, decision, Kept, kept_after, kept_of}
+use Rattle.coda_plain.specs.Decisions.{nodes_of, MayDecide, AreDecisions}
 use Rattle.coda_plain.proofs.Lists.{left_push, follow_push, along}
 use Rattle.coda_plain.proofs.Objects.{get_mapped, get_nodes}
 use Rattle.coda_plain.proofs.AtReplicas.{kept_push}
 use Rattle.coda_plain.proofs.Volumes.{volumes, sent_decides}
-use Rattle.coda_group.specs.Holdings.{held_by, objects_left, objects_after, new_objects, objects_of}
+use Rattle.coda_group.specs.Holdings.{held_by, objects_left, objects_after, new_objects, replica_objects}
 
 -- ---- a record
 
-pub get_held : (server client : ℕ) (objects : Objects) (rec : Record) (f : Fid) → finmap.get (held_by server client objects rec) f
+pub get_held : (server client : ℕ) (objects : Objects) (rec : Record) (f : Fid)
+    → finmap.get (held_by server client objects rec) f
     ≡ option_map (λ node. held_by_node server (sid_of client rec) node (finmap.get objects f) (deed_at objects rec.op f)) (finmap.get (applied (nodes_in objects) client rec) f)
 unfolding held_by
 get_held server client objects rec f = get_mapped (λ f node. held_by_node server (sid_of client rec) node (finmap.get objects f) (deed_at objects rec.op f)) (applied (nodes_in objects) client rec) f
@@ -40,17 +43,20 @@ first_node server node (File content) = refl
 first_node server node (Link target) = refl
 first_node server node (Dir entries) = refl
 
-by_node : (server : ℕ) (sid : Sid) (node : Node) (old : Option Held) (deed : Option Deed) → (held_by_node server sid node old deed).node ≡ node
+by_node : (server : ℕ) (sid : Sid) (node : Node) (old : Option Held) (deed : Option Deed)
+    → (held_by_node server sid node old deed).node ≡ node
 by_node server sid node None deed = first_node server node node.kind
 by_node server sid node (Some old) None = refl
 by_node server sid node (Some old) (Some deed) = refl
 
-node_back : (server : ℕ) (sid : Sid) (o : Option Node) (old : Option Held) (deed : Option Deed) → node_of (option_map (λ node. held_by_node server sid node old deed) o) ≡ o
+node_back : (server : ℕ) (sid : Sid) (o : Option Node) (old : Option Held) (deed : Option Deed)
+    → node_of (option_map (λ node. held_by_node server sid node old deed) o) ≡ o
 node_back server sid None old deed = refl
 node_back server sid (Some node) old deed = ap Some (by_node server sid node old deed)
 
 -- the nodes are those that the operation leaves
-pub nodes_held_by : (server client : ℕ) (objects : Objects) (rec : Record) → nodes_in (held_by server client objects rec) ≡ applied (nodes_in objects) client rec
+pub nodes_held_by : (server client : ℕ) (objects : Objects) (rec : Record)
+    → nodes_in (held_by server client objects rec) ≡ applied (nodes_in objects) client rec
 nodes_held_by server client objects rec = finmap.same_map fids_total exact_fids _ _ (λ q.
     get_nodes (held_by server client objects rec) q ∙ ap node_of (get_held server client objects rec q)
     ∙ node_back server (sid_of client rec) (finmap.get (applied (nodes_in objects) client rec) q) (finmap.get objects q) (deed_at objects rec.op q))
@@ -61,7 +67,8 @@ version None server client rec before f = refl
 version (Some node) server client rec before f = refl
 
 -- where certification finds nothing against it, it is a decision of that record
-pub is_decision : (server client : ℕ) (objects : Objects) (rec : Record) → certify (nodes_in objects) rec.op ≡ None → IsDecision server client rec objects (held_by server client objects rec)
+pub is_decision : (server client : ℕ) (objects : Objects) (rec : Record) → certify (nodes_in objects) rec.op ≡ None
+    → IsDecision server client rec objects (held_by server client objects rec)
 is_decision server client objects rec certified = record {
   nodes = nodes_in objects;
   those = get_nodes objects;
@@ -71,7 +78,8 @@ is_decision server client objects rec certified = record {
 
 -- ---- records in turn
 
-pub nodes_left_by : (server client : ℕ) (recs : List Record) (objects : Objects) (m : Nodes) → Applies client (nodes_in objects) recs m → nodes_in (left_by (held_by server client) objects recs) ≡ m
+pub nodes_left_by : (server client : ℕ) (recs : List Record) (objects : Objects) (m : Nodes)
+    → Applies client (nodes_in objects) recs m → nodes_in (left_by (held_by server client) objects recs) ≡ m
 nodes_left_by server client [] objects m a = a
 nodes_left_by server client (rec ∷ recs) objects m a =
     nodes_left_by server client recs (held_by server client objects rec) m (subst (λ n. Applies client n recs m) (sym (nodes_held_by server client objects rec)) a.1)
@@ -92,32 +100,39 @@ new_nodes volume = finmap.same_map fids_total exact_fids _ _ (λ q. get_nodes (n
     ]
 
 -- what a decision leaves
-pub decided_nodes : (server client : ℕ) (span : List Record) (objects : Objects) (volume : ℕ) → IsVolume (root_of volume) (nodes_in objects)
+pub decided_nodes : (server client : ℕ) (span : List Record) (objects : Objects) (volume : ℕ)
+    → IsVolume (root_of volume) (nodes_in objects)
     → nodes_left (nodes_in objects) (decision (nodes_in objects) client span) ≡ nodes_in (objects_left server client (sent_of span) objects (decision (nodes_in objects) client span))
 decided_nodes server client span objects volume v = go (decision (nodes_in objects) client span) refl
   where
-    go : (r : Replayed) → decision (nodes_in objects) client span ≡ r → nodes_left (nodes_in objects) r ≡ nodes_in (objects_left server client (sent_of span) objects r)
+    go : (r : Replayed) → decision (nodes_in objects) client span ≡ r
+        → nodes_left (nodes_in objects) r ≡ nodes_in (objects_left server client (sent_of span) objects r)
     go (Ok m) e = sym (nodes_left_by server client (sent_of span) objects m (applies_from_replay client (nodes_in objects) m (sent_of span) (sym (sent_decides (root_of volume) (nodes_in objects) client span v) ∙ e)))
     go (Err why) e = refl
 
-pub objects_push : (server volume : ℕ) (es : List ReplicaEntry) (e : ReplicaEntry) → objects_of server volume (es ++ e ∷ []) ≡ objects_after server (objects_of server volume es) e
+pub objects_push : (server volume : ℕ) (es : List ReplicaEntry) (e : ReplicaEntry)
+    → replica_objects server volume (es ++ e ∷ []) ≡ objects_after server (replica_objects server volume es) e
 objects_push server volume es e = left_push (objects_after server) (new_objects volume) es e
 
 abbrev IsHolding : ℕ → ℕ → List ReplicaEntry → Type 0
-IsHolding server volume es = AreDecisions volume es × (nodes_of volume es ≡ nodes_in (objects_of server volume es))
+IsHolding server volume es = AreDecisions volume es × (nodes_of volume es ≡ nodes_in (replica_objects server volume es))
 
-after_entry : (server volume : ℕ) (es : List ReplicaEntry) (e : ReplicaEntry) → nodes_of volume es ≡ nodes_in (objects_of server volume es) → IsVolume (root_of volume) (nodes_of volume es)
-    → (kept_after (kept_of volume es) e).nodes ≡ nodes_in (objects_after server (objects_of server volume es) e)
+after_entry : (server volume : ℕ) (es : List ReplicaEntry) (e : ReplicaEntry)
+    → nodes_of volume es ≡ nodes_in (replica_objects server volume es)
+    → IsVolume (root_of volume) (nodes_of volume es)
+    → (kept_after (kept_of volume es) e).nodes ≡ nodes_in (objects_after server (replica_objects server volume es) e)
 after_entry server volume es (Decided client number span) h v =
-    ap (λ n. nodes_left n (decision n client span)) h ∙ decided_nodes server client span (objects_of server volume es) volume (subst (IsVolume (root_of volume)) h v)
+    ap (λ n. nodes_left n (decision n client span)) h ∙ decided_nodes server client span (replica_objects server volume es) volume (subst (IsVolume (root_of volume)) h v)
 after_entry server volume es (Resolved objects lasts) h v = refl
 
-holding_push : (server volume : ℕ) (es : List ReplicaEntry) (e : ReplicaEntry) → IsHolding server volume es → MayDecide volume es e → IsHolding server volume (es ++ e ∷ [])
+holding_push : (server volume : ℕ) (es : List ReplicaEntry) (e : ReplicaEntry) → IsHolding server volume es
+    → MayDecide volume es e → IsHolding server volume (es ++ e ∷ [])
 holding_push server volume es e h may = (
   follow_push (MayDecide volume) es e h.0 may,
   ap (λ (k : Kept). k.nodes) (kept_push volume es e) ∙ after_entry server volume es e h.1 (volumes volume es h.0).0 ∙ ap nodes_in (sym (objects_push server volume es e)),
 )
 
 -- the nodes that a replica's decisions met and left are those of what it holds
-pub holding : (server volume : ℕ) (history : List ReplicaEntry) → AreDecisions volume history → nodes_of volume history ≡ nodes_in (objects_of server volume history)
+pub holding : (server volume : ℕ) (history : List ReplicaEntry) → AreDecisions volume history
+    → nodes_of volume history ≡ nodes_in (replica_objects server volume history)
 holding server volume history law = (along (MayDecide volume) (IsHolding server volume) (holding_push server volume) history (tt, sym (new_nodes volume)) law).1

@@ -1,5 +1,6 @@
 -- Behind a resolution what it took up is the same or marked.
-use Rattle.std.proofs.Common.{◌≡◌, ◌≢◌, ℕ, true, false, List, [], ◌∷◌, Option, Some, None, refl, ap, ◌∙◌, subst, inl, inr}
+use Rattle.std.proofs.Common.{◌≡◌, ◌≢◌, ℕ, true, false, List, [], ◌∷◌, Option, Some, None, refl, ap, ◌∙◌, subst, inl}
+use Rattle.std.proofs.Common.{inr}
 use Rattle.std.specs.FinMap as finmap
 use Rattle.coda_fid.specs.Fid.{root_of}
 use Rattle.coda_fid.specs.declared.fid.Fid.{Fid}
@@ -22,10 +23,11 @@ use Rattle.coda_plain.specs.Objects.{Objects}
 use Rattle.coda_plain.specs.Decisions.{Resolved, Last, Kept, last_of}
 use Rattle.coda_plain.specs.Cell.{PlainCell}
 use Rattle.coda_plain.proofs.Soundness.{none_joins}
-use Rattle.coda_group.specs.Holdings.{objects_of}
-use Rattle.coda_group.specs.Steps.{Install, HasInstall, Resolves, Repairs, IsResolution, IsRepairOf, after_step, entries_at, objects_at, views_at, last_at, MayResolve, MayRepair}
+use Rattle.coda_group.specs.Holdings.{replica_objects}
+use Rattle.coda_group.specs.Steps.{Install, HasInstall, Resolves, Repairs, IsResolution, IsRepairOf, after_step}
+use Rattle.coda_group.specs.Steps.{history_at, objects_at, views_at, last_at, MayResolve, MayRepair}
 use Rattle.coda_group.specs.Sound.{IsGroupSound}
-use Rattle.coda_group.specs.Laws.{IsLeft, ResolvedAreEqualOrMarked, RepairedAreEqual}
+use Rattle.coda_group.specs.Laws.{IsInstalledOrKept, ResolvedReplicasAreEqualOrMarked, RepairedAreEqual}
 use Rattle.coda_lineage.specs.Repairs.{repaired}
 use Rattle.coda_plain.proofs.AtReplicas.{kept_push}
 use Rattle.coda_group.proofs.Repairing.{source_has, IsRepairDone, repair_done}
@@ -40,7 +42,8 @@ stand_in_marked low (File content) = refl
 stand_in_marked low (Link target) = refl
 stand_in_marked low (Dir entries) = refl
 
-settled_marked : (why : Why) (lowest copy : Option Held) → lowest ≢ None → is_marked (settled_copy (Marked why) lowest copy) ≡ true
+settled_marked : (why : Why) (lowest copy : Option Held) → lowest ≢ None
+    → is_marked (settled_copy (Marked why) lowest copy) ≡ true
 settled_marked why None copy there = absurd (there refl)
 settled_marked why (Some low) None there = stand_in_marked low low.node.kind
 settled_marked why (Some low) (Some own) there = refl
@@ -50,18 +53,24 @@ list_views views [] = []
 list_views views (s ∷ list) = views s ∷ list_views views list
 
 module _ (views : ℕ → Objects) (f : Fid) (lowest : Option Held) (fate : Fate) (olds : ℕ → Option Held) where
-  all_same : (held : Held) → fate ≡ Same held → (list : List ℕ) → ((s : ℕ) → IsIn s list → finmap.get (views s) f ≡ settled_copy fate lowest (olds s)) → IsEverywhere held (copies_at (list_views views list) f)
+  all_same : (held : Held) → fate ≡ Same held → (list : List ℕ)
+      → ((s : ℕ) → IsIn s list → finmap.get (views s) f ≡ settled_copy fate lowest (olds s))
+      → IsEverywhere held (copies_at (list_views views list) f)
   all_same held e [] each = tt
   all_same held e (s ∷ list) each = (each s (inl refl) ∙ ap (λ x. settled_copy x lowest (olds s)) e, all_same held e list (λ t i. each t (inr i)))
 
-  all_marked : (why : Why) → fate ≡ Marked why → lowest ≢ None → (list : List ℕ) → ((s : ℕ) → IsIn s list → finmap.get (views s) f ≡ settled_copy fate lowest (olds s)) → IsMarkedEverywhere (copies_at (list_views views list) f)
+  all_marked : (why : Why) → fate ≡ Marked why → lowest ≢ None → (list : List ℕ)
+      → ((s : ℕ) → IsIn s list → finmap.get (views s) f ≡ settled_copy fate lowest (olds s))
+      → IsMarkedEverywhere (copies_at (list_views views list) f)
   all_marked why e there [] each = tt
   all_marked why e there (s ∷ list) each = (
     ap is_marked (each s (inl refl) ∙ ap (λ x. settled_copy x lowest (olds s)) e) ∙ settled_marked why lowest (olds s) there,
     all_marked why e there list (λ t i. each t (inr i)),
   )
 
-  equal_or_marked : lowest ≢ None → fate ≢ Gone → (list : List ℕ) → ((s : ℕ) → IsIn s list → finmap.get (views s) f ≡ settled_copy fate lowest (olds s)) → IsEqualOrMarked (copies_at (list_views views list) f)
+  equal_or_marked : lowest ≢ None → fate ≢ Gone → (list : List ℕ)
+      → ((s : ℕ) → IsIn s list → finmap.get (views s) f ≡ settled_copy fate lowest (olds s))
+      → IsEqualOrMarked (copies_at (list_views views list) f)
   equal_or_marked there stays list each = go fate refl
     where
       go : (x : Fate) → fate ≡ x → IsEqualOrMarked (copies_at (list_views views list) f)
@@ -69,12 +78,13 @@ module _ (views : ℕ → Objects) (f : Fid) (lowest : Option Held) (fate : Fate
       go (Marked why) e = inr (all_marked why e there list each)
       go Gone e = absurd (stays e)
 
-views_list : (cell : PlainCell) (volume : ℕ) (part : List ℕ) → list_views (objects_at cell volume) part ≡ views_at cell volume part
+views_list : (cell : PlainCell) (volume : ℕ) (part : List ℕ)
+    → list_views (objects_at cell volume) part ≡ views_at cell volume part
 views_list cell volume [] = refl
 views_list cell volume (s ∷ part) = ap (λ l. objects_at cell volume s ∷ l) (views_list cell volume part)
 
 module _ (servers : ℕ → List ℕ) (cell : PlainCell) (volume : ℕ) (some part : List ℕ) (lasts : ℕ → Last) (installs : List Install) (failing : Option Install) (f : Fid) (gs : IsGroupSound servers cell)
-    (may : MayResolve servers cell volume some lasts installs failing) (left : (server : ℕ) → IsIn server part → IsLeft cell volume some lasts installs server)
+    (may : MayResolve servers cell volume some lasts installs failing) (left : (server : ℕ) → IsIn server part → IsInstalledOrKept cell volume some lasts installs server)
     (is_taken : IsTakenUp (views_at cell volume some) (root_of volume) f) where
   abbrev final : PlainCell
   final = after_step cell (Resolves volume some lasts installs failing)
@@ -98,9 +108,9 @@ module _ (servers : ℕ → List ℕ) (cell : PlainCell) (volume : ℕ) (some pa
   each s i = elim (done.behind.each none_joins s) [
     | inl same ↦ elim (left s i) [
       | inl has ↦ absurd (grew_away cell final volume some (λ server. lasts) (IsResolution cell volume some) failing installs may.installed done.moved s has same)
-      | inr as_it_is ↦ ap (λ es. finmap.get (objects_of s volume es) f) same ∙ as_it_is.0.taken f is_taken
+      | inr as_it_is ↦ ap (λ es. finmap.get (replica_objects s volume es) f) same ∙ as_it_is.0.taken f is_taken
     ]
-    | inr put ↦ ap (λ o. finmap.get o f) (ap (objects_of s volume) put.more ∙ objects_push s volume (entries_at cell volume s) (Resolved put.objects lasts)) ∙ put.left.taken f is_taken
+    | inr put ↦ ap (λ o. finmap.get o f) (ap (replica_objects s volume) put.more ∙ objects_push s volume (history_at cell volume s) (Resolved put.objects lasts)) ∙ put.left.taken f is_taken
   ]
 
   whole : IsEqualOrMarked (copies_at (views_at final volume part) f)
@@ -109,7 +119,7 @@ module _ (servers : ℕ → List ℕ) (cell : PlainCell) (volume : ℕ) (some pa
 
 lasts_joined : (servers : ℕ → List ℕ) (cell : PlainCell) (volume : ℕ) (some : List ℕ) (lasts : ℕ → Last) (installs : List Install) (failing : Option Install) (server client : ℕ)
     → IsGroupSound servers cell → MayResolve servers cell volume some lasts installs failing
-    → IsLeft cell volume some lasts installs server → last_at (after_step cell (Resolves volume some lasts installs failing)) volume server client ≡ lasts client
+    → IsInstalledOrKept cell volume some lasts installs server → last_at (after_step cell (Resolves volume some lasts installs failing)) volume server client ≡ lasts client
 lasts_joined servers cell volume some lasts installs failing server client gs may left =
     let final = after_step cell (Resolves volume some lasts installs failing) in
     let done = resolution_done servers cell gs volume some lasts installs failing may in
@@ -118,11 +128,11 @@ lasts_joined servers cell volume some lasts installs failing server client gs ma
         | inl has ↦ absurd (grew_away cell final volume some (λ s. lasts) (IsResolution cell volume some) failing installs may.installed done.moved server has same)
         | inr as_it_is ↦ ap (λ es. last_of volume es client) same ∙ as_it_is.1 client
       ]
-      | inr put ↦ ap (λ es. last_of volume es client) put.more ∙ ap (λ (k : Kept). k.lasts client) (kept_push volume (entries_at cell volume server) (Resolved put.objects lasts))
+      | inr put ↦ ap (λ es. last_of volume es client) put.more ∙ ap (λ (k : Kept). k.lasts client) (kept_push volume (history_at cell volume server) (Resolved put.objects lasts))
     ]
 
-pub resolved_are_equal_or_marked : ResolvedAreEqualOrMarked
-resolved_are_equal_or_marked = record {
+pub resolved_replicas_are_equal_or_marked : ResolvedReplicasAreEqualOrMarked
+resolved_replicas_are_equal_or_marked = record {
   objects = λ servers cell volume some part lasts installs failing f gs may sub left is_taken. whole servers cell volume some part lasts installs failing f gs may left is_taken;
   lasts = lasts_joined;
 }
@@ -146,11 +156,12 @@ module _ (servers : ℕ → List ℕ) (cell : PlainCell) (volume source : ℕ) (
   there_is : (s : ℕ) → IsIn s part → finmap.get (objects_at last volume s) f ≡ Some is
   there_is s i = elim (repair.behind.each none_joins s) [
     | inl same ↦ absurd (grew_away cell last volume some lasts (IsRepairOf cell volume source names some may.repair) failing installs may.installed repair.moved s (has s i) same)
-    | inr put ↦ ap (λ o. finmap.get o f) (ap (objects_of s volume) put.more ∙ objects_push s volume (entries_at cell volume s) (Resolved put.objects (lasts s)))
+    | inr put ↦ ap (λ o. finmap.get o f) (ap (replica_objects s volume) put.more ∙ objects_push s volume (history_at cell volume s) (Resolved put.objects (lasts s)))
         ∙ put.left.put f held.0 ((may.repair.below f).1 below) held.1
   ]
 
-  everywhere : (list : List ℕ) → ((s : ℕ) → IsIn s list → finmap.get (objects_at last volume s) f ≡ Some is) → IsEverywhere is (copies_at (views_at last volume list) f)
+  everywhere : (list : List ℕ) → ((s : ℕ) → IsIn s list → finmap.get (objects_at last volume s) f ≡ Some is)
+      → IsEverywhere is (copies_at (views_at last volume list) f)
   everywhere [] all = tt
   everywhere (s ∷ list) all = (all s (inl refl), everywhere list (λ t i. all t (inr i)))
 
@@ -160,5 +171,5 @@ module _ (servers : ℕ → List ℕ) (cell : PlainCell) (volume source : ℕ) (
 pub repaired_are_equal : RepairedAreEqual
 repaired_are_equal = record {
   objects = λ servers cell volume source names some part lasts installs failing gs may has f below. equal servers cell volume source names some part lasts installs failing gs may has f below;
-  others = λ cell volume source names some lasts installs failing server none. ap (objects_of server volume) (none_stays volume lasts server installs failing cell none);
+  others = λ cell volume source names some lasts installs failing server none. ap (replica_objects server volume) (none_stays volume lasts server installs failing cell none);
 }

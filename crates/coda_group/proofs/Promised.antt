@@ -1,12 +1,14 @@
 -- Of a sound cell the histories keep what is promised.
-use Rattle.std.proofs.Common.{◌≡◌, ℕ, zero, suc, ◌+◌, ◌-◌, ◌<◌, ◌≤◌, List, [], ◌∷◌, ◌++◌, append_assoc, append-nil, Option, map, refl, sym, ap, ◌∙◌, subst, inl, inr, ◌⊎◌, arith}
+use Rattle.std.proofs.Common.{◌≡◌, ℕ, zero, suc, ◌+◌, ◌-◌, ◌<◌, ◌≤◌, List, [], ◌∷◌, ◌++◌, append_assoc, append-nil}
+use Rattle.std.proofs.Common.{Option, map, refl, sym, ap, ◌∙◌, subst, inl, inr, ◌⊎◌, arith}
 use Rattle.coda_fid.specs.Fid.{root_of}
 use Rattle.coda_certify.specs.declared.verdict.Verdict.{Verdict}
 use Rattle.coda_certify.specs.declared.verdict.Verdict.TheVariants.{Applied}
 use Rattle.coda_resolve.specs.Placement.{AreTreesOfOneKind}
 use Rattle.coda_plain.specs.Histories.{In, told, DoFollow}
 use Rattle.coda_plain.specs.Deeds.{Deed, Chunk, chunks_of, span_in, settlements_of}
-use Rattle.coda_plain.specs.Decisions.{ReplicaEntry, Decided, Resolved, Last, Kept, last_of, Decision, verdict_on, decision_at, decisions_of, MayDecide, AreDecisions}
+use Rattle.coda_plain.specs.Decisions.{ReplicaEntry, Decided, Resolved, Last, Kept, last_of, Decision, verdict_on}
+use Rattle.coda_plain.specs.Decisions.{decision_at, decisions_of, MayDecide, AreDecisions}
 use Rattle.coda_plain.specs.Cell.{Letter, Histories, found_in}
 use Rattle.coda_plain.specs.Sound.{deeds_in, HasFrozen, IsDecided, DoAgree}
 use Rattle.coda_plain.specs.Promises.{Decides}
@@ -21,7 +23,8 @@ use Rattle.coda_plain.proofs.Fates.{fated}
 use Rattle.coda_plain.proofs.Once.{up_to_last}
 use Rattle.coda_plain.proofs.Promised.{promised}
 use Rattle.coda_group.specs.Groups.{holdings, WasDecided}
-use Rattle.coda_group.specs.Promises.{AreTakenOverOnce, IsDecidedAtHome, AreLastsTrue, AreKeptHere, IsNoneSkipped, views_in}
+use Rattle.coda_group.specs.Promises.{AreTakenOverOnce, IsDecidedAtHome, AreLastsTrue, AreKeptHere, IsNoneSkipped}
+use Rattle.coda_group.specs.Promises.{views_in}
 use Rattle.coda_group.specs.Laws.{GroupCellsArePromised, LettersAreTrue}
 use Rattle.coda_group.proofs.Mapping.{holding}
 use Rattle.coda_group.proofs.Truths.{one_verdict}
@@ -30,18 +33,21 @@ use Rattle.coda_group.proofs.Volumes.{group_volume, group_trees}
 -- ---- what was taken over
 
 module _ {E : Type 0} (may : List E → E → Type 0) where
-  follow_from : (past xs : List E) (e : E) (ys : List E) → DoFollow may past (xs ++ e ∷ ys) → DoFollow may past xs × may (past ++ xs) e × DoFollow may ((past ++ xs) ++ e ∷ []) ys
+  follow_from : (past xs : List E) (e : E) (ys : List E) → DoFollow may past (xs ++ e ∷ ys)
+      → DoFollow may past xs × may (past ++ xs) e × DoFollow may ((past ++ xs) ++ e ∷ []) ys
   follow_from past [] e ys f = (tt, subst (λ p. may p e) (sym (append-nil past)) f.0, subst (λ p. DoFollow may (p ++ e ∷ []) ys) (sym (append-nil past)) f.1)
   follow_from past (x ∷ xs) e ys f =
       let rest = follow_from (past ++ x ∷ []) xs e ys f.1 in
       ((f.0, rest.0), subst (λ p. may p e) (append_assoc past (x ∷ []) xs) rest.1, subst (λ p. DoFollow may (p ++ e ∷ []) ys) (append_assoc past (x ∷ []) xs) rest.2)
 
   -- what follows in two parts
-  follow_parts : (xs : List E) (e : E) (ys : List E) → DoFollow may [] (xs ++ e ∷ ys) → DoFollow may [] xs × may xs e × DoFollow may (xs ++ e ∷ []) ys
+  follow_parts : (xs : List E) (e : E) (ys : List E) → DoFollow may [] (xs ++ e ∷ ys)
+      → DoFollow may [] xs × may xs e × DoFollow may (xs ++ e ∷ []) ys
   follow_parts xs e ys f = follow_from [] xs e ys f
 
 -- no last number falls
-never_falls : (volume : ℕ) (es : List ReplicaEntry) (e : ReplicaEntry) (c : ℕ) → MayDecide volume es e → (last_of volume es c).number ≤ (last_of volume (es ++ e ∷ []) c).number
+never_falls : (volume : ℕ) (es : List ReplicaEntry) (e : ReplicaEntry) (c : ℕ) → MayDecide volume es e
+    → (last_of volume es c).number ≤ (last_of volume (es ++ e ∷ []) c).number
 never_falls volume es (Decided client number span) c may =
     subst (λ (k : Kept). (last_of volume es c).number ≤ (k.lasts c).number) (sym (kept_push volume es (Decided client number span)))
     (with_last_at (last_of volume es) client _ c (λ last. (last_of volume es c).number ≤ last.number)
@@ -49,20 +55,23 @@ never_falls volume es (Decided client number span) c may =
 never_falls volume es (Resolved objects lasts) c may =
     subst (λ (k : Kept). (last_of volume es c).number ≤ (k.lasts c).number) (sym (kept_push volume es (Resolved objects lasts))) (may.1 c)
 
-decided_next : (volume : ℕ) (es : List ReplicaEntry) (e : ReplicaEntry) (d : Decision) → MayDecide volume es e → In d (decision_at volume es e) → (last_of volume es d.client).number < d.number
+decided_next : (volume : ℕ) (es : List ReplicaEntry) (e : ReplicaEntry) (d : Decision) → MayDecide volume es e
+    → In d (decision_at volume es e) → (last_of volume es d.client).number < d.number
 decided_next volume es (Decided client number span) d may (inl same) = subst (λ (x : Decision). (last_of volume es x.client).number < x.number) (sym same) (omega (arith, may))
 decided_next volume es (Decided client number span) d may (inr none) = absurd none
 decided_next volume es (Resolved objects lasts) d may i = absurd i
 
 -- whatever is decided later is behind the last one
-behind_last : (volume : ℕ) (past back : List ReplicaEntry) → DoFollow (MayDecide volume) past back → (d : Decision) → In d (told (decision_at volume) past back) → (last_of volume past d.client).number < d.number
+behind_last : (volume : ℕ) (past back : List ReplicaEntry) → DoFollow (MayDecide volume) past back → (d : Decision)
+    → In d (told (decision_at volume) past back) → (last_of volume past d.client).number < d.number
 behind_last volume past [] f d i = absurd i
 behind_last volume past (e ∷ back) f d i = elim (in_parts d (decision_at volume past e) (told (decision_at volume) (past ++ e ∷ []) back) i) [
   | inl now ↦ decided_next volume past e d f.0 now
   | inr later ↦ (let more = behind_last volume (past ++ e ∷ []) back f.1 d later in let low = never_falls volume past e d.client f.0 in omega (arith, more, low))
 ]
 
-taken_over_once : (h : Histories) (volume server : ℕ) → AreDecisions volume (h.replicas server volume) → AreTakenOverOnce h volume server
+taken_over_once : (h : Histories) (volume server : ℕ) → AreDecisions volume (h.replicas server volume)
+    → AreTakenOverOnce h volume server
 taken_over_once h volume server law = record {
   later = λ lasts before after d took i.
       let parts = follow_parts (MayDecide volume) took.front (Resolved took.objects lasts) took.back (subst (AreDecisions volume) took.splits law) in
@@ -78,7 +87,8 @@ taken_over_once h volume server law = record {
 -- ---- decided at home
 
 module _ (h : Histories) (pool : ℕ → Option Letter) (a : DoAgree h pool) where
-  at_home : (volume client number : ℕ) (verdict : Verdict) → IsDecided h.replicas volume client number verdict → IsDecidedAtHome h volume client number verdict
+  at_home : (volume client number : ℕ) (verdict : Verdict) → IsDecided h.replicas volume client number verdict
+      → IsDecidedAtHome h volume client number verdict
   at_home volume client number verdict it = record {
     chunk = record { number = it.by.number; home = it.server; span = it.by.span };
     frozen = subst (λ c. HasFrozen h c volume it.by.number it.server it.by.span) it.client_is (a.frozen it.server volume it.by it.there);
@@ -114,7 +124,8 @@ module _ (h : Histories) (pool : ℕ → Option Letter) (a : DoAgree h pool) (cl
   abbrev deeds : List Deed
   deeds = deeds_in h client volume
 
-  frozen_by : (server : ℕ) (d : Decision) → Decides h server volume d → d.client ≡ client → HasFrozen h client volume d.number server d.span
+  frozen_by : (server : ℕ) (d : Decision) → Decides h server volume d → d.client ≡ client
+      → HasFrozen h client volume d.number server d.span
   frozen_by server d i same = subst (λ c. HasFrozen h c volume d.number server d.span) same (a.frozen server volume d i)
 
   kept_here : AreKeptHere h client volume
@@ -177,11 +188,13 @@ IsGivenBy volume es client number =
 abbrev AreGiven : ℕ → List ReplicaEntry → Type 0
 AreGiven volume es = (client : ℕ) → 0 < (last_of volume es client).number → IsGivenBy volume es client (last_of volume es client).number
 
-given_more : (volume : ℕ) (es : List ReplicaEntry) (e : ReplicaEntry) (client number : ℕ) → IsGivenBy volume es client number → IsGivenBy volume (es ++ e ∷ []) client number
+given_more : (volume : ℕ) (es : List ReplicaEntry) (e : ReplicaEntry) (client number : ℕ)
+    → IsGivenBy volume es client number → IsGivenBy volume (es ++ e ∷ []) client number
 given_more volume es e client number (inl (d, (i, is))) = inl (d, (told_more (decision_at volume) es e d i, is))
 given_more volume es e client number (inr (objects, (lasts, (i, is)))) = inr (objects, (lasts, (in_left (Resolved objects lasts) es (e ∷ []) i, is)))
 
-given_push : (volume : ℕ) (es : List ReplicaEntry) (e : ReplicaEntry) → AreGiven volume es → MayDecide volume es e → AreGiven volume (es ++ e ∷ [])
+given_push : (volume : ℕ) (es : List ReplicaEntry) (e : ReplicaEntry) → AreGiven volume es → MayDecide volume es e
+    → AreGiven volume (es ++ e ∷ [])
 given_push volume es (Decided client number span) a may c =
     subst (λ (k : Kept). 0 < (k.lasts c).number → IsGivenBy volume (es ++ Decided client number span ∷ []) c (k.lasts c).number) (sym (kept_push volume es (Decided client number span)))
     (with_last_at (last_of volume es) client _ c (λ last. 0 < last.number → IsGivenBy volume (es ++ Decided client number span ∷ []) c last.number)
@@ -196,11 +209,13 @@ given volume es law = along (MayDecide volume) (AreGiven volume) (given_push vol
 
 module _ (h : Histories) (pool : ℕ → Option Letter) (a : DoAgree h pool) (volume : ℕ)
     (taken : (s c : ℕ) (objects : Objects) (lasts : ℕ → Last) → In (Resolved objects lasts) (h.replicas s volume) → 0 < (lasts c).number → IsDecided h.replicas volume c (lasts c).number (lasts c).verdict) where
-  by_own : (s client number : ℕ) (d : Decision) → Decides h s volume d → d.client ≡ client → d.number ≡ number → WasDecided h volume client number
+  by_own : (s client number : ℕ) (d : Decision) → Decides h s volume d → d.client ≡ client → d.number ≡ number
+      → WasDecided h volume client number
   by_own s client number d i same is = (verdict_on d, record { server = s; by = d; there = i; client_is = same; number_is = is; verdict_is = refl })
 
   -- the chunk before it was decided
-  one_before : (s : ℕ) (d : Decision) (number : ℕ) → Decides h s volume d → d.number ≡ number + 1 → 0 < number → WasDecided h volume d.client number
+  one_before : (s : ℕ) (d : Decision) (number : ℕ) → Decides h s volume d → d.number ≡ number + 1 → 0 < number
+      → WasDecided h volume d.client number
   one_before s d number i next some =
       let split = entry_of volume [] (h.replicas s volume) d i in
       let entry : ReplicaEntry = Decided d.client d.number d.span in
@@ -209,14 +224,18 @@ module _ (h : Histories) (pool : ℕ → Option Letter) (a : DoAgree h pool) (vo
       let is : (last_of volume split.0 d.client).number ≡ number = omega (arith, may, next) in
       subst (λ n. WasDecided h volume d.client n) is (go split.0 split.1.0 entry split.1.1 (given volume split.0 parts.0 d.client (omega (arith, is, some))) (omega (arith, is, some)))
     where
-      go : (front back : List ReplicaEntry) (entry : ReplicaEntry) → h.replicas s volume ≡ front ++ entry ∷ back → IsGivenBy volume front d.client (last_of volume front d.client).number → 0 < (last_of volume front d.client).number → WasDecided h volume d.client (last_of volume front d.client).number
+      go : (front back : List ReplicaEntry) (entry : ReplicaEntry) → h.replicas s volume ≡ front ++ entry ∷ back
+          → IsGivenBy volume front d.client (last_of volume front d.client).number
+          → 0 < (last_of volume front d.client).number
+          → WasDecided h volume d.client (last_of volume front d.client).number
       go front back entry splits (inl (e, (j, is))) some = by_own s d.client (last_of volume front d.client).number e (subst (λ es. In e (decisions_of volume es)) (sym splits) (told_begins (decision_at volume) front (entry ∷ back) e j)) is.0 is.1
       go front back entry splits (inr (objects, (lasts, (j, is)))) some =
           let by = taken s d.client objects lasts (subst (In (Resolved objects lasts)) (sym splits) (in_left (Resolved objects lasts) front (entry ∷ back) j)) (omega (arith, is, some)) in
           subst (λ n. WasDecided h volume d.client n) is ((lasts d.client).verdict, by)
 
   -- so all before it were
-  all_before : (n s : ℕ) (d : Decision) (number : ℕ) → d.number ≤ n → Decides h s volume d → 0 < number → number < d.number → WasDecided h volume d.client number
+  all_before : (n s : ℕ) (d : Decision) (number : ℕ) → d.number ≤ n → Decides h s volume d → 0 < number
+      → number < d.number → WasDecided h volume d.client number
   all_before zero s d number most i some less = let no : ⊥ = omega (arith, most, some, less) in absurd no
   all_before (suc n) s d number most i some less = elim (cases_eq d.number (number + 1)) [
     | inl next ↦ one_before s d number i next some

@@ -43,14 +43,16 @@ below_root : (f : Fid) → IsBelow (child_in new) root f → f ≡ root
 below_root f (itself g is) = is
 below_root f (under d n g child below) = absurd (some_none g (sym child ∙ (bare_new 7).none d n))
 
-at_root : (f : Fid) (held : Held) → same_fid f root ≡ true → finmap.get new f ≡ Some held → finmap.get (left 1) f ≡ Some (repaired 1 (copies f) held)
+at_root : (f : Fid) (held : Held) → same_fid f root ≡ true → finmap.get new f ≡ Some held
+    → finmap.get (left 1) f ≡ Some (repaired 1 (copies f) held)
 unfolding left copies
 at_root f held same there =
     let is = same_fid_is f root same in
     let it : new_root ≡ held = the_some new_root held (sym (get_here fids_total finmap.empty root new_root) ∙ ap (finmap.get new) (sym is) ∙ there) in
     ap (finmap.get (finmap.insert finmap.empty root right)) is ∙ get_here fids_total finmap.empty root right ∙ ap (λ g. Some (repaired 1 (copies g) new_root)) (sym is) ∙ ap (λ h. Some (repaired 1 (copies f) h)) it
 
-else_root : (f : Fid) → same_fid f root ≡ false → finmap.get (left 1) f ≡ spared (λ g. same_fid g root) root (finmap.get new f)
+else_root : (f : Fid) → same_fid f root ≡ false
+    → finmap.get (left 1) f ≡ spared (λ g. same_fid g root) root (finmap.get new f)
 unfolding left
 else_root f out =
     let apart : f ≢ root = λ is. true≢false (sym (subst (λ g. same_fid f g ≡ true) is (same_fid_refl f)) ∙ out) in

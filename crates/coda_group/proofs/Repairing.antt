@@ -1,5 +1,6 @@
 -- A repair, installed at one replica after the other.
-use Rattle.std.proofs.Common.{◌≡◌, ℕ, ◌≤◌, Bool, true, false, List, [], ◌∷◌, Option, Some, None, is_some, map, refl, sym, ap, ◌∙◌, subst, inl, inr, ◌⊎◌, arith}
+use Rattle.std.proofs.Common.{◌≡◌, ℕ, ◌≤◌, Bool, true, false, List, [], ◌∷◌, Option, Some, None, is_some, map, refl}
+use Rattle.std.proofs.Common.{sym, ap, ◌∙◌, subst, inl, inr, ◌⊎◌, arith}
 use Rattle.std.specs.FinMap as finmap
 use Rattle.std.proofs.lemmas.Bool.{false≢true, cases_Bool, cases_eq}
 use Rattle.coda_fid.specs.Fid.{root_of}
@@ -19,9 +20,9 @@ use Rattle.coda_plain.specs.Cell.{Histories, PlainCell, Joins, found_in}
 use Rattle.coda_plain.specs.Promises.{Decides}
 use Rattle.coda_plain.proofs.Lists.{told_more}
 use Rattle.coda_plain.proofs.Soundness.{none_joins, found_up}
-use Rattle.coda_group.specs.Holdings.{objects_of}
+use Rattle.coda_group.specs.Holdings.{replica_objects}
 use Rattle.coda_group.specs.Groups.{holdings, IsOneGroup}
-use Rattle.coda_group.specs.Steps.{entries_at, objects_at, views_at, last_at, Install, IsRepairOf, MayRepair}
+use Rattle.coda_group.specs.Steps.{history_at, objects_at, views_at, last_at, Install, IsRepairOf, MayRepair}
 use Rattle.coda_group.specs.Sound.{IsGroupSound}
 use Rattle.coda_group.proofs.Mapping.{objects_push}
 use Rattle.coda_group.proofs.OneGroup.{repaired_stands, made_in, group_of, stands, known, one_group}
@@ -32,11 +33,13 @@ use Rattle.coda_group.proofs.Installing.{IsBehind, IsDone, at_start, install_all
 -- ---- what is repaired is there
 
 -- where names lead is there
-leads_there : (root : Fid) (a b : Objects) → IsTreeView root a → (d : Fid) (names : List Name) (f : Fid) → LeadsAlike a b d names f → has_in a d ≡ true → has_in a f ≡ true
+leads_there : (root : Fid) (a b : Objects) → IsTreeView root a → (d : Fid) (names : List Name) (f : Fid)
+    → LeadsAlike a b d names f → has_in a d ≡ true → has_in a f ≡ true
 leads_there root a b tree d [] f leads here = ap (has_in a) leads ∙ here
 leads_there root a b tree d (n ∷ names) f leads here = leads_there root a b tree leads.0 names f leads.1.1.1 (tree.there d n leads.0 leads.1.0)
 
-below_there : (root : Fid) (a : Objects) → IsTreeView root a → (g f : Fid) → has_in a g ≡ true → IsBelow (child_in a) g f → has_in a f ≡ true
+below_there : (root : Fid) (a : Objects) → IsTreeView root a → (g f : Fid) → has_in a g ≡ true
+    → IsBelow (child_in a) g f → has_in a f ≡ true
 below_there root a tree g f here (itself h e) = ap (has_in a) e ∙ here
 below_there root a tree g f here (under d n h child below) = tree.there d n f child
 
@@ -61,11 +64,14 @@ module _ (servers : ℕ → List ℕ) (start : PlainCell) (gs : IsGroupSound ser
 
   -- ---- a step of the group
 
-  views_same : (held : ℕ → Objects) → ((s : ℕ) → IsIn s some → objects_at start volume s ≡ held s) → (list : List ℕ) → AreAmong list some → views_at start volume list ≡ map held list
+  views_same : (held : ℕ → Objects) → ((s : ℕ) → IsIn s some → objects_at start volume s ≡ held s) → (list : List ℕ)
+      → AreAmong list some → views_at start volume list ≡ map held list
   views_same held same [] sub = refl
   views_same held same (s ∷ list) sub = λ i. same s (sub s (inl refl)) i ∷ views_same held same list (λ t j. sub t (inr j)) i
 
-  as_step : (made : Fid → Bool) (held after : ℕ → Objects) → ((s : ℕ) → IsIn s some → objects_at start volume s ≡ held s) → ((s : ℕ) → (after s ≡ held s) ⊎ (IsIn s some × Left s (after s)))
+  as_step : (made : Fid → Bool) (held after : ℕ → Objects)
+      → ((s : ℕ) → IsIn s some → objects_at start volume s ≡ held s)
+      → ((s : ℕ) → (after s ≡ held s) ⊎ (IsIn s some × Left s (after s)))
       → IsRepaired root some source names (record { holds = held; made = made }) (record { holds = after; made = made })
   as_step made held after same each =
       let r = may.repair in
@@ -120,7 +126,8 @@ module _ (servers : ℕ → List ℕ) (start : PlainCell) (gs : IsGroupSound ser
   source_tree = (now.each source (may.among source may.source_in)).tree
 
   -- what is repaired the source has
-  pub source_has : (f : Fid) → IsBelow (child_in (objects_at start volume source)) may.repair.top f → (held : Held) × (finmap.get (objects_at start volume source) f ≡ Some held)
+  pub source_has : (f : Fid) → IsBelow (child_in (objects_at start volume source)) may.repair.top f
+      → (held : Held) × (finmap.get (objects_at start volume source) f ≡ Some held)
   source_has f below =
       let right = objects_at start volume source in
       let top = leads_there root right right source_tree root names may.repair.top (may.repair.leads source may.source_in) source_tree.rooted in
@@ -173,7 +180,8 @@ module _ (servers : ℕ → List ℕ) (start : PlainCell) (gs : IsGroupSound ser
 
   -- ---- the replicas are one group behind it
 
-  start_found : (joins : Joins) (s : ℕ) → IsIn s some → (found_in start joins).replicas s volume ≡ entries_at start volume s
+  start_found : (joins : Joins) (s : ℕ) → IsIn s some
+      → (found_in start joins).replicas s volume ≡ history_at start volume s
   start_found joins s i = found_up (joins.replicas s volume) (start.replicas s volume) (gs.sound.replicas_up s volume (may.up s i))
 
   module _ (cell : PlainCell) (b : IsRepairBehind cell) (joins : Joins) where
@@ -189,10 +197,11 @@ module _ (servers : ℕ → List ℕ) (start : PlainCell) (gs : IsGroupSound ser
       | inr put ↦ subst (λ es. In d (decisions_of volume es)) (sym put.more) (told_more (decision_at volume) (h.replicas s volume) (Resolved put.objects (lasts s)) d i)
     ]
 
-    holds_or : (s : ℕ) → (holdings later volume s ≡ holdings h volume s) ⊎ (IsIn s some × Left s (holdings later volume s))
+    holds_or : (s : ℕ)
+        → (holdings later volume s ≡ holdings h volume s) ⊎ (IsIn s some × Left s (holdings later volume s))
     holds_or s = elim (b.each joins s) [
-      | inl same ↦ inl (ap (objects_of s volume) same)
-      | inr put ↦ inr (put.there, subst (λ o. Left s o) (sym (ap (objects_of s volume) put.more ∙ objects_push s volume (h.replicas s volume) (Resolved put.objects (lasts s)))) put.left)
+      | inl same ↦ inl (ap (replica_objects s volume) same)
+      | inr put ↦ inr (put.there, subst (λ o. Left s o) (sym (ap (replica_objects s volume) put.more ∙ objects_push s volume (h.replicas s volume) (Resolved put.objects (lasts s)))) put.left)
     ]
 
     pub group_repaired : IsOneGroup later (servers volume) volume
@@ -200,7 +209,7 @@ module _ (servers : ℕ → List ℕ) (start : PlainCell) (gs : IsGroupSound ser
         let g = (gs.stand joins).groups volume in
         let made = made_in h (servers volume) volume in
         let after : Group = record { holds = holdings later volume; made = made } in
-        let step = as_step made (holdings h volume) (holdings later volume) (λ s i. ap (objects_of s volume) (sym (start_found joins s i))) holds_or in
+        let step = as_step made (holdings h volume) (holdings later volume) (λ s i. ap (replica_objects s volume) (sym (start_found joins s i))) holds_or in
         one_group later (servers volume) volume made
         (repaired_stands root (servers volume) (group_of h (servers volume) volume) (stands h (servers volume) volume g) some may.among source may.source_in names after step)
         (λ f m. elim (known h (servers volume) volume g f m) [ inl is ↦ inl is | inr created ↦ inr (created_stays h later volume f decides_more created) ])

@@ -1,5 +1,6 @@
 -- A resolution, installed at one replica after the other.
-use Rattle.std.proofs.Common.{◌≡◌, ◌≢◌, ℕ, ◌≤◌, true, List, [], ◌∷◌, Option, Some, None, is_some, map, refl, sym, ap, ◌∙◌, subst, inl, inr, ◌⊎◌}
+use Rattle.std.proofs.Common.{◌≡◌, ◌≢◌, ℕ, ◌≤◌, true, List, [], ◌∷◌, Option, Some, None, is_some, map, refl, sym, ap}
+use Rattle.std.proofs.Common.{◌∙◌, subst, inl, inr, ◌⊎◌}
 use Rattle.std.specs.FinMap as finmap
 use Rattle.std.proofs.lemmas.Bool.{cases_eq}
 use Rattle.coda_fid.specs.Fid.{root_of}
@@ -19,9 +20,9 @@ use Rattle.coda_plain.specs.Objects.{Objects, nodes_in}
 use Rattle.coda_plain.specs.Decisions.{Last}
 use Rattle.coda_plain.specs.Cell.{PlainCell, Joins, found_in}
 use Rattle.coda_plain.proofs.Soundness.{none_joins, found_up}
-use Rattle.coda_group.specs.Holdings.{objects_of}
+use Rattle.coda_group.specs.Holdings.{replica_objects}
 use Rattle.coda_group.specs.Groups.{holdings, IsOneGroup}
-use Rattle.coda_group.specs.Steps.{entries_at, objects_at, views_at, last_at, Install, IsResolution, MayResolve}
+use Rattle.coda_group.specs.Steps.{history_at, objects_at, views_at, last_at, Install, IsResolution, MayResolve}
 use Rattle.coda_group.specs.Sound.{IsGroupSound}
 use Rattle.coda_group.proofs.Deciding.{put_at, put_here, put_else}
 use Rattle.coda_group.proofs.Volumes.{standing_volume, group_trees, resolved_group}
@@ -31,7 +32,8 @@ use Rattle.coda_group.proofs.Installing.{IsBehind, IsDone, at_start, install_all
 -- ---- what a resolution leaves stood somewhere
 
 -- some replica has it
-held_some : (views : ℕ → Objects) (some : List ℕ) (f : Fid) → first_some (copies_at (map views some) f) ≢ None → (t : ℕ) × (IsIn t some × ((own : Held) × (finmap.get (views t) f ≡ Some own)))
+held_some : (views : ℕ → Objects) (some : List ℕ) (f : Fid) → first_some (copies_at (map views some) f) ≢ None
+    → (t : ℕ) × (IsIn t some × ((own : Held) × (finmap.get (views t) f ≡ Some own)))
 held_some views [] f there = absurd (there refl)
 held_some views (t ∷ some) f there = go (finmap.get (views t) f) refl there (held_some views some f)
   where
@@ -52,7 +54,8 @@ own_kept : (views : Replicas) (root : Fid) (view : Objects) (f : Fid) → KeepsO
 own_kept views root view f (marked_there d why is_taken fate) = inl is_taken
 own_kept views root view f (further d n g keeps child) = inr (λ new is. is.kept d n g keeps child)
 
-pub views_map : (cell : PlainCell) (volume : ℕ) (list : List ℕ) → views_at cell volume list ≡ map (objects_at cell volume) list
+pub views_map : (cell : PlainCell) (volume : ℕ) (list : List ℕ)
+    → views_at cell volume list ≡ map (objects_at cell volume) list
 views_map cell volume [] = refl
 views_map cell volume (s ∷ list) = ap (λ l. objects_at cell volume s ∷ l) (views_map cell volume list)
 
@@ -71,7 +74,8 @@ module _ (servers : ℕ → List ℕ) (start : PlainCell) (gs : IsGroupSound ser
   trees = subst (λ vs. AreTreesOfOneKind vs (root_of volume)) (sym (views_map start volume some)) (group_trees (servers volume) (found_in start none_joins) volume now some may.among some_one)
 
   -- what is left at a replica is a volume
-  pub left_volume : (s : ℕ) (o : Objects) → IsIn s some → IsResolution start volume some s o → IsVolume (root_of volume) (nodes_in o)
+  pub left_volume : (s : ℕ) (o : Objects) → IsIn s some → IsResolution start volume some s o
+      → IsVolume (root_of volume) (nodes_in o)
   left_volume s o i left =
       let before : Group = group_of (found_in start none_joins) (servers volume) volume in
       let after : Group = record { holds = put_at (objects_at start volume) s o; made = before.made } in
@@ -92,7 +96,8 @@ module _ (servers : ℕ → List ℕ) (start : PlainCell) (gs : IsGroupSound ser
   pub left_last : (s client : ℕ) → IsIn s some → (last_at start volume s client).number ≤ (lasts client).number
   left_last s client i = may.joined.greatest client s i
 
-  pub left_from : (s client : ℕ) → IsIn s some → (t : ℕ) × (IsIn t some × ((lasts client ≡ last_at start volume t client) × (lasts client ≡ lasts client)))
+  pub left_from : (s client : ℕ) → IsIn s some
+      → (t : ℕ) × (IsIn t some × ((lasts client ≡ last_at start volume t client) × (lasts client ≡ lasts client)))
   left_from s client i = let from = may.joined.from client in (from.0, (from.1.0, (from.1.1, refl)))
 
   abbrev IsHeldStill : Fid → Type 0
@@ -112,7 +117,8 @@ module _ (servers : ℕ → List ℕ) (start : PlainCell) (gs : IsGroupSound ser
         ),
       )
 
-  pub left_held : (s : ℕ) (o : Objects) (f : Fid) → IsIn s some → IsResolution start volume some s o → has_in o f ≡ true → IsHeldStill f
+  pub left_held : (s : ℕ) (o : Objects) (f : Fid) → IsIn s some → IsResolution start volume some s o
+      → has_in o f ≡ true → IsHeldStill f
   left_held s o f i left e = elim (left.only f e) [
     | inl is_taken ↦ taken_held f is_taken
     | inr keeps ↦ elim (own_kept views (root_of volume) (objects_at start volume s) f keeps) [
@@ -135,16 +141,19 @@ module _ (servers : ℕ → List ℕ) (start : PlainCell) (gs : IsGroupSound ser
 
   -- ---- the replicas are one group behind it
 
-  start_found : (joins : Joins) (s : ℕ) → IsIn s some → (found_in start joins).replicas s volume ≡ entries_at start volume s
+  start_found : (joins : Joins) (s : ℕ) → IsIn s some
+      → (found_in start joins).replicas s volume ≡ history_at start volume s
   start_found joins s i = found_up (joins.replicas s volume) (start.replicas s volume) (gs.sound.replicas_up s volume (may.up s i))
 
-  views_found : (joins : Joins) (list : List ℕ) → AreAmong list some → views_at start volume list ≡ map (holdings (found_in start joins) volume) list
+  views_found : (joins : Joins) (list : List ℕ) → AreAmong list some
+      → views_at start volume list ≡ map (holdings (found_in start joins) volume) list
   views_found joins [] sub = refl
   views_found joins (s ∷ list) sub =
-      let at : objects_at start volume s ≡ holdings (found_in start joins) volume s = ap (objects_of s volume) (sym (start_found joins s (sub s (inl refl)))) in
+      let at : objects_at start volume s ≡ holdings (found_in start joins) volume s = ap (replica_objects s volume) (sym (start_found joins s (sub s (inl refl)))) in
       λ i. at i ∷ views_found joins list (λ t j. sub t (inr j)) i
 
-  pub group_behind : (cell : PlainCell) → IsResolutionBehind cell → (joins : Joins) → IsOneGroup (found_in cell joins) (servers volume) volume
+  pub group_behind : (cell : PlainCell) → IsResolutionBehind cell → (joins : Joins)
+      → IsOneGroup (found_in cell joins) (servers volume) volume
   group_behind cell b joins = resolved_group (servers volume) (found_in start joins) (found_in cell joins) volume some ((gs.stand joins).groups volume) may.among
       (λ s. elim (b.each joins s) [
         | inl same ↦ inl same
@@ -154,6 +163,6 @@ module _ (servers : ℕ → List ℕ) (start : PlainCell) (gs : IsGroupSound ser
           among = put.there;
           grown = put.more;
           left = subst (λ vs. IsInstalled vs (root_of volume) (holdings (found_in start joins) volume s) put.objects) (views_found joins some (λ t j. j))
-              (subst (λ es. IsInstalled views (root_of volume) (objects_of s volume es) put.objects) (sym (start_found joins s put.there)) put.left);
+              (subst (λ es. IsInstalled views (root_of volume) (replica_objects s volume es) put.objects) (sym (start_found joins s put.there)) put.left);
         })
       ])

@@ -1,5 +1,6 @@
 -- What may happen keeps a cell sound, and its replicas of one group.
-use Rattle.std.proofs.Common.{◌≡◌, ◌≢◌, ℕ, ◌+◌, ◌<◌, ◌==◌, Bool, true, false, cond, List, [], ◌∷◌, ◌++◌, append-nil, Option, Some, None, refl, sym, ap, ◌∙◌, subst, inl, inr, ◌⊎◌, arith}
+use Rattle.std.proofs.Common.{◌≡◌, ◌≢◌, ℕ, ◌+◌, ◌<◌, ◌==◌, Bool, true, false, cond, List, [], ◌∷◌, ◌++◌, append-nil}
+use Rattle.std.proofs.Common.{Option, Some, None, refl, sym, ap, ◌∙◌, subst, inl, inr, ◌⊎◌, arith}
 use Rattle.std.proofs.lemmas.Bool.{cases_eq}
 use Rattle.coda_fid.specs.declared.fid.Fid.{Fid}
 use Rattle.coda_cancel.specs.Dropping.{creates}
@@ -11,21 +12,29 @@ use Rattle.coda_fid.proofs.Fids.{same_fid_is}
 use Rattle.coda_lineage.proofs.Reaching.{new_sound}
 use Rattle.coda_plain.specs.Histories.{In}
 use Rattle.coda_certify.specs.declared.verdict.Verdict.{Verdict}
-use Rattle.coda_plain.specs.Deeds.{Deed, Operated, Froze, Settled, Gaveup, operation_in, full_of, created_in, settlements_of, MayDo}
+use Rattle.coda_plain.specs.Deeds.{Deed, Operated, Froze, Settled, Gaveup, operation_in, full_of, created_in}
+use Rattle.coda_plain.specs.Deeds.{settlements_of, MayDo}
 use Rattle.coda_plain.specs.Objects.{Objects}
-use Rattle.coda_plain.specs.Decisions.{ReplicaEntry, Decided, Resolved, Last, Kept, Decision, verdict_on, sent_of, decision_at, decisions_of, last_of, nodes_of}
-use Rattle.coda_plain.specs.Cell.{ClientEntry, Fetched, Did, Dropping, deeds_of, Letter, ChunkSent, Actor, new_actor, PlainCell, empty_cell, found, Histories, Joins, found_in}
-use Rattle.coda_plain.specs.Moves.{AtClient, AtReplica, TheClient, TheReplica, Move, Does, Fails, Posts, Loses, Crashes, Recovers, with_client, with_replica, grown, fallen, crashed, recovered, after, done_on, IsBacked, MayAppend, MayPost, May}
+use Rattle.coda_plain.specs.Decisions.{ReplicaEntry, Decided, Resolved, Last, Kept, Decision, verdict_on, sent_of}
+use Rattle.coda_plain.specs.Decisions.{decision_at, decisions_of, last_of, nodes_of}
+use Rattle.coda_plain.specs.Cell.{ClientEntry, Fetched, Did, Dropping, deeds_of, Letter, ChunkSent, Actor, new_actor}
+use Rattle.coda_plain.specs.Cell.{PlainCell, empty_cell, found, Histories, Joins, found_in}
+use Rattle.coda_plain.specs.Moves.{AtClient, AtReplica, TheClient, TheReplica, Move, Does, Fails, Posts, Loses}
+use Rattle.coda_plain.specs.Moves.{Crashes, Recovers, with_client, with_replica, grown, fallen, crashed, recovered}
+use Rattle.coda_plain.specs.Moves.{after, done_on, IsBacked, MayAppend, MayPost, May}
 use Rattle.coda_plain.specs.Promises.{Decides}
 use Rattle.coda_plain.specs.Sound.{deeds_in, HasFrozen, IsDecided, IsSound}
 use Rattle.coda_plain.proofs.Lists.{told_more, told_last, told_new, in_parts}
 use Rattle.coda_plain.proofs.AtReplicas.{kept_push}
 use Rattle.coda_plain.proofs.Chunking.{full_push}
 use Rattle.coda_plain.proofs.Places.{IsGrown, at_grown, deeds_grown, deeds_fetched, IsBeside, beside}
-use Rattle.coda_plain.proofs.Soundness.{found_up, grown_found, fallen_found, recovered_found, found_grown, told_now, moves_keep_sound, runs_are_sound}
-use Rattle.coda_group.specs.Holdings.{objects_of}
-use Rattle.coda_group.specs.Groups.{IsNumbered, AreNumberedFrom, IsCreated, IsReplica, IsOneGroup, IsFrozenNow, WasDecided, DoStand}
-use Rattle.coda_group.specs.Steps.{Step, Moves, Resolves, Repairs, CreatesNext, IsAlone, IsAloneBy, after_step, Stepped}
+use Rattle.coda_plain.proofs.Soundness.{found_up, grown_found, fallen_found, recovered_found, found_grown, told_now}
+use Rattle.coda_plain.proofs.Soundness.{moves_keep_sound, runs_are_sound}
+use Rattle.coda_group.specs.Holdings.{replica_objects}
+use Rattle.coda_group.specs.Groups.{IsObjectNumbered, AreNumberedFrom, IsCreatedByChunk, IsReplica, IsOneGroup}
+use Rattle.coda_group.specs.Groups.{IsFrozenNow, WasDecided, DoGroupsStand}
+use Rattle.coda_group.specs.Steps.{GroupStep, Moves, Resolves, Repairs, CreatesNext, MayAppendAlone, MayMoveAlone}
+use Rattle.coda_group.specs.Steps.{after_step, GroupStepped}
 use Rattle.coda_group.specs.Sound.{IsGroupSound}
 use Rattle.coda_group.specs.Laws.{StepsAreMoves, StepsKeepGroupSound, GroupRunsAreSound}
 use Rattle.coda_group.proofs.Making.{numbered_push, AreNew}
@@ -41,7 +50,7 @@ use Rattle.coda_group.proofs.Repairing.{repair_done, group_repaired}
 
 -- what an entry creates is the next object
 abbrev CreatesIn : ℕ → ℕ → List Deed → Deed → Type 0
-CreatesIn volume client past (Operated rec) = (f : Fid) → creates f rec.op ≡ true → IsNumbered volume client (created_in (full_of past) + 1) f
+CreatesIn volume client past (Operated rec) = (f : Fid) → creates f rec.op ≡ true → IsObjectNumbered volume client (created_in (full_of past) + 1) f
 CreatesIn volume client past (Froze number home last) = Unit {0}
 CreatesIn volume client past (Settled number verdict) = Unit {0}
 CreatesIn volume client past Gaveup = Unit {0}
@@ -49,17 +58,20 @@ CreatesIn volume client past Gaveup = Unit {0}
 abbrev AreNumbers : ℕ → ℕ → List Deed → Type 0
 AreNumbers volume client deeds = AreNumberedFrom volume client 0 (full_of deeds)
 
-more_numbers : (volume client : ℕ) (past : List Deed) (deed : Deed) → AreNumbers volume client past → CreatesIn volume client past deed → AreNumberedFrom volume client 0 (full_of past ++ operation_in deed)
+more_numbers : (volume client : ℕ) (past : List Deed) (deed : Deed) → AreNumbers volume client past
+    → CreatesIn volume client past deed → AreNumberedFrom volume client 0 (full_of past ++ operation_in deed)
 more_numbers volume client past (Operated rec) a next = numbered_push volume client 0 (full_of past) rec a (λ f e.
     (let is = next f e in let number = is.number_is in record { here = is.here; own = is.own; some = is.some; number_is = omega (arith, number) }))
 more_numbers volume client past (Froze number home last) a next = subst (AreNumberedFrom volume client 0) (sym (append-nil (full_of past))) a
 more_numbers volume client past (Settled number verdict) a next = subst (AreNumberedFrom volume client 0) (sym (append-nil (full_of past))) a
 more_numbers volume client past Gaveup a next = subst (AreNumberedFrom volume client 0) (sym (append-nil (full_of past))) a
 
-numbers_push : (volume client : ℕ) (past : List Deed) (deed : Deed) → AreNumbers volume client past → CreatesIn volume client past deed → AreNumbers volume client (past ++ deed ∷ [])
+numbers_push : (volume client : ℕ) (past : List Deed) (deed : Deed) → AreNumbers volume client past
+    → CreatesIn volume client past deed → AreNumbers volume client (past ++ deed ∷ [])
 numbers_push volume client past deed a next = subst (AreNumberedFrom volume client 0) (sym (full_push past deed)) (more_numbers volume client past deed a next)
 
-creates_in : (cell : PlainCell) (client volume : ℕ) (deed : Deed) → CreatesNext cell client volume deed → CreatesIn volume client (done_on cell client volume) deed
+creates_in : (cell : PlainCell) (client volume : ℕ) (deed : Deed) → CreatesNext cell client volume deed
+    → CreatesIn volume client (done_on cell client volume) deed
 creates_in cell client volume (Operated rec) next = next
 creates_in cell client volume (Froze number home last) next = tt
 creates_in cell client volume (Settled number verdict) next = tt
@@ -69,7 +81,9 @@ module _ (servers : ℕ → List ℕ) (cell : PlainCell) (gs : IsGroupSound serv
   -- ---- a client
 
   -- histories stand with clients that did the same
-  stand_same : (h : Histories) (clients : ℕ → List ClientEntry) → DoStand servers h cell.pool → ((c v : ℕ) → deeds_of v (clients c) ≡ deeds_in h c v) → DoStand servers (record h { clients = clients }) cell.pool
+  stand_same : (h : Histories) (clients : ℕ → List ClientEntry) → DoGroupsStand servers h cell.pool
+      → ((c v : ℕ) → deeds_of v (clients c) ≡ deeds_in h c v)
+      → DoGroupsStand servers (record h { clients = clients }) cell.pool
   stand_same h clients st at = record {
     numbered = λ c v. subst (AreNumbers v c) (sym (at c v)) (st.numbered c v);
     truths = λ s v d verdict i. subst (λ ds. In (record { number = d.number; verdict = verdict }) (settlements_of ds) → verdict ≡ verdict_on d) (sym (at d.client v)) (st.truths s v d verdict i);
@@ -86,29 +100,33 @@ module _ (servers : ℕ → List ℕ) (cell : PlainCell) (gs : IsGroupSound serv
     abbrev is : Histories
     is = record (found_in cell joins) { clients = clients }
 
-    abbrev st : DoStand servers was cell.pool
+    abbrev st : DoGroupsStand servers was cell.pool
     st = gs.stand joins
 
     client_found : was.clients client ≡ (cell.clients client).history
     client_found = found_up (joins.clients client) (cell.clients client) (gs.sound.clients_up client may.0)
 
     -- what holds of the deeds before, and of them with this one, holds of the deeds then
-    at_deeds : (c v : ℕ) (P : List Deed → Type 0) → P (deeds_of v (was.clients c)) → ((c ≡ client) × (v ≡ volume) → P (deeds_of v (was.clients c) ++ deed ∷ [])) → P (deeds_of v (is.clients c))
+    at_deeds : (c v : ℕ) (P : List Deed → Type 0) → P (deeds_of v (was.clients c))
+        → ((c ≡ client) × (v ≡ volume) → P (deeds_of v (was.clients c) ++ deed ∷ [])) → P (deeds_of v (is.clients c))
     at_deeds c v P = at_grown ((c ≡ client) × (v ≡ volume)) deed (deeds_of v (was.clients c)) (deeds_of v (is.clients c)) P
         (deeds_grown client v c volume deed (was.clients c) (is.clients c) (more c))
 
     -- what holds there of the client and the volume holds here
-    here_as : (c v : ℕ) → (c ≡ client) × (v ≡ volume) → (P : ℕ → ℕ → List Deed → Type 0) → P client volume (done_on cell client volume) → P c v (deeds_of v (was.clients c))
+    here_as : (c v : ℕ) → (c ≡ client) × (v ≡ volume) → (P : ℕ → ℕ → List Deed → Type 0)
+        → P client volume (done_on cell client volume) → P c v (deeds_of v (was.clients c))
     here_as c v at P p =
         subst (λ n. P n v (deeds_of v (was.clients n))) (sym at.0) (subst (λ n. P client n (deeds_of n (was.clients client))) (sym at.1) (subst (λ es. P client volume (deeds_of volume es)) (sym client_found) p))
 
-    told_there : (number : ℕ) (verdict : Verdict) → deed ≡ Settled number verdict → IsDecided was.replicas volume client number verdict
+    told_there : (number : ℕ) (verdict : Verdict) → deed ≡ Settled number verdict
+        → IsDecided was.replicas volume client number verdict
     told_there number verdict e = told_now cell gs.sound joins client volume number verdict (subst (IsBacked cell client volume) e may.1.1)
 
-    told_here : (c v : ℕ) → (c ≡ client) × (v ≡ volume) → (number : ℕ) (verdict : Verdict) → deed ≡ Settled number verdict → IsDecided was.replicas v c number verdict
+    told_here : (c v : ℕ) → (c ≡ client) × (v ≡ volume) → (number : ℕ) (verdict : Verdict)
+        → deed ≡ Settled number verdict → IsDecided was.replicas v c number verdict
     told_here c v at number verdict e = subst (λ n. IsDecided was.replicas v n number verdict) (sym at.0) (subst (λ n. IsDecided was.replicas n client number verdict) (sym at.1) (told_there number verdict e))
 
-    pub stand_did : DoStand servers is cell.pool
+    pub stand_did : DoGroupsStand servers is cell.pool
     stand_did = record {
       numbered = λ c v. at_deeds c v (AreNumbers v c) (st.numbered c v)
           (λ at. numbers_push v c (deeds_of v (was.clients c)) deed (st.numbered c v) (here_as c v at (λ n m ds. CreatesIn m n ds deed) (creates_in cell client volume deed creation)));
@@ -128,8 +146,9 @@ module _ (servers : ℕ → List ℕ) (cell : PlainCell) (gs : IsGroupSound serv
     }
 
   -- what an entry leaves of a client, whatever was dropped at once with it
-  stand_entry : (client : ℕ) (entry : ClientEntry) (joins : Joins) (clients : ℕ → List ClientEntry) → ((c : ℕ) → IsGrown (c ≡ client) entry ((found_in cell joins).clients c) (clients c))
-      → MayAppend cell (AtClient client entry) → IsAlone servers cell (AtClient client entry) → DoStand servers (record (found_in cell joins) { clients = clients }) cell.pool
+  stand_entry : (client : ℕ) (entry : ClientEntry) (joins : Joins) (clients : ℕ → List ClientEntry)
+      → ((c : ℕ) → IsGrown (c ≡ client) entry ((found_in cell joins).clients c) (clients c))
+      → MayAppend cell (AtClient client entry) → MayAppendAlone servers cell (AtClient client entry) → DoGroupsStand servers (record (found_in cell joins) { clients = clients }) cell.pool
   stand_entry client (Fetched fid parent node) joins clients more may alone =
       stand_same (found_in cell joins) clients (gs.stand joins) (λ c v. deeds_fetched (c ≡ client) v fid parent node ((found_in cell joins).clients c) (clients c) (more c))
   stand_entry client (Did volume deed) joins clients more may alone = stand_did client volume deed joins clients more may alone
@@ -156,7 +175,7 @@ module _ (servers : ℕ → List ℕ) (cell : PlainCell) (gs : IsGroupSound serv
 
     -- where no replica of the volume has an entry more, the group is the same
     group_stays : (v : ℕ) → ((s : ℕ) → new.replicas s v ≡ old.replicas s v) → IsOneGroup new (servers v) v
-    group_stays v same = group_same (servers v) old new v (λ s. ap (objects_of s v) (sym (same s))) (λ s d i. subst (λ es. In d (decisions_of v es)) (sym (same s)) i) ((gs.stand joins).groups v)
+    group_stays v same = group_same (servers v) old new v (λ s. ap (replica_objects s v) (sym (same s))) (λ s d i. subst (λ es. In d (decisions_of v es)) (sym (same s)) i) ((gs.stand joins).groups v)
 
     others : (s : ℕ) → s ≢ server → new.replicas s volume ≡ old.replicas s volume
     others s ne = elim (here_or s volume) [ inl same ↦ same | inr grew ↦ absurd (ne grew.0.0) ]
@@ -171,15 +190,19 @@ module _ (servers : ℕ → List ℕ) (cell : PlainCell) (gs : IsGroupSound serv
       | inr is ↦ inl (subst (λ es. IsFrozenNow (deeds_of volume es) number) (sym (found_up (joins.clients client) (cell.clients client) (gs.sound.clients_up client is.up))) ((is.cut, is.frozen), is.last))
     ]
 
-    frozen_here : new.replicas server volume ≡ old.replicas server volume ++ entry ∷ [] → HasFrozen old client volume number server span
+    frozen_here : new.replicas server volume ≡ old.replicas server volume ++ entry ∷ []
+        → HasFrozen old client volume number server span
     frozen_here grew =
         let it : Decision = record { client = client; number = number; span = span; before = nodes_of volume (old.replicas server volume) } in
         (sound.agree joins).frozen server volume it (subst (λ es. In it (decisions_of volume es)) (sym grew) (told_new (decision_at volume) (old.replicas server volume) entry it (inl refl)))
 
-    fresh : new.replicas server volume ≡ old.replicas server volume ++ entry ∷ [] → (made : Fid → Bool) → ((f : Fid) → made f ≡ true → (f ≡ root_of volume) ⊎ IsCreated old volume f) → AreNew made (sent_of span)
+    fresh : new.replicas server volume ≡ old.replicas server volume ++ entry ∷ [] → (made : Fid → Bool)
+        → ((f : Fid) → made f ≡ true → (f ≡ root_of volume) ⊎ IsCreatedByChunk old volume f)
+        → AreNew made (sent_of span)
     fresh grew = new_span old cell.pool (gs.sound.agree joins) volume (λ c. (gs.stand joins).numbered c volume) client (λ s d verdict. (gs.stand joins).truths s volume d verdict) server number span is_next (frozen_here grew) under
 
-    no_settlement : new.replicas server volume ≡ old.replicas server volume ++ entry ∷ [] → (verdict : Verdict) → In (record { number = number; verdict = verdict }) (settlements_of (deeds_in old client volume)) → ⊥
+    no_settlement : new.replicas server volume ≡ old.replicas server volume ++ entry ∷ [] → (verdict : Verdict)
+        → In (record { number = number; verdict = verdict }) (settlements_of (deeds_in old client volume)) → ⊥
     no_settlement grew verdict = unsettled old cell.pool (gs.sound.agree joins) volume (λ c. (gs.stand joins).numbered c volume) client (λ s d v. (gs.stand joins).truths s volume d v) server number span is_next (frozen_here grew) under verdict
 
     group_here : IsOneGroup new (servers volume) volume
@@ -194,7 +217,9 @@ module _ (servers : ℕ → List ℕ) (cell : PlainCell) (gs : IsGroupSound serv
     decides_more : (s v : ℕ) (d : Decision) → Decides old s v d → Decides new s v d
     decides_more s v d i = at_grown ((s ≡ server) × (v ≡ volume)) entry (old.replicas s v) (new.replicas s v) (λ es. In d (decisions_of v es)) (here_or s v) i (λ here. told_more (decision_at v) (old.replicas s v) entry d i)
 
-    truths_then : (s v : ℕ) (d : Decision) (verdict : Verdict) → Decides new s v d → In (record { number = d.number; verdict = verdict }) (settlements_of (deeds_in old d.client v)) → verdict ≡ verdict_on d
+    truths_then : (s v : ℕ) (d : Decision) (verdict : Verdict) → Decides new s v d
+        → In (record { number = d.number; verdict = verdict }) (settlements_of (deeds_in old d.client v))
+        → verdict ≡ verdict_on d
     truths_then s v d verdict i j = elim (here_or s v) [
       | inl same ↦ (gs.stand joins).truths s v d verdict (subst (λ es. In d (decisions_of v es)) same i) j
       | inr grew ↦ elim (told_last (decision_at v) (old.replicas s v) entry d (subst (λ es. In d (decisions_of v es)) grew.1 i)) [
@@ -206,10 +231,12 @@ module _ (servers : ℕ → List ℕ) (cell : PlainCell) (gs : IsGroupSound serv
       ]
     ]
 
-    still_decided : (v c n : ℕ) (verdict : Verdict) → IsDecided old.replicas v c n verdict → IsDecided new.replicas v c n verdict
+    still_decided : (v c n : ℕ) (verdict : Verdict) → IsDecided old.replicas v c n verdict
+        → IsDecided new.replicas v c n verdict
     still_decided v c n verdict was = record { server = was.server; by = was.by; there = decides_more was.server v was.by was.there; client_is = was.client_is; number_is = was.number_is; verdict_is = was.verdict_is }
 
-    taken_then : (s v c : ℕ) (objects : Objects) (lasts : ℕ → Last) → In (Resolved objects lasts) (new.replicas s v) → 0 < (lasts c).number → IsDecided new.replicas v c (lasts c).number (lasts c).verdict
+    taken_then : (s v c : ℕ) (objects : Objects) (lasts : ℕ → Last) → In (Resolved objects lasts) (new.replicas s v)
+        → 0 < (lasts c).number → IsDecided new.replicas v c (lasts c).number (lasts c).verdict
     taken_then s v c objects lasts i some = still_decided v c (lasts c).number (lasts c).verdict ((gs.stand joins).taken s v c objects lasts was some)
       where
         was : In (Resolved objects lasts) (old.replicas s v)
@@ -222,7 +249,7 @@ module _ (servers : ℕ → List ℕ) (cell : PlainCell) (gs : IsGroupSound serv
           ]
         ]
 
-    pub stand_decided : DoStand servers new cell.pool
+    pub stand_decided : DoGroupsStand servers new cell.pool
     stand_decided = record {
       numbered = (gs.stand joins).numbered;
       truths = truths_then;
@@ -239,14 +266,18 @@ module _ (servers : ℕ → List ℕ) (cell : PlainCell) (gs : IsGroupSound serv
 
   -- ---- each move
 
-  after_client : (client : ℕ) (entry : ClientEntry) (next : Actor ClientEntry) → ((b : Bool) → IsGrown (Unit {0}) entry (found b (cell.clients client)) (found b next)) → MayAppend cell (AtClient client entry) → IsAlone servers cell (AtClient client entry)
+  after_client : (client : ℕ) (entry : ClientEntry) (next : Actor ClientEntry)
+      → ((b : Bool) → IsGrown (Unit {0}) entry (found b (cell.clients client)) (found b next))
+      → MayAppend cell (AtClient client entry) → MayAppendAlone servers cell (AtClient client entry)
       → IsSound (with_client cell client next) → IsGroupSound servers (with_client cell client next)
   after_client client entry next more may alone sound = record {
     sound = sound;
     stand = λ joins. stand_entry client entry joins (found_in (with_client cell client next) joins).clients (found_grown cell gs.sound client entry next joins more) may alone;
   }
 
-  after_replica : (server volume : ℕ) (entry : ReplicaEntry) (next : Actor ReplicaEntry) → ((b : Bool) → IsGrown (Unit {0}) entry (found b (cell.replicas server volume)) (found b next)) → MayAppend cell (AtReplica server volume entry) → IsAlone servers cell (AtReplica server volume entry)
+  after_replica : (server volume : ℕ) (entry : ReplicaEntry) (next : Actor ReplicaEntry)
+      → ((b : Bool) → IsGrown (Unit {0}) entry (found b (cell.replicas server volume)) (found b next))
+      → MayAppend cell (AtReplica server volume entry) → MayAppendAlone servers cell (AtReplica server volume entry)
       → IsSound (with_replica cell server volume next) → IsGroupSound servers (with_replica cell server volume next)
   after_replica server volume (Decided client number span) next more may alone sound = record {
     sound = sound;
@@ -259,10 +290,13 @@ module _ (servers : ℕ → List ℕ) (cell : PlainCell) (gs : IsGroupSound serv
   abbrev IsSentStill : Joins → ℕ → ℕ → ℕ → Type 0
   IsSentStill joins c v n = IsFrozenNow (deeds_in (found_in cell joins) c v) n ⊎ WasDecided (found_in cell joins) v c n
 
-  other_pool : (joins : Joins) (pool : ℕ → Option Letter) → ((m c s v n : ℕ) → pool m ≡ Some (ChunkSent c s v n) → IsSentStill joins c v n) → DoStand servers (found_in cell joins) pool
+  other_pool : (joins : Joins) (pool : ℕ → Option Letter)
+      → ((m c s v n : ℕ) → pool m ≡ Some (ChunkSent c s v n) → IsSentStill joins c v n)
+      → DoGroupsStand servers (found_in cell joins) pool
   other_pool joins pool sent = record { numbered = (gs.stand joins).numbered; truths = (gs.stand joins).truths; sent = sent; taken = (gs.stand joins).taken; groups = (gs.stand joins).groups }
 
-  by_letter : (joins : Joins) (letter : Letter) (c s v n : ℕ) → MayPost cell letter → letter ≡ ChunkSent c s v n → IsSentStill joins c v n
+  by_letter : (joins : Joins) (letter : Letter) (c s v n : ℕ) → MayPost cell letter → letter ≡ ChunkSent c s v n
+      → IsSentStill joins c v n
   by_letter joins letter c s v n may e =
       let is = subst (MayPost cell) e may in
       inl (subst (λ es. IsFrozenNow (deeds_of v es) n) (sym (found_up (joins.clients c) (cell.clients c) (gs.sound.clients_up c is.up))) ((is.cut, is.frozen), is.last))
@@ -270,15 +304,17 @@ module _ (servers : ℕ → List ℕ) (cell : PlainCell) (gs : IsGroupSound serv
   some_is : (x y : Letter) → Some x ≡ Some y → x ≡ y
   some_is x y e = cc
 
-  posted : (joins : Joins) (letter : Letter) → MayPost cell letter → (m c s v n : ℕ) (b : Bool) → cond b (Some letter) (cell.pool m) ≡ Some (ChunkSent c s v n) → IsSentStill joins c v n
+  posted : (joins : Joins) (letter : Letter) → MayPost cell letter → (m c s v n : ℕ) (b : Bool)
+      → cond b (Some letter) (cell.pool m) ≡ Some (ChunkSent c s v n) → IsSentStill joins c v n
   posted joins letter may m c s v n true e = by_letter joins letter c s v n may (some_is letter (ChunkSent c s v n) e)
   posted joins letter may m c s v n false e = (gs.stand joins).sent m c s v n e
 
-  lost : (joins : Joins) (m c s v n : ℕ) (b : Bool) → cond b None (cell.pool m) ≡ Some (ChunkSent c s v n) → IsSentStill joins c v n
+  lost : (joins : Joins) (m c s v n : ℕ) (b : Bool) → cond b None (cell.pool m) ≡ Some (ChunkSent c s v n)
+      → IsSentStill joins c v n
   lost joins m c s v n true e = cc
   lost joins m c s v n false e = (gs.stand joins).sent m c s v n e
 
-  moved : (move : Move) → May cell move → IsAloneBy servers cell move → IsGroupSound servers (after cell move)
+  moved : (move : Move) → May cell move → MayMoveAlone servers cell move → IsGroupSound servers (after cell move)
   moved (Does (AtClient client entry)) may alone =
       after_client client entry (grown entry (cell.clients client)) (λ b. grown_found entry b (cell.clients client) (gs.sound.clients_up client may.0)) may alone (moves_keep_sound cell (Does (AtClient client entry)) may gs.sound)
   moved (Does (AtReplica server volume entry)) may alone =
@@ -297,19 +333,19 @@ module _ (servers : ℕ → List ℕ) (cell : PlainCell) (gs : IsGroupSound serv
   }
   moved (Crashes (TheClient client)) may alone = record {
     sound = moves_keep_sound cell (Crashes (TheClient client)) may gs.sound;
-    stand = λ joins. (let other = other_client cell client (crashed (cell.clients client)) (λ b. b) (λ b. refl) joins in subst (λ h. DoStand servers h cell.pool) other.1 (gs.stand other.0));
+    stand = λ joins. (let other = other_client cell client (crashed (cell.clients client)) (λ b. b) (λ b. refl) joins in subst (λ h. DoGroupsStand servers h cell.pool) other.1 (gs.stand other.0));
   }
   moved (Crashes (TheReplica server volume)) may alone = record {
     sound = moves_keep_sound cell (Crashes (TheReplica server volume)) may gs.sound;
-    stand = λ joins. (let other = other_replica cell server volume (crashed (cell.replicas server volume)) (λ b. b) (λ b. refl) joins in subst (λ h. DoStand servers h cell.pool) other.1 (gs.stand other.0));
+    stand = λ joins. (let other = other_replica cell server volume (crashed (cell.replicas server volume)) (λ b. b) (λ b. refl) joins in subst (λ h. DoGroupsStand servers h cell.pool) other.1 (gs.stand other.0));
   }
   moved (Recovers (TheClient client) j) may alone = record {
     sound = moves_keep_sound cell (Recovers (TheClient client) j) may gs.sound;
-    stand = λ joins. (let other = other_client cell client (recovered j (cell.clients client)) (λ b. j) (λ b. recovered_found j b (cell.clients client)) joins in subst (λ h. DoStand servers h cell.pool) other.1 (gs.stand other.0));
+    stand = λ joins. (let other = other_client cell client (recovered j (cell.clients client)) (λ b. j) (λ b. recovered_found j b (cell.clients client)) joins in subst (λ h. DoGroupsStand servers h cell.pool) other.1 (gs.stand other.0));
   }
   moved (Recovers (TheReplica server volume) j) may alone = record {
     sound = moves_keep_sound cell (Recovers (TheReplica server volume) j) may gs.sound;
-    stand = λ joins. (let other = other_replica cell server volume (recovered j (cell.replicas server volume)) (λ b. j) (λ b. recovered_found j b (cell.replicas server volume)) joins in subst (λ h. DoStand servers h cell.pool) other.1 (gs.stand other.0));
+    stand = λ joins. (let other = other_replica cell server volume (recovered j (cell.replicas server volume)) (λ b. j) (λ b. recovered_found j b (cell.replicas server volume)) joins in subst (λ h. DoGroupsStand servers h cell.pool) other.1 (gs.stand other.0));
   }
 
   -- ---- something left at replicas of a volume
@@ -318,11 +354,13 @@ module _ (servers : ℕ → List ℕ) (cell : PlainCell) (gs : IsGroupSound serv
   abbrev TookOne : List ReplicaEntry → List ReplicaEntry → Type 0
   TookOne before behind = (behind ≡ before) ⊎ ((objects : Objects) × ((lasts : ℕ → Last) × (behind ≡ before ++ Resolved objects lasts ∷ [])))
 
-  took_decides : (v : ℕ) (before behind : List ReplicaEntry) (d : Decision) → TookOne before behind → In d (decisions_of v before) → In d (decisions_of v behind)
+  took_decides : (v : ℕ) (before behind : List ReplicaEntry) (d : Decision) → TookOne before behind
+      → In d (decisions_of v before) → In d (decisions_of v behind)
   took_decides v before behind d (inl same) i = subst (λ es. In d (decisions_of v es)) (sym same) i
   took_decides v before behind d (inr one) i = subst (λ es. In d (decisions_of v es)) (sym one.1.1) (told_more (decision_at v) before (Resolved one.0 one.1.0) d i)
 
-  took_decided : (v : ℕ) (before behind : List ReplicaEntry) (d : Decision) → TookOne before behind → In d (decisions_of v behind) → In d (decisions_of v before)
+  took_decided : (v : ℕ) (before behind : List ReplicaEntry) (d : Decision) → TookOne before behind
+      → In d (decisions_of v behind) → In d (decisions_of v before)
   took_decided v before behind d (inl same) i = subst (λ es. In d (decisions_of v es)) same i
   took_decided v before behind d (inr one) i = elim (told_last (decision_at v) before (Resolved one.0 one.1.0) d (subst (λ es. In d (decisions_of v es)) one.1.1 i)) [ inl was ↦ was | inr none ↦ absurd none ]
 
@@ -374,7 +412,7 @@ module _ (servers : ℕ → List ℕ) (cell : PlainCell) (gs : IsGroupSound serv
           ];
           groups = λ v. elim (cases_eq v volume) [
             | inl is ↦ subst (λ n. IsOneGroup (found_in final joins) (servers n) n) (sym is) (group joins)
-            | inr ne ↦ group_same (servers v) (found_in cell joins) (found_in final joins) v (λ s. ap (objects_of s v) (sym (elsewhere joins s v ne)))
+            | inr ne ↦ group_same (servers v) (found_in cell joins) (found_in final joins) v (λ s. ap (replica_objects s v) (sym (elsewhere joins s v ne)))
                 (λ s d i. subst (λ es. In d (decisions_of v es)) (sym (elsewhere joins s v ne)) i) ((gs.stand joins).groups v)
           ];
         };
@@ -401,11 +439,12 @@ steps_are_moves servers cell (Repairs volume source names some lasts installs fa
 -- ---- runs
 
 -- a new volume: its replicas hold the root alone
-pub new_group : (servers : List ℕ) (h : Histories) (volume : ℕ) → ((s : ℕ) → h.replicas s volume ≡ []) → IsOneGroup h servers volume
+pub new_group : (servers : List ℕ) (h : Histories) (volume : ℕ) → ((s : ℕ) → h.replicas s volume ≡ [])
+    → IsOneGroup h servers volume
 new_group servers h volume none = record {
   kind = λ f. true;
   top = refl;
-  each = λ s i. subst (IsReplica h volume (λ f. true)) (sym (ap (objects_of s volume) (none s))) (
+  each = λ s i. subst (IsReplica h volume (λ f. true)) (sym (ap (replica_objects s volume) (none s))) (
       let root = root_of volume in
       let at = new_sound root (λ f. same_fid f root) (λ f. refl) in
       record { tree = at.tree; kinds = at.kinds; rings = new_ringed root; known = λ f e. inl (same_fid_is f root (at.was_made f e)) });
@@ -426,7 +465,8 @@ empty_stands servers = record {
   };
 }
 
-pub stepped_sound : (servers : ℕ → List ℕ) (steps : List Step) (before behind : PlainCell) → Stepped servers before steps behind → IsGroupSound servers before → IsGroupSound servers behind
+pub stepped_sound : (servers : ℕ → List ℕ) (steps : List GroupStep) (before behind : PlainCell)
+    → GroupStepped servers before steps behind → IsGroupSound servers before → IsGroupSound servers behind
 stepped_sound servers [] before behind run gs = subst (λ c. IsGroupSound servers c) (sym run) gs
 stepped_sound servers (step ∷ steps) before behind run gs = stepped_sound servers steps (after_step before step) behind run.1 (steps_keep_group_sound servers before step run.0 gs)
 

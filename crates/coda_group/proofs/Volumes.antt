@@ -1,5 +1,6 @@
 -- The replicas of a group are volumes, any of them trees of one kind, and a resolution keeps them one group.
-use Rattle.std.proofs.Common.{◌≡◌, ◌≢◌, ℕ, true, List, [], ◌∷◌, ◌++◌, Option, Some, None, is_some, map, refl, sym, ap, ◌∙◌, subst, inl, inr, ◌⊎◌}
+use Rattle.std.proofs.Common.{◌≡◌, ◌≢◌, ℕ, true, List, [], ◌∷◌, ◌++◌, Option, Some, None, is_some, map, refl, sym, ap}
+use Rattle.std.proofs.Common.{◌∙◌, subst, inl, inr, ◌⊎◌}
 use Rattle.std.specs.FinMap as finmap
 use Rattle.std.proofs.lemmas.Bool.{false≢true}
 use Rattle.coda_fid.specs.Fid.{root_of}
@@ -24,7 +25,7 @@ use Rattle.coda_plain.specs.Decisions.{Resolved, Last, Decision, decision_at, de
 use Rattle.coda_plain.specs.Cell.{Histories}
 use Rattle.coda_plain.specs.Promises.{Decides}
 use Rattle.coda_plain.proofs.Lists.{told_more}
-use Rattle.coda_group.specs.Holdings.{objects_of}
+use Rattle.coda_group.specs.Holdings.{replica_objects}
 use Rattle.coda_group.specs.Groups.{holdings, IsOneGroup}
 use Rattle.coda_plain.proofs.Objects.{get_nodes}
 use Rattle.coda_group.proofs.Mapping.{objects_push}
@@ -56,7 +57,8 @@ dir_node : (o : Option Held) → is_some o ≡ true → HasKind true o → IsDir
 dir_node None e k = absurd (false≢true e)
 dir_node (Some held) e k = dir_kind held.node.kind k
 
-pub volume_of_view : (root : Fid) (objects : Objects) → IsTreeView root objects → HasKind true (finmap.get objects root) → IsVolume root (nodes_in objects)
+pub volume_of_view : (root : Fid) (objects : Objects) → IsTreeView root objects
+    → HasKind true (finmap.get objects root) → IsVolume root (nodes_in objects)
 volume_of_view root objects tree kind =
     let hs : has_in objects ≡ has (nodes_in objects) = λ i. λ f. sym (has_same objects f) i in
     let cs : child_in objects ≡ child (nodes_in objects) = λ i. λ d n. sym (child_same objects d n) i in
@@ -67,16 +69,19 @@ volume_of_view root objects tree kind =
 
 -- ---- a group
 
-pub standing_volume : (servers : List ℕ) (volume : ℕ) (group : Group) → IsStanding (root_of volume) servers group → (s : ℕ) → IsIn s servers → IsVolume (root_of volume) (nodes_in (group.holds s))
+pub standing_volume : (servers : List ℕ) (volume : ℕ) (group : Group) → IsStanding (root_of volume) servers group
+    → (s : ℕ) → IsIn s servers → IsVolume (root_of volume) (nodes_in (group.holds s))
 standing_volume servers volume group st s i =
     let at = st.sound.each s i in
     volume_of_view (root_of volume) (group.holds s) at.tree (subst (λ b. HasKind b (finmap.get (group.holds s) (root_of volume))) st.sound.top (at.kinds (root_of volume)))
 
-pub group_volume : (servers : List ℕ) (h : Histories) (volume : ℕ) → IsOneGroup h servers volume → (s : ℕ) → IsIn s servers → IsVolume (root_of volume) (nodes_in (holdings h volume s))
+pub group_volume : (servers : List ℕ) (h : Histories) (volume : ℕ) → IsOneGroup h servers volume → (s : ℕ)
+    → IsIn s servers → IsVolume (root_of volume) (nodes_in (holdings h volume s))
 group_volume servers h volume g s i = standing_volume servers volume (group_of h servers volume) (stands h servers volume g) s i
 
 -- any of the replicas are trees of one kind
-pub group_trees : (servers : List ℕ) (h : Histories) (volume : ℕ) → IsOneGroup h servers volume → (some : List ℕ) → AreAmong some servers → some ≢ [] → AreTreesOfOneKind (map (holdings h volume) some) (root_of volume)
+pub group_trees : (servers : List ℕ) (h : Histories) (volume : ℕ) → IsOneGroup h servers volume → (some : List ℕ)
+    → AreAmong some servers → some ≢ [] → AreTreesOfOneKind (map (holdings h volume) some) (root_of volume)
 group_trees servers h volume g some among ne = trees_of_one_kind (root_of volume) servers (group_of h servers volume) (stands h servers volume g).sound some among ne
 
 -- ---- a resolution
@@ -99,11 +104,11 @@ module _ (servers : List ℕ) (h h' : Histories) (volume : ℕ) (some : List ℕ
 
   holds_or : (s : ℕ) → (holdings h' volume s ≡ holdings h volume s) ⊎ (IsIn s some × IsInstalled (map (holdings h volume) some) (root_of volume) (holdings h volume s) (holdings h' volume s))
   holds_or s = elim (each s) [
-    | inl same ↦ inl (ap (objects_of s volume) same)
+    | inl same ↦ inl (ap (replica_objects s volume) same)
     | inr left ↦ inr (
       left.among,
       subst (IsInstalled (map (holdings h volume) some) (root_of volume) (holdings h volume s))
-          (sym (ap (objects_of s volume) left.grown ∙ objects_push s volume (h.replicas s volume) (Resolved left.objects left.lasts))) left.left,
+          (sym (ap (replica_objects s volume) left.grown ∙ objects_push s volume (h.replicas s volume) (Resolved left.objects left.lasts))) left.left,
     )
   ]
 

@@ -30,11 +30,13 @@ first_node x node (File content) = refl
 first_node x node (Link target) = refl
 first_node x node (Dir entries) = refl
 
-pub later_node : (x : ℕ) (sid : Sid) (node : Node) (old : Held) (deed : Option Deed) → (later_by x sid node old deed).node ≡ node
+pub later_node : (x : ℕ) (sid : Sid) (node : Node) (old : Held) (deed : Option Deed)
+    → (later_by x sid node old deed).node ≡ node
 later_node x sid node old None = refl
 later_node x sid node old (Some deed) = refl
 
-version_node : (x : ℕ) (sid : Sid) (o : Option Node) (old : Option Held) (deed : Option Deed) → node_of (version_by x sid o old deed) ≡ o
+version_node : (x : ℕ) (sid : Sid) (o : Option Node) (old : Option Held) (deed : Option Deed)
+    → node_of (version_by x sid o old deed) ≡ o
 version_node x sid None old deed = refl
 version_node x sid (Some node) None deed = ap Some (first_node x node node.kind)
 version_node x sid (Some node) (Some old) deed = ap Some (later_node x sid node old deed)
@@ -53,7 +55,8 @@ node_there (Some held) = refl
 pub data DecidedAt (view after : Objects) (new : Option Fid) (f : Fid) : Type 0 where
   absent : finmap.get after f ≡ None → DecidedAt view after new f
   came : new ≡ Some f → DecidedAt view after new f
-  stayed : (old held : Held) → finmap.get view f ≡ Some old → finmap.get after f ≡ Some held → is_dir held.node.kind ≡ is_dir old.node.kind → DecidedAt view after new f
+  stayed : (old held : Held) → finmap.get view f ≡ Some old → finmap.get after f ≡ Some held
+      → is_dir held.node.kind ≡ is_dir old.node.kind → DecidedAt view after new f
 
 module _ (root : Fid) (server client : ℕ) (rec : Record) (view after : Objects) (decided : IsDecision server client rec view after) (own : IsTreeView root view) (dir : HasKind true (finmap.get view root)) where
   abbrev m : Nodes
@@ -104,7 +107,9 @@ module _ (root : Fid) (server client : ℕ) (rec : Record) (view after : Objects
   pub decided_at : (f : Fid) → DecidedAt view after (makes rec.op) f
   decided_at f = by (finmap.get after f) refl
     where
-      was_there : (held : Held) → finmap.get after f ≡ Some held → (was : Node) → finmap.get m f ≡ Some was → is_dir held.node.kind ≡ is_dir was.kind → (o : Option Held) → finmap.get view f ≡ o → DecidedAt view after (makes rec.op) f
+      was_there : (held : Held) → finmap.get after f ≡ Some held → (was : Node) → finmap.get m f ≡ Some was
+          → is_dir held.node.kind ≡ is_dir was.kind → (o : Option Held) → finmap.get view f ≡ o
+          → DecidedAt view after (makes rec.op) f
       was_there held h was at same None e = absurd (some_none was (sym at ∙ decided.those f ∙ ap node_of e))
       was_there held h was at same (Some old) e =
           let node : was ≡ old.node = the_some was old.node (sym at ∙ decided.those f ∙ ap node_of e) in

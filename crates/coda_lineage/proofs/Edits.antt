@@ -1,5 +1,7 @@
--- What an operation leaves of nodes: each was there and is of the kind that it was of, or is the one that the operation makes.
-use Rattle.std.proofs.Common.{◌≡◌, ◌≢◌, ℕ, true, false, List, Option, Some, None, option_map, refl, sym, ap, ◌∙◌, subst, ◌⊎◌, inl, inr}
+-- What an operation leaves of nodes: each was there and is of the kind that it was of, or is the one that the
+-- operation makes.
+use Rattle.std.proofs.Common.{◌≡◌, ◌≢◌, ℕ, true, false, List, Option, Some, None, option_map, refl, sym, ap, ◌∙◌}
+use Rattle.std.proofs.Common.{subst, ◌⊎◌, inl, inr}
 use Rattle.std.specs.FinMap as map
 use Rattle.coda_fid.specs.Fid.{same_fid}
 use Rattle.coda_fid.specs.declared.fid.Fid.{Fid}
@@ -9,9 +11,12 @@ use Rattle.coda_tree.specs.declared.node.Node.{Node}
 use Rattle.coda_tree.specs.declared.node.NodeKind.{NodeKind}
 use Rattle.coda_tree.specs.declared.node.NodeKind.TheVariants.{File, Link, Dir}
 use Rattle.coda_tree.specs.Bindings.{Name}
-use Rattle.coda_tree.specs.Volume.{Nodes, child, IsDir, IsDirNode, IsDirAt, Patch, written, with_content, changed, bind_in, unbind_in, bound, unbound, additions, removals, edited_all, added, moves, replacements, detached, moved, replaced}
+use Rattle.coda_tree.specs.Volume.{Nodes, child, IsDir, IsDirNode, IsDirAt, Patch, written, with_content, changed}
+use Rattle.coda_tree.specs.Volume.{bind_in, unbind_in, bound, unbound, additions, removals, edited_all, added, moves}
+use Rattle.coda_tree.specs.Volume.{replacements, detached, moved, replaced}
 use Rattle.coda_tree.proofs.Order.{fid_cases, gone_here, gone_else}
-use Rattle.coda_tree.proofs.Changes.{at_changed, off_changed, dir_node, added_is, get_added_dir, get_added_else, binder_differs, binder_is_dir, dir_changed, dir_left}
+use Rattle.coda_tree.proofs.Changes.{at_changed, off_changed, dir_node, added_is, get_added_dir, get_added_else}
+use Rattle.coda_tree.proofs.Changes.{binder_differs, binder_is_dir, dir_changed, dir_left}
 use Rattle.coda_tree.proofs.Moved.{detached_is, replaced_detached}
 use Rattle.coda_certify.specs.Replay.{MayCreate, MayRemove}
 use Rattle.coda_resolve.specs.Settled.{is_dir}
@@ -49,13 +54,16 @@ keeps_then m mid left a b f node e =
     let x = a f y.0 y.1.0 in
     (x.0, (x.1.0, y.1.1 ∙ x.1.1))
 
-keeps_changed : (m : Nodes) (d : Fid) (change : Node → Node) → ((node : Node) → map.get m d ≡ Some node → is_dir (change node).kind ≡ is_dir node.kind) → KeepsKinds m (changed m d change)
+keeps_changed : (m : Nodes) (d : Fid) (change : Node → Node)
+    → ((node : Node) → map.get m d ≡ Some node → is_dir (change node).kind ≡ is_dir node.kind)
+    → KeepsKinds m (changed m d change)
 keeps_changed m d change alike f node e = elim (fid_cases f d) [
   | inl same ↦ here same (map.get m d) refl
   | inr apart ↦ (node, (sym (off_changed m d change f apart) ∙ e, refl))
 ]
   where
-    here : f ≡ d → (o : Option Node) → map.get m d ≡ o → (was : Node) × ((map.get m f ≡ Some was) × (is_dir node.kind ≡ is_dir was.kind))
+    here : f ≡ d → (o : Option Node) → map.get m d ≡ o
+        → (was : Node) × ((map.get m f ≡ Some was) × (is_dir node.kind ≡ is_dir was.kind))
     here same None is = absurd (some_none node (sym e ∙ ap (map.get (changed m d change)) same ∙ at_changed m d change ∙ ap (option_map change) is))
     here same (Some was) is =
         let now : Some node ≡ Some (change was) = sym e ∙ ap (map.get (changed m d change)) same ∙ at_changed m d change ∙ ap (option_map change) is in
@@ -75,7 +83,8 @@ keeps_unbound m d name is = keeps_changed m d (λ node. unbind_in node name) (λ
 
 -- ---- a creation
 
-pub keeps_created : (m : Nodes) (dir : Fid) (name : Name) (fid : Fid) (node : Node) → MayCreate m dir name fid → KeepsKindsBut (Some fid) m (edited_all m (additions dir name fid node))
+pub keeps_created : (m : Nodes) (dir : Fid) (name : Name) (fid : Fid) (node : Node) → MayCreate m dir name fid
+    → KeepsKindsBut (Some fid) m (edited_all m (additions dir name fid node))
 keeps_created m dir name fid node may f now e = elim (fid_cases f fid) [
   | inl same ↦ inl (ap Some (sym same))
   | inr apart ↦ inr (elim (fid_cases f dir) [ inl same ↦ binder same | inr other ↦ (now, (sym (get_made f apart other) ∙ e, refl)) ])
@@ -97,7 +106,8 @@ keeps_created m dir name fid node may f now e = elim (fid_cases f fid) [
 
 -- ---- what makes nothing
 
-pub keeps_less : (m : Nodes) (dir : Fid) (name : Name) (fid : Fid) → MayRemove m dir name fid → KeepsKinds m (edited_all m (removals dir name fid))
+pub keeps_less : (m : Nodes) (dir : Fid) (name : Name) (fid : Fid) → MayRemove m dir name fid
+    → KeepsKinds m (edited_all m (removals dir name fid))
 keeps_less m dir name fid may = keeps_then m (unbound m dir name) (map.remove (unbound m dir name) fid) (keeps_unbound m dir name may.dir_there) (keeps_removed (unbound m dir name) fid)
 
 pub keeps_wrote : (m : Nodes) (fid : Fid) (patch : Patch) (sid : Sid) → KeepsKinds m (changed m fid (written patch sid))
@@ -109,11 +119,14 @@ keeps_wrote m fid patch sid = keeps_changed m fid (written patch sid) (λ node a
     same_kind (Some new) (Link target) = refl
     same_kind (Some new) (Dir entries) = refl
 
-pub keeps_moved : (m : Nodes) (from : Fid) (name : Name) (to : Fid) (at : Name) (f : Fid) → IsDirAt m from → IsDirAt m to → KeepsKinds m (edited_all m (moves from name to at f))
+pub keeps_moved : (m : Nodes) (from : Fid) (name : Name) (to : Fid) (at : Name) (f : Fid) → IsDirAt m from
+    → IsDirAt m to → KeepsKinds m (edited_all m (moves from name to at f))
 keeps_moved m from name to at f from_dir to_dir = keeps_then m (unbound m from name) (edited_all m (moves from name to at f)) (keeps_unbound m from name from_dir)
     (keeps_bound (unbound m from name) to at f (dir_changed m from (λ node. unbind_in node name) (λ _ _. tt) to to_dir))
 
-pub keeps_replaced : (m : Nodes) (gone from : Fid) (name : Name) (to : Fid) (at : Name) (f : Fid) → child m from name ≡ Some f → child m to at ≡ Some gone → ((n : Name) → child m gone n ≡ None) → KeepsKinds m (edited_all m (replacements gone from name to at f))
+pub keeps_replaced : (m : Nodes) (gone from : Fid) (name : Name) (to : Fid) (at : Name) (f : Fid)
+    → child m from name ≡ Some f → child m to at ≡ Some gone → ((n : Name) → child m gone n ≡ None)
+    → KeepsKinds m (edited_all m (replacements gone from name to at f))
 unfolding replaced moved detached
 keeps_replaced m gone from name to at f was had old_leaf = subst (KeepsKinds m) (replaced_detached m gone from name to at f) (keeps_then m (edited_all m (removals to at gone)) (edited_all (edited_all m (removals to at gone)) (moves from name to at f)) (keeps_less m to at gone may) (keeps_moved (edited_all m (removals to at gone)) from name to at f from_dir to_dir))
   where

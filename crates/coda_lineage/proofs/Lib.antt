@@ -7,4 +7,5 @@ pub mod RepairedTrees
 pub mod Staying
 pub mod Reaching
 mod Possible
+mod Updating
 mod Merges

@@ -20,7 +20,9 @@ is_in_or_not s (t ∷ some) = go (cases_eq t s) (is_in_or_not s some)
     go (inr ne) (inr out) = inr (λ i. ⊎_elim ne out i)
 
 module _ (root : Fid) (before after : Group) (all : Replicas) where
-  at : (s : ℕ) (some : List ℕ) (changes : List Change) → IsIn s some → AllZip (IsReplicaChange all root) (map before.holds some) changes → AllZip (IsChangedOrNot before after) some changes
+  at : (s : ℕ) (some : List ℕ) (changes : List Change) → IsIn s some
+      → AllZip (IsReplicaChange all root) (map before.holds some) changes
+      → AllZip (IsChangedOrNot before after) some changes
       → (after.holds s ≡ before.holds s) ⊎ IsInstalled all root (before.holds s) (after.holds s)
   at s [] changes i a z = absurd i
   at s (t ∷ some) [] i a z = absurd z

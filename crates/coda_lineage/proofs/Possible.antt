@@ -1,5 +1,6 @@
 -- What is certified can be decided.
-use Rattle.std.proofs.Common.{◌≡◌, ℕ, Bool, true, false, cond, List, [], ◌∷◌, Option, Some, None, option_map, map, refl, sym, ap, ◌∙◌}
+use Rattle.std.proofs.Common.{◌≡◌, ℕ, Bool, true, false, cond, List, [], ◌∷◌, Option, Some, None, option_map, map}
+use Rattle.std.proofs.Common.{refl, sym, ap, ◌∙◌}
 use Rattle.std.specs.FinMap as finmap
 use Rattle.std.specs.FinMap.{FinMap}
 use Rattle.std.specs.FinMap.Entries.{find}
@@ -16,11 +17,13 @@ use Rattle.coda_resolve.specs.Resolution.{Objects}
 use Rattle.coda_lineage.specs.Deeds.{deed_at, held_by_node, version_by, CertifiedRecordsAreDecided}
 
 module _ {X Y : Type 0} (h : Fid → X → Y) where
-  find_mapped : (es : List (Fid × X)) (q : Fid) → find fid_cmp q (map {B = Fid × Y} (λ e. (e.0, h e.0 e.1)) es) ≡ option_map (h q) (find fid_cmp q es)
+  find_mapped : (es : List (Fid × X)) (q : Fid)
+      → find fid_cmp q (map {B = Fid × Y} (λ e. (e.0, h e.0 e.1)) es) ≡ option_map (h q) (find fid_cmp q es)
   find_mapped [] q = refl
   find_mapped (e ∷ es) q = go (eq_by_cmp fid_cmp q e.0) refl (find_mapped es q)
     where
-      go : (b : Bool) → eq_by_cmp fid_cmp q e.0 ≡ b → find fid_cmp q (map {B = Fid × Y} (λ e. (e.0, h e.0 e.1)) es) ≡ option_map (h q) (find fid_cmp q es)
+      go : (b : Bool) → eq_by_cmp fid_cmp q e.0 ≡ b
+          → find fid_cmp q (map {B = Fid × Y} (λ e. (e.0, h e.0 e.1)) es) ≡ option_map (h q) (find fid_cmp q es)
           → cond b (Some (h e.0 e.1)) (find fid_cmp q (map {B = Fid × Y} (λ e. (e.0, h e.0 e.1)) es)) ≡ option_map (h q) (cond b (Some e.1) (find fid_cmp q es))
       go true is more = ap (λ k. Some (h k e.1)) (sym (exact_fids q e.0 ((Equal-is (fid_cmp q e.0)).0 is)))
       go false is more = more

@@ -1,5 +1,6 @@
 -- Whatever happens to the replicas of a volume, they stay trees of one kind.
-use Rattle.std.proofs.Common.{◌≡◌, ◌≢◌, ℕ, Bool, true, List, [], Some, None, is_some, refl, sym, ap, ◌∙◌, subst, inl, inr}
+use Rattle.std.proofs.Common.{◌≡◌, ◌≢◌, ℕ, Bool, true, List, [], Some, None, is_some, refl, sym, ap, ◌∙◌, subst, inl}
+use Rattle.std.proofs.Common.{inr}
 use Rattle.std.specs.FinMap as finmap
 use Rattle.std.proofs.lemmas.Bool.{true≢false}
 use Rattle.coda_fid.specs.Fid.{same_fid}
@@ -15,10 +16,12 @@ use Rattle.coda_resolve.specs.Settled.{HasKind}
 use Rattle.coda_resolve.specs.Resolution.{Objects, IsTreeView, has_in, child_in}
 use Rattle.coda_resolve.specs.Placement.{AreTreesOfOneKind}
 use Rattle.coda_resolve.proofs.Lists.{some_none}
-use Rattle.coda_lineage.specs.Lineage.{Group, held_at, new_root, AreAmong, IsReached, new_volume, decided, resolved, repaired}
+use Rattle.coda_lineage.specs.Lineage.{Group, held_at, new_root, AreAmong, IsReached, new_volume, decided, resolved}
+use Rattle.coda_lineage.specs.Lineage.{repaired}
 use Rattle.coda_lineage.proofs.Booleans.{the_some}
 use Rattle.coda_lineage.proofs.Edits.{fid_same}
-use Rattle.coda_lineage.proofs.Staying.{IsSoundAt, AreSound, trees_of_one_kind, decided_sound, resolved_sound, repaired_sound}
+use Rattle.coda_lineage.proofs.Staying.{IsSoundAt, AreSound, trees_of_one_kind, decided_sound, resolved_sound}
+use Rattle.coda_lineage.proofs.Staying.{repaired_sound}
 
 -- ---- a new volume
 
@@ -77,5 +80,6 @@ sound root servers g (decided before after server client rec way i step) = decid
 sound root servers g (resolved before after some way among step) = resolved_sound root servers before (sound root servers before way) some among after step
 sound root servers g (repaired before after some source names way among i step) = repaired_sound root servers before (sound root servers before way) some among source i names after step
 
-pub stay_trees_of_one_kind : (root : Fid) (servers : List ℕ) (group : Group) (some : List ℕ) → IsReached root servers group → AreAmong some servers → some ≢ [] → AreTreesOfOneKind (held_at group some) root
+pub stay_trees_of_one_kind : (root : Fid) (servers : List ℕ) (group : Group) (some : List ℕ)
+    → IsReached root servers group → AreAmong some servers → some ≢ [] → AreTreesOfOneKind (held_at group some) root
 stay_trees_of_one_kind root servers group some way among ne = trees_of_one_kind root servers group (sound root servers group way) some among ne

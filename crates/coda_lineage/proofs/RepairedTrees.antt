@@ -1,5 +1,6 @@
 -- A repair leaves trees.
-use Rattle.std.proofs.Common.{◌≡◌, ℕ, Bool, true, false, not, List, [], ◌∷◌, Option, Some, None, is_some, refl, sym, ap, ◌∙◌, subst, ◌&&◌, ⊎_elim, ◌↔◌}
+use Rattle.std.proofs.Common.{◌≡◌, ℕ, Bool, true, false, not, List, [], ◌∷◌, Option, Some, None, is_some, refl, sym}
+use Rattle.std.proofs.Common.{ap, ◌∙◌, subst, ◌&&◌, ⊎_elim, ◌↔◌}
 use Rattle.std.specs.FinMap as finmap
 use Rattle.std.proofs.lemmas.Bool.{true≢false}
 use Rattle.coda_fid.specs.Fid.{same_fid}
@@ -19,10 +20,16 @@ use Rattle.coda_lineage.proofs.Sparing.{leads_end, no_cycle, spared_binds, spare
 -- ---- what is held of an object then
 
 pub data RepairedAt (subtree : Fid → Bool) (top : Fid) (source : ℕ) (copies : Fid → Copies) (right view after : Objects) (f : Fid) : Type 0 where
-  put : (held : Held) → subtree f ≡ true → finmap.get right f ≡ Some held → finmap.get after f ≡ Some (repaired source (copies f) held) → RepairedAt subtree top source copies right view after f
-  went : (g : Fid) → subtree f ≡ false → subtree g ≡ true → IsBelow (child_in view) g f → finmap.get after f ≡ None → RepairedAt subtree top source copies right view after f
-  absent : subtree f ≡ false → finmap.get view f ≡ None → finmap.get after f ≡ None → RepairedAt subtree top source copies right view after f
-  kept : (held : Held) → subtree f ≡ false → finmap.get view f ≡ Some held → finmap.get after f ≡ Some (spared_by subtree top held held.node.kind) → RepairedAt subtree top source copies right view after f
+  put : (held : Held) → subtree f ≡ true → finmap.get right f ≡ Some held
+      → finmap.get after f ≡ Some (repaired source (copies f) held)
+      → RepairedAt subtree top source copies right view after f
+  went : (g : Fid) → subtree f ≡ false → subtree g ≡ true → IsBelow (child_in view) g f → finmap.get after f ≡ None
+      → RepairedAt subtree top source copies right view after f
+  absent : subtree f ≡ false → finmap.get view f ≡ None → finmap.get after f ≡ None
+      → RepairedAt subtree top source copies right view after f
+  kept : (held : Held) → subtree f ≡ false → finmap.get view f ≡ Some held
+      → finmap.get after f ≡ Some (spared_by subtree top held held.node.kind)
+      → RepairedAt subtree top source copies right view after f
 
 module _ (root : Fid) (right view after : Objects) (subtree : Fid → Bool) (top : Fid) (source : ℕ) (copies : Fid → Copies) (names : List Name)
     (right_tree : IsTreeView root right) (view_tree : IsTreeView root view) (way : LeadsAlike right view root names top)
@@ -43,7 +50,8 @@ module _ (root : Fid) (right view after : Objects) (subtree : Fid → Bool) (top
   right_at : (f : Fid) → subtree f ≡ true → (held : Held) × (finmap.get right f ≡ Some held)
   right_at f e = by (finmap.get right f) refl (right_has f e)
     where
-      by : (o : Option Held) → finmap.get right f ≡ o → is_some o ≡ true → (held : Held) × (finmap.get right f ≡ Some held)
+      by : (o : Option Held) → finmap.get right f ≡ o → is_some o ≡ true
+          → (held : Held) × (finmap.get right f ≡ Some held)
       by None is h = absurd (true≢false (sym h))
       by (Some held) is h = (held, is)
 
@@ -62,11 +70,13 @@ module _ (root : Fid) (right view after : Objects) (subtree : Fid → Bool) (top
   pub at : (f : Fid) → RepairedAt subtree top source copies right view after f
   at f = by (subtree f) refl
     where
-      by_view : subtree f ≡ false → (o : Option Held) → finmap.get view f ≡ o → finmap.get after f ≡ spared subtree top o → RepairedAt subtree top source copies right view after f
+      by_view : subtree f ≡ false → (o : Option Held) → finmap.get view f ≡ o
+          → finmap.get after f ≡ spared subtree top o → RepairedAt subtree top source copies right view after f
       by_view s None e is = absent s e is
       by_view s (Some held) e is = kept held s e is
 
-      by_below : subtree f ≡ false → (b : Bool) → done.below f ≡ b → RepairedAt subtree top source copies right view after f
+      by_below : subtree f ≡ false → (b : Bool) → done.below f ≡ b
+          → RepairedAt subtree top source copies right view after f
       by_below s true b = let g = (done.is_below f).0 b in went g.0 s g.1.0 g.1.1 (done.goes f s b)
       by_below s false b = by_view s (finmap.get view f) refl (done.stays f b ∙ refl)
 
@@ -75,10 +85,12 @@ module _ (root : Fid) (right view after : Objects) (subtree : Fid → Bool) (top
       by false s = by_below s (done.below f) refl
 
   -- outside the subtree it binds what it did, and nothing of the subtree but its top
-  pub child_out : (e : Fid) (n : Name) (f : Fid) → subtree e ≡ false → child_in after e n ≡ Some f → (child_in view e n ≡ Some f) × (is_taken subtree top (Some f) ≡ false)
+  pub child_out : (e : Fid) (n : Name) (f : Fid) → subtree e ≡ false → child_in after e n ≡ Some f
+      → (child_in view e n ≡ Some f) × (is_taken subtree top (Some f) ≡ false)
   child_out e n f s h = by (at e)
     where
-      by : RepairedAt subtree top source copies right view after e → (child_in view e n ≡ Some f) × (is_taken subtree top (Some f) ≡ false)
+      by : RepairedAt subtree top source copies right view after e
+          → (child_in view e n ≡ Some f) × (is_taken subtree top (Some f) ≡ false)
       by (put held x o is) = absurd (true≢false (sym x ∙ s))
       by (went g x y b is) = absurd (some_none f (sym h ∙ ap (λ c. finmap.get (bindings_of c) n) is ∙ finmap.get-empty name_cmp n))
       by (absent x o is) = absurd (some_none f (sym h ∙ ap (λ c. finmap.get (bindings_of c) n) is ∙ finmap.get-empty name_cmp n))
@@ -105,7 +117,8 @@ module _ (root : Fid) (right view after : Objects) (subtree : Fid → Bool) (top
       by false b x y = absurd (true≢false (sym x))
 
   -- and it binds all of that still
-  child_kept : (e : Fid) (n : Name) (f : Fid) → subtree e ≡ false → has_in after e ≡ true → child_in view e n ≡ Some f → is_taken subtree top (Some f) ≡ false → child_in after e n ≡ Some f
+  child_kept : (e : Fid) (n : Name) (f : Fid) → subtree e ≡ false → has_in after e ≡ true → child_in view e n ≡ Some f
+      → is_taken subtree top (Some f) ≡ false → child_in after e n ≡ Some f
   child_kept e n f s there h free = by (at e)
     where
       by : RepairedAt subtree top source copies right view after e → child_in after e n ≡ Some f
@@ -120,7 +133,8 @@ module _ (root : Fid) (right view after : Objects) (subtree : Fid → Bool) (top
   has_inside f s = let held = right_at f s in ap is_some (done.put f held.0 s held.1)
 
   -- outside, what isn't below an object of the subtree stays
-  has_out : (f : Fid) → subtree f ≡ false → has_in view f ≡ true → ((g : Fid) → subtree g ≡ true → IsBelow (child_in view) g f → ⊥) → has_in after f ≡ true
+  has_out : (f : Fid) → subtree f ≡ false → has_in view f ≡ true
+      → ((g : Fid) → subtree g ≡ true → IsBelow (child_in view) g f → ⊥) → has_in after f ≡ true
   has_out f s h free = by (at f)
     where
       by : RepairedAt subtree top source copies right view after f → has_in after f ≡ true
@@ -130,7 +144,8 @@ module _ (root : Fid) (right view after : Objects) (subtree : Fid → Bool) (top
       by (kept held x o is) = ap is_some is
 
   -- and what stays isn't below one
-  not_below : (f : Fid) → subtree f ≡ false → has_in after f ≡ true → (g : Fid) → subtree g ≡ true → IsBelow (child_in view) g f → ⊥
+  not_below : (f : Fid) → subtree f ≡ false → has_in after f ≡ true → (g : Fid) → subtree g ≡ true
+      → IsBelow (child_in view) g f → ⊥
   not_below f s h g y b = true≢false (sym h ∙ ap is_some (done.goes f s ((done.is_below f).1 (g, (y, b)))))
 
   has_view : (f : Fid) → subtree f ≡ false → has_in after f ≡ true → has_in view f ≡ true
@@ -149,7 +164,8 @@ module _ (root : Fid) (right view after : Objects) (subtree : Fid → Bool) (top
       by None is = absurd (some_none f (sym e ∙ ap (λ c. finmap.get (bindings_of c) n) is ∙ finmap.get-empty name_cmp n))
       by (Some held) is = ap is_some is
 
-  outside_bound : (e : Fid) (n : Name) (f : Fid) → subtree e ≡ false → child_in after e n ≡ Some f → has_in after f ≡ true
+  outside_bound : (e : Fid) (n : Name) (f : Fid) → subtree e ≡ false → child_in after e n ≡ Some f
+      → has_in after f ≡ true
   outside_bound e n f s h = by (subtree f) refl
     where
       was : child_in view e n ≡ Some f
@@ -164,7 +180,8 @@ module _ (root : Fid) (right view after : Objects) (subtree : Fid → Bool) (top
           up g y q same (under p k z bound b) = not_below e s (binds_there e n f h) g y (subst (IsBelow (child_in view) g) (view_tree.once p k e n f (bound ∙ ap Some same) was).0 b)
 
   -- the way to the subtree stands: its directories are outside
-  leads_below : (d : Fid) (n : Name) (rest : List Name) → LeadsAlike right view d (n ∷ rest) top → (e : Fid) × ((k : Name) × (IsBelow (child_in right) d e × (child_in right e k ≡ Some top)))
+  leads_below : (d : Fid) (n : Name) (rest : List Name) → LeadsAlike right view d (n ∷ rest) top
+      → (e : Fid) × ((k : Name) × (IsBelow (child_in right) d e × (child_in right e k ≡ Some top)))
   leads_below d n [] w = (d, (n, (itself d refl, w.1.0 ∙ ap Some (sym w.1.1.1))))
   leads_below d n (m ∷ rest) w =
       let x = leads_below w.0 m rest w.1.1.1 in
@@ -179,7 +196,8 @@ module _ (root : Fid) (right view after : Objects) (subtree : Fid → Bool) (top
           let x = leads_below d n rest w in
           absurd (no_cycle right_tree top d (right_tree.reached d (right_has d s)) ((below d).0 s) x.0 x.1.0 x.1.1.0 x.1.1.1)
 
-  reaches : (d : Fid) (rest : List Name) → LeadsAlike right view d rest top → has_in after d ≡ true → IsBelow (child_in after) root d → IsBelow (child_in after) root top
+  reaches : (d : Fid) (rest : List Name) → LeadsAlike right view d rest top → has_in after d ≡ true
+      → IsBelow (child_in after) root d → IsBelow (child_in after) root top
   reaches d [] w there up = subst (IsBelow (child_in after) root) (sym w) up
   reaches d (n ∷ rest) w there up =
       let bound = child_kept d n w.0 (on_way d n rest w) there w.1.1.0 (free rest w.1.1.1) in
@@ -196,7 +214,8 @@ module _ (root : Fid) (right view after : Objects) (subtree : Fid → Bool) (top
   root_there : has_in after root ≡ true
   root_there = by (subtree root) refl
     where
-      none : (g : Fid) → subtree root ≡ false → subtree g ≡ true → (q : Fid) → q ≡ root → IsBelow (child_in view) g q → ⊥
+      none : (g : Fid) → subtree root ≡ false → subtree g ≡ true → (q : Fid) → q ≡ root → IsBelow (child_in view) g q
+          → ⊥
       none g s y q same (itself z e) = true≢false (sym y ∙ ap subtree (sym e ∙ same) ∙ s)
       none g s y q same (under p k z bound b) = view_tree.unbound p k (bound ∙ ap Some same)
 
@@ -211,11 +230,13 @@ module _ (root : Fid) (right view after : Objects) (subtree : Fid → Bool) (top
   inside_reached f (itself g e) = subst (IsBelow (child_in after) root) (sym e) top_reached
   inside_reached f (under d n g bound up) = under d n f (child_inside d n ((below d).1 up) ∙ bound) (inside_reached d up)
 
-  outside_reached : (f : Fid) → subtree f ≡ false → has_in after f ≡ true → IsBelow (child_in view) root f → IsBelow (child_in after) root f
+  outside_reached : (f : Fid) → subtree f ≡ false → has_in after f ≡ true → IsBelow (child_in view) root f
+      → IsBelow (child_in after) root f
   outside_reached f s h (itself g e) = itself f e
   outside_reached f s h (under d n g bound up) = by (subtree d) refl (λ y there. outside_reached d y there up)
     where
-      by : (b : Bool) → subtree d ≡ b → (subtree d ≡ false → has_in after d ≡ true → IsBelow (child_in after) root d) → IsBelow (child_in after) root f
+      by : (b : Bool) → subtree d ≡ b → (subtree d ≡ false → has_in after d ≡ true → IsBelow (child_in after) root d)
+          → IsBelow (child_in after) root f
       by true y above = absurd (not_below f s h d y (under d n f bound (itself d refl)))
       by false y above =
           let there = has_out d y (view_tree.from d n f bound) (λ q z b. not_below f s h q z (under d n f bound b)) in
@@ -235,17 +256,20 @@ module _ (root : Fid) (right view after : Objects) (subtree : Fid → Bool) (top
       unbound d n e true s = right_tree.unbound d n (sym (child_inside d n s) ∙ e)
       unbound d n e false s = view_tree.unbound d n (child_out d n root s e).0
 
-      there : (d : Fid) (n : Name) (f : Fid) → child_in after d n ≡ Some f → (b : Bool) → subtree d ≡ b → has_in after f ≡ true
+      there : (d : Fid) (n : Name) (f : Fid) → child_in after d n ≡ Some f → (b : Bool) → subtree d ≡ b
+          → has_in after f ≡ true
       there d n f e true s = has_inside f (inside d n f s (sym (child_inside d n s) ∙ e))
       there d n f e false s = outside_bound d n f s e
 
-      apart : (d : Fid) (n : Name) (e : Fid) (k : Name) (f : Fid) → subtree d ≡ true → child_in after d n ≡ Some f → subtree e ≡ false → child_in after e k ≡ Some f → ⊥
+      apart : (d : Fid) (n : Name) (e : Fid) (k : Name) (f : Fid) → subtree d ≡ true → child_in after d n ≡ Some f
+          → subtree e ≡ false → child_in after e k ≡ Some f → ⊥
       apart d n e k f s a o b =
           let in_right : child_in right d n ≡ Some f = sym (child_inside d n s) ∙ a in
           let c = child_out e k f o b in
           top_not_inside d n s (in_right ∙ ap Some (is_top f c.1 (inside d n f s in_right)))
 
-      once : (d : Fid) (n : Name) (e : Fid) (k : Name) (f : Fid) → child_in after d n ≡ Some f → child_in after e k ≡ Some f → (x : Bool) → subtree d ≡ x → (y : Bool) → subtree e ≡ y → (d ≡ e) × (n ≡ k)
+      once : (d : Fid) (n : Name) (e : Fid) (k : Name) (f : Fid) → child_in after d n ≡ Some f
+          → child_in after e k ≡ Some f → (x : Bool) → subtree d ≡ x → (y : Bool) → subtree e ≡ y → (d ≡ e) × (n ≡ k)
       once d n e k f a b true s true o = right_tree.once d n e k f (sym (child_inside d n s) ∙ a) (sym (child_inside e k o) ∙ b)
       once d n e k f a b true s false o = absurd (apart d n e k f s a o b)
       once d n e k f a b false s true o = absurd (apart e k d n f o b s a)

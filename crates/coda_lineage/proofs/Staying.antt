@@ -1,5 +1,6 @@
 -- What happens to the replicas of a volume keeps them trees of one kind.
-use Rattle.std.proofs.Common.{◌≡◌, ◌≢◌, ℕ, Bool, true, false, cond, List, [], ◌∷◌, Option, Some, None, is_some, refl, sym, ap, ◌∙◌, subst, inl, inr, ⊎_elim}
+use Rattle.std.proofs.Common.{◌≡◌, ◌≢◌, ℕ, Bool, true, false, cond, List, [], ◌∷◌, Option, Some, None, is_some, refl}
+use Rattle.std.proofs.Common.{sym, ap, ◌∙◌, subst, inl, inr, ⊎_elim}
 use Rattle.std.specs.FinMap as finmap
 use Rattle.std.specs.List.{AllByRecursion}
 use Rattle.std.proofs.lemmas.Bool.{true≢false, cases_eq}
@@ -42,7 +43,8 @@ pub record AreSound (root : Fid) (servers : List ℕ) (group : Group) : Type 0 w
   pub root_made : group.made root ≡ true
   pub each : (s : ℕ) → IsIn s servers → IsSoundAt root kind group.made (group.holds s)
 
-view_from : (group : Group) (some : List ℕ) (v : Objects) → IsIn v (held_at group some) → (s : ℕ) × (IsIn s some × (group.holds s ≡ v))
+view_from : (group : Group) (some : List ℕ) (v : Objects) → IsIn v (held_at group some)
+    → (s : ℕ) × (IsIn s some × (group.holds s ≡ v))
 view_from group [] v i = absurd i
 view_from group (s ∷ some) v (inl e) = (s, (inl refl, e))
 view_from group (s ∷ some) v (inr i) = let m = view_from group some v i in (m.0, (inr m.1.0, m.1.1))
@@ -107,7 +109,8 @@ module _ (root : Fid) (servers : List ℕ) (before : Group) (sound : AreSound ro
   made_on : (f : Fid) → before.made f ≡ true → after.made f ≡ true
   made_on f e = decided.made f ∙ or_first (before.made f) (new f) e
 
-  kept_kind : (f : Fid) (o : Option Held) → (is_some o ≡ true → before.made f ≡ true) → HasKind (sound.kind f) o → HasKind (kind f) o
+  kept_kind : (f : Fid) (o : Option Held) → (is_some o ≡ true → before.made f ≡ true) → HasKind (sound.kind f) o
+      → HasKind (kind f) o
   kept_kind f None made k = tt
   kept_kind f (Some held) made k = k ∙ sym (kind_old f (made refl))
 
@@ -124,14 +127,16 @@ module _ (root : Fid) (servers : List ℕ) (before : Group) (sound : AreSound ro
     was_made = λ f e. was_made f e (here f);
   }
     where
-      kinds : (f : Fid) → DecidedAt view (after.holds server) (makes rec.op) f → HasKind (kind f) (finmap.get (after.holds server) f)
+      kinds : (f : Fid) → DecidedAt view (after.holds server) (makes rec.op) f
+          → HasKind (kind f) (finmap.get (after.holds server) f)
       kinds f (none_left e) = subst (HasKind (kind f)) (sym e) tt
       kinds f (came e) = subst (λ b. HasKind b (finmap.get (after.holds server) f)) (sym (ap (λ b. cond b (kind_by (finmap.get (after.holds server) f)) (sound.kind f)) (is_new f e))) (own_kind (finmap.get (after.holds server) f))
       kinds f (stayed old held e h same) =
           let was : is_dir old.node.kind ≡ sound.kind f = subst (HasKind (sound.kind f)) e (own.kinds f) in
           subst (HasKind (kind f)) (sym h) (same ∙ was ∙ sym (kind_old f (own.was_made f (ap is_some e))))
 
-      was_made : (f : Fid) → has_in (after.holds server) f ≡ true → DecidedAt view (after.holds server) (makes rec.op) f → after.made f ≡ true
+      was_made : (f : Fid) → has_in (after.holds server) f ≡ true
+          → DecidedAt view (after.holds server) (makes rec.op) f → after.made f ≡ true
       was_made f there (none_left e) = absurd (true≢false (sym there ∙ ap is_some e))
       was_made f there (came e) = decided.made f ∙ or_second (before.made f) (new f) (is_new f e)
       was_made f there (stayed old held e h same) = made_on f (own.was_made f (ap is_some e))
@@ -171,7 +176,8 @@ module _ (root : Fid) (servers : List ℕ) (before : Group) (sound : AreSound ro
   kept_made s i g (marked_there d why up is) = taken_made d up
   kept_made s i g (further d n f keeps bound) = let own = sound.each s (among s i) in own.was_made f (own.tree.there d n f bound)
 
-  installed_at : (s : ℕ) → IsIn s some → IsInstalled views root (before.holds s) (after.holds s) → IsSoundAt root sound.kind before.made (after.holds s)
+  installed_at : (s : ℕ) → IsIn s some → IsInstalled views root (before.holds s) (after.holds s)
+      → IsSoundAt root sound.kind before.made (after.holds s)
   installed_at s i installed = record {
     tree = tree_after views root (before.holds s) (after.holds s) (trees_of_one_kind root servers before sound some among (λ none. subst (IsIn s) none i)) (in_map before.holds some s i) installed;
     kinds = λ f. kind_after views root f (sound.kind f) (before.holds s) (after.holds s) (all_kinds root servers before sound some among f) ((sound.each s (among s i)).kinds f) installed;
@@ -201,7 +207,9 @@ module _ (root : Fid) (servers : List ℕ) (before : Group) (sound : AreSound ro
   from : IsSoundAt root sound.kind before.made right
   from = sound.each source (among source source_in)
 
-  repaired_at : (s : ℕ) → IsIn s some → IsRepairedAt repair.subtree repair.top source copies right (before.holds s) (after.holds s) → IsSoundAt root sound.kind before.made (after.holds s)
+  repaired_at : (s : ℕ) → IsIn s some
+      → IsRepairedAt repair.subtree repair.top source copies right (before.holds s) (after.holds s)
+      → IsSoundAt root sound.kind before.made (after.holds s)
   repaired_at s i done = record {
     tree = repaired_tree root right (before.holds s) (after.holds s) repair.subtree repair.top source copies names from.tree own.tree (repair.leads s i) repair.below done;
     kinds = λ f. kinds f (here f);
@@ -214,13 +222,16 @@ module _ (root : Fid) (servers : List ℕ) (before : Group) (sound : AreSound ro
       here : (f : Fid) → RepairedAt repair.subtree repair.top source copies right (before.holds s) (after.holds s) f
       here f = at root right (before.holds s) (after.holds s) repair.subtree repair.top source copies names from.tree own.tree (repair.leads s i) repair.below done f
 
-      kinds : (f : Fid) → RepairedAt repair.subtree repair.top source copies right (before.holds s) (after.holds s) f → HasKind (sound.kind f) (finmap.get (after.holds s) f)
+      kinds : (f : Fid) → RepairedAt repair.subtree repair.top source copies right (before.holds s) (after.holds s) f
+          → HasKind (sound.kind f) (finmap.get (after.holds s) f)
       kinds f (put held inside r is) = subst (HasKind (sound.kind f)) (sym is) (subst (HasKind (sound.kind f)) r (from.kinds f))
       kinds f (went g outside inside up is) = subst (HasKind (sound.kind f)) (sym is) tt
       kinds f (absent outside e is) = subst (HasKind (sound.kind f)) (sym is) tt
       kinds f (kept held outside e is) = subst (HasKind (sound.kind f)) (sym is) (spared_kind repair.subtree repair.top held held.node.kind refl ∙ subst (HasKind (sound.kind f)) e (own.kinds f))
 
-      was_made : (f : Fid) → has_in (after.holds s) f ≡ true → RepairedAt repair.subtree repair.top source copies right (before.holds s) (after.holds s) f → before.made f ≡ true
+      was_made : (f : Fid) → has_in (after.holds s) f ≡ true
+          → RepairedAt repair.subtree repair.top source copies right (before.holds s) (after.holds s) f
+          → before.made f ≡ true
       was_made f there (put held inside r is) = from.was_made f (ap is_some r)
       was_made f there (went g outside inside up is) = absurd (true≢false (sym there ∙ ap is_some is))
       was_made f there (absent outside e is) = absurd (true≢false (sym there ∙ ap is_some is))

@@ -50,7 +50,8 @@ lost_from objects fid = record { fid = fid; vector = record { 0 = vector_of (fin
 
 -- it unbound the name and took the object out
 abbrev pub drops : Objects → Name → Fid → Deed
-drops objects name fid = record { kind = Drop; name = Some name; other = None; fid = fid; lost = Some (lost_from objects fid) }
+drops objects name fid =
+    record { kind = Drop; name = Some name; other = None; fid = fid; lost = Some (lost_from objects fid) }
 
 -- it set content or attributes
 abbrev pub writes : Fid → Deed
@@ -75,7 +76,8 @@ rename_at from_dir from to_dir to fid lost f = cond (same_fid from_dir to_dir)
     (only_at to_dir (renames from to fid lost) f)
     (cond (same_fid f from_dir) (Some (crosses from fid None)) (only_at to_dir (crosses to fid lost) f))
 
--- what a record does to each object of a replica: it updates each directory whose entries it changes, and what it writes to
+-- what a record does to each object of a replica: it updates each directory whose entries it changes, and what it
+-- writes to
 unfoldable pub deed_at : Objects → Op → Fid → Option Deed
 deed_at objects (Create dir name fid mode owner) = only_at dir (adds name fid)
 deed_at objects (Mkdir dir name fid mode owner) = only_at dir (adds name fid)
@@ -84,13 +86,23 @@ deed_at objects (Store fid pre content) = only_at fid (writes fid)
 deed_at objects (Setattr fid pre attrs) = only_at fid (writes fid)
 deed_at objects (Remove dir name fid pre) = only_at dir (drops objects name fid)
 deed_at objects (Rmdir dir name fid pre) = only_at dir (drops objects name fid)
-deed_at objects (Rename from_dir from to_dir to fid over) = rename_at from_dir from to_dir to fid (lost_over objects over)
+deed_at objects (Rename from_dir from to_dir to fid over) =
+    rename_at from_dir from to_dir to fid (lost_over objects over)
 
 -- ---- what it leaves
 
 -- the update of that server and number, as a resolution log keeps it
 abbrev pub logged : ℕ → ℕ → Sid → Deed → ResEntry
-logged server number sid deed = record { origin = server; seq = number; sid = sid; kind = deed.kind; name = deed.name; other = deed.other; fid = deed.fid; lost = deed.lost }
+logged server number sid deed = record {
+  origin = server;
+  seq = number;
+  sid = sid;
+  kind = deed.kind;
+  name = deed.name;
+  other = deed.other;
+  fid = deed.fid;
+  lost = deed.lost;
+}
 
 -- the server's next update of what has these updates
 abbrev pub next_update : ℕ → Sid → Held → Deed → ResEntry
@@ -102,14 +114,21 @@ pushed u log = last_entries (log ++ u ∷ [])
 
 -- a new object: a file or link has one update of the server, and a directory none, and an empty log
 abbrev pub first_by : ℕ → Node → NodeKind → Held
-first_by server node (File content) = record { node = node; vector = record { 0 = bumped no_updates server }; ring = None }
-first_by server node (Link target) = record { node = node; vector = record { 0 = bumped no_updates server }; ring = None }
+first_by server node (File content) =
+    record { node = node; vector = record { 0 = bumped no_updates server }; ring = None }
+first_by server node (Link target) =
+    record { node = node; vector = record { 0 = bumped no_updates server }; ring = None }
 first_by server node (Dir entries) = record { node = node; vector = record { 0 = no_updates }; ring = Some [] }
 
--- an object that was there: what a record does to it is one update more of the server, in the vector and, of a directory, in the log
+-- an object that was there: what a record does to it is one update more of the server, in the vector and, of a
+-- directory, in the log
 abbrev pub later_by : ℕ → Sid → Node → Held → Option Deed → Held
 later_by server sid node old None = record { node = node; vector = old.vector; ring = old.ring }
-later_by server sid node old (Some deed) = record { node = node; vector = record { 0 = bumped old.vector.0 server }; ring = option_map (pushed (next_update server sid old deed)) old.ring }
+later_by server sid node old (Some deed) = record {
+  node = node;
+  vector = record { 0 = bumped old.vector.0 server };
+  ring = option_map (pushed (next_update server sid old deed)) old.ring;
+}
 
 -- what is held of a node that was there, or wasn't
 abbrev pub held_by_node : ℕ → Sid → Node → Option Held → Option Deed → Held
@@ -132,15 +151,19 @@ makes (Remove dir name fid pre) = None
 makes (Rmdir dir name fid pre) = None
 makes (Rename from_dir from to_dir to fid over) = None
 
--- a replica at a server decides a client's record: certification finds no reason against it, the nodes are those that its operation
--- leaves, and what it does to an object is one update more of the server
+-- a replica at a server decides a client's record: certification finds no reason against it, the nodes are those that
+-- its operation leaves, and what it does to an object is one update more of the server
 pub record IsDecision (server client : ℕ) (rec : Record) (before after : Objects) : Type 0 where
   pub nodes : Nodes
   pub those : (f : Fid) → finmap.get nodes f ≡ node_of (finmap.get before f)
   pub certified : certify nodes rec.op ≡ None
-  pub left : (f : Fid) → finmap.get after f ≡ version_by server (sid_of client rec) (finmap.get (applied nodes client rec) f) (finmap.get before f) (deed_at before rec.op f)
+  pub left : (f : Fid)
+      → finmap.get after f ≡ version_by server (sid_of client rec) (finmap.get (applied nodes client rec) f)
+      (finmap.get before f) (deed_at before rec.op f)
 
 -- each replica has its nodes, and a record that certification finds nothing against there can be decided
 pub record CertifiedRecordsAreDecided : Type 0 where
   pub nodes : (objects : Objects) → (nodes : Nodes) × ((f : Fid) → finmap.get nodes f ≡ node_of (finmap.get objects f))
-  pub decides : (server client : ℕ) (rec : Record) (before : Objects) (nodes : Nodes) → ((f : Fid) → finmap.get nodes f ≡ node_of (finmap.get before f)) → certify nodes rec.op ≡ None → (after : Objects) × IsDecision server client rec before after
+  pub decides : (server client : ℕ) (rec : Record) (before : Objects) (nodes : Nodes)
+      → ((f : Fid) → finmap.get nodes f ≡ node_of (finmap.get before f)) → certify nodes rec.op ≡ None
+      → (after : Objects) × IsDecision server client rec before after

@@ -1,3 +1,4 @@
 pub mod Deeds
+pub mod Updates
 pub mod Repairs
 pub mod Lineage

@@ -47,44 +47,60 @@ pub record IsDecided (server client : ℕ) (rec : Record) (before after : Group)
 
 -- the replicas at some servers are resolved, and at any of these what the resolution leaves is installed
 pub record IsResolved (root : Fid) (some : List ℕ) (before after : Group) : Type 0 where
-  pub each : (s : ℕ) → (after.holds s ≡ before.holds s) ⊎ (IsIn s some × IsInstalled (held_at before some) root (before.holds s) (after.holds s))
+  pub each : (s : ℕ)
+      → (after.holds s ≡ before.holds s)
+      ⊎ (IsIn s some × IsInstalled (held_at before some) root (before.holds s) (after.holds s))
   pub made : after.made ≡ before.made
 
--- the object at a path is repaired at some servers: the same names lead to it at each, and any of these is left with what the source has at
--- and below it (that it is marked, and what is above it isn't, is asked before and not needed)
-pub record IsRepaired (root : Fid) (some : List ℕ) (source : ℕ) (names : List Name) (before after : Group) : Type 0 where
+-- the object at a path is repaired at some servers: the same names lead to it at each, and any of these is left with
+-- what the source has at and below it (that it is marked, and what is above it isn't, is asked before and not needed)
+pub record IsRepaired (root : Fid) (some : List ℕ) (source : ℕ) (names : List Name)
+    (before after : Group) : Type 0 where
   pub top : Fid
   pub leads : (s : ℕ) → IsIn s some → LeadsAlike (before.holds source) (before.holds s) root names top
   pub subtree : Fid → Bool
   pub below : (f : Fid) → (subtree f ≡ true) ↔ IsBelow (child_in (before.holds source)) top f
-  pub each : (s : ℕ) → (after.holds s ≡ before.holds s) ⊎ (IsIn s some × IsRepairedAt subtree top source (copies_at (held_at before some)) (before.holds source) (before.holds s) (after.holds s))
+  pub each : (s : ℕ) → (after.holds s ≡ before.holds s)
+      ⊎ (IsIn s some
+        × IsRepairedAt subtree top source (copies_at (held_at before some)) (before.holds source) (before.holds s)
+          (after.holds s))
   pub made : after.made ≡ before.made
 
 -- all of them are servers of the volume
 abbrev pub AreAmong : List ℕ → List ℕ → Type 0
 AreAmong some servers = (s : ℕ) → IsIn s some → IsIn s servers
 
--- the replicas of a volume at some time: it is new, or a record was decided at one of them, or some of them were resolved, or an object was
--- repaired at some
+-- the replicas of a volume at some time: it is new, or a record was decided at one of them, or some of them were
+-- resolved, or an object was repaired at some
 pub data IsReached (root : Fid) (servers : List ℕ) : Group → Type 0 where
   new_volume : (group : Group) → IsNew root group → IsReached root servers group
-  decided : (before after : Group) (server client : ℕ) (rec : Record) → IsReached root servers before → IsIn server servers → IsDecided server client rec before after → IsReached root servers after
-  resolved : (before after : Group) (some : List ℕ) → IsReached root servers before → AreAmong some servers → IsResolved root some before after → IsReached root servers after
-  repaired : (before after : Group) (some : List ℕ) (source : ℕ) (names : List Name) → IsReached root servers before → AreAmong some servers → IsIn source some → IsRepaired root some source names before after → IsReached root servers after
+  decided : (before after : Group) (server client : ℕ) (rec : Record) → IsReached root servers before
+      → IsIn server servers → IsDecided server client rec before after → IsReached root servers after
+  resolved : (before after : Group) (some : List ℕ) → IsReached root servers before → AreAmong some servers
+      → IsResolved root some before after → IsReached root servers after
+  repaired : (before after : Group) (some : List ℕ) (source : ℕ) (names : List Name) → IsReached root servers before
+      → AreAmong some servers → IsIn source some → IsRepaired root some source names before after
+      → IsReached root servers after
 
 -- ---- the law
 
--- whatever was decided, resolved and repaired since a volume was new, and at whichever replicas it was installed, any of its replicas are trees
--- of one kind
+-- whatever was decided, resolved and repaired since a volume was new, and at whichever replicas it was installed, any
+-- of its replicas are trees of one kind
 abbrev pub ReplicasStayTreesOfOneKind : Type 0
-ReplicasStayTreesOfOneKind = (root : Fid) (servers : List ℕ) (group : Group) (some : List ℕ) → IsReached root servers group → AreAmong some servers → some ≢ [] → AreTreesOfOneKind (held_at group some) root
+ReplicasStayTreesOfOneKind = (root : Fid) (servers : List ℕ) (group : Group) (some : List ℕ)
+    → IsReached root servers group → AreAmong some servers → some ≢ [] → AreTreesOfOneKind (held_at group some) root
 
 -- ---- what `merge` answers is what is installed
 
 -- a replica holds what it did, or what its change makes of it
 abbrev pub IsChangedOrNot : Group → Group → ℕ → Change → Type 0
-IsChangedOrNot before after s change = (after.holds s ≡ before.holds s) ⊎ (after.holds s ≡ changed (before.holds s) change)
+IsChangedOrNot before after s change = (after.holds s ≡ before.holds s)
+    ⊎ (after.holds s ≡ changed (before.holds s) change)
 
--- where changes that a merge answers for the replicas at some servers are installed at any of them, these are resolved
+-- where changes that a merge answers for the replicas at some servers are installed at any of them, these are
+-- resolved
 abbrev pub MergesAreResolutions : Type 0
-MergesAreResolutions = (root : Fid) (before after : Group) (some : List ℕ) (changes : List Change) → AreChanges (held_at before some) root changes → AllZip (IsChangedOrNot before after) some changes → ((s : ℕ) → (IsIn s some → ⊥) → after.holds s ≡ before.holds s) → after.made ≡ before.made → IsResolved root some before after
+MergesAreResolutions = (root : Fid) (before after : Group) (some : List ℕ) (changes : List Change)
+    → AreChanges (held_at before some) root changes → AllZip (IsChangedOrNot before after) some changes
+    → ((s : ℕ) → (IsIn s some → ⊥) → after.holds s ≡ before.holds s) → after.made ≡ before.made
+    → IsResolved root some before after

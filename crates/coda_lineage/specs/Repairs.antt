@@ -1,5 +1,6 @@
 -- What a repair leaves: an object and all below it as one replica has them, at all replicas.
-use Rattle.std.specs.Prelude.{◌≡◌, ℕ, Bool, true, false, not, cond, ◌&&◌, List, [], ◌∷◌, Option, Some, None, option_map, ◌↔◌}
+use Rattle.std.specs.Prelude.{◌≡◌, ℕ, Bool, true, false, not, cond, ◌&&◌, List, [], ◌∷◌, Option, Some, None}
+use Rattle.std.specs.Prelude.{option_map, ◌↔◌}
 use Rattle.std.specs.FinMap as finmap
 use Rattle.std.specs.List.{list_any}
 use Rattle.coda_fid.specs.Fid.{same_fid}
@@ -17,7 +18,8 @@ use Rattle.coda_resolve.specs.Resolution.{Objects, child_in}
 -- the names lead from one object to another at both replicas, through the same directories
 abbrev pub LeadsAlike : Objects → Objects → Fid → List Name → Fid → Type 0
 LeadsAlike a b d [] f = f ≡ d
-LeadsAlike a b d (n ∷ names) f = (g : Fid) × ((child_in a d n ≡ Some g) × ((child_in b d n ≡ Some g) × LeadsAlike a b g names f))
+LeadsAlike a b d (n ∷ names) f = (g : Fid)
+    × ((child_in a d n ≡ Some g) × ((child_in b d n ≡ Some g) × LeadsAlike a b g names f))
 
 -- an object as the source has it, not marked, with all updates and one more of the source, and an empty log
 abbrev pub repaired : ℕ → Copies → Held → Held
@@ -48,13 +50,17 @@ spared_by subtree top held (Dir entries) = cond (binds_one subtree top entries)
     (record held { node = record held.node { kind = Dir (others_of subtree top entries); marked = true } })
     held
 
+-- what is left of an object outside the subtree, where a replica has it
 abbrev pub spared : (Fid → Bool) → Fid → Option Held → Option Held
 spared subtree top None = None
 spared subtree top (Some held) = Some (spared_by subtree top held held.node.kind)
 
--- what a replica holds after a repair: the subtree as the source has it, nothing that it had below an object of the subtree, and the rest
-pub record IsRepairedAt (subtree : Fid → Bool) (top : Fid) (source : ℕ) (copies : Fid → Copies) (right view after : Objects) : Type 0 where
-  pub put : (f : Fid) (held : Held) → subtree f ≡ true → finmap.get right f ≡ Some held → finmap.get after f ≡ Some (repaired source (copies f) held)
+-- what a replica holds after a repair: the subtree as the source has it, nothing that it had below an object of the
+-- subtree, and the rest
+pub record IsRepairedAt (subtree : Fid → Bool) (top : Fid) (source : ℕ) (copies : Fid → Copies)
+    (right view after : Objects) : Type 0 where
+  pub put : (f : Fid) (held : Held) → subtree f ≡ true → finmap.get right f ≡ Some held
+      → finmap.get after f ≡ Some (repaired source (copies f) held)
   pub below : Fid → Bool
   pub is_below : (f : Fid) → (below f ≡ true) ↔ ((g : Fid) × ((subtree g ≡ true) × IsBelow (child_in view) g f))
   pub goes : (f : Fid) → subtree f ≡ false → below f ≡ true → finmap.get after f ≡ None

@@ -5,5 +5,6 @@
 mod law;
 
 pub use law::{
-    certified_records_are_decided, merges_are_resolutions, replicas_stay_trees_of_one_kind,
+    certified_records_are_decided, decisions_count_updates, merges_are_resolutions,
+    replicas_stay_trees_of_one_kind,
 };

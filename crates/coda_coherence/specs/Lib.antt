@@ -1,0 +1,4 @@
+pub mod Cell
+pub mod Fact
+pub mod Changes
+pub mod Shortcuts

@@ -1,0 +1,49 @@
+//! Where the objects are bound that a client's log creates, and that no server has what it hasn't been sent.
+#![tactic(auto)]
+
+ghost use Rattle.coda_creations.specs.Places.{AcceptedRemovalsAreInPlace, ObjectsStayWhereCreated};
+ghost use Rattle.coda_creations.specs.Places.{UnmovedRemovalsAreInPlace, DecisionsBringCreations};
+ghost use Rattle.coda_creations.specs.Places.{ReplicasHaveWhatWasBrought, ChunksAndTailsCreateApart};
+ghost use Rattle.coda_creations.specs.Places.{ServersLackWhatTailsCreate};
+
+/// A law of acceptance: where a client's cached directories bind what its log created only where the log created it, a
+/// removal that is accepted is from there, if it undoes the creation or nothing moved the object.
+pub fn accepted_removals_are_in_place()
+    ensures { AcceptedRemovalsAreInPlace }
+{}
+
+/// A law of cached directories: an operation that creates something unseen, a fetch of a node that binds nothing which
+/// the log creates, and a drop leave what the log created bound only where it was created.
+pub fn objects_stay_where_created()
+    ensures { ObjectsStayWhereCreated }
+{}
+
+/// A law of thaws: where each removal of a chunk and its tail is from where the object was created, unless it was moved,
+/// and each creation is of something new, the tail undoes creations where they were made as it is added to the chunk.
+pub fn unmoved_removals_are_in_place()
+    ensures { UnmovedRemovalsAreInPlace }
+{}
+
+/// A law of decisions: what a server's volume has or binds behind the decision of a chunk, it had or bound before, or an
+/// operation of the chunk's span created it.
+pub fn decisions_bring_creations()
+    ensures { DecisionsBringCreations }
+{}
+
+/// A law of replicas: what a replica has or binds is the root of its volume, or an entry of its history brought it: a
+/// chunk that was applied and creates it, or a resolution that left it.
+pub fn replicas_have_what_was_brought()
+    ensures { ReplicasHaveWhatWasBrought }
+{}
+
+/// A law of logs: what a frozen chunk creates that met no conflict, the tail behind it doesn't create, whatever the
+/// client did since.
+pub fn chunks_and_tails_create_apart()
+    ensures { ChunksAndTailsCreateApart }
+{}
+
+/// A law of cells: no server has or binds what the tail of a client's log creates, nor what a chunk creates that the
+/// server didn't apply; in histories without resolutions, whose creations are counted and each of its client.
+pub fn servers_lack_what_tails_create()
+    ensures { ServersLackWhatTailsCreate }
+{}
