@@ -19,10 +19,10 @@ use Rattle.coda_plain.specs.Promises.{Decides, AreKept, IsUnderWay}
 use Rattle.coda_plain.specs.Sound.{deeds_in}
 use Rattle.coda_plain.proofs.Lists.{left_push, some_record, in_left, in_right}
 use Rattle.coda_plain.proofs.Chunking.{in_above}
-use Rattle.coda_creations.specs.Places.{IsBrought, AreCreationsCounted, NoneTookOver, IsOutsideTail}
+use Rattle.coda_creations.specs.Places.{IsBrought, NoneTookOver, IsOutsideTail}
 use Rattle.coda_creations.specs.Places.{ServersLackWhatTailsCreate}
 use Rattle.coda_creations.proofs.Brought.{replicas_have}
-use Rattle.coda_creations.proofs.Tails.{one_created, later, once, above_by, upto_by}
+use Rattle.coda_creations.proofs.Tails.{AreCreationsCounted, counted_from, made_own, one_created, later, once, above_by, upto_by}
 
 -- what was brought was brought by a decision that applied
 find : (volume : ℕ) (past es : List ReplicaEntry) (f : Fid) → NoneTookOver es → IsBrought f (kept_of volume past) es → (d : Decision) × In d (told (decision_at volume) past es) × (verdict_on d ≡ Applied) × (any_record (creates f) d.span ≡ true)
@@ -58,8 +58,13 @@ back_pending : (o : Option Cut) (pending : List Record) (rec : Record) → In re
 back_pending None pending rec i = i
 back_pending (Some cut) pending rec i = in_above cut.last rec pending i
 
-module _ (h : Histories) (volume server client : ℕ) (f : Fid) (kept : (c : ℕ) → AreKept h c volume) (counted : (c : ℕ) → AreCreationsCounted 0 (full_of (deeds_in h c volume)))
-    (own : (c : ℕ) (rec : Record) → In rec (full_of (deeds_in h c volume)) → creates f rec.op ≡ true → c ≡ f.vnode) where
+module _ (h : Histories) (volume server client : ℕ) (f : Fid) (kept : (c : ℕ) → AreKept h c volume) where
+  counted : (c : ℕ) → AreCreationsCounted 0 (full_of (deeds_in h c volume))
+  counted c = counted_from volume c 0 (full_of (deeds_in h c volume)) (kept c).numbered
+
+  own : (c : ℕ) (rec : Record) → In rec (full_of (deeds_in h c volume)) → creates f rec.op ≡ true → c ≡ f.vnode
+  own c rec i e = made_own volume c 0 (full_of (deeds_in h c volume)) rec f (kept c).numbered i e
+
   in_pending : (c : ℕ) (rec : Record) → In rec (pending_of (deeds_in h c volume))
       → In rec (full_of (deeds_in h c volume))
   in_pending c rec i = in_above (course_of (deeds_in h c volume)).done rec (full_of (deeds_in h c volume)) i
@@ -105,7 +110,7 @@ module _ (h : Histories) (volume server client : ℕ) (f : Fid) (kept : (c : ℕ
   }
 
 pub servers_lack : ServersLackWhatTailsCreate
-servers_lack h volume server client f kept counted own all known off = elim (replicas_have volume (h.replicas server volume) f known) [
+servers_lack h volume server client f kept all known off = elim (replicas_have volume (h.replicas server volume) f known) [
   | inl root ↦ absurd (off root)
-  | inr by ↦ (let d = find volume [] (h.replicas server volume) f all by in lacked h volume server client f kept counted own d.0 d.1 d.2 d.3)
+  | inr by ↦ (let d = find volume [] (h.replicas server volume) f all by in lacked h volume server client f kept d.0 d.1 d.2 d.3)
 ]

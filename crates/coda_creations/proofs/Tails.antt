@@ -14,13 +14,35 @@ use Rattle.coda_cml.specs.Segments.{records_upto, records_above}
 use Rattle.coda_plain.specs.Histories.{In, DoFollow}
 use Rattle.coda_plain.specs.Deeds.{Deed, Operated, Froze, Settled, Gaveup, created_by, operation_in, full_of, Cut}
 use Rattle.coda_plain.specs.Deeds.{Course, end_of, course_after, course_of, pending_of, MayDo, AreLawful}
+use Rattle.coda_plain.specs.Deeds.{AreNumberedFrom}
 use Rattle.coda_plain.specs.Logs.{back_by, back_of}
 use Rattle.coda_plain.proofs.Lists.{some_record}
 use Rattle.coda_plain.proofs.Chunking.{course_push, in_above}
 use Rattle.coda_plain.proofs.Ledger.{orderly}
-use Rattle.coda_creations.specs.Places.{AreCreationsCounted, MetNoConflict, ChunksAndTailsCreateApart}
+use Rattle.coda_creations.specs.Places.{MetNoConflict, ChunksAndTailsCreateApart}
 
 -- ---- no two records create one object
+
+-- each object that the records create has the next count of its client, so many having been created before
+abbrev pub AreCreationsCounted : ℕ → List Record → Type 0
+AreCreationsCounted count [] = Unit {0}
+AreCreationsCounted count (rec ∷ recs) = ((f : Fid) → creates f rec.op ≡ true → f.uniq ≡ count + 1)
+    × AreCreationsCounted (count + created_by rec.op) recs
+
+pub counted_from : (volume client count : ℕ) (recs : List Record) → AreNumberedFrom volume client count recs
+    → AreCreationsCounted count recs
+counted_from volume client count [] are = tt
+counted_from volume client count (x ∷ recs) are =
+    ((λ f e. (are.0 f e).number_is), counted_from volume client (count + created_by x.op) recs are.1)
+
+-- what the records create is the client's
+pub made_own : (volume client count : ℕ) (recs : List Record) (rec : Record) (f : Fid)
+    → AreNumberedFrom volume client count recs → In rec recs → creates f rec.op ≡ true → client ≡ f.vnode
+made_own volume client count [] rec f are i e = absurd i
+made_own volume client count (x ∷ recs) rec f are (inl same) e =
+    sym (are.0 f (ap (λ (r : Record). creates f r.op) (sym same) ∙ e)).own
+made_own volume client count (x ∷ recs) rec f are (inr i) e =
+    made_own volume client (count + created_by x.op) recs rec f are.1 i e
 
 pub one_created : (f : Fid) (op : Op) → creates f op ≡ true → created_by op ≡ 1
 one_created f (Create dir name fid mode owner) h = refl
@@ -157,7 +179,8 @@ back_above number last course full rec (Some cut) e (inr c) i =
     let at : cut.last ≡ last = ap (λ (k : Cut). k.last) (same_cut cut c.0 (sym e ∙ c.1)) ∙ c.2 in (omega (arith, at, up), in_above course.done rec full j)
 
 pub tails_apart : ChunksAndTailsCreateApart
-tails_apart past more number home last f law counted none made = false_from_ne_true _ (λ h.
+tails_apart volume client past more number home last f law are none made = false_from_ne_true _ (λ h.
+    let counted = counted_from volume client 0 (full_of (past ++ Froze number home last ∷ more)) are in
     let deeds : List Deed = past ++ Froze number home last ∷ more in
     let whole : (past ++ Froze number home last ∷ []) ++ more ≡ deeds = append_assoc past (Froze number home last ∷ []) more in
     let start : IsBehind number last (course_of (past ++ Froze number home last ∷ [])) = subst (IsBehind number last) (sym (course_push past (Froze number home last))) (inr (record { home = home; last = last }, refl, refl, refl)) in

@@ -1,5 +1,5 @@
 -- Where the objects are bound that a client's log creates, and which objects servers have of those.
-use Rattle.std.specs.Prelude.{◌≡◌, ◌≢◌, ◌⊎◌, ◌+◌, ℕ, true, false, List, [], ◌∷◌, ◌++◌, Some, Ok}
+use Rattle.std.specs.Prelude.{◌≡◌, ◌≢◌, ◌⊎◌, ℕ, true, false, List, [], ◌∷◌, ◌++◌, Some, Ok}
 use Rattle.std.specs.FinMap as map
 use Rattle.coda_fid.specs.Fid.{root_of}
 use Rattle.coda_fid.specs.declared.fid.Fid.{Fid}
@@ -17,7 +17,7 @@ use Rattle.coda_cancel.specs.Dropping.{creates}
 use Rattle.coda_cml.specs.Segments.{records_upto}
 use Rattle.coda_cml.specs.Steady.{any_record, unbinds, IsFresh}
 use Rattle.coda_plain.specs.Histories.{In}
-use Rattle.coda_plain.specs.Deeds.{Deed, Froze, Settled, created_by, full_of, course_of, pending_of, AreLawful}
+use Rattle.coda_plain.specs.Deeds.{Deed, Froze, Settled, course_of, pending_of, AreLawful, AreNumberedObjects}
 use Rattle.coda_plain.specs.Cell.{Histories}
 use Rattle.coda_plain.specs.Sound.{deeds_in}
 use Rattle.coda_plain.specs.Promises.{Decides, AreKept}
@@ -113,23 +113,19 @@ ReplicasHaveWhatWasBrought = (volume : ℕ) (history : List ReplicaEntry) (f : F
 
 -- ---- what tails create
 
--- each object that the records create has the next count of its client, so many having been created before
-abbrev pub AreCreationsCounted : ℕ → List Record → Type 0
-AreCreationsCounted count [] = Unit {0}
-AreCreationsCounted count (rec ∷ recs) = ((f : Fid) → creates f rec.op ≡ true → f.uniq ≡ count + 1)
-    × AreCreationsCounted (count + created_by rec.op) recs
-
 -- the chunk of this number met no conflict
 abbrev pub MetNoConflict : ℕ → List Deed → Type 0
 MetNoConflict number [] = Unit {0}
 MetNoConflict number (Settled n (Conflict refused why) ∷ deeds) = (n ≡ number → ⊥) × MetNoConflict number deeds
 MetNoConflict number (deed ∷ deeds) = MetNoConflict number deeds
 
--- What a chunk creates that met no conflict the tail doesn't create, whatever was done since the chunk was frozen.
+-- Where the client numbers what it creates: what a chunk creates that met no conflict the tail doesn't create, whatever
+-- was done since the chunk was frozen.
 abbrev pub ChunksAndTailsCreateApart : Type 0
 ChunksAndTailsCreateApart =
-    (past more : List Deed) (number home last : ℕ) (f : Fid) → AreLawful (past ++ Froze number home last ∷ more)
-    → AreCreationsCounted 0 (full_of (past ++ Froze number home last ∷ more)) → MetNoConflict number more
+    (volume client : ℕ) (past more : List Deed) (number home last : ℕ) (f : Fid)
+    → AreLawful (past ++ Froze number home last ∷ more)
+    → AreNumberedObjects volume client (past ++ Froze number home last ∷ more) → MetNoConflict number more
     → any_record (creates f) (records_upto last (pending_of past)) ≡ true
     → any_record (creates f) (back_of (past ++ Froze number home last ∷ more)) ≡ false
 
@@ -150,12 +146,10 @@ pub record IsOutsideTail (h : Histories) (volume server client : ℕ) (f : Fid) 
       → any_record (creates f) (pending_of (deeds_in h client volume)) ≡ false
 
 -- What a replica holds or binds, but for the root, is outside each client's tail: where histories keep what is
--- promised, creations are counted, each is of its client, and nothing was taken over.
+-- promised, and nothing was taken over.
 abbrev pub ServersLackWhatTailsCreate : Type 0
 ServersLackWhatTailsCreate =
     (h : Histories) (volume server client : ℕ) (f : Fid) → ((c : ℕ) → AreKept h c volume)
-    → ((c : ℕ) → AreCreationsCounted 0 (full_of (deeds_in h c volume)))
-    → ((c : ℕ) (rec : Record) → In rec (full_of (deeds_in h c volume)) → creates f rec.op ≡ true → c ≡ f.vnode)
     → NoneTookOver (h.replicas server volume)
     → IsHeldOrBound (nodes_of volume (h.replicas server volume)) f → f ≢ root_of volume
     → IsOutsideTail h volume server client f

@@ -36,14 +36,14 @@ pub fn replicas_have_what_was_brought()
     ensures { ReplicasHaveWhatWasBrought }
 {}
 
-/// A law of logs: what a frozen chunk creates that met no conflict, the tail behind it doesn't create, whatever the
-/// client did since.
+/// A law of logs: where a client numbers what it creates, the tail behind a frozen chunk that met no conflict doesn't
+/// create what the chunk creates, whatever the client did since.
 pub fn chunks_and_tails_create_apart()
     ensures { ChunksAndTailsCreateApart }
 {}
 
 /// A law of cells: no server has or binds what the tail of a client's log creates, nor what a chunk creates that the
-/// server didn't apply; in histories without resolutions, whose creations are counted and each of its client.
+/// server didn't apply; in histories without resolutions.
 pub fn servers_lack_what_tails_create()
     ensures { ServersLackWhatTailsCreate }
 {}

@@ -220,9 +220,12 @@ abbrev created : PlainCell
 created = after_step empty_cell (did (Operated creation))
 
 removal_named : AreNamed created 1 7 removal.op
-removal_named f m = mentioned file f (IsNext 7 (done_on created 1 7) 1 removal.op f ⊎ IsMade 7 (done_on created f.vnode 7) f) m
-    (λ e. inr (root_made created f e))
-    (λ e. inr (subst (λ g. IsMade 7 (done_on created g.vnode 7) g) (fid_true file f e) (refl, inr (omega arith))))
+removal_named = record {
+  known = λ f m. mentioned file f (IsNext 7 (done_on created 1 7) 1 removal.op f ⊎ IsMade 7 (done_on created f.vnode 7) f) m
+      (λ e. inr (root_made created f e))
+      (λ e. inr (subst (λ g. IsMade 7 (done_on created g.vnode 7) g) (fid_true file f e) (refl, inr (omega arith))));
+  next = λ f e. absurd (false≢true e);
+}
 
 first_steps : MayStep two_servers empty_cell (did (Operated creation))
 first_steps = (
@@ -230,7 +233,10 @@ first_steps = (
     refl,
     (
       record { next = refl; fresh = λ f c. refl; empty = tt },
-      λ f m. mentioned file f (IsNext 7 (done_on empty_cell 1 7) 1 creation.op f ⊎ IsMade 7 (done_on empty_cell f.vnode 7) f) m (λ e. inr (root_made empty_cell f e)) (λ e. inl (next_at file (97 ∷ []) [] refl refl refl f e)),
+      record {
+        known = λ f m. mentioned file f (IsNext 7 (done_on empty_cell 1 7) 1 creation.op f ⊎ IsMade 7 (done_on empty_cell f.vnode 7) f) m (λ e. inr (root_made empty_cell f e)) (λ e. inl (next_at file (97 ∷ []) [] refl refl refl f e));
+        next = λ f e. next_at file (97 ∷ []) [] refl refl refl f e;
+      },
     ),
   ),
   λ f e. numbered_at file f 1 refl refl refl e,
@@ -263,8 +269,11 @@ settle_step v e = ((refl, (record { cut = record { home = 1; last = 2 }; frozen 
 
 third_named : (cell : PlainCell) → other_file.uniq ≡ created_in (full_of (done_on cell 1 7)) + 1
     → AreNamed cell 1 7 third.op
-third_named cell number f m = mentioned other_file f (IsNext 7 (done_on cell 1 7) 1 third.op f ⊎ IsMade 7 (done_on cell f.vnode 7) f) m
-    (λ e. inr (root_made cell f e)) (λ e. inl (next_at other_file (98 ∷ []) (done_on cell 1 7) refl refl number f e))
+third_named cell number = record {
+  known = λ f m. mentioned other_file f (IsNext 7 (done_on cell 1 7) 1 third.op f ⊎ IsMade 7 (done_on cell f.vnode 7) f) m
+      (λ e. inr (root_made cell f e)) (λ e. inl (next_at other_file (98 ∷ []) (done_on cell 1 7) refl refl number f e));
+  next = λ f e. next_at other_file (98 ∷ []) (done_on cell 1 7) refl refl number f e;
+}
 
 fresh_third : (f : Fid) → same_fid other_file f ≡ true → any_record (mentioning f) (creation ∷ removal ∷ []) ≡ false
 fresh_third f e = subst (λ g. any_record (mentioning g) (creation ∷ removal ∷ []) ≡ false) (fid_true other_file f e) refl
