@@ -22,13 +22,13 @@ use Rattle.coda_cml.proofs.runs.WithoutObject.{any-append}
 use Rattle.coda_overlay.specs.Overlaying.{takes_out}
 use Rattle.coda_overlay.specs.Laws.{TakenOutStays}
 
-takes_with_pre : (f : Fid) → Blind (takes_out f)
+pub takes_with_pre : (f : Fid) → Blind (takes_out f)
 takes_with_pre f h (Rename d n x m g None) = refl
 takes_with_pre f h (Rename d n x m g (Some v)) = refl
 takes_with_pre f h _ = refl
 
 -- no write takes out
-takes_no_write : (f : Fid) (op : Op) → takes_out f op ≡ true → is_write op ≡ false
+pub takes_no_write : (f : Fid) (op : Op) → takes_out f op ≡ true → is_write op ≡ false
 takes_no_write f (Create d n g mode owner) h = refl
 takes_no_write f (Mkdir d n g mode owner) h = refl
 takes_no_write f (Symlink d n g target mode owner) h = refl
@@ -39,7 +39,7 @@ takes_no_write f (Rmdir d n g pre) h = refl
 takes_no_write f (Rename d n x m g over) h = refl
 
 -- nor does what creates or writes an object
-takes_nothing_made : (f x : Fid) (op : Op) → takes_out f op ≡ true → (creates x op || writes x op) ≡ true → ⊥
+pub takes_nothing_made : (f x : Fid) (op : Op) → takes_out f op ≡ true → (creates x op || writes x op) ≡ true → ⊥
 takes_nothing_made f x (Create d n g mode owner) h m = false≢true h
 takes_nothing_made f x (Mkdir d n g mode owner) h m = false≢true h
 takes_nothing_made f x (Symlink d n g target mode owner) h m = false≢true h

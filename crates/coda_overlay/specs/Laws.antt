@@ -8,7 +8,8 @@ use Rattle.coda_cancel.specs.Dropping.{mentioning, creates}
 use Rattle.coda_cml.specs.Steady.{any_record}
 use Rattle.coda_overlay.specs.Objects.{operated_at}
 use Rattle.coda_overlay.specs.Overlaying.{FindsItsNames, Overlays, IsOverlaid, Predates, RemovesInPlace}
-use Rattle.coda_overlay.specs.Overlaying.{AllRemoveInPlace, PredatesOperation, takes_out, IsTailNew}
+use Rattle.coda_overlay.specs.Overlaying.{AllRemoveInPlace, PredatesOperation, takes_out, EndsTakenOut}
+use Rattle.coda_overlay.specs.Overlaying.{IsTailNew}
 
 -- Where a log leaves a copy of an object as it is, the log with one operation more, which finds its names there and
 -- removes in place, leaves what the operation makes of it.
@@ -60,6 +61,16 @@ UnmentionedCopiesStay = (f : Fid) (client : ℕ) (given : Option Node) (log : Li
 abbrev pub TakenOutStays : Type 0
 TakenOutStays = (f : Fid) (log run : List Record) → any_record (creates f) (log ++ run) ≡ false
     → any_record (takes_out f) (log ++ run) ≡ true → any_record (takes_out f) (added log run) ≡ true
+
+-- An object that a log mentions is taken out by the last record that mentions it: once an operation takes it out, as long
+-- as further ones don't mention it, and when a tail is added to the chunk in front of it.
+pub record EndsStayTakenOut : Type 0 where
+  pub taken : (f : Fid) (log : List Record) (rec : Record) → takes_out f rec.op ≡ true
+      → any_record (mentioning f) (add log rec) ≡ true → EndsTakenOut f (add log rec)
+  pub stays : (f : Fid) (log : List Record) (rec : Record) → EndsTakenOut f log → mentioning f rec.op ≡ false
+      → EndsTakenOut f (add log rec)
+  pub thawed : (f : Fid) (chunk tail : List Record) → EndsTakenOut f (chunk ++ tail)
+      → any_record (mentioning f) (added chunk tail) ≡ true → EndsTakenOut f (added chunk tail)
 
 -- Without the premise that removals are in place the law on additions is false.
 abbrev pub PlacesMatter : Type 0

@@ -1,5 +1,5 @@
 -- A log, replayed on the copy of one object that a server gave, and what a client's acceptance makes sure of there.
-use Rattle.std.specs.Prelude.{◌≡◌, ℕ, Bool, true, false, Option, Some, None, option_map, List, [], ◌∷◌}
+use Rattle.std.specs.Prelude.{◌≡◌, ◌⊎◌, ℕ, Bool, true, false, Option, Some, None, option_map, List, [], ◌∷◌}
 use Rattle.coda_fid.specs.Fid.{same_fid}
 use Rattle.coda_fid.specs.declared.fid.Fid.{Fid}
 use Rattle.coda_fid.specs.declared.op.Over.{Over}
@@ -93,6 +93,12 @@ takes_out fid (Setattr it pre attrs) = false
 takes_out fid (Remove dir name it pre) = same_fid it fid
 takes_out fid (Rmdir dir name it pre) = same_fid it fid
 takes_out fid (Rename from_dir from to_dir to it over) = is_over fid over
+
+-- the last of the records that mention the object takes it out
+abbrev pub EndsTakenOut : Fid → List Record → Type 0
+EndsTakenOut fid [] = ⊥
+EndsTakenOut fid (rec ∷ recs) = EndsTakenOut fid recs
+    ⊎ ((takes_out fid rec.op ≡ true) × (any_record (mentioning fid) recs ≡ false))
 
 -- no record of the chunk mentions what the tail creates
 abbrev pub IsTailNew : List Record → List Record → Type 0

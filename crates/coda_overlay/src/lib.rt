@@ -2,6 +2,7 @@
 //! cancelled in it.
 #![tactic(auto)]
 
+ghost use Rattle.coda_overlay.specs.Laws.{EndsStayTakenOut};
 ghost use Rattle.coda_overlay.specs.Laws.{AdditionsOverlay, AdditionsBehindChunksOverlay, ThawsOverlay, FoldsOverlay};
 ghost use Rattle.coda_overlay.specs.Laws.{UnmentionedCopiesAreAsGiven, UnmentionedCopiesStay, UnrelatedFrontsGo};
 ghost use Rattle.coda_overlay.specs.Laws.{TakenOutStays, PlacesMatter};
@@ -54,6 +55,12 @@ pub fn unrelated_fronts_go()
 /// the log.
 pub fn taken_out_stays()
     ensures { TakenOutStays }
+{}
+
+/// A law of removals: what takes an object out stays the last record of the log that mentions it, whatever is cancelled,
+/// and when a tail comes back behind its chunk; unless nothing of the log mentions the object any more.
+pub fn ends_stay_taken_out()
+    ensures { EndsStayTakenOut }
 {}
 
 /// A creation that is undone elsewhere than where it was made leaves a copy that isn't the node that was given, though
