@@ -42,7 +42,7 @@ use Rattle.coda_creations.specs.Places.{UnmovedRemovalsAreInPlace}
 
 -- ---- what takes an object from its place neither creates nor writes anything
 
-unbinds_none_made : (x y : Fid) (op : Op) → unbinds x op ≡ true → (creates y op || writes y op) ≡ true → ⊥
+pub unbinds_none_made : (x y : Fid) (op : Op) → unbinds x op ≡ true → (creates y op || writes y op) ≡ true → ⊥
 unbinds_none_made x y (Create d n g mode owner) h m = false≢true h
 unbinds_none_made x y (Mkdir d n g mode owner) h m = false≢true h
 unbinds_none_made x y (Symlink d n g target mode owner) h m = false≢true h
@@ -52,7 +52,7 @@ unbinds_none_made x y (Remove d n g pre) h m = false≢true m
 unbinds_none_made x y (Rmdir d n g pre) h m = false≢true m
 unbinds_none_made x y (Rename d n e m' g over) h m = false≢true m
 
-unbinds_no_write : (x : Fid) (op : Op) → unbinds x op ≡ true → is_write op ≡ false
+pub unbinds_no_write : (x : Fid) (op : Op) → unbinds x op ≡ true → is_write op ≡ false
 unbinds_no_write x (Create d n g mode owner) h = refl
 unbinds_no_write x (Mkdir d n g mode owner) h = refl
 unbinds_no_write x (Symlink d n g target mode owner) h = refl
@@ -62,7 +62,7 @@ unbinds_no_write x (Remove d n g pre) h = refl
 unbinds_no_write x (Rmdir d n g pre) h = refl
 unbinds_no_write x (Rename d n e m g over) h = refl
 
-unbinds_with_pre : (x : Fid) → Blind (unbinds x)
+pub unbinds_with_pre : (x : Fid) → Blind (unbinds x)
 unbinds_with_pre x h (Rename d n e m g None) = refl
 unbinds_with_pre x h (Rename d n e m g (Some v)) = refl
 unbinds_with_pre x h _ = refl
@@ -82,7 +82,7 @@ in_place : (m : Nodes) (recs : List Record) (dir : Fid) (name : Name) (fid : Fid
     → child m dir name ≡ Some fid → is_undone fid recs ≡ true → AreCreatedAt dir name fid recs
 in_place m recs dir name fid placed bound u = let p = undone_parts fid recs u in placed fid dir name p.0 (made_unbinds fid recs p.1) bound
 
-none_made : (dir : Fid) (name : Name) (fid : Fid) (recs : List Record) → any_record (creates fid) recs ≡ false
+pub none_made : (dir : Fid) (name : Name) (fid : Fid) (recs : List Record) → any_record (creates fid) recs ≡ false
     → AreCreatedAt dir name fid recs
 none_made dir name fid [] h = tt
 none_made dir name fid (rec ∷ recs) h = let k = or_parts _ _ h in (λ c. absurd (false≢true (sym k.0 ∙ c)), none_made dir name fid recs k.1)
@@ -111,7 +111,7 @@ accepted_in_place c volume ask op recs accepted placed = relied_in_place c volum
 -- ---- what stays in records to which one is added
 
 module _ (x : Fid) where
-  kept_unbinds : (op : Op) (owed : Debt) (rs : List Record) → any_record (unbinds x) rs ≡ true
+  pub kept_unbinds : (op : Op) (owed : Debt) (rs : List Record) → any_record (unbinds x) rs ≡ true
       → any_record (unbinds x) (kept (drops op) owed rs) ≡ true
   kept_unbinds op owed [] h = h
   kept_unbinds op owed (r ∷ rs) h = go (drops op r.op) refl (or_cases (unbinds x r.op) (any_record (unbinds x) rs) h) (kept_unbinds op (owe owed (carried r.op)) rs) (kept_unbinds op (paid owed (carried r.op)) rs)
@@ -123,7 +123,7 @@ module _ (x : Fid) where
       go false e (inl here) one two = or_left (unbinds x (hand owed r).op) _ (unbinds_with_pre x (λ g p. sid_or (owed g) p) r.op ∙ here)
       go false e (inr later) one two = or_right (unbinds x (hand owed r).op) _ (two later)
 
-  without_unbinds : (y : Fid) (rs : List Record) → all_records (only_made y) rs ≡ true
+  pub without_unbinds : (y : Fid) (rs : List Record) → all_records (only_made y) rs ≡ true
       → any_record (unbinds x) rs ≡ true → any_record (unbinds x) (without y rs) ≡ true
   without_unbinds y [] m h = h
   without_unbinds y (r ∷ rs) m h = go (mentioning y r.op) refl (or_cases (unbinds x r.op) (any_record (unbinds x) rs) h) (without_unbinds y rs (and_parts _ _ m).1)
@@ -137,7 +137,7 @@ module _ (x : Fid) where
       go false e (inr later) more = or_right (unbinds x r.op) _ (more later)
 
   -- what cancels removes what was created, and nothing else is left of that
-  cancelled : (op : Op) (rs : List Record) → cancels op rs ≡ true
+  pub cancelled : (op : Op) (rs : List Record) → cancels op rs ≡ true
       → (all_records (only_made (object (carried op))) rs ≡ true) × (unbinds x op ≡ true → object (carried op) ≡ x)
   cancelled (Remove d n y pre) rs h = ((undone_parts y rs h).1, λ same. fid_true y x same)
   cancelled (Rmdir d n y pre) rs h = ((undone_parts y rs h).1, λ same. fid_true y x same)
@@ -171,7 +171,7 @@ module _ (x : Fid) where
 
 -- ---- where records are created
 
-made_with_pre : (dir : Fid) (name : Name) (h : Fid → Sid → Sid) (op : Op) → IsCreatedAt dir name op
+pub made_with_pre : (dir : Fid) (name : Name) (h : Fid → Sid → Sid) (op : Op) → IsCreatedAt dir name op
     → IsCreatedAt dir name (with_pre h op)
 made_with_pre dir name h (Rename d n e m g over) at = tt
 made_with_pre dir name h (Create d n g mode owner) at = at
@@ -183,27 +183,27 @@ made_with_pre dir name h (Remove d n g pre) at = tt
 made_with_pre dir name h (Rmdir d n g pre) at = tt
 
 module _ (dir : Fid) (name : Name) (x : Fid) where
-  kept_made : (op : Op) (owed : Debt) (rs : List Record) → AreCreatedAt dir name x rs
+  pub kept_made : (op : Op) (owed : Debt) (rs : List Record) → AreCreatedAt dir name x rs
       → AreCreatedAt dir name x (kept (drops op) owed rs)
   kept_made op owed [] h = tt
   kept_made op owed (r ∷ rs) h = cond_both (drops op r.op) (kept (drops op) (owe owed (carried r.op)) rs) (hand owed r ∷ kept (drops op) (paid owed (carried r.op)) rs) (AreCreatedAt dir name x)
       (λ d. kept_made op (owe owed (carried r.op)) rs h.1)
       (λ d. (λ c. made_with_pre dir name (λ g p. sid_or (owed g) p) r.op (h.0 (sym (creates-with_pre (λ g p. sid_or (owed g) p) x r.op) ∙ c)), kept_made op (paid owed (carried r.op)) rs h.1))
 
-  without_made : (y : Fid) (rs : List Record) → AreCreatedAt dir name x rs → AreCreatedAt dir name x (without y rs)
+  pub without_made : (y : Fid) (rs : List Record) → AreCreatedAt dir name x rs → AreCreatedAt dir name x (without y rs)
   without_made y [] h = tt
   without_made y (r ∷ rs) h = cond_both (mentioning y r.op) (without y rs) (r ∷ without y rs) (AreCreatedAt dir name x) (λ m. without_made y rs h.1) (λ m. (h.0, without_made y rs h.1))
 
-  made_joined : (rs os : List Record) → AreCreatedAt dir name x rs → AreCreatedAt dir name x os
+  pub made_joined : (rs os : List Record) → AreCreatedAt dir name x rs → AreCreatedAt dir name x os
       → AreCreatedAt dir name x (rs ++ os)
   made_joined [] os a b = b
   made_joined (r ∷ rs) os a b = (a.0, made_joined rs os a.1 b)
 
-  made_front : (rs os : List Record) → AreCreatedAt dir name x (rs ++ os) → AreCreatedAt dir name x rs
+  pub made_front : (rs os : List Record) → AreCreatedAt dir name x (rs ++ os) → AreCreatedAt dir name x rs
   made_front [] os h = tt
   made_front (r ∷ rs) os h = (h.0, made_front rs os h.1)
 
-  made_back : (rs os : List Record) → AreCreatedAt dir name x (rs ++ os) → AreCreatedAt dir name x os
+  pub made_back : (rs os : List Record) → AreCreatedAt dir name x (rs ++ os) → AreCreatedAt dir name x os
   made_back [] os h = h
   made_back (r ∷ rs) os h = made_back rs os h.1
 
@@ -275,9 +275,9 @@ places_kept = record { operated = operated; fetched = fetched; dropped = dropped
 
 -- the records that are left of the past say where it created what they create, and what was taken from its place,
 -- unless nothing is left that creates it
-record AreLeft (past acc : List Record) : Type 0 where
-  made : (x dir : Fid) (name : Name) → AreCreatedAt dir name x past → AreCreatedAt dir name x acc
-  moved : (x : Fid) → any_record (unbinds x) past ≡ true
+pub record AreLeft (past acc : List Record) : Type 0 where
+  pub made : (x dir : Fid) (name : Name) → AreCreatedAt dir name x past → AreCreatedAt dir name x acc
+  pub moved : (x : Fid) → any_record (unbinds x) past ≡ true
       → (any_record (unbinds x) acc ≡ true) ⊎ (any_record (creates x) acc ≡ false)
 
 home_in_place : (past acc : List Record) (op : Op) → AreLeft past acc → RemovesUnmoved past op → RemovesInPlace acc op
@@ -302,7 +302,7 @@ home_in_place past acc (Rmdir d n g pre) left home = λ u. left.made g d n (home
         let p = undone_parts x acc u in
         false_from_ne_true _ (λ h. ⊎_elim (λ (a : any_record (unbinds x) acc ≡ true). false≢true (sym (made_unbinds x acc p.1) ∙ a)) (λ (b : any_record (creates x) acc ≡ false). false≢true (sym b ∙ p.0)) (left.moved x h))
 
-left_on : (past acc : List Record) (rec : Record) → AreLeft past acc → IsFresh rec.op past
+pub left_on : (past acc : List Record) (rec : Record) → AreLeft past acc → IsFresh rec.op past
     → AreLeft (past ++ rec ∷ []) (add acc rec)
 left_on past acc rec left fresh = record {
   made = λ x dir name h. made_added dir name x acc rec (left.made x dir name (made_front dir name x past (rec ∷ []) h)) ((made_back dir name x past (rec ∷ []) h).0);
@@ -327,7 +327,7 @@ homes_in_place : (past acc run : List Record) → AreLeft past acc → AllRemove
 homes_in_place past acc [] left home fresh = tt
 homes_in_place past acc (rec ∷ run) left home fresh = (home_in_place past acc rec.op left home.0, homes_in_place (past ++ rec ∷ []) (add acc rec) run (left_on past acc rec left fresh.0) home.1 fresh.1)
 
-fresh_behind : (past front run : List Record) → AllCreateFresh past (front ++ run) → AllCreateFresh (past ++ front) run
+pub fresh_behind : (past front run : List Record) → AllCreateFresh past (front ++ run) → AllCreateFresh (past ++ front) run
 fresh_behind past [] run h = subst (λ l. AllCreateFresh l run) (sym (append-nil past)) h
 fresh_behind past (rec ∷ front) run h = subst (λ l. AllCreateFresh l run) (append_assoc past (rec ∷ []) front) (fresh_behind (past ++ rec ∷ []) front run h.1)
 

@@ -12,7 +12,7 @@ use Rattle.coda_tree.specs.Volume.{Nodes, has, child, child_of}
 use Rattle.coda_certify.specs.Replay.{applied}
 use Rattle.coda_certify.specs.Verdicts.{verdict_of, nodes_left}
 use Rattle.coda_certify.specs.declared.verdict.Verdict.TheVariants.{Applied, Conflict}
-use Rattle.coda_cancel.specs.Cancel.{add}
+use Rattle.coda_cancel.specs.Cancel.{add, added}
 use Rattle.coda_cancel.specs.Dropping.{creates}
 use Rattle.coda_cml.specs.Segments.{records_upto}
 use Rattle.coda_cml.specs.Steady.{any_record, unbinds, IsFresh}
@@ -56,6 +56,14 @@ abbrev pub AllCreateFresh : List Record → List Record → Type 0
 AllCreateFresh past [] = Unit {0}
 AllCreateFresh past (rec ∷ recs) = IsFresh rec.op past × AllCreateFresh (past ++ rec ∷ []) recs
 
+-- A log is in place over what is cached, with the records in front of its tail that may yet come back to it: each creation
+-- is of something that none before it mentions; each removal of what wasn't moved is from where it was created; and what
+-- was created and not moved is bound nowhere else.
+pub record IsLogInPlace (m : Nodes) (front tail : List Record) : Type 0 where
+  pub fresh : AllCreateFresh [] (front ++ tail)
+  pub unmoved : AllRemoveUnmoved [] (front ++ tail)
+  pub placed : AreWhereCreated m (front ++ tail)
+
 -- ---- the laws
 
 -- Where objects are bound where they were created, a removal that is accepted is from there: if it undoes the
@@ -82,6 +90,26 @@ pub record ObjectsStayWhereCreated : Type 0 where
 abbrev pub UnmovedRemovalsAreInPlace : Type 0
 UnmovedRemovalsAreInPlace = (chunk tail : List Record) → AllRemoveUnmoved chunk tail
     → AllCreateFresh [] (chunk ++ tail) → AllRemoveInPlace chunk tail
+
+-- A log stays in place: by an operation that is accepted and creates something unseen; by a fetch of a node that binds
+-- nothing which the log creates; and by a drop. It is so where its front is frozen, where the chunk was applied, or may
+-- have been, and is no longer counted, and where the chunk met a conflict and the tail is added to it. In such a log the
+-- tail removes in place as it is added to the chunk.
+pub record LogsStayInPlace : Type 0 where
+  pub operated : (c : ClientState) (volume : ℕ) (ask : Asked) (rec : Record) (front tail : List Record)
+      → accept (sight_of c volume) volume ask ≡ Ok rec.op → IsFresh rec.op (front ++ tail)
+      → CreatesUnseen c.held.nodes (front ++ tail) rec.op → IsLogInPlace c.held.nodes front tail
+      → IsLogInPlace (applied c.held.nodes c.number rec) front (add tail rec)
+  pub fetched : (m : Nodes) (fid : Fid) (node : Node) (front tail : List Record)
+      → ((name : Name) (kid : Fid) → child_of (Some node) name ≡ Some kid
+      → any_record (creates kid) (front ++ tail) ≡ false)
+      → IsLogInPlace m front tail → IsLogInPlace (map.insert m fid node) front tail
+  pub dropped : (m : Nodes) (fid : Fid) (front tail : List Record) → IsLogInPlace m front tail
+      → IsLogInPlace (map.remove m fid) front tail
+  pub frozen : (m : Nodes) (front back : List Record) → IsLogInPlace m [] (front ++ back) → IsLogInPlace m front back
+  pub settled : (m : Nodes) (chunk tail : List Record) → IsLogInPlace m chunk tail → IsLogInPlace m [] tail
+  pub thawed : (m : Nodes) (chunk tail : List Record) → IsLogInPlace m chunk tail → IsLogInPlace m [] (added chunk tail)
+  pub comes_back : (m : Nodes) (chunk tail : List Record) → IsLogInPlace m chunk tail → AllRemoveInPlace chunk tail
 
 -- ---- what servers have
 
