@@ -17,7 +17,7 @@ use Rattle.coda_tree.specs.declared.node.Node.{Node}
 use Rattle.coda_tree.specs.Bindings.{Name}
 use Rattle.coda_tree.specs.Volume.{Nodes, has, IsDirNode, Edit, Put, Bind, TakeOut, Unbind, Write}
 use Rattle.coda_tree.proofs.Order.{get_here, get_else, gone_else, fid_cases}
-use Rattle.coda_certify.specs.Replay.{effects, sid_of, applied}
+use Rattle.coda_certify.specs.Replay.{effects, sid_of, applied, empty_file, empty_dir, new_link}
 use Rattle.coda_certify.specs.declared.verdict.Verdict.{Verdict}
 use Rattle.coda_certify.specs.declared.verdict.Verdict.TheVariants.{Applied, Conflict}
 use Rattle.coda_cancel.specs.Cancel.{add, added, cancels}
@@ -85,15 +85,15 @@ other_way a b e = false_from_ne_true _ (λ h. false≢true (sym e ∙ fid_same a
 
 -- an operation that doesn't take the object out has no edit that does
 spared_edits : (f : Fid) (time : ℕ) (sid : Sid) (o : Op) → takes_out f o ≡ false → none_gone f (effects time sid o)
-spared_edits f time sid (op.Create dir name fid mode owner) h = (refl, refl, tt)
-spared_edits f time sid (op.Mkdir dir name fid mode owner) h = (refl, refl, tt)
-spared_edits f time sid (op.Symlink dir name fid target mode owner) h = (refl, refl, tt)
+spared_edits f time sid (op.Create dir name fid mode owner) h = (refl, (refl, tt))
+spared_edits f time sid (op.Mkdir dir name fid mode owner) h = (refl, (refl, tt))
+spared_edits f time sid (op.Symlink dir name fid target mode owner) h = (refl, (refl, tt))
 spared_edits f time sid (op.Store fid pre content) h = (refl, tt)
 spared_edits f time sid (op.Setattr fid pre attrs) h = (refl, tt)
-spared_edits f time sid (op.Remove dir name fid pre) h = (refl, other_way fid f h, tt)
-spared_edits f time sid (op.Rmdir dir name fid pre) h = (refl, other_way fid f h, tt)
-spared_edits f time sid (op.Rename from_dir from to_dir to fid None) h = (refl, refl, tt)
-spared_edits f time sid (op.Rename from_dir from to_dir to fid (Some v)) h = (refl, other_way v.fid f h, refl, tt)
+spared_edits f time sid (op.Remove dir name fid pre) h = (refl, (other_way fid f h, tt))
+spared_edits f time sid (op.Rmdir dir name fid pre) h = (refl, (other_way fid f h, tt))
+spared_edits f time sid (op.Rename from_dir from to_dir to fid None) h = (refl, (refl, tt))
+spared_edits f time sid (op.Rename from_dir from to_dir to fid (Some v)) h = (other_way v.fid f h, (refl, (refl, tt)))
 
 stays_cached : (f : Fid) (client : ℕ) (rec : Record) (m : Nodes) → takes_out f rec.op ≡ false → has m f ≡ true
     → has (applied m client rec) f ≡ true
@@ -104,11 +104,15 @@ stays_cached f client rec m spared there = ap is_some (get-applied f client rec 
 put_here : (f fid : Fid) (node : Node) (o : Option Node) → same_fid fid f ≡ true → is_some (edited_at f (Put fid node) o) ≡ true
 put_here f fid node o e = ap (λ b. is_some (cond b (Some node) o)) (fid_same f fid (sym (fid_true fid f e)))
 
+made_there : (f dir : Fid) (name : Name) (fid : Fid) (node : Node) (o : Option Node) → same_fid fid f ≡ true
+    → is_some (edited_at f (Put fid node) (edited_at f (Bind dir name fid) o)) ≡ true
+made_there f dir name fid node o e = put_here f fid node (edited_at f (Bind dir name fid) o) e
+
 made_edits : (f : Fid) (time : ℕ) (sid : Sid) (op : Op) (o : Option Node) → creates f op ≡ true
     → is_some (all_edited_at f (effects time sid op) o) ≡ true
-made_edits f time sid (op.Create dir name fid mode owner) o e = kept_by (same_fid f dir) _ _ (put_here f fid _ o e)
-made_edits f time sid (op.Mkdir dir name fid mode owner) o e = kept_by (same_fid f dir) _ _ (put_here f fid _ o e)
-made_edits f time sid (op.Symlink dir name fid target mode owner) o e = kept_by (same_fid f dir) _ _ (put_here f fid _ o e)
+made_edits f time sid (op.Create dir name fid mode owner) o e = made_there f dir name fid (empty_file mode owner time sid) o e
+made_edits f time sid (op.Mkdir dir name fid mode owner) o e = made_there f dir name fid (empty_dir mode owner time sid) o e
+made_edits f time sid (op.Symlink dir name fid target mode owner) o e = made_there f dir name fid (new_link target mode owner time sid) o e
 made_edits f time sid (op.Store fid pre content) o e = absurd (false≢true e)
 made_edits f time sid (op.Setattr fid pre attrs) o e = absurd (false≢true e)
 made_edits f time sid (op.Remove dir name fid pre) o e = absurd (false≢true e)
@@ -161,14 +165,6 @@ mentioned_there s volume (op.Rename from_dir from to_dir to fid (Some v)) f r m 
 abbrev IsKeptBy : Fid → List Record → List Record → Option Node → Type 0
 IsKeptBy fid chunk tail now = any_record (mentioning fid) (chunk ++ tail) ≡ true
     → IsSome now ⊎ EndsTakenOut fid (chunk ++ tail)
-
-is_there : (o : Option Node) → is_some o ≡ true → IsSome o
-is_there None h = absurd (false≢true h)
-is_there (Some node) h = tt
-
-has_some : (o : Option Node) → IsSome o → is_some o ≡ true
-has_some None h = absurd h
-has_some (Some node) h = refl
 
 -- an operation more behind a chunk
 operated_kept : (f : Fid) (chunk tail : List Record) (rec : Record) (before after : Option Node) → IsTailNew chunk tail
@@ -258,13 +254,13 @@ module _ (c : ClientState) (volume : ℕ) (rec : Record) (may : MayEnter c (entr
   relied = accepted_relies (sight_of c volume) volume may.ask rec.op may.accepted
 
   still : takes_out f rec.op ≡ false → IsSome (cached_node c f) → IsSome (cached_node after_it f)
-  still spared there = is_there _ (stays_cached f c.number rec c.held.nodes spared (has_some _ there))
+  still spared there = stays_cached f c.number rec c.held.nodes spared there
 
   seen_now : takes_out f rec.op ≡ false → mentioning f rec.op ≡ true → IsSome (cached_node after_it f)
-  seen_now spared m = is_there _ (⊎_elim
+  seen_now spared m = ⊎_elim
       (λ (e : creates f rec.op ≡ true). made_cached f c.number rec c.held.nodes e)
       (λ (h : has c.held.nodes f ≡ true). stays_cached f c.number rec c.held.nodes spared h)
-      (mentioned_there (sight_of c volume) volume rec.op f relied m))
+      (mentioned_there (sight_of c volume) volume rec.op f relied m)
 
   operated : OfVolume f (after_it.volumes f.volume) (cached_node after_it f)
   operated = at_volume (λ v. OfVolume f v (cached_node after_it f)) c.volumes volume (volume_after (c.volumes volume) (Operated rec)) f.volume
@@ -290,17 +286,17 @@ mentioned_are_kept = record { first = λ number blocks fid m. absurd (false≢tr
     entered c (entry.Giveup volume) may owed kept f = at_volume (λ v. OfVolume f v (cached_node c f)) c.volumes volume (volume_after (c.volumes volume) Gaveup) f.volume
         (λ same. given_up_kept f (c.volumes volume) (cached_node c f) (owed may.0))
         (λ off. kept f)
-    entered c (entry.Fetched at parent node) may owed kept f m = elim (fid_cases f at) [
-      | inl same ↦ inl (subst (λ o. IsSome o) (sym (ap (map.get (map.insert c.held.nodes at node)) same ∙ get_here fids_total c.held.nodes at node)) tt)
+    entered c (entry.Fetched at parent node) may owed kept f = λ m. elim (fid_cases f at) [
+      | inl same ↦ inl (subst (λ o. IsSome o) (sym (ap (map.get (map.insert c.held.nodes at node)) same ∙ get_here fids_total c.held.nodes at node)) refl)
       | inr off ↦ subst (λ o. IsSome o ⊎ EndsTakenOut f (records_for c f)) (sym (get_else fids_total exact_fids c.held.nodes at node f off)) (kept f m)
     ]
-    entered c (entry.Dropped at) may owed kept f m = elim (fid_cases f at) [
+    entered c (entry.Dropped at) may owed kept f = λ m. elim (fid_cases f at) [
       | inl same ↦ absurd (may.1 (subst (λ x. (any_record (mentioning x) (c.volumes x.volume).log.chunk || any_record (mentioning x) (c.volumes x.volume).log.records) ≡ true) same (sym (any-append (mentioning f) (c.volumes f.volume).log.chunk (c.volumes f.volume).log.records) ∙ m)))
       | inr off ↦ subst (λ o. IsSome o ⊎ EndsTakenOut f (records_for c f)) (sym (gone_else fids_total exact_fids c.held.nodes at f off)) (kept f m)
     ]
 
     taken : (c : ClientState) (fid : Fid) → AreMentionedKept c → cached_node c fid ≡ None → any_record (mentioning fid) (records_for c fid) ≡ true → any_record (takes_out fid) (records_for c fid) ≡ true
     taken c fid kept none m = elim (kept fid m) [
-      | inl there ↦ absurd (subst IsSome none there)
+      | inl there ↦ absurd (false≢true (subst IsSome none there))
       | inr ends ↦ ends_take fid (records_for c fid) ends
     ]
