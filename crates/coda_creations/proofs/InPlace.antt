@@ -271,24 +271,25 @@ settled m chunk tail is =
 -- ---- a tail that comes back
 
 -- what was removed unmoved by the past is so by what is left of it
+at_left : (past acc : List Record) (d : Fid) (n : Name) (g : Fid) → AreLeft past acc
+    → (any_record (unbinds g) past ≡ false → AreCreatedAt d n g past) → any_record (unbinds g) acc ≡ false
+    → AreCreatedAt d n g acc
+at_left past acc d n g left r u = elim (cases_Bool (any_record (unbinds g) past)) [
+  | inl moved ↦ elim (left.moved g moved) [
+    | inl still ↦ absurd (false≢true (sym u ∙ still))
+    | inr gone ↦ none_made d n g acc gone
+  ]
+  | inr unmoved ↦ left.made g d n (r unmoved)
+]
+
 unmoved_left : (past acc : List Record) (op : Op) → AreLeft past acc → RemovesUnmoved past op → RemovesUnmoved acc op
 unmoved_left past acc (Create d n g mode owner) left r = tt
 unmoved_left past acc (Mkdir d n g mode owner) left r = tt
 unmoved_left past acc (Symlink d n g target mode owner) left r = tt
 unmoved_left past acc (Store g pre content) left r = tt
 unmoved_left past acc (Setattr g pre a) left r = tt
-unmoved_left past acc (Remove d n g pre) left r = λ u. at_left past acc d n g left r u
-  where
-    at_left : (past acc : List Record) (d : Fid) (n : Name) (g : Fid) → AreLeft past acc
-        → (any_record (unbinds g) past ≡ false → AreCreatedAt d n g past) → any_record (unbinds g) acc ≡ false → AreCreatedAt d n g acc
-    at_left past acc d n g left r u = elim (cases_Bool (any_record (unbinds g) past)) [
-      | inl moved ↦ elim (left.moved g moved) [
-        | inl still ↦ absurd (false≢true (sym u ∙ still))
-        | inr gone ↦ none_made d n g acc gone
-      ]
-      | inr unmoved ↦ left.made g d n (r unmoved)
-    ]
-unmoved_left past acc (Rmdir d n g pre) left r = unmoved_left past acc (Remove d n g pre) left r
+unmoved_left past acc (Remove d n g pre) left r = at_left past acc d n g left r
+unmoved_left past acc (Rmdir d n g pre) left r = at_left past acc d n g left r
 unmoved_left past acc (Rename d n e m g over) left r = tt
 
 record IsBack (past acc run : List Record) : Type 0 where
@@ -297,9 +298,6 @@ record IsBack (past acc run : List Record) : Type 0 where
   fresh : AllCreateFresh [] (added acc run)
 
 -- what is left mentions no more than the past did
-abbrev AreSeen : List Record → List Record → Type 0
-AreSeen past acc = MentionsLess acc past
-
 seen_on : (past acc : List Record) (rec : Record) → MentionsLess acc past → MentionsLess (add acc rec) (past ++ rec ∷ [])
 seen_on past acc rec l x q =
     let p = quiet_parts x past (rec ∷ []) q in
