@@ -273,6 +273,7 @@ module _ (cell : Cell) (kept : IsKept cell) (blank : IsFromBlank cell) (joins : 
   agree_blank : DoAgreeNow (histories_of cell joins) kept.pool
   agree_blank = let a = agree_now cell kept joins in record {
     lawful = a.lawful;
+    numbered = a.numbered;
     ruled = a.ruled;
     made = a.made;
     held = a.held;

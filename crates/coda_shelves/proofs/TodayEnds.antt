@@ -13,6 +13,7 @@ use Rattle.coda_record.specs.declared.entry.ReplicaEntry.{ReplicaEntry as KeptEn
 use Rattle.coda_script.specs.Ranges.{IsServer}
 use Rattle.coda_script.specs.declared.reply.Reply.{Reply}
 use Rattle.coda_cell.specs.State.{put, later, linked, Event, VolumeMade, ClientMade, Ticked, LinkSet, Entered, Posted, Lost, Used, Kept, Stale, but_of, with_copy, cut_by, used_then}
+use Rattle.coda_cell.specs.Made.{Copy}
 use Rattle.coda_cell.specs.Steps.{alone}
 use Rattle.coda_matching.specs.Replicas.{entry_at}
 use Rattle.coda_stored.specs.Cells.{Side, StoredCell}

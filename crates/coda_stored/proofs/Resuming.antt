@@ -46,6 +46,7 @@ quiet_kept cell kept = record {
     replicas_up = kept.sound.replicas_up;
     agree = λ joins. let a = kept.sound.agree joins in record {
       lawful = a.lawful;
+      numbered = a.numbered;
       ruled = a.ruled;
       made = a.made;
       held = a.held;
