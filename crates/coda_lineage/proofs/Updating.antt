@@ -14,7 +14,8 @@ use Rattle.coda_fid.specs.declared.op.Record.{Record}
 use Rattle.coda_fid.proofs.Fids.{same_fid_is, same_fid_refl}
 use Rattle.coda_tree.specs.declared.node.Node.{Node}
 use Rattle.coda_tree.specs.Bindings.{Name}
-use Rattle.coda_tree.specs.Volume.{Nodes, child, child_of, bindings, bind_in, unbind_in, Patch, written}
+use Rattle.coda_tree.specs.Volume.{Nodes, child, child_of, bindings, bind_in, unbind_in, Patch, written, content_patch}
+use Rattle.coda_tree.specs.Volume.{attrs_patch}
 use Rattle.coda_tree.proofs.Order.{get_here, gone_here}
 use Rattle.coda_reslog.specs.declared.change.Held.{Held}
 use Rattle.coda_reslog.specs.declared.entry.Lost.{Lost}
@@ -27,7 +28,8 @@ use Rattle.coda_overlay.proofs.Copies.{get-applied}
 use Rattle.coda_resolve.specs.Resolution.{Objects}
 use Rattle.coda_resolve.specs.Changes.{node_of}
 use Rattle.coda_resolve.proofs.Lists.{some_none}
-use Rattle.coda_lineage.specs.Deeds.{Deed, deed_at, makes, first_by, next_update, crosses, renames, version_by}
+use Rattle.coda_lineage.specs.Deeds.{Deed, deed_at, makes, first_by, next_update, writes, crosses, renames}
+use Rattle.coda_lineage.specs.Deeds.{version_by}
 use Rattle.coda_lineage.specs.Deeds.{IsDecision}
 use Rattle.coda_lineage.specs.Updates.{BindsOtherwise, IsUpdated, IsBegun, IsCountedAt, DecisionsCountUpdates}
 use Rattle.coda_lineage.proofs.Booleans.{the_some}
@@ -107,8 +109,8 @@ module _ (server : ℕ) (sid : Sid) (f : Fid) (m : Nodes) where
       (to : Name) (fid : Fid) (lost : Option Lost) → child m from_dir from ≡ Some fid → child m to_dir to ≢ Some fid
       → (s a b : Bool) → same_fid from_dir to_dir ≡ s → same_fid f from_dir ≡ a → same_fid f to_dir ≡ b
       → IsCountedAt server sid op f o (version_by server sid
-        (if b then option_map (λ n. bind_in n to fid) (if a then option_map (λ n. unbind_in n from) (node_of o) else node_of o) else (if a then option_map (λ n. unbind_in n from) (node_of o) else node_of o))
-        o (cond s (cond b (Some (renames from to fid lost)) None) (cond a (Some (crosses from fid None)) (cond b (Some (crosses to fid lost)) None))))
+      (if b then option_map (λ n. bind_in n to fid) (if a then option_map (λ n. unbind_in n from) (node_of o) else node_of o) else (if a then option_map (λ n. unbind_in n from) (node_of o) else node_of o))
+      o (cond s (cond b (Some (renames from to fid lost)) None) (cond a (Some (crosses from fid None)) (cond b (Some (crosses to fid lost)) None))))
   moved op None at from_dir from to_dir to fid lost was free s true true e p q = tt
   moved op None at from_dir from to_dir to fid lost was free s false true e p q = tt
   moved op None at from_dir from to_dir to fid lost was free s true false e p q = tt
@@ -135,12 +137,12 @@ module _ (server : ℕ) (sid : Sid) (f : Fid) (m : Nodes) where
       → (c s a b : Bool) → same_fid f out ≡ c → same_fid from_dir to_dir ≡ s → same_fid f from_dir ≡ a
       → same_fid f to_dir ≡ b
       → IsCountedAt server sid op f o (version_by server sid
-        (if b then option_map (λ n. bind_in n to fid) (if a then option_map (λ n. unbind_in n from) (if c then None else node_of o) else (if c then None else node_of o)) else (if a then option_map (λ n. unbind_in n from) (if c then None else node_of o) else (if c then None else node_of o)))
-        o (cond s (cond b (Some (renames from to fid lost)) None) (cond a (Some (crosses from fid None)) (cond b (Some (crosses to fid lost)) None))))
-  replaced op o at out from_dir from to_dir to fid lost taken was free true s true true x e p q = gone op o _ (taken x)
-  replaced op o at out from_dir from to_dir to fid lost taken was free true s false true x e p q = gone op o _ (taken x)
-  replaced op o at out from_dir from to_dir to fid lost taken was free true s true false x e p q = gone op o _ (taken x)
-  replaced op o at out from_dir from to_dir to fid lost taken was free true s false false x e p q = gone op o _ (taken x)
+      (if b then option_map (λ n. bind_in n to fid) (if a then option_map (λ n. unbind_in n from) (if c then None else node_of o) else (if c then None else node_of o)) else (if a then option_map (λ n. unbind_in n from) (if c then None else node_of o) else (if c then None else node_of o)))
+      o (cond s (cond b (Some (renames from to fid lost)) None) (cond a (Some (crosses from fid None)) (cond b (Some (crosses to fid lost)) None))))
+  replaced op o at out from_dir from to_dir to fid lost taken was free true s true true x e p q = gone op o None (taken x)
+  replaced op o at out from_dir from to_dir to fid lost taken was free true s false true x e p q = gone op o None (taken x)
+  replaced op o at out from_dir from to_dir to fid lost taken was free true s true false x e p q = gone op o None (taken x)
+  replaced op o at out from_dir from to_dir to fid lost taken was free true s false false x e p q = gone op o None (taken x)
   replaced op o at out from_dir from to_dir to fid lost taken was free false s a b x e p q = moved op o at from_dir from to_dir to fid lost was free s a b e p q
 
 -- whichever way the two fids stand
@@ -159,8 +161,8 @@ module _ (server : ℕ) (sid : Sid) (time : ℕ) (f : Fid) (m : Nodes) (before :
   by_operation (Symlink dir name fid target mode owner) c =
       let may = may_edit m (Symlink dir name fid target mode owner) c in
       created server sid f m (Symlink dir name fid target mode owner) o at dir name fid _ _ refl (refl, refl) may.name_free may.fid_free (same_fid f fid) (same_fid f dir) refl refl
-  by_operation (Store fid pre content) c = wrote server sid f m (Store fid pre content) o _ _ (same_fid f fid)
-  by_operation (Setattr fid pre attrs) c = wrote server sid f m (Setattr fid pre attrs) o _ _ (same_fid f fid)
+  by_operation (Store fid pre content) c = wrote server sid f m (Store fid pre content) o (content_patch content time) (writes fid) (same_fid f fid)
+  by_operation (Setattr fid pre attrs) c = wrote server sid f m (Setattr fid pre attrs) o (attrs_patch attrs) (writes fid) (same_fid f fid)
   by_operation (Remove dir name fid pre) c =
       removed server sid f m (Remove dir name fid pre) o at dir name fid _ (turned f fid) (may_edit m (Remove dir name fid pre) c).bound (same_fid f fid) (same_fid f dir) refl refl
   by_operation (Rmdir dir name fid pre) c =

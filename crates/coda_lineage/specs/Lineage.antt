@@ -62,8 +62,8 @@ pub record IsRepaired (root : Fid) (some : List ℕ) (source : ℕ) (names : Lis
   pub below : (f : Fid) → (subtree f ≡ true) ↔ IsBelow (child_in (before.holds source)) top f
   pub each : (s : ℕ) → (after.holds s ≡ before.holds s)
       ⊎ (IsIn s some
-        × IsRepairedAt subtree top source (copies_at (held_at before some)) (before.holds source) (before.holds s)
-          (after.holds s))
+      × IsRepairedAt subtree top source (copies_at (held_at before some)) (before.holds source) (before.holds s)
+      (after.holds s))
   pub made : after.made ≡ before.made
 
 -- all of them are servers of the volume

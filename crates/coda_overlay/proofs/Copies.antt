@@ -33,7 +33,8 @@ edit_is f (Write fid patch sid) o = refl
 
 pub get-edits : (f : Fid) (es : List Edit) (m : Nodes) → map.get (edited_all m es) f ≡ all_edited_at f es (map.get m f)
 get-edits f [] m = refl
-get-edits f (e ∷ es) m = get-edits f es (edited m e) ∙ ap (all_edited_at f es) (get-edited m e f ∙ sym (edit_is f e (map.get m f)))
+get-edits f (e ∷ es) m =
+    get-edits f es (edited m e) ∙ ap (all_edited_at f es) (get-edited m e f ∙ sym (edit_is f e (map.get m f)))
 
 pub get-applied : (f : Fid) (client : ℕ) (rec : Record) (m : Nodes)
     → map.get (applied m client rec) f ≡ operated_at f client rec (map.get m f)
@@ -83,7 +84,8 @@ finds_with_pre f a h _ x = x
 pub overlays_joined : (f : Fid) (client : ℕ) (o mid left : Option Node) (recs more : List Record)
     → Overlays f client o recs mid → Overlays f client mid more left → Overlays f client o (recs ++ more) left
 overlays_joined f client o mid left [] more a b = subst (λ y. Overlays f client y more left) (sym a) b
-overlays_joined f client o mid left (rec ∷ recs) more a b = (a.0, overlays_joined f client (operated_at f client rec o) mid left recs more a.1 b)
+overlays_joined f client o mid left (rec ∷ recs) more a b =
+    (a.0, overlays_joined f client (operated_at f client rec o) mid left recs more a.1 b)
 
 pub overlays_split : (f : Fid) (client : ℕ) (o left : Option Node) (recs more : List Record)
     → Overlays f client o (recs ++ more) left

@@ -45,7 +45,11 @@ now = Some (bind_in given name made)
 
 led : IsOverlaid one 1 (Some given) (creation ∷ []) now
 led = record {
-  predates = record { not_created = refl; unbound = λ n fid is. absurd (none-some fid (sym (map.get-empty name_cmp n) ∙ is)) };
+  predates =
+      record {
+        not_created = refl;
+        unbound = λ n fid is. absurd (none-some fid (sym (map.get-empty name_cmp n) ∙ is));
+      };
   overlays = (record { dir_there = λ _. tt; free = λ _. map.get-empty name_cmp name }, refl);
 }
 

@@ -47,7 +47,9 @@ plain_of_dir (Some node) h = go node.kind h
     go (Dir entries) h = h
 
 finds_plain : (f : Fid) (a b : Option Node) → plain a ≡ plain b → (op : Op) → FindsItsNames f a op → FindsItsNames f b op
-finds_plain f a b e op h = finds_same f a b (λ n. sym (child-written everything no_version a n) ∙ ap (λ o. child_of o n) e ∙ child-written everything no_version b n)
+finds_plain f a b e op h =
+    finds_same f a b (λ n. sym (child-written everything no_version a n) ∙ ap (λ o. child_of o n) e ∙ child-written
+    everything no_version b n)
     (λ d. dir_of_plain b (subst IsDirNode e (plain_of_dir a d))) op h
 
 -- ---- one object of many
@@ -67,7 +69,11 @@ led_in q client (rec ∷ recs) v o left e h =
 led_out : (q : Fid) (client : ℕ) (recs : List Record) (v w : Nodes) → LedIn q client v recs w
     → Overlays q client (map.get v q) recs (map.get w q)
 led_out q client [] v w h = ap (λ (m : Nodes). map.get m q) h
-led_out q client (rec ∷ recs) v w h = (h.0, subst (λ o. Overlays q client o recs (map.get w q)) (get-applied q client rec v) (led_out q client recs (applied v client rec) w h.1))
+led_out q client (rec ∷ recs) v w h = (
+  h.0,
+  subst (λ o. Overlays q client o recs (map.get w q)) (get-applied q client rec v)
+      (led_out q client recs (applied v client rec) w h.1),
+)
 
 -- nodes with this at q
 abbrev only : Fid → Option Node → Nodes
@@ -85,14 +91,18 @@ module _ (q : Fid) (client : ℕ) (f : Fid) (o : Record) (k : carries f o.op ≡
 
   finds_beside : (v u : Nodes) → Beside v u → (op : Op) → FindsItsNames q (map.get v q) op
       → FindsItsNames q (map.get u q) op
-  finds_beside v u a op h = finds_plain q (map.get v q) (map.get u q) (look_alike f (reach o.time o.op) no_version v u a q) op h
+  finds_beside v u a op h =
+      finds_plain q (map.get v q) (map.get u q) (look_alike f (reach o.time o.op) no_version v u a q) op h
 
   last : (owed : Debt) (v u : Nodes) → Beside v u → FindsItsNames q (map.get v q) o.op
       → LedIn q client u (hand owed o ∷ []) (applied v client o)
   unfolding applied
   last owed v u a c = (
     finds_with_pre q (map.get u q) (λ g p. sid_or (owed g) p) o.op (finds_beside v u a o.op c),
-    ap (λ es. edited_all u es) (effects-with_pre (λ g p. sid_or (owed g) p) o.time (sid_of client o) o.op) ∙ (sym (unseen f o.time no_version (sid_of client o) o.op k u) ∙ (ap (λ y. edited_all y (effects o.time (sid_of client o) o.op)) (sym a) ∙ unseen f o.time no_version (sid_of client o) o.op k v)),
+    ap (λ es. edited_all u es) (effects-with_pre (λ g p. sid_or (owed g) p) o.time (sid_of client o) o.op)
+        ∙ (sym (unseen f o.time no_version (sid_of client o) o.op k u)
+        ∙ (ap (λ y. edited_all y (effects o.time (sid_of client o) o.op)) (sym a) ∙ unseen f o.time no_version
+        (sid_of client o) o.op k v)),
   )
 
   after_drop : (v u : Nodes) → Beside v u → (r : Record) → drops o.op r.op ≡ true → Beside (applied v client r) u
@@ -100,27 +110,41 @@ module _ (q : Fid) (client : ℕ) (f : Fid) (o : Record) (k : carries f o.op ≡
   after_drop v u a r d =
       let h = dropped_covered f o.time no_version o.op r.op k d in
       let e = h.effect r.time (sid_of client r) in
-      subst (λ es. Beside (edited_all v es) u) (sym e.1) (veiled_over f (reach o.time o.op) no_version e.0 (sid_of client r) e.2 v ∙ a)
+      subst (λ es. Beside (edited_all v es) u) (sym e.1)
+      (veiled_over f (reach o.time o.op) no_version e.0 (sid_of client r) e.2 v ∙ a)
 
   after_kept : (owed : Debt) (v u : Nodes) → Beside v u → (r : Record)
       → Beside (applied v client r) (applied u client (hand owed r))
   unfolding applied
   after_kept owed v u a r =
-      subst (λ es. Beside (edited_all v (effects r.time (sid_of client r) r.op)) (edited_all u es)) (sym (effects-with_pre (λ g p. sid_or (owed g) p) r.time (sid_of client r) r.op))
+      subst (λ es. Beside (edited_all v (effects r.time (sid_of client r) r.op)) (edited_all u es))
+      (sym (effects-with_pre (λ g p. sid_or (owed g) p) r.time (sid_of client r) r.op))
       (edits_alike f (reach o.time o.op) no_version (effects r.time (sid_of client r) r.op) v u a)
 
   sim : (rs : List Record) (owed : Debt) (v u w : Nodes) → Beside v u → LedIn q client v rs w
       → FindsItsNames q (map.get w q) o.op
       → LedIn q client u (kept (drops o.op) owed rs ++ hand (debt (drops o.op) owed rs) o ∷ []) (applied w client o)
-  sim [] owed v u w a h c = subst (λ x. LedIn q client u (hand owed o ∷ []) (applied x client o)) h (last owed v u a (subst (λ x. FindsItsNames q (map.get x q) o.op) (sym h) c))
+  sim [] owed v u w a h c =
+      subst (λ x. LedIn q client u (hand owed o ∷ []) (applied x client o)) h
+      (last owed v u a (subst (λ x. FindsItsNames q (map.get x q) o.op) (sym h) c))
   sim (r ∷ rs) owed v u w a h c = go (drops o.op r.op) refl
-      (λ d. sim rs (owe owed (carried r.op)) (applied v client r) u w (after_drop v u a r d) h.1 c)
-      (finds_with_pre q (map.get u q) (λ g p. sid_or (owed g) p) r.op (finds_beside v u a r.op h.0), sim rs (paid owed (carried r.op)) (applied v client r) (applied u client (hand owed r)) w (after_kept owed v u a r) h.1 c)
+      (λ d. sim rs (owe owed (carried r.op)) (applied v client r) u w (after_drop v u a r d) h.1 c) (
+        finds_with_pre q (map.get u q) (λ g p. sid_or (owed g) p) r.op (finds_beside v u a r.op h.0),
+        sim rs
+            (paid owed (carried r.op)) (applied v client r) (applied u client (hand owed r)) w (after_kept owed v u a r) h.1
+            c,
+      )
     where
       go : (b : Bool) → drops o.op r.op ≡ b →
-          (drops o.op r.op ≡ true → LedIn q client u (kept (drops o.op) (owe owed (carried r.op)) rs ++ hand (debt (drops o.op) (owe owed (carried r.op)) rs) o ∷ []) (applied w client o)) →
-          LedIn q client u ((hand owed r ∷ kept (drops o.op) (paid owed (carried r.op)) rs) ++ hand (debt (drops o.op) (paid owed (carried r.op)) rs) o ∷ []) (applied w client o) →
-          LedIn q client u (cond b (kept (drops o.op) (owe owed (carried r.op)) rs) (hand owed r ∷ kept (drops o.op) (paid owed (carried r.op)) rs) ++ hand (cond b (debt (drops o.op) (owe owed (carried r.op)) rs) (debt (drops o.op) (paid owed (carried r.op)) rs)) o ∷ []) (applied w client o)
+          (drops o.op r.op ≡ true → LedIn q client u
+          (kept (drops o.op) (owe owed (carried r.op)) rs ++ hand (debt (drops o.op) (owe owed (carried r.op)) rs) o
+          ∷ []) (applied w client o)) →
+          LedIn q client u ((hand owed r ∷ kept (drops o.op) (paid owed (carried r.op)) rs) ++ hand
+          (debt (drops o.op) (paid owed (carried r.op)) rs) o ∷ []) (applied w client o) →
+          LedIn q client u (cond b (kept (drops o.op) (owe owed (carried r.op)) rs)
+          (hand owed r ∷ kept (drops o.op) (paid owed (carried r.op)) rs) ++ hand
+          (cond b (debt (drops o.op) (owe owed (carried r.op)) rs) (debt (drops o.op) (paid owed (carried r.op)) rs))
+          o ∷ []) (applied w client o)
       go true e dropped stays = dropped e
       go false e dropped stays = stays
 
@@ -133,4 +157,6 @@ module _ (q : Fid) (client : ℕ) (f : Fid) (o : Record) (k : carries f o.op ≡
       let in_nodes = led_in q client rs start given now at h in
       let led : LedIn q client start (appended rs o) (applied in_nodes.0 client o) = sim rs nothing start start in_nodes.0 refl in_nodes.1 (subst (λ y. FindsItsNames q y o.op) (sym in_nodes.2) c) in
       let out : Overlays q client (map.get start q) (appended rs o) (map.get (applied in_nodes.0 client o) q) = led_out q client (appended rs o) start (applied in_nodes.0 client o) led in
-      subst (λ y. Overlays q client given (appended rs o) y) (get-applied q client o in_nodes.0 ∙ ap (operated_at q client o) in_nodes.2) (subst (λ y. Overlays q client y (appended rs o) (map.get (applied in_nodes.0 client o) q)) at out)
+      subst (λ y. Overlays q client given (appended rs o) y)
+      (get-applied q client o in_nodes.0 ∙ ap (operated_at q client o) in_nodes.2)
+      (subst (λ y. Overlays q client y (appended rs o) (map.get (applied in_nodes.0 client o) q)) at out)

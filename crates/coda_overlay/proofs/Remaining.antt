@@ -53,24 +53,34 @@ module _ (f : Fid) where
   kept_takes : (op : Op) (owed : Debt) (rs : List Record) → any_record (takes_out f) rs ≡ true
       → any_record (takes_out f) (kept (drops op) owed rs) ≡ true
   kept_takes op owed [] h = h
-  kept_takes op owed (r ∷ rs) h = go (drops op r.op) refl (or_cases (takes_out f r.op) (any_record (takes_out f) rs) h) (kept_takes op (owe owed (carried r.op)) rs) (kept_takes op (paid owed (carried r.op)) rs)
+  kept_takes op owed (r ∷ rs) h =
+      go (drops op r.op) refl (or_cases (takes_out f r.op) (any_record (takes_out f) rs) h)
+      (kept_takes op (owe owed (carried r.op)) rs) (kept_takes op (paid owed (carried r.op)) rs)
     where
       go : (b : Bool) → drops op r.op ≡ b → (takes_out f r.op ≡ true) ⊎ (any_record (takes_out f) rs ≡ true) → (any_record (takes_out f) rs ≡ true → any_record (takes_out f) (kept (drops op) (owe owed (carried r.op)) rs) ≡ true)
-          → (any_record (takes_out f) rs ≡ true → any_record (takes_out f) (kept (drops op) (paid owed (carried r.op)) rs) ≡ true) → any_record (takes_out f) (cond b (kept (drops op) (owe owed (carried r.op)) rs) (hand owed r ∷ kept (drops op) (paid owed (carried r.op)) rs)) ≡ true
+          → (any_record (takes_out f) rs ≡ true → any_record (takes_out f)
+          (kept (drops op) (paid owed (carried r.op)) rs) ≡ true) → any_record (takes_out f)
+          (cond b (kept (drops op) (owe owed (carried r.op)) rs)
+          (hand owed r ∷ kept (drops op) (paid owed (carried r.op)) rs)) ≡ true
       go true e (inl here) one two = absurd (false≢true (sym (takes_no_write f r.op here) ∙ drops_write op r.op e))
       go true e (inr later) one two = one later
-      go false e (inl here) one two = or_left (takes_out f (hand owed r).op) _ (takes_with_pre f (λ g p. sid_or (owed g) p) r.op ∙ here)
+      go false e (inl here) one two =
+          or_left (takes_out f (hand owed r).op) _ (takes_with_pre f (λ g p. sid_or (owed g) p) r.op ∙ here)
       go false e (inr later) one two = or_right (takes_out f (hand owed r).op) _ (two later)
 
   without_takes : (x : Fid) (rs : List Record) → all_records (only_made x) rs ≡ true
       → any_record (takes_out f) rs ≡ true → any_record (takes_out f) (without x rs) ≡ true
   without_takes x [] m h = h
-  without_takes x (r ∷ rs) m h = go (mentioning x r.op) refl (or_cases (takes_out f r.op) (any_record (takes_out f) rs) h) (without_takes x rs (and_parts _ _ m).1)
+  without_takes x (r ∷ rs) m h =
+      go (mentioning x r.op) refl (or_cases (takes_out f r.op) (any_record (takes_out f) rs) h)
+      (without_takes x rs (and_parts _ _ m).1)
     where
       go : (b : Bool) → mentioning x r.op ≡ b → (takes_out f r.op ≡ true) ⊎ (any_record (takes_out f) rs ≡ true)
           → (any_record (takes_out f) rs ≡ true → any_record (takes_out f) (without x rs) ≡ true)
           → any_record (takes_out f) (cond b (without x rs) (r ∷ without x rs)) ≡ true
-      go true e (inl here) more = absurd (takes_nothing_made f x r.op here (ap (λ b. not b || (creates x r.op || writes x r.op)) (sym e) ∙ (and_parts _ _ m).0))
+      go true e (inl here) more =
+          absurd (takes_nothing_made f x r.op here
+          (ap (λ b. not b || (creates x r.op || writes x r.op)) (sym e) ∙ (and_parts _ _ m).0))
       go true e (inr later) more = more later
       go false e (inl here) more = or_left (takes_out f r.op) _ here
       go false e (inr later) more = or_right (takes_out f r.op) _ (more later)
@@ -83,36 +93,51 @@ module _ (f : Fid) where
 
   pub add_before : (rs : List Record) (o : Record) → any_record (takes_out f) rs ≡ true
       → any_record (takes_out f) (add rs o) ≡ true
-  add_before rs o before = cond_both (cancels o.op rs) (without (object (carried o.op)) rs) (appended rs o) (λ l. any_record (takes_out f) l ≡ true)
+  add_before rs o before =
+      cond_both (cancels o.op rs) (without (object (carried o.op)) rs) (appended rs o)
+      (λ l. any_record (takes_out f) l ≡ true)
       (λ c. without_takes (object (carried o.op)) rs (cancelled o.op rs c).0 before)
-      (λ c. any-append (takes_out f) (kept (drops o.op) nothing rs) (hand (debt (drops o.op) nothing rs) o ∷ []) ∙ or_left (any_record (takes_out f) (kept (drops o.op) nothing rs)) _ (kept_takes o.op nothing rs before))
+      (λ c. any-append (takes_out f) (kept (drops o.op) nothing rs) (hand (debt (drops o.op) nothing rs) o ∷ [])
+      ∙ or_left (any_record (takes_out f) (kept (drops o.op) nothing rs)) _ (kept_takes o.op nothing rs before))
 
   add_takes : (rs : List Record) (o : Record) → any_record (creates f) rs ≡ false
       → (any_record (takes_out f) rs ≡ true) ⊎ (takes_out f o.op ≡ true) → any_record (takes_out f) (add rs o) ≡ true
-  add_takes rs o none h = cond_both (cancels o.op rs) (without (object (carried o.op)) rs) (appended rs o) (λ l. any_record (takes_out f) l ≡ true)
+  add_takes rs o none h =
+      cond_both (cancels o.op rs) (without (object (carried o.op)) rs) (appended rs o)
+      (λ l. any_record (takes_out f) l ≡ true)
       (λ c. ⊎_elim
-      (λ (before : any_record (takes_out f) rs ≡ true). without_takes (object (carried o.op)) rs (cancelled o.op rs c).0 before)
+      (λ (before : any_record (takes_out f) rs ≡ true). without_takes (object (carried o.op)) rs
+      (cancelled o.op rs c).0 before)
       (λ (now : takes_out f o.op ≡ true). absurd (false≢true (sym none ∙ (cancelled o.op rs c).1 now)))
       h)
-      (λ c. any-append (takes_out f) (kept (drops o.op) nothing rs) (hand (debt (drops o.op) nothing rs) o ∷ []) ∙ ⊎_elim
-      (λ (before : any_record (takes_out f) rs ≡ true). or_left (any_record (takes_out f) (kept (drops o.op) nothing rs)) _ (kept_takes o.op nothing rs before))
-      (λ (now : takes_out f o.op ≡ true). or_right (any_record (takes_out f) (kept (drops o.op) nothing rs)) _ (or_left (takes_out f (hand (debt (drops o.op) nothing rs) o).op) false (takes_with_pre f (λ g p. sid_or (debt (drops o.op) nothing rs g) p) o.op ∙ now)))
+      (λ c. any-append (takes_out f) (kept (drops o.op) nothing rs) (hand (debt (drops o.op) nothing rs) o ∷ [])
+      ∙ ⊎_elim
+      (λ (before : any_record (takes_out f) rs ≡ true). or_left
+      (any_record (takes_out f) (kept (drops o.op) nothing rs)) _ (kept_takes o.op nothing rs before))
+      (λ (now : takes_out f o.op ≡ true). or_right (any_record (takes_out f) (kept (drops o.op) nothing rs)) _
+      (or_left (takes_out f (hand (debt (drops o.op) nothing rs) o).op) false
+      (takes_with_pre f (λ g p. sid_or (debt (drops o.op) nothing rs g) p) o.op ∙ now)))
       h)
 
 none_added : (f : Fid) (log : List Record) (o : Record) → any_record (creates f) log ≡ false → creates f o.op ≡ false
     → any_record (creates f) (add log o) ≡ false
-none_added f log o a b = false_from_ne_true _ (λ h. ⊎_elim (λ (c : any_record (creates f) log ≡ true). false≢true (sym a ∙ c)) (λ (c : creates f o.op ≡ true). false≢true (sym b ∙ c)) (or_cases _ _ (creates_in_add f log o h)))
+none_added f log o a b =
+    false_from_ne_true _ (λ h. ⊎_elim (λ (c : any_record (creates f) log ≡ true). false≢true (sym a ∙ c))
+    (λ (c : creates f o.op ≡ true). false≢true (sym b ∙ c)) (or_cases _ _ (creates_in_add f log o h)))
 
 pub taken_out_stays : TakenOutStays
 taken_out_stays f log [] none h = subst (λ l. any_record (takes_out f) l ≡ true) (append-nil log) h
 taken_out_stays f log (o ∷ run) none h =
     let n = or_parts _ _ (sym (any-append (creates f) log (o ∷ run)) ∙ none) in
     let m = or_parts _ _ n.1 in
-    taken_out_stays f (add log o) run (any-append (creates f) (add log o) run ∙ (λ i. none_added f log o n.0 m.0 i || m.1 i))
+    taken_out_stays f (add log o) run (any-append (creates f) (add log o) run
+    ∙ (λ i. none_added f log o n.0 m.0 i || m.1 i))
     (any-append (takes_out f) (add log o) run ∙ ⊎_elim
-    (λ (a : any_record (takes_out f) log ≡ true). or_left (any_record (takes_out f) (add log o)) _ (add_takes f log o n.0 (inl a)))
+    (λ (a : any_record (takes_out f) log ≡ true). or_left (any_record (takes_out f) (add log o)) _
+    (add_takes f log o n.0 (inl a)))
     (λ (b : (takes_out f o.op || any_record (takes_out f) run) ≡ true). ⊎_elim
     (λ (c : takes_out f o.op ≡ true). or_left (any_record (takes_out f) (add log o)) _ (add_takes f log o n.0 (inr c)))
     (λ (d : any_record (takes_out f) run ≡ true). or_right (any_record (takes_out f) (add log o)) _ d)
     (or_cases (takes_out f o.op) (any_record (takes_out f) run) b))
-    (or_cases (any_record (takes_out f) log) (any_record (takes_out f) (o ∷ run)) (sym (any-append (takes_out f) log (o ∷ run)) ∙ h)))
+    (or_cases (any_record (takes_out f) log) (any_record (takes_out f) (o ∷ run))
+    (sym (any-append (takes_out f) log (o ∷ run)) ∙ h)))

@@ -74,16 +74,22 @@ module _ (x q : Fid) (ne : q ≢ x) where
 
   creation_erased : (d : Fid) (n : Name) (g : Fid) (node : Node) (o : Option Node) → g ≡ x → FindsFreeName q o d n
       → erase x (made_at d n g node o) ≡ erase x o
-  creation_erased d n g node o e free = ap (λ b. erase x (cond b (Some node) (cond (same_fid q d) (option_map (λ y. bind_in y n g) o) o))) (not_there g e) ∙ go (same_fid q d) refl
+  creation_erased d n g node o e free =
+      ap (λ b. erase x (cond b (Some node) (cond (same_fid q d) (option_map (λ y. bind_in y n g) o) o)))
+      (not_there g e) ∙ go (same_fid q d) refl
     where
       go : (b : Bool) → same_fid q d ≡ b → erase x (cond b (option_map (λ y. bind_in y n g) o) o) ≡ erase x o
       go true h = let same : q ≡ d = fid_true q d h in
-          subst (λ z. erase x (option_map (λ y. bind_in y n z) o) ≡ erase x o) (sym e) (erase-bound x o n (free.dir_there same) (free.free same))
+          subst (λ z. erase x (option_map (λ y. bind_in y n z) o) ≡ erase x o) (sym e)
+          (erase-bound x o n (free.dir_there same) (free.free same))
       go false h = refl
 
   creation_binds : (d : Fid) (n : Name) (g : Fid) (node : Node) (o : Option Node) → g ≡ x → (m : Name)
       → child_of (made_at d n g node o) m ≡ Some x → ((q ≡ d) × (m ≡ n)) ⊎ (child_of o m ≡ Some x)
-  creation_binds d n g node o e m h = go (same_fid q d) refl o (subst (λ b. child_of (cond b (Some node) (cond (same_fid q d) (option_map (λ y. bind_in y n g) o) o)) m ≡ Some x) (not_there g e) h)
+  creation_binds d n g node o e m h =
+      go (same_fid q d) refl o
+      (subst (λ b. child_of (cond b (Some node) (cond (same_fid q d) (option_map (λ y. bind_in y n g) o) o)) m ≡ Some
+      x) (not_there g e) h)
     where
       name : (y : Node) (c : Bool) → same_name m n ≡ c → cond c (Some g) (child_of (Some y) m) ≡ Some x → q ≡ d
           → ((q ≡ d) × (m ≡ n)) ⊎ (child_of (Some y) m ≡ Some x)
@@ -104,10 +110,14 @@ module _ (x q : Fid) (ne : q ≢ x) where
   -- a record that creates or writes x does nothing at q but bind x
   made_erased : (t : ℕ) (s : Sid) (op : Op) (o : Option Node) → (creates x op || writes x op) ≡ true
       → FindsItsNames q o op → erase x (all_edited_at q (effects t s op) o) ≡ erase x o
-  made_erased t s (Create d n g mode owner) o m c = creation_erased d n g (empty_file mode owner t s) o (fid_true g x (either_left _ m)) c
-  made_erased t s (Mkdir d n g mode owner) o m c = creation_erased d n g (empty_dir mode owner t s) o (fid_true g x (either_left _ m)) c
-  made_erased t s (Symlink d n g target mode owner) o m c = creation_erased d n g (new_link target mode owner t s) o (fid_true g x (either_left _ m)) c
-  made_erased t s (Store g pre content) o m c = ap (erase x) (write_nowhere g (content_patch content t) s o (fid_true g x m))
+  made_erased t s (Create d n g mode owner) o m c =
+      creation_erased d n g (empty_file mode owner t s) o (fid_true g x (either_left _ m)) c
+  made_erased t s (Mkdir d n g mode owner) o m c =
+      creation_erased d n g (empty_dir mode owner t s) o (fid_true g x (either_left _ m)) c
+  made_erased t s (Symlink d n g target mode owner) o m c =
+      creation_erased d n g (new_link target mode owner t s) o (fid_true g x (either_left _ m)) c
+  made_erased t s (Store g pre content) o m c =
+      ap (erase x) (write_nowhere g (content_patch content t) s o (fid_true g x m))
   made_erased t s (Setattr g pre a) o m c = ap (erase x) (write_nowhere g (attrs_patch a) s o (fid_true g x m))
   made_erased t s (Remove d n g pre) o m c = absurd (false≢true m)
   made_erased t s (Rmdir d n g pre) o m c = absurd (false≢true m)
@@ -135,8 +145,10 @@ module _ (x q : Fid) (ne : q ≢ x) where
           → ((q ≡ d) × (m ≡ n)) ⊎ (child_of o m ≡ Some x) → ((q ≡ dir) × (m ≡ name)) ⊎ (child_of o m ≡ Some x)
       moved dir name d n at m (inl h) = inl (h.0 ∙ at.0, h.1 ∙ at.1)
       moved dir name d n at m (inr h) = inr h
-  made_binds dir name t s (Store g pre content) o k at m h = inr (subst (λ y. child_of y m ≡ Some x) (write_nowhere g (content_patch content t) s o (fid_true g x k)) h)
-  made_binds dir name t s (Setattr g pre a) o k at m h = inr (subst (λ y. child_of y m ≡ Some x) (write_nowhere g (attrs_patch a) s o (fid_true g x k)) h)
+  made_binds dir name t s (Store g pre content) o k at m h =
+      inr (subst (λ y. child_of y m ≡ Some x) (write_nowhere g (content_patch content t) s o (fid_true g x k)) h)
+  made_binds dir name t s (Setattr g pre a) o k at m h =
+      inr (subst (λ y. child_of y m ≡ Some x) (write_nowhere g (attrs_patch a) s o (fid_true g x k)) h)
   made_binds dir name t s (Remove d n g pre) o k at m h = absurd (false≢true k)
   made_binds dir name t s (Rmdir d n g pre) o k at m h = absurd (false≢true k)
   made_binds dir name t s (Rename d n e y g over) o k at m h = absurd (false≢true k)
@@ -156,7 +168,8 @@ module _ (x q : Fid) (ne : q ≢ x) where
   none_erased o n h = child-erase x o n ∙ ap (erased_value x) h
 
   some_erased : (o : Option Node) (n : Name) (g : Fid) → g ≢ x → child_of o n ≡ Some g → child_of (erase x o) n ≡ Some g
-  some_erased o n g other h = child-erase x o n ∙ (ap (erased_value x) h ∙ ap (λ b. cond b None (Some g)) (fid_other g x other))
+  some_erased o n g other h =
+      child-erase x o n ∙ (ap (erased_value x) h ∙ ap (λ b. cond b None (Some g)) (fid_other g x other))
 
   free_erased : (o : Option Node) (d : Fid) (n : Name) → FindsFreeName q o d n → FindsFreeName q (erase x o) d n
   free_erased o d n h = record { dir_there = λ e. dir_erased o (h.dir_there e); free = λ e. none_erased o n (h.free e) }
@@ -191,9 +204,17 @@ module _ (x q : Fid) (ne : q ≢ x) where
   erased_leads : (client : ℕ) (rs : List Record) (o left : Option Node) → all_records (only_made x) rs ≡ true
       → Overlays q client o rs left → Overlays q client (erase x o) (without x rs) (erase x left)
   erased_leads client [] o left b h = ap (erase x) h
-  erased_leads client (r ∷ rs) o left b h = cond_both (mentioning x r.op) _ _ (λ l. Overlays q client (erase x o) l (erase x left))
-      (λ m. subst (λ y. Overlays q client y (without x rs) (erase x left)) (made_erased r.time (sid_of client r) r.op o (made_of r m (and_parts _ _ b).0) h.0) (erased_leads client rs (operated_at q client r o) left (and_parts _ _ b).1 h.1))
-      (λ m. (finds_erased r.op o m h.0, subst (λ y. Overlays q client y (without x rs) (erase x left)) (sym (edits_aside (effects r.time (sid_of client r) r.op) (all_aside x r.time (sid_of client r) r.op m) o)) (erased_leads client rs (operated_at q client r o) left (and_parts _ _ b).1 h.1)))
+  erased_leads client (r ∷ rs) o left b h =
+      cond_both (mentioning x r.op) _ _ (λ l. Overlays q client (erase x o) l (erase x left))
+      (λ m. subst (λ y. Overlays q client y (without x rs) (erase x left))
+      (made_erased r.time (sid_of client r) r.op o (made_of r m (and_parts _ _ b).0) h.0)
+      (erased_leads client rs (operated_at q client r o) left (and_parts _ _ b).1 h.1))
+      (λ m. (
+        finds_erased r.op o m h.0,
+        subst (λ y. Overlays q client y (without x rs) (erase x left))
+            (sym (edits_aside (effects r.time (sid_of client r) r.op) (all_aside x r.time (sid_of client r) r.op m) o))
+            (erased_leads client rs (operated_at q client r o) left (and_parts _ _ b).1 h.1),
+      ))
 
   -- x is bound at most where the records create it
   bound_there : (client : ℕ) (dir : Fid) (name : Name) (rs : List Record) (o left : Option Node)
@@ -208,13 +229,17 @@ module _ (x q : Fid) (ne : q ≢ x) where
       back : (c : Bool) → mentioning x r.op ≡ c → child_of (operated_at q client r o) m ≡ Some x
           → ((q ≡ dir) × (m ≡ name)) ⊎ (child_of o m ≡ Some x)
       back true c was = made_binds dir name r.time (sid_of client r) r.op o (made_of r c (and_parts _ _ b).0) p.0 m was
-      back false c was = inr (edits_bind (effects r.time (sid_of client r) r.op) (all_aside x r.time (sid_of client r) r.op c) o m was)
+      back false c was =
+          inr (edits_bind (effects r.time (sid_of client r) r.op) (all_aside x r.time (sid_of client r) r.op c) o m
+          was)
 
   -- the removal at its place, of a node that binds x there alone, or not at all
   removal_erases : (dir : Fid) (name : Name) (o : Option Node)
       → ((m : Name) → child_of o m ≡ Some x → (q ≡ dir) × (m ≡ name)) → (q ≡ dir → child_of o name ≡ Some x)
       → erase x o ≡ all_edited_at q (removals dir name x) o
-  removal_erases dir name o once here = go (same_fid q dir) refl ∙ sym (ap (λ b. cond b None (cond (same_fid q dir) (option_map (λ y. unbind_in y name) o) o)) (not_there x refl))
+  removal_erases dir name o once here =
+      go (same_fid q dir) refl ∙ sym
+      (ap (λ b. cond b None (cond (same_fid q dir) (option_map (λ y. unbind_in y name) o) o)) (not_there x refl))
     where
       go : (b : Bool) → same_fid q dir ≡ b → erase x o ≡ cond b (option_map (λ y. unbind_in y name) o) o
       go true e = erase-one x o name (here (fid_true q dir e)) (λ m is. (once m is).1)
@@ -228,4 +253,6 @@ module _ (x q : Fid) (ne : q ≢ x) where
   undone_leads client dir name rs given now u p unbound h here =
       let parts = undone_parts x rs u in
       let end : erase x now ≡ all_edited_at q (removals dir name x) now = removal_erases dir name now (λ m is. ⊎_elim (λ (at : (q ≡ dir) × (m ≡ name)). at) (λ (was : child_of given m ≡ Some x). absurd (unbound m was)) (bound_there client dir name rs given now parts.1 p h m is)) here in
-      subst (λ y. Overlays q client given (without x rs) y) end (subst (λ y. Overlays q client y (without x rs) (erase x now)) (erase-none x given unbound) (erased_leads client rs given now parts.1 h))
+      subst (λ y. Overlays q client given (without x rs) y) end
+      (subst (λ y. Overlays q client y (without x rs) (erase x now)) (erase-none x given unbound)
+      (erased_leads client rs given now parts.1 h))
