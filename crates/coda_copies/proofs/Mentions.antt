@@ -155,9 +155,9 @@ mentioned_there s volume (op.Rename from_dir from to_dir to fid None) f r m = �
 mentioned_there s volume (op.Rename from_dir from to_dir to fid (Some v)) f r m = ⊎_elim
     (λ (e : same_fid from_dir f ≡ true). inr (at_same (λ x. has s.held.nodes x ≡ true) from_dir f (dir_has _ r.places.from_there) e))
     (λ (n : (same_fid to_dir f || (same_fid fid f || (same_fid v.fid f || false))) ≡ true). ⊎_elim
-        (λ (e : same_fid to_dir f ≡ true). inr (at_same (λ x. has s.held.nodes x ≡ true) to_dir f (dir_has _ r.places.to_there) e))
-        (λ (k : (same_fid fid f || (same_fid v.fid f || false)) ≡ true). two f fid v.fid _ k (λ e. inr (at_same (λ x. has s.held.nodes x ≡ true) fid f r.there e)) (λ e. inr (at_same (λ x. has s.held.nodes x ≡ true) v.fid f r.replaced.0 e)))
-        (or_cases (same_fid to_dir f) _ n))
+    (λ (e : same_fid to_dir f ≡ true). inr (at_same (λ x. has s.held.nodes x ≡ true) to_dir f (dir_has _ r.places.to_there) e))
+    (λ (k : (same_fid fid f || (same_fid v.fid f || false)) ≡ true). two f fid v.fid _ k (λ e. inr (at_same (λ x. has s.held.nodes x ≡ true) fid f r.there e)) (λ e. inr (at_same (λ x. has s.held.nodes x ≡ true) v.fid f r.replaced.0 e)))
+    (or_cases (same_fid to_dir f) _ n))
     (or_cases (same_fid from_dir f) _ m)
 
 -- ---- by lists of records
@@ -265,7 +265,7 @@ module _ (c : ClientState) (volume : ℕ) (rec : Record) (may : MayEnter c (entr
   operated : OfVolume f (after_it.volumes f.volume) (cached_node after_it f)
   operated = at_volume (λ v. OfVolume f v (cached_node after_it f)) c.volumes volume (volume_after (c.volumes volume) (Operated rec)) f.volume
       (λ same. operated_kept f (c.volumes volume).log.chunk (c.volumes volume).log.records rec (cached_node c f) (cached_node after_it f) apart.behind still seen_now
-          (subst (λ w. OfVolume f (c.volumes w) (cached_node c f)) same (kept f)))
+      (subst (λ w. OfVolume f (c.volumes w) (cached_node c f)) same (kept f)))
       (λ off m. elim (kept f m) [
         | inl there ↦ inl (still (false_from_ne_true _ (λ t. false≢true (sym off ∙ eq-eqb f.volume volume (apart.within f (takes_mentions f rec.op t))))) there)
         | inr ends ↦ inr ends
@@ -278,7 +278,7 @@ mentioned_are_kept = record { first = λ number blocks fid m. absurd (false≢tr
     entered c (entry.Op volume rec) may owed kept f = operated c volume rec may owed kept f
     entered c (entry.Freeze volume number home last) may owed kept f = at_volume (λ v. OfVolume f v (cached_node c f)) c.volumes volume (volume_after (c.volumes volume) (Froze number home last)) f.volume
         (λ same. frozen_kept f (c.volumes volume) number home last (cached_node c f) (owed (none_frozen (c.volumes volume).log.frozen may.now may.window (c.volumes volume).log.segments may.goes))
-            (subst (λ w. OfVolume f (c.volumes w) (cached_node c f)) same (kept f)))
+        (subst (λ w. OfVolume f (c.volumes w) (cached_node c f)) same (kept f)))
         (λ off. kept f)
     entered c (entry.Settled volume number verdict) may owed kept f = at_volume (λ v. OfVolume f v (cached_node c f)) c.volumes volume (volume_after (c.volumes volume) (SettledDeed number verdict)) f.volume
         (λ same. settled_kept f (c.volumes volume) number verdict (cached_node c f) (subst (λ w. OfVolume f (c.volumes w) (cached_node c f)) same (kept f)))

@@ -111,9 +111,11 @@ fresh_added : (front tail : List Record) (rec : Record) → AllCreateFresh front
     → AllCreateFresh front (add tail rec)
 fresh_added front tail rec h new = cond_both (cancels rec.op tail) (without (object (carried rec.op)) tail) (appended tail rec) (AllCreateFresh front)
     (λ c. fresh_without (object (carried rec.op)) front front tail (λ x q. q) h)
-    (λ c. fresh_joined front (kept (drops rec.op) nothing tail) (hand (debt (drops rec.op) nothing tail) rec ∷ []) (fresh_kept rec.op nothing front front tail (λ x q. q) h)
-        (fresh_handed (debt (drops rec.op) nothing tail) rec (front ++ kept (drops rec.op) nothing tail)
-            (λ x made. (let q = quiet_parts x front tail (new x made) in quiet_both x front (kept (drops rec.op) nothing tail) q.0 (kept_less rec.op tail x q.1))), tt))
+    (λ c. fresh_joined front (kept (drops rec.op) nothing tail) (hand (debt (drops rec.op) nothing tail) rec ∷ []) (fresh_kept rec.op nothing front front tail (λ x q. q) h) (
+      fresh_handed (debt (drops rec.op) nothing tail) rec (front ++ kept (drops rec.op) nothing tail)
+          (λ x made. (let q = quiet_parts x front tail (new x made) in quiet_both x front (kept (drops rec.op) nothing tail) q.0 (kept_less rec.op tail x q.1))),
+      tt,
+    ))
 
 -- ---- removals of what wasn't moved, over fewer records
 
@@ -194,7 +196,7 @@ unmoved_without : (y : Fid) (thin past recs : List Record) → all_records (only
 unmoved_without y thin past [] m t h = tt
 unmoved_without y thin past (r ∷ recs) m t h = cond_both (mentioning y r.op) (without y recs) (r ∷ without y recs) (AllRemoveUnmoved thin)
     (λ d. unmoved_without y thin (past ++ r ∷ []) recs (and_parts _ _ m).1
-        (thin_dropped thin past r (λ x u. unbinds_none_made x y r.op u (ap (λ b. not b || (creates y r.op || writes y r.op)) (sym d) ∙ (and_parts _ _ m).0)) t) h.1)
+    (thin_dropped thin past r (λ x u. unbinds_none_made x y r.op u (ap (λ b. not b || (creates y r.op || writes y r.op)) (sym d) ∙ (and_parts _ _ m).0)) t) h.1)
     (λ d. (unmoved_same thin past r.op t h.0, unmoved_without y (thin ++ r ∷ []) (past ++ r ∷ []) recs (and_parts _ _ m).1 (thin_both thin past r t) h.1))
 
 -- an operation more, that removes what wasn't moved from where it was created
@@ -202,14 +204,16 @@ unmoved_added : (front tail : List Record) (rec : Record) → AllRemoveUnmoved f
     → AllRemoveUnmoved front (add tail rec)
 unmoved_added front tail rec h r = cond_both (cancels rec.op tail) (without (object (carried rec.op)) tail) (appended tail rec) (AllRemoveUnmoved front)
     (λ c. unmoved_without (object (carried rec.op)) front front tail (cancelled (object (carried rec.op)) rec.op tail c).0 (same_thin front) h)
-    (λ c. unmoved_joined front (kept (drops rec.op) nothing tail) (hand (debt (drops rec.op) nothing tail) rec ∷ []) (unmoved_kept rec.op nothing front front tail (same_thin front) h)
-        (unmoved_op (front ++ kept (drops rec.op) nothing tail) (front ++ tail) (λ g q. sid_or (debt (drops rec.op) nothing tail g) q) rec.op (record {
-          made = λ x d n a. made_joined d n x front (kept (drops rec.op) nothing tail) (made_front d n x front tail a) (kept_made d n x rec.op nothing tail (made_back d n x front tail a));
-          moved = λ x u. any-append (unbinds x) front (kept (drops rec.op) nothing tail) ∙ ⊎_elim
-              (λ (a : any_record (unbinds x) front ≡ true). or_left (any_record (unbinds x) front) _ a)
-              (λ (b : any_record (unbinds x) tail ≡ true). or_right (any_record (unbinds x) front) _ (kept_unbinds x rec.op nothing tail b))
-              (or_cases (any_record (unbinds x) front) (any_record (unbinds x) tail) (sym (any-append (unbinds x) front tail) ∙ u));
-        }) r, tt))
+    (λ c. unmoved_joined front (kept (drops rec.op) nothing tail) (hand (debt (drops rec.op) nothing tail) rec ∷ []) (unmoved_kept rec.op nothing front front tail (same_thin front) h) (
+      unmoved_op (front ++ kept (drops rec.op) nothing tail) (front ++ tail) (λ g q. sid_or (debt (drops rec.op) nothing tail g) q) rec.op (record {
+        made = λ x d n a. made_joined d n x front (kept (drops rec.op) nothing tail) (made_front d n x front tail a) (kept_made d n x rec.op nothing tail (made_back d n x front tail a));
+        moved = λ x u. any-append (unbinds x) front (kept (drops rec.op) nothing tail) ∙ ⊎_elim
+            (λ (a : any_record (unbinds x) front ≡ true). or_left (any_record (unbinds x) front) _ a)
+            (λ (b : any_record (unbinds x) tail ≡ true). or_right (any_record (unbinds x) front) _ (kept_unbinds x rec.op nothing tail b))
+            (or_cases (any_record (unbinds x) front) (any_record (unbinds x) tail) (sym (any-append (unbinds x) front tail) ∙ u));
+      }) r,
+      tt,
+    ))
 
 -- ---- a chunk that is no longer counted
 
@@ -302,17 +306,17 @@ seen_on : (past acc : List Record) (rec : Record) → MentionsLess acc past → 
 seen_on past acc rec l x q =
     let p = quiet_parts x past (rec ∷ []) q in
     cond_both (cancels rec.op acc) (without (object (carried rec.op)) acc) (appended acc rec) (λ r. any_record (mentioning x) r ≡ false)
-        (λ c. false_from_ne_true _ (λ h. false≢true (sym (l x p.0) ∙ any_sub (mentioning x) (object (carried rec.op)) acc h)))
-        (λ c. quiet_both x (kept (drops rec.op) nothing acc) (hand (debt (drops rec.op) nothing acc) rec ∷ []) (kept_less rec.op acc x (l x p.0))
-            (ap (λ b. b || false) (mentioning-with_pre (λ g w. sid_or (debt (drops rec.op) nothing acc g) w) x rec.op) ∙ p.1))
+    (λ c. false_from_ne_true _ (λ h. false≢true (sym (l x p.0) ∙ any_sub (mentioning x) (object (carried rec.op)) acc h)))
+    (λ c. quiet_both x (kept (drops rec.op) nothing acc) (hand (debt (drops rec.op) nothing acc) rec ∷ []) (kept_less rec.op acc x (l x p.0))
+    (ap (λ b. b || false) (mentioning-with_pre (λ g w. sid_or (debt (drops rec.op) nothing acc g) w) x rec.op) ∙ p.1))
 
 back : (past acc run : List Record) → AreLeft past acc → MentionsLess acc past → AllRemoveUnmoved [] acc
     → AllCreateFresh [] acc → AllRemoveUnmoved past run → AllCreateFresh past run → IsBack past acc run
 back past acc [] left less u f h g = record { left = subst (λ l. AreLeft l acc) (sym (append-nil past)) left; unmoved = u; fresh = f }
 back past acc (rec ∷ run) left less u f h g =
     let rest = back (past ++ rec ∷ []) (add acc rec) run (left_on past acc rec left g.0) (seen_on past acc rec less)
-        (unmoved_added [] acc rec u (unmoved_left past acc rec.op left h.0))
-        (fresh_added [] acc rec f (λ x c. less x (g.0 x c))) h.1 g.1 in
+    (unmoved_added [] acc rec u (unmoved_left past acc rec.op left h.0))
+    (fresh_added [] acc rec f (λ x c. less x (g.0 x c))) h.1 g.1 in
     record { left = subst (λ l. AreLeft l (added acc (rec ∷ run))) (append_assoc past (rec ∷ []) run) rest.left; unmoved = rest.unmoved; fresh = rest.fresh }
 
 created_before : (acc run : List Record) (x : Fid) → any_record (creates x) (added acc run) ≡ true
@@ -320,16 +324,16 @@ created_before : (acc run : List Record) (x : Fid) → any_record (creates x) (a
 created_before acc [] x h = subst (λ l. any_record (creates x) l ≡ true) (sym (append-nil acc)) h
 created_before acc (rec ∷ run) x h = any-append (creates x) acc (rec ∷ run) ∙ ⊎_elim
     (λ (a : any_record (creates x) (add acc rec) ≡ true). ⊎_elim
-        (λ (b : any_record (creates x) acc ≡ true). or_left (any_record (creates x) acc) _ b)
-        (λ (b : creates x rec.op ≡ true). or_right (any_record (creates x) acc) _ (or_left (creates x rec.op) _ b))
-        (or_cases (any_record (creates x) acc) (creates x rec.op) (creates_in_add x acc rec a)))
+    (λ (b : any_record (creates x) acc ≡ true). or_left (any_record (creates x) acc) _ b)
+    (λ (b : creates x rec.op ≡ true). or_right (any_record (creates x) acc) _ (or_left (creates x rec.op) _ b))
+    (or_cases (any_record (creates x) acc) (creates x rec.op) (creates_in_add x acc rec a)))
     (λ (a : any_record (creates x) run ≡ true). or_right (any_record (creates x) acc) _ (or_right (creates x rec.op) _ a))
     (or_cases (any_record (creates x) (add acc rec)) (any_record (creates x) run) (sym (any-append (creates x) (add acc rec) run) ∙ created_before (add acc rec) run x h))
 
 thawed : (m : Nodes) (chunk tail : List Record) → IsLogInPlace m chunk tail → IsLogInPlace m [] (added chunk tail)
 thawed m chunk tail is =
     let b = back chunk chunk tail (record { made = λ x d n h. h; moved = λ x h. inl h }) (λ x q. q)
-        (unmoved_front [] chunk tail is.unmoved) (fresh_front [] chunk tail is.fresh) (unmoved_behind [] chunk tail is.unmoved) (fresh_behind [] chunk tail is.fresh) in
+    (unmoved_front [] chunk tail is.unmoved) (fresh_front [] chunk tail is.fresh) (unmoved_behind [] chunk tail is.unmoved) (fresh_behind [] chunk tail is.fresh) in
     record {
       fresh = b.fresh;
       unmoved = b.unmoved;

@@ -106,7 +106,7 @@ module _ {D : Type 0} (told : D → Told) (old new : Moment D) (said : Line) (re
   pub line_shelved : (plain : Cell) → Shows told old.out old.has plain old.site → Answered told plain said reply text old new
   line_shelved plain shows =
       let s : IsStepped told new.out new.has plain (stand.behind told old.out old.has plain old.site shows) said reply old.answered new.answered new.site
-          = stepped told old.out new.out old.has new.has said (Ok {E = Unit {0}} reply) old.answered new.answered old.site new.site range built does finds plain shows in
+      = stepped told old.out new.out old.has new.has said (Ok {E = Unit {0}} reply) old.answered new.answered old.site new.site range built does finds plain shows in
       let became = s.becomes in
       let past = stand.behind told old.out old.has plain old.site shows in
       let same : answered_since old new ≡ became.outside = ap (λ images. drop (length old.answered) images) became.answered ∙ behind old.answered became.outside in

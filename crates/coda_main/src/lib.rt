@@ -20,11 +20,12 @@ pub use coda_runs::{
     letters_say_what_is_so, lines_act_on_made_volumes, logs_are_pending, one_status,
     operations_are_kept, operations_are_performed, others_keep_their_disks,
     own_disks_are_not_foreign, recoveries_find_their_own, refusals_have_causes, replicas_come_back,
-    replies_name_letters, reports_tell_of_runs, runs_from_blank_go_on, runs_go_on, scripts_act_on_made_volumes,
-    scripts_in_the_grammar_are_clean, scripts_learn_of_their_own, scripts_run,
-    settlements_are_decided, verdicts_stand_at_home, verdicts_thaw, what_is_made_again_is_counted,
-    what_is_shown_is_there, what_is_shown_is_up, what_others_hold_is_kept, what_ran_can_be_resumed,
-    what_ran_is_held, what_ran_is_kept, who_never_came_is_as_it_was,
+    replies_name_letters, reports_tell_of_runs, runs_from_blank_go_on, runs_go_on,
+    scripts_act_on_made_volumes, scripts_in_the_grammar_are_clean, scripts_learn_of_their_own,
+    scripts_run, settlements_are_decided, verdicts_stand_at_home, verdicts_thaw,
+    what_is_made_again_is_counted, what_is_shown_is_there, what_is_shown_is_up,
+    what_others_hold_is_kept, what_ran_can_be_resumed, what_ran_is_held, what_ran_is_kept,
+    who_never_came_is_as_it_was,
 };
 pub use coda_shelves::shelves_are_kept;
 pub use coda_site::blank_disks_stand;

@@ -126,7 +126,7 @@ module _ (f : Fid) where
   add_taken log rec takes = cond_both (cancels rec.op log) (without (object (carried rec.op)) log) (appended log rec) (λ l. any_record (mentioning f) l ≡ true → EndsTakenOut f l)
       (λ c m. absurd (false≢true (sym (subst (λ x. quiet (without x log)) (sym ((cancelled rec.op log c).1 takes)) (nothing_left log)) ∙ m)))
       (λ c m. ends_behind (kept (drops rec.op) nothing log) (hand (debt (drops rec.op) nothing log) rec ∷ [])
-          (inr (takes_with_pre f (λ g p. sid_or (debt (drops rec.op) nothing log g) p) rec.op ∙ takes, refl)))
+      (inr (takes_with_pre f (λ g p. sid_or (debt (drops rec.op) nothing log g) p) rec.op ∙ takes, refl)))
 
   -- a removal that leaves nothing which mentions the object undid its creation
   pub taken_undone : (log : List Record) (rec : Record) → takes_out f rec.op ≡ true → quiet (add log rec)
@@ -134,22 +134,22 @@ module _ (f : Fid) where
   taken_undone log rec takes = cond_both (cancels rec.op log) (without (object (carried rec.op)) log) (appended log rec) (λ l. quiet l → any_record (creates f) log ≡ true)
       (λ c q. subst (λ x. any_record (creates x) log ≡ true) ((cancelled rec.op log c).1 takes) (cancels_created rec.op log c))
       (λ c q. absurd (false≢true (sym (or_parts _ _ (or_parts _ _ (sym (any-append (mentioning f) (kept (drops rec.op) nothing log) (hand (debt (drops rec.op) nothing log) rec ∷ [])) ∙ q)).1).0
-          ∙ mentioning-with_pre (λ g p. sid_or (debt (drops rec.op) nothing log g) p) f rec.op ∙ takes_mentions f rec.op takes)))
+      ∙ mentioning-with_pre (λ g p. sid_or (debt (drops rec.op) nothing log g) p) f rec.op ∙ takes_mentions f rec.op takes)))
 
   add_stays : (log : List Record) (rec : Record) → EndsTakenOut f log → mentioning f rec.op ≡ false
       → EndsTakenOut f (add log rec)
   add_stays log rec e m = cond_both (cancels rec.op log) (without (object (carried rec.op)) log) (appended log rec) (EndsTakenOut f)
       (λ c. without_ends (object (carried rec.op)) log (cancelled rec.op log c).0 e)
       (λ c. ends_before (kept (drops rec.op) nothing log) (hand (debt (drops rec.op) nothing log) rec ∷ []) (kept_ends rec.op nothing log e)
-          (ap (λ b. b || false) (mentioning-with_pre (λ g p. sid_or (debt (drops rec.op) nothing log g) p) f rec.op ∙ m)))
+      (ap (λ b. b || false) (mentioning-with_pre (λ g p. sid_or (debt (drops rec.op) nothing log g) p) f rec.op ∙ m)))
 
   -- what is added to a log that doesn't mention the object mentions it, if the whole does
   pub add_quiet : (log : List Record) (rec : Record) → quiet log → mentioning f rec.op ≡ false → quiet (add log rec)
   add_quiet log rec q m = cond_both (cancels rec.op log) (without (object (carried rec.op)) log) (appended log rec) quiet
       (λ c. without_quiet (object (carried rec.op)) log q)
       (λ c. any-append (mentioning f) (kept (drops rec.op) nothing log) (hand (debt (drops rec.op) nothing log) rec ∷ [])
-          ∙ ap (λ b. b || any_record (mentioning f) (hand (debt (drops rec.op) nothing log) rec ∷ [])) (kept_quiet rec.op nothing log q)
-          ∙ ap (λ b. b || false) (mentioning-with_pre (λ g p. sid_or (debt (drops rec.op) nothing log g) p) f rec.op ∙ m))
+      ∙ ap (λ b. b || any_record (mentioning f) (hand (debt (drops rec.op) nothing log) rec ∷ [])) (kept_quiet rec.op nothing log q)
+      ∙ ap (λ b. b || false) (mentioning-with_pre (λ g p. sid_or (debt (drops rec.op) nothing log g) p) f rec.op ∙ m))
 
   added_quiet : (log run : List Record) → quiet log → quiet run → quiet (added log run)
   added_quiet log [] q r = q

@@ -42,13 +42,13 @@ module _ (old : StoredCell) (now : Cell) (stored : IsStoredKept old) (kept : IsK
   opens_first (line.Volume volume servers area) mounts finds =
       let room : todays.no_volume old volume (todays.area_of area) ≡ None = some_room (todays.no_volume old volume (todays.area_of area)) mounts in
       let on_blank : VolumeFinds old (shelf_of blank) volume (alone servers) (todays.area_of area) reply outside end
-          = subst (λ (d : PlainDisk ReplicaEntry). VolumeFinds old (shelf_of d) volume (alone servers) (todays.area_of area) reply outside end) (next_blank now kept from (alone servers)) finds in
+      = subst (λ (d : PlainDisk ReplicaEntry). VolumeFinds old (shelf_of d) volume (alone servers) (todays.area_of area) reply outside end) (next_blank now kept from (alone servers)) finds in
       subst (λ o. todays.Unless old o (todays.Opens old (replica_today volume (alone servers) (todays.area_of area)) (todays.with_volume old volume (alone servers) (todays.area_of area)) (TheReplica (alone servers) volume)) reply outside end) (sym room)
-          (what_is_found_was_there.new_volumes old end volume (alone servers) (todays.area_of area) reply outside stored (none_there (old.made.homes volume) (not_there (is_some (old.made.homes volume)) _ room)) on_blank)
+      (what_is_found_was_there.new_volumes old end volume (alone servers) (todays.area_of area) reply outside stored (none_there (old.made.homes volume) (not_there (is_some (old.made.homes volume)) _ room)) on_blank)
   opens_first (line.Client client blocks area) mounts finds =
       let room : todays.no_client old client (todays.area_of area) ≡ None = some_room (todays.no_client old client (todays.area_of area)) mounts in
       subst (λ o. todays.Unless old o (todays.Opens old (header_today client blocks (todays.area_of area)) (todays.with_client old client blocks (todays.area_of area)) (TheClient client)) reply outside end) (sym room)
-          (what_is_found_was_there.new_clients old end client blocks (todays.area_of area) reply outside stored (none_there (old.made.sizes client) (not_there (is_some (old.made.sizes client)) _ room)) finds)
+      (what_is_found_was_there.new_clients old end client blocks (todays.area_of area) reply outside stored (none_there (old.made.sizes client) (not_there (is_some (old.made.sizes client)) _ room)) finds)
   opens_first _ mounts finds = cc
 
 pub happens_first : (old : StoredCell) (now next : Cell) (said : Line) (reply : Reply) (outside : List (List ℕ)) → IsToday old now → IsStoredKept old → IsKept now → IsFromBlank now → InRange said → is_built said ≡ true

@@ -46,8 +46,13 @@ ends_back old now is clean events own reply next are (inr (inl full)) =
     let on = events_today old now is clean full.0.done parts.0 in
     record {
       end = today.after_all old full.0.done;
-      ends = inr (inl (record { done = full.0.done; next = full.0.next; rest = full.0.rest; is = full.0.is }, fits_back old now is clean full.0.done parts.0 full.1,
-          lacks_then (today.after_all old full.0.done) (after_all now full.0.done) on.today full.0.next (on.ups (Entered full.0.next) parts.1.0) full.2, full.3, refl));
+      ends = inr (inl (
+        record { done = full.0.done; next = full.0.next; rest = full.0.rest; is = full.0.is },
+        fits_back old now is clean full.0.done parts.0 full.1,
+        lacks_then (today.after_all old full.0.done) (after_all now full.0.done) on.today full.0.next (on.ups (Entered full.0.next) parts.1.0) full.2,
+        full.3,
+        refl,
+      ));
       today = subst (IsToday (today.after_all old full.0.done)) (sym full.4) on.today;
     }
 ends_back old now is clean events own reply next are (inr (inr fault)) =

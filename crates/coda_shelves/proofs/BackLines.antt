@@ -135,9 +135,22 @@ module _ (old : StoredCell) (cell : Cell) (is : IsToday old cell) (kept : IsKept
 
   -- the row of the next volume as it was
   same_row : (volume server area : ℕ) → IsToday old (now.with_row true cell volume (server ∷ []) area (cell.replicas (length cell.rows)))
-  same_row volume server area = record { clock = is.clock; servers = is.servers; homes = is.homes; sizes = is.sizes; links = is.links; waiting = is.waiting; posted = is.posted; copies = is.copies; uses = is.uses; areas = is.areas; places = is.places; clients = is.clients;
+  same_row volume server area = record {
+    clock = is.clock;
+    servers = is.servers;
+    homes = is.homes;
+    sizes = is.sizes;
+    links = is.links;
+    waiting = is.waiting;
+    posted = is.posted;
+    copies = is.copies;
+    uses = is.uses;
+    areas = is.areas;
+    places = is.places;
+    clients = is.clients;
     replicas = λ v at stands. subst (λ f. IsReplicaSame v (old.made.acted.replicas (alone at.servers) v) (old.replicas v) (old.others v) (f at.row (alone at.servers))) row_is (is.replicas v at stands);
-    idle = subst (λ f. (r s : ℕ) → IsServer s → (f r s).life ≡ Unmade → old.idle (disk_at r s) ≡ lying_disk (replica_journal (f r s).disk)) row_is is.idle }
+    idle = subst (λ f. (r s : ℕ) → IsServer s → (f r s).life ≡ Unmade → old.idle (disk_at r s) ≡ lying_disk (replica_journal (f r s).disk)) row_is is.idle;
+  }
     where
       row_is : cell.replicas ≡ put cell.replicas (length cell.rows) (cell.replicas (length cell.rows))
       row_is = λ i r. at_row r i

@@ -96,9 +96,9 @@ module _ (old : StoredCell) (now : Cell) (is : IsToday old now) (own : Reply) (e
           let downs : (client_down now client || replica_down now server volume) ≡ false = sym (ap (λ x. x && (client_down now client || replica_down now server volume)) all) ∙ down in
           let at = holder_stands old now is server volume (third old now is (client_named b client) (volume_named b volume) (holder_named b server volume) all) in
           let up = is_true (is_up (now.replicas at.0.row (alone at.0.servers)).life)
-              (ap (λ n. not (is_up (now.replicas at.0.row n).life)) (sym at.2) ∙ sym (replica_down_now old now is server volume at.0 at.1) ∙ later (client_down now client) (replica_down now server volume) downs) in
+          (ap (λ n. not (is_up (now.replicas at.0.row n).life)) (sym at.2) ∙ sym (replica_down_now old now is server volume at.0 at.1) ∙ later (client_down now client) (replica_down now server volume) downs) in
           alike_back (line.Task (task.Drain client volume server window)) (λ v is_v. subst (λ w. a.replicas w ≡ b.replicas w) (same volume v is_v) (replica_up_same old now is volume at.0 at.1 up)) did
-        )
+          )
 
   pub tasks_back : (work : Task) → is_down_for (needs now (line.Task work)) ≡ false → Does (meets now (line.Task work)) (line.Task work) own events → Does (today.meets old (line.Task work)) (line.Task work) own events
   tasks_back (task.Create client volume path mode owner) down does = operated_back client volume (Create path (unwrap_or mode 420) (unwrap_or owner 0)) does

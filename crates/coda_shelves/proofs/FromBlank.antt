@@ -150,13 +150,13 @@ module _ (old : Cell) (kept : IsKept old) (blank : IsFromBlank old) (volume serv
       record {
         asks = at_put (λ r f. (s : ℕ) (h : Header) → asked (f s).life ≡ Some h → StandsAlone next r s h) old.replicas (length old.rows) (put first server actor)
             (at_put (λ s a. (h : Header) → asked a.life ≡ Some h → StandsAlone next (length old.rows) s h) first server actor
-              (λ h e. (let same : Some header ≡ Some h = sym is.asks ∙ e in let one : header ≡ h = cc in subst (StandsAlone next (length old.rows) server) one here))
-              (λ s h e. absurd (unasked old kept (length old.rows) (omega arith) s h e)))
+            (λ h e. (let same : Some header ≡ Some h = sym is.asks ∙ e in let one : header ≡ h = cc in subst (StandsAlone next (length old.rows) server) one here))
+            (λ s h e. absurd (unasked old kept (length old.rows) (omega arith) s h e)))
             (λ r s h e. let was = blank.asks r s h e in (was.0, push h.number was.0 was.1, was.2, was.3));
         given = at_put (λ r f. (s : ℕ) (h : Header) → (f s).disk.header ≡ Some h → asked (f s).life ≡ Some h) old.replicas (length old.rows) (put first server actor)
             (at_put (λ s a. (h : Header) → a.disk.header ≡ Some h → asked a.life ≡ Some h) first server actor
-              (λ h e. elim is.given [ inl nothing ↦ (let no : None ≡ Some h = sym nothing ∙ e in cc) | inr gave ↦ is.asks ∙ sym gave ∙ e ])
-              (λ s h e. blank.given (length old.rows) s h e))
+            (λ h e. elim is.given [ inl nothing ↦ (let no : None ≡ Some h = sym nothing ∙ e in cc) | inr gave ↦ is.asks ∙ sym gave ∙ e ])
+            (λ s h e. blank.given (length old.rows) s h e))
             blank.given;
       }
 

@@ -86,7 +86,7 @@ module _ (f : Found) (a : DoAgree f) where
             let e = t.ends number span i in
             let by = a.settled client volume (record { number = number; verdict = Applied }) e.settled in
             let frozen : In (record { number = number; home = by.server; span = by.by.span }) (chunks_of deeds)
-                = subst (λ n. In (record { number = n; home = by.server; span = by.by.span }) (chunks_of deeds)) by.number_is (frozen_by client volume by.row by.server by.by by.there by.client_is) in
+            = subst (λ n. In (record { number = n; home = by.server; span = by.by.span }) (chunks_of deeds)) by.number_is (frozen_by client volume by.row by.server by.by by.there by.client_is) in
             (by, ap (λ (c : Chunk). c.span) (one_chunk client volume (record { number = number; home = by.server; span = by.by.span }) (record { number = number; home = e.home; span = span }) frozen e.chunk refl));
         applied = λ row server d i same applied.
             elim (t.fate (record { number = d.number; home = server; span = d.span }) (frozen_by client volume row server d i same)) [

@@ -291,8 +291,19 @@ module _ (cell : Cell) (clean : AreClean cell) (pool : ℕ → Option Letter) wh
       let g = grown_none cell clean in
       record {
         grown = record {
-          rows = refl; clients = g.clients; replicas = g.replicas; others = g.others; clients_rest = g.clients_rest; replicas_rest = g.replicas_rest; clients_ask = g.clients_ask;
-          replicas_ask = g.replicas_ask; clients_left = g.clients_left; replicas_left = g.replicas_left; alone = g.alone; clients_were = g.clients_were; replicas_were = g.replicas_were;
+          rows = refl;
+          clients = g.clients;
+          replicas = g.replicas;
+          others = g.others;
+          clients_rest = g.clients_rest;
+          replicas_rest = g.replicas_rest;
+          clients_ask = g.clients_ask;
+          replicas_ask = g.replicas_ask;
+          clients_left = g.clients_left;
+          replicas_left = g.replicas_left;
+          alone = g.alone;
+          clients_were = g.clients_were;
+          replicas_were = g.replicas_were;
         };
         whole = whole;
         clients_life = λ client. refl;

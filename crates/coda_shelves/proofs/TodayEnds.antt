@@ -103,16 +103,16 @@ module _ (old : StoredCell) (now : Cell) (is : IsToday old now) where
     where
       at_here : (v : ℕ) (b : Stand) → stand_of now v ≡ Some b → v ≡ volume
           → IsReplicaSame v (cond ((alone b.servers == server) && (v == volume)) actor (old.made.acted.replicas (alone b.servers) v)) (cond (v == volume) side (old.replicas v)) (old.others v)
-            (cond ((b.row == at.row) && (alone b.servers == server)) next (now.replicas b.row (alone b.servers)))
+          (cond ((b.row == at.row) && (alone b.servers == server)) next (now.replicas b.row (alone b.servers)))
       at_here v b stands_b here =
           let one : b ≡ at = some_at b at (sym stands_b ∙ ap (stand_of now) here ∙ stands) in
           let same_server : alone b.servers ≡ server = ap (λ (x : Stand). alone x.servers) one ∙ sym home in
           let first : cond ((alone b.servers == server) && (v == volume)) actor (old.made.acted.replicas (alone b.servers) v) ≡ actor
-              = ap (λ x. cond (x && (v == volume)) actor (old.made.acted.replicas (alone b.servers) v)) (eq-eqb (alone b.servers) server same_server) ∙ ap (λ x. cond (true && x) actor (old.made.acted.replicas (alone b.servers) v)) (eq-eqb v volume here) in
+          = ap (λ x. cond (x && (v == volume)) actor (old.made.acted.replicas (alone b.servers) v)) (eq-eqb (alone b.servers) server same_server) ∙ ap (λ x. cond (true && x) actor (old.made.acted.replicas (alone b.servers) v)) (eq-eqb v volume here) in
           let second : cond (v == volume) side (old.replicas v) ≡ side = ap (λ x. cond x side (old.replicas v)) (eq-eqb v volume here) in
           let third : cond ((b.row == at.row) && (alone b.servers == server)) next (now.replicas b.row (alone b.servers)) ≡ next
-              = ap (λ x. cond (x && (alone b.servers == server)) next (now.replicas b.row (alone b.servers))) (eq-eqb b.row at.row (ap (λ (x : Stand). x.row) one))
-                ∙ ap (λ x. cond (true && x) next (now.replicas b.row (alone b.servers))) (eq-eqb (alone b.servers) server same_server) in
+          = ap (λ x. cond (x && (alone b.servers == server)) next (now.replicas b.row (alone b.servers))) (eq-eqb b.row at.row (ap (λ (x : Stand). x.row) one))
+          ∙ ap (λ x. cond (true && x) next (now.replicas b.row (alone b.servers))) (eq-eqb (alone b.servers) server same_server) in
           moved_same (old.others v) v _ actor _ side _ next first second third (subst (λ w. IsReplicaSame w actor side (old.others w) next) (sym here) same)
 
       and_no : (a : Bool) → (a && false) ≡ false
@@ -121,13 +121,13 @@ module _ (old : StoredCell) (now : Cell) (is : IsToday old now) where
 
       elsewhere : (v : ℕ) (b : Stand) → stand_of now v ≡ Some b → v ≢ volume
           → IsReplicaSame v (cond ((alone b.servers == server) && (v == volume)) actor (old.made.acted.replicas (alone b.servers) v)) (cond (v == volume) side (old.replicas v)) (old.others v)
-            (cond ((b.row == at.row) && (alone b.servers == server)) next (now.replicas b.row (alone b.servers)))
+          (cond ((b.row == at.row) && (alone b.servers == server)) next (now.replicas b.row (alone b.servers)))
       elsewhere v b stands_b off =
           let first : cond ((alone b.servers == server) && (v == volume)) actor (old.made.acted.replicas (alone b.servers) v) ≡ old.made.acted.replicas (alone b.servers) v
-              = ap (λ x. cond ((alone b.servers == server) && x) actor (old.made.acted.replicas (alone b.servers) v)) (ne_eqb v volume off) ∙ ap (λ x. cond x actor (old.made.acted.replicas (alone b.servers) v)) (and_no (alone b.servers == server)) in
+          = ap (λ x. cond ((alone b.servers == server) && x) actor (old.made.acted.replicas (alone b.servers) v)) (ne_eqb v volume off) ∙ ap (λ x. cond x actor (old.made.acted.replicas (alone b.servers) v)) (and_no (alone b.servers == server)) in
           let second : cond (v == volume) side (old.replicas v) ≡ old.replicas v = ap (λ x. cond x side (old.replicas v)) (ne_eqb v volume off) in
           let third : cond ((b.row == at.row) && (alone b.servers == server)) next (now.replicas b.row (alone b.servers)) ≡ now.replicas b.row (alone b.servers)
-              = ap (λ x. cond (x && (alone b.servers == server)) next (now.replicas b.row (alone b.servers))) (ne_eqb b.row at.row (λ row. off (stand_one 0 now.rows v volume b at stands_b stands row))) in
+          = ap (λ x. cond (x && (alone b.servers == server)) next (now.replicas b.row (alone b.servers))) (ne_eqb b.row at.row (λ row. off (stand_one 0 now.rows v volume b at stands_b stands row))) in
           moved_same (old.others v) v _ (old.made.acted.replicas (alone b.servers) v) _ (old.replicas v) _ (now.replicas b.row (alone b.servers)) first second third (is.replicas v b stands_b)
 
   -- an actor that is up is on its own disk
@@ -205,7 +205,7 @@ module _ (old : StoredCell) (now : Cell) (is : IsToday old now) where
       let same = is.clients client in
       subst (λ f. IsToday (record old { made = record old.made { acted = plain.with_client old.made.acted client (grown_actor entry (old.made.acted.clients client)) }; clients = f }) (with_client now client (grown entry (now.clients client)))) (put_same old.clients client)
       (client_today old now is client (grown_actor entry (old.made.acted.clients client)) (old.clients client) (grown entry (now.clients client))
-        (record { history = ap (λ h. h ++ entry ∷ []) same.history; failed = same.failed; up = same.up; given = same.given; asks = same.asks; left = same.left }) refl)
+      (record { history = ap (λ h. h ++ entry ∷ []) same.history; failed = same.failed; up = same.up; given = same.given; asks = same.asks; left = same.left }) refl)
 
   replica_entered : (server volume : ℕ) (entry : ReplicaEntry) (up : UpReplica now server volume) → IsToday (today.after old (Entered (AtReplica server volume entry))) (after now (Entered (AtReplica server volume entry)))
   replica_entered server volume entry (at, stands, home, up) =
@@ -217,21 +217,21 @@ module _ (old : StoredCell) (now : Cell) (is : IsToday old now) where
       subst (IsToday (today.after old (Entered (AtReplica server volume entry)))) (ap (λ o. with_volume now o server (grown entry)) (sym stands))
       (subst (λ f. IsToday (record old { made = record old.made { acted = plain.with_replica old.made.acted server volume (grown_actor entry (old.made.acted.replicas server volume)) }; replicas = f }) (with_replica now at.row server (grown entry x))) (put_same old.replicas volume)
       (replica_today old now is server volume at stands home (grown_actor entry (old.made.acted.replicas server volume)) (old.replicas volume) (grown entry x)
-        (record {
-          made = same.made;
-          up = same.up;
-          asks = same.asks;
-          left = same.left;
-          own = λ e. let o = same.own e in (ap (λ h. h ++ entry ∷ []) o.0, o.1, o.2, o.3, o.4);
-          others = λ e. absurd (false≢true (sym foreign ∙ e));
-        }) u.0 u.1))
+      (record {
+        made = same.made;
+        up = same.up;
+        asks = same.asks;
+        left = same.left;
+        own = λ e. let o = same.own e in (ap (λ h. h ++ entry ∷ []) o.0, o.1, o.2, o.3, o.4);
+        others = λ e. absurd (false≢true (sym foreign ∙ e));
+      }) u.0 u.1))
 
   client_fell : (client : ℕ) (entry : ClientEntry) → UpClient now client → IsToday (today.failed old (AtClient client entry)) (failed now (AtClient client entry))
   client_fell client entry up =
       let same = is.clients client in
       subst (λ f. IsToday (record old { made = record old.made { acted = plain.with_client old.made.acted client (fallen_actor entry (old.made.acted.clients client)) }; clients = f }) (with_client now client (failing entry (now.clients client)))) (put_same old.clients client)
       (client_today old now is client (fallen_actor entry (old.made.acted.clients client)) (old.clients client) (failing entry (now.clients client))
-        (record { history = same.history; failed = refl; up = λ header e. sym (fallen_down (now.clients client).life); given = same.given; asks = same.asks ∙ sym (fallen_asks (now.clients client).life); left = same.left }) (fallen_asks (now.clients client).life))
+      (record { history = same.history; failed = refl; up = λ header e. sym (fallen_down (now.clients client).life); given = same.given; asks = same.asks ∙ sym (fallen_asks (now.clients client).life); left = same.left }) (fallen_asks (now.clients client).life))
 
   replica_fell : (server volume : ℕ) (entry : ReplicaEntry) (up : UpReplica now server volume) → IsToday (today.failed old (AtReplica server volume entry)) (failed now (AtReplica server volume entry))
   replica_fell server volume entry (at, stands, home, up) =
@@ -243,14 +243,14 @@ module _ (old : StoredCell) (now : Cell) (is : IsToday old now) where
       subst (IsToday (today.failed old (AtReplica server volume entry))) (ap (λ o. with_volume now o server (failing entry)) (sym stands))
       (subst (λ f. IsToday (record old { made = record old.made { acted = plain.with_replica old.made.acted server volume (fallen_actor entry (old.made.acted.replicas server volume)) }; replicas = f }) (with_replica now at.row server (failing entry x))) (put_same old.replicas volume)
       (replica_today old now is server volume at stands home (fallen_actor entry (old.made.acted.replicas server volume)) (old.replicas volume) (failing entry x)
-        (record {
-          made = (same.made.0, fallen_asks x.life ∙ same.made.1);
-          up = sym (fallen_down x.life);
-          asks = same.asks ∙ sym (fallen_asks x.life);
-          left = same.left;
-          own = λ e. let o = same.own e in (o.0, refl, o.2, o.3, λ h g. fallen_asks x.life ∙ o.4 h g);
-          others = λ e. absurd (false≢true (sym foreign ∙ e));
-        }) u.0 (fallen_asks x.life ∙ u.1)))
+      (record {
+        made = (same.made.0, fallen_asks x.life ∙ same.made.1);
+        up = sym (fallen_down x.life);
+        asks = same.asks ∙ sym (fallen_asks x.life);
+        left = same.left;
+        own = λ e. let o = same.own e in (o.0, refl, o.2, o.3, λ h g. fallen_asks x.life ∙ o.4 h g);
+        others = λ e. absurd (false≢true (sym foreign ∙ e));
+      }) u.0 (fallen_asks x.life ∙ u.1)))
 
   -- how many entries stand at a replica that is up
   given_at : (server volume : ℕ) → UpReplica now server volume → length (old.made.acted.replicas server volume).history ≡ entries_at now (stand_of now volume) server
@@ -325,8 +325,13 @@ ends_today old now is clean events own reply end are (inr (inl full)) =
     let on = events_today old now is clean full.0.done parts.0 in
     record {
       next = after_all now full.0.done;
-      ends = inr (inl (record { done = full.0.done; next = full.0.next; rest = full.0.rest; is = full.0.is }, on.fits full.1,
-          lacks_now (today.after_all old full.0.done) (after_all now full.0.done) on.today full.0.next (on.ups (Entered full.0.next) parts.1.0) full.2, full.3, refl));
+      ends = inr (inl (
+        record { done = full.0.done; next = full.0.next; rest = full.0.rest; is = full.0.is },
+        on.fits full.1,
+        lacks_now (today.after_all old full.0.done) (after_all now full.0.done) on.today full.0.next (on.ups (Entered full.0.next) parts.1.0) full.2,
+        full.3,
+        refl,
+      ));
       today = subst (λ c. IsToday c (after_all now full.0.done)) (sym full.4) on.today;
     }
 ends_today old now is clean events own reply end are (inr (inr fault)) =

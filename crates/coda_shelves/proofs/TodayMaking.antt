@@ -230,7 +230,7 @@ module _ (old : StoredCell) (cell : Cell) (is : IsToday old cell) (volume server
     replicas = λ v at e. elim (cases_eq v volume) [ inl here ↦ replica_here v at e here | inr off ↦ replica_else v at e off ];
     idle = at_put (λ r f. (s : ℕ) → IsServer s → (f s).life ≡ Unmade → old.idle (disk_at r s) ≡ lying_disk (replica_journal (f s).disk)) cell.replicas (length cell.rows) (put first server next)
         (at_put (λ s a. IsServer s → a.life ≡ Unmade → old.idle (disk_at (length cell.rows) s) ≡ lying_disk (replica_journal a.disk)) first server next
-          (λ range unmade. (let no : None ≡ Some header = sym (ap asked unmade) ∙ asks in cc)) (λ s. is.idle (length cell.rows) s))
+        (λ range unmade. (let no : None ≡ Some header = sym (ap asked unmade) ∙ asks in cc)) (λ s. is.idle (length cell.rows) s))
         is.idle;
   }
     where
@@ -256,15 +256,15 @@ module _ (old : StoredCell) (cell : Cell) (is : IsToday old cell) (volume server
 
       replica_here : (v : ℕ) (at : Stand) → stand_of (made_cell next) v ≡ Some at → v ≡ volume
           → IsReplicaSame v (cond ((alone at.servers == server) && (v == volume)) actor (old.made.acted.replicas (alone at.servers) v)) (cond (v == volume) side (old.replicas v)) (others v)
-            ((cond (at.row == length cell.rows) (put first server next) (cell.replicas at.row)) (alone at.servers))
+          ((cond (at.row == length cell.rows) (put first server next) (cell.replicas at.row)) (alone at.servers))
       replica_here v at e here =
           let one = at_is v at e here in
           let home : alone at.servers ≡ server = ap (λ (x : Stand). alone x.servers) one in
           let p : cond ((alone at.servers == server) && (v == volume)) actor (old.made.acted.replicas (alone at.servers) v) ≡ actor
-              = ap (λ x. cond (x && (v == volume)) actor (old.made.acted.replicas (alone at.servers) v)) (eq-eqb (alone at.servers) server home) ∙ ap (λ x. cond (true && x) actor (old.made.acted.replicas (alone at.servers) v)) (eq-eqb v volume here) in
+          = ap (λ x. cond (x && (v == volume)) actor (old.made.acted.replicas (alone at.servers) v)) (eq-eqb (alone at.servers) server home) ∙ ap (λ x. cond (true && x) actor (old.made.acted.replicas (alone at.servers) v)) (eq-eqb v volume here) in
           let q : cond (v == volume) side (old.replicas v) ≡ side = ap (λ x. cond x side (old.replicas v)) (eq-eqb v volume here) in
           let r : (cond (at.row == length cell.rows) (put first server next) (cell.replicas at.row)) (alone at.servers) ≡ next
-              = ap (λ x. (cond x (put first server next) (cell.replicas at.row)) (alone at.servers)) (eq-eqb at.row (length cell.rows) (ap (λ (x : Stand). x.row) one)) ∙ ap (λ x. cond x next (first (alone at.servers))) (eq-eqb (alone at.servers) server home) in
+          = ap (λ x. (cond x (put first server next) (cell.replicas at.row)) (alone at.servers)) (eq-eqb at.row (length cell.rows) (ap (λ (x : Stand). x.row) one)) ∙ ap (λ x. cond x next (first (alone at.servers))) (eq-eqb (alone at.servers) server home) in
           moved_same (others v) v _ actor _ side _ next p q r (subst (λ w. IsReplicaSame w actor side (others w) next) (sym here) same)
 
       and_no : (a : Bool) → (a && false) ≡ false
@@ -273,15 +273,15 @@ module _ (old : StoredCell) (cell : Cell) (is : IsToday old cell) (volume server
 
       replica_else : (v : ℕ) (at : Stand) → stand_of (made_cell next) v ≡ Some at → v ≢ volume
           → IsReplicaSame v (cond ((alone at.servers == server) && (v == volume)) actor (old.made.acted.replicas (alone at.servers) v)) (cond (v == volume) side (old.replicas v)) (others v)
-            ((cond (at.row == length cell.rows) (put first server next) (cell.replicas at.row)) (alone at.servers))
+          ((cond (at.row == length cell.rows) (put first server next) (cell.replicas at.row)) (alone at.servers))
       replica_else v at e off =
           let stands = sym (stands_else next v off) ∙ e in
           let low = (stand_below 0 cell.rows v at stands).1 in
           let p : cond ((alone at.servers == server) && (v == volume)) actor (old.made.acted.replicas (alone at.servers) v) ≡ old.made.acted.replicas (alone at.servers) v
-              = ap (λ x. cond ((alone at.servers == server) && x) actor (old.made.acted.replicas (alone at.servers) v)) (ne_eqb v volume off) ∙ ap (λ x. cond x actor (old.made.acted.replicas (alone at.servers) v)) (and_no (alone at.servers == server)) in
+          = ap (λ x. cond ((alone at.servers == server) && x) actor (old.made.acted.replicas (alone at.servers) v)) (ne_eqb v volume off) ∙ ap (λ x. cond x actor (old.made.acted.replicas (alone at.servers) v)) (and_no (alone at.servers == server)) in
           let q : cond (v == volume) side (old.replicas v) ≡ old.replicas v = ap (λ x. cond x side (old.replicas v)) (ne_eqb v volume off) in
           let r : (cond (at.row == length cell.rows) (put first server next) (cell.replicas at.row)) (alone at.servers) ≡ cell.replicas at.row (alone at.servers)
-              = ap (λ x. (cond x (put first server next) (cell.replicas at.row)) (alone at.servers)) (ne_eqb at.row (length cell.rows) (λ row. absurd (omega (arith, row, low)))) in
+          = ap (λ x. (cond x (put first server next) (cell.replicas at.row)) (alone at.servers)) (ne_eqb at.row (length cell.rows) (λ row. absurd (omega (arith, row, low)))) in
           moved_same (others v) v _ (old.made.acted.replicas (alone at.servers) v) _ (old.replicas v) _ (cell.replicas at.row (alone at.servers)) p q r
           (subst (λ z. IsReplicaSame v (old.made.acted.replicas (alone at.servers) v) (old.replicas v) z (cell.replicas at.row (alone at.servers))) (sym (rest v off)) (is.replicas v at stands))
 
@@ -321,9 +321,22 @@ module _ (old : StoredCell) (cell : Cell) (is : IsToday old cell) (volume server
       refused (Foreign b) at e told mounts says next = record {
         next = now.with_row true cell volume (server ∷ []) area first;
         happens = (Foreign b ∷ [], first, (mounts.0, refl, refl), says, m.out, refl);
-        today = subst (λ c. IsToday c (now.with_row true cell volume (server ∷ []) area first)) (sym next) (record { clock = is.clock; servers = is.servers; homes = is.homes; sizes = is.sizes; links = is.links; waiting = is.waiting; posted = is.posted; copies = is.copies; uses = is.uses; areas = is.areas; places = is.places; clients = is.clients;
+        today = subst (λ c. IsToday c (now.with_row true cell volume (server ∷ []) area first)) (sym next) (record {
+          clock = is.clock;
+          servers = is.servers;
+          homes = is.homes;
+          sizes = is.sizes;
+          links = is.links;
+          waiting = is.waiting;
+          posted = is.posted;
+          copies = is.copies;
+          uses = is.uses;
+          areas = is.areas;
+          places = is.places;
+          clients = is.clients;
           replicas = λ v at stands. subst (λ f. IsReplicaSame v (old.made.acted.replicas (alone at.servers) v) (old.replicas v) (old.others v) (f at.row (alone at.servers))) row_same (is.replicas v at stands);
-          idle = subst (λ f. (r s : ℕ) → IsServer s → (f r s).life ≡ Unmade → old.idle (disk_at r s) ≡ lying_disk (replica_journal (f r s).disk)) row_same is.idle });
+          idle = subst (λ f. (r s : ℕ) → IsServer s → (f r s).life ≡ Unmade → old.idle (disk_at r s) ≡ lying_disk (replica_journal (f r s).disk)) row_same is.idle;
+        });
       }
         where
           row_same : cell.replicas ≡ put cell.replicas (length cell.rows) first
@@ -343,14 +356,14 @@ module _ (old : StoredCell) (cell : Cell) (is : IsToday old cell) (volume server
       by (inr (inl (fit, (next, own)))) = ends_row m.ending m.disk reply outside end m.told fit on_disk m.says m.out (λ life asks up.
           subst (λ c. IsToday c (made_cell (record { disk = m.disk; life = life; left = None }))) (sym next)
           (volume_made (record { history = m.disk.history; failed = m.disk.failed; up = is_entries m.ending }) (todays.asking header_today m.disk.header) old.others (record { disk = m.disk; life = life; left = None }) header
-            (record {
-              made = (header, asks);
-              up = sym up;
-              asks = ap Some (sym (same_header volume server area)) ∙ sym asks;
-              left = refl;
-              own = λ f. (refl, refl, refl, (λ h g. ap (λ (z : Header). z.number) (sym (header_is own h g))), (λ h g. asks ∙ ap Some (same_header volume server area ∙ header_is own h g)));
-              others = λ f. absurd (false≢true f);
-            }) (λ v off. refl) asks))
+          (record {
+            made = (header, asks);
+            up = sym up;
+            asks = ap Some (sym (same_header volume server area)) ∙ sym asks;
+            left = refl;
+            own = λ f. (refl, refl, refl, (λ h g. ap (λ (z : Header). z.number) (sym (header_is own h g))), (λ h g. asks ∙ ap Some (same_header volume server area ∙ header_is own h g)));
+            others = λ f. absurd (false≢true f);
+          }) (λ v off. refl) asks))
         where
           header_is : ((m.disk.header ≡ None) ⊎ (m.disk.header ≡ Some header_today)) → (h : Header) → m.disk.header ≡ Some h → header_today ≡ h
           header_is (inl nothing) h g = (let no : None ≡ Some h = sym nothing ∙ g in cc)
@@ -358,18 +371,18 @@ module _ (old : StoredCell) (cell : Cell) (is : IsToday old cell) (volume server
       by (inr (inr (fault, disk_is, other, next))) = ends_row m.ending m.disk reply outside end m.told (λ at e. (let no : DiskFault ≡ Foreign at = sym fault ∙ e in cc)) on_disk m.says m.out (λ life asks up.
           subst (λ c. IsToday c (made_cell (record { disk = m.disk; life = life; left = None }))) (sym next)
           (volume_made (crashed new_actor) (asking_elsewhere header_today (first server).disk.header) (put old.others volume (plain_shelf (shelf_of (first server).disk)).disk) (record { disk = m.disk; life = life; left = None }) header
-            (record {
-              made = (header, asks);
-              up = sym (up ∙ ap is_entries fault);
-              asks = ap Some (sym (same_header volume server area)) ∙ sym asks;
-              left = refl;
-              own = λ f. absurd (false≢true (sym f));
-              others = λ f. (
-                ap (λ b. cond b (plain_shelf (shelf_of (first server).disk)).disk (old.others volume)) (eq-eqb volume volume refl) ∙ ap replica_journal (sym disk_is),
-                up ∙ ap is_entries fault,
-                refl,
-                refl,
-                (λ h a g. other.2 ((let same : Some other.0 ≡ Some h = sym other.1 ∙ ap (λ (d : PlainDisk ReplicaEntry). d.header) (sym disk_is) ∙ g in let one : other.0 ≡ h = cc in
-                    let asked_is : Some header ≡ Some h = sym asks ∙ a in let two : header ≡ h = cc in one ∙ sym two ∙ same_header volume server area))),
-              );
-            }) (λ v off. ap (λ b. cond b (plain_shelf (shelf_of (first server).disk)).disk (old.others v)) (ne_eqb v volume off)) asks))
+          (record {
+            made = (header, asks);
+            up = sym (up ∙ ap is_entries fault);
+            asks = ap Some (sym (same_header volume server area)) ∙ sym asks;
+            left = refl;
+            own = λ f. absurd (false≢true (sym f));
+            others = λ f. (
+              ap (λ b. cond b (plain_shelf (shelf_of (first server).disk)).disk (old.others volume)) (eq-eqb volume volume refl) ∙ ap replica_journal (sym disk_is),
+              up ∙ ap is_entries fault,
+              refl,
+              refl,
+              (λ h a g. other.2 ((let same : Some other.0 ≡ Some h = sym other.1 ∙ ap (λ (d : PlainDisk ReplicaEntry). d.header) (sym disk_is) ∙ g in let one : other.0 ≡ h = cc in
+                  let asked_is : Some header ≡ Some h = sym asks ∙ a in let two : header ≡ h = cc in one ∙ sym two ∙ same_header volume server area))),
+            );
+          }) (λ v off. ap (λ b. cond b (plain_shelf (shelf_of (first server).disk)).disk (old.others v)) (ne_eqb v volume off)) asks))

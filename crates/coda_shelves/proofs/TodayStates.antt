@@ -345,10 +345,10 @@ module _ (old : StoredCell) (now : Cell) (is : IsToday old now) where
             let downs : (client_down now client || replica_down now server volume) ≡ false = sym (ap (λ b. b && (client_down now client || replica_down now server volume)) all) ∙ down in
             let at = holder_stands server volume (third (client_named t client) (volume_named t volume) (holder_named t server volume) all) in
             let up = is_true (is_up (now.replicas at.0.row (alone at.0.servers)).life)
-                (ap (λ n. not (is_up (now.replicas at.0.row n).life)) (sym at.2) ∙ sym (replica_down_now server volume at.0 at.1) ∙ later (client_down now client) (replica_down now server volume) downs) in
+            (ap (λ n. not (is_up (now.replicas at.0.row n).life)) (sym at.2) ∙ sym (replica_down_now server volume at.0 at.1) ∙ later (client_down now client) (replica_down now server volume) downs) in
             does_alike s t (line.Task (task.Drain client volume server window)) own events (alike (line.Task (task.Drain client volume server window))
-              (λ v is_v. subst (λ w. s.replicas w ≡ t.replicas w) (same volume v is_v) (replica_up_same volume at.0 at.1 up))) does
-          )
+            (λ v is_v. subst (λ w. s.replicas w ≡ t.replicas w) (same volume v is_v) (replica_up_same volume at.0 at.1 up))) does
+            )
 
     pub tasks_same : (work : Task) → is_down_for (needs now (line.Task work)) ≡ false → Does (today.meets old (line.Task work)) (line.Task work) own events → Does (meets now (line.Task work)) (line.Task work) own events
     tasks_same (task.Create client volume path mode owner) down does = operated_same client volume (Create path (unwrap_or mode 420) (unwrap_or owner 0)) does

@@ -192,18 +192,18 @@ module _ (old new : Cell) (kept : IsKept old) (grown : HasGrown old new) (pool :
           let old_fit = (kept.shelves.agree joins).fits row server in
           let moved = subst (λ (d : PlainDisk ReplicaEntry). DoesFit was.clients server (volume_of d.header) (entries_on (joins.replicas row server) d)) (sym same) old_fit in
           replicas_stand_elsewhere.stays was.clients is.clients server (is.volumes row server) (is.replicas row server) (λ client. (grown.clients client).begins (joins.clients client)) (λ client volume. a_now.lawful client volume) moved
-        )
+          )
       | inr here ↦ (
           let volume = is.volumes row server in
           let stands : stand_of new volume ≡ Some here.at = stands_same volume ∙ ap (stand_of old) (volume_same row server) ∙ here.stands in
           let only : (other : ℕ) → other ≢ server → replica_now new joins (stand_of new volume) other volume ≡ [] = (λ other off.
-              ap (λ o. replica_now new joins o other volume) stands
-              ∙ ap (λ b. cond (b && (volume_of (new.replicas here.at.row other).disk.header == volume)) (entries_on (joins.replicas here.at.row other) (new.replicas here.at.row other).disk) []) (ne_eqb other (alone here.at.servers) (λ e. off (e ∙ sym here.home)))) in
+          ap (λ o. replica_now new joins o other volume) stands
+          ∙ ap (λ b. cond (b && (volume_of (new.replicas here.at.row other).disk.header == volume)) (entries_on (joins.replicas here.at.row other) (new.replicas here.at.row other).disk) []) (ne_eqb other (alone here.at.servers) (λ e. off (e ∙ sym here.home)))) in
           let fit = replicas_stand_elsewhere.fits (found_in (made_now new joins pool (settled_on was)).acted none_joins) pool server volume a_now only in
           let same : replica_now new joins (stand_of new volume) server volume ≡ entries_on (joins.replicas here.at.row server) (new.replicas here.at.row server).disk
-              = now_here new joins pool (settled_on was) server volume here.at stands here.home (ap (λ r. volume_of (new.replicas r server).disk.header) here.row_is) in
+          = now_here new joins pool (settled_on was) server volume here.at stands here.home (ap (λ r. volume_of (new.replicas r server).disk.header) here.row_is) in
           subst (λ r. DoesFit is.clients server volume (entries_on (joins.replicas r server) (new.replicas r server).disk)) here.row_is (subst (DoesFit is.clients server volume) same fit)
-        )
+          )
     ]
 
     decided_still : (client volume number : ℕ) (verdict : Verdict) → IsDecided was volume client number verdict → IsDecided is volume client number verdict
@@ -211,8 +211,11 @@ module _ (old new : Cell) (kept : IsKept old) (grown : HasGrown old new) (pool :
       row = d.row;
       server = d.server;
       by = d.by;
-      there = (volume_same d.row d.server ∙ d.there.0, (let begins = (grown.replicas d.row d.server).begins (joins.replicas d.row d.server) in
-          subst (λ l. In d.by (decisions_of volume l)) (sym begins.1) (told_begins (decision_at volume) (was.replicas d.row d.server) begins.0 d.by d.there.1)));
+      there = (
+        volume_same d.row d.server ∙ d.there.0,
+        (let begins = (grown.replicas d.row d.server).begins (joins.replicas d.row d.server) in
+            subst (λ l. In d.by (decisions_of volume l)) (sym begins.1) (told_begins (decision_at volume) (was.replicas d.row d.server) begins.0 d.by d.there.1)),
+      );
       client_is = d.client_is;
       number_is = d.number_is;
       verdict_is = d.verdict_is;

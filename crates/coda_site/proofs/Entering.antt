@@ -208,9 +208,13 @@ module _ (cell : Cell) (kept : IsKept cell) (placed : ArePlaced cell) (plain : �
     up = refl;
     asks = refl;
     left = refl;
-    own = λ e. (refl, refl, refl,
-        (λ h g. let m = placed.made volume at stands in let one = foreign_not (replica_of cell at).disk.header (asked (replica_of cell at).life) f h m.0 g m.1 in ap (λ (z : Header). z.number) one ∙ number_of volume at stands m.0 m.1),
-        (λ h g. let m = placed.made volume at stands in m.1 ∙ ap Some (sym (foreign_not (replica_of cell at).disk.header (asked (replica_of cell at).life) f h m.0 g m.1))));
+    own = λ e. (
+      refl,
+      refl,
+      refl,
+      (λ h g. let m = placed.made volume at stands in let one = foreign_not (replica_of cell at).disk.header (asked (replica_of cell at).life) f h m.0 g m.1 in ap (λ (z : Header). z.number) one ∙ number_of volume at stands m.0 m.1),
+      (λ h g. let m = placed.made volume at stands in m.1 ∙ ap Some (sym (foreign_not (replica_of cell at).disk.header (asked (replica_of cell at).life) f h m.0 g m.1))),
+    );
     others = λ e. absurd (false≢true e);
   }
   same_by volume at stands true f = record {
@@ -219,19 +223,24 @@ module _ (cell : Cell) (kept : IsKept cell) (placed : ArePlaced cell) (plain : �
     asks = refl;
     left = refl;
     own = λ e. absurd (false≢true (sym e));
-    others = λ e. (refl, up_own volume at f, refl, refl,
-        (λ h a g. let is = foreign_is (replica_of cell at).disk.header (asked (replica_of cell at).life) f in
-            is.4 ((let p : Some is.0 ≡ Some h = sym is.2 ∙ g in let q : Some is.1 ≡ Some h = sym is.3 ∙ a in let r : is.0 ≡ h = cc in let s : is.1 ≡ h = cc in r ∙ sym s))));
+    others = λ e. (
+      refl,
+      up_own volume at f,
+      refl,
+      refl,
+      (λ h a g. let is = foreign_is (replica_of cell at).disk.header (asked (replica_of cell at).life) f in
+          is.4 ((let p : Some is.0 ≡ Some h = sym is.2 ∙ g in let q : Some is.1 ≡ Some h = sym is.3 ∙ a in let r : is.0 ≡ h = cc in let s : is.1 ≡ h = cc in r ∙ sym s))),
+    );
   }
 
   same_at : (volume : ℕ) (at : Stand) → stand_of cell volume ≡ Some at → IsReplicaSame volume (old.made.acted.replicas (alone at.servers) volume) (old.replicas volume) (old.others volume) (replica_of cell at)
   same_at volume at stands =
       let actor : actor_at cell (stand_of cell volume) (alone at.servers) ≡ actor_by (foreign_at cell at) (replica_of cell at)
-          = ap (λ o. actor_at cell o (alone at.servers)) stands ∙ ap (λ b. cond b (actor_by (foreign_at cell at) (replica_of cell at)) new_actor) (eq-eqb (alone at.servers) (alone at.servers) refl) in
+      = ap (λ o. actor_at cell o (alone at.servers)) stands ∙ ap (λ b. cond b (actor_by (foreign_at cell at) (replica_of cell at)) new_actor) (eq-eqb (alone at.servers) (alone at.servers) refl) in
       let other : other_at cell (stand_of cell volume) ≡ replica_journal (replica_of cell at).disk = ap (other_at cell) stands in
       subst (λ o. IsReplicaSame volume (old.made.acted.replicas (alone at.servers) volume) (old.replicas volume) o (replica_of cell at)) (sym other)
       (moved_same (replica_journal (replica_of cell at).disk) volume (old.made.acted.replicas (alone at.servers) volume) (actor_by (foreign_at cell at) (replica_of cell at)) (old.replicas volume) _ (replica_of cell at) (replica_of cell at)
-        actor (ap (side_at cell) stands) refl (same_by volume at stands (foreign_at cell at) refl))
+      actor (ap (side_at cell) stands) refl (same_by volume at stands (foreign_at cell at) refl))
 
   pub is_today : IsToday old cell
   is_today = record {
@@ -275,7 +284,7 @@ module _ (cell : Cell) (kept : IsKept cell) (placed : ArePlaced cell) (plain : �
     | inr (header, is, own) ↦ (
         let number = ((same_by volume at stands false f).own refl).3 header is in
         subst (λ v. AreDecisions v (replica_of cell at).disk.history) (ap volume_of is ∙ number) ((kept.shelves.agree none_joins).fits at.row (alone at.servers)).ruled
-      )
+        )
   ]
 
   alone_at : (volume : ℕ) (at : Stand) (b : Bool) (entry : ReplicaEntry) → In entry (found true (actor_by b (replica_of cell at))) → IsDecision entry
@@ -345,11 +354,17 @@ module _ (cell : Cell) (kept : IsKept cell) (placed : ArePlaced cell) (plain : �
       let own = (kept.replicas_ask at.row (alone at.servers) m.0 m.1).0 in
       let number = number_of volume at e m.0 m.1 in
       let is : m.0 ≡ replica_header volume (alone at.servers) own.2
-          = own.8 ∙ (λ i. record (replica_header volume (alone at.servers) own.2) { number = (sym (ap (λ (z : Header). z.number) own.8) ∙ number) i; group = (sym (ap (λ (z : Header). z.group) own.8) ∙ placed.grouped at.row (alone at.servers) m.0 m.1 ∙ ap (λ (z : Header). z.group) (same_header volume (alone at.servers) own.2)) i }) in
-      (
-        (own.2, own.7, subst (λ n. 1 ≤ n) (sym (ap (λ (z : Header). z.number) own.8) ∙ number) own.3, own.4, own.5, m.1 ∙ ap Some is,
+      = own.8 ∙ (λ i. record (replica_header volume (alone at.servers) own.2) { number = (sym (ap (λ (z : Header). z.number) own.8) ∙ number) i; group = (sym (ap (λ (z : Header). z.group) own.8) ∙ placed.grouped at.row (alone at.servers) m.0 m.1 ∙ ap (λ (z : Header). z.group) (same_header volume (alone at.servers) own.2)) i }) in (
+        (
+          own.2,
+          own.7,
+          subst (λ n. 1 ≤ n) (sym (ap (λ (z : Header). z.number) own.8) ∙ number) own.3,
+          own.4,
+          own.5,
+          m.1 ∙ ap Some is,
           subst (λ a. IsGiven (own_given (foreign_at cell at) None (replica_of cell at).disk.header) (replica_header volume (alone at.servers) own.2) a) (sym (ap (λ b. cond b (actor_by (foreign_at cell at) (replica_of cell at)) new_actor) (eq-eqb (alone at.servers) (alone at.servers) refl)))
-            (replica_given volume at (replica_header volume (alone at.servers) own.2) (m.1 ∙ ap Some is) (foreign_at cell at) refl)),
+              (replica_given volume at (replica_header volume (alone at.servers) own.2) (m.1 ∙ ap Some is) (foreign_at cell at) refl),
+        ),
         (λ f. let w = foreign_is (replica_of cell at).disk.header (asked (replica_of cell at).life) f in (w.1, w.3, (w.0, w.2, w.4))),
       )
 

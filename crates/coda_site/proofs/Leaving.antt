@@ -109,11 +109,11 @@ module _ {D : Type 0} (told : D → Told) (out : ℕ → Bool) (has : ℕ → To
         by (Up header) e = asking header (ap asked e)
         by Unmade e =
             are.others (disk_at row server) (λ volume home h same.
-              let at = stand_by volume home h in
-              let r = server_range volume at.0 at.1 in
-              let one = places_apart at.0.row (alone at.0.servers) row server r.0 r.1 range.0 range.1 (sym (is.places volume at.0 at.1) ∙ same) in
-              let m = placed.made volume at.0 at.1 in
-              let no : None ≡ Some m.0 = sym (ap asked e) ∙ sym (λ i. asked (cell.replicas (one.0 i) (one.1 i)).life) ∙ m.1 in cc)
+            let at = stand_by volume home h in
+            let r = server_range volume at.0 at.1 in
+            let one = places_apart at.0.row (alone at.0.servers) row server r.0 r.1 range.0 range.1 (sym (is.places volume at.0 at.1) ∙ same) in
+            let m = placed.made volume at.0 at.1 in
+            let no : None ≡ Some m.0 = sym (ap asked e) ∙ sym (λ i. asked (cell.replicas (one.0 i) (one.1 i)).life) ∙ m.1 in cc)
             ∙ is.idle row server range e
             ∙ (λ i. record { disk = replica_journal (cell.replicas row server).disk; life = sym e i; left = sym (kept.replicas_left row server e) i })
 
