@@ -41,7 +41,9 @@ was_there : node_at [] root ≡ Some fresh_root
 was_there = get_here fids_total map.empty root fresh_root
 
 is_gone : node_at (other ∷ []) root ≡ None
-is_gone = get_nodes map.empty root ∙ ap (λ (o : Option Held). option_map (λ (held : Held). held.node) o) (map.get-empty fid_cmp root)
+is_gone =
+    get_nodes map.empty root ∙ ap (λ (o : Option Held). option_map (λ (held : Held). held.node) o)
+    (map.get-empty fid_cmp root)
 
 changed : changes [] other root ≡ true
 changed = go (changes [] other root) refl
@@ -62,7 +64,10 @@ fetched = cell_after changes linked (Fetched 1 1 root None fresh_root)
 may_fetch : MayFetch linked 1 1 root None fresh_root
 may_fetch = record {
   linked = refl;
-  may = (λ p. absurd (false≢true (sym (ap (λ (o : Option Node). is_there o) (map.get-empty fid_cmp root)) ∙ p.0)), (map.get-empty fid_cmp root, inr refl));
+  may = (
+    λ p. absurd (false≢true (sym (ap (λ (o : Option Node). is_there o) (map.get-empty fid_cmp root)) ∙ p.0)),
+    (map.get-empty fid_cmp root, inr refl),
+  );
   there = was_there;
   predates = record { not_created = refl; unbound = λ name fid is. refl };
   taken = λ none mentioned. absurd (false≢true mentioned);
@@ -81,7 +86,8 @@ module _ (cell : CachingCell) (history : cell.histories 1 7 ≡ other ∷ []) (c
   fails : CallbackFact cell → ⊥
   fails fact =
       let told = (fact 1 root (record { server = 1; position = 0 }) copy (ap (λ v. is_mentioned v root) clean)).is_told in
-      ⊎_elim (λ (w : is_waiting (cell.callbacks 1 7) 1 root ≡ true). false≢true (sym quiet ∙ w)) none (told (subst (λ h. IsChangedSince h 0 root) (sym history) stale))
+      ⊎_elim (λ (w : is_waiting (cell.callbacks 1 7) 1 root ≡ true). false≢true (sym quiet ∙ w)) none
+      (told (subst (λ h. IsChangedSince h 0 root) (sym history) stale))
 
 -- ---- a Break that is lost alone
 
@@ -95,14 +101,18 @@ abbrev posted : CachingCell
 posted = cell_after changes decided (Posted 1 1 7 (root ∷ []))
 
 never_waits : (f : Fid) → is_waiting respects 1 f ≡ false
-never_waits f = waiting_promise no_callbacks 1 root 1 f ∙ off _ (is_waiting no_callbacks 1 f) (set.contains-empty interest_cmp (interest 1 f))
+never_waits f =
+    waiting_promise no_callbacks 1 root 1 f ∙ off _ (is_waiting no_callbacks 1 f)
+    (set.contains-empty interest_cmp (interest 1 f))
   where
     off : (a b : Bool) → b ≡ false → (not a && b) ≡ false
     off true b e = refl
     off false b e = e
 
 promises_root : (f : Fid) → is_promised respects 1 f ≡ same_interest (interest 1 f) (interest 1 root)
-promises_root f = promised_promise no_callbacks 1 root 1 f ∙ off (same_interest (interest 1 f) (interest 1 root)) (is_promised no_callbacks 1 f) (set.contains-empty interest_cmp (interest 1 f))
+promises_root f =
+    promised_promise no_callbacks 1 root 1 f ∙ off (same_interest (interest 1 f) (interest 1 root))
+    (is_promised no_callbacks 1 f) (set.contains-empty interest_cmp (interest 1 f))
   where
     off : (a b : Bool) → b ≡ false → (a || b) ≡ a
     off true b e = refl
@@ -113,13 +123,23 @@ unfolding IsStrictlySortedBy
 alone f = (tt, tt)
 
 outbox : IsOutbox (broken_where respects (changes [] other)) 1 (root ∷ [])
-outbox = record { increasing = alone root; exact = λ f. sym (waiting_broken respects (changes [] other) 1 f ∙ (λ i. never_waits f i || (promises_root f i && changes [] other f)) ∙ at f (same_interest (interest 1 f) (interest 1 root)) refl) }
+outbox =
+    record {
+      increasing = alone root;
+      exact = λ f. sym (waiting_broken respects (changes [] other) 1 f
+          ∙ (λ i. never_waits f i || (promises_root f i && changes [] other f)) ∙ at f
+          (same_interest (interest 1 f) (interest 1 root)) refl);
+    }
   where
     at : (f : Fid) (b : Bool) → same_interest (interest 1 f) (interest 1 root) ≡ b
         → (b && changes [] other f) ≡ names (root ∷ []) f
     at f true e = let one = same_interest_is (interest 1 f) (interest 1 root) e in let same : f ≡ root = λ i. (one i).fid in
-        ap (changes [] other) same ∙ changed ∙ sym (ap (λ x. same_fid root x || false) same ∙ ap (λ b. b || false) (same_fid_refl root))
-    at f false e = sym (ap (λ b. b || false) (fid_other root f (λ h. true≢false (sym (same_interest_refl (interest 1 root)) ∙ (ap (λ x. same_interest (interest 1 x) (interest 1 root)) h ∙ e)))))
+        ap (changes [] other) same ∙ changed ∙ sym
+        (ap (λ x. same_fid root x || false) same ∙ ap (λ b. b || false) (same_fid_refl root))
+    at f false e =
+        sym (ap (λ b. b || false)
+        (fid_other root f (λ h. true≢false (sym (same_interest_refl (interest 1 root))
+        ∙ (ap (λ x. same_interest (interest 1 x) (interest 1 root)) h ∙ e)))))
 
 and_never : (a : Bool) → (a && false) ≡ false
 and_never true = refl
@@ -129,8 +149,12 @@ lossy : (cell : CachingCell) × (number : ℕ) × IsReachedCell cell × (Callbac
 lossy = (
   posted,
   1,
-  record { events = LinkUp 1 1 ∷ Fetched 1 1 root None fresh_root ∷ Decided 1 7 other ∷ Posted 1 1 7 (root ∷ []) ∷ []; runs = (tt, (may_fetch, (tt, ((refl, outbox), refl)))) },
-  fails (lost_with_link_up posted 1) refl refl refl (waiting_collected (broken_where respects (changes [] other)) 1 1 root ∙ and_never _) none,
+  record {
+    events = LinkUp 1 1 ∷ Fetched 1 1 root None fresh_root ∷ Decided 1 7 other ∷ Posted 1 1 7 (root ∷ []) ∷ [];
+    runs = (tt, (may_fetch, (tt, ((refl, outbox), refl))));
+  },
+  fails (lost_with_link_up posted 1) refl refl refl
+      (waiting_collected (broken_where respects (changes [] other)) 1 1 root ∙ and_never _) none,
 )
   where
     none : IsBreakUnderWay (lost_with_link_up posted 1).breaks 1 1 root → ⊥
@@ -151,13 +175,18 @@ sparing = (
   other,
   record { events = LinkUp 1 1 ∷ Fetched 1 1 root None fresh_root ∷ []; runs = (tt, (may_fetch, refl)) },
   fails (decided_sparing fetched 1 1 7 other) refl refl refl
-      (set.contains-union interests_total respects.outboxes (set.retain respects.promises (λ i. changes [] other i.fid && not (i.client == 1))) (interest 1 root)
-      ∙ (λ i. never_waits root i || (set.contains-retain respects.promises (λ i. changes [] other i.fid && not (i.client == 1)) (interest 1 root) (alike (λ i. changes [] other i.fid && not (i.client == 1)) (interest 1 root)) ∙ last) i))
+      (set.contains-union interests_total respects.outboxes
+      (set.retain respects.promises (λ i. changes [] other i.fid && not (i.client == 1))) (interest 1 root)
+      ∙ (λ i. never_waits root i || (set.contains-retain respects.promises
+      (λ i. changes [] other i.fid && not (i.client == 1)) (interest 1 root)
+      (alike (λ i. changes [] other i.fid && not (i.client == 1)) (interest 1 root)) ∙ last) i))
       (λ u. none-some u.letter u.posted),
 )
   where
     last : (set.contains respects.promises (interest 1 root) && (changes [] other root && false)) ≡ false
-    last = ap (λ b. set.contains respects.promises (interest 1 root) && b) (and_never (changes [] other root)) ∙ and_never _
+    last =
+        ap (λ b. set.contains respects.promises (interest 1 root) && b) (and_never (changes [] other root))
+        ∙ and_never _
 
 pub shortcuts_fail : ShortcutsFail
 shortcuts_fail = record { lossy = lossy; sparing = sparing }

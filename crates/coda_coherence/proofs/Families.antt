@@ -34,7 +34,8 @@ pair_here f k l x = ap (λ b. cond b x (f k l)) (and_from (k == k) (l == l) (eq-
 pub copies_at : {A B : Type 0} (P : A → B → Type 0) (f : ℕ → Fid → A) (g : ℕ → Fid → B) (c : ℕ) (fid : Fid) (x : A) (y : B) (q : ℕ) (r : Fid) → (q ≡ c → r ≡ fid → P x y) → (((q == c) && same_fid r fid) ≡ false → P (f q r) (g q r))
     → P (put_copy f c fid x q r) (put_copy g c fid y q r)
 copies_at P f g c fid x y q r here there =
-    elim ((q == c) && same_fid r fid) as (λ b. ((q == c) && same_fid r fid) ≡ b → P (cond b x (f q r)) (cond b y (g q r))) [
+    elim ((q == c) && same_fid r fid) as (λ b. ((q == c) && same_fid r fid) ≡ b → P (cond b x (f q r))
+    (cond b y (g q r))) [
       | true ↦ λ e. let p = and_parts (q == c) (same_fid r fid) e in here (eqb-true q c p.0) (same_fid_is r fid p.1)
       | false ↦ there
     ] refl

@@ -24,7 +24,8 @@ pub sparing : (c : ClientState) (entry : ClientEntry) (fid : Fid) → invalidate
     → LeavesCopy c entry fid
 sparing c (Op volume rec) fid h = h
 sparing c (Freeze volume number home last) fid h = tt
-sparing c (Settled volume number verdict) fid h = λ e. left_by_settlement verdict (c.volumes volume).log fid (second fid.volume volume _ h e)
+sparing c (Settled volume number verdict) fid h =
+    λ e. left_by_settlement verdict (c.volumes volume).log fid (second fid.volume volume _ h e)
 sparing c (Giveup volume) fid h = λ e. second fid.volume volume _ h e
 sparing c (Fetched at parent node) fid h = fid_false fid at h
 sparing c (Dropped at) fid h = fid_false fid at h

@@ -51,8 +51,10 @@ found_name : (test : Name → Bool) (names : List Name) (n : Name) → list_any 
     → test n ≡ true → list_any test names ≡ true
 found_name test [] n among passes = absurd (false≢true among)
 found_name test (x ∷ names) n among passes = ⊎_elim
-    (λ (is : eq_by_cmp name_cmp n x ≡ true). or_left (test x) (list_any test names) (ap test (sym (same_list n x is)) ∙ passes))
-    (λ (is : list_any (eq_by_cmp name_cmp n) names ≡ true). or_right (test x) (list_any test names) (found_name test names n is passes))
+    (λ (is : eq_by_cmp name_cmp n x ≡ true). or_left (test x) (list_any test names)
+    (ap test (sym (same_list n x is)) ∙ passes))
+    (λ (is : list_any (eq_by_cmp name_cmp n) names ≡ true). or_right (test x) (list_any test names)
+    (found_name test names n is passes))
     (or_cases (eq_by_cmp name_cmp n x) (list_any (eq_by_cmp name_cmp n) names) among)
 
 -- at a name that one of the two binds they bind the same
@@ -62,7 +64,9 @@ same_at a b m n none there = bound_is (map.get a n) (map.get b n) (go (same_boun
   where
     go : (t : Bool) → same_bound (map.get a n) (map.get b n) ≡ t → same_bound (map.get a n) (map.get b n) ≡ true
     go true e = e
-    go false e = absurd (false≢true (sym none ∙ found_name (λ x. not (same_bound (map.get a x) (map.get b x))) (map.keys m) n (sym (map.contains_key-keys m n) ∙ there) (ap not e)))
+    go false e =
+        absurd (false≢true (sym none ∙ found_name (λ x. not (same_bound (map.get a x) (map.get b x))) (map.keys m) n
+        (sym (map.contains_key-keys m n) ∙ there) (ap not e)))
 
 bindings_are : (a b : Bindings) → same_bindings a b ≡ true → a ≡ b
 bindings_are a b e = map.same_map nat_list_cmp_total exact_bytes a b (λ n. at n (map.get a n) (map.get b n) refl refl)
@@ -111,11 +115,21 @@ sid_is a b h = let p = and_parts (a.client == b.client) (a.number == b.number) h
 node_is : (a b : Node) → same_node a b ≡ true → a ≡ b
 node_is a b h =
     let k = and_parts _ _ h in let m = and_parts _ _ k.1 in let o = and_parts _ _ m.1 in let t = and_parts _ _ o.1 in let s = and_parts _ _ t.1 in
-    λ i. record { kind = kind_is a.kind b.kind k.0 i; mode = eqb-true a.mode b.mode m.0 i; owner = eqb-true a.owner b.owner o.0 i; mtime = eqb-true a.mtime b.mtime t.0 i; sid = sid_is a.sid b.sid s.0 i; marked = flag_is a.marked b.marked s.1 i }
+    λ i. record {
+      kind = kind_is a.kind b.kind k.0 i;
+      mode = eqb-true a.mode b.mode m.0 i;
+      owner = eqb-true a.owner b.owner o.0 i;
+      mtime = eqb-true a.mtime b.mtime t.0 i;
+      sid = sid_is a.sid b.sid s.0 i;
+      marked = flag_is a.marked b.marked s.1 i;
+    }
 
 node_itself : (a : Node) → same_node a a ≡ true
-node_itself a = and_from _ _ (kind_itself a.kind) (and_from _ _ (eq-eqb a.mode a.mode refl) (and_from _ _ (eq-eqb a.owner a.owner refl) (and_from _ _ (eq-eqb a.mtime a.mtime refl)
-    (and_from _ _ (and_from _ _ (eq-eqb a.sid.client a.sid.client refl) (eq-eqb a.sid.number a.sid.number refl)) (flag_itself a.marked)))))
+node_itself a =
+    and_from _ _ (kind_itself a.kind) (and_from _ _ (eq-eqb a.mode a.mode refl)
+    (and_from _ _ (eq-eqb a.owner a.owner refl) (and_from _ _ (eq-eqb a.mtime a.mtime refl)
+    (and_from _ _ (and_from _ _ (eq-eqb a.sid.client a.sid.client refl) (eq-eqb a.sid.number a.sid.number refl))
+    (flag_itself a.marked)))))
 
 there_is : (a b : Option Node) → same_there a b ≡ true → a ≡ b
 there_is None None e = refl
@@ -130,7 +144,9 @@ there_itself (Some a) = node_itself a
 if_changed : (history : List ReplicaEntry) (e : ReplicaEntry) (fid : Fid) → changes history e fid ≡ true
     → node_at (history ++ e ∷ []) fid ≢ node_at history fid
 unfolding changes
-if_changed history e fid changed same = false≢true (ap not (sym (subst (λ o. same_there (node_at (history ++ e ∷ []) fid) o ≡ true) same (there_itself (node_at (history ++ e ∷ []) fid)))) ∙ changed)
+if_changed history e fid changed same =
+    false≢true (ap not (sym (subst (λ o. same_there (node_at (history ++ e ∷ []) fid) o ≡ true) same
+    (there_itself (node_at (history ++ e ∷ []) fid)))) ∙ changed)
 
 if_same : (history : List ReplicaEntry) (e : ReplicaEntry) (fid : Fid) → changes history e fid ≡ false
     → node_at (history ++ e ∷ []) fid ≡ node_at history fid

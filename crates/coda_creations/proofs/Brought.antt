@@ -47,8 +47,10 @@ bound_known m (Store fid pre content) d n f pass at = absurd at
 bound_known m (Setattr fid pre attrs) d n f pass at = absurd at
 bound_known m (Remove dir name fid pre) d n f pass at = absurd at
 bound_known m (Rmdir dir name fid pre) d n f pass at = absurd at
-bound_known m (Rename from_dir from to_dir to fid None) d n f pass at = inl (inl (subst (λ g. has m g ≡ true) (sym at.2) (there (map.get m fid) fid pass.1.1.1.1.1.0)))
-bound_known m (Rename from_dir from to_dir to fid (Some over)) d n f pass at = inl (inl (subst (λ g. has m g ≡ true) (sym at.2) (there (map.get m fid) fid pass.1.1.1.1.1.1.0)))
+bound_known m (Rename from_dir from to_dir to fid None) d n f pass at =
+    inl (inl (subst (λ g. has m g ≡ true) (sym at.2) (there (map.get m fid) fid pass.1.1.1.1.1.0)))
+bound_known m (Rename from_dir from to_dir to fid (Some over)) d n f pass at =
+    inl (inl (subst (λ g. has m g ≡ true) (sym at.2) (there (map.get m fid) fid pass.1.1.1.1.1.1.0)))
 
 known_before : (m : Nodes) (client : ℕ) (rec : Record) (f : Fid) → certify m rec.op ≡ None
     → IsHeldOrBound (applied m client rec) f → IsHeldOrBound m f ⊎ (creates f rec.op ≡ true)
@@ -64,7 +66,8 @@ certified (Some why) number rest left e = cc
 
 replayed : (m : Nodes) (client : ℕ) (recs : List Record) (left : Nodes) (f : Fid) → replay m client recs ≡ Ok left
     → IsHeldOrBound left f → IsHeldOrBound m f ⊎ (any_record (creates f) recs ≡ true)
-replayed m client [] left f e known = (let same : m ≡ left = cc in inl (subst (λ k. IsHeldOrBound k f) (sym same) known))
+replayed m client [] left f e known =
+    (let same : m ≡ left = cc in inl (subst (λ k. IsHeldOrBound k f) (sym same) known))
 replayed m client (rec ∷ recs) left f e known =
     let c = certified (certify m rec.op) rec.number (replay (applied m client rec) client recs) left e in
     elim (replayed (applied m client rec) client recs left f c.1 known) [
@@ -96,10 +99,11 @@ decided : (m : Nodes) (client : ℕ) (span : List Record) (f : Fid) (r : Replaye
     → IsHeldOrBound (nodes_left m r) f
     → IsHeldOrBound m f ⊎ ((verdict_of r ≡ Applied) × (any_record (creates f) span ≡ true))
 decided m client span f (Err why) e known = inl known
-decided m client span f (Ok left) e known = elim (either (replay m client span) (replay m client (sent_of span)) left e) [
-  | inl whole ↦ elim (replayed m client span left f whole known) [ inl old ↦ inl old | inr made ↦ inr (refl, made) ]
-  | inr sent ↦ elim (replayed m client (sent_of span) left f sent known) [ inl old ↦ inl old | inr made ↦ inr (refl, sent_created f span made) ]
-]
+decided m client span f (Ok left) e known =
+    elim (either (replay m client span) (replay m client (sent_of span)) left e) [
+      | inl whole ↦ elim (replayed m client span left f whole known) [ inl old ↦ inl old | inr made ↦ inr (refl, made) ]
+      | inr sent ↦ elim (replayed m client (sent_of span) left f sent known) [ inl old ↦ inl old | inr made ↦ inr (refl, sent_created f span made) ]
+    ]
 
 pub decisions_bring : DecisionsBringCreations
 decisions_bring m client span f known = elim (decided m client span f (decision m client span) refl known) [ inl old ↦ inl old | inr made ↦ inr made.1 ]
@@ -108,7 +112,8 @@ decisions_bring m client span f known = elim (decided m client span f (decision 
 
 one_entry : (kept : Kept) (e : ReplicaEntry) (f : Fid) → IsHeldOrBound (kept_after kept e).nodes f
     → IsHeldOrBound kept.nodes f ⊎ IsBroughtBy f kept e
-one_entry kept (Decided client number span) f known = decided kept.nodes client span f (decision kept.nodes client span) refl known
+one_entry kept (Decided client number span) f known =
+    decided kept.nodes client span f (decision kept.nodes client span) refl known
 one_entry kept (Resolved objects lasts) f known = inr known
 
 entries : (kept : Kept) (history : List ReplicaEntry) (f : Fid)

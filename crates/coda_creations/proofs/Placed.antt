@@ -101,12 +101,15 @@ relied_in_place c volume (Mkdir d n g mode owner) recs r p = (tt, tt)
 relied_in_place c volume (Symlink d n g target mode owner) recs r p = (tt, tt)
 relied_in_place c volume (Store g pre content) recs r p = (tt, tt)
 relied_in_place c volume (Setattr g pre a) recs r p = (tt, tt)
-relied_in_place c volume (Remove d n g pre) recs r p = (in_place c.held.nodes recs d n g p r.0.bound, at_home c.held.nodes recs d n g p r.0.bound)
-relied_in_place c volume (Rmdir d n g pre) recs r p = (in_place c.held.nodes recs d n g p r.0.bound, at_home c.held.nodes recs d n g p r.0.bound)
+relied_in_place c volume (Remove d n g pre) recs r p =
+    (in_place c.held.nodes recs d n g p r.0.bound, at_home c.held.nodes recs d n g p r.0.bound)
+relied_in_place c volume (Rmdir d n g pre) recs r p =
+    (in_place c.held.nodes recs d n g p r.0.bound, at_home c.held.nodes recs d n g p r.0.bound)
 relied_in_place c volume (Rename d n e m g over) recs r p = (tt, tt)
 
 pub accepted_in_place : AcceptedRemovalsAreInPlace
-accepted_in_place c volume ask op recs accepted placed = relied_in_place c volume op recs (accepted_relies (sight_of c volume) volume ask op accepted) placed
+accepted_in_place c volume ask op recs accepted placed =
+    relied_in_place c volume op recs (accepted_relies (sight_of c volume) volume ask op accepted) placed
 
 -- ---- what stays in records to which one is added
 
@@ -114,24 +117,33 @@ module _ (x : Fid) where
   pub kept_unbinds : (op : Op) (owed : Debt) (rs : List Record) → any_record (unbinds x) rs ≡ true
       → any_record (unbinds x) (kept (drops op) owed rs) ≡ true
   kept_unbinds op owed [] h = h
-  kept_unbinds op owed (r ∷ rs) h = go (drops op r.op) refl (or_cases (unbinds x r.op) (any_record (unbinds x) rs) h) (kept_unbinds op (owe owed (carried r.op)) rs) (kept_unbinds op (paid owed (carried r.op)) rs)
+  kept_unbinds op owed (r ∷ rs) h =
+      go (drops op r.op) refl (or_cases (unbinds x r.op) (any_record (unbinds x) rs) h)
+      (kept_unbinds op (owe owed (carried r.op)) rs) (kept_unbinds op (paid owed (carried r.op)) rs)
     where
       go : (b : Bool) → drops op r.op ≡ b → (unbinds x r.op ≡ true) ⊎ (any_record (unbinds x) rs ≡ true) → (any_record (unbinds x) rs ≡ true → any_record (unbinds x) (kept (drops op) (owe owed (carried r.op)) rs) ≡ true)
-          → (any_record (unbinds x) rs ≡ true → any_record (unbinds x) (kept (drops op) (paid owed (carried r.op)) rs) ≡ true) → any_record (unbinds x) (cond b (kept (drops op) (owe owed (carried r.op)) rs) (hand owed r ∷ kept (drops op) (paid owed (carried r.op)) rs)) ≡ true
+          → (any_record (unbinds x) rs ≡ true → any_record (unbinds x) (kept (drops op) (paid owed (carried r.op)) rs)
+          ≡ true) → any_record (unbinds x) (cond b (kept (drops op) (owe owed (carried r.op)) rs)
+          (hand owed r ∷ kept (drops op) (paid owed (carried r.op)) rs)) ≡ true
       go true e (inl here) one two = absurd (false≢true (sym (unbinds_no_write x r.op here) ∙ drops_write op r.op e))
       go true e (inr later) one two = one later
-      go false e (inl here) one two = or_left (unbinds x (hand owed r).op) _ (unbinds_with_pre x (λ g p. sid_or (owed g) p) r.op ∙ here)
+      go false e (inl here) one two =
+          or_left (unbinds x (hand owed r).op) _ (unbinds_with_pre x (λ g p. sid_or (owed g) p) r.op ∙ here)
       go false e (inr later) one two = or_right (unbinds x (hand owed r).op) _ (two later)
 
   pub without_unbinds : (y : Fid) (rs : List Record) → all_records (only_made y) rs ≡ true
       → any_record (unbinds x) rs ≡ true → any_record (unbinds x) (without y rs) ≡ true
   without_unbinds y [] m h = h
-  without_unbinds y (r ∷ rs) m h = go (mentioning y r.op) refl (or_cases (unbinds x r.op) (any_record (unbinds x) rs) h) (without_unbinds y rs (and_parts _ _ m).1)
+  without_unbinds y (r ∷ rs) m h =
+      go (mentioning y r.op) refl (or_cases (unbinds x r.op) (any_record (unbinds x) rs) h)
+      (without_unbinds y rs (and_parts _ _ m).1)
     where
       go : (b : Bool) → mentioning y r.op ≡ b → (unbinds x r.op ≡ true) ⊎ (any_record (unbinds x) rs ≡ true)
           → (any_record (unbinds x) rs ≡ true → any_record (unbinds x) (without y rs) ≡ true)
           → any_record (unbinds x) (cond b (without y rs) (r ∷ without y rs)) ≡ true
-      go true e (inl here) more = absurd (unbinds_none_made x y r.op here (ap (λ b. not b || (creates y r.op || writes y r.op)) (sym e) ∙ (and_parts _ _ m).0))
+      go true e (inl here) more =
+          absurd (unbinds_none_made x y r.op here (ap (λ b. not b || (creates y r.op || writes y r.op)) (sym e)
+          ∙ (and_parts _ _ m).0))
       go true e (inr later) more = more later
       go false e (inl here) more = or_left (unbinds x r.op) _ here
       go false e (inr later) more = or_right (unbinds x r.op) _ (more later)
@@ -145,29 +157,43 @@ module _ (x : Fid) where
 
   pub unbinds_stay : (rs : List Record) (o : Record) → any_record (unbinds x) rs ≡ true
       → any_record (unbinds x) (add rs o) ≡ true
-  unbinds_stay rs o before = cond_both (cancels o.op rs) (without (object (carried o.op)) rs) (appended rs o) (λ l. any_record (unbinds x) l ≡ true)
+  unbinds_stay rs o before =
+      cond_both (cancels o.op rs) (without (object (carried o.op)) rs) (appended rs o)
+      (λ l. any_record (unbinds x) l ≡ true)
       (λ c. without_unbinds (object (carried o.op)) rs (cancelled o.op rs c).0 before)
-      (λ c. any-append (unbinds x) (kept (drops o.op) nothing rs) (hand (debt (drops o.op) nothing rs) o ∷ []) ∙ or_left (any_record (unbinds x) (kept (drops o.op) nothing rs)) _ (kept_unbinds o.op nothing rs before))
+      (λ c. any-append (unbinds x) (kept (drops o.op) nothing rs) (hand (debt (drops o.op) nothing rs) o ∷ [])
+      ∙ or_left (any_record (unbinds x) (kept (drops o.op) nothing rs)) _ (kept_unbinds o.op nothing rs before))
 
   none_without : (rs : List Record) → any_record (creates x) (without x rs) ≡ false
   none_without [] = refl
-  none_without (r ∷ rs) = cond_both (mentioning x r.op) (without x rs) (r ∷ without x rs) (λ l. any_record (creates x) l ≡ false)
+  none_without (r ∷ rs) =
+      cond_both (mentioning x r.op) (without x rs) (r ∷ without x rs) (λ l. any_record (creates x) l ≡ false)
       (λ m. none_without rs)
-      (λ m. (λ i. false_from_ne_true (creates x r.op) (λ c. false≢true (sym m ∙ creates_mentions x r.op c)) i || none_without rs i))
+      (λ m. (λ i. false_from_ne_true (creates x r.op) (λ c. false≢true (sym m ∙ creates_mentions x r.op c)) i
+      || none_without rs i))
 
   -- an operation that takes x from its place and cancels nothing stays
   last_stays : (rs : List Record) (o : Record) → cancels o.op rs ≡ false → unbinds x o.op ≡ true
       → any_record (unbinds x) (add rs o) ≡ true
-  last_stays rs o c u = ap (λ b. any_record (unbinds x) (cond b (without (object (carried o.op)) rs) (appended rs o))) c ∙ any-append (unbinds x) (kept (drops o.op) nothing rs) (hand (debt (drops o.op) nothing rs) o ∷ [])
-      ∙ or_right (any_record (unbinds x) (kept (drops o.op) nothing rs)) _ (or_left (unbinds x (hand (debt (drops o.op) nothing rs) o).op) false (unbinds_with_pre x (λ g p. sid_or (debt (drops o.op) nothing rs g) p) o.op ∙ u))
+  last_stays rs o c u =
+      ap (λ b. any_record (unbinds x) (cond b (without (object (carried o.op)) rs) (appended rs o))) c ∙ any-append
+      (unbinds x) (kept (drops o.op) nothing rs) (hand (debt (drops o.op) nothing rs) o ∷ [])
+      ∙ or_right (any_record (unbinds x) (kept (drops o.op) nothing rs)) _
+      (or_left (unbinds x (hand (debt (drops o.op) nothing rs) o).op) false
+      (unbinds_with_pre x (λ g p. sid_or (debt (drops o.op) nothing rs g) p) o.op ∙ u))
 
   -- an operation that takes x from its place stays, or nothing is left that creates x
   last_unbinds : (rs : List Record) (o : Record) → unbinds x o.op ≡ true
       → (any_record (unbinds x) (add rs o) ≡ true) ⊎ (any_record (creates x) (add rs o) ≡ false)
-  last_unbinds rs o u = cond_both (cancels o.op rs) (without (object (carried o.op)) rs) (appended rs o) (λ l. (any_record (unbinds x) l ≡ true) ⊎ (any_record (creates x) l ≡ false))
-      (λ c. inr (subst (λ y. any_record (creates x) (without y rs) ≡ false) (sym ((cancelled o.op rs c).1 u)) (none_without rs)))
+  last_unbinds rs o u =
+      cond_both (cancels o.op rs) (without (object (carried o.op)) rs) (appended rs o)
+      (λ l. (any_record (unbinds x) l ≡ true) ⊎ (any_record (creates x) l ≡ false))
+      (λ c. inr (subst (λ y. any_record (creates x) (without y rs) ≡ false) (sym ((cancelled o.op rs c).1 u))
+      (none_without rs)))
       (λ c. inl (any-append (unbinds x) (kept (drops o.op) nothing rs) (hand (debt (drops o.op) nothing rs) o ∷ [])
-      ∙ or_right (any_record (unbinds x) (kept (drops o.op) nothing rs)) _ (or_left (unbinds x (hand (debt (drops o.op) nothing rs) o).op) false (unbinds_with_pre x (λ g p. sid_or (debt (drops o.op) nothing rs g) p) o.op ∙ u))))
+      ∙ or_right (any_record (unbinds x) (kept (drops o.op) nothing rs)) _
+      (or_left (unbinds x (hand (debt (drops o.op) nothing rs) o).op) false
+      (unbinds_with_pre x (λ g p. sid_or (debt (drops o.op) nothing rs g) p) o.op ∙ u))))
 
 -- ---- where records are created
 
@@ -186,13 +212,22 @@ module _ (dir : Fid) (name : Name) (x : Fid) where
   pub kept_made : (op : Op) (owed : Debt) (rs : List Record) → AreCreatedAt dir name x rs
       → AreCreatedAt dir name x (kept (drops op) owed rs)
   kept_made op owed [] h = tt
-  kept_made op owed (r ∷ rs) h = cond_both (drops op r.op) (kept (drops op) (owe owed (carried r.op)) rs) (hand owed r ∷ kept (drops op) (paid owed (carried r.op)) rs) (AreCreatedAt dir name x)
+  kept_made op owed (r ∷ rs) h =
+      cond_both (drops op r.op) (kept (drops op) (owe owed (carried r.op)) rs)
+      (hand owed r ∷ kept (drops op) (paid owed (carried r.op)) rs) (AreCreatedAt dir name x)
       (λ d. kept_made op (owe owed (carried r.op)) rs h.1)
-      (λ d. (λ c. made_with_pre dir name (λ g p. sid_or (owed g) p) r.op (h.0 (sym (creates-with_pre (λ g p. sid_or (owed g) p) x r.op) ∙ c)), kept_made op (paid owed (carried r.op)) rs h.1))
+      (λ d. (
+        λ c. made_with_pre dir name (λ g p. sid_or (owed g) p) r.op
+            (h.0 (sym (creates-with_pre (λ g p. sid_or (owed g) p) x r.op) ∙ c)),
+        kept_made op (paid owed (carried r.op)) rs
+            h.1,
+      ))
 
   pub without_made : (y : Fid) (rs : List Record) → AreCreatedAt dir name x rs → AreCreatedAt dir name x (without y rs)
   without_made y [] h = tt
-  without_made y (r ∷ rs) h = cond_both (mentioning y r.op) (without y rs) (r ∷ without y rs) (AreCreatedAt dir name x) (λ m. without_made y rs h.1) (λ m. (h.0, without_made y rs h.1))
+  without_made y (r ∷ rs) h =
+      cond_both (mentioning y r.op) (without y rs) (r ∷ without y rs) (AreCreatedAt dir name x)
+      (λ m. without_made y rs h.1) (λ m. (h.0, without_made y rs h.1))
 
   pub made_joined : (rs os : List Record) → AreCreatedAt dir name x rs → AreCreatedAt dir name x os
       → AreCreatedAt dir name x (rs ++ os)
@@ -210,10 +245,15 @@ module _ (dir : Fid) (name : Name) (x : Fid) where
   -- with one record more, which creates x there, or not at all
   pub made_added : (rs : List Record) (o : Record) → AreCreatedAt dir name x rs
       → (creates x o.op ≡ true → IsCreatedAt dir name o.op) → AreCreatedAt dir name x (add rs o)
-  made_added rs o h at = cond_both (cancels o.op rs) (without (object (carried o.op)) rs) (appended rs o) (AreCreatedAt dir name x)
+  made_added rs o h at =
+      cond_both (cancels o.op rs) (without (object (carried o.op)) rs) (appended rs o) (AreCreatedAt dir name x)
       (λ c. without_made (object (carried o.op)) rs h)
-      (λ c. made_joined (kept (drops o.op) nothing rs) (hand (debt (drops o.op) nothing rs) o ∷ []) (kept_made o.op nothing rs h)
-      (λ k. made_with_pre dir name (λ g p. sid_or (debt (drops o.op) nothing rs g) p) o.op (at (sym (creates-with_pre (λ g p. sid_or (debt (drops o.op) nothing rs g) p) x o.op) ∙ k)), tt))
+      (λ c. made_joined (kept (drops o.op) nothing rs) (hand (debt (drops o.op) nothing rs) o ∷ [])
+      (kept_made o.op nothing rs h) (
+        λ k. made_with_pre dir name (λ g p. sid_or (debt (drops o.op) nothing rs g) p) o.op
+            (at (sym (creates-with_pre (λ g p. sid_or (debt (drops o.op) nothing rs g) p) x o.op) ∙ k)),
+        tt,
+      ))
 
 -- ---- what an operation binds, it creates or moves
 
@@ -225,7 +265,8 @@ bound_facts (Store fid pre content) d n f at = absurd at
 bound_facts (Setattr fid pre attrs) d n f at = absurd at
 bound_facts (Remove dir name fid pre) d n f at = absurd at
 bound_facts (Rmdir dir name fid pre) d n f at = absurd at
-bound_facts (Rename from_dir from to_dir to fid over) d n f at = inr (or_left (same_fid fid f) _ (fid_same fid f (sym at.2)), λ rs. refl)
+bound_facts (Rename from_dir from to_dir to fid over) d n f at =
+    inr (or_left (same_fid fid f) _ (fid_same fid f (sym at.2)), λ rs. refl)
 
 operated : (m : Nodes) (client : ℕ) (rec : Record) (front tail : List Record) → CreatesUnseen m (front ++ tail) rec.op
     → AreWhereCreated m (front ++ tail) → AreWhereCreated (applied m client rec) (front ++ add tail rec)
@@ -242,15 +283,20 @@ operated m client rec front tail unseen placed fid dir name made unmoved bound =
         let never : creates fid rec.op ≡ true → ⊥ = λ c. unseen.unbound fid dir name c old in
         let was : any_record (creates fid) (front ++ tail) ≡ true = any-append (creates fid) front tail ∙ ⊎_elim
         (λ (a : any_record (creates fid) front ≡ true). or_left (any_record (creates fid) front) _ a)
-        (λ (b : any_record (creates fid) (add tail rec) ≡ true). or_right (any_record (creates fid) front) _ (⊎_elim (λ (c : any_record (creates fid) tail ≡ true). c) (λ (c : creates fid rec.op ≡ true). absurd (never c)) (or_cases _ _ (creates_in_add fid tail rec b))))
-        (or_cases (any_record (creates fid) front) (any_record (creates fid) (add tail rec)) (sym (any-append (creates fid) front (add tail rec)) ∙ made)) in
+        (λ (b : any_record (creates fid) (add tail rec) ≡ true). or_right (any_record (creates fid) front) _
+        (⊎_elim (λ (c : any_record (creates fid) tail ≡ true). c)
+        (λ (c : creates fid rec.op ≡ true). absurd (never c)) (or_cases _ _ (creates_in_add fid tail rec b))))
+        (or_cases (any_record (creates fid) front) (any_record (creates fid) (add tail rec))
+        (sym (any-append (creates fid) front (add tail rec)) ∙ made)) in
         let are : AreCreatedAt dir name fid (front ++ tail) = placed fid dir name was (any-append (unbinds fid) front tail ∙ (λ i. apart.0 i || tail_unmoved i)) old in
-        made_joined dir name fid front (add tail rec) (made_front dir name fid front tail are) (made_added dir name fid tail rec (made_back dir name fid front tail are) (λ c. absurd (never c)))
+        made_joined dir name fid front (add tail rec) (made_front dir name fid front tail are)
+        (made_added dir name fid tail rec (made_back dir name fid front tail are) (λ c. absurd (never c)))
 
     now : ((creates fid rec.op ≡ true) × IsCreatedAt dir name rec.op) ⊎ ((unbinds fid rec.op ≡ true) × ((rs : List Record) → cancels rec.op rs ≡ false)) → AreCreatedAt dir name fid (front ++ add tail rec)
     now (inl here) =
         let none = or_parts _ _ (sym (any-append (creates fid) front tail) ∙ unseen.new fid here.0) in
-        made_joined dir name fid front (add tail rec) (none_made dir name fid front none.0) (made_added dir name fid tail rec (none_made dir name fid tail none.1) (λ _. here.1))
+        made_joined dir name fid front (add tail rec) (none_made dir name fid front none.0)
+        (made_added dir name fid tail rec (none_made dir name fid tail none.1) (λ _. here.1))
     now (inr moved) = absurd (false≢true (sym apart.1 ∙ last_stays fid tail rec (moved.1 tail) moved.0))
 
 fetched : (m : Nodes) (fid : Fid) (node : Node) (recs : List Record)
@@ -293,29 +339,37 @@ home_in_place past acc (Remove d n g pre) left home = λ u. left.made g d n (hom
         → any_record (unbinds x) past ≡ false
     unmoved_past past acc x left u =
         let p = undone_parts x acc u in
-        false_from_ne_true _ (λ h. ⊎_elim (λ (a : any_record (unbinds x) acc ≡ true). false≢true (sym (made_unbinds x acc p.1) ∙ a)) (λ (b : any_record (creates x) acc ≡ false). false≢true (sym b ∙ p.0)) (left.moved x h))
+        false_from_ne_true _
+        (λ h. ⊎_elim (λ (a : any_record (unbinds x) acc ≡ true). false≢true (sym (made_unbinds x acc p.1) ∙ a))
+        (λ (b : any_record (creates x) acc ≡ false). false≢true (sym b ∙ p.0)) (left.moved x h))
 home_in_place past acc (Rmdir d n g pre) left home = λ u. left.made g d n (home (unmoved_past past acc g left u))
   where
     unmoved_past : (past acc : List Record) (x : Fid) → AreLeft past acc → is_undone x acc ≡ true
         → any_record (unbinds x) past ≡ false
     unmoved_past past acc x left u =
         let p = undone_parts x acc u in
-        false_from_ne_true _ (λ h. ⊎_elim (λ (a : any_record (unbinds x) acc ≡ true). false≢true (sym (made_unbinds x acc p.1) ∙ a)) (λ (b : any_record (creates x) acc ≡ false). false≢true (sym b ∙ p.0)) (left.moved x h))
+        false_from_ne_true _
+        (λ h. ⊎_elim (λ (a : any_record (unbinds x) acc ≡ true). false≢true (sym (made_unbinds x acc p.1) ∙ a))
+        (λ (b : any_record (creates x) acc ≡ false). false≢true (sym b ∙ p.0)) (left.moved x h))
 
 pub left_on : (past acc : List Record) (rec : Record) → AreLeft past acc → IsFresh rec.op past
     → AreLeft (past ++ rec ∷ []) (add acc rec)
 left_on past acc rec left fresh = record {
-  made = λ x dir name h. made_added dir name x acc rec (left.made x dir name (made_front dir name x past (rec ∷ []) h)) ((made_back dir name x past (rec ∷ []) h).0);
+  made =
+      λ x dir name h. made_added dir name x acc rec (left.made x dir name (made_front dir name x past (rec ∷ []) h))
+      ((made_back dir name x past (rec ∷ []) h).0);
   moved = λ x h. ⊎_elim
       (λ (before : any_record (unbinds x) past ≡ true). ⊎_elim
       (λ (a : any_record (unbinds x) acc ≡ true). inl (unbinds_stay x acc rec a))
       (λ (b : any_record (creates x) acc ≡ false). inr (false_from_ne_true _ (λ c. ⊎_elim
       (λ (d : any_record (creates x) acc ≡ true). false≢true (sym b ∙ d))
-      (λ (d : creates x rec.op ≡ true). false≢true (sym (fresh x d) ∙ any_weaker (unbinds x) (mentioning x) (λ o e. unbinds_mentions o x e) past before))
+      (λ (d : creates x rec.op ≡ true). false≢true
+      (sym (fresh x d) ∙ any_weaker (unbinds x) (mentioning x) (λ o e. unbinds_mentions o x e) past before))
       (or_cases _ _ (creates_in_add x acc rec c)))))
       (left.moved x before))
       (λ (last : (unbinds x rec.op || false) ≡ true). last_unbinds x acc rec (either_left (unbinds x rec.op) last))
-      (or_cases (any_record (unbinds x) past) (unbinds x rec.op || false) (sym (any-append (unbinds x) past (rec ∷ [])) ∙ h));
+      (or_cases (any_record (unbinds x) past) (unbinds x rec.op || false)
+      (sym (any-append (unbinds x) past (rec ∷ [])) ∙ h));
 }
   where
     either_left : (b : Bool) → (b || false) ≡ true → b ≡ true
@@ -325,11 +379,19 @@ left_on past acc rec left fresh = record {
 homes_in_place : (past acc run : List Record) → AreLeft past acc → AllRemoveUnmoved past run → AllCreateFresh past run
     → AllRemoveInPlace acc run
 homes_in_place past acc [] left home fresh = tt
-homes_in_place past acc (rec ∷ run) left home fresh = (home_in_place past acc rec.op left home.0, homes_in_place (past ++ rec ∷ []) (add acc rec) run (left_on past acc rec left fresh.0) home.1 fresh.1)
+homes_in_place past acc (rec ∷ run) left home fresh = (
+  home_in_place past acc rec.op left home.0,
+  homes_in_place (past ++ rec ∷ []) (add acc rec) run
+      (left_on past acc rec left fresh.0) home.1 fresh.1,
+)
 
 pub fresh_behind : (past front run : List Record) → AllCreateFresh past (front ++ run) → AllCreateFresh (past ++ front) run
 fresh_behind past [] run h = subst (λ l. AllCreateFresh l run) (sym (append-nil past)) h
-fresh_behind past (rec ∷ front) run h = subst (λ l. AllCreateFresh l run) (append_assoc past (rec ∷ []) front) (fresh_behind (past ++ rec ∷ []) front run h.1)
+fresh_behind past (rec ∷ front) run h =
+    subst (λ l. AllCreateFresh l run) (append_assoc past (rec ∷ []) front)
+    (fresh_behind (past ++ rec ∷ []) front run h.1)
 
 pub homes_are : UnmovedRemovalsAreInPlace
-homes_are chunk tail home fresh = homes_in_place chunk chunk tail (record { made = λ x dir name h. h; moved = λ x h. inl h }) home (fresh_behind [] chunk tail fresh)
+homes_are chunk tail home fresh =
+    homes_in_place chunk chunk tail (record { made = λ x dir name h. h; moved = λ x h. inl h }) home
+    (fresh_behind [] chunk tail fresh)

@@ -57,8 +57,10 @@ one_created f (Rename from_dir from to_dir to fid over) h = absurd (false≢true
 pub later : (count : ℕ) (recs : List Record) (f : Fid) (rec : Record) → AreCreationsCounted count recs → In rec recs
     → creates f rec.op ≡ true → count < f.uniq
 later count [] f rec are i h = absurd i
-later count (x ∷ recs) f rec are (inl same) h = (let at = are.0 f (ap (λ (r : Record). creates f r.op) (sym same) ∙ h) in omega (arith, at))
-later count (x ∷ recs) f rec are (inr i) h = (let more = later (count + created_by x.op) recs f rec are.1 i h in omega (arith, more))
+later count (x ∷ recs) f rec are (inl same) h =
+    (let at = are.0 f (ap (λ (r : Record). creates f r.op) (sym same) ∙ h) in omega (arith, at))
+later count (x ∷ recs) f rec are (inr i) h =
+    (let more = later (count + created_by x.op) recs f rec are.1 i h in omega (arith, more))
 
 pub once : (count : ℕ) (recs : List Record) (f : Fid) (a b : Record) → AreCreationsCounted count recs → In a recs
     → In b recs → creates f a.op ≡ true → creates f b.op ≡ true → a ≡ b
@@ -105,7 +107,8 @@ upto_by n rec (x ∷ recs) i = elim (cases_Bool (nat_le x.number n)) [
 
 -- all up to there is done with, or the chunk is frozen
 abbrev IsBehind : ℕ → ℕ → Course → Type 0
-IsBehind number last course = (last ≤ course.done) ⊎ ((cut : Cut) × (course.cut ≡ Some cut) × (cut.last ≡ last) × (course.chunks ≡ number))
+IsBehind number last course =
+    (last ≤ course.done) ⊎ ((cut : Cut) × (course.cut ≡ Some cut) × (cut.last ≡ last) × (course.chunks ≡ number))
 
 end_more : (o : Option Cut) (done last : ℕ) → last ≤ done → ((cut : Cut) → o ≡ Some cut → done ≤ cut.last)
     → last ≤ end_of o done
@@ -119,18 +122,24 @@ step number last deeds (Operated rec) rest law may none (inl h) = inl h
 step number last deeds (Operated rec) rest law may none (inr c) = inr (c.0, c.1, c.2, c.3)
 step number last deeds (Froze n home l) rest law may none (inl h) = inl h
 step number last deeds (Froze n home l) rest law may none (inr c) = absurd (none-some c.0 (sym may.thawed ∙ c.1))
-step number last deeds (Settled n Applied) rest law may none (inl h) = inl (end_more (course_of deeds).cut (course_of deeds).done last h (λ cut e. ((orderly deeds law).1.front cut e).pending))
-step number last deeds (Settled n Applied) rest law may none (inr c) = inl (subst (λ o. last ≤ end_of o (course_of deeds).done) (sym c.1) (let same = c.2 in omega (arith, same)))
+step number last deeds (Settled n Applied) rest law may none (inl h) =
+    inl (end_more (course_of deeds).cut (course_of deeds).done last h
+    (λ cut e. ((orderly deeds law).1.front cut e).pending))
+step number last deeds (Settled n Applied) rest law may none (inr c) =
+    inl (subst (λ o. last ≤ end_of o (course_of deeds).done) (sym c.1) (let same = c.2 in omega (arith, same)))
 step number last deeds (Settled n (Conflict refused why)) rest law may none (inl h) = inl h
 step number last deeds (Settled n (Conflict refused why)) rest law may none (inr c) = absurd (none.0 (may.last ∙ c.3))
-step number last deeds Gaveup rest law may none (inl h) = (let most = (orderly deeds law).1.done in inl (omega (arith, h, most)))
+step number last deeds Gaveup rest law may none (inl h) =
+    (let most = (orderly deeds law).1.done in inl (omega (arith, h, most)))
 step number last deeds Gaveup rest law may none (inr c) = absurd (none-some c.0 (sym may ∙ c.1))
 
 -- the deeds of a list whose entries may follow each other
 front_law : (may : List Deed → Deed → Type 0) (past es : List Deed) (e : Deed) (more : List Deed)
     → DoFollow may past (es ++ e ∷ more) → DoFollow may past es × may (past ++ es) e
 front_law may past [] e more f = (tt, subst (λ l. may l e) (sym (append-nil past)) f.0)
-front_law may past (x ∷ es) e more f = (let r = front_law may (past ++ x ∷ []) es e more f.1 in ((f.0, r.0), subst (λ l. may l e) (append_assoc past (x ∷ []) es) r.1))
+front_law may past (x ∷ es) e more f =
+    (let r = front_law may (past ++ x ∷ []) es e more f.1 in
+    ((f.0, r.0), subst (λ l. may l e) (append_assoc past (x ∷ []) es) r.1))
 
 met_rest : (number : ℕ) (deed : Deed) (rest : List Deed) → MetNoConflict number (deed ∷ rest)
     → MetNoConflict number rest
@@ -168,7 +177,8 @@ same_cut a b e = cc
 back_above : (number last : ℕ) (course : Course) (full : List Record) (rec : Record) (o : Option Cut) → course.cut ≡ o
     → IsBehind number last course → In rec (back_by o (records_above course.done full))
     → (last < rec.number) × In rec full
-back_above number last course full rec None e (inl h) i = (let up = above_by course.done rec full i in (omega (arith, h, up), in_above course.done rec full i))
+back_above number last course full rec None e (inl h) i =
+    (let up = above_by course.done rec full i in (omega (arith, h, up), in_above course.done rec full i))
 back_above number last course full rec None e (inr c) i = absurd (none-some c.0 (sym e ∙ c.1))
 back_above number last course full rec (Some cut) e (inl h) i =
     let j = in_above cut.last rec (records_above course.done full) i in

@@ -74,7 +74,9 @@ module _ (root : Fid) (servers : List ℕ) (server client : ℕ) (at : IsIn serv
   pub stands_by : (recs : List Record) (holds : ℕ → Objects) (made : Fid → Bool) (m : Nodes)
       → IsStanding root servers (record { holds = holds; made = made })
       → Applies client (nodes_in (holds server)) recs m → AreNew made recs
-      → (final : ℕ → Objects) → ((s : ℕ) → s ≢ server → final s ≡ holds s) → final server ≡ left_by (held_by server client) (holds server) recs → IsStanding root servers (record { holds = final; made = made_more made recs })
+      → (final : ℕ → Objects) → ((s : ℕ) → s ≢ server → final s ≡ holds s) → final server ≡ left_by
+      (held_by server client) (holds server) recs → IsStanding root servers
+      (record { holds = final; made = made_more made recs })
   stands_by [] holds made m reach a new final others here =
       let same : (s : ℕ) → holds s ≡ final s = λ s. elim (cases_eq s server) [
         | inl e ↦ ap holds e ∙ sym here ∙ ap final (sym e)
@@ -89,21 +91,35 @@ module _ (root : Fid) (servers : List ℕ) (server client : ℕ) (at : IsIn serv
       let after : Group = record { holds = mid; made = λ f. made f || is_at_fid (makes rec.op) f } in
       let here_mid : mid server ≡ x = put_here holds server x in
       let step : IsDecided server client rec before after = record {
-        decides = subst (λ o. IsDecision server client rec (holds server) o) (sym here_mid) (is_decision server client (holds server) rec a.0);
+        decides =
+            subst (λ o. IsDecision server client rec (holds server) o) (sym here_mid)
+            (is_decision server client (holds server) rec a.0);
         others = λ s ne. put_else holds server x s ne;
         new = new.0;
         made = λ f. refl;
       } in
-      stands_by recs mid (λ f. made f || is_at_fid (makes rec.op) f) m (decided_stands root servers before reach server client rec at after step)
-      (subst (λ o. Applies client (nodes_in o) recs m) (sym here_mid) (subst (λ n. Applies client n recs m) (sym (nodes_held_by server client (holds server) rec)) a.1))
-      new.1 final (λ s ne. others s ne ∙ sym (put_else holds server x s ne)) (here ∙ ap (λ o. left_by (held_by server client) o recs) (sym here_mid))
+      stands_by recs mid (λ f. made f || is_at_fid (makes rec.op) f) m
+      (decided_stands root servers before reach server client rec at after step)
+      (subst (λ o. Applies client (nodes_in o) recs m) (sym here_mid)
+      (subst (λ n. Applies client n recs m) (sym (nodes_held_by server client (holds server) rec)) a.1))
+      new.1 final (λ s ne. others s ne ∙ sym (put_else holds server x s ne))
+      (here ∙ ap (λ o. left_by (held_by server client) o recs) (sym here_mid))
 
 -- ---- histories
 
 pub created_stays : (h h' : Histories) (volume : ℕ) (f : Fid)
     → ((s : ℕ) (d : Decision) → Decides h s volume d → Decides h' s volume d) → IsCreatedByChunk h volume f
     → IsCreatedByChunk h' volume f
-created_stays h h' volume f more it = record { server = it.server; by = it.by; there = more it.server it.by it.there; applied = it.applied; rec = it.rec; in_span = it.in_span; creates_it = it.creates_it }
+created_stays h h' volume f more it =
+    record {
+      server = it.server;
+      by = it.by;
+      there = more it.server it.by it.there;
+      applied = it.applied;
+      rec = it.rec;
+      in_span = it.in_span;
+      creates_it = it.creates_it;
+    }
 
 -- replicas that hold the same are the same group
 pub group_same : (servers : List ℕ) (h h' : Histories) (volume : ℕ)
@@ -124,8 +140,10 @@ group_same servers h h' volume same more g = record {
 }
 
 module _ (servers : List ℕ) (h h' : Histories) (volume server client number : ℕ) (span : List Record) (g : IsOneGroup h servers volume) (at : IsIn server servers) (law : AreDecisions volume (h.replicas server volume))
-    (grown : h'.replicas server volume ≡ h.replicas server volume ++ Decided client number span ∷ []) (others : (s : ℕ) → s ≢ server → h'.replicas s volume ≡ h.replicas s volume)
-    (new : (made : Fid → Bool) → ((f : Fid) → made f ≡ true → (f ≡ root_of volume) ⊎ IsCreatedByChunk h volume f) → AreNew made (sent_of span)) where
+    (grown : h'.replicas server volume ≡ h.replicas server volume ++ Decided client number span ∷ [])
+    (others : (s : ℕ) → s ≢ server → h'.replicas s volume ≡ h.replicas s volume)
+    (new : (made : Fid → Bool) → ((f : Fid) → made f ≡ true → (f ≡ root_of volume) ⊎ IsCreatedByChunk h volume f)
+    → AreNew made (sent_of span)) where
   abbrev objs : Objects
   objs = holdings h volume server
 
@@ -138,13 +156,16 @@ module _ (servers : List ℕ) (h h' : Histories) (volume server client number : 
   decides_more : (s : ℕ) (d : Decision) → Decides h s volume d → Decides h' s volume d
   decides_more s d i = elim (cases_eq s server) [
     | inl e ↦ subst (λ n. In d (decisions_of volume (h'.replicas n volume))) (sym e) (subst (λ es. In d (decisions_of volume es)) (sym grown)
-        (told_more (decision_at volume) (h.replicas server volume) (Decided client number span) d (subst (λ n. In d (decisions_of volume (h.replicas n volume))) e i)))
+        (told_more (decision_at volume) (h.replicas server volume) (Decided client number span) d
+        (subst (λ n. In d (decisions_of volume (h.replicas n volume))) e i)))
     | inr ne ↦ subst (λ es. In d (decisions_of volume es)) (sym (others s ne)) i
   ]
 
   holds_then : (r : Replayed) → decision (nodes_in objs) client span ≡ r
       → holdings h' volume server ≡ objects_left server client (sent_of span) objs r
-  holds_then r e = ap (replica_objects server volume) grown ∙ objects_push server volume (h.replicas server volume) (Decided client number span) ∙ ap (objects_left server client (sent_of span) objs) e
+  holds_then r e =
+      ap (replica_objects server volume) grown ∙ objects_push server volume (h.replicas server volume)
+      (Decided client number span) ∙ ap (objects_left server client (sent_of span) objs) e
 
   holds_else : (s : ℕ) → s ≢ server → holdings h' volume s ≡ holdings h volume s
   holds_else s ne = ap (replica_objects s volume) (others s ne)
@@ -153,15 +174,19 @@ module _ (servers : List ℕ) (h h' : Histories) (volume server client number : 
   it = record { client = client; number = number; span = span; before = nodes_of volume (h.replicas server volume) }
 
   it_there : Decides h' server volume it
-  it_there = subst (λ es. In it (decisions_of volume es)) (sym grown) (told_new (decision_at volume) (h.replicas server volume) (Decided client number span) it (inl refl))
+  it_there =
+      subst (λ es. In it (decisions_of volume es)) (sym grown)
+      (told_new (decision_at volume) (h.replicas server volume) (Decided client number span) it (inl refl))
 
   by_result : (r : Replayed) → decision (nodes_in objs) client span ≡ r → IsOneGroup h' servers volume
   by_result (Ok m) e =
       let made = made_in h servers volume in
       let first = known h servers volume g in
       one_group h' servers volume (made_more made (sent_of span))
-      (stands_by (root_of volume) servers server client at (sent_of span) (holdings h volume) made m (stands h servers volume g)
-      (applies_from_replay client (nodes_in objs) m (sent_of span) (sym (sent_decides (root_of volume) (nodes_in objs) client span is_volume) ∙ e))
+      (stands_by (root_of volume) servers server client at (sent_of span) (holdings h volume) made m
+      (stands h servers volume g)
+      (applies_from_replay client (nodes_in objs) m (sent_of span)
+      (sym (sent_decides (root_of volume) (nodes_in objs) client span is_volume) ∙ e))
       (new made first) (holdings h' volume) holds_else (holds_then (Ok m) e))
       (λ f is. elim (made_before made (sent_of span) f is) [
         | inl old ↦ elim (first f old) [ inl root ↦ inl root | inr created ↦ inr (created_stays h h' volume f decides_more created) ]

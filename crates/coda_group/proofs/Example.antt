@@ -68,7 +68,8 @@ module _ (root : Fid) (a b : Objects) (bare_a : IsBare root a) (bare_b : IsBare 
 
   taken_root : (f : Fid) → IsTakenUp both root f → f ≡ root
   taken_root f (at_root g is) = is
-  taken_root f (below d n g held same bound up) = absurd (go (fate_bound (copies_at both d) (copies_at both) held n g same bound))
+  taken_root f (below d n g held same bound up) =
+      absurd (go (fate_bound (copies_at both d) (copies_at both) held n g same bound))
     where
       go : SomeOf (Binds n g) (copies_at both d) → ⊥
       go (inl e) = some_none g (sym e ∙ bare_a.none d n)
@@ -114,14 +115,19 @@ abbrev did : Deed → GroupStep
 did deed = Moves (Does (AtClient 1 (Did 7 deed)))
 
 abbrev decided : PlainCell
-decided = after_step (after_step (after_step (after_step empty_cell (did (Operated creation))) (did (Operated removal))) (did (Froze 1 1 2))) (move_of (Decided 1 1 (creation ∷ removal ∷ [])) 1)
+decided =
+    after_step (after_step (after_step (after_step empty_cell (did (Operated creation))) (did (Operated removal)))
+    (did (Froze 1 1 2))) (move_of (Decided 1 1 (creation ∷ removal ∷ [])) 1)
 
 unchanged : (server client : ℕ) (o : Objects) (r : Replayed) → objects_left server client [] o r ≡ o
 unchanged server client o (Ok m) = refl
 unchanged server client o (Err why) = refl
 
 one_bare : IsBare (root_of 7) (objects_at decided 7 1)
-one_bare = subst (IsBare (root_of 7)) (sym (unchanged 1 1 (new_objects 7) (decision (nodes_in (new_objects 7)) 1 (creation ∷ removal ∷ [])))) (bare_new 7)
+one_bare =
+    subst (IsBare (root_of 7))
+    (sym (unchanged 1 1 (new_objects 7) (decision (nodes_in (new_objects 7)) 1 (creation ∷ removal ∷ []))))
+    (bare_new 7)
 
 two_bare : IsBare (root_of 7) (objects_at decided 7 2)
 two_bare = bare_new 7
@@ -130,10 +136,20 @@ abbrev lasts : ℕ → Last
 lasts client = last_at decided 7 1 client
 
 abbrev install_one : Install
-install_one = record { server = 1; objects = left_there (root_of 7) (objects_at decided 7 1) (objects_at decided 7 2) one_bare two_bare (objects_at decided 7 1) one_bare }
+install_one =
+    record {
+      server = 1;
+      objects = left_there (root_of 7) (objects_at decided 7 1) (objects_at decided 7 2) one_bare
+          two_bare (objects_at decided 7 1) one_bare;
+    }
 
 abbrev install_two : Install
-install_two = record { server = 2; objects = left_there (root_of 7) (objects_at decided 7 1) (objects_at decided 7 2) one_bare two_bare (objects_at decided 7 2) two_bare }
+install_two =
+    record {
+      server = 2;
+      objects = left_there (root_of 7) (objects_at decided 7 1) (objects_at decided 7 2) one_bare
+          two_bare (objects_at decided 7 2) two_bare;
+    }
 
 abbrev resolution : GroupStep
 resolution = Resolves 7 (1 ∷ 2 ∷ []) lasts (install_one ∷ install_two ∷ []) None
@@ -144,7 +160,12 @@ resolved = after_step decided resolution
 named_file : (f : Fid) → same_fid file f ≡ true → IsObjectNumbered 7 1 1 f
 named_file f e =
     let is = fid_true file f e in
-    record { here = ap (λ (g : Fid). g.volume) (sym is); own = ap (λ (g : Fid). g.vnode) (sym is); some = (λ z. omega (arith, z)); number_is = ap (λ (g : Fid). g.uniq) (sym is) }
+    record {
+      here = ap (λ (g : Fid). g.volume) (sym is);
+      own = ap (λ (g : Fid). g.vnode) (sym is);
+      some = (λ z. omega (arith, z));
+      number_is = ap (λ (g : Fid). g.uniq) (sym is);
+    }
 
 may_resolve : MayResolve two_servers decided 7 (1 ∷ 2 ∷ []) lasts (install_one ∷ install_two ∷ []) None
 may_resolve = record {
@@ -152,8 +173,21 @@ may_resolve = record {
   up = up;
   joined = record { from = λ client. (1, (inl refl, refl)); greatest = greatest };
   installed = (
-    record { among = inl refl; untouched = refl; left = installed (root_of 7) (objects_at decided 7 1) (objects_at decided 7 2) one_bare two_bare (objects_at decided 7 1) one_bare },
-    (record { among = inr (inl refl); untouched = refl; left = installed (root_of 7) (objects_at decided 7 1) (objects_at decided 7 2) one_bare two_bare (objects_at decided 7 2) two_bare }, tt),
+    record {
+      among = inl refl;
+      untouched = refl;
+      left = installed (root_of 7) (objects_at decided 7 1) (objects_at decided 7 2) one_bare two_bare
+          (objects_at decided 7 1) one_bare;
+    },
+    (
+      record {
+        among = inr (inl refl);
+        untouched = refl;
+        left = installed (root_of 7) (objects_at decided 7 1) (objects_at decided 7 2) one_bare two_bare
+            (objects_at decided 7 2) two_bare;
+      },
+      tt,
+    ),
   );
 }
   where
@@ -164,7 +198,8 @@ may_resolve = record {
 
     greatest : (client s : ℕ) → IsIn s (1 ∷ 2 ∷ []) → (last_at decided 7 s client).number ≤ (lasts client).number
     greatest client s (inl e) = subst (λ n. (last_at decided 7 n client).number ≤ (lasts client).number) e (omega arith)
-    greatest client s (inr (inl e)) = subst (λ n. (last_at decided 7 n client).number ≤ (lasts client).number) e (omega arith)
+    greatest client s (inr (inl e)) =
+        subst (λ n. (last_at decided 7 n client).number ≤ (lasts client).number) e (omega arith)
     greatest client s (inr (inr none)) = absurd none
 
 abbrev other_file : Fid
@@ -208,13 +243,23 @@ next_at : (file : Fid) (name : Name) (deeds : List Deed) → file.volume ≡ 7 �
     → IsNext 7 deeds 1 (Create (root_of 7) name file 420 0) f
 next_at file name deeds volume own number f e =
     let is = sym (fid_true file f e) in
-    record { creates_it = e; here = ap (λ (g : Fid). g.volume) is ∙ volume; own = ap (λ (g : Fid). g.vnode) is ∙ own; next = ap (λ (g : Fid). g.uniq) is ∙ number }
+    record {
+      creates_it = e;
+      here = ap (λ (g : Fid). g.volume) is ∙ volume;
+      own = ap (λ (g : Fid). g.vnode) is ∙ own;
+      next = ap (λ (g : Fid). g.uniq) is ∙ number;
+    }
 
 numbered_at : (file f : Fid) (n : ℕ) → file.volume ≡ 7 → file.vnode ≡ 1 → file.uniq ≡ n → same_fid file f ≡ true
     → IsObjectNumbered 7 1 n f
 numbered_at file f n volume own number e =
     let is = sym (fid_true file f e) in
-    record { here = ap (λ (g : Fid). g.volume) is ∙ volume; own = ap (λ (g : Fid). g.vnode) is ∙ own; some = (λ z. omega (arith, z)); number_is = ap (λ (g : Fid). g.uniq) is ∙ number }
+    record {
+      here = ap (λ (g : Fid). g.volume) is ∙ volume;
+      own = ap (λ (g : Fid). g.vnode) is ∙ own;
+      some = (λ z. omega (arith, z));
+      number_is = ap (λ (g : Fid). g.uniq) is ∙ number;
+    }
 
 abbrev created : PlainCell
 created = after_step empty_cell (did (Operated creation))
@@ -234,7 +279,8 @@ first_steps = (
     (
       record { next = refl; fresh = λ f c. refl; empty = tt },
       record {
-        known = λ f m. mentioned file f (IsNext 7 (done_on empty_cell 1 7) 1 creation.op f ⊎ IsMade 7 (done_on empty_cell f.vnode 7) f) m (λ e. inr (root_made empty_cell f e)) (λ e. inl (next_at file (97 ∷ []) [] refl refl refl f e));
+        known = λ f m. mentioned file f (IsNext 7 (done_on empty_cell 1 7) 1 creation.op f ⊎ IsMade 7 (done_on empty_cell f.vnode 7) f) m
+            (λ e. inr (root_made empty_cell f e)) (λ e. inl (next_at file (97 ∷ []) [] refl refl refl f e));
         next = λ f e. next_at file (97 ∷ []) [] refl refl refl f e;
       },
     ),
@@ -243,19 +289,45 @@ first_steps = (
 )
 
 second_step : MayStep two_servers created (did (Operated removal))
-second_step = ((refl, (record { next = refl; fresh = λ f c. absurd (false≢true c); empty = λ child e. absurd (false≢true e) }, removal_named)), λ f e. absurd (false≢true e))
+second_step = (
+  (
+    refl,
+    (
+      record { next = refl; fresh = λ f c. absurd (false≢true c); empty = λ child e. absurd (false≢true e) },
+      removal_named,
+    ),
+  ),
+  λ f e. absurd (false≢true e),
+)
 
 abbrev removed : PlainCell
 removed = after_step created (did (Operated removal))
 
 third_step : MayStep two_servers removed (did (Froze 1 1 2))
-third_step = ((refl, (record { thawed = refl; next = refl; pending = omega arith; there = omega arith; ends = refl }, tt)), tt)
+third_step =
+    ((refl, (record { thawed = refl; next = refl; pending = omega arith; there = omega arith; ends = refl }, tt)), tt)
 
 abbrev first_frozen : PlainCell
 first_frozen = after_step removed (did (Froze 1 1 2))
 
 fourth_step : MayStep two_servers first_frozen (move_of (Decided 1 1 (creation ∷ removal ∷ [])) 1)
-fourth_step = ((refl, refl, (inr (record { up = refl; cut = record { home = 1; last = 2 }; frozen = refl; home = refl; last = refl }), refl)), inl refl)
+fourth_step = (
+  (
+    refl,
+    refl,
+    (
+      inr (record {
+        up = refl;
+        cut = record { home = 1; last = 2 };
+        frozen = refl;
+        home = refl;
+        last = refl;
+      }),
+      refl,
+    ),
+  ),
+  inl refl,
+)
 
 -- ---- behind the resolution
 
@@ -265,7 +337,16 @@ kept_at_two = refl
 
 settle_step : (v : Verdict) → last_at resolved 7 2 1 ≡ record { number = 1; verdict = v }
     → MayStep two_servers resolved (did (Settled 1 v))
-settle_step v e = ((refl, (record { cut = record { home = 1; last = 2 }; frozen = refl; last = refl }, (2, inr (record { up = refl; some = omega arith; last = e })))), tt)
+settle_step v e = (
+  (
+    refl,
+    (
+      record { cut = record { home = 1; last = 2 }; frozen = refl; last = refl },
+      (2, inr (record { up = refl; some = omega arith; last = e })),
+    ),
+  ),
+  tt,
+)
 
 third_named : (cell : PlainCell) → other_file.uniq ≡ created_in (full_of (done_on cell 1 7)) + 1
     → AreNamed cell 1 7 third.op
@@ -276,27 +357,88 @@ third_named cell number = record {
 }
 
 fresh_third : (f : Fid) → same_fid other_file f ≡ true → any_record (mentioning f) (creation ∷ removal ∷ []) ≡ false
-fresh_third f e = subst (λ g. any_record (mentioning g) (creation ∷ removal ∷ []) ≡ false) (fid_true other_file f e) refl
+fresh_third f e =
+    subst (λ g. any_record (mentioning g) (creation ∷ removal ∷ []) ≡ false) (fid_true other_file f e) refl
 
 operate_step : (v : Verdict) → MayStep two_servers (settled v) (did (Operated third))
-operate_step Applied = ((refl, (record { next = refl; fresh = λ f c. refl; empty = tt }, third_named (settled Applied) refl)), λ f e. numbered_at other_file f 2 refl refl refl e)
-operate_step (Conflict number why) = ((refl, (record { next = refl; fresh = fresh_third; empty = tt }, third_named (settled (Conflict number why)) refl)), λ f e. numbered_at other_file f 2 refl refl refl e)
+operate_step Applied = (
+  (refl, (record { next = refl; fresh = λ f c. refl; empty = tt }, third_named (settled Applied) refl)),
+  λ f e.
+      numbered_at other_file f 2 refl refl refl e,
+)
+operate_step (Conflict number why) = (
+  (
+    refl,
+    (
+      record { next = refl; fresh = fresh_third; empty = tt },
+      third_named (settled (Conflict number why))
+          refl,
+    ),
+  ),
+  λ f e. numbered_at other_file f 2 refl refl refl e,
+)
 
 freeze_step : (v : Verdict) → MayStep two_servers (operated v) (did (Froze 2 2 3))
-freeze_step Applied = ((refl, (record { thawed = refl; next = refl; pending = omega arith; there = omega arith; ends = refl }, tt)), tt)
-freeze_step (Conflict number why) = ((refl, (record { thawed = refl; next = refl; pending = omega arith; there = omega arith; ends = refl }, tt)), tt)
+freeze_step Applied =
+    ((refl, (record { thawed = refl; next = refl; pending = omega arith; there = omega arith; ends = refl }, tt)), tt)
+freeze_step (Conflict number why) =
+    ((refl, (record { thawed = refl; next = refl; pending = omega arith; there = omega arith; ends = refl }, tt)), tt)
 
 decide_step : (v : Verdict) → MayStep two_servers (frozen v) (move_of (Decided 1 2 (span_by v)) 2)
-decide_step Applied = ((refl, refl, (inr (record { up = refl; cut = record { home = 2; last = 3 }; frozen = refl; home = refl; last = refl }), refl)), inr (inl refl))
-decide_step (Conflict number why) = ((refl, refl, (inr (record { up = refl; cut = record { home = 2; last = 3 }; frozen = refl; home = refl; last = refl }), refl)), inr (inl refl))
+decide_step Applied = (
+  (
+    refl,
+    refl,
+    (
+      inr (record {
+        up = refl;
+        cut = record { home = 2; last = 3 };
+        frozen = refl;
+        home = refl;
+        last = refl;
+      }),
+      refl,
+    ),
+  ),
+  inr (inl refl),
+)
+decide_step (Conflict number why) = (
+  (
+    refl,
+    refl,
+    (
+      inr (record {
+        up = refl;
+        cut = record { home = 2; last = 3 };
+        frozen = refl;
+        home = refl;
+        last = refl;
+      }),
+      refl,
+    ),
+  ),
+  inr (inl refl),
+)
 
 steps_by : Verdict → List GroupStep
-steps_by v = did (Operated creation) ∷ did (Operated removal) ∷ did (Froze 1 1 2) ∷ move_of (Decided 1 1 (creation ∷ removal ∷ [])) 1 ∷ resolution ∷ did (Settled 1 v) ∷ did (Operated third) ∷ did (Froze 2 2 3) ∷ move_of (Decided 1 2 (span_by v)) 2 ∷ []
+steps_by v =
+    did (Operated creation) ∷ did (Operated removal) ∷ did (Froze 1 1 2) ∷ move_of
+    (Decided 1 1 (creation ∷ removal ∷ [])) 1 ∷ resolution ∷ did (Settled 1 v) ∷ did (Operated third) ∷ did
+    (Froze 2 2 3) ∷ move_of (Decided 1 2 (span_by v)) 2 ∷ []
 
 runs_by : (v : Verdict) → last_at resolved 7 2 1 ≡ record { number = 1; verdict = v }
     → GroupStepped two_servers empty_cell (steps_by v) (final v)
 unfolding steps_by
-runs_by v e = (first_steps, (second_step, (third_step, (fourth_step, (may_resolve, (settle_step v e, (operate_step v, (freeze_step v, (decide_step v, refl)))))))))
+runs_by v e = (
+  first_steps,
+  (
+    second_step,
+    (
+      third_step,
+      (fourth_step, (may_resolve, (settle_step v e, (operate_step v, (freeze_step v, (decide_step v, refl)))))),
+    ),
+  ),
+)
 
 pub some_chunk_is_taken_over : SomeChunkIsTakenOver
 some_chunk_is_taken_over =

@@ -30,12 +30,16 @@ module _ (start : PlainCell) (start_sound : IsSound start) (volume : ℕ) (some 
     (ups : (s : ℕ) → IsIn s some → (start.replicas s volume).up ≡ true)
     (left_volume : (s : ℕ) (o : Objects) → IsIn s some → Left s o → IsVolume (root_of volume) (nodes_in o))
     (left_last : (s client : ℕ) → IsIn s some → (last_at start volume s client).number ≤ (lasts s client).number)
-    (left_from : (s client : ℕ) → IsIn s some → (t : ℕ) × (IsIn t some × ((lasts s client ≡ last_at start volume t client) × (lasts s client ≡ lasts t client))))
-    (left_held : (s : ℕ) (o : Objects) (f : Fid) → IsIn s some → Left s o → has_in o f ≡ true → (t : ℕ) × (IsIn t some × ((has_in (objects_at start volume t) f ≡ true) × ((p : Objects) → Left t p → has_in p f ≡ true)))) where
+    (left_from : (s client : ℕ) → IsIn s some → (t : ℕ)
+    × (IsIn t some × ((lasts s client ≡ last_at start volume t client) × (lasts s client ≡ lasts t client))))
+    (left_held : (s : ℕ) (o : Objects) (f : Fid) → IsIn s some → Left s o → has_in o f ≡ true → (t : ℕ)
+    × (IsIn t some × ((has_in (objects_at start volume t) f ≡ true)
+    × ((p : Objects) → Left t p → has_in p f ≡ true)))) where
   -- of a replica that is up its history is found
   pub start_found : (joins : Joins) (s : ℕ) → IsIn s some
       → (found_in start joins).replicas s volume ≡ history_at start volume s
-  start_found joins s i = found_up (joins.replicas s volume) (start.replicas s volume) (start_sound.replicas_up s volume (ups s i))
+  start_found joins s i =
+      found_up (joins.replicas s volume) (start.replicas s volume) (start_sound.replicas_up s volume (ups s i))
 
   -- what was left at a replica
   pub record IsPut (before behind : List ReplicaEntry) (s : ℕ) : Type 0 where
@@ -54,7 +58,14 @@ module _ (start : PlainCell) (start_sound : IsSound start) (volume : ℕ) (some 
     pub each : (joins : Joins) (s : ℕ) → ((found_in cell joins).replicas s volume ≡ (found_in start joins).replicas s volume) ⊎ IsPut ((found_in start joins).replicas s volume) ((found_in cell joins).replicas s volume) s
 
   pub at_start : IsBehind start
-  at_start = record { clients = refl; learned = refl; pool = refl; elsewhere = λ joins s v ne. refl; each = λ joins s. inl refl }
+  at_start =
+      record {
+        clients = refl;
+        learned = refl;
+        pool = refl;
+        elsewhere = λ joins s v ne. refl;
+        each = λ joins s. inl refl;
+      }
 
   module _ (cell : PlainCell) (b : IsBehind cell) (sound : IsSound cell) (up : (s : ℕ) → IsIn s some → (cell.replicas s volume).up ≡ true) (install : Install) (may : MayInstall Left start cell volume some install) where
     abbrev entry : ReplicaEntry
@@ -62,11 +73,13 @@ module _ (start : PlainCell) (start_sound : IsSound start) (volume : ℕ) (some 
 
     cell_found : (joins : Joins) (s : ℕ) → IsIn s some
         → (found_in cell joins).replicas s volume ≡ history_at cell volume s
-    cell_found joins s i = found_up (joins.replicas s volume) (cell.replicas s volume) (sound.replicas_up s volume (up s i))
+    cell_found joins s i =
+        found_up (joins.replicas s volume) (cell.replicas s volume) (sound.replicas_up s volume (up s i))
 
     untouched : (joins : Joins)
         → (found_in cell joins).replicas install.server volume ≡ (found_in start joins).replicas install.server volume
-    untouched joins = cell_found joins install.server may.among ∙ may.untouched ∙ sym (start_found joins install.server may.among)
+    untouched joins =
+        cell_found joins install.server may.among ∙ may.untouched ∙ sym (start_found joins install.server may.among)
 
     pub behind_append : (next : Actor ReplicaEntry)
         → ((c : Bool) → IsGrown (Unit {0}) entry (found c (cell.replicas install.server volume)) (found c next))
@@ -87,8 +100,11 @@ module _ (start : PlainCell) (start_sound : IsSound start) (volume : ℕ) (some 
         | inr new ↦ inr (record {
           objects = install.objects;
           there = subst (λ n. IsIn n some) (sym new.0.0) may.among;
-          more = new.1 ∙ ap (λ es. es ++ entry ∷ []) (ap (λ n. (found_in cell joins).replicas n volume) new.0.0 ∙ untouched joins ∙ ap (λ n. (found_in start joins).replicas n volume) (sym new.0.0))
-              ∙ ap (λ n. (found_in start joins).replicas s volume ++ Resolved install.objects (lasts n) ∷ []) (sym new.0.0);
+          more =
+              new.1 ∙ ap (λ es. es ++ entry ∷ []) (ap (λ n. (found_in cell joins).replicas n volume) new.0.0
+              ∙ untouched joins ∙ ap (λ n. (found_in start joins).replicas n volume) (sym new.0.0))
+              ∙ ap (λ n. (found_in start joins).replicas s volume ++ Resolved install.objects (lasts n) ∷ [])
+              (sym new.0.0);
           left = subst (λ n. Left n install.objects) (sym new.0.0) may.left;
         })
       ];
@@ -98,10 +114,16 @@ module _ (start : PlainCell) (start_sound : IsSound start) (volume : ℕ) (some 
     server_up = up install.server may.among
 
     pub behind_does : IsBehind (after cell (Does (install_of volume lasts install)))
-    behind_does = behind_append (grown entry (cell.replicas install.server volume)) (λ c. grown_found entry c (cell.replicas install.server volume) (sound.replicas_up install.server volume server_up))
+    behind_does =
+        behind_append (grown entry (cell.replicas install.server volume))
+        (λ c. grown_found entry c (cell.replicas install.server volume)
+        (sound.replicas_up install.server volume server_up))
 
     pub behind_fails : IsBehind (after cell (Fails (install_of volume lasts install)))
-    behind_fails = behind_append (fallen entry (cell.replicas install.server volume)) (λ c. fallen_found entry c (cell.replicas install.server volume) (sound.replicas_up install.server volume server_up))
+    behind_fails =
+        behind_append (fallen entry (cell.replicas install.server volume))
+        (λ c. fallen_found entry c (cell.replicas install.server volume)
+        (sound.replicas_up install.server volume server_up))
 
     -- ---- it may be installed
 
@@ -111,14 +133,18 @@ module _ (start : PlainCell) (start_sound : IsSound start) (volume : ℕ) (some 
       | inr put ↦ inr (record {
         objects = put.objects;
         there = put.there;
-        more = sym (cell_found none_joins s i) ∙ put.more ∙ ap (λ es. es ++ Resolved put.objects (lasts s) ∷ []) (start_found none_joins s i);
+        more =
+            sym (cell_found none_joins s i) ∙ put.more ∙ ap (λ es. es ++ Resolved put.objects (lasts s) ∷ [])
+            (start_found none_joins s i);
         left = put.left;
       })
     ]
 
     -- no last decision falls
     falls_none : (client : ℕ) → (last_of volume (history_at cell volume install.server) client).number ≤ (lasts install.server client).number
-    falls_none client = subst (λ es. (last_of volume es client).number ≤ (lasts install.server client).number) (sym may.untouched) (left_last install.server client may.among)
+    falls_none client =
+        subst (λ es. (last_of volume es client).number ≤ (lasts install.server client).number) (sym may.untouched)
+        (left_last install.server client may.among)
 
     -- each is one that a replica keeps
     kept_last : (t client : ℕ) → IsIn t some → lasts install.server client ≡ last_at start volume t client
@@ -188,7 +214,8 @@ module _ (start : PlainCell) (start_sound : IsSound start) (volume : ℕ) (some 
   install_all (install ∷ installs) failing cell b sound up may =
       let m = may_install cell b sound up install may.0 in
       let rest = install_all installs failing (after cell (Does (install_of volume lasts install))) (behind_does cell b sound up install may.0)
-      (moves_keep_sound cell (Does (install_of volume lasts install)) m sound) (up_does cell b sound up install may.0) may.1 in
+      (moves_keep_sound cell (Does (install_of volume lasts install)) m sound) (up_does cell b sound up install may.0)
+      may.1 in
       record { moved = (m, rest.moved); behind = rest.behind; sound = rest.sound }
 
 -- ---- where an install was, the history goes on from it
@@ -199,8 +226,11 @@ pub record HasGrown (start final : PlainCell) (volume : ℕ) (lasts : ℕ → �
   pub on : BeginsWith (history_at final volume s) (history_at start volume s ++ Resolved objects (lasts s) ∷ [])
 
 grew_at : (cell : PlainCell) (volume : ℕ) (lasts : ℕ → ℕ → Last) (install : Install)
-    → history_at (after cell (Does (install_of volume lasts install))) volume install.server ≡ history_at cell volume install.server ++ Resolved install.objects (lasts install.server) ∷ []
-grew_at cell volume lasts install = here_now cell install.server volume (grown (Resolved install.objects (lasts install.server)) (cell.replicas install.server volume)) none_joins
+    → history_at (after cell (Does (install_of volume lasts install))) volume install.server ≡ history_at cell volume
+    install.server ++ Resolved install.objects (lasts install.server) ∷ []
+grew_at cell volume lasts install =
+    here_now cell install.server volume (grown (Resolved install.objects (lasts install.server))
+    (cell.replicas install.server volume)) none_joins
 
 module _ (start final : PlainCell) (volume : ℕ) (some : List ℕ) (lasts : ℕ → ℕ → Last) (Left : ℕ → Objects → Type 0) (failing : Option Install) where
   installed_grew : (installs : List Install) (cell : PlainCell)
@@ -214,9 +244,15 @@ module _ (start final : PlainCell) (volume : ℕ) (some : List ℕ) (lasts : ℕ
       let more = replicas_run (install_moves volume lasts installs failing) next final run.1 install.server volume in
       subst (HasGrown start final volume lasts) here (record {
         objects = install.objects;
-        on = (more.0, more.1 ∙ ap (λ es. es ++ more.0) (grew_at cell volume lasts install ∙ ap (λ es. es ++ Resolved install.objects (lasts install.server) ∷ []) may.0.untouched));
+        on = (
+          more.0,
+          more.1 ∙ ap (λ es. es ++ more.0)
+              (grew_at cell volume lasts install ∙ ap (λ es. es ++ Resolved install.objects (lasts install.server) ∷ [])
+              may.0.untouched),
+        );
       })
-  installed_grew (install ∷ installs) cell may run s (other, (inr later, at)) = installed_grew installs (after cell (Does (install_of volume lasts install))) may.1 run.1 s (other, (later, at))
+  installed_grew (install ∷ installs) cell may run s (other, (inr later, at)) =
+      installed_grew installs (after cell (Does (install_of volume lasts install))) may.1 run.1 s (other, (later, at))
 
 pub not_longer : (es : List ReplicaEntry) (e : ReplicaEntry) (more : List ReplicaEntry) → es ≡ (es ++ e ∷ []) ++ more
     → ⊥
@@ -228,7 +264,9 @@ not_longer es e more same =
 
 -- so it isn't what it was
 pub grew_away : (start final : PlainCell) (volume : ℕ) (some : List ℕ) (lasts : ℕ → ℕ → Last) (Left : ℕ → Objects → Type 0) (failing : Option Install) (installs : List Install)
-    → MayInstallAll Left start volume some lasts start installs failing → Moved start (install_moves volume lasts installs failing) final → (s : ℕ) → HasInstall installs s → history_at final volume s ≢ history_at start volume s
+    → MayInstallAll Left start volume some lasts start installs failing → Moved start
+    (install_moves volume lasts installs failing) final → (s : ℕ) → HasInstall installs s → history_at final volume s
+    ≢ history_at start volume s
 grew_away start final volume some lasts Left failing installs may run s has same =
     let grew = installed_grew start final volume some lasts Left failing installs start may run s has in
     not_longer (history_at start volume s) (Resolved grew.objects (lasts s)) grew.on.0 (sym same ∙ grew.on.1)
@@ -244,19 +282,24 @@ module _ (volume : ℕ) (lasts : ℕ → ℕ → Last) (s : ℕ) where
   at_server server e = eqb-true s server (and_first (s == server) (volume == volume) e)
 
   failing_stays : (cell : PlainCell) (install : Install) (b : Bool) → (b ≡ true → s ≡ install.server)
-      → (cond b (fallen (Resolved install.objects (lasts install.server)) (cell.replicas install.server volume)) (cell.replicas s volume)).history ≡ history_at cell volume s
+      → (cond b (fallen (Resolved install.objects (lasts install.server)) (cell.replicas install.server volume))
+      (cell.replicas s volume)).history ≡ history_at cell volume s
   failing_stays cell install true at = ap (history_at cell volume) (sym (at refl))
   failing_stays cell install false at = refl
 
   other_stays : (cell : PlainCell) (install : Install) (b : Bool) → (b ≡ true → s ≡ install.server)
       → (install.server ≡ s → ⊥)
-      → (cond b (grown (Resolved install.objects (lasts install.server)) (cell.replicas install.server volume)) (cell.replicas s volume)).history ≡ history_at cell volume s
+      → (cond b (grown (Resolved install.objects (lasts install.server)) (cell.replicas install.server volume))
+      (cell.replicas s volume)).history ≡ history_at cell volume s
   other_stays cell install true at apart = absurd (apart (sym (at refl)))
   other_stays cell install false at apart = refl
 
   pub none_stays : (installs : List Install) (failing : Option Install) (cell : PlainCell) → (HasInstall installs s → ⊥) → history_at (after_moves cell (install_moves volume lasts installs failing)) volume s ≡ history_at cell volume s
   none_stays [] None cell none = refl
-  none_stays [] (Some install) cell none = failing_stays cell install ((s == install.server) && (volume == volume)) (at_server install.server)
+  none_stays [] (Some install) cell none =
+      failing_stays cell install ((s == install.server) && (volume == volume)) (at_server install.server)
   none_stays (install ∷ installs) failing cell none =
-      none_stays installs failing (after cell (Does (install_of volume lasts install))) (λ has. none (has.0, (inr has.1.0, has.1.1)))
-      ∙ other_stays cell install ((s == install.server) && (volume == volume)) (at_server install.server) (λ is. none (install, (inl refl, is)))
+      none_stays installs failing (after cell (Does (install_of volume lasts install)))
+      (λ has. none (has.0, (inr has.1.0, has.1.1)))
+      ∙ other_stays cell install ((s == install.server) && (volume == volume)) (at_server install.server)
+      (λ is. none (install, (inl refl, is)))

@@ -57,14 +57,16 @@ module _ (views : ℕ → Objects) (f : Fid) (lowest : Option Held) (fate : Fate
       → ((s : ℕ) → IsIn s list → finmap.get (views s) f ≡ settled_copy fate lowest (olds s))
       → IsEverywhere held (copies_at (list_views views list) f)
   all_same held e [] each = tt
-  all_same held e (s ∷ list) each = (each s (inl refl) ∙ ap (λ x. settled_copy x lowest (olds s)) e, all_same held e list (λ t i. each t (inr i)))
+  all_same held e (s ∷ list) each =
+      (each s (inl refl) ∙ ap (λ x. settled_copy x lowest (olds s)) e, all_same held e list (λ t i. each t (inr i)))
 
   all_marked : (why : Why) → fate ≡ Marked why → lowest ≢ None → (list : List ℕ)
       → ((s : ℕ) → IsIn s list → finmap.get (views s) f ≡ settled_copy fate lowest (olds s))
       → IsMarkedEverywhere (copies_at (list_views views list) f)
   all_marked why e there [] each = tt
   all_marked why e there (s ∷ list) each = (
-    ap is_marked (each s (inl refl) ∙ ap (λ x. settled_copy x lowest (olds s)) e) ∙ settled_marked why lowest (olds s) there,
+    ap is_marked (each s (inl refl) ∙ ap (λ x. settled_copy x lowest (olds s)) e) ∙ settled_marked why lowest (olds s)
+        there,
     all_marked why e there list (λ t i. each t (inr i)),
   )
 
@@ -84,7 +86,8 @@ views_list cell volume [] = refl
 views_list cell volume (s ∷ part) = ap (λ l. objects_at cell volume s ∷ l) (views_list cell volume part)
 
 module _ (servers : ℕ → List ℕ) (cell : PlainCell) (volume : ℕ) (some part : List ℕ) (lasts : ℕ → Last) (installs : List Install) (failing : Option Install) (f : Fid) (gs : IsGroupSound servers cell)
-    (may : MayResolve servers cell volume some lasts installs failing) (left : (server : ℕ) → IsIn server part → IsInstalledOrKept cell volume some lasts installs server)
+    (may : MayResolve servers cell volume some lasts installs failing)
+    (left : (server : ℕ) → IsIn server part → IsInstalledOrKept cell volume some lasts installs server)
     (is_taken : IsTakenUp (views_at cell volume some) (root_of volume) f) where
   abbrev final : PlainCell
   final = after_step cell (Resolves volume some lasts installs failing)
@@ -96,7 +99,9 @@ module _ (servers : ℕ → List ℕ) (cell : PlainCell) (volume : ℕ) (some pa
   lowest = first_some (copies_at views f)
 
   there : lowest ≢ None
-  there = taken_up_is_there views (root_of volume) (trees servers cell gs volume some lasts installs failing may).trees f is_taken
+  there =
+      taken_up_is_there views (root_of volume) (trees servers cell gs volume some lasts installs failing may).trees f
+      is_taken
 
   stays : fate_at views f ≢ Gone
   stays gone = there (gone_absent (copies_at views f) (copies_at views) lowest gone)
@@ -115,11 +120,13 @@ module _ (servers : ℕ → List ℕ) (cell : PlainCell) (volume : ℕ) (some pa
 
   whole : IsEqualOrMarked (copies_at (views_at final volume part) f)
   whole = subst (λ vs. IsEqualOrMarked (copies_at vs f)) (views_list final volume part)
-      (equal_or_marked (objects_at final volume) f lowest (fate_at views f) (λ s. finmap.get (objects_at cell volume s) f) there stays part each)
+      (equal_or_marked (objects_at final volume) f lowest (fate_at views f)
+      (λ s. finmap.get (objects_at cell volume s) f) there stays part each)
 
 lasts_joined : (servers : ℕ → List ℕ) (cell : PlainCell) (volume : ℕ) (some : List ℕ) (lasts : ℕ → Last) (installs : List Install) (failing : Option Install) (server client : ℕ)
     → IsGroupSound servers cell → MayResolve servers cell volume some lasts installs failing
-    → IsInstalledOrKept cell volume some lasts installs server → last_at (after_step cell (Resolves volume some lasts installs failing)) volume server client ≡ lasts client
+    → IsInstalledOrKept cell volume some lasts installs server → last_at
+    (after_step cell (Resolves volume some lasts installs failing)) volume server client ≡ lasts client
 lasts_joined servers cell volume some lasts installs failing server client gs may left =
     let final = after_step cell (Resolves volume some lasts installs failing) in
     let done = resolution_done servers cell gs volume some lasts installs failing may in
@@ -133,14 +140,18 @@ lasts_joined servers cell volume some lasts installs failing server client gs ma
 
 pub resolved_replicas_are_equal_or_marked : ResolvedReplicasAreEqualOrMarked
 resolved_replicas_are_equal_or_marked = record {
-  objects = λ servers cell volume some part lasts installs failing f gs may sub left is_taken. whole servers cell volume some part lasts installs failing f gs may left is_taken;
+  objects =
+      λ servers cell volume some part lasts installs failing f gs may sub left is_taken. whole servers cell volume
+      some part lasts installs failing f gs may left is_taken;
   lasts = lasts_joined;
 }
 
 -- ---- a repair
 
 module _ (servers : ℕ → List ℕ) (cell : PlainCell) (volume source : ℕ) (names : List Name) (some part : List ℕ) (lasts : ℕ → ℕ → Last) (installs : List Install) (failing : Option Install) (gs : IsGroupSound servers cell)
-    (may : MayRepair servers cell volume source names some lasts installs failing) (has : (server : ℕ) → IsIn server part → HasInstall installs server) (f : Fid) (below : IsBelow (child_in (objects_at cell volume source)) may.repair.top f) where
+    (may : MayRepair servers cell volume source names some lasts installs failing)
+    (has : (server : ℕ) → IsIn server part → HasInstall installs server) (f : Fid)
+    (below : IsBelow (child_in (objects_at cell volume source)) may.repair.top f) where
   abbrev last : PlainCell
   last = after_step cell (Repairs volume source names some lasts installs failing)
 
@@ -170,6 +181,10 @@ module _ (servers : ℕ → List ℕ) (cell : PlainCell) (volume source : ℕ) (
 
 pub repaired_are_equal : RepairedAreEqual
 repaired_are_equal = record {
-  objects = λ servers cell volume source names some part lasts installs failing gs may has f below. equal servers cell volume source names some part lasts installs failing gs may has f below;
-  others = λ cell volume source names some lasts installs failing server none. ap (replica_objects server volume) (none_stays volume lasts server installs failing cell none);
+  objects =
+      λ servers cell volume source names some part lasts installs failing gs may has f below. equal servers cell
+      volume source names some part lasts installs failing gs may has f below;
+  others =
+      λ cell volume source names some lasts installs failing server none. ap (replica_objects server volume)
+      (none_stays volume lasts server installs failing cell none);
 }

@@ -50,19 +50,25 @@ module _ (root : Fid) (servers : List ℕ) (before : Group) (st : IsStanding roo
 
   by_version : (f : Fid) → ((node : Node) (was : Held) → finmap.get (applied step.decides.nodes client rec) f ≡ Some node → finmap.get view f ≡ Some was → is_dir node.kind ≡ is_dir was.node.kind) → HasLogIfDirectory (finmap.get (after.holds server) f)
   by_version f alike = subst (λ c. HasLogIfDirectory c) (sym (step.decides.left f))
-      (decided_ringed server sid (finmap.get (applied step.decides.nodes client rec) f) (finmap.get view f) (deed_at view rec.op f) (st.rings server at f) alike)
+      (decided_ringed server sid (finmap.get (applied step.decides.nodes client rec) f) (finmap.get view f)
+      (deed_at view rec.op f) (st.rings server at f) alike)
 
   ringed_there : AreRinged (after.holds server)
   ringed_there f = by (decided_at root server client rec view (after.holds server) step.decides own.tree dir f)
     where
       by : DecidedAt view (after.holds server) (makes rec.op) f → HasLogIfDirectory (finmap.get (after.holds server) f)
       by (none_left e) = subst (λ c. HasLogIfDirectory c) (sym e) tt
-      by (came e) = by_version f (λ node was there had. absurd (true≢false (sym (own.was_made f (ap is_some had)) ∙ step.new f e)))
+      by (came e) =
+          by_version f (λ node was there had. absurd
+          (true≢false (sym (own.was_made f (ap is_some had)) ∙ step.new f e)))
       by (stayed old held e h same) = by_version f (λ node was there had.
           let deed = deed_at view rec.op f in
           let is : held ≡ later_by server sid node was deed = the_some held (later_by server sid node was deed)
-          (sym h ∙ step.decides.left f ∙ ap (λ o. version_by server sid o (finmap.get view f) deed) there ∙ ap (λ o. version_by server sid (Some node) o deed) had) in
-          sym (ap (λ (x : Held). is_dir x.node.kind) is ∙ ap (λ (x : Node). is_dir x.kind) (later_node server sid node was deed)) ∙ same ∙ ap (λ (x : Held). is_dir x.node.kind) (the_some old was (sym e ∙ had)))
+          (sym h ∙ step.decides.left f ∙ ap (λ o. version_by server sid o (finmap.get view f) deed) there ∙ ap
+          (λ o. version_by server sid (Some node) o deed) had) in
+          sym (ap (λ (x : Held). is_dir x.node.kind) is ∙ ap (λ (x : Node). is_dir x.kind)
+          (later_node server sid node was deed)) ∙ same ∙ ap (λ (x : Held). is_dir x.node.kind)
+          (the_some old was (sym e ∙ had)))
 
   pub decided_stands : IsStanding root servers after
   decided_stands = record {
@@ -86,8 +92,11 @@ resolved_stands root servers before st some among after step = record {
 
 module _ (root : Fid) (servers : List ℕ) (before : Group) (st : IsStanding root servers before) (some : List ℕ) (among : AreAmong some servers) (source : ℕ) (source_in : IsIn source some) (names : List Name) (after : Group) (step : IsRepaired root some source names before after) where
   ringed_at : (s : ℕ) → IsIn s some → IsRepairedAt step.subtree step.top source (copies_at (held_at before some)) (before.holds source) (before.holds s) (after.holds s) → AreRinged (after.holds s)
-  ringed_at s i done f = by (repaired_at root (before.holds source) (before.holds s) (after.holds s) step.subtree step.top source (copies_at (held_at before some)) names
-      (st.sound.each source (among source source_in)).tree (st.sound.each s (among s i)).tree (step.leads s i) step.below done f)
+  ringed_at s i done f =
+      by (repaired_at root (before.holds source) (before.holds s) (after.holds s) step.subtree step.top source
+      (copies_at (held_at before some)) names
+      (st.sound.each source (among source source_in)).tree (st.sound.each s (among s i)).tree (step.leads s i)
+      step.below done f)
     where
       by : RepairedAt step.subtree step.top source (copies_at (held_at before some)) (before.holds source) (before.holds s) (after.holds s) f → HasLogIfDirectory (finmap.get (after.holds s) f)
       by (put held inside r is) =
@@ -95,7 +104,10 @@ module _ (root : Fid) (servers : List ℕ) (before : Group) (st : IsStanding roo
           subst (λ c. HasLogIfDirectory c) (sym is) (some_mapped _ held.ring ∙ old)
       by (went g outside inside up is) = subst (λ c. HasLogIfDirectory c) (sym is) tt
       by (absent outside e is) = subst (λ c. HasLogIfDirectory c) (sym is) tt
-      by (kept held outside e is) = subst (λ c. HasLogIfDirectory c) (sym is) (spared_ringed step.subtree step.top (Some held) (subst (λ c. HasLogIfDirectory c) e (st.rings s (among s i) f)))
+      by (kept held outside e is) =
+          subst (λ c. HasLogIfDirectory c) (sym is)
+          (spared_ringed step.subtree step.top (Some held)
+          (subst (λ c. HasLogIfDirectory c) e (st.rings s (among s i) f)))
 
   pub repaired_stands : IsStanding root servers after
   repaired_stands = record {
@@ -117,8 +129,10 @@ holds_there : (holds : ℕ → Objects) (servers : List ℕ) (f : Fid) (s : ℕ)
     → holds_one holds servers f ≡ true
 unfolding holds_one
 holds_there holds [] f s i e = absurd i
-holds_there holds (t ∷ servers) f s (inl same) e = or_first (has_in (holds t) f) (holds_one holds servers f) (ap (λ n. has_in (holds n) f) same ∙ e)
-holds_there holds (t ∷ servers) f s (inr i) e = or_second (has_in (holds t) f) (holds_one holds servers f) (holds_there holds servers f s i e)
+holds_there holds (t ∷ servers) f s (inl same) e =
+    or_first (has_in (holds t) f) (holds_one holds servers f) (ap (λ n. has_in (holds n) f) same ∙ e)
+holds_there holds (t ∷ servers) f s (inr i) e =
+    or_second (has_in (holds t) f) (holds_one holds servers f) (holds_there holds servers f s i e)
 
 or_true : (a b : Bool) → (a || b) ≡ true → (a ≡ true) ⊎ (b ≡ true)
 or_true true b e = inl refl
@@ -146,11 +160,15 @@ stands h servers volume g = record {
   sound = record {
     kind = g.kind;
     top = g.top;
-    root_made = or_first (same_fid (root_of volume) (root_of volume)) (holds_one (holdings h volume) servers (root_of volume)) (same_fid_refl (root_of volume));
+    root_made =
+        or_first (same_fid (root_of volume) (root_of volume)) (holds_one (holdings h volume) servers (root_of volume))
+        (same_fid_refl (root_of volume));
     each = λ s i. record {
       tree = (g.each s i).tree;
       kinds = (g.each s i).kinds;
-      was_made = λ f e. or_second (same_fid f (root_of volume)) (holds_one (holdings h volume) servers f) (holds_there (holdings h volume) servers f s i e);
+      was_made =
+          λ f e. or_second (same_fid f (root_of volume)) (holds_one (holdings h volume) servers f)
+          (holds_there (holdings h volume) servers f s i e);
     };
   };
   rings = λ s i. (g.each s i).rings;
@@ -158,10 +176,11 @@ stands h servers volume g = record {
 
 pub known : (h : Histories) (servers : List ℕ) (volume : ℕ) → IsOneGroup h servers volume → (f : Fid)
     → made_in h servers volume f ≡ true → (f ≡ root_of volume) ⊎ IsCreatedByChunk h volume f
-known h servers volume g f e = elim (or_true (same_fid f (root_of volume)) (holds_one (holdings h volume) servers f) e) [
-  | inl root ↦ inl (same_fid_is f (root_of volume) root)
-  | inr held ↦ (let at = holds_from (holdings h volume) servers f held in (g.each at.0 at.1.0).known f at.1.1)
-]
+known h servers volume g f e =
+    elim (or_true (same_fid f (root_of volume)) (holds_one (holdings h volume) servers f) e) [
+      | inl root ↦ inl (same_fid_is f (root_of volume) root)
+      | inr held ↦ (let at = holds_from (holdings h volume) servers f held in (g.each at.0 at.1.0).known f at.1.1)
+    ]
 
 -- what stands, and of which all that was made is the root or of an applied chunk, is one group
 pub one_group : (h : Histories) (servers : List ℕ) (volume : ℕ) (made : Fid → Bool)

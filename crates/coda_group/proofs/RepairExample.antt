@@ -49,14 +49,16 @@ unfolding left copies
 at_root f held same there =
     let is = same_fid_is f root same in
     let it : new_root ≡ held = the_some new_root held (sym (get_here fids_total finmap.empty root new_root) ∙ ap (finmap.get new) (sym is) ∙ there) in
-    ap (finmap.get (finmap.insert finmap.empty root right)) is ∙ get_here fids_total finmap.empty root right ∙ ap (λ g. Some (repaired 1 (copies g) new_root)) (sym is) ∙ ap (λ h. Some (repaired 1 (copies f) h)) it
+    ap (finmap.get (finmap.insert finmap.empty root right)) is ∙ get_here fids_total finmap.empty root right ∙ ap
+    (λ g. Some (repaired 1 (copies g) new_root)) (sym is) ∙ ap (λ h. Some (repaired 1 (copies f) h)) it
 
 else_root : (f : Fid) → same_fid f root ≡ false
     → finmap.get (left 1) f ≡ spared (λ g. same_fid g root) root (finmap.get new f)
 unfolding left
 else_root f out =
     let apart : f ≢ root = λ is. true≢false (sym (subst (λ g. same_fid f g ≡ true) is (same_fid_refl f)) ∙ out) in
-    get_else fids_total exact_fids finmap.empty root right f apart ∙ finmap.get-empty fid_cmp f ∙ ap (spared (λ g. same_fid g root) root) (sym (away f apart))
+    get_else fids_total exact_fids finmap.empty root right f apart ∙ finmap.get-empty fid_cmp f ∙ ap
+    (spared (λ g. same_fid g root) root) (sym (away f apart))
 
 is_repaired : IsRepairedAt (λ f. same_fid f root) root 1 copies new new (left 1)
 is_repaired = record {
@@ -64,7 +66,9 @@ is_repaired = record {
   below = λ f. same_fid f root;
   is_below = λ f. (
     (λ e. (root, (same_fid_refl root, itself f (same_fid_is f root e)))),
-    (λ w. subst (λ g. same_fid g root ≡ true) (sym (below_root f (subst (λ g. IsBelow (child_in new) g f) (same_fid_is w.0 root w.1.0) w.1.1))) (same_fid_refl root)),
+    (λ w. subst (λ g. same_fid g root ≡ true)
+        (sym (below_root f (subst (λ g. IsBelow (child_in new) g f) (same_fid_is w.0 root w.1.0) w.1.1)))
+        (same_fid_refl root)),
   );
   goes = λ f out below. absurd (true≢false (sym below ∙ out));
   stays = λ f out. else_root f out;
@@ -92,7 +96,10 @@ may_repair = record {
   source_in = inl refl;
   repair = repair;
   own = λ s c. refl;
-  installed = (record { among = inl refl; untouched = refl; left = is_repaired }, (record { among = inr (inl refl); untouched = refl; left = is_repaired }, tt));
+  installed = (
+    record { among = inl refl; untouched = refl; left = is_repaired },
+    (record { among = inr (inl refl); untouched = refl; left = is_repaired }, tt),
+  );
 }
 
 pub some_volume_is_repaired : SomeVolumeIsRepaired

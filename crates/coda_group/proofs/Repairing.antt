@@ -36,7 +36,8 @@ use Rattle.coda_group.proofs.Installing.{IsBehind, IsDone, at_start, install_all
 leads_there : (root : Fid) (a b : Objects) → IsTreeView root a → (d : Fid) (names : List Name) (f : Fid)
     → LeadsAlike a b d names f → has_in a d ≡ true → has_in a f ≡ true
 leads_there root a b tree d [] f leads here = ap (has_in a) leads ∙ here
-leads_there root a b tree d (n ∷ names) f leads here = leads_there root a b tree leads.0 names f leads.1.1.1 (tree.there d n leads.0 leads.1.0)
+leads_there root a b tree d (n ∷ names) f leads here =
+    leads_there root a b tree leads.0 names f leads.1.1.1 (tree.there d n leads.0 leads.1.0)
 
 below_there : (root : Fid) (a : Objects) → IsTreeView root a → (g f : Fid) → has_in a g ≡ true
     → IsBelow (child_in a) g f → has_in a f ≡ true
@@ -67,7 +68,8 @@ module _ (servers : ℕ → List ℕ) (start : PlainCell) (gs : IsGroupSound ser
   views_same : (held : ℕ → Objects) → ((s : ℕ) → IsIn s some → objects_at start volume s ≡ held s) → (list : List ℕ)
       → AreAmong list some → views_at start volume list ≡ map held list
   views_same held same [] sub = refl
-  views_same held same (s ∷ list) sub = λ i. same s (sub s (inl refl)) i ∷ views_same held same list (λ t j. sub t (inr j)) i
+  views_same held same (s ∷ list) sub =
+      λ i. same s (sub s (inl refl)) i ∷ views_same held same list (λ t j. sub t (inr j)) i
 
   as_step : (made : Fid → Bool) (held after : ℕ → Objects)
       → ((s : ℕ) → IsIn s some → objects_at start volume s ≡ held s)
@@ -78,7 +80,9 @@ module _ (servers : ℕ → List ℕ) (start : PlainCell) (gs : IsGroupSound ser
       let at = same source may.source_in in
       record {
         top = r.top;
-        leads = λ s i. subst (λ x. LeadsAlike (held source) x root names r.top) (same s i) (subst (λ x. LeadsAlike x (objects_at start volume s) root names r.top) at (r.leads s i));
+        leads =
+            λ s i. subst (λ x. LeadsAlike (held source) x root names r.top) (same s i)
+            (subst (λ x. LeadsAlike x (objects_at start volume s) root names r.top) at (r.leads s i));
         subtree = r.subtree;
         below = λ f. (
           (λ e. subst (λ x. IsBelow (child_in x) r.top f) at ((r.below f).0 e)),
@@ -88,9 +92,12 @@ module _ (servers : ℕ → List ℕ) (start : PlainCell) (gs : IsGroupSound ser
           | inl stays ↦ inl stays
           | inr left ↦ inr (
             left.0,
-            subst (λ vs. IsRepairedAt r.subtree r.top source (copies_at vs) (held source) (held s) (after s)) (views_same held same some (λ t j. j))
-                (subst (λ x. IsRepairedAt r.subtree r.top source (copies_at (views_at start volume some)) x (held s) (after s)) at
-                (subst (λ x. IsRepairedAt r.subtree r.top source (copies_at (views_at start volume some)) (objects_at start volume source) x (after s)) (same s left.0) left.1)),
+            subst (λ vs. IsRepairedAt r.subtree r.top source (copies_at vs) (held source) (held s) (after s))
+                (views_same held same some (λ t j. j))
+                (subst (λ x. IsRepairedAt r.subtree r.top source (copies_at (views_at start volume some)) x (held s)
+                (after s)) at
+                (subst (λ x. IsRepairedAt r.subtree r.top source (copies_at (views_at start volume some))
+                (objects_at start volume source) x (after s)) (same s left.0) left.1)),
           )
         ];
         made = refl;
@@ -109,7 +116,9 @@ module _ (servers : ℕ → List ℕ) (start : PlainCell) (gs : IsGroupSound ser
         | inr ne ↦ inl (put_else (objects_at start volume) s o t ne)
       ]) in
       subst (λ x. IsVolume root (nodes_in x)) here
-      (standing_volume (servers volume) volume after (repaired_stands root (servers volume) before (stands h (servers volume) volume now) some may.among source may.source_in names after step) s (may.among s i))
+      (standing_volume (servers volume) volume after
+      (repaired_stands root (servers volume) before (stands h (servers volume) volume now) some may.among source
+      may.source_in names after step) s (may.among s i))
 
   pub left_last : (s client : ℕ) → IsIn s some → (last_at start volume s client).number ≤ (lasts s client).number
   left_last s client i = let own = ap (λ (l : Last). l.number) (may.own s client) in omega (arith, own)
@@ -120,7 +129,9 @@ module _ (servers : ℕ → List ℕ) (start : PlainCell) (gs : IsGroupSound ser
   -- ---- what is left at a replica stands somewhere, and stays there
 
   abbrev IsHeldStill : Fid → Type 0
-  IsHeldStill f = (t : ℕ) × (IsIn t some × ((has_in (objects_at start volume t) f ≡ true) × ((p : Objects) → Left t p → has_in p f ≡ true)))
+  IsHeldStill f =
+      (t : ℕ) × (IsIn t some × ((has_in (objects_at start volume t) f ≡ true)
+      × ((p : Objects) → Left t p → has_in p f ≡ true)))
 
   source_tree : IsTreeView root (objects_at start volume source)
   source_tree = (now.each source (may.among source may.source_in)).tree
@@ -169,20 +180,28 @@ module _ (servers : ℕ → List ℕ) (start : PlainCell) (gs : IsGroupSound ser
   -- ---- it is installed
 
   abbrev pub IsRepairBehind : PlainCell → Type 0
-  IsRepairBehind cell = IsBehind start gs.sound volume some lasts (IsRepairOf start volume source names some may.repair) may.up left_volume left_last left_from left_held cell
+  IsRepairBehind cell =
+      IsBehind start gs.sound volume some lasts (IsRepairOf start volume source names some may.repair) may.up
+      left_volume left_last left_from left_held cell
 
   abbrev pub IsRepairDone : Type 0
-  IsRepairDone = IsDone start gs.sound volume some lasts (IsRepairOf start volume source names some may.repair) may.up left_volume left_last left_from left_held start installs failing
+  IsRepairDone =
+      IsDone start gs.sound volume some lasts (IsRepairOf start volume source names some may.repair) may.up
+      left_volume left_last left_from left_held start installs failing
 
   pub repair_done : IsRepairDone
-  repair_done = install_all start gs.sound volume some lasts (IsRepairOf start volume source names some may.repair) may.up left_volume left_last left_from left_held installs failing start
-      (at_start start gs.sound volume some lasts (IsRepairOf start volume source names some may.repair) may.up left_volume left_last left_from left_held) gs.sound may.up may.installed
+  repair_done =
+      install_all start gs.sound volume some lasts (IsRepairOf start volume source names some may.repair) may.up
+      left_volume left_last left_from left_held installs failing start
+      (at_start start gs.sound volume some lasts (IsRepairOf start volume source names some may.repair) may.up
+      left_volume left_last left_from left_held) gs.sound may.up may.installed
 
   -- ---- the replicas are one group behind it
 
   start_found : (joins : Joins) (s : ℕ) → IsIn s some
       → (found_in start joins).replicas s volume ≡ history_at start volume s
-  start_found joins s i = found_up (joins.replicas s volume) (start.replicas s volume) (gs.sound.replicas_up s volume (may.up s i))
+  start_found joins s i =
+      found_up (joins.replicas s volume) (start.replicas s volume) (gs.sound.replicas_up s volume (may.up s i))
 
   module _ (cell : PlainCell) (b : IsRepairBehind cell) (joins : Joins) where
     abbrev h : Histories
@@ -211,5 +230,6 @@ module _ (servers : ℕ → List ℕ) (start : PlainCell) (gs : IsGroupSound ser
         let after : Group = record { holds = holdings later volume; made = made } in
         let step = as_step made (holdings h volume) (holdings later volume) (λ s i. ap (replica_objects s volume) (sym (start_found joins s i))) holds_or in
         one_group later (servers volume) volume made
-        (repaired_stands root (servers volume) (group_of h (servers volume) volume) (stands h (servers volume) volume g) some may.among source may.source_in names after step)
+        (repaired_stands root (servers volume) (group_of h (servers volume) volume)
+        (stands h (servers volume) volume g) some may.among source may.source_in names after step)
         (λ f m. elim (known h (servers volume) volume g f m) [ inl is ↦ inl is | inr created ↦ inr (created_stays h later volume f decides_more created) ])

@@ -38,7 +38,8 @@ held_some views [] f there = absurd (there refl)
 held_some views (t ∷ some) f there = go (finmap.get (views t) f) refl there (held_some views some f)
   where
     go : (o : Option Held) → finmap.get (views t) f ≡ o → first_some (o ∷ copies_at (map views some) f) ≢ None
-        → (first_some (copies_at (map views some) f) ≢ None → (s : ℕ) × (IsIn s some × ((own : Held) × (finmap.get (views s) f ≡ Some own))))
+        → (first_some (copies_at (map views some) f) ≢ None → (s : ℕ)
+        × (IsIn s some × ((own : Held) × (finmap.get (views s) f ≡ Some own))))
         → (s : ℕ) × (IsIn s (t ∷ some) × ((own : Held) × (finmap.get (views s) f ≡ Some own)))
     go (Some own) e there rest = (t, (inl refl, (own, e)))
     go None e there rest = let more = rest there in (more.0, (inr more.1.0, more.1.1))
@@ -71,7 +72,9 @@ module _ (servers : ℕ → List ℕ) (start : PlainCell) (gs : IsGroupSound ser
   some_one e = let from = may.joined.from 0 in subst (IsIn from.0) e from.1.0
 
   pub trees : AreTreesOfOneKind views (root_of volume)
-  trees = subst (λ vs. AreTreesOfOneKind vs (root_of volume)) (sym (views_map start volume some)) (group_trees (servers volume) (found_in start none_joins) volume now some may.among some_one)
+  trees =
+      subst (λ vs. AreTreesOfOneKind vs (root_of volume)) (sym (views_map start volume some))
+      (group_trees (servers volume) (found_in start none_joins) volume now some may.among some_one)
 
   -- what is left at a replica is a volume
   pub left_volume : (s : ℕ) (o : Objects) → IsIn s some → IsResolution start volume some s o
@@ -84,14 +87,20 @@ module _ (servers : ℕ → List ℕ) (start : PlainCell) (gs : IsGroupSound ser
         each = λ t. elim (cases_eq t s) [
           | inl same ↦ inr (
             subst (λ n. IsIn n some) (sym same) i,
-            subst (λ n. IsInstalled (map (objects_at start volume) some) (root_of volume) (objects_at start volume n) (after.holds n)) (sym same)
-                (subst (λ vs. IsInstalled vs (root_of volume) (objects_at start volume s) (after.holds s)) (views_map start volume some) (subst (IsInstalled views (root_of volume) (objects_at start volume s)) (sym here) left)),
+            subst (λ n. IsInstalled (map (objects_at start volume) some) (root_of volume) (objects_at start volume n)
+                (after.holds n)) (sym same)
+                (subst (λ vs. IsInstalled vs (root_of volume) (objects_at start volume s) (after.holds s))
+                (views_map start volume some) (subst (IsInstalled views (root_of volume) (objects_at start volume s))
+                (sym here) left)),
           )
           | inr ne ↦ inl (put_else (objects_at start volume) s o t ne)
         ];
         made = refl;
       } in
-      subst (λ x. IsVolume (root_of volume) (nodes_in x)) here (standing_volume (servers volume) volume after (resolved_stands (root_of volume) (servers volume) before (stands (found_in start none_joins) (servers volume) volume now) some may.among after step) s (may.among s i))
+      subst (λ x. IsVolume (root_of volume) (nodes_in x)) here
+      (standing_volume (servers volume) volume after
+      (resolved_stands (root_of volume) (servers volume) before
+      (stands (found_in start none_joins) (servers volume) volume now) some may.among after step) s (may.among s i))
 
   pub left_last : (s client : ℕ) → IsIn s some → (last_at start volume s client).number ≤ (lasts client).number
   left_last s client i = may.joined.greatest client s i
@@ -101,7 +110,9 @@ module _ (servers : ℕ → List ℕ) (start : PlainCell) (gs : IsGroupSound ser
   left_from s client i = let from = may.joined.from client in (from.0, (from.1.0, (from.1.1, refl)))
 
   abbrev IsHeldStill : Fid → Type 0
-  IsHeldStill f = (t : ℕ) × (IsIn t some × ((has_in (objects_at start volume t) f ≡ true) × ((p : Objects) → IsResolution start volume some t p → has_in p f ≡ true)))
+  IsHeldStill f =
+      (t : ℕ) × (IsIn t some × ((has_in (objects_at start volume t) f ≡ true)
+      × ((p : Objects) → IsResolution start volume some t p → has_in p f ≡ true)))
 
   taken_held : (f : Fid) → IsTakenUp views (root_of volume) f → IsHeldStill f
   taken_held f is_taken =
@@ -112,7 +123,8 @@ module _ (servers : ℕ → List ℕ) (start : PlainCell) (gs : IsGroupSound ser
           from.1.0,
           (
             ap is_some from.1.1.1,
-            λ p left. ap is_some (left.taken f is_taken ∙ ap (settled_copy (fate_at views f) lowest) from.1.1.1) ∙ settled_some (fate_at views f) lowest from.1.1.0,
+            λ p left. ap is_some (left.taken f is_taken ∙ ap (settled_copy (fate_at views f) lowest) from.1.1.1)
+                ∙ settled_some (fate_at views f) lowest from.1.1.0,
           ),
         ),
       )
@@ -130,20 +142,28 @@ module _ (servers : ℕ → List ℕ) (start : PlainCell) (gs : IsGroupSound ser
   ]
 
   abbrev pub IsResolutionBehind : PlainCell → Type 0
-  IsResolutionBehind cell = IsBehind start gs.sound volume some (λ s. lasts) (IsResolution start volume some) may.up left_volume left_last left_from left_held cell
+  IsResolutionBehind cell =
+      IsBehind start gs.sound volume some (λ s. lasts) (IsResolution start volume some) may.up left_volume left_last
+      left_from left_held cell
 
   abbrev pub IsResolutionDone : Type 0
-  IsResolutionDone = IsDone start gs.sound volume some (λ s. lasts) (IsResolution start volume some) may.up left_volume left_last left_from left_held start installs failing
+  IsResolutionDone =
+      IsDone start gs.sound volume some (λ s. lasts) (IsResolution start volume some) may.up left_volume left_last
+      left_from left_held start installs failing
 
   pub resolution_done : IsResolutionDone
-  resolution_done = install_all start gs.sound volume some (λ s. lasts) (IsResolution start volume some) may.up left_volume left_last left_from left_held installs failing start
-      (at_start start gs.sound volume some (λ s. lasts) (IsResolution start volume some) may.up left_volume left_last left_from left_held) gs.sound may.up may.installed
+  resolution_done =
+      install_all start gs.sound volume some (λ s. lasts) (IsResolution start volume some) may.up left_volume
+      left_last left_from left_held installs failing start
+      (at_start start gs.sound volume some (λ s. lasts) (IsResolution start volume some) may.up left_volume left_last
+      left_from left_held) gs.sound may.up may.installed
 
   -- ---- the replicas are one group behind it
 
   start_found : (joins : Joins) (s : ℕ) → IsIn s some
       → (found_in start joins).replicas s volume ≡ history_at start volume s
-  start_found joins s i = found_up (joins.replicas s volume) (start.replicas s volume) (gs.sound.replicas_up s volume (may.up s i))
+  start_found joins s i =
+      found_up (joins.replicas s volume) (start.replicas s volume) (gs.sound.replicas_up s volume (may.up s i))
 
   views_found : (joins : Joins) (list : List ℕ) → AreAmong list some
       → views_at start volume list ≡ map (holdings (found_in start joins) volume) list
@@ -154,7 +174,9 @@ module _ (servers : ℕ → List ℕ) (start : PlainCell) (gs : IsGroupSound ser
 
   pub group_behind : (cell : PlainCell) → IsResolutionBehind cell → (joins : Joins)
       → IsOneGroup (found_in cell joins) (servers volume) volume
-  group_behind cell b joins = resolved_group (servers volume) (found_in start joins) (found_in cell joins) volume some ((gs.stand joins).groups volume) may.among
+  group_behind cell b joins =
+      resolved_group (servers volume) (found_in start joins) (found_in cell joins) volume some
+      ((gs.stand joins).groups volume) may.among
       (λ s. elim (b.each joins s) [
         | inl same ↦ inl same
         | inr put ↦ inr (record {
@@ -162,7 +184,10 @@ module _ (servers : ℕ → List ℕ) (start : PlainCell) (gs : IsGroupSound ser
           lasts = lasts;
           among = put.there;
           grown = put.more;
-          left = subst (λ vs. IsInstalled vs (root_of volume) (holdings (found_in start joins) volume s) put.objects) (views_found joins some (λ t j. j))
-              (subst (λ es. IsInstalled views (root_of volume) (replica_objects s volume es) put.objects) (sym (start_found joins s put.there)) put.left);
+          left =
+              subst (λ vs. IsInstalled vs (root_of volume) (holdings (found_in start joins) volume s) put.objects)
+              (views_found joins some (λ t j. j))
+              (subst (λ es. IsInstalled views (root_of volume) (replica_objects s volume es) put.objects)
+              (sym (start_found joins s put.there)) put.left);
         })
       ])

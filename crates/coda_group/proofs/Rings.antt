@@ -49,11 +49,13 @@ some_mapped g (Some x) = refl
 
 pub decided_ringed : (server : ℕ) (sid : Sid) (o : Option Node) (old : Option Held) (deed : Option Deed)
     → HasLogIfDirectory old
-    → ((node : Node) (was : Held) → o ≡ Some node → old ≡ Some was → is_dir node.kind ≡ is_dir was.node.kind) → HasLogIfDirectory (version_by server sid o old deed)
+    → ((node : Node) (was : Held) → o ≡ Some node → old ≡ Some was → is_dir node.kind ≡ is_dir was.node.kind)
+    → HasLogIfDirectory (version_by server sid o old deed)
 decided_ringed server sid None old deed ringed alike = tt
 decided_ringed server sid (Some node) None deed ringed alike = first_ringed server node node.kind refl
 decided_ringed server sid (Some node) (Some was) None ringed alike = ringed ∙ sym (alike node was refl refl)
-decided_ringed server sid (Some node) (Some was) (Some deed) ringed alike = some_mapped _ was.ring ∙ ringed ∙ sym (alike node was refl refl)
+decided_ringed server sid (Some node) (Some was) (Some deed) ringed alike =
+    some_mapped _ was.ring ∙ ringed ∙ sym (alike node was refl refl)
 
 -- ---- a resolution
 
@@ -62,8 +64,12 @@ fate_ringed : (copies : Copies) (look : Fid → Copies) (held : Held) → AllByR
 fate_ringed copies look held all e = from (first_some copies) e
   where
     by_kind : (k : NodeKind) → fate_by copies look k ≡ Same held → HasLogIfDirectory (Some held)
-    by_kind (File content) e = picked HasLogIfDirectory (dominating copies) (own_dominating copies) copies held all (leaf_same copies held e).1
-    by_kind (Link target) e = picked HasLogIfDirectory (dominating copies) (own_dominating copies) copies held all (leaf_same copies held e).1
+    by_kind (File content) e =
+        picked HasLogIfDirectory (dominating copies) (own_dominating copies) copies held all
+        (leaf_same copies held e).1
+    by_kind (Link target) e =
+        picked HasLogIfDirectory (dominating copies) (own_dominating copies) copies held all
+        (leaf_same copies held e).1
     by_kind (Dir entries) e = let k = dir_same copies (cause copies look) (attributes_of copies) held e in subst (λ h. HasLogIfDirectory (Some h)) k.1.1.1 refl
 
     from : (lowest : Option Held) → fate_from copies look lowest ≡ Same held → HasLogIfDirectory (Some held)
@@ -119,7 +125,8 @@ new_ringed root f = elim (fid_cases f root) [
 all_at : (group : Group) (servers : List ℕ) (f : Fid) → ((s : ℕ) → IsIn s servers → AreRinged (group.holds s))
     → (some : List ℕ) → AreAmong some servers → AllByRecursion HasLogIfDirectory (copies_at (held_at group some) f)
 all_at group servers f ringed [] among = tt
-all_at group servers f ringed (s ∷ some) among = (ringed s (among s (inl refl)) f, all_at group servers f ringed some (λ t i. among t (inr i)))
+all_at group servers f ringed (s ∷ some) among =
+    (ringed s (among s (inl refl)) f, all_at group servers f ringed some (λ t i. among t (inr i)))
 
 pub installed_ringed : (root : Fid) (servers : List ℕ) (before : Group) (some : List ℕ) (view after : Objects)
     → ((s : ℕ) → IsIn s servers → AreRinged (before.holds s)) → AreAmong some servers → AreRinged view
@@ -129,8 +136,11 @@ installed_ringed root servers before some view after ringed among own is f = go 
     taken : (g : Fid) → IsTakenUp (held_at before some) root g → HasLogIfDirectory (finmap.get after g)
     taken g up =
         let all = all_at before servers g ringed some among in
-        subst (λ c. HasLogIfDirectory c) (sym (is.taken g up)) (settled_ringed (fate_at (held_at before some) g) (first_some (copies_at (held_at before some) g)) (finmap.get view g)
-        (λ held e. fate_ringed (copies_at (held_at before some) g) (copies_at (held_at before some)) held all e) (first_all (copies_at (held_at before some) g) all) (own g))
+        subst (λ c. HasLogIfDirectory c) (sym (is.taken g up))
+        (settled_ringed (fate_at (held_at before some) g) (first_some (copies_at (held_at before some) g))
+        (finmap.get view g)
+        (λ held e. fate_ringed (copies_at (held_at before some) g) (copies_at (held_at before some)) held all e)
+        (first_all (copies_at (held_at before some) g) all) (own g))
 
     keeps : (g : Fid) → KeepsOwn (held_at before some) root view g → HasLogIfDirectory (finmap.get after g)
     keeps g (marked_there d why up fate) = taken g up

@@ -22,7 +22,8 @@ steps_moved : (servers : ℕ → List ℕ) (steps : List GroupStep) (old new : P
 unfolding all_moves
 steps_moved servers [] old new gs run = run
 steps_moved servers (step ∷ steps) old new gs run =
-    moved_on (moves_of_step step) (all_moves steps) old (after_step old step) new (steps_are_moves servers old step run.0 gs)
+    moved_on (moves_of_step step) (all_moves steps) old (after_step old step) new
+    (steps_are_moves servers old step run.0 gs)
     (steps_moved servers steps (after_step old step) new (steps_keep_group_sound servers old step run.0 gs) run.1)
 
 pub steps_run : StepsRun

@@ -50,7 +50,8 @@ use Rattle.coda_group.proofs.Repairing.{repair_done, group_repaired}
 
 -- what an entry creates is the next object
 abbrev CreatesIn : ℕ → ℕ → List Deed → Deed → Type 0
-CreatesIn volume client past (Operated rec) = (f : Fid) → creates f rec.op ≡ true → IsObjectNumbered volume client (created_in (full_of past) + 1) f
+CreatesIn volume client past (Operated rec) =
+    (f : Fid) → creates f rec.op ≡ true → IsObjectNumbered volume client (created_in (full_of past) + 1) f
 CreatesIn volume client past (Froze number home last) = Unit {0}
 CreatesIn volume client past (Settled number verdict) = Unit {0}
 CreatesIn volume client past Gaveup = Unit {0}
@@ -62,13 +63,17 @@ more_numbers : (volume client : ℕ) (past : List Deed) (deed : Deed) → AreNum
     → CreatesIn volume client past deed → AreNumberedFrom volume client 0 (full_of past ++ operation_in deed)
 more_numbers volume client past (Operated rec) a next = numbered_push volume client 0 (full_of past) rec a (λ f e.
     (let is = next f e in let number = is.number_is in record { here = is.here; own = is.own; some = is.some; number_is = omega (arith, number) }))
-more_numbers volume client past (Froze number home last) a next = subst (AreNumberedFrom volume client 0) (sym (append-nil (full_of past))) a
-more_numbers volume client past (Settled number verdict) a next = subst (AreNumberedFrom volume client 0) (sym (append-nil (full_of past))) a
-more_numbers volume client past Gaveup a next = subst (AreNumberedFrom volume client 0) (sym (append-nil (full_of past))) a
+more_numbers volume client past (Froze number home last) a next =
+    subst (AreNumberedFrom volume client 0) (sym (append-nil (full_of past))) a
+more_numbers volume client past (Settled number verdict) a next =
+    subst (AreNumberedFrom volume client 0) (sym (append-nil (full_of past))) a
+more_numbers volume client past Gaveup a next =
+    subst (AreNumberedFrom volume client 0) (sym (append-nil (full_of past))) a
 
 numbers_push : (volume client : ℕ) (past : List Deed) (deed : Deed) → AreNumbers volume client past
     → CreatesIn volume client past deed → AreNumbers volume client (past ++ deed ∷ [])
-numbers_push volume client past deed a next = subst (AreNumberedFrom volume client 0) (sym (full_push past deed)) (more_numbers volume client past deed a next)
+numbers_push volume client past deed a next =
+    subst (AreNumberedFrom volume client 0) (sym (full_push past deed)) (more_numbers volume client past deed a next)
 
 creates_in : (cell : PlainCell) (client volume : ℕ) (deed : Deed) → CreatesNext cell client volume deed
     → CreatesIn volume client (done_on cell client volume) deed
@@ -86,7 +91,9 @@ module _ (servers : ℕ → List ℕ) (cell : PlainCell) (gs : IsGroupSound serv
       → DoGroupsStand servers (record h { clients = clients }) cell.pool
   stand_same h clients st at = record {
     numbered = λ c v. subst (AreNumbers v c) (sym (at c v)) (st.numbered c v);
-    truths = λ s v d verdict i. subst (λ ds. In (record { number = d.number; verdict = verdict }) (settlements_of ds) → verdict ≡ verdict_on d) (sym (at d.client v)) (st.truths s v d verdict i);
+    truths =
+        λ s v d verdict i. subst (λ ds. In (record { number = d.number; verdict = verdict }) (settlements_of ds)
+        → verdict ≡ verdict_on d) (sym (at d.client v)) (st.truths s v d verdict i);
     sent = λ m c s v n e. subst (λ ds. IsFrozenNow ds n ⊎ WasDecided h v c n) (sym (at c v)) (st.sent m c s v n e);
     taken = st.taken;
     groups = λ v. group_same (servers v) h (record h { clients = clients }) v (λ s. refl) (λ s d i. i) (st.groups v);
@@ -109,29 +116,39 @@ module _ (servers : ℕ → List ℕ) (cell : PlainCell) (gs : IsGroupSound serv
     -- what holds of the deeds before, and of them with this one, holds of the deeds then
     at_deeds : (c v : ℕ) (P : List Deed → Type 0) → P (deeds_of v (was.clients c))
         → ((c ≡ client) × (v ≡ volume) → P (deeds_of v (was.clients c) ++ deed ∷ [])) → P (deeds_of v (is.clients c))
-    at_deeds c v P = at_grown ((c ≡ client) × (v ≡ volume)) deed (deeds_of v (was.clients c)) (deeds_of v (is.clients c)) P
+    at_deeds c v P =
+        at_grown ((c ≡ client) × (v ≡ volume)) deed (deeds_of v (was.clients c)) (deeds_of v (is.clients c)) P
         (deeds_grown client v c volume deed (was.clients c) (is.clients c) (more c))
 
     -- what holds there of the client and the volume holds here
     here_as : (c v : ℕ) → (c ≡ client) × (v ≡ volume) → (P : ℕ → ℕ → List Deed → Type 0)
         → P client volume (done_on cell client volume) → P c v (deeds_of v (was.clients c))
     here_as c v at P p =
-        subst (λ n. P n v (deeds_of v (was.clients n))) (sym at.0) (subst (λ n. P client n (deeds_of n (was.clients client))) (sym at.1) (subst (λ es. P client volume (deeds_of volume es)) (sym client_found) p))
+        subst (λ n. P n v (deeds_of v (was.clients n))) (sym at.0)
+        (subst (λ n. P client n (deeds_of n (was.clients client))) (sym at.1)
+        (subst (λ es. P client volume (deeds_of volume es)) (sym client_found) p))
 
     told_there : (number : ℕ) (verdict : Verdict) → deed ≡ Settled number verdict
         → IsDecided was.replicas volume client number verdict
-    told_there number verdict e = told_now cell gs.sound joins client volume number verdict (subst (IsBacked cell client volume) e may.1.1)
+    told_there number verdict e =
+        told_now cell gs.sound joins client volume number verdict (subst (IsBacked cell client volume) e may.1.1)
 
     told_here : (c v : ℕ) → (c ≡ client) × (v ≡ volume) → (number : ℕ) (verdict : Verdict)
         → deed ≡ Settled number verdict → IsDecided was.replicas v c number verdict
-    told_here c v at number verdict e = subst (λ n. IsDecided was.replicas v n number verdict) (sym at.0) (subst (λ n. IsDecided was.replicas n client number verdict) (sym at.1) (told_there number verdict e))
+    told_here c v at number verdict e =
+        subst (λ n. IsDecided was.replicas v n number verdict) (sym at.0)
+        (subst (λ n. IsDecided was.replicas n client number verdict) (sym at.1) (told_there number verdict e))
 
     pub stand_did : DoGroupsStand servers is cell.pool
     stand_did = record {
       numbered = λ c v. at_deeds c v (AreNumbers v c) (st.numbered c v)
-          (λ at. numbers_push v c (deeds_of v (was.clients c)) deed (st.numbered c v) (here_as c v at (λ n m ds. CreatesIn m n ds deed) (creates_in cell client volume deed creation)));
-      truths = λ s v d verdict i. at_deeds d.client v (λ ds. In (record { number = d.number; verdict = verdict }) (settlements_of ds) → verdict ≡ verdict_on d) (st.truths s v d verdict i)
-          (λ at j. elim (settled_push (deeds_of v (was.clients d.client)) deed (record { number = d.number; verdict = verdict }) j) [
+          (λ at. numbers_push v c (deeds_of v (was.clients c)) deed (st.numbered c v)
+          (here_as c v at (λ n m ds. CreatesIn m n ds deed) (creates_in cell client volume deed creation)));
+      truths =
+          λ s v d verdict i. at_deeds d.client v (λ ds. In (record { number = d.number; verdict = verdict })
+          (settlements_of ds) → verdict ≡ verdict_on d) (st.truths s v d verdict i)
+          (λ at j. elim (settled_push (deeds_of v (was.clients d.client)) deed
+          (record { number = d.number; verdict = verdict }) j) [
             | inl old ↦ st.truths s v d verdict i old
             | inr new ↦ one_verdict was cell.pool (gs.sound.agree joins) v d.client d.number d.number verdict (verdict_on d) (told_here d.client v at d.number verdict new)
                 (record { server = s; by = d; there = i; client_is = refl; number_is = refl; verdict_is = refl }) refl
@@ -148,121 +165,156 @@ module _ (servers : ℕ → List ℕ) (cell : PlainCell) (gs : IsGroupSound serv
   -- what an entry leaves of a client, whatever was dropped at once with it
   stand_entry : (client : ℕ) (entry : ClientEntry) (joins : Joins) (clients : ℕ → List ClientEntry)
       → ((c : ℕ) → IsGrown (c ≡ client) entry ((found_in cell joins).clients c) (clients c))
-      → MayAppend cell (AtClient client entry) → MayAppendAlone servers cell (AtClient client entry) → DoGroupsStand servers (record (found_in cell joins) { clients = clients }) cell.pool
+      → MayAppend cell (AtClient client entry) → MayAppendAlone servers cell (AtClient client entry) → DoGroupsStand
+      servers (record (found_in cell joins) { clients = clients }) cell.pool
   stand_entry client (Fetched fid parent node) joins clients more may alone =
-      stand_same (found_in cell joins) clients (gs.stand joins) (λ c v. deeds_fetched (c ≡ client) v fid parent node ((found_in cell joins).clients c) (clients c) (more c))
-  stand_entry client (Did volume deed) joins clients more may alone = stand_did client volume deed joins clients more may alone
+      stand_same (found_in cell joins) clients (gs.stand joins)
+      (λ c v. deeds_fetched (c ≡ client) v fid parent node ((found_in cell joins).clients c) (clients c) (more c))
+  stand_entry client (Did volume deed) joins clients more may alone =
+      stand_did client volume deed joins clients more may alone
   stand_entry client (Dropping gone entry) joins clients more may alone =
       let by : (c : ℕ) → IsBeside (c ≡ client) entry ((found_in cell joins).clients c) (clients c) = λ c. beside (c ≡ client) gone entry ((found_in cell joins).clients c) (clients c) (more c) in
-      stand_same (record (found_in cell joins) { clients = λ c. (by c).alone }) clients (stand_entry client entry joins (λ c. (by c).alone) (λ c. (by c).grown) may alone) (λ c v. (by c).same v)
+      stand_same (record (found_in cell joins) { clients = λ c. (by c).alone }) clients
+      (stand_entry client entry joins (λ c. (by c).alone) (λ c. (by c).grown) may alone) (λ c v. (by c).same v)
 
   -- ---- a replica
 
   module _ (server volume client number : ℕ) (span : List Record) (next : Actor ReplicaEntry)
-      (more : (b : Bool) → IsGrown (Unit {0}) (Decided client number span) (found b (cell.replicas server volume)) (found b next))
-      (may : MayAppend cell (AtReplica server volume (Decided client number span))) (at : IsIn server (servers volume)) (sound : IsSound (with_replica cell server volume next)) (joins : Joins) where
-    abbrev old : Histories
-    old = found_in cell joins
+      (more : (b : Bool) → IsGrown (Unit {0}) (Decided client number span) (found b (cell.replicas server volume))
+      (found b next))
+      (may : MayAppend cell (AtReplica server volume (Decided client number span)))
+      (at : IsIn server (servers volume)) (sound : IsSound (with_replica cell server volume next)) (joins : Joins)
+    where
+      abbrev old : Histories
+      old = found_in cell joins
 
-    abbrev new : Histories
-    new = found_in (with_replica cell server volume next) joins
+      abbrev new : Histories
+      new = found_in (with_replica cell server volume next) joins
 
-    abbrev entry : ReplicaEntry
-    entry = Decided client number span
+      abbrev entry : ReplicaEntry
+      entry = Decided client number span
 
-    here_or : (s v : ℕ) → IsGrown ((s ≡ server) × (v ≡ volume)) entry (old.replicas s v) (new.replicas s v)
-    here_or s v = grown_at cell server volume entry next more joins s v
+      here_or : (s v : ℕ) → IsGrown ((s ≡ server) × (v ≡ volume)) entry (old.replicas s v) (new.replicas s v)
+      here_or s v = grown_at cell server volume entry next more joins s v
 
-    -- where no replica of the volume has an entry more, the group is the same
-    group_stays : (v : ℕ) → ((s : ℕ) → new.replicas s v ≡ old.replicas s v) → IsOneGroup new (servers v) v
-    group_stays v same = group_same (servers v) old new v (λ s. ap (replica_objects s v) (sym (same s))) (λ s d i. subst (λ es. In d (decisions_of v es)) (sym (same s)) i) ((gs.stand joins).groups v)
+      -- where no replica of the volume has an entry more, the group is the same
+      group_stays : (v : ℕ) → ((s : ℕ) → new.replicas s v ≡ old.replicas s v) → IsOneGroup new (servers v) v
+      group_stays v same =
+          group_same (servers v) old new v (λ s. ap (replica_objects s v) (sym (same s)))
+          (λ s d i. subst (λ es. In d (decisions_of v es)) (sym (same s)) i) ((gs.stand joins).groups v)
 
-    others : (s : ℕ) → s ≢ server → new.replicas s volume ≡ old.replicas s volume
-    others s ne = elim (here_or s volume) [ inl same ↦ same | inr grew ↦ absurd (ne grew.0.0) ]
+      others : (s : ℕ) → s ≢ server → new.replicas s volume ≡ old.replicas s volume
+      others s ne = elim (here_or s volume) [ inl same ↦ same | inr grew ↦ absurd (ne grew.0.0) ]
 
-    is_next : number ≡ (last_of volume (old.replicas server volume) client).number + 1
-    is_next = subst (λ es. number ≡ (last_of volume es client).number + 1) (sym (found_up (joins.replicas server volume) (cell.replicas server volume) (gs.sound.replicas_up server volume may.0))) may.1
+      is_next : number ≡ (last_of volume (old.replicas server volume) client).number + 1
+      is_next =
+          subst (λ es. number ≡ (last_of volume es client).number + 1)
+          (sym (found_up (joins.replicas server volume) (cell.replicas server volume)
+          (gs.sound.replicas_up server volume may.0))) may.1
 
-    -- the chunk is frozen now, or was decided
-    under : IsFrozenNow (deeds_in old client volume) number ⊎ WasDecided old volume client number
-    under = elim may.2.0 [
-      | inl letter ↦ (gs.stand joins).sent letter.0 client server volume number letter.1
-      | inr is ↦ inl (subst (λ es. IsFrozenNow (deeds_of volume es) number) (sym (found_up (joins.clients client) (cell.clients client) (gs.sound.clients_up client is.up))) ((is.cut, is.frozen), is.last))
-    ]
-
-    frozen_here : new.replicas server volume ≡ old.replicas server volume ++ entry ∷ []
-        → HasFrozen old client volume number server span
-    frozen_here grew =
-        let it : Decision = record { client = client; number = number; span = span; before = nodes_of volume (old.replicas server volume) } in
-        (sound.agree joins).frozen server volume it (subst (λ es. In it (decisions_of volume es)) (sym grew) (told_new (decision_at volume) (old.replicas server volume) entry it (inl refl)))
-
-    fresh : new.replicas server volume ≡ old.replicas server volume ++ entry ∷ [] → (made : Fid → Bool)
-        → ((f : Fid) → made f ≡ true → (f ≡ root_of volume) ⊎ IsCreatedByChunk old volume f)
-        → AreNew made (sent_of span)
-    fresh grew = new_span old cell.pool (gs.sound.agree joins) volume (λ c. (gs.stand joins).numbered c volume) client (λ s d verdict. (gs.stand joins).truths s volume d verdict) server number span is_next (frozen_here grew) under
-
-    no_settlement : new.replicas server volume ≡ old.replicas server volume ++ entry ∷ [] → (verdict : Verdict)
-        → In (record { number = number; verdict = verdict }) (settlements_of (deeds_in old client volume)) → ⊥
-    no_settlement grew verdict = unsettled old cell.pool (gs.sound.agree joins) volume (λ c. (gs.stand joins).numbered c volume) client (λ s d v. (gs.stand joins).truths s volume d v) server number span is_next (frozen_here grew) under verdict
-
-    group_here : IsOneGroup new (servers volume) volume
-    group_here = elim (here_or server volume) [
-      | inl same ↦ group_stays volume (λ s. elim (cases_eq s server) [
-        | inl is ↦ ap (λ n. new.replicas n volume) is ∙ same ∙ ap (λ n. old.replicas n volume) (sym is)
-        | inr ne ↦ others s ne
-      ])
-      | inr grew ↦ decided_group (servers volume) old new volume server client number span ((gs.stand joins).groups volume) at ((gs.sound.agree joins).ruled server volume) grew.1 others (fresh grew.1)
-    ]
-
-    decides_more : (s v : ℕ) (d : Decision) → Decides old s v d → Decides new s v d
-    decides_more s v d i = at_grown ((s ≡ server) × (v ≡ volume)) entry (old.replicas s v) (new.replicas s v) (λ es. In d (decisions_of v es)) (here_or s v) i (λ here. told_more (decision_at v) (old.replicas s v) entry d i)
-
-    truths_then : (s v : ℕ) (d : Decision) (verdict : Verdict) → Decides new s v d
-        → In (record { number = d.number; verdict = verdict }) (settlements_of (deeds_in old d.client v))
-        → verdict ≡ verdict_on d
-    truths_then s v d verdict i j = elim (here_or s v) [
-      | inl same ↦ (gs.stand joins).truths s v d verdict (subst (λ es. In d (decisions_of v es)) same i) j
-      | inr grew ↦ elim (told_last (decision_at v) (old.replicas s v) entry d (subst (λ es. In d (decisions_of v es)) grew.1 i)) [
-        | inl was ↦ (gs.stand joins).truths s v d verdict was j
-        | inr (inl is) ↦ absurd (no_settlement
-            (subst (λ es. es ≡ old.replicas server volume ++ entry ∷ []) refl (subst (λ n. new.replicas n volume ≡ old.replicas n volume ++ entry ∷ []) grew.0.0 (subst (λ n. new.replicas s n ≡ old.replicas s n ++ entry ∷ []) grew.0.1 grew.1))) verdict
-            (subst (λ n. In (record { number = number; verdict = verdict }) (settlements_of (deeds_in old client n))) grew.0.1 (subst (λ (x : Decision). In (record { number = x.number; verdict = verdict }) (settlements_of (deeds_in old x.client v))) is j)))
-        | inr (inr none) ↦ absurd none
+      -- the chunk is frozen now, or was decided
+      under : IsFrozenNow (deeds_in old client volume) number ⊎ WasDecided old volume client number
+      under = elim may.2.0 [
+        | inl letter ↦ (gs.stand joins).sent letter.0 client server volume number letter.1
+        | inr is ↦ inl (subst (λ es. IsFrozenNow (deeds_of volume es) number) (sym (found_up (joins.clients client) (cell.clients client) (gs.sound.clients_up client is.up))) ((is.cut, is.frozen), is.last))
       ]
-    ]
 
-    still_decided : (v c n : ℕ) (verdict : Verdict) → IsDecided old.replicas v c n verdict
-        → IsDecided new.replicas v c n verdict
-    still_decided v c n verdict was = record { server = was.server; by = was.by; there = decides_more was.server v was.by was.there; client_is = was.client_is; number_is = was.number_is; verdict_is = was.verdict_is }
+      frozen_here : new.replicas server volume ≡ old.replicas server volume ++ entry ∷ []
+          → HasFrozen old client volume number server span
+      frozen_here grew =
+          let it : Decision = record { client = client; number = number; span = span; before = nodes_of volume (old.replicas server volume) } in
+          (sound.agree joins).frozen server volume it
+          (subst (λ es. In it (decisions_of volume es)) (sym grew)
+          (told_new (decision_at volume) (old.replicas server volume) entry it (inl refl)))
 
-    taken_then : (s v c : ℕ) (objects : Objects) (lasts : ℕ → Last) → In (Resolved objects lasts) (new.replicas s v)
-        → 0 < (lasts c).number → IsDecided new.replicas v c (lasts c).number (lasts c).verdict
-    taken_then s v c objects lasts i some = still_decided v c (lasts c).number (lasts c).verdict ((gs.stand joins).taken s v c objects lasts was some)
-      where
-        was : In (Resolved objects lasts) (old.replicas s v)
-        was = elim (here_or s v) [
-          | inl same ↦ subst (In (Resolved objects lasts)) same i
-          | inr grew ↦ elim (in_parts (Resolved objects lasts) (old.replicas s v) (entry ∷ []) (subst (In (Resolved objects lasts)) grew.1 i)) [
-            | inl there ↦ there
-            | inr (inl e) ↦ cc
-            | inr (inr none) ↦ absurd none
-          ]
+      fresh : new.replicas server volume ≡ old.replicas server volume ++ entry ∷ [] → (made : Fid → Bool)
+          → ((f : Fid) → made f ≡ true → (f ≡ root_of volume) ⊎ IsCreatedByChunk old volume f)
+          → AreNew made (sent_of span)
+      fresh grew =
+          new_span old cell.pool (gs.sound.agree joins) volume (λ c. (gs.stand joins).numbered c volume) client
+          (λ s d verdict. (gs.stand joins).truths s volume d verdict) server number span is_next (frozen_here grew)
+          under
+
+      no_settlement : new.replicas server volume ≡ old.replicas server volume ++ entry ∷ [] → (verdict : Verdict)
+          → In (record { number = number; verdict = verdict }) (settlements_of (deeds_in old client volume)) → ⊥
+      no_settlement grew verdict =
+          unsettled old cell.pool (gs.sound.agree joins) volume (λ c. (gs.stand joins).numbered c volume) client
+          (λ s d v. (gs.stand joins).truths s volume d v) server number span is_next (frozen_here grew) under verdict
+
+      group_here : IsOneGroup new (servers volume) volume
+      group_here = elim (here_or server volume) [
+        | inl same ↦ group_stays volume (λ s. elim (cases_eq s server) [
+          | inl is ↦ ap (λ n. new.replicas n volume) is ∙ same ∙ ap (λ n. old.replicas n volume) (sym is)
+          | inr ne ↦ others s ne
+        ])
+        | inr grew ↦ decided_group (servers volume) old new volume server client number span ((gs.stand joins).groups volume) at ((gs.sound.agree joins).ruled server volume) grew.1 others (fresh grew.1)
+      ]
+
+      decides_more : (s v : ℕ) (d : Decision) → Decides old s v d → Decides new s v d
+      decides_more s v d i =
+          at_grown ((s ≡ server) × (v ≡ volume)) entry (old.replicas s v) (new.replicas s v)
+          (λ es. In d (decisions_of v es)) (here_or s v) i
+          (λ here. told_more (decision_at v) (old.replicas s v) entry d i)
+
+      truths_then : (s v : ℕ) (d : Decision) (verdict : Verdict) → Decides new s v d
+          → In (record { number = d.number; verdict = verdict }) (settlements_of (deeds_in old d.client v))
+          → verdict ≡ verdict_on d
+      truths_then s v d verdict i j = elim (here_or s v) [
+        | inl same ↦ (gs.stand joins).truths s v d verdict (subst (λ es. In d (decisions_of v es)) same i) j
+        | inr grew ↦ elim (told_last (decision_at v) (old.replicas s v) entry d (subst (λ es. In d (decisions_of v es)) grew.1 i)) [
+          | inl was ↦ (gs.stand joins).truths s v d verdict was j
+          | inr (inl is) ↦ absurd (no_settlement
+              (subst (λ es. es ≡ old.replicas server volume ++ entry ∷ []) refl
+              (subst (λ n. new.replicas n volume ≡ old.replicas n volume ++ entry ∷ []) grew.0.0
+              (subst (λ n. new.replicas s n ≡ old.replicas s n ++ entry ∷ []) grew.0.1 grew.1))) verdict
+              (subst (λ n. In (record { number = number; verdict = verdict }) (settlements_of (deeds_in old client n)))
+              grew.0.1 (subst (λ (x : Decision). In (record { number = x.number; verdict = verdict })
+              (settlements_of (deeds_in old x.client v))) is j)))
+          | inr (inr none) ↦ absurd none
         ]
+      ]
 
-    pub stand_decided : DoGroupsStand servers new cell.pool
-    stand_decided = record {
-      numbered = (gs.stand joins).numbered;
-      truths = truths_then;
-      sent = λ m c s v n e. elim ((gs.stand joins).sent m c s v n e) [
-        | inl frozen ↦ inl frozen
-        | inr decided ↦ inr (decided.0, still_decided v c n decided.0 decided.1)
-      ];
-      taken = taken_then;
-      groups = λ v. elim (cases_eq v volume) [
-        | inl is ↦ subst (λ n. IsOneGroup new (servers n) n) (sym is) group_here
-        | inr ne ↦ group_stays v (λ s. elim (here_or s v) [ inl same ↦ same | inr grew ↦ absurd (ne grew.0.1) ])
-      ];
-    }
+      still_decided : (v c n : ℕ) (verdict : Verdict) → IsDecided old.replicas v c n verdict
+          → IsDecided new.replicas v c n verdict
+      still_decided v c n verdict was =
+          record {
+            server = was.server;
+            by = was.by;
+            there = decides_more was.server v was.by was.there;
+            client_is = was.client_is;
+            number_is = was.number_is;
+            verdict_is = was.verdict_is;
+          }
+
+      taken_then : (s v c : ℕ) (objects : Objects) (lasts : ℕ → Last) → In (Resolved objects lasts) (new.replicas s v)
+          → 0 < (lasts c).number → IsDecided new.replicas v c (lasts c).number (lasts c).verdict
+      taken_then s v c objects lasts i some =
+          still_decided v c (lasts c).number (lasts c).verdict ((gs.stand joins).taken s v c objects lasts was some)
+        where
+          was : In (Resolved objects lasts) (old.replicas s v)
+          was = elim (here_or s v) [
+            | inl same ↦ subst (In (Resolved objects lasts)) same i
+            | inr grew ↦ elim (in_parts (Resolved objects lasts) (old.replicas s v) (entry ∷ []) (subst (In (Resolved objects lasts)) grew.1 i)) [
+              | inl there ↦ there
+              | inr (inl e) ↦ cc
+              | inr (inr none) ↦ absurd none
+            ]
+          ]
+
+      pub stand_decided : DoGroupsStand servers new cell.pool
+      stand_decided = record {
+        numbered = (gs.stand joins).numbered;
+        truths = truths_then;
+        sent = λ m c s v n e. elim ((gs.stand joins).sent m c s v n e) [
+          | inl frozen ↦ inl frozen
+          | inr decided ↦ inr (decided.0, still_decided v c n decided.0 decided.1)
+        ];
+        taken = taken_then;
+        groups = λ v. elim (cases_eq v volume) [
+          | inl is ↦ subst (λ n. IsOneGroup new (servers n) n) (sym is) group_here
+          | inr ne ↦ group_stays v (λ s. elim (here_or s v) [ inl same ↦ same | inr grew ↦ absurd (ne grew.0.1) ])
+        ];
+      }
 
   -- ---- each move
 
@@ -272,7 +324,9 @@ module _ (servers : ℕ → List ℕ) (cell : PlainCell) (gs : IsGroupSound serv
       → IsSound (with_client cell client next) → IsGroupSound servers (with_client cell client next)
   after_client client entry next more may alone sound = record {
     sound = sound;
-    stand = λ joins. stand_entry client entry joins (found_in (with_client cell client next) joins).clients (found_grown cell gs.sound client entry next joins more) may alone;
+    stand =
+        λ joins. stand_entry client entry joins (found_in (with_client cell client next) joins).clients
+        (found_grown cell gs.sound client entry next joins more) may alone;
   }
 
   after_replica : (server volume : ℕ) (entry : ReplicaEntry) (next : Actor ReplicaEntry)
@@ -293,13 +347,22 @@ module _ (servers : ℕ → List ℕ) (cell : PlainCell) (gs : IsGroupSound serv
   other_pool : (joins : Joins) (pool : ℕ → Option Letter)
       → ((m c s v n : ℕ) → pool m ≡ Some (ChunkSent c s v n) → IsSentStill joins c v n)
       → DoGroupsStand servers (found_in cell joins) pool
-  other_pool joins pool sent = record { numbered = (gs.stand joins).numbered; truths = (gs.stand joins).truths; sent = sent; taken = (gs.stand joins).taken; groups = (gs.stand joins).groups }
+  other_pool joins pool sent =
+      record {
+        numbered = (gs.stand joins).numbered;
+        truths = (gs.stand joins).truths;
+        sent = sent;
+        taken = (gs.stand joins).taken;
+        groups = (gs.stand joins).groups;
+      }
 
   by_letter : (joins : Joins) (letter : Letter) (c s v n : ℕ) → MayPost cell letter → letter ≡ ChunkSent c s v n
       → IsSentStill joins c v n
   by_letter joins letter c s v n may e =
       let is = subst (MayPost cell) e may in
-      inl (subst (λ es. IsFrozenNow (deeds_of v es) n) (sym (found_up (joins.clients c) (cell.clients c) (gs.sound.clients_up c is.up))) ((is.cut, is.frozen), is.last))
+      inl (subst (λ es. IsFrozenNow (deeds_of v es) n)
+      (sym (found_up (joins.clients c) (cell.clients c) (gs.sound.clients_up c is.up)))
+      ((is.cut, is.frozen), is.last))
 
   some_is : (x y : Letter) → Some x ≡ Some y → x ≡ y
   some_is x y e = cc
@@ -316,48 +379,74 @@ module _ (servers : ℕ → List ℕ) (cell : PlainCell) (gs : IsGroupSound serv
 
   moved : (move : Move) → May cell move → MayMoveAlone servers cell move → IsGroupSound servers (after cell move)
   moved (Does (AtClient client entry)) may alone =
-      after_client client entry (grown entry (cell.clients client)) (λ b. grown_found entry b (cell.clients client) (gs.sound.clients_up client may.0)) may alone (moves_keep_sound cell (Does (AtClient client entry)) may gs.sound)
+      after_client client entry (grown entry (cell.clients client))
+      (λ b. grown_found entry b (cell.clients client) (gs.sound.clients_up client may.0)) may alone
+      (moves_keep_sound cell (Does (AtClient client entry)) may gs.sound)
   moved (Does (AtReplica server volume entry)) may alone =
-      after_replica server volume entry (grown entry (cell.replicas server volume)) (λ b. grown_found entry b (cell.replicas server volume) (gs.sound.replicas_up server volume may.0)) may alone (moves_keep_sound cell (Does (AtReplica server volume entry)) may gs.sound)
+      after_replica server volume entry (grown entry (cell.replicas server volume))
+      (λ b. grown_found entry b (cell.replicas server volume) (gs.sound.replicas_up server volume may.0)) may alone
+      (moves_keep_sound cell (Does (AtReplica server volume entry)) may gs.sound)
   moved (Fails (AtClient client entry)) may alone =
-      after_client client entry (fallen entry (cell.clients client)) (λ b. fallen_found entry b (cell.clients client) (gs.sound.clients_up client may.0)) may alone (moves_keep_sound cell (Fails (AtClient client entry)) may gs.sound)
+      after_client client entry (fallen entry (cell.clients client))
+      (λ b. fallen_found entry b (cell.clients client) (gs.sound.clients_up client may.0)) may alone
+      (moves_keep_sound cell (Fails (AtClient client entry)) may gs.sound)
   moved (Fails (AtReplica server volume entry)) may alone =
-      after_replica server volume entry (fallen entry (cell.replicas server volume)) (λ b. fallen_found entry b (cell.replicas server volume) (gs.sound.replicas_up server volume may.0)) may alone (moves_keep_sound cell (Fails (AtReplica server volume entry)) may gs.sound)
+      after_replica server volume entry (fallen entry (cell.replicas server volume))
+      (λ b. fallen_found entry b (cell.replicas server volume) (gs.sound.replicas_up server volume may.0)) may alone
+      (moves_keep_sound cell (Fails (AtReplica server volume entry)) may gs.sound)
   moved (Posts letter) may alone = record {
     sound = moves_keep_sound cell (Posts letter) may gs.sound;
-    stand = λ joins. other_pool joins (after cell (Posts letter)).pool (λ m c s v n e. posted joins letter may m c s v n (m == cell.posted + 1) e);
+    stand =
+        λ joins. other_pool joins (after cell (Posts letter)).pool
+        (λ m c s v n e. posted joins letter may m c s v n (m == cell.posted + 1) e);
   }
   moved (Loses message) may alone = record {
     sound = moves_keep_sound cell (Loses message) may gs.sound;
-    stand = λ joins. other_pool joins (after cell (Loses message)).pool (λ m c s v n e. lost joins m c s v n (m == message) e);
+    stand =
+        λ joins. other_pool joins (after cell (Loses message)).pool
+        (λ m c s v n e. lost joins m c s v n (m == message) e);
   }
   moved (Crashes (TheClient client)) may alone = record {
     sound = moves_keep_sound cell (Crashes (TheClient client)) may gs.sound;
-    stand = λ joins. (let other = other_client cell client (crashed (cell.clients client)) (λ b. b) (λ b. refl) joins in subst (λ h. DoGroupsStand servers h cell.pool) other.1 (gs.stand other.0));
+    stand =
+        λ joins. (let other = other_client cell client (crashed (cell.clients client)) (λ b. b) (λ b. refl) joins in
+        subst (λ h. DoGroupsStand servers h cell.pool) other.1 (gs.stand other.0));
   }
   moved (Crashes (TheReplica server volume)) may alone = record {
     sound = moves_keep_sound cell (Crashes (TheReplica server volume)) may gs.sound;
-    stand = λ joins. (let other = other_replica cell server volume (crashed (cell.replicas server volume)) (λ b. b) (λ b. refl) joins in subst (λ h. DoGroupsStand servers h cell.pool) other.1 (gs.stand other.0));
+    stand =
+        λ joins. (let other = other_replica cell server volume (crashed (cell.replicas server volume)) (λ b. b)
+        (λ b. refl) joins in subst (λ h. DoGroupsStand servers h cell.pool) other.1 (gs.stand other.0));
   }
   moved (Recovers (TheClient client) j) may alone = record {
     sound = moves_keep_sound cell (Recovers (TheClient client) j) may gs.sound;
-    stand = λ joins. (let other = other_client cell client (recovered j (cell.clients client)) (λ b. j) (λ b. recovered_found j b (cell.clients client)) joins in subst (λ h. DoGroupsStand servers h cell.pool) other.1 (gs.stand other.0));
+    stand =
+        λ joins. (let other = other_client cell client (recovered j (cell.clients client)) (λ b. j)
+        (λ b. recovered_found j b (cell.clients client)) joins in subst (λ h. DoGroupsStand servers h cell.pool)
+        other.1 (gs.stand other.0));
   }
   moved (Recovers (TheReplica server volume) j) may alone = record {
     sound = moves_keep_sound cell (Recovers (TheReplica server volume) j) may gs.sound;
-    stand = λ joins. (let other = other_replica cell server volume (recovered j (cell.replicas server volume)) (λ b. j) (λ b. recovered_found j b (cell.replicas server volume)) joins in subst (λ h. DoGroupsStand servers h cell.pool) other.1 (gs.stand other.0));
+    stand =
+        λ joins. (let other = other_replica cell server volume (recovered j (cell.replicas server volume)) (λ b. j)
+        (λ b. recovered_found j b (cell.replicas server volume)) joins in subst
+        (λ h. DoGroupsStand servers h cell.pool) other.1 (gs.stand other.0));
   }
 
   -- ---- something left at replicas of a volume
 
   -- nothing came, or one entry of what was taken over
   abbrev TookOne : List ReplicaEntry → List ReplicaEntry → Type 0
-  TookOne before behind = (behind ≡ before) ⊎ ((objects : Objects) × ((lasts : ℕ → Last) × (behind ≡ before ++ Resolved objects lasts ∷ [])))
+  TookOne before behind =
+      (behind ≡ before) ⊎ ((objects : Objects)
+      × ((lasts : ℕ → Last) × (behind ≡ before ++ Resolved objects lasts ∷ [])))
 
   took_decides : (v : ℕ) (before behind : List ReplicaEntry) (d : Decision) → TookOne before behind
       → In d (decisions_of v before) → In d (decisions_of v behind)
   took_decides v before behind d (inl same) i = subst (λ es. In d (decisions_of v es)) (sym same) i
-  took_decides v before behind d (inr one) i = subst (λ es. In d (decisions_of v es)) (sym one.1.1) (told_more (decision_at v) before (Resolved one.0 one.1.0) d i)
+  took_decides v before behind d (inr one) i =
+      subst (λ es. In d (decisions_of v es)) (sym one.1.1)
+      (told_more (decision_at v) before (Resolved one.0 one.1.0) d i)
 
   took_decided : (v : ℕ) (before behind : List ReplicaEntry) (d : Decision) → TookOne before behind
       → In d (decisions_of v behind) → In d (decisions_of v before)
@@ -372,8 +461,10 @@ module _ (servers : ℕ → List ℕ) (cell : PlainCell) (gs : IsGroupSound serv
       lasts_in other (Resolved objects lasts) = lasts
 
   stand_behind : (final : PlainCell) (volume : ℕ) → final.clients ≡ cell.clients → final.pool ≡ cell.pool → ((joins : Joins) (s v : ℕ) → v ≢ volume → (found_in final joins).replicas s v ≡ (found_in cell joins).replicas s v)
-      → ((joins : Joins) (s : ℕ) → TookOne ((found_in cell joins).replicas s volume) ((found_in final joins).replicas s volume))
-      → IsSound final → ((joins : Joins) → IsOneGroup (found_in final joins) (servers volume) volume) → IsGroupSound servers final
+      → ((joins : Joins) (s : ℕ) → TookOne ((found_in cell joins).replicas s volume)
+      ((found_in final joins).replicas s volume))
+      → IsSound final → ((joins : Joins) → IsOneGroup (found_in final joins) (servers volume) volume) → IsGroupSound
+      servers final
   stand_behind final volume clients pool elsewhere each sound group =
       let took : (joins : Joins) (s v : ℕ) → TookOne ((found_in cell joins).replicas s v) ((found_in final joins).replicas s v) = λ joins s v. elim (cases_eq v volume) [
         | inl is ↦ subst (λ n. TookOne ((found_in cell joins).replicas s n) ((found_in final joins).replicas s n)) (sym is) (each joins s)
@@ -382,7 +473,9 @@ module _ (servers : ℕ → List ℕ) (cell : PlainCell) (gs : IsGroupSound serv
       let still : (joins : Joins) (v c n : ℕ) (verdict : Verdict) → IsDecided (found_in cell joins).replicas v c n verdict → IsDecided (found_in final joins).replicas v c n verdict = λ joins v c n verdict was. record {
         server = was.server;
         by = was.by;
-        there = took_decides v ((found_in cell joins).replicas was.server v) ((found_in final joins).replicas was.server v) was.by (took joins was.server v) was.there;
+        there =
+            took_decides v ((found_in cell joins).replicas was.server v)
+            ((found_in final joins).replicas was.server v) was.by (took joins was.server v) was.there;
         client_is = was.client_is;
         number_is = was.number_is;
         verdict_is = was.verdict_is;
@@ -392,8 +485,12 @@ module _ (servers : ℕ → List ℕ) (cell : PlainCell) (gs : IsGroupSound serv
         sound = sound;
         stand = λ joins. record {
           numbered = λ c v. subst (AreNumbers v c) (sym (clients_found joins c v)) ((gs.stand joins).numbered c v);
-          truths = λ s v d verdict i j. (gs.stand joins).truths s v d verdict (took_decided v ((found_in cell joins).replicas s v) ((found_in final joins).replicas s v) d (took joins s v) i)
-              (subst (λ ds. In (record { number = d.number; verdict = verdict }) (settlements_of ds)) (clients_found joins d.client v) j);
+          truths =
+              λ s v d verdict i j. (gs.stand joins).truths s v d verdict
+              (took_decided v ((found_in cell joins).replicas s v) ((found_in final joins).replicas s v) d
+              (took joins s v) i)
+              (subst (λ ds. In (record { number = d.number; verdict = verdict }) (settlements_of ds))
+              (clients_found joins d.client v) j);
           sent = λ m c s v n e. elim ((gs.stand joins).sent m c s v n (ap (λ p. p m) (sym pool) ∙ e)) [
             | inl frozen ↦ inl (subst (λ ds. IsFrozenNow ds n) (sym (clients_found joins c v)) frozen)
             | inr was ↦ inr (was.0, still joins v c n was.0 was.1)
@@ -413,7 +510,8 @@ module _ (servers : ℕ → List ℕ) (cell : PlainCell) (gs : IsGroupSound serv
           groups = λ v. elim (cases_eq v volume) [
             | inl is ↦ subst (λ n. IsOneGroup (found_in final joins) (servers n) n) (sym is) (group joins)
             | inr ne ↦ group_same (servers v) (found_in cell joins) (found_in final joins) v (λ s. ap (replica_objects s v) (sym (elsewhere joins s v ne)))
-                (λ s d i. subst (λ es. In d (decisions_of v es)) (sym (elsewhere joins s v ne)) i) ((gs.stand joins).groups v)
+                (λ s d i. subst (λ es. In d (decisions_of v es)) (sym (elsewhere joins s v ne)) i)
+                ((gs.stand joins).groups v)
           ];
         };
       }
@@ -422,19 +520,25 @@ pub steps_keep_group_sound : StepsKeepGroupSound
 steps_keep_group_sound servers cell (Moves move) may gs = moved servers cell gs move may.0 may.1
 steps_keep_group_sound servers cell (Resolves volume some lasts installs failing) may gs =
     let done = resolution_done servers cell gs volume some lasts installs failing may in
-    stand_behind servers cell gs (after_step cell (Resolves volume some lasts installs failing)) volume done.behind.clients done.behind.pool done.behind.elsewhere
+    stand_behind servers cell gs (after_step cell (Resolves volume some lasts installs failing)) volume
+    done.behind.clients done.behind.pool done.behind.elsewhere
     (λ joins s. elim (done.behind.each joins s) [ inl same ↦ inl same | inr put ↦ inr (put.objects, (_, put.more)) ]) done.sound
-    (group_behind servers cell gs volume some lasts installs failing may (after_step cell (Resolves volume some lasts installs failing)) done.behind)
+    (group_behind servers cell gs volume some lasts installs failing may
+    (after_step cell (Resolves volume some lasts installs failing)) done.behind)
 steps_keep_group_sound servers cell (Repairs volume source names some lasts installs failing) may gs =
     let done = repair_done servers cell gs volume source names some lasts installs failing may in
-    stand_behind servers cell gs (after_step cell (Repairs volume source names some lasts installs failing)) volume done.behind.clients done.behind.pool done.behind.elsewhere
+    stand_behind servers cell gs (after_step cell (Repairs volume source names some lasts installs failing)) volume
+    done.behind.clients done.behind.pool done.behind.elsewhere
     (λ joins s. elim (done.behind.each joins s) [ inl same ↦ inl same | inr put ↦ inr (put.objects, (_, put.more)) ]) done.sound
-    (group_repaired servers cell gs volume source names some lasts installs failing may (after_step cell (Repairs volume source names some lasts installs failing)) done.behind)
+    (group_repaired servers cell gs volume source names some lasts installs failing may
+    (after_step cell (Repairs volume source names some lasts installs failing)) done.behind)
 
 pub steps_are_moves : StepsAreMoves
 steps_are_moves servers cell (Moves move) may gs = (may.0, refl)
-steps_are_moves servers cell (Resolves volume some lasts installs failing) may gs = (resolution_done servers cell gs volume some lasts installs failing may).moved
-steps_are_moves servers cell (Repairs volume source names some lasts installs failing) may gs = (repair_done servers cell gs volume source names some lasts installs failing may).moved
+steps_are_moves servers cell (Resolves volume some lasts installs failing) may gs =
+    (resolution_done servers cell gs volume some lasts installs failing may).moved
+steps_are_moves servers cell (Repairs volume source names some lasts installs failing) may gs =
+    (repair_done servers cell gs volume source names some lasts installs failing may).moved
 
 -- ---- runs
 
@@ -447,7 +551,12 @@ new_group servers h volume none = record {
   each = λ s i. subst (IsReplica h volume (λ f. true)) (sym (ap (replica_objects s volume) (none s))) (
       let root = root_of volume in
       let at = new_sound root (λ f. same_fid f root) (λ f. refl) in
-      record { tree = at.tree; kinds = at.kinds; rings = new_ringed root; known = λ f e. inl (same_fid_is f root (at.was_made f e)) });
+      record {
+        tree = at.tree;
+        kinds = at.kinds;
+        rings = new_ringed root;
+        known = λ f e. inl (same_fid_is f root (at.was_made f e));
+      });
 }
 
 none_found : {E : Type 0} (b : Bool) → found {E = E} b new_actor ≡ []
@@ -459,7 +568,9 @@ empty_stands servers = record {
   stand = λ joins. record {
     truths = λ s v d verdict i j. absurd (subst (λ es. In d (decisions_of v es)) (none_found (joins.replicas s v)) i);
     sent = λ m c s v n e. cc;
-    taken = λ s v c objects lasts i some. absurd (subst (In (Resolved objects lasts)) (none_found (joins.replicas s v)) i);
+    taken =
+        λ s v c objects lasts i some. absurd (subst (In (Resolved objects lasts)) (none_found (joins.replicas s v))
+        i);
     numbered = λ c v. subst (λ es. AreNumbers v c (deeds_of v es)) (sym (none_found (joins.clients c))) tt;
     groups = λ v. new_group (servers v) (found_in empty_cell joins) v (λ s. none_found (joins.replicas s v));
   };
@@ -468,7 +579,9 @@ empty_stands servers = record {
 pub stepped_sound : (servers : ℕ → List ℕ) (steps : List GroupStep) (before behind : PlainCell)
     → GroupStepped servers before steps behind → IsGroupSound servers before → IsGroupSound servers behind
 stepped_sound servers [] before behind run gs = subst (λ c. IsGroupSound servers c) (sym run) gs
-stepped_sound servers (step ∷ steps) before behind run gs = stepped_sound servers steps (after_step before step) behind run.1 (steps_keep_group_sound servers before step run.0 gs)
+stepped_sound servers (step ∷ steps) before behind run gs =
+    stepped_sound servers steps (after_step before step) behind run.1
+    (steps_keep_group_sound servers before step run.0 gs)
 
 pub group_runs_are_sound : GroupRunsAreSound
 group_runs_are_sound servers steps cell run = stepped_sound servers steps empty_cell cell run (empty_stands servers)

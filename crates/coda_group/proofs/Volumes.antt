@@ -63,7 +63,9 @@ volume_of_view root objects tree kind =
     let hs : has_in objects ≡ has (nodes_in objects) = λ i. λ f. sym (has_same objects f) i in
     let cs : child_in objects ≡ child (nodes_in objects) = λ i. λ d n. sym (child_same objects d n) i in
     record {
-      tree = subst (λ c. IsTree root (has (nodes_in objects)) c) cs (subst (λ h. IsTree root h (child_in objects)) hs tree);
+      tree =
+          subst (λ c. IsTree root (has (nodes_in objects)) c) cs
+          (subst (λ h. IsTree root h (child_in objects)) hs tree);
       top = subst IsDirNode (sym (get_nodes objects root)) (dir_node (finmap.get objects root) tree.rooted kind);
     }
 
@@ -73,16 +75,20 @@ pub standing_volume : (servers : List ℕ) (volume : ℕ) (group : Group) → Is
     → (s : ℕ) → IsIn s servers → IsVolume (root_of volume) (nodes_in (group.holds s))
 standing_volume servers volume group st s i =
     let at = st.sound.each s i in
-    volume_of_view (root_of volume) (group.holds s) at.tree (subst (λ b. HasKind b (finmap.get (group.holds s) (root_of volume))) st.sound.top (at.kinds (root_of volume)))
+    volume_of_view (root_of volume) (group.holds s) at.tree
+    (subst (λ b. HasKind b (finmap.get (group.holds s) (root_of volume))) st.sound.top (at.kinds (root_of volume)))
 
 pub group_volume : (servers : List ℕ) (h : Histories) (volume : ℕ) → IsOneGroup h servers volume → (s : ℕ)
     → IsIn s servers → IsVolume (root_of volume) (nodes_in (holdings h volume s))
-group_volume servers h volume g s i = standing_volume servers volume (group_of h servers volume) (stands h servers volume g) s i
+group_volume servers h volume g s i =
+    standing_volume servers volume (group_of h servers volume) (stands h servers volume g) s i
 
 -- any of the replicas are trees of one kind
 pub group_trees : (servers : List ℕ) (h : Histories) (volume : ℕ) → IsOneGroup h servers volume → (some : List ℕ)
     → AreAmong some servers → some ≢ [] → AreTreesOfOneKind (map (holdings h volume) some) (root_of volume)
-group_trees servers h volume g some among ne = trees_of_one_kind (root_of volume) servers (group_of h servers volume) (stands h servers volume g).sound some among ne
+group_trees servers h volume g some among ne =
+    trees_of_one_kind (root_of volume) servers (group_of h servers volume) (stands h servers volume g).sound some
+    among ne
 
 -- ---- a resolution
 
@@ -108,7 +114,8 @@ module _ (servers : List ℕ) (h h' : Histories) (volume : ℕ) (some : List ℕ
     | inr left ↦ inr (
       left.among,
       subst (IsInstalled (map (holdings h volume) some) (root_of volume) (holdings h volume s))
-          (sym (ap (replica_objects s volume) left.grown ∙ objects_push s volume (h.replicas s volume) (Resolved left.objects left.lasts))) left.left,
+          (sym (ap (replica_objects s volume) left.grown ∙ objects_push s volume (h.replicas s volume)
+          (Resolved left.objects left.lasts))) left.left,
     )
   ]
 
@@ -119,5 +126,6 @@ module _ (servers : List ℕ) (h h' : Histories) (volume : ℕ) (some : List ℕ
       let before : Group = group_of h servers volume in
       let after : Group = record { holds = holdings h' volume; made = made } in
       let step : IsResolved (root_of volume) some before after = record { each = holds_or; made = refl } in
-      one_group h' servers volume made (resolved_stands (root_of volume) servers before (stands h servers volume g) some among after step)
+      one_group h' servers volume made (resolved_stands (root_of volume) servers before (stands h servers volume g)
+      some among after step)
       (λ f m. elim (known h servers volume g f m) [ inl root ↦ inl root | inr created ↦ inr (created_stays h h' volume f decides_more created) ])

@@ -118,5 +118,6 @@ module _ (root : Fid) (server client : ℕ) (rec : Record) (view after : Objects
       by : (p : Option Held) → finmap.get after f ≡ p → DecidedAt view after (makes rec.op) f
       by None h = absent h
       by (Some held) h = ⊎_elim came
-          (λ (x : (was : Node) × ((finmap.get m f ≡ Some was) × (is_dir held.node.kind ≡ is_dir was.kind))). was_there held h x.0 x.1.0 x.1.1 (finmap.get view f) refl)
+          (λ (x : (was : Node) × ((finmap.get m f ≡ Some was) × (is_dir held.node.kind ≡ is_dir was.kind))). was_there
+          held h x.0 x.1.0 x.1.1 (finmap.get view f) refl)
           (applied_keeps m volume client rec decided.certified f held.node (sym (left_is f) ∙ ap node_of h))

@@ -42,11 +42,15 @@ dir_at m d node is at = dir_is node.kind (subst IsDirNode at is)
 
 -- each node that is left was there, and is a directory where it was one
 abbrev pub KeepsKinds : Nodes → Nodes → Type 0
-KeepsKinds m left = (f : Fid) (node : Node) → map.get left f ≡ Some node → (was : Node) × ((map.get m f ≡ Some was) × (is_dir node.kind ≡ is_dir was.kind))
+KeepsKinds m left =
+    (f : Fid) (node : Node) → map.get left f ≡ Some node → (was : Node)
+    × ((map.get m f ≡ Some was) × (is_dir node.kind ≡ is_dir was.kind))
 
 -- but for one that is made
 abbrev pub KeepsKindsBut : Option Fid → Nodes → Nodes → Type 0
-KeepsKindsBut new m left = (f : Fid) (node : Node) → map.get left f ≡ Some node → (new ≡ Some f) ⊎ ((was : Node) × ((map.get m f ≡ Some was) × (is_dir node.kind ≡ is_dir was.kind)))
+KeepsKindsBut new m left =
+    (f : Fid) (node : Node) → map.get left f ≡ Some node → (new ≡ Some f)
+    ⊎ ((was : Node) × ((map.get m f ≡ Some was) × (is_dir node.kind ≡ is_dir was.kind)))
 
 keeps_then : (m mid left : Nodes) → KeepsKinds m mid → KeepsKinds mid left → KeepsKinds m left
 keeps_then m mid left a b f node e =
@@ -64,10 +68,18 @@ keeps_changed m d change alike f node e = elim (fid_cases f d) [
   where
     here : f ≡ d → (o : Option Node) → map.get m d ≡ o
         → (was : Node) × ((map.get m f ≡ Some was) × (is_dir node.kind ≡ is_dir was.kind))
-    here same None is = absurd (some_none node (sym e ∙ ap (map.get (changed m d change)) same ∙ at_changed m d change ∙ ap (option_map change) is))
+    here same None is =
+        absurd (some_none node (sym e ∙ ap (map.get (changed m d change)) same ∙ at_changed m d change ∙ ap
+        (option_map change) is))
     here same (Some was) is =
-        let now : Some node ≡ Some (change was) = sym e ∙ ap (map.get (changed m d change)) same ∙ at_changed m d change ∙ ap (option_map change) is in
-        (was, (ap (map.get m) same ∙ is, ap (λ (x : Node). is_dir x.kind) (the_some node (change was) now) ∙ alike was is))
+        let now : Some node ≡ Some (change was) = sym e ∙ ap (map.get (changed m d change)) same ∙ at_changed m d change ∙ ap (option_map change) is in (
+          was,
+          (
+            ap (map.get m) same ∙ is,
+            ap (λ (x : Node). is_dir x.kind) (the_some node (change was) now) ∙ alike was
+                is,
+          ),
+        )
 
 keeps_removed : (m : Nodes) (gone : Fid) → KeepsKinds m (map.remove m gone)
 keeps_removed m gone f node e = elim (fid_cases f gone) [
@@ -101,14 +113,22 @@ keeps_created m dir name fid node may f now e = elim (fid_cases f fid) [
 
     binder : f ≡ dir → (was : Node) × ((map.get m f ≡ Some was) × (is_dir now.kind ≡ is_dir was.kind))
     binder same =
-        let is : Some now ≡ Some (bind_in there.0 name fid) = sym e ∙ ap (map.get (edited_all m (additions dir name fid node))) same ∙ made_is dir ∙ get_added_dir m dir name fid node there.0 there.1 may.fid_free in
-        (there.0, (ap (map.get m) same ∙ there.1, ap (λ (x : Node). is_dir x.kind) (the_some now (bind_in there.0 name fid) is) ∙ sym (dir_is there.0.kind there.2)))
+        let is : Some now ≡ Some (bind_in there.0 name fid) = sym e ∙ ap (map.get (edited_all m (additions dir name fid node))) same ∙ made_is dir ∙ get_added_dir m dir name fid node there.0 there.1 may.fid_free in (
+          there.0,
+          (
+            ap (map.get m) same ∙ there.1,
+            ap (λ (x : Node). is_dir x.kind)
+                (the_some now (bind_in there.0 name fid) is) ∙ sym (dir_is there.0.kind there.2),
+          ),
+        )
 
 -- ---- what makes nothing
 
 pub keeps_less : (m : Nodes) (dir : Fid) (name : Name) (fid : Fid) → MayRemove m dir name fid
     → KeepsKinds m (edited_all m (removals dir name fid))
-keeps_less m dir name fid may = keeps_then m (unbound m dir name) (map.remove (unbound m dir name) fid) (keeps_unbound m dir name may.dir_there) (keeps_removed (unbound m dir name) fid)
+keeps_less m dir name fid may =
+    keeps_then m (unbound m dir name) (map.remove (unbound m dir name) fid) (keeps_unbound m dir name may.dir_there)
+    (keeps_removed (unbound m dir name) fid)
 
 pub keeps_wrote : (m : Nodes) (fid : Fid) (patch : Patch) (sid : Sid) → KeepsKinds m (changed m fid (written patch sid))
 keeps_wrote m fid patch sid = keeps_changed m fid (written patch sid) (λ node at. same_kind patch.content node.kind)
@@ -121,14 +141,19 @@ keeps_wrote m fid patch sid = keeps_changed m fid (written patch sid) (λ node a
 
 pub keeps_moved : (m : Nodes) (from : Fid) (name : Name) (to : Fid) (at : Name) (f : Fid) → IsDirAt m from
     → IsDirAt m to → KeepsKinds m (edited_all m (moves from name to at f))
-keeps_moved m from name to at f from_dir to_dir = keeps_then m (unbound m from name) (edited_all m (moves from name to at f)) (keeps_unbound m from name from_dir)
+keeps_moved m from name to at f from_dir to_dir =
+    keeps_then m (unbound m from name) (edited_all m (moves from name to at f)) (keeps_unbound m from name from_dir)
     (keeps_bound (unbound m from name) to at f (dir_changed m from (λ node. unbind_in node name) (λ _ _. tt) to to_dir))
 
 pub keeps_replaced : (m : Nodes) (gone from : Fid) (name : Name) (to : Fid) (at : Name) (f : Fid)
     → child m from name ≡ Some f → child m to at ≡ Some gone → ((n : Name) → child m gone n ≡ None)
     → KeepsKinds m (edited_all m (replacements gone from name to at f))
 unfolding replaced moved detached
-keeps_replaced m gone from name to at f was had old_leaf = subst (KeepsKinds m) (replaced_detached m gone from name to at f) (keeps_then m (edited_all m (removals to at gone)) (edited_all (edited_all m (removals to at gone)) (moves from name to at f)) (keeps_less m to at gone may) (keeps_moved (edited_all m (removals to at gone)) from name to at f from_dir to_dir))
+keeps_replaced m gone from name to at f was had old_leaf =
+    subst (KeepsKinds m) (replaced_detached m gone from name to at f)
+    (keeps_then m (edited_all m (removals to at gone))
+    (edited_all (edited_all m (removals to at gone)) (moves from name to at f)) (keeps_less m to at gone may)
+    (keeps_moved (edited_all m (removals to at gone)) from name to at f from_dir to_dir))
   where
     may : MayRemove m to at gone
     may = record { dir_there = binder_is_dir m to at gone had; bound = had; leaf = old_leaf }
@@ -143,7 +168,11 @@ keeps_replaced m gone from name to at f was had old_leaf = subst (KeepsKinds m) 
     from_other same = none-some f (sym (old_leaf name) ∙ ap (λ q. child m q name) (sym same) ∙ was)
 
     to_dir : IsDirAt (edited_all m (removals to at gone)) to
-    to_dir = subst (λ n. IsDirAt n to) (detached_is m to at gone) (dir_left m to at gone there.0 there.1 to_other to to_other may.dir_there)
+    to_dir =
+        subst (λ n. IsDirAt n to) (detached_is m to at gone)
+        (dir_left m to at gone there.0 there.1 to_other to to_other may.dir_there)
 
     from_dir : IsDirAt (edited_all m (removals to at gone)) from
-    from_dir = subst (λ n. IsDirAt n from) (detached_is m to at gone) (dir_left m to at gone there.0 there.1 to_other from from_other (binder_is_dir m from name f was))
+    from_dir =
+        subst (λ n. IsDirAt n from) (detached_is m to at gone)
+        (dir_left m to at gone there.0 there.1 to_other from from_other (binder_is_dir m from name f was))

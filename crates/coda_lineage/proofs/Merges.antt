@@ -27,9 +27,12 @@ module _ (root : Fid) (before after : Group) (all : Replicas) where
   at s [] changes i a z = absurd i
   at s (t ∷ some) [] i a z = absurd z
   at s (t ∷ some) (change ∷ changes) (inr i) a z = at s some changes i a.1 z.1
-  at s (t ∷ some) (change ∷ changes) (inl same) a z = subst (λ q. (after.holds q ≡ before.holds q) ⊎ IsInstalled all root (before.holds q) (after.holds q)) same (⊎_elim
+  at s (t ∷ some) (change ∷ changes) (inl same) a z =
+      subst (λ q. (after.holds q ≡ before.holds q) ⊎ IsInstalled all root (before.holds q) (after.holds q)) same
+      (⊎_elim
       (λ (e : after.holds t ≡ before.holds t). inl e)
-      (λ (e : after.holds t ≡ changed (before.holds t) change). inr (subst (IsInstalled all root (before.holds t)) (sym e) a.0.installed))
+      (λ (e : after.holds t ≡ changed (before.holds t) change). inr
+      (subst (IsInstalled all root (before.holds t)) (sym e) a.0.installed))
       z.0)
 
 pub merges_resolve : MergesAreResolutions

@@ -48,13 +48,15 @@ module _ {root : Fid} (m : Nodes) (v : IsVolume root m) where
       → IsVolume root (edited_all m (additions dir name fid node))
   created_volume dir name fid node leaf may =
       let there = dir_node m dir may.dir_there in
-      subst (IsVolume root) (added_is m dir name fid node) (volume_added m dir name fid node there.0 there.1 may.fid_free v may.name_free leaf)
+      subst (IsVolume root) (added_is m dir name fid node)
+      (volume_added m dir name fid node there.0 there.1 may.fid_free v may.name_free leaf)
 
   removed_volume : (dir : Fid) (name : Name) (fid : Fid) → MayRemove m dir name fid
       → IsVolume root (edited_all m (removals dir name fid))
   removed_volume dir name fid may =
       let there = dir_node m dir may.dir_there in
-      subst (IsVolume root) (detached_is m dir name fid) (volume_detached m dir name fid there.0 there.1 v may.bound may.leaf)
+      subst (IsVolume root) (detached_is m dir name fid)
+      (volume_detached m dir name fid there.0 there.1 v may.bound may.leaf)
 
   written_volume : (fid : Fid) (patch : Patch) (sid : Sid) → IsVolume root (changed m fid (written patch sid))
   written_volume fid patch sid = let k = kept_written m (parent_of m) fid patch sid with_parents in k.volume
@@ -92,20 +94,27 @@ module _ {root : Fid} (m : Nodes) (v : IsVolume root m) where
         let new : Fid → Option Fid = λ q. cond (same_fid q f) (Some to) (cond (same_fid q gone) None (parent_of m q)) in
         let k = kept_replaced m (parent_of m) new gone from name to at f
         (ap (λ b. cond b (Some to) (cond (same_fid f gone) None (parent_of m f))) (fid_same f f refl))
-        (ap (λ b. cond b (Some to) (cond (same_fid gone gone) None (parent_of m gone))) (fid_other gone f differ) ∙ ap (λ b. cond b None (parent_of m gone)) (fid_same gone gone refl))
-        (λ q other stays. ap (λ b. cond b (Some to) (cond (same_fid q gone) None (parent_of m q))) (fid_other q f other) ∙ ap (λ b. cond b None (parent_of m q)) (fid_other q gone stays))
+        (ap (λ b. cond b (Some to) (cond (same_fid gone gone) None (parent_of m gone))) (fid_other gone f differ) ∙ ap
+        (λ b. cond b None (parent_of m gone)) (fid_same gone gone refl))
+        (λ q other stays. ap (λ b. cond b (Some to) (cond (same_fid q gone) None (parent_of m q)))
+        (fid_other q f other) ∙ ap (λ b. cond b None (parent_of m q)) (fid_other q gone stays))
         with_parents was may.had differ leaf may.old_leaf in
         subst (IsVolume root) (replaced_edits m gone from name to at f) k.volume
 
   volume_after : (time : ℕ) (sid : Sid) (op : Op) → certify m op ≡ None
       → IsVolume root (edited_all m (effects time sid op))
   unfolding certify
-  volume_after time sid (Create dir name fid mode owner) c = created_volume dir name fid _ (λ n. map.get-empty name_cmp n) (may_edit m (Create dir name fid mode owner) c)
-  volume_after time sid (Mkdir dir name fid mode owner) c = created_volume dir name fid _ (λ n. map.get-empty name_cmp n) (may_edit m (Mkdir dir name fid mode owner) c)
-  volume_after time sid (Symlink dir name fid target mode owner) c = created_volume dir name fid _ (λ n. map.get-empty name_cmp n) (may_edit m (Symlink dir name fid target mode owner) c)
+  volume_after time sid (Create dir name fid mode owner) c =
+      created_volume dir name fid _ (λ n. map.get-empty name_cmp n) (may_edit m (Create dir name fid mode owner) c)
+  volume_after time sid (Mkdir dir name fid mode owner) c =
+      created_volume dir name fid _ (λ n. map.get-empty name_cmp n) (may_edit m (Mkdir dir name fid mode owner) c)
+  volume_after time sid (Symlink dir name fid target mode owner) c =
+      created_volume dir name fid _ (λ n. map.get-empty name_cmp n)
+      (may_edit m (Symlink dir name fid target mode owner) c)
   volume_after time sid (Store fid pre content) c = written_volume fid (content_patch content time) sid
   volume_after time sid (Setattr fid pre attrs) c = written_volume fid (attrs_patch attrs) sid
-  volume_after time sid (Remove dir name fid pre) c = removed_volume dir name fid (may_edit m (Remove dir name fid pre) c)
+  volume_after time sid (Remove dir name fid pre) c =
+      removed_volume dir name fid (may_edit m (Remove dir name fid pre) c)
   volume_after time sid (Rmdir dir name fid pre) c = removed_volume dir name fid (may_edit m (Rmdir dir name fid pre) c)
   volume_after time sid (Rename from_dir from to_dir to fid None) c = let may = may_move m from_dir from to_dir to fid c in moved_volume from_dir from to_dir to fid may.0 may.1
   volume_after time sid (Rename from_dir from to_dir to fid (Some over)) c = let may = may_replace m from_dir from to_dir to fid over c in replaced_volume over.fid from_dir from to_dir to fid may.0 may.1
@@ -122,13 +131,18 @@ module _ {root : Fid} (m : Nodes) (v : IsVolume root m) where
   keeps_after : (time : ℕ) (sid : Sid) (op : Op) → certify m op ≡ None
       → KeepsKindsBut (makes op) m (edited_all m (effects time sid op))
   unfolding certify
-  keeps_after time sid (Create dir name fid mode owner) c = keeps_created m dir name fid _ (may_edit m (Create dir name fid mode owner) c)
-  keeps_after time sid (Mkdir dir name fid mode owner) c = keeps_created m dir name fid _ (may_edit m (Mkdir dir name fid mode owner) c)
-  keeps_after time sid (Symlink dir name fid target mode owner) c = keeps_created m dir name fid _ (may_edit m (Symlink dir name fid target mode owner) c)
+  keeps_after time sid (Create dir name fid mode owner) c =
+      keeps_created m dir name fid _ (may_edit m (Create dir name fid mode owner) c)
+  keeps_after time sid (Mkdir dir name fid mode owner) c =
+      keeps_created m dir name fid _ (may_edit m (Mkdir dir name fid mode owner) c)
+  keeps_after time sid (Symlink dir name fid target mode owner) c =
+      keeps_created m dir name fid _ (may_edit m (Symlink dir name fid target mode owner) c)
   keeps_after time sid (Store fid pre content) c = kept _ (keeps_wrote m fid (content_patch content time) sid)
   keeps_after time sid (Setattr fid pre attrs) c = kept _ (keeps_wrote m fid (attrs_patch attrs) sid)
-  keeps_after time sid (Remove dir name fid pre) c = kept _ (keeps_less m dir name fid (may_edit m (Remove dir name fid pre) c))
-  keeps_after time sid (Rmdir dir name fid pre) c = kept _ (keeps_less m dir name fid (may_edit m (Rmdir dir name fid pre) c))
+  keeps_after time sid (Remove dir name fid pre) c =
+      kept _ (keeps_less m dir name fid (may_edit m (Remove dir name fid pre) c))
+  keeps_after time sid (Rmdir dir name fid pre) c =
+      kept _ (keeps_less m dir name fid (may_edit m (Rmdir dir name fid pre) c))
   keeps_after time sid (Rename from_dir from to_dir to fid None) c =
       let may = may_move m from_dir from to_dir to fid c in
       kept _ (keeps_moved m from_dir from to_dir to fid (binder_is_dir m from_dir from fid may.1) may.0.to_dir)

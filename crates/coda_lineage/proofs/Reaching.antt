@@ -76,10 +76,14 @@ sound root servers g (new_volume group new) = record {
   root_made = new.made root ∙ same_fid_refl root;
   each = λ s i. subst (IsSoundAt root (λ f. true) group.made) (sym (new.roots s)) (new_sound root group.made new.made);
 }
-sound root servers g (decided before after server client rec way i step) = decided_sound root servers before (sound root servers before way) server client rec i after step
-sound root servers g (resolved before after some way among step) = resolved_sound root servers before (sound root servers before way) some among after step
-sound root servers g (repaired before after some source names way among i step) = repaired_sound root servers before (sound root servers before way) some among source i names after step
+sound root servers g (decided before after server client rec way i step) =
+    decided_sound root servers before (sound root servers before way) server client rec i after step
+sound root servers g (resolved before after some way among step) =
+    resolved_sound root servers before (sound root servers before way) some among after step
+sound root servers g (repaired before after some source names way among i step) =
+    repaired_sound root servers before (sound root servers before way) some among source i names after step
 
 pub stay_trees_of_one_kind : (root : Fid) (servers : List ℕ) (group : Group) (some : List ℕ)
     → IsReached root servers group → AreAmong some servers → some ≢ [] → AreTreesOfOneKind (held_at group some) root
-stay_trees_of_one_kind root servers group some way among ne = trees_of_one_kind root servers group (sound root servers group way) some among ne
+stay_trees_of_one_kind root servers group some way among ne =
+    trees_of_one_kind root servers group (sound root servers group way) some among ne

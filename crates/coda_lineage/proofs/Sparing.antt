@@ -41,7 +41,8 @@ no_cycle {c = c} t g x (itself y is) (itself z same) e n down bound = t.unbound 
 no_cycle {c = c} t g x (itself y is) (under d k z b up) e n down bound = t.unbound d k (b ∙ ap Some is)
 no_cycle {c = c} t g x (under p k y b up) (itself z same) e n down bound =
     let one = t.once p k e n g (b ∙ ap Some same) bound in
-    no_cycle t g p up (subst (λ q. IsBelow c g q) (sym one.0) (subst (λ q. IsBelow c q e) same down)) p k (itself p refl) (b ∙ ap Some same)
+    no_cycle t g p up (subst (λ q. IsBelow c g q) (sym one.0) (subst (λ q. IsBelow c q e) same down)) p k
+    (itself p refl) (b ∙ ap Some same)
 no_cycle {c = c} t g x (under p k y b up) (under d j z b2 up2) e n down bound =
     let one = t.once d j p k x b2 b in
     no_cycle t g p up (subst (IsBelow c g) one.0 up2) e n (below_below e (under p k x b (itself p refl)) down) bound
@@ -68,12 +69,17 @@ module _ (subtree : Fid → Bool) (top : Fid) where
   pub spared_binds : (held : Held) (k : NodeKind) (n : Name) (f : Fid) → held.node.kind ≡ k
       → finmap.get (bindings (spared_by subtree top held k).node.kind) n ≡ Some f
       → (finmap.get (bindings held.node.kind) n ≡ Some f) × (is_taken subtree top (Some f) ≡ false)
-  spared_binds held (File content) n f e h = absurd (some_none f (sym h ∙ ap (λ x. finmap.get (bindings x) n) e ∙ finmap.get-empty name_cmp n))
-  spared_binds held (Link target) n f e h = absurd (some_none f (sym h ∙ ap (λ x. finmap.get (bindings x) n) e ∙ finmap.get-empty name_cmp n))
+  spared_binds held (File content) n f e h =
+      absurd (some_none f (sym h ∙ ap (λ x. finmap.get (bindings x) n) e ∙ finmap.get-empty name_cmp n))
+  spared_binds held (Link target) n f e h =
+      absurd (some_none f (sym h ∙ ap (λ x. finmap.get (bindings x) n) e ∙ finmap.get-empty name_cmp n))
   spared_binds held (Dir entries) n f e h = go (binds_one subtree top entries) refl h
     where
       go : (b : Bool) → binds_one subtree top entries ≡ b → finmap.get (bindings (cond b (record held { node = record held.node { kind = Dir (others_of subtree top entries); marked = true } }) held).node.kind) n ≡ Some f → (finmap.get (bindings held.node.kind) n ≡ Some f) × (is_taken subtree top (Some f) ≡ false)
-      go true b h = kept (is_taken subtree top (finmap.get entries n)) refl (sym (finmap.get-retain_keys entries (λ m. not (is_taken subtree top (finmap.get entries m))) n (λ m t. ap (λ x. not (is_taken subtree top (finmap.get entries x))) (sym (exact_bytes n m t)))) ∙ h)
+      go true b h =
+          kept (is_taken subtree top (finmap.get entries n)) refl
+          (sym (finmap.get-retain_keys entries (λ m. not (is_taken subtree top (finmap.get entries m))) n
+          (λ m t. ap (λ x. not (is_taken subtree top (finmap.get entries x))) (sym (exact_bytes n m t)))) ∙ h)
         where
           kept : (t : Bool) → is_taken subtree top (finmap.get entries n) ≡ t
               → cond (not (is_taken subtree top (finmap.get entries n))) (finmap.get entries n) None ≡ Some f
@@ -83,8 +89,11 @@ module _ (subtree : Fid → Bool) (top : Fid) where
               let at : finmap.get entries n ≡ Some f = sym (ap (λ t. cond (not t) (finmap.get entries n) None) is) ∙ g in
               (ap (λ x. finmap.get (bindings x) n) e ∙ at, ap (is_taken subtree top) (sym at) ∙ is)
       go false b h =
-          let at : finmap.get entries n ≡ Some f = ap (λ x. finmap.get (bindings x) n) (sym e) ∙ h in
-          (h, ap (is_taken subtree top) (sym at) ∙ any_none (λ m. is_taken subtree top (finmap.get entries m)) (finmap.keys entries) n b (keyed entries n f at))
+          let at : finmap.get entries n ≡ Some f = ap (λ x. finmap.get (bindings x) n) (sym e) ∙ h in (
+            h,
+            ap (is_taken subtree top) (sym at) ∙ any_none (λ m. is_taken subtree top (finmap.get entries m))
+                (finmap.keys entries) n b (keyed entries n f at),
+          )
 
   -- and all that isn't taken
   pub spared_keeps : (held : Held) (k : NodeKind) (n : Name) (f : Fid) → held.node.kind ≡ k
@@ -99,6 +108,7 @@ module _ (subtree : Fid → Bool) (top : Fid) where
 
       go : (b : Bool) → finmap.get (bindings (cond b (record held { node = record held.node { kind = Dir (others_of subtree top entries); marked = true } }) held).node.kind) n ≡ Some f
       go true =
-          finmap.get-retain_keys entries (λ m. not (is_taken subtree top (finmap.get entries m))) n (λ m t. ap (λ x. not (is_taken subtree top (finmap.get entries x))) (sym (exact_bytes n m t)))
+          finmap.get-retain_keys entries (λ m. not (is_taken subtree top (finmap.get entries m))) n
+          (λ m t. ap (λ x. not (is_taken subtree top (finmap.get entries x))) (sym (exact_bytes n m t)))
           ∙ ap (λ t. cond (not t) (finmap.get entries n) None) (ap (is_taken subtree top) at ∙ free) ∙ at
       go false = h

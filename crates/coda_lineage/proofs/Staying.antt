@@ -130,7 +130,10 @@ module _ (root : Fid) (servers : List ℕ) (before : Group) (sound : AreSound ro
       kinds : (f : Fid) → DecidedAt view (after.holds server) (makes rec.op) f
           → HasKind (kind f) (finmap.get (after.holds server) f)
       kinds f (none_left e) = subst (HasKind (kind f)) (sym e) tt
-      kinds f (came e) = subst (λ b. HasKind b (finmap.get (after.holds server) f)) (sym (ap (λ b. cond b (kind_by (finmap.get (after.holds server) f)) (sound.kind f)) (is_new f e))) (own_kind (finmap.get (after.holds server) f))
+      kinds f (came e) =
+          subst (λ b. HasKind b (finmap.get (after.holds server) f))
+          (sym (ap (λ b. cond b (kind_by (finmap.get (after.holds server) f)) (sound.kind f)) (is_new f e)))
+          (own_kind (finmap.get (after.holds server) f))
       kinds f (stayed old held e h same) =
           let was : is_dir old.node.kind ≡ sound.kind f = subst (HasKind (sound.kind f)) e (own.kinds f) in
           subst (HasKind (kind f)) (sym h) (same ∙ was ∙ sym (kind_old f (own.was_made f (ap is_some e))))
@@ -155,7 +158,9 @@ module _ (root : Fid) (servers : List ℕ) (before : Group) (sound : AreSound ro
     kind = kind;
     top = kind_old root sound.root_made ∙ sound.top;
     root_made = made_on root sound.root_made;
-    each = λ s i. ⊎_elim (λ (e : s ≡ server). subst (λ t. IsSoundAt root kind after.made (after.holds t)) (sym e) at_decider) (λ (ne : s ≢ server). at_other s i (decided.others s ne)) (cases_eq s server);
+    each =
+        λ s i. ⊎_elim (λ (e : s ≡ server). subst (λ t. IsSoundAt root kind after.made (after.holds t)) (sym e)
+        at_decider) (λ (ne : s ≢ server). at_other s i (decided.others s ne)) (cases_eq s server);
   }
 
 -- ---- a resolution
@@ -179,8 +184,13 @@ module _ (root : Fid) (servers : List ℕ) (before : Group) (sound : AreSound ro
   installed_at : (s : ℕ) → IsIn s some → IsInstalled views root (before.holds s) (after.holds s)
       → IsSoundAt root sound.kind before.made (after.holds s)
   installed_at s i installed = record {
-    tree = tree_after views root (before.holds s) (after.holds s) (trees_of_one_kind root servers before sound some among (λ none. subst (IsIn s) none i)) (in_map before.holds some s i) installed;
-    kinds = λ f. kind_after views root f (sound.kind f) (before.holds s) (after.holds s) (all_kinds root servers before sound some among f) ((sound.each s (among s i)).kinds f) installed;
+    tree =
+        tree_after views root (before.holds s) (after.holds s)
+        (trees_of_one_kind root servers before sound some among (λ none. subst (IsIn s) none i))
+        (in_map before.holds some s i) installed;
+    kinds =
+        λ f. kind_after views root f (sound.kind f) (before.holds s) (after.holds s)
+        (all_kinds root servers before sound some among f) ((sound.each s (among s i)).kinds f) installed;
     was_made = λ f e. ⊎_elim (taken_made f) (kept_made s i f) (installed.only f e);
   }
 
@@ -211,7 +221,9 @@ module _ (root : Fid) (servers : List ℕ) (before : Group) (sound : AreSound ro
       → IsRepairedAt repair.subtree repair.top source copies right (before.holds s) (after.holds s)
       → IsSoundAt root sound.kind before.made (after.holds s)
   repaired_at s i done = record {
-    tree = repaired_tree root right (before.holds s) (after.holds s) repair.subtree repair.top source copies names from.tree own.tree (repair.leads s i) repair.below done;
+    tree =
+        repaired_tree root right (before.holds s) (after.holds s) repair.subtree repair.top source copies names
+        from.tree own.tree (repair.leads s i) repair.below done;
     kinds = λ f. kinds f (here f);
     was_made = λ f e. was_made f e (here f);
   }
@@ -220,14 +232,19 @@ module _ (root : Fid) (servers : List ℕ) (before : Group) (sound : AreSound ro
       own = sound.each s (among s i)
 
       here : (f : Fid) → RepairedAt repair.subtree repair.top source copies right (before.holds s) (after.holds s) f
-      here f = at root right (before.holds s) (after.holds s) repair.subtree repair.top source copies names from.tree own.tree (repair.leads s i) repair.below done f
+      here f =
+          at root right (before.holds s) (after.holds s) repair.subtree repair.top source copies names from.tree
+          own.tree (repair.leads s i) repair.below done f
 
       kinds : (f : Fid) → RepairedAt repair.subtree repair.top source copies right (before.holds s) (after.holds s) f
           → HasKind (sound.kind f) (finmap.get (after.holds s) f)
-      kinds f (put held inside r is) = subst (HasKind (sound.kind f)) (sym is) (subst (HasKind (sound.kind f)) r (from.kinds f))
+      kinds f (put held inside r is) =
+          subst (HasKind (sound.kind f)) (sym is) (subst (HasKind (sound.kind f)) r (from.kinds f))
       kinds f (went g outside inside up is) = subst (HasKind (sound.kind f)) (sym is) tt
       kinds f (absent outside e is) = subst (HasKind (sound.kind f)) (sym is) tt
-      kinds f (kept held outside e is) = subst (HasKind (sound.kind f)) (sym is) (spared_kind repair.subtree repair.top held held.node.kind refl ∙ subst (HasKind (sound.kind f)) e (own.kinds f))
+      kinds f (kept held outside e is) =
+          subst (HasKind (sound.kind f)) (sym is) (spared_kind repair.subtree repair.top held held.node.kind refl
+          ∙ subst (HasKind (sound.kind f)) e (own.kinds f))
 
       was_made : (f : Fid) → has_in (after.holds s) f ≡ true
           → RepairedAt repair.subtree repair.top source copies right (before.holds s) (after.holds s) f
@@ -244,6 +261,7 @@ module _ (root : Fid) (servers : List ℕ) (before : Group) (sound : AreSound ro
     root_made = ap (λ (made : Fid → Bool). made root) repair.made ∙ sound.root_made;
     each = λ s i. subst (λ made. IsSoundAt root sound.kind made (after.holds s)) (sym repair.made) (⊎_elim
         (λ (e : after.holds s ≡ before.holds s). subst (IsSoundAt root sound.kind before.made) (sym e) (sound.each s i))
-        (λ (x : IsIn s some × IsRepairedAt repair.subtree repair.top source copies right (before.holds s) (after.holds s)). repaired_at s x.0 x.1)
+        (λ (x : IsIn s some × IsRepairedAt repair.subtree repair.top source copies right (before.holds s)
+        (after.holds s)). repaired_at s x.0 x.1)
         (repair.each s));
   }

@@ -74,7 +74,8 @@ module _ (f : Fid) where
   resolve_needs m at [] h = held_needs m at h
   resolve_needs m at (name ∷ names) h = ⊎_elim
       (λ (e : Needs f (step_from (map.get m at) at name)). step_needs m at name e)
-      (λ (e : (next : Fid) × (step_from (map.get m at) at name ≡ Ok next) × Needs f (resolve m next names)). resolve_needs m e.0 names e.2)
+      (λ (e : (next : Fid) × (step_from (map.get m at) at name ≡ Ok next) × Needs f (resolve m next names)).
+      resolve_needs m e.0 names e.2)
       (then_needs f (step_from (map.get m at) at name) (λ next. resolve m next names) h)
 
   -- a refusal that is none for an object that is needed
@@ -88,8 +89,10 @@ module _ (f : Fid) where
   root_needs : (s : Sight) (volume : ℕ) (why : Refused) → IsOther why → Needs f (at_root s volume why)
       → None_at s.held.nodes
   root_needs s volume why other h = ⊎_elim
-      (λ (e : Needs f (held (map.get s.held.nodes (root_of volume)) (root_of volume))). held_needs s.held.nodes (root_of volume) e)
-      (λ (e : (y : Fid) × (held (map.get s.held.nodes (root_of volume)) (root_of volume) ≡ Ok y) × (let refuse : Refused → Accepted = λ z. Err z in Needs f (refuse why))). absurd (refusal_needs why other e.2))
+      (λ (e : Needs f (held (map.get s.held.nodes (root_of volume)) (root_of volume))). held_needs s.held.nodes
+      (root_of volume) e)
+      (λ (e : (y : Fid) × (held (map.get s.held.nodes (root_of volume)) (root_of volume) ≡ Ok y)
+      × (let refuse : Refused → Accepted = λ z. Err z in Needs f (refuse why))). absurd (refusal_needs why other e.2))
       (then_needs f (held (map.get s.held.nodes (root_of volume)) (root_of volume)) (λ _. let refuse : Refused → Accepted = λ z. Err z in refuse why) h)
 
   -- ---- creations
@@ -99,7 +102,11 @@ module _ (f : Fid) where
   unused_needs false g h = ok_needs f g h
 
   new_fid_needs : (s : Sight) (volume : ℕ) → Needs f (new_fid s volume) → ⊥
-  new_fid_needs s volume h = ⊎_elim (λ (e : Needs f (let refuse : Refused → Result Fid Refused = λ z. Err z in refuse JournalFull)). absurd (cc)) (λ (e : Needs f (unless_used (is_some (map.get s.held.nodes (next_fid s volume))) (next_fid s volume))). unused_needs _ _ e) (if_needs f (is_used_up s) (Err JournalFull) (unless_used (is_some (map.get s.held.nodes (next_fid s volume))) (next_fid s volume)) h)
+  new_fid_needs s volume h =
+      ⊎_elim (λ (e : Needs f (let refuse : Refused → Result Fid Refused = λ z. Err z in refuse JournalFull)). absurd
+      (cc)) (λ (e : Needs f (unless_used (is_some (map.get s.held.nodes (next_fid s volume))) (next_fid s volume))).
+      unused_needs _ _ e) (if_needs f (is_used_up s) (Err JournalFull)
+      (unless_used (is_some (map.get s.held.nodes (next_fid s volume))) (next_fid s volume)) h)
 
   new_at_needs : (s : Sight) (volume : ℕ) (o : Option Fid) → Needs f (new_at s volume o) → ⊥
   new_at_needs s volume None h = new_fid_needs s volume h
@@ -126,7 +133,9 @@ module _ (f : Fid) where
       (λ (a : Needs f (resolve s.held.nodes (root_of volume) e.0)). resolve_needs s.held.nodes (root_of volume) e.0 a)
       (λ (a : (dir : Fid) × (resolve s.held.nodes (root_of volume) e.0 ≡ Ok dir) × Needs f (inner dir)). ⊎_elim
       (λ (b : Needs f (new_under s volume (map.get s.held.nodes a.0) a.0 e.1)). new_under_needs s volume a.0 e.1 b)
-      (λ (b : (fid : Fid) × (new_under s volume (map.get s.held.nodes a.0) a.0 e.1 ≡ Ok fid) × Needs f (let ok : Fid × Fid → Result (Fid × Fid) Refused = λ z. Ok z in ok (a.0, fid))). absurd (ok_needs f (a.0, b.0) b.2))
+      (λ (b : (fid : Fid) × (new_under s volume (map.get s.held.nodes a.0) a.0 e.1 ≡ Ok fid) × Needs f
+      (let ok : Fid × Fid → Result (Fid × Fid) Refused = λ z. Ok z in ok (a.0, fid))). absurd
+      (ok_needs f (a.0, b.0) b.2))
       (then_needs f (new_under s volume (map.get s.held.nodes a.0) a.0 e.1) (λ fid. let ok : Fid × Fid → Result (Fid × Fid) Refused = λ z. Ok z in ok (a.0, fid)) a.2))
       (then_needs f (resolve s.held.nodes (root_of volume) e.0) inner h)
 
@@ -135,7 +144,8 @@ module _ (f : Fid) where
   creation_needs s volume None make h = root_needs s volume Exists (λ g e. cc) h
   creation_needs s volume (Some e) make h = ⊎_elim
       (λ (a : Needs f (new_place s volume e)). new_place_needs s volume e a)
-      (λ (a : (p : Fid × Fid) × (new_place s volume e ≡ Ok p) × Needs f (let ok : Op → Accepted = λ z. Ok z in ok (make p.0 e.1 p.1))). absurd (ok_needs f (make a.0.0 e.1 a.0.1) a.2))
+      (λ (a : (p : Fid × Fid) × (new_place s volume e ≡ Ok p) × Needs f
+      (let ok : Op → Accepted = λ z. Ok z in ok (make p.0 e.1 p.1))). absurd (ok_needs f (make a.0.0 e.1 a.0.1) a.2))
       (then_needs f (new_place s volume e) (λ p. let ok : Op → Accepted = λ z. Ok z in ok (make p.0 e.1 p.1)) h)
 
   -- ---- operations on an object
@@ -182,7 +192,9 @@ module _ (f : Fid) where
       (λ (b : Needs f (step_from (map.get m a.0) a.0 e.1)). step_needs m a.0 e.1 b)
       (λ (b : (fid : Fid) × (step_from (map.get m a.0) a.0 e.1 ≡ Ok fid) × Needs f (last a.0 fid)). ⊎_elim
       (λ (c : Needs f (held (map.get m b.0) b.0)). held_needs m b.0 c)
-      (λ (c : (there : Fid) × (held (map.get m b.0) b.0 ≡ Ok there) × Needs f (let ok : Fid × Fid → Result (Fid × Fid) Refused = λ z. Ok z in ok (a.0, there))). absurd (ok_needs f (a.0, c.0) c.2))
+      (λ (c : (there : Fid) × (held (map.get m b.0) b.0 ≡ Ok there) × Needs f
+      (let ok : Fid × Fid → Result (Fid × Fid) Refused = λ z. Ok z in ok (a.0, there))). absurd
+      (ok_needs f (a.0, c.0) c.2))
       (then_needs f (held (map.get m b.0) b.0) (λ there. let ok : Fid × Fid → Result (Fid × Fid) Refused = λ z. Ok z in ok (a.0, there)) b.2))
       (then_needs f (step_from (map.get m a.0) a.0 e.1) (last a.0) a.2))
       (then_needs f (resolve m (root_of volume) e.0) inner h)
@@ -193,7 +205,9 @@ module _ (f : Fid) where
   bound_needs m None h = absurd (cc)
   bound_needs m (Some g) h = ⊎_elim
       (λ (a : Needs f (held (map.get m g) g)). held_needs m g a)
-      (λ (a : (there : Fid) × (held (map.get m g) g ≡ Ok there) × Needs f (let ok : Option Fid → Result (Option Fid) Refused = λ z. Ok z in ok (Some there))). absurd (ok_needs f (Some a.0) a.2))
+      (λ (a : (there : Fid) × (held (map.get m g) g ≡ Ok there) × Needs f
+      (let ok : Option Fid → Result (Option Fid) Refused = λ z. Ok z in ok (Some there))). absurd
+      (ok_needs f (Some a.0) a.2))
       (then_needs f (held (map.get m g) g) (λ there. let ok : Option Fid → Result (Option Fid) Refused = λ z. Ok z in ok (Some there)) h)
 
   bound_in_needs : (m : Nodes) (kind : NodeKind) (name : Name) → Needs f (bound_in m kind name) → None_at m
@@ -214,19 +228,23 @@ module _ (f : Fid) where
       (λ (a : Needs f (resolve m (root_of volume) e.0)). resolve_needs m (root_of volume) e.0 a)
       (λ (a : (dir : Fid) × (resolve m (root_of volume) e.0 ≡ Ok dir) × Needs f (inner dir)). ⊎_elim
       (λ (b : Needs f (bound_at m (map.get m a.0) a.0 e.1)). bound_at_needs m a.0 e.1 b)
-      (λ (b : (bound : Option Fid) × (bound_at m (map.get m a.0) a.0 e.1 ≡ Ok bound) × Needs f (let ok : Fid × Option Fid → Result (Fid × Option Fid) Refused = λ z. Ok z in ok (a.0, bound))). absurd (ok_needs f (a.0, b.0) b.2))
+      (λ (b : (bound : Option Fid) × (bound_at m (map.get m a.0) a.0 e.1 ≡ Ok bound) × Needs f
+      (let ok : Fid × Option Fid → Result (Fid × Option Fid) Refused = λ z. Ok z in ok (a.0, bound))). absurd
+      (ok_needs f (a.0, b.0) b.2))
       (then_needs f (bound_at m (map.get m a.0) a.0 e.1) (λ bound. let ok : Fid × Option Fid → Result (Fid × Option Fid) Refused = λ z. Ok z in ok (a.0, bound)) a.2))
       (then_needs f (resolve m (root_of volume) e.0) inner h)
 
   version_needs : (m : Nodes) (old : Fid) → Needs f (with_version (map.get m old) old) → None_at m
-  version_needs m old h = at_node m with_version (λ g. refl) (λ node g h. ok_needs f (Some (record { fid = g; pre = node.sid })) h) old h
+  version_needs m old h =
+      at_node m with_version (λ g. refl) (λ node g h. ok_needs f (Some (record { fid = g; pre = node.sid })) h) old h
 
   replaced_needs : (m : Nodes) (fid : Fid) (o : Option Fid) → Needs f (replaced_by m fid o) → None_at m
   replaced_needs m fid None h = absurd (cc)
   replaced_needs m fid (Some old) h = ⊎_elim
       (λ (e : Needs f (let refuse : Refused → Result (Option Over) Refused = λ z. Err z in refuse Exists)). absurd (cc))
       (λ (e : Needs f (with_version (map.get m old) old)). version_needs m old e)
-      (if_needs f (same_fid old fid || (is_dir_at (map.get m fid) || is_dir_at (map.get m old))) (Err Exists) (with_version (map.get m old) old) h)
+      (if_needs f (same_fid old fid || (is_dir_at (map.get m fid) || is_dir_at (map.get m old))) (Err Exists)
+      (with_version (map.get m old) old) h)
 
   move_needs : (h : Held) (from_dir : Fid) (from : Name) (fid : Fid) (to : Name) (p : Fid × Option Fid)
       → Needs f (move_to h from_dir from fid to p) → None_at h.nodes
@@ -235,7 +253,9 @@ module _ (f : Fid) where
       (λ (e : Needs f (let refuse : Refused → Accepted = λ z. Err z in refuse Loop)). absurd (cc))
       (λ (e : Needs f rest). ⊎_elim
       (λ (a : Needs f (replaced_by h.nodes fid p.1)). replaced_needs h.nodes fid p.1 a)
-      (λ (a : (over : Option Over) × (replaced_by h.nodes fid p.1 ≡ Ok over) × Needs f (let ok : Op → Accepted = λ z. Ok z in ok (RenameOp from_dir from p.0 to fid over))). absurd (ok_needs f (RenameOp from_dir from p.0 to fid a.0) a.2))
+      (λ (a : (over : Option Over) × (replaced_by h.nodes fid p.1 ≡ Ok over) × Needs f
+      (let ok : Op → Accepted = λ z. Ok z in ok (RenameOp from_dir from p.0 to fid over))). absurd
+      (ok_needs f (RenameOp from_dir from p.0 to fid a.0) a.2))
       (then_needs f (replaced_by h.nodes fid p.1) (λ over. let ok : Op → Accepted = λ z. Ok z in ok (RenameOp from_dir from p.0 to fid over)) e))
       (if_needs f (is_below h.parents p.0 fid) (Err Loop) rest n)
 
@@ -244,25 +264,31 @@ module _ (f : Fid) where
   rename_to_needs s volume from_dir from fid None h = root_needs s volume Exists (λ g e. cc) h
   rename_to_needs s volume from_dir from fid (Some e) h = ⊎_elim
       (λ (a : Needs f (place s.held.nodes volume e)). place_needs s.held.nodes volume e a)
-      (λ (a : (p : Fid × Option Fid) × (place s.held.nodes volume e ≡ Ok p) × Needs f (move_to s.held from_dir from fid e.1 p)). move_needs s.held from_dir from fid e.1 a.0 a.2)
+      (λ (a : (p : Fid × Option Fid) × (place s.held.nodes volume e ≡ Ok p) × Needs f
+      (move_to s.held from_dir from fid e.1 p)). move_needs s.held from_dir from fid e.1 a.0 a.2)
       (then_needs f (place s.held.nodes volume e) (λ p. move_to s.held from_dir from fid e.1 p) h)
 
   rename_root_needs : (s : Sight) (volume : ℕ) (e : Ending) → Needs f (rename_root s volume e) → None_at s.held.nodes
   rename_root_needs s volume None h = root_needs s volume Loop (λ g e. cc) h
   rename_root_needs s volume (Some e) h = ⊎_elim
       (λ (a : Needs f (place s.held.nodes volume e)). place_needs s.held.nodes volume e a)
-      (λ (a : (p : Fid × Option Fid) × (place s.held.nodes volume e ≡ Ok p) × Needs f (let refuse : Refused → Accepted = λ z. Err z in refuse Loop)). absurd (refusal_needs {A = Op} Loop (λ g e. cc) a.2))
+      (λ (a : (p : Fid × Option Fid) × (place s.held.nodes volume e ≡ Ok p) × Needs f
+      (let refuse : Refused → Accepted = λ z. Err z in refuse Loop)). absurd
+      (refusal_needs {A = Op} Loop (λ g e. cc) a.2))
       (then_needs f (place s.held.nodes volume e) (λ p. let refuse : Refused → Accepted = λ z. Err z in refuse Loop) h)
 
   rename_needs : (s : Sight) (volume : ℕ) (from to : Ending) → Needs f (accept_rename s volume from to)
       → None_at s.held.nodes
   rename_needs s volume None to h = ⊎_elim
-      (λ (a : Needs f (held (map.get s.held.nodes (root_of volume)) (root_of volume))). held_needs s.held.nodes (root_of volume) a)
-      (λ (a : (y : Fid) × (held (map.get s.held.nodes (root_of volume)) (root_of volume) ≡ Ok y) × Needs f (rename_root s volume to)). rename_root_needs s volume to a.2)
+      (λ (a : Needs f (held (map.get s.held.nodes (root_of volume)) (root_of volume))). held_needs s.held.nodes
+      (root_of volume) a)
+      (λ (a : (y : Fid) × (held (map.get s.held.nodes (root_of volume)) (root_of volume) ≡ Ok y) × Needs f
+      (rename_root s volume to)). rename_root_needs s volume to a.2)
       (then_needs f (held (map.get s.held.nodes (root_of volume)) (root_of volume)) (λ _. rename_root s volume to) h)
   rename_needs s volume (Some e) to h = ⊎_elim
       (λ (a : Needs f (spot s.held.nodes volume e)). spot_needs s.held.nodes volume e a)
-      (λ (a : (at : Fid × Fid) × (spot s.held.nodes volume e ≡ Ok at) × Needs f (rename_to s volume at.0 e.1 at.1 to)). rename_to_needs s volume a.0.0 e.1 a.0.1 to a.2)
+      (λ (a : (at : Fid × Fid) × (spot s.held.nodes volume e ≡ Ok at) × Needs f
+      (rename_to s volume at.0 e.1 at.1 to)). rename_to_needs s volume a.0.0 e.1 a.0.1 to a.2)
       (then_needs f (spot s.held.nodes volume e) (λ at. rename_to s volume at.0 e.1 at.1 to) h)
 
   -- ---- every kind
@@ -279,29 +305,40 @@ module _ (f : Fid) where
   remove_needs : (s : Sight) (volume : ℕ) (e : Ending) → Needs f (accept_remove s volume e) → None_at s.held.nodes
   remove_needs s volume None h = root_needs s volume IsDir (λ g e. cc) h
   remove_needs s volume (Some e) h = at_spot s volume e (λ at. remove_at (map.get s.held.nodes at.1) at.0 e.1 at.1)
-      (λ at n. at_node s.held.nodes (λ o g. remove_at o at.0 e.1 g) (λ g. refl) (λ node g m. remove_in_needs node.kind at.0 e.1 g node.sid m) at.1 n) h
+      (λ at n. at_node s.held.nodes (λ o g. remove_at o at.0 e.1 g) (λ g. refl)
+      (λ node g m. remove_in_needs node.kind at.0 e.1 g node.sid m) at.1 n) h
 
   rmdir_needs : (s : Sight) (volume : ℕ) (e : Ending) → Needs f (accept_rmdir s volume e) → None_at s.held.nodes
   rmdir_needs s volume None h = root_needs s volume Loop (λ g e. cc) h
   rmdir_needs s volume (Some e) h = at_spot s volume e (λ at. rmdir_at s (map.get s.held.nodes at.1) at.0 e.1 at.1)
-      (λ at n. at_node s.held.nodes (λ o g. rmdir_at s o at.0 e.1 g) (λ g. refl) (λ node g m. rmdir_in_needs s node.kind at.0 e.1 g node.sid m) at.1 n) h
+      (λ at n. at_node s.held.nodes (λ o g. rmdir_at s o at.0 e.1 g) (λ g. refl)
+      (λ node g m. rmdir_in_needs s node.kind at.0 e.1 g node.sid m) at.1 n) h
 
   -- what is asked where a path leads
   at_end : (s : Sight) (volume : ℕ) (path : List Name) (see : Option Node → Fid → Accepted)
       → ((g : Fid) → see None g ≡ Err (Need g)) → ((node : Node) (g : Fid) → Needs f (see (Some node) g) → ⊥)
-      → Needs f (then_find (resolve s.held.nodes (root_of volume) path) (λ fid. see (map.get s.held.nodes fid) fid)) → None_at s.held.nodes
+      → Needs f (then_find (resolve s.held.nodes (root_of volume) path) (λ fid. see (map.get s.held.nodes fid) fid))
+      → None_at s.held.nodes
   at_end s volume path see none some h = ⊎_elim
       (λ (a : Needs f (resolve s.held.nodes (root_of volume) path)). resolve_needs s.held.nodes (root_of volume) path a)
-      (λ (a : (fid : Fid) × (resolve s.held.nodes (root_of volume) path ≡ Ok fid) × Needs f (see (map.get s.held.nodes fid) fid)). at_node s.held.nodes see none some a.0 a.2)
+      (λ (a : (fid : Fid) × (resolve s.held.nodes (root_of volume) path ≡ Ok fid) × Needs f
+      (see (map.get s.held.nodes fid) fid)). at_node s.held.nodes see none some a.0 a.2)
       (then_needs f (resolve s.held.nodes (root_of volume) path) (λ fid. see (map.get s.held.nodes fid) fid) h)
 
   accept_needs : (s : Sight) (volume : ℕ) (ask : Asked) → Needs f (accept s volume ask) → None_at s.held.nodes
   unfolding accept
-  accept_needs s volume (Create path mode owner) h = creation_needs s volume (ending path) (λ dir name fid. CreateOp dir name fid mode owner) h
-  accept_needs s volume (Mkdir path mode owner) h = creation_needs s volume (ending path) (λ dir name fid. MkdirOp dir name fid mode owner) h
-  accept_needs s volume (Symlink path target) h = creation_needs s volume (ending path) (λ dir name fid. SymlinkOp dir name fid target 511 0) h
-  accept_needs s volume (Store path content) h = at_end s volume path (λ o g. store_at o g content) (λ g. refl) (λ node g m. store_in_needs node.kind g node.sid content m) h
-  accept_needs s volume (Setattr path attrs) h = at_end s volume path (λ o g. setattr_at o g attrs) (λ g. refl) (λ node g m. ok_needs f (SetattrOp g node.sid attrs) m) h
+  accept_needs s volume (Create path mode owner) h =
+      creation_needs s volume (ending path) (λ dir name fid. CreateOp dir name fid mode owner) h
+  accept_needs s volume (Mkdir path mode owner) h =
+      creation_needs s volume (ending path) (λ dir name fid. MkdirOp dir name fid mode owner) h
+  accept_needs s volume (Symlink path target) h =
+      creation_needs s volume (ending path) (λ dir name fid. SymlinkOp dir name fid target 511 0) h
+  accept_needs s volume (Store path content) h =
+      at_end s volume path (λ o g. store_at o g content) (λ g. refl)
+      (λ node g m. store_in_needs node.kind g node.sid content m) h
+  accept_needs s volume (Setattr path attrs) h =
+      at_end s volume path (λ o g. setattr_at o g attrs) (λ g. refl)
+      (λ node g m. ok_needs f (SetattrOp g node.sid attrs) m) h
   accept_needs s volume (Remove path) h = remove_needs s volume (ending path) h
   accept_needs s volume (Rmdir path) h = rmdir_needs s volume (ending path) h
   accept_needs s volume (Rename from to) h = rename_needs s volume (ending from) (ending to) h

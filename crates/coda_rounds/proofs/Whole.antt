@@ -53,7 +53,8 @@ module _ (volume : ℕ) (s t : Sight) (part : IsPartOfSight volume s t) where
   resolve_up at [] fid h = node_up (λ o. held o at) fid at (λ e. cc) h
   resolve_up at (name ∷ names) fid h =
       let a = found_then (step_from (map.get S at) at name) (λ next. resolve S next names) fid h in
-      then_ok (step_from (map.get T at) at name) (λ next. resolve T next names) a.0 fid (node_up (λ o. step_from o at name) a.0 at (λ e. cc) a.1) (resolve_up a.0 names fid a.2)
+      then_ok (step_from (map.get T at) at name) (λ next. resolve T next names) a.0 fid
+      (node_up (λ o. step_from o at name) a.0 at (λ e. cc) a.1) (resolve_up a.0 names fid a.2)
 
   -- ---- creations
 
@@ -63,7 +64,8 @@ module _ (volume : ℕ) (s t : Sight) (part : IsPartOfSight volume s t) where
       let next : next_fid s volume ≡ next_fid t volume = λ i. record { volume = volume; vnode = part.number i; uniq = part.creations i + 1 } in
       let here : new_fid s volume ≡ cond (is_used_up s) (Err JournalFull) (unless_used false (next_fid s volume)) = ap (λ b. cond (is_used_up s) (Err JournalFull) (unless_used b (next_fid s volume))) (ap is_some (ap (map.get S) (sym is.2) ∙ is.1)) in
       let there : new_fid t volume ≡ cond (is_used_up t) (Err JournalFull) (unless_used false (next_fid t volume)) = ap (λ b. cond (is_used_up t) (Err JournalFull) (unless_used b (next_fid t volume))) (ap is_some (part.fresh)) in
-      there ∙ sym (λ i. cond (nat_le 4294967295 (part.creations i)) (Err JournalFull) (unless_used false (next i))) ∙ sym here ∙ h
+      there ∙ sym (λ i. cond (nat_le 4294967295 (part.creations i)) (Err JournalFull) (unless_used false (next i)))
+      ∙ sym here ∙ h
 
   new_at_up : (o : Option Fid) (fid : Fid) → new_at s volume o ≡ Ok fid → new_at t volume o ≡ Ok fid
   new_at_up None fid h = new_fid_up fid h
@@ -82,7 +84,8 @@ module _ (volume : ℕ) (s t : Sight) (part : IsPartOfSight volume s t) where
       go : (o : Option Node) → map.get S dir ≡ o → new_under s volume o dir name ≡ Ok fid
           → new_under t volume (map.get T dir) dir name ≡ Ok fid
       go None e h = absurd (cc)
-      go (Some node) e h = ap (λ o. new_under t volume o dir name) (part.nodes dir node e) ∙ new_in_up node.kind name fid h
+      go (Some node) e h =
+          ap (λ o. new_under t volume o dir name) (part.nodes dir node e) ∙ new_in_up node.kind name fid h
 
   creation_up : (e : Ending) (make : Fid → Name → Fid → Op) (op : Op) → accept_creation s volume e make ≡ Ok op
       → accept_creation t volume e make ≡ Ok op
@@ -95,8 +98,11 @@ module _ (volume : ℕ) (s t : Sight) (part : IsPartOfSight volume s t) where
       let b = found_then (resolve S (root_of volume) e.0) (λ dir. then_find (new_under s volume (map.get S dir) dir e.1) (λ fid. ok (dir, fid))) a.0 a.1 in
       let c = found_then (new_under s volume (map.get S b.0) b.0 e.1) (λ fid. ok (b.0, fid)) a.0 b.2 in
       then_ok (new_place t volume e) done a.0 op
-      (then_ok (resolve T (root_of volume) e.0) (λ dir. then_find (new_under t volume (map.get T dir) dir e.1) (λ fid. ok (dir, fid))) b.0 a.0 (resolve_up (root_of volume) e.0 b.0 b.1)
-      (then_ok (new_under t volume (map.get T b.0) b.0 e.1) (λ fid. ok (b.0, fid)) c.0 a.0 (new_under_up b.0 e.1 c.0 c.1) c.2)) a.2
+      (then_ok (resolve T (root_of volume) e.0)
+      (λ dir. then_find (new_under t volume (map.get T dir) dir e.1) (λ fid. ok (dir, fid))) b.0 a.0
+      (resolve_up (root_of volume) e.0 b.0 b.1)
+      (then_ok (new_under t volume (map.get T b.0) b.0 e.1) (λ fid. ok (b.0, fid)) c.0 a.0
+      (new_under_up b.0 e.1 c.0 c.1) c.2)) a.2
 
   -- ---- operations on an object
 
@@ -107,22 +113,31 @@ module _ (volume : ℕ) (s t : Sight) (part : IsPartOfSight volume s t) where
       let a = found_then (resolve S (root_of volume) e.0) (λ dir. then_find (step_from (map.get S dir) dir e.1) (λ fid. then_find (held (map.get S fid) fid) (λ there. ok (dir, there)))) at h in
       let b = found_then (step_from (map.get S a.0) a.0 e.1) (λ fid. then_find (held (map.get S fid) fid) (λ there. ok (a.0, there))) at a.2 in
       let c = found_then (held (map.get S b.0) b.0) (λ there. ok (a.0, there)) at b.2 in
-      then_ok (resolve T (root_of volume) e.0) (λ dir. then_find (step_from (map.get T dir) dir e.1) (λ fid. then_find (held (map.get T fid) fid) (λ there. ok (dir, there)))) a.0 at (resolve_up (root_of volume) e.0 a.0 a.1)
-      (then_ok (step_from (map.get T a.0) a.0 e.1) (λ fid. then_find (held (map.get T fid) fid) (λ there. ok (a.0, there))) b.0 at (node_up (λ o. step_from o a.0 e.1) b.0 a.0 (λ x. cc) b.1)
-      (then_ok (held (map.get T b.0) b.0) (λ there. ok (a.0, there)) c.0 at (node_up (λ o. held o b.0) c.0 b.0 (λ x. cc) c.1) c.2))
+      then_ok (resolve T (root_of volume) e.0)
+      (λ dir. then_find (step_from (map.get T dir) dir e.1)
+      (λ fid. then_find (held (map.get T fid) fid) (λ there. ok (dir, there)))) a.0 at
+      (resolve_up (root_of volume) e.0 a.0 a.1)
+      (then_ok (step_from (map.get T a.0) a.0 e.1)
+      (λ fid. then_find (held (map.get T fid) fid) (λ there. ok (a.0, there))) b.0 at
+      (node_up (λ o. step_from o a.0 e.1) b.0 a.0 (λ x. cc) b.1)
+      (then_ok (held (map.get T b.0) b.0) (λ there. ok (a.0, there)) c.0 at
+      (node_up (λ o. held o b.0) c.0 b.0 (λ x. cc) c.1) c.2))
 
   -- where a path leads
   end_up : (path : List Name) (see : Option Node → Fid → Accepted) (op : Op) → ((g : Fid) → see None g ≡ Ok op → ⊥)
-      → then_find (resolve S (root_of volume) path) (λ fid. see (map.get S fid) fid) ≡ Ok op → then_find (resolve T (root_of volume) path) (λ fid. see (map.get T fid) fid) ≡ Ok op
+      → then_find (resolve S (root_of volume) path) (λ fid. see (map.get S fid) fid) ≡ Ok op → then_find
+      (resolve T (root_of volume) path) (λ fid. see (map.get T fid) fid) ≡ Ok op
   end_up path see op none h =
       let a = found_then (resolve S (root_of volume) path) (λ fid. see (map.get S fid) fid) op h in
-      then_ok (resolve T (root_of volume) path) (λ fid. see (map.get T fid) fid) a.0 op (resolve_up (root_of volume) path a.0 a.1) (node_up (λ o. see o a.0) op a.0 (none a.0) a.2)
+      then_ok (resolve T (root_of volume) path) (λ fid. see (map.get T fid) fid) a.0 op
+      (resolve_up (root_of volume) path a.0 a.1) (node_up (λ o. see o a.0) op a.0 (none a.0) a.2)
 
   rmdir_in_up : (kind : NodeKind) (dir : Fid) (name : Name) (fid : Fid) (pre : Sid) (op : Op)
       → rmdir_in s kind dir name fid pre ≡ Ok op → rmdir_in t kind dir name fid pre ≡ Ok op
   rmdir_in_up (File content) dir name fid pre op h = absurd (cc)
   rmdir_in_up (Link target) dir name fid pre op h = absurd (cc)
-  rmdir_in_up (Dir entries) dir name fid pre op h = ap (λ b. rmdir_of ((map.len entries == 0) && not b) dir name fid pre) (sym (part.dirty_below fid)) ∙ h
+  rmdir_in_up (Dir entries) dir name fid pre op h =
+      ap (λ b. rmdir_of ((map.len entries == 0) && not b) dir name fid pre) (sym (part.dirty_below fid)) ∙ h
 
   rmdir_up : (dir : Fid) (name : Name) (fid : Fid) (op : Op) → rmdir_at s (map.get S fid) dir name fid ≡ Ok op
       → rmdir_at t (map.get T fid) dir name fid ≡ Ok op
@@ -131,7 +146,9 @@ module _ (volume : ℕ) (s t : Sight) (part : IsPartOfSight volume s t) where
       go : (o : Option Node) → map.get S fid ≡ o → rmdir_at s o dir name fid ≡ Ok op
           → rmdir_at t (map.get T fid) dir name fid ≡ Ok op
       go None e h = absurd (cc)
-      go (Some node) e h = ap (λ o. rmdir_at t o dir name fid) (part.nodes fid node e) ∙ rmdir_in_up node.kind dir name fid node.sid op h
+      go (Some node) e h =
+          ap (λ o. rmdir_at t o dir name fid) (part.nodes fid node e) ∙ rmdir_in_up node.kind dir name fid node.sid op
+          h
 
   -- ---- a rename
 
@@ -162,7 +179,9 @@ module _ (volume : ℕ) (s t : Sight) (part : IsPartOfSight volume s t) where
       let ok : Fid × Option Fid → Result (Fid × Option Fid) Refused = λ z. Ok z in
       let a = found_then (resolve S (root_of volume) e.0) (λ dir. then_find (bound_at S (map.get S dir) dir e.1) (λ bound. ok (dir, bound))) p h in
       let b = found_then (bound_at S (map.get S a.0) a.0 e.1) (λ bound. ok (a.0, bound)) p a.2 in
-      then_ok (resolve T (root_of volume) e.0) (λ dir. then_find (bound_at T (map.get T dir) dir e.1) (λ bound. ok (dir, bound))) a.0 p (resolve_up (root_of volume) e.0 a.0 a.1)
+      then_ok (resolve T (root_of volume) e.0)
+      (λ dir. then_find (bound_at T (map.get T dir) dir e.1) (λ bound. ok (dir, bound))) a.0 p
+      (resolve_up (root_of volume) e.0 a.0 a.1)
       (then_ok (bound_at T (map.get T a.0) a.0 e.1) (λ bound. ok (a.0, bound)) b.0 p (bound_at_up a.0 e.1 b.0 b.1) b.2)
 
   same_there : (f : Fid) → has S f ≡ true → map.get T f ≡ map.get S f
@@ -182,7 +201,8 @@ module _ (volume : ℕ) (s t : Sight) (part : IsPartOfSight volume s t) where
   replaced_up fid (Some old) over there h =
       let u = unless_is (same_fid old fid || (is_dir_at (map.get S fid) || is_dir_at (map.get S old))) (with_version (map.get S old) old) over h in
       let other = same_there old (version_some (map.get S old) old over u.1) in
-      (λ i. cond (same_fid old fid || (is_dir_at (same_there fid there i) || is_dir_at (other i))) (Err Exists) (with_version (other i) old)) ∙ h
+      (λ i. cond (same_fid old fid || (is_dir_at (same_there fid there i) || is_dir_at (other i))) (Err Exists)
+      (with_version (other i) old)) ∙ h
 
   move_up : (from_dir : Fid) (from : Name) (fid : Fid) (to : Name) (p : Fid × Option Fid) (op : Op) → has S fid ≡ true
       → move_to s.held from_dir from fid to p ≡ Ok op → move_to t.held from_dir from fid to p ≡ Ok op
@@ -190,7 +210,9 @@ module _ (volume : ℕ) (s t : Sight) (part : IsPartOfSight volume s t) where
       let done : Option Over → Accepted = λ over. Ok (RenameOp from_dir from p.0 to fid over) in
       let u = split (is_below s.held.parents p.0 fid) (then_find (replaced_by S fid p.1) done) h in
       let a = found_then (replaced_by S fid p.1) done op u.1 in
-      ap (λ b. cond b (Err Loop) (then_find (replaced_by T fid p.1) done)) (ap (λ ps. is_below ps p.0 fid) (sym part.parents) ∙ u.0) ∙ then_ok (replaced_by T fid p.1) done a.0 op (replaced_up fid p.1 a.0 there a.1) a.2
+      ap (λ b. cond b (Err Loop) (then_find (replaced_by T fid p.1) done))
+      (ap (λ ps. is_below ps p.0 fid) (sym part.parents) ∙ u.0) ∙ then_ok (replaced_by T fid p.1) done a.0 op
+      (replaced_up fid p.1 a.0 there a.1) a.2
     where
       split : (b : Bool) (r : Accepted) → cond b (Err Loop) r ≡ Ok op → (b ≡ false) × (r ≡ Ok op)
       split true r h = absurd (cc)
@@ -201,14 +223,16 @@ module _ (volume : ℕ) (s t : Sight) (part : IsPartOfSight volume s t) where
   rename_to_up from_dir from fid None op there h = absurd (not_at_root s volume Exists op h)
   rename_to_up from_dir from fid (Some e) op there h =
       let a = found_then (place S volume e) (λ p. move_to s.held from_dir from fid e.1 p) op h in
-      then_ok (place T volume e) (λ p. move_to t.held from_dir from fid e.1 p) a.0 op (place_up e a.0 a.1) (move_up from_dir from fid e.1 a.0 op there a.2)
+      then_ok (place T volume e) (λ p. move_to t.held from_dir from fid e.1 p) a.0 op (place_up e a.0 a.1)
+      (move_up from_dir from fid e.1 a.0 op there a.2)
 
   rename_up : (from to : Ending) (op : Op) → accept_rename s volume from to ≡ Ok op
       → accept_rename t volume from to ≡ Ok op
   rename_up None to op h = let a = found_then (held (map.get S (root_of volume)) (root_of volume)) (λ _. rename_root s volume to) op h in absurd (root_stays s volume to op a.2)
   rename_up (Some e) to op h =
       let a = found_then (spot S volume e) (λ at. rename_to s volume at.0 e.1 at.1 to) op h in
-      then_ok (spot T volume e) (λ at. rename_to t volume at.0 e.1 at.1 to) a.0 op (spot_up e a.0 a.1) (rename_to_up a.0.0 e.1 a.0.1 to op (spot_is S volume e a.0 a.1).there a.2)
+      then_ok (spot T volume e) (λ at. rename_to t volume at.0 e.1 at.1 to) a.0 op (spot_up e a.0 a.1)
+      (rename_to_up a.0.0 e.1 a.0.1 to op (spot_is S volume e a.0 a.1).there a.2)
 
   -- ---- every kind
 
@@ -216,19 +240,24 @@ module _ (volume : ℕ) (s t : Sight) (part : IsPartOfSight volume s t) where
   remove_up None op h = absurd (not_at_root s volume IsDir op h)
   remove_up (Some e) op h =
       let a = found_then (spot S volume e) (λ at. remove_at (map.get S at.1) at.0 e.1 at.1) op h in
-      then_ok (spot T volume e) (λ at. remove_at (map.get T at.1) at.0 e.1 at.1) a.0 op (spot_up e a.0 a.1) (node_up (λ o. remove_at o a.0.0 e.1 a.0.1) op a.0.1 (λ x. cc) a.2)
+      then_ok (spot T volume e) (λ at. remove_at (map.get T at.1) at.0 e.1 at.1) a.0 op (spot_up e a.0 a.1)
+      (node_up (λ o. remove_at o a.0.0 e.1 a.0.1) op a.0.1 (λ x. cc) a.2)
 
   rmdir_all_up : (e : Ending) (op : Op) → accept_rmdir s volume e ≡ Ok op → accept_rmdir t volume e ≡ Ok op
   rmdir_all_up None op h = absurd (not_at_root s volume Loop op h)
   rmdir_all_up (Some e) op h =
       let a = found_then (spot S volume e) (λ at. rmdir_at s (map.get S at.1) at.0 e.1 at.1) op h in
-      then_ok (spot T volume e) (λ at. rmdir_at t (map.get T at.1) at.0 e.1 at.1) a.0 op (spot_up e a.0 a.1) (rmdir_up a.0.0 e.1 a.0.1 op a.2)
+      then_ok (spot T volume e) (λ at. rmdir_at t (map.get T at.1) at.0 e.1 at.1) a.0 op (spot_up e a.0 a.1)
+      (rmdir_up a.0.0 e.1 a.0.1 op a.2)
 
   accept_up : (ask : Asked) (op : Op) → accept s volume ask ≡ Ok op → accept t volume ask ≡ Ok op
   unfolding accept
-  accept_up (Create path mode owner) op h = creation_up (ending path) (λ dir name fid. CreateOp dir name fid mode owner) op h
-  accept_up (Mkdir path mode owner) op h = creation_up (ending path) (λ dir name fid. MkdirOp dir name fid mode owner) op h
-  accept_up (Symlink path target) op h = creation_up (ending path) (λ dir name fid. SymlinkOp dir name fid target 511 0) op h
+  accept_up (Create path mode owner) op h =
+      creation_up (ending path) (λ dir name fid. CreateOp dir name fid mode owner) op h
+  accept_up (Mkdir path mode owner) op h =
+      creation_up (ending path) (λ dir name fid. MkdirOp dir name fid mode owner) op h
+  accept_up (Symlink path target) op h =
+      creation_up (ending path) (λ dir name fid. SymlinkOp dir name fid target 511 0) op h
   accept_up (Store path content) op h = end_up path (λ o g. store_at o g content) op (λ g x. cc) h
   accept_up (Setattr path attrs) op h = end_up path (λ o g. setattr_at o g attrs) op (λ g x. cc) h
   accept_up (Remove path) op h = remove_up (ending path) op h
