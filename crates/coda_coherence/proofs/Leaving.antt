@@ -6,7 +6,8 @@ use Rattle.coda_certify.specs.declared.verdict.Verdict.{Verdict}
 use Rattle.coda_certify.specs.declared.verdict.Verdict.TheVariants.{Applied, Conflict}
 use Rattle.coda_cml.specs.State.{LogState}
 use Rattle.coda_record.specs.declared.entry.ClientEntry.{ClientEntry}
-use Rattle.coda_record.specs.declared.entry.ClientEntry.TheVariants.{Op, Freeze, Settled, Giveup, Fetched, Dropped}
+use Rattle.coda_record.specs.declared.entry.ClientEntry.TheVariants.{Op, Freeze, Settled, Giveup, Fetched, Dropped, Hoard}
+use Rattle.coda_record.specs.declared.entry.ClientEntry.TheVariants.{Snapshot}
 use Rattle.coda_cancel.proofs.Keys.{fid_false}
 use Rattle.coda_copies.specs.Copies.{SettlementLeavesCopy, LeavesCopy}
 use Rattle.coda_venus.specs.State.{ClientState}
@@ -29,3 +30,5 @@ sparing c (Settled volume number verdict) fid h =
 sparing c (Giveup volume) fid h = λ e. second fid.volume volume _ h e
 sparing c (Fetched at parent node) fid h = fid_false fid at h
 sparing c (Dropped at) fid h = fid_false fid at h
+sparing c (Hoard change) fid h = tt
+sparing c (Snapshot snapshot) fid h = tt

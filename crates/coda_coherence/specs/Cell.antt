@@ -109,6 +109,8 @@ invalidates c (entry.Giveup volume) fid =
     (fid.volume == volume) && any_record (mentioning fid) (log_records (c.volumes volume))
 invalidates c (entry.Fetched at parent node) fid = same_fid fid at
 invalidates c (entry.Dropped at) fid = same_fid fid at
+invalidates c (entry.Hoard change) fid = false
+invalidates c (entry.Snapshot snapshot) fid = false
 
 -- ---- what happens
 

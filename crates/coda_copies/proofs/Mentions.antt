@@ -294,6 +294,8 @@ mentioned_are_kept = record { first = λ number blocks fid m. absurd (false≢tr
       | inl same ↦ absurd (may.1 (subst (λ x. (any_record (mentioning x) (c.volumes x.volume).log.chunk || any_record (mentioning x) (c.volumes x.volume).log.records) ≡ true) same (sym (any-append (mentioning f) (c.volumes f.volume).log.chunk (c.volumes f.volume).log.records) ∙ m)))
       | inr off ↦ subst (λ o. IsSome o ⊎ EndsTakenOut f (records_for c f)) (sym (gone_else fids_total exact_fids c.held.nodes at f off)) (kept f m)
     ]
+    entered c (entry.Hoard change) may owed kept f = absurd may
+    entered c (entry.Snapshot snapshot) may owed kept f = absurd may
 
     taken : (c : ClientState) (fid : Fid) → AreMentionedKept c → cached_node c fid ≡ None → any_record (mentioning fid) (records_for c fid) ≡ true → any_record (takes_out fid) (records_for c fid) ≡ true
     taken c fid kept none m = elim (kept fid m) [

@@ -1,117 +1,82 @@
--- The two sides of the formats of nodes and entries agree.
-use Rattle.std.proofs.Common.{◌≡◌, ℕ, Bool, true, List, [], ◌∷◌, Option, Some, None, refl}
+-- The two sides of the formats of what journals keep agree.
+use Rattle.std.proofs.Common.{◌≡◌, ℕ, Option, Some, None, refl}
 use Rattle.std.specs.Prelude.{IsTrue}
-use Rattle.std.specs.FinMap as map
-use Rattle.std.specs.FinMap.Entries.{is_sorted, below_all}
-use Rattle.std.specs.Ordering.{is_lt}
-use Rattle.std.proofs.lemmas.Cmp.{nat_list_cmp_total}
 use Rattle.coda_fid.specs.declared.fid.Fid.{Fid}
-use Rattle.coda_fid.specs.Name.{is_name, name_cmp}
-use Rattle.coda_tree.specs.Bindings.{Pairs}
-use Rattle.coda_tree.specs.declared.node.NodeKind.{NodeKind}
-use Rattle.coda_tree.specs.declared.node.NodeKind.TheVariants.{File, Link, Dir}
-use Rattle.coda_tree.proofs.Booleans.{to_T, lt_less}
 use Rattle.coda_record.specs.declared.entry.ClientEntry.{ClientEntry}
 use Rattle.coda_record.specs.declared.entry.ClientEntry.TheVariants as client_entries
 use Rattle.coda_record.specs.declared.entry.ReplicaEntry.{ReplicaEntry}
 use Rattle.coda_record.specs.declared.entry.ReplicaEntry.TheVariants as replica_entries
-use Rattle.coda_record.specs.Form.{both, number_piece, Size, one, Format}
-use Rattle.coda_record.specs.Parts.{u8, counted, where_holds, items_piece}
-use Rattle.coda_record.specs.Spelling.{HasSpelling}
-use Rattle.coda_record.specs.Walks.{Always, Says, IsPlaced, Agrees}
-use Rattle.coda_record.specs.Table.{name, target, content}
-use Rattle.coda_record.specs.Entries.{comes_after, binding_after, pairs, bindings, node_form, file_form, link_form, dir_form, kind_of, held_piece, node_forms, node, client_entry_forms, client_entry, client_payload, replica_entry_forms, replica_entry}
-use Rattle.coda_record.proofs.PartsAgree.{first_true, second_true, no_bytes, no_number, none_such, where_agrees, behind_tags, tags_placed, list_agrees, list_of_agrees, flag_agrees, in_words_agrees}
-use Rattle.coda_record.proofs.Tabled.{u16_agrees, u32_agrees, u64_agrees, client_agrees, server_agrees, volume_agrees, ordinal_agrees, name_agrees, target_agrees, content_agrees, fid_agrees, fid_option_agrees, sid_agrees, record_agrees, records_agrees, verdict_agrees}
+use Rattle.coda_values.specs.Form.{Size, four}
+use Rattle.coda_values.specs.Parts.{u32, where_holds, optional}
+use Rattle.coda_values.specs.Walks.{Says, Agrees}
+use Rattle.coda_record.specs.Entries.{segment, frozen, volume_follows, volume_log_above, volume_logs, cached_after, cached_nodes, client_snapshot, client_entry_forms, client_entry, client_payload, replica_entry_forms, replica_entry, decide_form}
+use Rattle.coda_record.specs.Hoard.{hoard_entry}
+use Rattle.coda_values.proofs.PartsAgree.{no_number, where_agrees, behind_tags, tags_placed, optional_agrees, list_agrees, list_of_agrees}
+use Rattle.coda_values.proofs.Tabled.{u32_agrees, u64_agrees, client_agrees, server_agrees, volume_agrees, count_agrees, ordinal_agrees, fid_agrees, fid_option_agrees, record_agrees, records_agrees, verdict_agrees}
+use Rattle.coda_values.proofs.HeldAgree.{fid_after_agrees, objects_agree, change_agrees}
+use Rattle.coda_record.proofs.Decided.{lasts_agree}
+use Rattle.coda_record.proofs.HoardAgree.{hoard_entry_agrees, hoard_change_agrees}
+pub use Rattle.coda_values.proofs.NodesAgree.{node_agrees}
 
--- ---- what a directory binds
+-- ---- client snapshot
 
-after_agrees : (before : Option (List ℕ)) → Agrees (where_holds (comes_after before) name)
-after_agrees before = where_agrees (comes_after before) name name_agrees (none_such is_name (counted u8) (no_bytes u8 (no_number one)))
-
-pub binding_agrees : (before : Option (List ℕ)) → Agrees (binding_after before)
-unfolding binding_after
-binding_agrees before = record {
-  written = ((after_agrees before).written, λ n k. (fid_agrees.written, λ f k. refl));
-  said = λ b fits. (b.0, _, refl, (after_agrees before).said b.0, (b.1, _, refl, fid_agrees.said b.1, (refl, refl)));
-  placed = ((after_agrees before).placed, λ n. (fid_agrees.placed, λ f. tt));
+pub segment_agrees : (size : Size) → Agrees (segment size)
+unfolding segment
+segment_agrees size = record {
+  written = (ordinal_agrees.written, λ a k. (ordinal_agrees.written, λ b k. (u64_agrees.written, λ t k. ((records_agrees size).written, λ rs k. refl))));
+  said = λ s fits. (s.first, _, refl, ordinal_agrees.said s.first, (s.last, _, refl, ordinal_agrees.said s.last, (s.newest, _, refl, u64_agrees.said s.newest, (s.recs, _, refl, (records_agrees size).said s.recs, (refl, refl)))));
+  placed = (ordinal_agrees.placed, λ a. (ordinal_agrees.placed, λ b. (u64_agrees.placed, λ t. ((records_agrees size).placed, λ rs. tt))));
 }
 
-pub pairs_agree : Agrees pairs
-unfolding pairs
-pairs_agree = list_agrees binding_after (λ b. Some b.0) None binding_agrees
-
-name_after : (before : Option (List ℕ)) (b : List ℕ × Fid) → HasSpelling (binding_after before) b → comes_after before b.0 ≡ true
-unfolding binding_after
-name_after before b fits = second_true (name.piece b.0).fits (comes_after before b.0) (first_true _ _ fits)
-
-below_more : (m : List ℕ) (n : List ℕ) (bs : Pairs) → is_lt (name_cmp m n) ≡ true → below_all name_cmp n bs ≡ true → below_all name_cmp m bs ≡ true
-below_more m n [] lt h = refl
-below_more m n (b ∷ bs) lt h = rw (nat_list_cmp_total.trans m n b.0 (lt_less _ lt) (lt_less _ (first_true (is_lt (name_cmp n b.0)) (below_all name_cmp n bs) h)), below_more m n bs lt (second_true (is_lt (name_cmp n b.0)) (below_all name_cmp n bs) h)) refl
-
--- names that each come after the one before are in order
-behind_sorted : (m : List ℕ) (bs : Pairs) → IsTrue (items_piece binding_after (λ b. Some b.0) (Some m) bs).fits → (below_all name_cmp m bs ≡ true) × (is_sorted name_cmp bs ≡ true)
-behind_sorted m [] fits = (refl, refl)
-behind_sorted m (b ∷ bs) fits =
-    let lt : is_lt (name_cmp m b.0) ≡ true = name_after (Some m) b (first_true _ _ fits) in
-    let more = behind_sorted b.0 bs (second_true _ _ fits) in
-    (rw (lt, below_more m b.0 bs lt more.0) refl, rw (more.0, more.1) refl)
-
-pub pairs_sorted : (bs : Pairs) → HasSpelling pairs bs → is_sorted name_cmp bs ≡ true
-unfolding pairs
-pairs_sorted [] fits = refl
-pairs_sorted (b ∷ bs) fits =
-    let more = behind_sorted b.0 bs (second_true _ _ (second_true _ _ fits)) in
-    rw (more.0, more.1) refl
-
-pub bindings_agree : Agrees bindings
-unfolding bindings
-bindings_agree = in_words_agrees map.from_sorted map.entries pairs pairs_agree
-    (λ bs fits. map.entries-from_sorted name_cmp bs (to_T _ (pairs_sorted bs fits)))
-    (λ b. map.same_entries_map (map.from_sorted (map.entries b)) b (map.entries-from_sorted name_cmp (map.entries b) (map.entries_sorted b)))
-
--- ---- node
-
-held_agrees : {A : Type 0} (size : Size) (tag : ℕ) (f : Format A) (kind : A → NodeKind) → Agrees f → ((x : A) → kind_of (kind x) ≡ tag) → ((x : A) → held_piece size (kind x) ≡ f.piece x)
-    → Always (node_form f kind) (λ p n. both (number_piece one tag) p ≡ (node size).piece n)
-unfolding node
-held_agrees size tag f kind agrees is same =
-    (flag_agrees.written, λ m k. (u16_agrees.written, λ mode k. (u32_agrees.written, λ o k. (u64_agrees.written, λ t k. (sid_agrees.written, λ s k. (agrees.written, λ x k. rw (is x, same x) refl))))))
-
-held_placed : {A : Type 0} (f : Format A) (kind : A → NodeKind) → Agrees f → IsPlaced true (node_form f kind)
-held_placed f kind agrees = (flag_agrees.placed, λ m. (u16_agrees.placed, λ mode. (u32_agrees.placed, λ o. (u64_agrees.placed, λ t. (sid_agrees.placed, λ s. (agrees.placed, λ x. tt))))))
-
-node_said : (size : Size) (kind : NodeKind) (mode owner mtime : ℕ) (sid : _) (marked : Bool) → Says (node size).form ((node size).piece (record { kind = kind; mode = mode; owner = owner; mtime = mtime; sid = sid; marked = marked })) (record { kind = kind; mode = mode; owner = owner; mtime = mtime; sid = sid; marked = marked })
-unfolding node file_form link_form dir_form
-node_said size (File c) mode owner mtime s marked = (1, _, refl, (marked, _, refl, flag_agrees.said marked, (mode, _, refl, u16_agrees.said mode, (owner, _, refl, u32_agrees.said owner, (mtime, _, refl, u64_agrees.said mtime, (s, _, refl, sid_agrees.said s, (c, _, refl, (content_agrees size).said c, (refl, refl))))))))
-node_said size (Link t) mode owner mtime s marked = (2, _, refl, (marked, _, refl, flag_agrees.said marked, (mode, _, refl, u16_agrees.said mode, (owner, _, refl, u32_agrees.said owner, (mtime, _, refl, u64_agrees.said mtime, (s, _, refl, sid_agrees.said s, (t, _, refl, (target_agrees size).said t, (refl, refl))))))))
-node_said size (Dir b) mode owner mtime s marked = (3, _, refl, (marked, _, refl, flag_agrees.said marked, (mode, _, refl, u16_agrees.said mode, (owner, _, refl, u32_agrees.said owner, (mtime, _, refl, u64_agrees.said mtime, (s, _, refl, sid_agrees.said s, (b, _, refl, bindings_agree.said b, (refl, refl))))))))
-
-pub node_agrees : (size : Size) → Agrees (node size)
-unfolding node file_form link_form dir_form
-node_agrees size = record {
-  written = behind_tags (node_forms size) (λ p n. p ≡ (node size).piece n) (
-    held_agrees size 1 (content size) (λ c. File c) (content_agrees size) (λ c. refl) (λ c. refl),
-    (
-      held_agrees size 2 (target size) (λ t. Link t) (target_agrees size) (λ t. refl) (λ t. refl),
-      (
-        held_agrees size 3 bindings (λ b. Dir b) bindings_agree (λ b. refl) (λ b. refl),
-        tt,
-      ),
-    ),
-  );
-  said = λ n fits. node_said size n.kind n.mode n.owner n.mtime n.sid n.marked;
-  placed = tags_placed (node_forms size) (
-    held_placed (content size) (λ c. File c) (content_agrees size),
-    (
-      held_placed (target size) (λ t. Link t) (target_agrees size),
-      (
-        held_placed bindings (λ b. Dir b) bindings_agree,
-        tt,
-      ),
-    ),
-  );
+frozen_agrees : Agrees frozen
+unfolding frozen
+frozen_agrees = record {
+  written = (server_agrees.written, λ h k. (u32_agrees.written, λ n k. refl));
+  said = λ f fits. (f.0, _, refl, server_agrees.said f.0, (f.1, _, refl, u32_agrees.said f.1, (refl, refl)));
+  placed = (server_agrees.placed, λ h. (u32_agrees.placed, λ n. tt));
 }
+
+frozen_option_agrees : Agrees (optional frozen)
+frozen_option_agrees = optional_agrees frozen frozen_agrees
+
+volume_follows_agrees : (before : ℕ) → Agrees (where_holds (volume_follows before) u32)
+volume_follows_agrees before = where_agrees (volume_follows before) u32 u32_agrees (no_number four)
+
+pub volume_log_agrees : (size : Size) (before : ℕ) → Agrees (volume_log_above size before)
+unfolding volume_log_above
+volume_log_agrees size before =
+    let segments = list_of_agrees (segment size) (segment_agrees size) in
+    record {
+      written = ((volume_follows_agrees before).written, λ v k. (count_agrees.written, λ o k. (count_agrees.written, λ c k. (u32_agrees.written, λ n k. (frozen_option_agrees.written, λ f k. (segments.written, λ s k. refl))))));
+      said = λ l fits. (l.volume, _, refl, (volume_follows_agrees before).said l.volume, (l.operations, _, refl, count_agrees.said l.operations, (l.chunks, _, refl, count_agrees.said l.chunks, (l.creations, _, refl, u32_agrees.said l.creations, (l.frozen, _, refl, frozen_option_agrees.said l.frozen, (l.segments, _, refl, segments.said l.segments, (refl, refl)))))));
+      placed = ((volume_follows_agrees before).placed, λ v. (count_agrees.placed, λ o. (count_agrees.placed, λ c. (u32_agrees.placed, λ n. (frozen_option_agrees.placed, λ f. (segments.placed, λ s. tt))))));
+    }
+
+pub volume_logs_agree : (size : Size) → Agrees (volume_logs size)
+unfolding volume_logs
+volume_logs_agree size = list_agrees (volume_log_above size) (λ l. l.volume) 0 (volume_log_agrees size)
+
+pub cached_agrees : (size : Size) (before : Option Fid) → Agrees (cached_after size before)
+unfolding cached_after
+cached_agrees size before = record {
+  written = ((fid_after_agrees before).written, λ f k. (fid_option_agrees.written, λ p k. ((node_agrees size).written, λ n k. refl)));
+  said = λ o fits. (o.0, _, refl, (fid_after_agrees before).said o.0, (o.1, _, refl, fid_option_agrees.said o.1, (o.2, _, refl, (node_agrees size).said o.2, (refl, refl))));
+  placed = ((fid_after_agrees before).placed, λ f. (fid_option_agrees.placed, λ p. ((node_agrees size).placed, λ n. tt)));
+}
+
+pub cached_nodes_agree : (size : Size) → Agrees (cached_nodes size)
+unfolding cached_nodes
+cached_nodes_agree size = list_agrees (cached_after size) (λ o. Some o.0) None (cached_agrees size)
+
+pub client_snapshot_agrees : (size : Size) → Agrees (client_snapshot size)
+unfolding client_snapshot
+client_snapshot_agrees size =
+    let hoard = list_of_agrees (hoard_entry size) (hoard_entry_agrees size) in
+    record {
+      written = (count_agrees.written, λ c k. ((volume_logs_agree size).written, λ v k. ((cached_nodes_agree size).written, λ n k. (hoard.written, λ h k. refl))));
+      said = λ s fits. (s.count, _, refl, count_agrees.said s.count, (s.volumes, _, refl, (volume_logs_agree size).said s.volumes, (s.nodes, _, refl, (cached_nodes_agree size).said s.nodes, (s.hoard, _, refl, hoard.said s.hoard, (refl, refl)))));
+      placed = (count_agrees.placed, λ c. ((volume_logs_agree size).placed, λ v. ((cached_nodes_agree size).placed, λ n. (hoard.placed, λ h. tt))));
+    }
 
 -- ---- entries
 
@@ -123,6 +88,8 @@ client_entry_said size (client_entries.Settled v n a) fits = (3, _, refl, (v, _,
 client_entry_said size (client_entries.Giveup v) fits = (4, _, refl, (v, _, refl, volume_agrees.said v, (refl, refl)))
 client_entry_said size (client_entries.Fetched f o n) fits = (5, _, refl, (f, _, refl, fid_agrees.said f, (o, _, refl, fid_option_agrees.said o, (n, _, refl, (node_agrees size).said n, (refl, refl)))))
 client_entry_said size (client_entries.Dropped f) fits = (6, _, refl, (f, _, refl, fid_agrees.said f, (refl, refl)))
+client_entry_said size (client_entries.Hoard c) fits = (7, _, refl, (c, _, refl, (hoard_change_agrees size).said c, (refl, refl)))
+client_entry_said size (client_entries.Snapshot s) fits = (8, _, refl, (s, _, refl, (client_snapshot_agrees size).said s, (refl, refl)))
 
 pub client_entry_agrees : (size : Size) → Agrees (client_entry size)
 unfolding client_entry
@@ -139,7 +106,13 @@ client_entry_agrees size = record {
             (fid_agrees.written, λ f k. (fid_option_agrees.written, λ o k. ((node_agrees size).written, λ n k. refl))),
             (
               (fid_agrees.written, λ f k. refl),
-              tt,
+              (
+                ((hoard_change_agrees size).written, λ c k. refl),
+                (
+                  ((client_snapshot_agrees size).written, λ s k. refl),
+                  tt,
+                ),
+              ),
             ),
           ),
         ),
@@ -159,7 +132,13 @@ client_entry_agrees size = record {
             (fid_agrees.placed, λ f. (fid_option_agrees.placed, λ o. ((node_agrees size).placed, λ n. tt))),
             (
               (fid_agrees.placed, λ f. tt),
-              tt,
+              (
+                ((hoard_change_agrees size).placed, λ c. tt),
+                (
+                  ((client_snapshot_agrees size).placed, λ s. tt),
+                  tt,
+                ),
+              ),
             ),
           ),
         ),
@@ -173,19 +152,40 @@ unfolding client_payload
 client_payload_agrees size = list_of_agrees (client_entry size) (client_entry_agrees size)
 
 replica_entry_said : (size : Size) (e : ReplicaEntry) → IsTrue ((replica_entry size).piece e).fits → Says (replica_entry size).form ((replica_entry size).piece e) e
-unfolding replica_entry
+unfolding replica_entry decide_form
 replica_entry_said size (replica_entries.Decide c n rs v) fits = (1, _, refl, (c, _, refl, client_agrees.said c, (n, _, refl, ordinal_agrees.said n, (rs, _, refl, (records_agrees size).said rs, (v, _, refl, verdict_agrees.said v, (refl, refl))))))
+replica_entry_said size (replica_entries.Resolve c ls) fits = (2, _, refl, (c, _, refl, (change_agrees size).said c, (ls, _, refl, lasts_agree.said ls, (refl, refl))))
+replica_entry_said size (replica_entries.Repair c ls) fits = (3, _, refl, (c, _, refl, (change_agrees size).said c, (ls, _, refl, lasts_agree.said ls, (refl, refl))))
+replica_entry_said size (replica_entries.Snapshot n os ls) fits = (4, _, refl, (n, _, refl, count_agrees.said n, (os, _, refl, (objects_agree size).said os, (ls, _, refl, lasts_agree.said ls, (refl, refl)))))
 
 pub replica_entry_agrees : (size : Size) → Agrees (replica_entry size)
-unfolding replica_entry
+unfolding replica_entry decide_form
 replica_entry_agrees size = record {
   written = behind_tags (replica_entry_forms size) (λ p e. p ≡ (replica_entry size).piece e) (
     (client_agrees.written, λ c k. (ordinal_agrees.written, λ n k. ((records_agrees size).written, λ rs k. (verdict_agrees.written, λ v k. refl)))),
-    tt,
+    (
+      ((change_agrees size).written, λ c k. (lasts_agree.written, λ ls k. refl)),
+      (
+        ((change_agrees size).written, λ c k. (lasts_agree.written, λ ls k. refl)),
+        (
+          (count_agrees.written, λ n k. ((objects_agree size).written, λ os k. (lasts_agree.written, λ ls k. refl))),
+          tt,
+        ),
+      ),
+    ),
   );
   said = replica_entry_said size;
   placed = tags_placed (replica_entry_forms size) (
     (client_agrees.placed, λ c. (ordinal_agrees.placed, λ n. ((records_agrees size).placed, λ rs. (verdict_agrees.placed, λ v. tt)))),
-    tt,
+    (
+      ((change_agrees size).placed, λ c. (lasts_agree.placed, λ ls. tt)),
+      (
+        ((change_agrees size).placed, λ c. (lasts_agree.placed, λ ls. tt)),
+        (
+          (count_agrees.placed, λ n. ((objects_agree size).placed, λ os. (lasts_agree.placed, λ ls. tt))),
+          tt,
+        ),
+      ),
+    ),
   );
 }

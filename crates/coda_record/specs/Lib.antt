@@ -1,9 +1,11 @@
-pub mod Form
-pub mod Reading
-pub mod Spelling
-pub mod Walks
-pub mod Parts
+pub use Rattle.coda_values.specs.Form
+pub use Rattle.coda_values.specs.Reading
+pub use Rattle.coda_values.specs.Spelling
+pub use Rattle.coda_values.specs.Walks
+pub use Rattle.coda_values.specs.Parts
+pub use Rattle.coda_values.specs.Exact
+pub use Rattle.coda_values.specs.Held
 pub mod Table
 pub mod Outcome
-pub mod Exact
+pub mod Hoard
 pub mod Entries

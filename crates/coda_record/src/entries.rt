@@ -5,22 +5,26 @@ ghost use Rattle.coda_record.specs.Form.{gives, four};
 ghost use Rattle.coda_record.specs.Parts.{items, optional, each};
 ghost use Rattle.coda_record.specs.Spelling.{HasSpelling, Spells, alone, whole};
 ghost use Rattle.coda_record.specs.Table.{fid as a_fid, record_above as a_record_above};
-ghost use Rattle.coda_record.specs.Entries.{client_entry as a_client_entry, client_payload, replica_entry as a_replica_entry};
+ghost use Rattle.coda_record.specs.Entries.{client_entry as a_client_entry, client_payload, replica_entry as a_replica_entry, decide_form};
 ghost use Rattle.coda_record.specs.Reading.{read};
 ghost use Rattle.coda_record.specs.Outcome.{Gives, Reads};
 ghost use Rattle.coda_record.specs.declared.entry.ReplicaEntry.{ReplicaEntry as a_type_of_replica_entries};
 ghost use Rattle.coda_record.specs.declared.entry.ClientEntry.{ClientEntry as a_type_of_client_entries};
 
-use crate::cursor::Cursor;
+use crate::decisions::{lasts, put_lasts};
 use crate::entry::{ClientEntry, ReplicaEntry};
-use crate::fault::{Fault, RecordFault};
-use crate::nodes::{node, put_node};
-use crate::parts::{u8_between, u32_between, u64_between};
-use crate::reading::{GREATEST, fid, optional_fid, record_above, records, verdict};
-use crate::writing::{
+use crate::fault::RecordFault;
+use crate::hoard::{hoard_change, put_hoard_change};
+use crate::snapshots::{client_snapshot, put_client_snapshot};
+use coda_fid::Bytes;
+use coda_values::held::{change, objects, put_change, put_objects};
+use coda_values::nodes::{node, put_node};
+use coda_values::parts::{u8_between, u32_between, u64_between};
+use coda_values::reading::{GREATEST, fid, optional_fid, record_above, records, verdict};
+use coda_values::writing::{
     put_fid, put_optional_fid, put_record, put_records, put_u8, put_u32, put_u64, put_verdict,
 };
-use coda_fid::Bytes;
+use coda_values::{Cursor, Fault};
 use std::alloc::{AllocError, Global};
 
 /// The greatest number of a volume.
@@ -74,6 +78,14 @@ fn client_entry(alloc: Global, cursor: &mut Cursor) -> Result<ClientEntry, Fault
             let fid = fid(cursor)?;
             Ok(ClientEntry::Dropped { fid })
         }
+        7 => {
+            let change = hoard_change(alloc, cursor)?;
+            Ok(ClientEntry::Hoard(change))
+        }
+        8 => {
+            let snapshot = client_snapshot(alloc, cursor)?;
+            Ok(ClientEntry::Snapshot(snapshot))
+        }
         _ => Err(tag.unknown()),
     }
 }
@@ -106,7 +118,7 @@ fn client_payload_alone(alloc: Global, bytes: &[u8]) -> Result<Vec<ClientEntry>,
 }
 
 // What the bytes say.
-#[tactic(auto, unfolding(crate::specs::Spelling::whole))]
+#[tactic(auto, unfolding(coda_values::specs::Spelling::whole))]
 fn client_payload_said(alloc: Global, bytes: &[u8]) -> Result<Vec<ClientEntry>, RecordFault>
     ensures { Reads (λ es. es.items) result (whole (client_payload four) bytes.now) }
 {
@@ -135,15 +147,11 @@ pub fn read_client(alloc: Global, bytes: &[u8]) -> Result<Vec<ClientEntry>, Reco
     client_payload_said(alloc, bytes)
 }
 
-// An entry of a replica.
-#[tactic(auto, unfolding(crate::specs::Entries::replica_entry))]
-fn replica_entry(alloc: Global, cursor: &mut Cursor) -> Result<ReplicaEntry, Fault>
-    ensures { Gives (λ e. (e, cursor.new)) result (read (a_replica_entry four).form cursor.old) }
+// A chunk that was decided.
+#[tactic(auto, unfolding(crate::specs::Entries::decide_form))]
+fn decision(alloc: Global, cursor: &mut Cursor) -> Result<ReplicaEntry, Fault>
+    ensures { Gives (λ e. (e, cursor.new)) result (read (decide_form four) cursor.old) }
 {
-    let tag = cursor.tag()?;
-    if tag.byte != 1 {
-        return Err(tag.unknown());
-    }
     let client = u8_between(cursor, 1, 255)?;
     let number = u64_between(cursor, 1, GREATEST)?;
     let recs = records(alloc, cursor)?;
@@ -154,6 +162,34 @@ fn replica_entry(alloc: Global, cursor: &mut Cursor) -> Result<ReplicaEntry, Fau
         recs,
         verdict,
     })
+}
+
+// An entry of a replica.
+#[tactic(auto, unfolding(crate::specs::Entries::replica_entry))]
+fn replica_entry(alloc: Global, cursor: &mut Cursor) -> Result<ReplicaEntry, Fault>
+    ensures { Gives (λ e. (e, cursor.new)) result (read (a_replica_entry four).form cursor.old) }
+{
+    let tag = cursor.tag()?;
+    match tag.byte {
+        1 => decision(alloc, cursor),
+        2 => {
+            let change = change(alloc, cursor)?;
+            let lasts = lasts(alloc, cursor)?;
+            Ok(ReplicaEntry::Resolve { change, lasts })
+        }
+        3 => {
+            let change = change(alloc, cursor)?;
+            let lasts = lasts(alloc, cursor)?;
+            Ok(ReplicaEntry::Repair { change, lasts })
+        }
+        4 => {
+            let count = u64_between(cursor, 0, GREATEST)?;
+            let held = objects(alloc, cursor)?;
+            let lasts = lasts(alloc, cursor)?;
+            Ok(ReplicaEntry::Snapshot { count, held, lasts })
+        }
+        _ => Err(tag.unknown()),
+    }
 }
 
 // An entry of a replica, with nothing behind it.
@@ -170,7 +206,7 @@ fn replica_entry_alone(alloc: Global, bytes: &[u8]) -> Result<ReplicaEntry, Faul
 }
 
 // What the bytes say.
-#[tactic(auto, unfolding(crate::specs::Spelling::whole))]
+#[tactic(auto, unfolding(coda_values::specs::Spelling::whole))]
 fn replica_entry_said(alloc: Global, bytes: &[u8]) -> Result<ReplicaEntry, RecordFault>
     ensures { Reads (λ e. e) result (whole (a_replica_entry four) bytes.now) }
 {
@@ -247,6 +283,14 @@ fn put_client_entry(out: &mut Vec<u8>, entry: &ClientEntry) -> Result<(), AllocE
             put_u8(out, 6)?;
             put_fid(out, *fid)
         }
+        ClientEntry::Hoard(change) => {
+            put_u8(out, 7)?;
+            put_hoard_change(out, change)
+        }
+        ClientEntry::Snapshot(snapshot) => {
+            put_u8(out, 8)?;
+            put_client_snapshot(out, snapshot)
+        }
     }
 }
 
@@ -290,6 +334,22 @@ fn put_replica_entry(out: &mut Vec<u8>, entry: &ReplicaEntry) -> Result<(), Allo
             put_u64(out, *number)?;
             put_records(out, recs.records())?;
             put_verdict(out, verdict)
+        }
+        ReplicaEntry::Resolve { change, lasts } => {
+            put_u8(out, 2)?;
+            put_change(out, change)?;
+            put_lasts(out, lasts.lasts())
+        }
+        ReplicaEntry::Repair { change, lasts } => {
+            put_u8(out, 3)?;
+            put_change(out, change)?;
+            put_lasts(out, lasts.lasts())
+        }
+        ReplicaEntry::Snapshot { count, held, lasts } => {
+            put_u8(out, 4)?;
+            put_u64(out, *count)?;
+            put_objects(out, held.objects())?;
+            put_lasts(out, lasts.lasts())
         }
     }
 }

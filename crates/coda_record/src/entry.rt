@@ -1,8 +1,12 @@
 // What journals keep.
-use crate::Records;
+use crate::last::Lasts;
+use crate::snapshot::ClientSnapshot;
 use coda_certify::Verdict;
 use coda_fid::{Fid, Record};
+use coda_hdb::HoardChange;
+use coda_reslog::{Change, HeldObjects};
 use coda_tree::Node;
+use coda_values::Records;
 
 /// What a client keeps in its journal, in the order in which it happened.
 #[derive(Debug, Drop)]
@@ -53,6 +57,10 @@ pub enum ClientEntry {
         /// The object.
         fid: Fid,
     },
+    /// The hoard database changed.
+    Hoard(HoardChange),
+    /// What stands for all entries so far.
+    Snapshot(ClientSnapshot),
 }
 
 /// What a replica keeps in its journal.
@@ -68,5 +76,28 @@ pub enum ReplicaEntry {
         recs: Records,
         /// The verdict.
         verdict: Verdict,
+    },
+    /// The replicas of the volume were resolved.
+    Resolve {
+        /// What became of this one.
+        change: Change,
+        /// The last decision of each client that any of them knew.
+        lasts: Lasts,
+    },
+    /// An object that was marked was repaired.
+    Repair {
+        /// What became of this replica.
+        change: Change,
+        /// The last decisions that came with it.
+        lasts: Lasts,
+    },
+    /// What stands for all entries so far.
+    Snapshot {
+        /// How many entries it stands for.
+        count: u64,
+        /// The objects, with what the replica holds of each.
+        held: HeldObjects,
+        /// The last decision of each client that has any.
+        lasts: Lasts,
     },
 }

@@ -1,25 +1,28 @@
-//! Operations, records, reasons and verdicts as bytes: a table of formats, with its laws.
+//! Decisions, answers and what journals keep as bytes: a table of formats over that of values, with its laws.
 #![tactic(auto)]
 
 mod answer;
-mod cursor;
+pub mod decisions;
 pub mod entries;
 mod entry;
 mod fault;
+pub mod hoard;
 mod last;
 mod law;
-pub mod lengths;
-pub mod nodes;
-pub mod parts;
-pub mod reading;
-mod records;
-pub mod writing;
+mod snapshot;
+pub mod snapshots;
+mod view;
 
 pub use answer::Answer;
-pub use cursor::{Cursor, Tag};
+pub use coda_values::{
+    Cursor, Fault, Records, Tag, held, lengths, nodes, parts, reading, updates, writing,
+};
 pub use entries::{read_client, read_replica, write_client, write_replica};
 pub use entry::{ClientEntry, ReplicaEntry};
-pub use fault::{Fault, RecordFault};
-pub use last::Last;
-pub use law::{each_part_is_exact, entries_are_exact, operations_are_exact, verdicts_are_exact};
-pub use records::Records;
+pub use fault::RecordFault;
+pub use last::{Last, Lasts};
+pub use law::{decisions_are_exact, entries_are_exact, hoards_are_exact, snapshots_are_exact};
+pub use snapshot::{
+    CachedNodes, ClientSnapshot, HoardEntries, LogSegment, LogSegments, VolumeLog, VolumeLogs,
+};
+pub use view::View;

@@ -18,7 +18,7 @@ use Rattle.coda_record.specs.Parts.{u8}
 use Rattle.coda_record.specs.Spelling.{HasSpelling}
 use Rattle.coda_record.specs.Table as table
 use Rattle.coda_record.specs.declared.entry.ReplicaEntry.{ReplicaEntry}
-use Rattle.coda_record.specs.declared.entry.ReplicaEntry.TheVariants.{Decide}
+use Rattle.coda_record.specs.declared.entry.ReplicaEntry.TheVariants.{Decide, Resolve, Repair, Snapshot}
 use Rattle.coda_record.proofs.PartsAgree.{first_true, second_true}
 use Rattle.coda_record.proofs.Spans.{number_span, together_span}
 use Rattle.coda_spelling.specs.Spelled.{IsVolumeSpelled}
@@ -59,6 +59,9 @@ state_spelled header history law =
         let parts = entry_parts client number recs verdict is in
         let recs_are = records_are recs parts.1 in
         record { nodes = left_spelled r.tree.nodes client recs are.nodes (one_byte client parts.0) recs_are; room = room_left r.tree.nodes client recs are.room }
+    by r (Resolve change lasts) are is = are
+    by r (Repair change lasts) are is = are
+    by r (Snapshot count held lasts) are is = are
 
     step : (es : List ReplicaEntry) (entry : ReplicaEntry) → IsVolumeSpelled (state_of header es).tree.nodes → MayFollow header es entry → IsVolumeSpelled (state_of header (es ++ entry ∷ [])).tree.nodes
     step es entry are may = subst (λ (r : ReplicaState). IsVolumeSpelled r.tree.nodes) (sym (state_push header es entry)) (by (state_of header es) entry are may.1)

@@ -70,6 +70,9 @@ fn enter(alloc: Global, decider: &mut Decider, payload: &[u8]) -> Result<(), Unf
                 verdict,
             },
         ) => enter_decision(decider, client, number, recs.records(), verdict),
+        Ok(ReplicaEntry::Resolve { .. }) => Err(Unfit::Misfit),
+        Ok(ReplicaEntry::Repair { .. }) => Err(Unfit::Misfit),
+        Ok(ReplicaEntry::Snapshot { .. }) => Err(Unfit::Misfit),
         Err(RecordFault::BadRecord(_)) => Err(Unfit::Misfit),
         Err(RecordFault::Memory) => Err(Unfit::Memory),
     }

@@ -67,6 +67,8 @@ entry_light c (entry.Settled volume number verdict) are may = put_light c.volume
 entry_light c (entry.Giveup volume) are may = put_light c.volumes volume (volume_after (c.volumes volume) Gaveup) are (given_light (c.volumes volume).log (are volume))
 entry_light c (entry.Fetched fid parent node) are may = are
 entry_light c (entry.Dropped fid) are may = are
+entry_light c (entry.Hoard change) are may = are
+entry_light c (entry.Snapshot snapshot) are may = are
 
 payload_light : (c : ClientState) (payload : Payload) → AreLight c → MayEnterAll c payload → AreLight (client_after_all c payload)
 payload_light c [] are may = are

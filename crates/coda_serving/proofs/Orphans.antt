@@ -106,6 +106,8 @@ entry_fits c (entry.Settled volume number verdict) may are = are
 entry_fits c (entry.Giveup volume) may are = are
 entry_fits c (entry.Fetched fid parent node) may are = fetch_fits c.held fid parent node are
 entry_fits c (entry.Dropped fid) may are = taken_fits c.held.nodes c.held.parents fid are
+entry_fits c (entry.Hoard change) may are = are
+entry_fits c (entry.Snapshot snapshot) may are = are
 
 payload_fits : (c : ClientState) (payload : Payload) → MayEnterAll c payload → HasNoOrphans c.held → HasNoOrphans (client_after_all c payload).held
 payload_fits c [] may are = are

@@ -42,7 +42,7 @@ use Rattle.coda_record.specs.Spelling.{HasSpelling}
 use Rattle.coda_record.specs.Table as table
 use Rattle.coda_record.specs.Entries as entries
 use Rattle.coda_record.specs.declared.entry.ReplicaEntry.{ReplicaEntry}
-use Rattle.coda_record.specs.declared.entry.ReplicaEntry.TheVariants.{Decide}
+use Rattle.coda_record.specs.declared.entry.ReplicaEntry.TheVariants.{Decide, Resolve, Repair, Snapshot}
 use Rattle.coda_record.proofs.PartsAgree.{first_true, second_true}
 use Rattle.coda_record.proofs.Spans.{number_span, together_span, records_span}
 use Rattle.coda_replica.specs.History.{payload_of, payloads_of, state_after, state_of, MayFollow, IsHistory}
@@ -366,6 +366,9 @@ nodes_ruled count m client recs are number is = by (replay m client recs) refl
 -- how many records a replica decided
 abbrev decided_in : ReplicaEntry → ℕ
 decided_in (Decide client number recs verdict) = length recs
+decided_in (Resolve change lasts) = 0
+decided_in (Repair change lasts) = 0
+decided_in (Snapshot number held lasts) = 0
 
 abbrev total : List ReplicaEntry → ℕ
 total [] = 0
@@ -383,6 +386,9 @@ nodes_decided : (count : ℕ) (r : ReplicaState) (entry : ReplicaEntry) → AreN
 nodes_decided count r (Decide client number recs verdict) are is =
     let parts = entry_parts client number recs verdict is in
     nodes_ruled count r.tree.nodes client recs are (one_byte client parts.0) (records_are recs parts.1)
+nodes_decided count r (Resolve change lasts) are is = nodes_more count (count + 0) r.tree.nodes (omega arith) are
+nodes_decided count r (Repair change lasts) are is = nodes_more count (count + 0) r.tree.nodes (omega arith) are
+nodes_decided count r (Snapshot number held lasts) are is = nodes_more count (count + 0) r.tree.nodes (omega arith) are
 
 nodes_kept : (header : Header) (history : List ReplicaEntry) → IsHistory header history → AreNodes (total history) (state_of header history).tree.nodes
 nodes_kept header history law =
@@ -417,6 +423,9 @@ entry_bytes (Decide client number recs verdict) =
     let mine = records_span recs in
     let least = records_bytes recs in
     omega (arith, all, mine, least)
+entry_bytes (Resolve change lasts) = omega arith
+entry_bytes (Repair change lasts) = omega arith
+entry_bytes (Snapshot number held lasts) = omega arith
 
 journal_bytes : (history : List ReplicaEntry) → total history ≤ length (blocks w32 (payloads_of history))
 journal_bytes [] = omega arith

@@ -27,7 +27,7 @@ use Rattle.coda_cml.proofs.segments.PartsKept.{parts_are, append_keeps, cut_keep
 use Rattle.coda_journal.specs.declared.header.Header.{Header}
 use Rattle.coda_plain.proofs.Lists.{left_push, along}
 use Rattle.coda_record.specs.declared.entry.ClientEntry.{ClientEntry}
-use Rattle.coda_record.specs.declared.entry.ClientEntry.TheVariants.{Op, Freeze, Settled, Giveup, Fetched, Dropped}
+use Rattle.coda_record.specs.declared.entry.ClientEntry.TheVariants.{Op, Freeze, Settled, Giveup, Fetched, Dropped, Hoard, Snapshot}
 use Rattle.coda_venus.specs.Logs.{IsLogKept}
 use Rattle.coda_venus.specs.State.{ClientVolume, ClientState, put, new_client, ended_by, client_after, client_after_all}
 use Rattle.coda_venus.specs.History.{Payload, state_of, MayFreeze, MayEnter, MayEnterAll, MayFollow, IsHistory}
@@ -127,6 +127,8 @@ entered_kept c (Settled volume number verdict) k may = put_kept c.volumes volume
 entered_kept c (Giveup volume) k may = put_kept c.volumes volume _ k (given_up_kept (c.volumes volume).log (k volume) may.0)
 entered_kept c (Fetched fid parent node) k may = k
 entered_kept c (Dropped fid) k may = k
+entered_kept c (Hoard change) k may = k
+entered_kept c (Snapshot snapshot) k may = k
 
 all_kept : (c : ClientState) (es : Payload) → AreLogsKept c → MayEnterAll c es → AreLogsKept (client_after_all c es)
 all_kept c [] k may = k

@@ -18,7 +18,7 @@ use Rattle.coda_record.specs.Parts.{u8, items_piece}
 use Rattle.coda_record.specs.Spelling.{HasSpelling}
 use Rattle.coda_record.specs.Table as table
 use Rattle.coda_record.specs.declared.entry.ClientEntry.{ClientEntry}
-use Rattle.coda_record.specs.declared.entry.ClientEntry.TheVariants.{Op, Freeze, Settled, Giveup, Fetched, Dropped}
+use Rattle.coda_record.specs.declared.entry.ClientEntry.TheVariants.{Op, Freeze, Settled, Giveup, Fetched, Dropped, Hoard, Snapshot}
 use Rattle.coda_record.proofs.PartsAgree.{first_true, second_true}
 use Rattle.coda_spelling.specs.Spelled.{IsSpelled, AreAllSpelled}
 use Rattle.coda_spelling.proofs.SpelledRecords.{single_spelled}
@@ -79,6 +79,8 @@ MayLog c (Settled volume number verdict) = Unit {0}
 MayLog c (Giveup volume) = (c.volumes volume).log.frozen ≡ None
 MayLog c (Fetched fid parent node) = Unit {0}
 MayLog c (Dropped fid) = Unit {0}
+MayLog c (Hoard change) = Unit {0}
+MayLog c (Snapshot snapshot) = Unit {0}
 
 put_sendable : (f : ℕ → ClientVolume) (volume : ℕ) (v : ClientVolume) → ((q : ℕ) → IsSendable (f q).log) → IsSendable v.log → (q : ℕ) → IsSendable (put f volume v q).log
 put_sendable f volume v all is q = elim (cases_eq q volume) [
@@ -95,6 +97,8 @@ entered_sendable c (Settled volume number verdict) all may = put_sendable c.volu
 entered_sendable c (Giveup volume) all may = let is = all volume in put_sendable c.volumes volume _ all (record { kept = given_up_kept (c.volumes volume).log is.kept may; chunk = is.chunk; records = tt })
 entered_sendable c (Fetched fid parent node) all may = all
 entered_sendable c (Dropped fid) all may = all
+entered_sendable c (Hoard change) all may = all
+entered_sendable c (Snapshot snapshot) all may = all
 
 -- ---- the code's clients
 
@@ -151,6 +155,8 @@ may_log c (Settled volume number verdict) es may fits = tt
 may_log c (Giveup volume) es may fits = may.0.0
 may_log c (Fetched fid parent node) es may fits = tt
 may_log c (Dropped fid) es may fits = tt
+may_log c (Hoard change) es may fits = tt
+may_log c (Snapshot snapshot) es may fits = tt
 
 items_sendable : (c : ClientState) (payload : Payload) → AllSendable c → MayEnterAll c payload → (items_piece (λ (before : Unit {0}). entries.client_entry four) (λ (e : ClientEntry). tt) tt payload).fits ≡ true → AllSendable (client_after_all c payload)
 items_sendable c [] all may fits = all

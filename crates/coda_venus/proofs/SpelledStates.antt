@@ -20,7 +20,7 @@ use Rattle.coda_record.specs.Parts.{u8, u16, u32, u64, flag, optional, items_pie
 use Rattle.coda_record.specs.Spelling.{HasSpelling}
 use Rattle.coda_record.specs.Table as table
 use Rattle.coda_record.specs.declared.entry.ClientEntry.{ClientEntry}
-use Rattle.coda_record.specs.declared.entry.ClientEntry.TheVariants.{Op, Freeze, Settled, Giveup, Fetched, Dropped}
+use Rattle.coda_record.specs.declared.entry.ClientEntry.TheVariants.{Op, Freeze, Settled, Giveup, Fetched, Dropped, Hoard, Snapshot}
 use Rattle.coda_record.proofs.PartsAgree.{first_true, second_true}
 use Rattle.coda_spelling.specs.Spelled.{AreSpelled}
 use Rattle.coda_spelling.proofs.SpelledNodes.{after_operation}
@@ -108,6 +108,8 @@ entry_spelled c (Settled volume number verdict) is fits = record { number = is.n
 entry_spelled c (Giveup volume) is fits = record { number = is.number; nodes = is.nodes }
 entry_spelled c (Fetched fid parent node) is fits = record { number = is.number; nodes = after_put c.held.nodes fid node is.nodes (node_spelled node (first_true ((entries.node four).piece node).fits _ (second_true ((optional table.fid).piece parent).fits _ (second_true (table.fid.piece fid).fits _ (second_true (u8.piece 5).fits _ fits))))) }
 entry_spelled c (Dropped fid) is fits = record { number = is.number; nodes = after_taken c.held.nodes fid is.nodes }
+entry_spelled c (Hoard change) is fits = is
+entry_spelled c (Snapshot snapshot) is fits = is
 
 items_spelled : (c : ClientState) (payload : Payload) → IsStateSpelled c → (items_piece (λ (before : Unit {0}). entries.client_entry four) (λ (e : ClientEntry). tt) tt payload).fits ≡ true → IsStateSpelled (client_after_all c payload)
 items_spelled c [] is fits = is

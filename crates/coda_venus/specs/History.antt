@@ -19,7 +19,7 @@ use Rattle.coda_record.specs.Entries.{client_payload}
 use Rattle.coda_record.specs.Form.{four}
 use Rattle.coda_record.specs.Spelling.{HasSpelling}
 use Rattle.coda_record.specs.declared.entry.ClientEntry.{ClientEntry}
-use Rattle.coda_record.specs.declared.entry.ClientEntry.TheVariants.{Op, Freeze, Settled, Giveup, Fetched, Dropped}
+use Rattle.coda_record.specs.declared.entry.ClientEntry.TheVariants.{Op, Freeze, Settled, Giveup, Fetched, Dropped, Hoard, Snapshot}
 use Rattle.coda_venus.specs.Ask.{Asked, too_big}
 use Rattle.coda_venus.specs.Held.{Held}
 use Rattle.coda_venus.specs.State.{ClientState, new_client, client_after, client_after_all}
@@ -81,7 +81,8 @@ IsFrozen (Some chunk) number = chunk.number ≡ number
 
 -- An entry may follow in these cases, by the state before it: an operation that is accepted; a freeze of what may go; the verdict on the
 -- chunk that is frozen; a give-up where none is frozen and a record is left; an object that isn't both cached and dirty, with its parent;
--- and the dropping of one that is cached, isn't dirty and isn't the parent of another one.
+-- and the dropping of one that is cached, isn't dirty and isn't the parent of another one. No change of a hoard database and no snapshot
+-- may follow: clients have neither yet.
 abbrev pub MayEnter : ClientState → ClientEntry → Type 0
 MayEnter c (Op volume rec) = MayOperate c volume rec
 MayEnter c (Freeze volume number home last) = MayFreeze (c.volumes volume).log number last
@@ -89,6 +90,8 @@ MayEnter c (Settled volume number verdict) = IsFrozen (c.volumes volume).log.fro
 MayEnter c (Giveup volume) = ((c.volumes volume).log.frozen ≡ None) × ((c.volumes volume).log.records ≢ [])
 MayEnter c (Fetched fid parent node) = (¬ (IsSome (finite.get c.held.nodes fid) × IsDirty c fid)) × IsParent c.held fid parent
 MayEnter c (Dropped fid) = IsSome (finite.get c.held.nodes fid) × (¬ IsDirty c fid) × ((f : Fid) → finite.get c.held.parents f ≢ Some fid)
+MayEnter c (Hoard change) = ⊥
+MayEnter c (Snapshot snapshot) = ⊥
 
 -- each of the entries may follow those before it
 abbrev pub MayEnterAll : ClientState → Payload → Type 0

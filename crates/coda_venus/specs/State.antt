@@ -59,6 +59,8 @@ client_after c (entry.Settled volume number verdict) = after_deed c volume (Sett
 client_after c (entry.Giveup volume) = after_deed c volume Gaveup
 client_after c (entry.Fetched fid parent node) = record c { held = held_after_fetch c.held fid parent node }
 client_after c (entry.Dropped fid) = record c { held = held_after_drop c.held fid }
+client_after c (entry.Hoard change) = c
+client_after c (entry.Snapshot snapshot) = c
 
 -- a client after entries in order
 abbrev pub client_after_all : ClientState → List ClientEntry → ClientState

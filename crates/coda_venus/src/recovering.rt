@@ -41,6 +41,8 @@ impl Client {
             ClientEntry::Giveup { volume } => self.enter_giveup(volume),
             ClientEntry::Fetched { fid, parent, node } => self.enter_fetched(fid, parent, node),
             ClientEntry::Dropped { fid } => self.enter_dropped(fid),
+            ClientEntry::Hoard(_) => Err(Unfit::Misfit),
+            ClientEntry::Snapshot(_) => Err(Unfit::Misfit),
         }
     }
 

@@ -7,8 +7,9 @@ ghost use Rattle.coda_wire.specs.Outcome.{Reads};
 ghost use Rattle.coda_wire.specs.Table.{message as a_message, versioned, chunk_form, verdict_form};
 
 use crate::{Message, WireFault};
+use coda_record::decisions::answer;
 use coda_record::parts::{u8_between, u32_between, u64_between};
-use coda_record::reading::{GREATEST, answer, records};
+use coda_record::reading::{GREATEST, records};
 use coda_record::{Cursor, Fault};
 use std::alloc::Global;
 
@@ -88,7 +89,7 @@ fn message_alone(alloc: Global, bytes: &[u8]) -> Result<Message, Fault>
 }
 
 // What the bytes say.
-#[tactic(auto, unfolding(coda_record::specs::Spelling::whole))]
+#[tactic(auto, unfolding(coda_values::specs::Spelling::whole))]
 fn said(alloc: Global, bytes: &[u8]) -> Result<Message, WireFault>
     ensures { Reads result (whole a_message bytes.now) }
 {

@@ -9,8 +9,9 @@ ghost use Rattle.coda_wire.specs.Table.{message as a_message};
 use crate::reading::VERSION;
 use crate::{Answer, Message};
 use coda_fid::{Bytes, Record};
-use coda_record::lengths::{length_of_answer, length_of_records};
-use coda_record::writing::{put_answer, put_records, put_u8, put_u32, put_u64};
+use coda_record::decisions::{length_of_answer, put_answer};
+use coda_record::lengths::length_of_records;
+use coda_record::writing::{put_records, put_u8, put_u32, put_u64};
 use std::alloc::{AllocError, Global};
 
 // A tag and the version, from whom and to whom, a volume and a chunk's number.

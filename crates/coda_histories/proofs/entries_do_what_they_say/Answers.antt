@@ -3,7 +3,7 @@ use Rattle.std.specs.Prelude.{IsSome}
 use Rattle.coda_fid.proofs.Fids.{fids_total, exact_fids}
 use Rattle.coda_fid.specs.declared.fid.Fid.{Fid}
 use Rattle.coda_record.specs.declared.entry.ClientEntry.{ClientEntry}
-use Rattle.coda_record.specs.declared.entry.ClientEntry.TheVariants.{Op, Freeze, Settled, Giveup, Fetched, Dropped}
+use Rattle.coda_record.specs.declared.entry.ClientEntry.TheVariants.{Op, Freeze, Settled, Giveup, Fetched, Dropped, Hoard, Snapshot}
 use Rattle.coda_tree.proofs.Order.{fid_cases, get_here, get_else, gone_here, gone_else}
 use Rattle.coda_venus.specs.History.{IsDirty, MayEnter}
 use Rattle.coda_venus.specs.State.{ClientState, client_after}
@@ -23,6 +23,8 @@ pending_stays c (Dropped at) fid may other there dirty = elim (fid_cases fid at)
   | inl same ↦ absurd (may.1 (subst (IsDirty c) same dirty))
   | inr off ↦ gone_else fids_total exact_fids c.held.nodes at fid off
 ]
+pending_stays c (Hoard change) fid may other there dirty = refl
+pending_stays c (Snapshot snapshot) fid may other there dirty = refl
 
 pub returns : goal.returns
 returns c = record {

@@ -1,10 +1,10 @@
-use Rattle.std.proofs.Common.{◌≡◌, ◌-◌}
-use Rattle.coda_record.specs.Form.{gives, four}
-use Rattle.coda_record.specs.Parts.{items, each}
-use Rattle.coda_record.specs.Reading.{read}
-use Rattle.coda_record.specs.Entries.{client_entry}
-use Rattle.coda_record.proofs.Lists.{left_to_read}
+use Rattle.std.proofs.Common.{◌≡◌, ◌-◌, Some, None}
+use Rattle.coda_values.specs.Form.{gives, four}
+use Rattle.coda_values.specs.Parts.{items, each}
+use Rattle.coda_values.specs.Reading.{read}
+use Rattle.coda_record.specs.Entries.{segment, volume_log_above, cached_after, client_entry}
+use Rattle.coda_values.proofs.Lists.{left_to_read}
 use Rattle.coda_record.proofs.entries.client_entries.Given as goal
 
 abbrev pub invariant-loop : goal.invariant-loop
-invariant-loop l = left_to_read (each (client_entry four)) (λ e. tt) tt l.entries.items (l.count - l.counter) l.cursor ≡ read (items (each (client_entry four)) (λ e. tt) tt l.count (λ es. gives es)) l.fn.cursor
+invariant-loop l = left_to_read (each (client_entry four)) (λ e. tt) tt l.entries.items (l.count - l.counter) l.cursor ≡ read (items (each (client_entry four)) (λ e. tt) tt l.count (λ xs. gives xs)) l.fn.cursor

@@ -2,7 +2,7 @@ use Rattle.std.proofs.Common.{arith, subst}
 use Rattle.coda_record.specs.Form.{four}
 use Rattle.coda_record.specs.Outcome.{Reads}
 use Rattle.coda_record.specs.Entries.{client_payload}
-use Rattle.coda_record.proofs.Laws.{spelled_is_whole}
+use Rattle.coda_values.proofs.Laws.{spelled_is_whole}
 use Rattle.coda_record.proofs.Found.{is_found}
 use Rattle.coda_record.proofs.EntriesAgree.{client_payload_agrees}
 use Rattle.coda_record.proofs.entries.read_client.Goals as goal

@@ -2,7 +2,7 @@ use Rattle.std.proofs.Common.{arith, subst}
 use Rattle.coda_record.specs.Form.{four}
 use Rattle.coda_record.specs.Outcome.{Reads}
 use Rattle.coda_record.specs.Entries.{replica_entry}
-use Rattle.coda_record.proofs.Laws.{spelled_is_whole}
+use Rattle.coda_values.proofs.Laws.{spelled_is_whole}
 use Rattle.coda_record.proofs.Found.{is_found}
 use Rattle.coda_record.proofs.EntriesAgree.{replica_entry_agrees}
 use Rattle.coda_record.proofs.entries.read_replica.Goals as goal

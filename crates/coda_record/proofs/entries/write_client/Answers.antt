@@ -1,7 +1,7 @@
 use Rattle.std.proofs.Common.{◌∙◌, refl, arith}
 use Rattle.coda_record.specs.Entries.{client_payload, client_entry}
 use Rattle.coda_record.specs.Form.{four}
-use Rattle.coda_record.proofs.ListOf.{few_items, each_spelled, items_bytes}
+use Rattle.coda_values.proofs.ListOf.{few_items, each_spelled, items_bytes}
 use Rattle.coda_record.proofs.entries.write_client.Goals as goal
 
 pub overflow_cast-entries : goal.overflow_cast-entries

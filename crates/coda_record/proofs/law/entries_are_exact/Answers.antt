@@ -1,10 +1,7 @@
-use Rattle.coda_record.specs.Entries.{node, client_entry, client_payload, replica_entry}
-use Rattle.coda_record.proofs.Offsets.{agreeing_is_exact}
-use Rattle.coda_record.proofs.EntriesAgree.{node_agrees, client_entry_agrees, client_payload_agrees, replica_entry_agrees}
+use Rattle.coda_record.specs.Entries.{client_entry, client_payload, replica_entry}
+use Rattle.coda_record.proofs.EntriesAgree.{client_entry_agrees, client_payload_agrees, replica_entry_agrees}
+use Rattle.coda_values.proofs.Offsets.{agreeing_is_exact}
 use Rattle.coda_record.proofs.law.entries_are_exact.Goals as goal
-
-pub returns-clause-node : goal.returns-clause-node
-returns-clause-node c = λ size. agreeing_is_exact (node size) (node_agrees size)
 
 pub returns-clause-single : goal.returns-clause-single
 returns-clause-single c = λ size. agreeing_is_exact (client_entry size) (client_entry_agrees size)

@@ -1,0 +1,10 @@
+use Rattle.std.proofs.Common.{◌≡◌, ◌-◌, Some, None}
+use Rattle.coda_values.specs.Form.{gives, four}
+use Rattle.coda_values.specs.Parts.{items, each}
+use Rattle.coda_values.specs.Reading.{read}
+use Rattle.coda_record.specs.Hoard.{hoard_entry}
+use Rattle.coda_values.proofs.Lists.{left_to_read}
+use Rattle.coda_record.proofs.hoard.hoard_entries_of.Given as goal
+
+abbrev pub invariant-loop : goal.invariant-loop
+invariant-loop l = left_to_read (each (hoard_entry four)) (λ e. tt) tt l.entries.items (l.count - l.counter) l.cursor ≡ read (items (each (hoard_entry four)) (λ e. tt) tt l.count (λ xs. gives xs)) l.fn.cursor

@@ -1,5 +1,0 @@
-use Rattle.coda_record.proofs.LastName.{as_bindings}
-use Rattle.coda_record.proofs.nodes.bindings.Goals as goal
-
-pub returns : goal.returns
-returns c = as_bindings c.pairs.result _ c.args.cursor.now c.pairs.ensures

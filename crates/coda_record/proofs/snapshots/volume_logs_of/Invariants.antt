@@ -1,0 +1,10 @@
+use Rattle.std.proofs.Common.{◌≡◌, ◌-◌, Some, None}
+use Rattle.coda_values.specs.Form.{gives, four}
+use Rattle.coda_values.specs.Parts.{items, each}
+use Rattle.coda_values.specs.Reading.{read}
+use Rattle.coda_record.specs.Entries.{segment, volume_log_above, cached_after, client_entry}
+use Rattle.coda_values.proofs.Lists.{left_to_read}
+use Rattle.coda_record.proofs.snapshots.volume_logs_of.Given as goal
+
+abbrev pub invariant-loop : goal.invariant-loop
+invariant-loop l = left_to_read (volume_log_above four) (λ l. l.volume) l.before l.logs.items (l.count - l.counter) l.cursor ≡ read (items (volume_log_above four) (λ l. l.volume) 0 l.count (λ xs. gives xs)) l.fn.cursor

@@ -1,8 +1,0 @@
-use Rattle.std.proofs.Common.{◌≡◌, ◌++◌, take}
-use Rattle.std.specs.List.{flat_map}
-use Rattle.coda_record.specs.Form.{four}
-use Rattle.coda_record.specs.Table.{record_above}
-use Rattle.coda_record.proofs.writing.put_all.Given as goal
-
-abbrev pub invariant-loop-rec : goal.invariant-loop-rec
-invariant-loop-rec l = l.out.items ≡ l.fn.out.items ++ flat_map (λ r. ((record_above four 0).piece r).bytes) (take l.rec-index l.records)

@@ -1,0 +1,13 @@
+pub mod Laws
+pub mod Lists
+pub mod PartsAgree
+pub mod RecordBytes
+pub mod Tabled
+pub mod Offsets
+pub mod Spans
+pub mod NodesAgree
+pub mod ListOf
+pub mod LastName
+pub mod HeldAgree
+pub mod Objects
+pub mod Logs

@@ -1,0 +1,10 @@
+use Rattle.std.proofs.Common.{◌≡◌, ◌-◌, Some, None}
+use Rattle.coda_values.specs.Form.{gives, four}
+use Rattle.coda_values.specs.Parts.{items}
+use Rattle.coda_values.specs.Reading.{read}
+use Rattle.coda_values.specs.Held.{fid_after, object_after}
+use Rattle.coda_values.proofs.Lists.{left_to_read}
+use Rattle.coda_values.proofs.held.objects_of.Given as goal
+
+abbrev pub invariant-loop : goal.invariant-loop
+invariant-loop l = left_to_read (object_after four) (λ o. Some o.0) l.before l.objects.items (l.count - l.counter) l.cursor ≡ read (items (object_after four) (λ o. Some o.0) None l.count (λ xs. gives xs)) l.fn.cursor

@@ -1,0 +1,10 @@
+pub mod Form
+pub mod Reading
+pub mod Spelling
+pub mod Walks
+pub mod Parts
+pub mod Table
+pub mod Outcome
+pub mod Exact
+pub mod Nodes
+pub mod Held
