@@ -13,7 +13,7 @@ use Rattle.coda_tree.specs.declared.node.NodeKind.TheVariants.{File, Link, Dir}
 use Rattle.coda_reslog.specs.declared.change.Held.{Held}
 use Rattle.coda_resolve.specs.declared.part.Renewals.{Renewals}
 use Rattle.coda_resolve.specs.declared.reading.Sight.{Sight}
-use Rattle.coda_resolve.specs.declared.view.View.{View}
+use Rattle.coda_record.specs.declared.view.View.{View}
 use Rattle.coda_resolve.specs.Copies.{Copies}
 use Rattle.coda_resolve.specs.Settling.{Fate, Same, Marked, Gone}
 use Rattle.coda_resolve.specs.Settled.{is_dir}

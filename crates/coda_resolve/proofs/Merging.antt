@@ -12,7 +12,7 @@ use Rattle.std.proofs.lemmas.Map.Keys.{IsDistinct-from_sorted}
 use Rattle.coda_fid.specs.Fid.{fid_cmp}
 use Rattle.coda_fid.specs.declared.fid.Fid.{Fid}
 use Rattle.coda_reslog.specs.declared.change.Change.{Change}
-use Rattle.coda_resolve.specs.declared.view.View.{View}
+use Rattle.coda_record.specs.declared.view.View.{View}
 use Rattle.coda_resolve.specs.declared.why.Mark.{Mark}
 use Rattle.coda_resolve.specs.Resolution.{Objects, Replicas}
 use Rattle.coda_resolve.specs.Placement.{IsIn}

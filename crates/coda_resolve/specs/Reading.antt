@@ -7,7 +7,7 @@ use Rattle.coda_fid.specs.declared.fid.Fid.{Fid}
 use Rattle.coda_reslog.specs.declared.change.Held.{Held}
 use Rattle.coda_resolve.specs.declared.part.Renewals.{Renewals}
 use Rattle.coda_resolve.specs.declared.reading.Sight.{Sight}
-use Rattle.coda_resolve.specs.declared.view.View.{View}
+use Rattle.coda_record.specs.declared.view.View.{View}
 use Rattle.coda_resolve.specs.Changes.{is_among}
 use Rattle.coda_resolve.specs.Renewals.{AreRenewed}
 use Rattle.coda_resolve.specs.Resolution.{Objects, Replicas}

@@ -7,7 +7,7 @@ use Rattle.std.specs.declared.cmp.Ordering.TheVariants.{Less, Equal, Greater}
 use Rattle.coda_fid.specs.Fid.{fid_cmp}
 use Rattle.coda_fid.specs.declared.fid.Fid.{Fid}
 use Rattle.coda_reslog.specs.declared.change.Held.{Held}
-use Rattle.coda_resolve.specs.declared.view.View.{View}
+use Rattle.coda_record.specs.declared.view.View.{View}
 use Rattle.coda_resolve.specs.Resolution.{Objects, Replicas}
 
 -- objects with what a replica holds of each

@@ -9,7 +9,8 @@ ghost use Rattle.coda_resolve.specs.Views.{objects_of};
 ghost use Rattle.coda_resolve.specs.Reached.{IsSearch, AreReached};
 
 use crate::doubles::values;
-use crate::view::{View, held_in};
+use crate::view::held_in;
+use coda_record::View;
 use crate::walking::push_all;
 use coda_fid::Fid;
 use coda_reslog::Held;

@@ -20,7 +20,7 @@ use crate::merged::{attributes, some_cross, updates};
 use crate::missing::missing;
 use crate::names::{least_conflict, merged_entries};
 use crate::updated::least_updated;
-use crate::view::View;
+use coda_record::View;
 use crate::why::Why;
 use crate::wrapped::wrapped;
 use coda_reslog::{Held, ResEntry};

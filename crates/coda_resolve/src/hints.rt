@@ -1,6 +1,6 @@
 // Where the objects of a view may well be found, and when they were met. No clause speaks of these: who is given a wrong one looks
 // further.
-use crate::view::View;
+use coda_record::View;
 use coda_fid::Fid;
 use coda_reslog::Held;
 use std::alloc::{AllocError, Global};

@@ -1,47 +1,12 @@
 ghost use Rattle.std.specs.Prelude.{◌≡◌, ◌++◌, ◌∷◌, [], List, option_to_list, IfOk, OnOk};
 ghost use Rattle.std.specs.List.{flat_map};
 ghost use Rattle.coda_record.specs.declared.last.Last.{Last};
-ghost use Rattle.coda_resolve.specs.declared.view.View.{View};
+ghost use Rattle.coda_record.specs.declared.view.View.{View};
 ghost use Rattle.coda_resolve.specs.Lasts.{is_later, joined_lasts, AreLatest};
 
-use crate::view::View;
-use coda_record::Last;
+use coda_record::{Last, Lasts, View};
 use std::alloc::{AllocError, Global};
 use std::collections::BTreeMap;
-use std::marker::Model;
-
-/// The last decisions of clients.
-///
-/// Contracts see the list.
-#[derive(Debug, Drop)]
-pub struct Lasts {
-    items: Vec<Last>,
-}
-
-impl Model for Lasts {
-    ghost use Rattle.std.specs.Prelude.{List};
-    ghost use Rattle.coda_record.specs.declared.last.Last.{Last};
-
-    ghost Value = { List Last };
-
-    ghost view = { λ l. l.items.items };
-}
-
-impl Lasts {
-    /// What the vector holds.
-    pub fn from_vec(items: Vec<Last>) -> Lasts
-        ensures { result ≡ items.items }
-    {
-        Lasts { items }
-    }
-
-    /// The decisions, in their order.
-    pub fn lasts(&self) -> &[Last]
-        ensures { result.now ≡ self.now }
-    {
-        &self.items
-    }
-}
 
 // Whether the decision has a greater number than the one that is known.
 fn is_later(known: Option<Last>, last: Last) -> bool

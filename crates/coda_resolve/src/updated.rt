@@ -15,7 +15,8 @@ ghost use Rattle.coda_resolve.specs.Lent.{lent};
 
 use crate::copies::has_update;
 use crate::doubles::lesser;
-use crate::view::{View, copies_at};
+use crate::view::copies_at;
+use coda_record::View;
 use coda_fid::Fid;
 use coda_reslog::{Held, Lost, ResEntry};
 use coda_tree::NodeKind;

@@ -6,24 +6,11 @@ ghost use Rattle.coda_resolve.specs.Resolution.{copies_at};
 ghost use Rattle.coda_resolve.specs.Views.{IsIndexOf, IsGapFor, IsBetween, objects_in, objects_of, replicas_of, AreInOrder};
 
 use crate::hints::{Hints, meet};
-use crate::lasts::Lasts;
 use coda_fid::Fid;
-use coda_reslog::{Held, HeldObjects};
+use coda_record::View;
+use coda_reslog::Held;
 use std::alloc::{AllocError, Global};
 use std::cmp::Ordering;
-
-/// What a reachable replica of a volume holds.
-#[derive(Debug, Drop)]
-pub struct View {
-    /// The replica's server, from 1 to 8.
-    pub server: u8,
-    /// The volume.
-    pub volume: u32,
-    /// The objects, with what the replica holds of each, in increasing order of fids.
-    pub held: HeldObjects,
-    /// The last decision of each client that has any.
-    pub lasts: Lasts,
-}
 
 // Where the object is from the one place up to the other, or where it would go.
 fn search(items: &[(Fid, Held)], fid: Fid, mut low: usize, mut high: usize) -> Result<usize, usize>

@@ -12,7 +12,7 @@ use crate::doubles::values;
 use crate::fate::{Fate, fate_near, look_ahead};
 use crate::hints::{Hints, all_hints};
 use crate::reading::Known;
-use crate::view::View;
+use coda_record::View;
 use coda_fid::Fid;
 use coda_tree::NodeKind;
 use std::alloc::{AllocError, Global};

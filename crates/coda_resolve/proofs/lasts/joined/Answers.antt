@@ -1,6 +1,6 @@
 use Rattle.std.proofs.Common.{◌∙◌, arith}
 use Rattle.std.specs.List.{flat_map}
-use Rattle.coda_resolve.specs.declared.view.View.{View}
+use Rattle.coda_record.specs.declared.view.View.{View}
 use Rattle.coda_resolve.specs.Lasts.{latest}
 use Rattle.coda_resolve.proofs.Lasting.{client_more, all_clients}
 use Rattle.coda_resolve.proofs.lasts.joined.Goals as goal

@@ -1,6 +1,6 @@
 use Rattle.std.proofs.Common.{◌≡◌}
 use Rattle.std.specs.List.{filter_map, flat_map, range_with_len}
-use Rattle.coda_resolve.specs.declared.view.View.{View}
+use Rattle.coda_record.specs.declared.view.View.{View}
 use Rattle.coda_resolve.specs.Lasts.{latest}
 use Rattle.coda_resolve.proofs.lasts.joined.Given as goal
 

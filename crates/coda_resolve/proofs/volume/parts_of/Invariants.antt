@@ -1,7 +1,7 @@
 use Rattle.std.proofs.Common.{◌≡◌, ℕ, take, drop, map, reverse}
 use Rattle.coda_fid.specs.declared.fid.Fid.{Fid}
 use Rattle.coda_reslog.specs.declared.change.Change.{Change}
-use Rattle.coda_resolve.specs.declared.view.View.{View}
+use Rattle.coda_record.specs.declared.view.View.{View}
 use Rattle.coda_resolve.specs.Outcome.{taken_up}
 use Rattle.coda_resolve.specs.Placement.{AreTreesOfOneKind}
 use Rattle.coda_resolve.specs.Reading.{AreAllRenewed}
