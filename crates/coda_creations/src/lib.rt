@@ -18,14 +18,15 @@ pub fn objects_stay_where_created()
     ensures { ObjectsStayWhereCreated }
 {}
 
-/// A law of thaws: where each removal of a chunk and its tail is from where the object was created, unless it was moved,
-/// and each creation is of something new, the tail undoes creations where they were made as it is added to the chunk.
+/// A law of thaws: where each removal of a chunk and its tail is from where the object was created, unless it was
+/// moved, and each creation is of something new, the tail undoes creations where they were made as it is added to the
+/// chunk.
 pub fn unmoved_removals_are_in_place()
     ensures { UnmovedRemovalsAreInPlace }
 {}
 
-/// A law of decisions: what a server's volume has or binds behind the decision of a chunk, it had or bound before, or an
-/// operation of the chunk's span created it.
+/// A law of decisions: what a server's volume has or binds behind the decision of a chunk, it had or bound before, or
+/// an operation of the chunk's span created it.
 pub fn decisions_bring_creations()
     ensures { DecisionsBringCreations }
 {}
