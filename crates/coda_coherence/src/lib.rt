@@ -6,9 +6,10 @@ ghost use Rattle.coda_coherence.specs.Changes.{ChangesTell};
 ghost use Rattle.coda_coherence.specs.Fact.{CallbackFactHolds, NoCopyOutlivesItsBreak};
 ghost use Rattle.coda_coherence.specs.Shortcuts.{ShortcutsFail};
 
-/// The callback fact (Satyanarayanan and others 1990): whatever happened in a cell, of each valid copy that its client's
-/// log doesn't mention, the link to its server is up, the client has what the server gave, and where the object changed
-/// at that server since, the server has it waiting to tell the client, or a Break that names it is under way.
+/// The callback fact (Satyanarayanan and others 1990): whatever happened in a cell, of each valid copy that its
+/// client's log doesn't mention, the link to its server is up, the client has what the server gave, and where the
+/// object changed at that server since, the server has it waiting to tell the client, or a Break that names it is
+/// under way.
 pub fn callback_fact_holds()
     ensures { CallbackFactHolds }
 {}

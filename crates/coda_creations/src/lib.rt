@@ -18,21 +18,22 @@ pub fn objects_stay_where_created()
     ensures { ObjectsStayWhereCreated }
 {}
 
-/// A law of thaws: where each removal of a chunk and its tail is from where the object was created, unless it was moved,
-/// and each creation is of something new, the tail undoes creations where they were made as it is added to the chunk.
+/// A law of thaws: where each removal of a chunk and its tail is from where the object was created, unless it was
+/// moved, and each creation is of something new, the tail undoes creations where they were made as it is added to the
+/// chunk.
 pub fn unmoved_removals_are_in_place()
     ensures { UnmovedRemovalsAreInPlace }
 {}
 
 /// A law of logs: each creation of a log is of something new, what it created and didn't move is bound only where it
-/// was created, and is removed only from there, through operations, fetches, drops, freezes, applied chunks and conflicts;
-/// so a tail that comes back to its chunk removes in place.
+/// was created, and is removed only from there, through operations, fetches, drops, freezes, applied chunks and
+/// conflicts; so a tail that comes back to its chunk removes in place.
 pub fn logs_stay_in_place()
     ensures { LogsStayInPlace }
 {}
 
-/// A law of decisions: what a server's volume has or binds behind the decision of a chunk, it had or bound before, or an
-/// operation of the chunk's span created it.
+/// A law of decisions: what a server's volume has or binds behind the decision of a chunk, it had or bound before, or
+/// an operation of the chunk's span created it.
 pub fn decisions_bring_creations()
     ensures { DecisionsBringCreations }
 {}

@@ -24,10 +24,10 @@ pub fn group_runs_are_sound()
     ensures { GroupRunsAreSound }
 {}
 
-/// What is promised of a sound cell, whichever of the failed entries join: every chunk is decided at most once over all
-/// replicas of its volume, none is skipped, and each decision is just; a replica decides nothing again that it took over;
-/// a client settles no verdict but that of its chunk's home; no operation is lost or done twice; and replicas are
-/// volumes that a resolution may take (Kumar and Satyanarayanan 1993).
+/// What is promised of a sound cell, whichever of the failed entries join: every chunk is decided at most once over
+/// all replicas of its volume, none is skipped, and each decision is just; a replica decides nothing again that it
+/// took over; a client settles no verdict but that of its chunk's home; no operation is lost or done twice; and
+/// replicas are volumes that a resolution may take (Kumar and Satyanarayanan 1993).
 pub fn group_cells_are_promised()
     ensures { GroupCellsArePromised }
 {}

@@ -1,5 +1,5 @@
 -- A decision counts an update just where its record changed an object.
-use Rattle.std.proofs.Common.{◌≡◌, ◌≢◌, ℕ, Bool, true, false, cond, if◌then◌else◌, List, [], ◌∷◌, Option, Some, None}
+use Rattle.std.proofs.Common.{◌≡◌, ◌≢◌, ℕ, Bool, true, false, cond, if◌then◌else◌, Option, Some, None}
 use Rattle.std.proofs.Common.{option_map, refl, sym, ap, ◌∙◌, subst, ◌⊎◌, inl, inr}
 use Rattle.std.specs.FinMap as finmap
 use Rattle.std.proofs.lemmas.Bool.{true≢false}
@@ -8,9 +8,7 @@ use Rattle.coda_fid.specs.Fid.{same_fid}
 use Rattle.coda_fid.specs.declared.fid.Fid.{Fid}
 use Rattle.coda_fid.specs.declared.fid.Sid.{Sid}
 use Rattle.coda_fid.specs.declared.op.Op.{Op}
-use Rattle.coda_fid.specs.declared.op.Over.{Over}
 use Rattle.coda_fid.specs.declared.op.Op.TheVariants.{Create, Mkdir, Symlink, Store, Setattr, Remove, Rmdir, Rename}
-use Rattle.coda_fid.specs.declared.op.Record.{Record}
 use Rattle.coda_fid.proofs.Fids.{same_fid_is, same_fid_refl}
 use Rattle.coda_tree.specs.declared.node.Node.{Node}
 use Rattle.coda_tree.specs.Bindings.{Name}
@@ -30,8 +28,7 @@ use Rattle.coda_resolve.specs.Changes.{node_of}
 use Rattle.coda_resolve.proofs.Lists.{some_none}
 use Rattle.coda_lineage.specs.Deeds.{Deed, deed_at, makes, first_by, next_update, writes, crosses, renames}
 use Rattle.coda_lineage.specs.Deeds.{version_by}
-use Rattle.coda_lineage.specs.Deeds.{IsDecision}
-use Rattle.coda_lineage.specs.Updates.{BindsOtherwise, IsUpdated, IsBegun, IsCountedAt, DecisionsCountUpdates}
+use Rattle.coda_lineage.specs.Updates.{BindsOtherwise, IsBegun, IsCountedAt, DecisionsCountUpdates}
 use Rattle.coda_lineage.proofs.Booleans.{the_some}
 
 -- a name that is bound anew, or free again

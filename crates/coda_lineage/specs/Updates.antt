@@ -1,5 +1,5 @@
 -- What the decision of a record adds to version vectors and resolution logs, said by what happened to each object.
-use Rattle.std.specs.Prelude.{◌≡◌, ◌≢◌, ◌⊎◌, ℕ, ◌+◌, true, List, [], Option, Some, None, option_map}
+use Rattle.std.specs.Prelude.{◌≡◌, ◌≢◌, ◌⊎◌, ℕ, ◌+◌, true, [], Option, Some, None, option_map}
 use Rattle.std.specs.FinMap as finmap
 use Rattle.coda_fid.specs.declared.fid.Fid.{Fid}
 use Rattle.coda_fid.specs.declared.fid.Sid.{Sid}
@@ -13,7 +13,6 @@ use Rattle.coda_tree.specs.Volume.{bindings}
 use Rattle.coda_vv.specs.Vector.{count, no_updates, bumped}
 use Rattle.coda_reslog.specs.declared.entry.ResEntry.{ResEntry}
 use Rattle.coda_reslog.specs.declared.change.Held.{Held}
-use Rattle.coda_reslog.specs.Rings.{last_entries}
 use Rattle.coda_certify.specs.Replay.{sid_of}
 use Rattle.coda_overlay.specs.Overlaying.{takes_out}
 use Rattle.coda_resolve.specs.Resolution.{Objects}

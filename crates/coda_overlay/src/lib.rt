@@ -7,10 +7,10 @@ ghost use Rattle.coda_overlay.specs.Laws.{AdditionsOverlay, AdditionsBehindChunk
 ghost use Rattle.coda_overlay.specs.Laws.{UnmentionedCopiesAreAsGiven, UnmentionedCopiesStay, UnrelatedFrontsGo};
 ghost use Rattle.coda_overlay.specs.Laws.{TakenOutStays, PlacesMatter};
 
-/// A law of logs: where a log, replayed on the node that a server gave of an object, leaves the client's copy of it, the
-/// log with one operation more leaves what the operation makes of that copy, whatever the operation cancels in the log
-/// (Kistler and Satyanarayanan 1992). The operation has to find the names of the copy bound as it says; a creation
-/// that it undoes has to be undone where it was made; and it creates nothing that was given.
+/// A law of logs: where a log, replayed on the node that a server gave of an object, leaves the client's copy of it,
+/// the log with one operation more leaves what the operation makes of that copy, whatever the operation cancels in
+/// the log (Kistler and Satyanarayanan 1992). The operation has to find the names of the copy bound as it says; a
+/// creation that it undoes has to be undone where it was made; and it creates nothing that was given.
 pub fn additions_overlay()
     ensures { AdditionsOverlay }
 {}
@@ -51,8 +51,8 @@ pub fn unrelated_fronts_go()
     ensures { UnrelatedFrontsGo }
 {}
 
-/// A law of removals: a log that takes an object out, and doesn't create it, goes on taking it out, whatever is added to
-/// the log.
+/// A law of removals: a log that takes an object out, and doesn't create it, goes on taking it out, whatever is added
+/// to the log.
 pub fn taken_out_stays()
     ensures { TakenOutStays }
 {}
