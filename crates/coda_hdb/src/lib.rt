@@ -11,3 +11,4 @@ pub use database::Hdb;
 pub use entry::{Expand, HdbEntry, HoardChange};
 pub use fault::HdbFault;
 pub use law::{databases_keep_their_order, one_place_has_one_path};
+pub use place::text_of;

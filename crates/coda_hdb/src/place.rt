@@ -17,8 +17,10 @@ fn with_slashes(alloc: Global, names: &[Name]) -> Result<Vec<u8>, AllocError>
     Ok(text)
 }
 
-// The text of a path.
-fn text_of(alloc: Global, names: &[Name]) -> Result<Vec<u8>, AllocError>
+/// The text of a path that leads through these names: `/` alone for the root, and else each name behind a `/`.
+///
+/// Fails for want of memory alone.
+pub fn text_of(alloc: Global, names: &[Name]) -> Result<Vec<u8>, AllocError>
     ensures { IfOk result (λ text. text.items ≡ path_text names.now) }
 {
     match names {

@@ -8,5 +8,4 @@ pub mod Decided
 pub mod HoardAgree
 pub mod EntriesAgree
 pub mod InEntries
-pub mod PathTexts
 pub mod Found

@@ -1,7 +1,6 @@
 //! Hoard databases and their changes, read from the front of what is left and written behind what is there.
-ghost use Rattle.std.specs.Prelude.{◌≡◌, ◌++◌, OnOk, IfOk, All};
+ghost use Rattle.std.specs.Prelude.{◌≡◌, ◌++◌, OnOk};
 ghost use Rattle.std.specs.List.{flat_map};
-ghost use Rattle.coda_fid.specs.Path.{behind_slashes, path_text};
 ghost use Rattle.coda_record.specs.Form.{gives, four};
 ghost use Rattle.coda_record.specs.Parts.{items, each, list_of};
 ghost use Rattle.coda_record.specs.Hoard.{path as a_path, expansion as an_expansion, hoard_entry as a_hoard_entry, hoard_change as a_hoard_change, priority as a_priority};
@@ -10,8 +9,8 @@ ghost use Rattle.coda_record.specs.Reading.{read};
 ghost use Rattle.coda_record.specs.Outcome.{Gives};
 
 use crate::snapshot::HoardEntries;
-use coda_fid::{Name, NameFault, Path};
-use coda_hdb::{Expand, HdbEntry, HoardChange};
+use coda_fid::{NameFault, Path};
+use coda_hdb::{Expand, HdbEntry, HoardChange, text_of};
 use coda_values::parts::u32_between;
 use coda_values::writing::{put_u8, put_u16, put_u32};
 use coda_values::{Cursor, Fault};
@@ -121,28 +120,6 @@ pub fn hoard_change(alloc: Global, cursor: &mut Cursor) -> Result<HoardChange, F
         }
         3 => Ok(HoardChange::Clear),
         _ => Err(tag.unknown()),
-    }
-}
-
-// Each name behind a `/`.
-fn with_slashes(alloc: Global, names: &[Name]) -> Result<Vec<u8>, AllocError>
-    ensures { IfOk result (λ text. text.items ≡ behind_slashes names.now) }
-{
-    let mut text = Vec::new(alloc);
-    for name in names {
-        text.push(b'/')?;
-        text.extend_from_slice(name.bytes())?;
-    }
-    Ok(text)
-}
-
-// The text of a path.
-fn text_of(alloc: Global, names: &[Name]) -> Result<Vec<u8>, AllocError>
-    ensures { IfOk result (λ text. text.items ≡ path_text names.now) }
-{
-    match names {
-        [] => Vec::from_slice(alloc, b"/"),
-        [_, ..] => with_slashes(alloc, names),
     }
 }
 

@@ -13,7 +13,7 @@ use Rattle.coda_values.specs.Reading.{read}
 use Rattle.coda_values.specs.Walks.{Says, Agrees}
 use Rattle.coda_values.specs.Table.{count, name, fid}
 use Rattle.coda_values.specs.Held.{vector, lost, update_kind, update_kind_forms, update, updates, held, fid_follows, fid_after, fids, object_after, objects, change}
-use Rattle.coda_values.proofs.PartsAgree.{first_true, second_true, no_number, where_agrees, behind_tags, tags_placed, optional_agrees, list_agrees, at_most_agrees, piece_is, both_empty, items_written, items_said, items_placed}
+use Rattle.coda_values.proofs.PartsAgree.{first_true, second_true, no_number, where_agrees, behind_tags, tags_placed, optional_agrees, list_agrees, list_up_to_agrees, piece_is, both_empty, items_written, items_said, items_placed}
 use Rattle.coda_values.proofs.Tabled.{server_agrees, count_agrees, ordinal_agrees, name_agrees, fid_agrees, sid_agrees}
 use Rattle.coda_values.proofs.NodesAgree.{node_agrees}
 
@@ -82,7 +82,7 @@ update_agrees = record {
 
 pub updates_agree : Agrees updates
 unfolding updates
-updates_agree = at_most_agrees 256 update update_agrees
+updates_agree = list_up_to_agrees 256 update update_agrees
 
 updates_option_agrees : Agrees (optional updates)
 updates_option_agrees = optional_agrees updates updates_agree

@@ -4,7 +4,7 @@ use Rattle.std.specs.Prelude.{IsTrue, ◌==◌, Err}
 use Rattle.std.proofs.lemmas.Bool.{eqb-true}
 use Rattle.std.proofs.lemmas.List.{append-nil}
 use Rattle.coda_values.specs.Form.{Piece, empty, both, limited, number_piece, Size, one, two, four, eight, Form, gives, unknown, number, raw, tagged, such, part, Format}
-use Rattle.coda_values.specs.Parts.{number_of, u32, where_holds, between, is_within, counted, chosen, by_tag, one_of, optional, optional_piece, items_piece, items, list_by, list, each, list_of, at_most, flag, flag_piece, flag_forms, in_words}
+use Rattle.coda_values.specs.Parts.{number_of, u32, where_holds, between, is_within, counted, chosen, by_tag, one_of, optional, optional_piece, items_piece, items, list_by, list, each, list_of, list_up_to, flag, flag_piece, flag_forms, in_words}
 use Rattle.coda_values.specs.Reading.{number_at, read}
 use Rattle.coda_values.specs.Spelling.{HasSpelling}
 use Rattle.coda_values.specs.Walks.{Always, Says, IsPlaced, Agrees}
@@ -165,8 +165,8 @@ list_agrees item key before agrees = list_by_agrees u32 (number_agrees four) ite
 pub list_of_agrees : {A : Type 0} (f : Format A) → Agrees f → Agrees (list_of f)
 list_of_agrees f agrees = list_agrees (each f) (λ x. tt) tt (λ before. agrees)
 
-pub at_most_agrees : {A : Type 0} (most : ℕ) (f : Format A) → Agrees f → Agrees (at_most most f)
-at_most_agrees most f agrees = list_by_agrees (between 0 most u32) (where_agrees (is_within 0 most) u32 (number_agrees four) (no_number four)) (each f) (λ x. tt) tt (λ before. agrees)
+pub list_up_to_agrees : {A : Type 0} (most : ℕ) (f : Format A) → Agrees f → Agrees (list_up_to most f)
+list_up_to_agrees most f agrees = list_by_agrees (between 0 most u32) (where_agrees (is_within 0 most) u32 (number_agrees four) (no_number four)) (each f) (λ x. tt) tt (λ before. agrees)
 
 -- ---- flags, and values in other words
 

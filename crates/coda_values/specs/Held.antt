@@ -11,7 +11,7 @@ use Rattle.coda_reslog.specs.declared.entry.ResEntry.{ResEntry}
 use Rattle.coda_reslog.specs.declared.change.Held.{Held}
 use Rattle.coda_reslog.specs.declared.change.Change.{Change}
 use Rattle.coda_values.specs.Form.{Piece, together, limited, Size, Form, gives, Format, ◌>>=◌}
-use Rattle.coda_values.specs.Parts.{u8, where_holds, one_of, optional, items, items_piece, list, each, at_most}
+use Rattle.coda_values.specs.Parts.{u8, where_holds, one_of, optional, items, items_piece, list, each, list_up_to}
 use Rattle.coda_values.specs.Table.{server, count, ordinal, name, fid, sid}
 use Rattle.coda_values.specs.Nodes.{node}
 
@@ -79,7 +79,7 @@ update = record {
 
 -- a resolution log: its last updates, at most 256, the oldest first
 unfoldable pub updates : Format (List ResEntry)
-updates = at_most 256 update
+updates = list_up_to 256 update
 
 -- ---- held: node, vector, optional list of updates
 

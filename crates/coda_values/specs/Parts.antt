@@ -101,8 +101,8 @@ abbrev pub list_of : {A : Type 0} → Format A → Format (List A)
 list_of f = list (each f) (λ x. tt) tt
 
 -- at most so many items, in whatever order
-abbrev pub at_most : {A : Type 0} → ℕ → Format A → Format (List A)
-at_most most f = list_by (between 0 most u32) (each f) (λ x. tt) tt
+abbrev pub list_up_to : {A : Type 0} → ℕ → Format A → Format (List A)
+list_up_to most f = list_by (between 0 most u32) (each f) (λ x. tt) tt
 
 -- ---- flags, and values in other words
 
