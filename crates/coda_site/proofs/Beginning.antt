@@ -1,7 +1,7 @@
 -- A cell of the code in which nothing was made shows the run that begins over the shelves for which the disks of its bay stand.
-use Rattle.std.proofs.Common.{◌≡◌, ℕ, ◌-◌, suc, arith, Bool, [], Option, Some, None, option_map, refl, subst}
+use Rattle.std.proofs.Common.{◌≡◌, ℕ, ◌-◌, ◌≤◌, suc, arith, Bool, [], Option, Some, None, option_map, refl, subst}
 use Rattle.std.specs.Prelude.{IfSome}
-use Rattle.std.proofs.lemmas.Bool.{leb-true, le-leb}
+use Rattle.std.proofs.lemmas.Bool.{leb-true}
 use Rattle.coda_disk.specs.Told.{Told}
 use Rattle.coda_actors.specs.Clients.{client_form}
 use Rattle.coda_actors.specs.Replicas.{replica_form}
@@ -22,7 +22,7 @@ use Rattle.coda_shelves.proofs.Keeping.{shelves_are_kept}
 use Rattle.coda_shelves.proofs.Placed.{lines_keep_places}
 use Rattle.coda_site.specs.Shelves.{AreOnDisks}
 use Rattle.coda_site.specs.Shelves.{as_journal, Shows}
-use Rattle.coda_site.proofs.Entering.{place_of, replica_place}
+use Rattle.coda_site.proofs.Entering.{place_of}
 use Rattle.coda_site.proofs.Leaving.{places_apart}
 
 module _ {D : Type 0} (told : D → Told) (out : ℕ → Bool) (has : ℕ → Told) (shelves : Shelves) (on : AreOnDisks told has shelves) where
@@ -34,8 +34,13 @@ module _ {D : Type 0} (told : D → Told) (out : ℕ → Bool) (has : ℕ → To
 
   replicas_at : (row server : ℕ) → IsServer server → replicas_lie (disk_at row server) ≡ as_journal replica_journal (lying (shelves.replicas row server))
   replicas_at row server range =
-      let p = replica_place (disk_at row server) (le-leb 256 (disk_at row server) (omega arith)) in
-      let one = places_apart p.0 p.1 row server p.2.0 p.2.1 range.0 range.1 p.3 in
+      let high : 256 ≤ disk_at row server = omega arith in
+      let p = place_of (disk_at row server - 256) in
+      let one = p.2 in
+      let few = p.3 in
+      let is = p.4 in
+      let same : disk_at p.0 p.1 ≡ disk_at row server = omega (arith, high, one, few, is) in
+      let one = places_apart p.0 p.1 row server p.2 p.3 range.0 range.1 same in
       λ i. as_journal replica_journal (lying (shelves.replicas (one.0 i) (one.1 i)))
 
   clients_enter : IsAtEntry (client_form told) is_client_disk has clients_lie
@@ -43,8 +48,13 @@ module _ {D : Type 0} (told : D → Told) (out : ℕ → Bool) (has : ℕ → To
 
   replicas_enter : IsAtEntry (replica_form told) is_replica_disk has replicas_lie
   replicas_enter k of =
-      let p = replica_place k of in
-      (refl, refl, subst (λ n. StandsFor (replica_form told) (has n) (replica_journal (shelves.replicas p.0 p.1))) p.3 (on.replicas p.0 p.1 p.2))
+      let high : 256 ≤ k = leb-true 256 k of in
+      let p = place_of (k - 256) in
+      let one = p.2 in
+      let few = p.3 in
+      let is = p.4 in
+      let same : disk_at p.0 p.1 ≡ k = omega (arith, high, one, few, is) in
+      (refl, refl, subst (λ n. StandsFor (replica_form told) (has n) (replica_journal (shelves.replicas p.0 p.1))) same (on.replicas p.0 p.1 (p.2, p.3)))
 
   none_placed : (o : Option Place) → None ≡ option_map (λ (p : Place). p.server) o → (row : ℕ) → IfSome o (λ p. row ≡ p.disk)
   none_placed None e row = tt

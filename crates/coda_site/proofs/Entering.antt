@@ -171,6 +171,8 @@ module _ (cell : Cell) where
         posted = cell.posted;
         learned = λ client volume. [];
       };
+      copies = cell.copies;
+      uses = cell.uses;
     };
     areas = cell.areas;
     places = λ volume. place_at (stand_of cell volume);
@@ -251,6 +253,8 @@ module _ (cell : Cell) (kept : IsKept cell) (placed : ArePlaced cell) (plain : �
     links = refl;
     waiting = refl;
     posted = refl;
+    copies = refl;
+    uses = refl;
     areas = refl;
     places = λ volume at stands. ap (place_at cell) stands;
     clients = λ client. record { history = refl; failed = refl; up = λ h e. refl; given = refl; asks = refl; left = refl };

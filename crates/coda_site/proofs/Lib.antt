@@ -40,7 +40,6 @@ pub mod Leaving
 pub mod Entering
 pub mod Behind
 pub mod Stepping
-pub mod Showing
 pub mod Giving
 pub mod Beginning
 pub mod BlankShelves
