@@ -27,8 +27,8 @@ use Rattle.coda_shelves.specs.Cells.{Cell, begun_on, shelves_of, is_up, Stand, s
 use Rattle.coda_shelves.specs.Kept.{AreKept}
 use Rattle.coda_shelves.specs.Lines.{is_built, Happens}
 use Rattle.coda_shelves.specs.Shelves.{Shelves}
-use Rattle.coda_shelves.specs.Today.{IsToday, shelf_for}
-use Rattle.coda_shelves.proofs.TodayStates.{client_states, client_down_same, volume_by, volume_now, replica_up_same, replica_down_is}
+use Rattle.coda_shelves.specs.Stored.{IsStoredAs, shelf_for}
+use Rattle.coda_shelves.proofs.StoredStates.{client_states, client_down_same, volume_by, volume_now, replica_up_same, replica_down_is}
 use Rattle.coda_site.specs.Shelves.{Shows, AreOnDisks}
 use Rattle.coda_site.specs.Sites as sites
 use Rattle.coda_site.specs.Steps as steps
@@ -59,7 +59,7 @@ is_true : (b : Bool) → not b ≡ false → b ≡ true
 is_true true e = refl
 is_true false e = cc
 
-module _ (end : StoredCell) (next : Cell) (is : IsToday end next) where
+module _ (end : StoredCell) (next : Cell) (is : IsStoredAs end next) where
   replica_same : (volume : ℕ) → stored.replica_down end volume ≡ false → (o : Option Stand) → stand_of next volume ≡ o → (stored_state end.made).replicas volume ≡ (state_of next).replicas volume
   replica_same volume up None e = volume_by end next is volume None e ∙ sym (volume_now end next is volume None e)
   replica_same volume up (Some at) e = replica_up_same end next is volume at e (is_true _ (sym (replica_down_is end next is volume at e) ∙ up))
@@ -71,8 +71,8 @@ module _ (end : StoredCell) (next : Cell) (is : IsToday end next) where
   text_same _ can = refl
 
 -- two cells on disks that stand for one cell show the same
-module _ (end other : StoredCell) (next : Cell) (is : IsToday end next) (that : IsToday other next) where
-  down_by : (cell : StoredCell) → IsToday cell next → (volume : ℕ) (o : Option Stand) → stand_of next volume ≡ o → stored.replica_down cell volume ≡ option_map_or (λ (at : Stand). not (is_up (next.replicas at.row (alone at.servers)).life)) o false
+module _ (end other : StoredCell) (next : Cell) (is : IsStoredAs end next) (that : IsStoredAs other next) where
+  down_by : (cell : StoredCell) → IsStoredAs cell next → (volume : ℕ) (o : Option Stand) → stand_of next volume ≡ o → stored.replica_down cell volume ≡ option_map_or (λ (at : Stand). not (is_up (next.replicas at.row (alone at.servers)).life)) o false
   down_by cell same volume None e =
       ap (λ (f : ℕ → Option ℕ). option_map_or (λ server. not (cell.made.acted.replicas server volume).up) (f volume) false) same.homes
       ∙ ap (λ (o : Option Stand). option_map_or (λ server. not (cell.made.acted.replicas server volume).up) (option_map (λ (at : Stand). alone at.servers) o) false) e
@@ -112,7 +112,7 @@ module _ {D : Type 0} (told : D → Told) (old new : Moment D) (said : Line) (re
       let same : answered_since old new ≡ became.outside = ap (λ images. drop (length old.answered) images) became.answered ∙ behind old.answered became.outside in
       let other = stand.behind told new.out new.has became.left new.site became.shows in
       let that = stand.is_now told new.out new.has became.left new.site became.shows in
-      let can = can_same s.end other became.left s.today that reply (can_show past s.end (shelf_for plain said) became.outside s.did) in
+      let can = can_same s.end other became.left s.as_stored that reply (can_show past s.end (shelf_for plain said) became.outside s.did) in
       record {
         next = became.left;
         happens = subst (λ outside. Happens plain said reply outside became.left) (sym same) became.happens;

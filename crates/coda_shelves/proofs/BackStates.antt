@@ -1,4 +1,4 @@
--- What a line does in a cell that is its disks it does in the cell on disks of today.
+-- What a line does in a cell that is its disks it does in the cell of `coda_stored`.
 use Rattle.std.proofs.Common.{◌≡◌, ℕ, ◌&&◌, ◌||◌, not, Bool, true, false, List, map, Option, Some, None, is_some, refl, sym, ap, ◌∙◌, subst}
 use Rattle.std.specs.Option.{unwrap_or}
 use Rattle.coda_tree.specs.Volume.{Nodes}
@@ -20,11 +20,11 @@ use Rattle.coda_cell.specs.Steps.{client_named, volume_named, holder_named, on_v
 use Rattle.coda_cell.specs.Refused.{Refused}
 use Rattle.coda_cell.proofs.AlikeStates.{replica_to, replica_in, AreAlike, does_alike}
 use Rattle.coda_stored.specs.Cells.{StoredCell}
-use Rattle.coda_stored.specs.Lines as today
+use Rattle.coda_stored.specs.Lines as as_stored
 use Rattle.coda_shelves.specs.Cells.{Cell, is_up, state_of}
 use Rattle.coda_shelves.specs.Lines.{client_down, replica_down, is_cut, receiver, needs, is_down_for, links_to, meets}
-use Rattle.coda_shelves.specs.Today.{IsToday}
-use Rattle.coda_shelves.proofs.TodayStates.{client_states, on_volume_same, on_holder_same, replica_up_same, replica_down_now, holder_stands, third, offers_same, ruled_same, alike}
+use Rattle.coda_shelves.specs.Stored.{IsStoredAs}
+use Rattle.coda_shelves.proofs.StoredStates.{client_states, on_volume_same, on_holder_same, replica_up_same, replica_down_now, holder_stands, third, offers_same, ruled_same, alike}
 
 is_true : (b : Bool) → not b ≡ false → b ≡ true
 is_true true e = refl
@@ -45,7 +45,7 @@ back a replicas clients = record {
   replica = replicas;
 }
 
-module _ (old : StoredCell) (now : Cell) (is : IsToday old now) (own : Reply) (events : List Event) where
+module _ (old : StoredCell) (now : Cell) (is : IsStoredAs old now) (own : Reply) (events : List Event) where
   abbrev a : CellState
   a = made.state_of old.made
 
@@ -53,10 +53,10 @@ module _ (old : StoredCell) (now : Cell) (is : IsToday old now) (own : Reply) (e
   b = state_of now
 
   asked_back : (client volume : ℕ) (ask : Option Nodes → ClientState → Answer) → Unless (first_missing (on_volume b client volume)) (ByClient (record b { links = links_to now volume }) client volume ask) own events
-      → Unless (first_missing (on_volume a client volume)) (ByClient (today.met_by old volume) client volume ask) own events
+      → Unless (first_missing (on_volume a client volume)) (ByClient (as_stored.met_by old volume) client volume ask) own events
   asked_back client volume ask does = by (first_missing (on_volume a client volume)) (subst (λ l. Unless (first_missing l) (ByClient (record b { links = links_to now volume }) client volume ask) own events) (sym (on_volume_same old now is client volume)) does)
     where
-      by : (o : Option Refused) → Unless o (ByClient (record b { links = links_to now volume }) client volume ask) own events → Unless o (ByClient (today.met_by old volume) client volume ask) own events
+      by : (o : Option Refused) → Unless o (ByClient (record b { links = links_to now volume }) client volume ask) own events → Unless o (ByClient (as_stored.met_by old volume) client volume ask) own events
       by (Some why) did = did
       by None did = record {
         client = did.client;
@@ -66,9 +66,9 @@ module _ (old : StoredCell) (now : Cell) (is : IsToday old now) (own : Reply) (e
       }
 
   operated_back : (client volume : ℕ) (ask : Asked) → Unless (first_missing (on_volume b client volume)) (ByClient (record b { links = links_to now volume }) client volume (λ offers c. operate offers c now.clock volume ask)) own events
-      → Unless (first_missing (on_volume a client volume)) (ByClient (today.met_by old volume) client volume (λ offers c. operate offers c old.made.clock volume ask)) own events
+      → Unless (first_missing (on_volume a client volume)) (ByClient (as_stored.met_by old volume) client volume (λ offers c. operate offers c old.made.clock volume ask)) own events
   operated_back client volume ask does =
-      subst (λ n. Unless (first_missing (on_volume a client volume)) (ByClient (today.met_by old volume) client volume (λ offers c. operate offers c n volume ask)) own events) (sym is.clock)
+      subst (λ n. Unless (first_missing (on_volume a client volume)) (ByClient (as_stored.met_by old volume) client volume (λ offers c. operate offers c n volume ask)) own events) (sym is.clock)
       (asked_back client volume (λ offers c. operate offers c now.clock volume ask) does)
 
   -- a line over which both are alike
@@ -100,7 +100,7 @@ module _ (old : StoredCell) (now : Cell) (is : IsToday old now) (own : Reply) (e
           alike_back (line.Task (task.Drain client volume server window)) (λ v is_v. subst (λ w. a.replicas w ≡ b.replicas w) (same volume v is_v) (replica_up_same old now is volume at.0 at.1 up)) did
           )
 
-  pub tasks_back : (work : Task) → is_down_for (needs now (line.Task work)) ≡ false → Does (meets now (line.Task work)) (line.Task work) own events → Does (today.meets old (line.Task work)) (line.Task work) own events
+  pub tasks_back : (work : Task) → is_down_for (needs now (line.Task work)) ≡ false → Does (meets now (line.Task work)) (line.Task work) own events → Does (as_stored.meets old (line.Task work)) (line.Task work) own events
   tasks_back (task.Create client volume path mode owner) down does = operated_back client volume (Create path (unwrap_or mode 420) (unwrap_or owner 0)) does
   tasks_back (task.Mkdir client volume path mode owner) down does = operated_back client volume (Mkdir path (unwrap_or mode 493) (unwrap_or owner 0)) does
   tasks_back (task.Symlink client volume path target) down does = operated_back client volume (Symlink path target) does
@@ -119,8 +119,8 @@ module _ (old : StoredCell) (now : Cell) (is : IsToday old now) (own : Reply) (e
   pub deliver_back : (message : ℕ) → is_down_for (receiver now (sent_at message now.waiting)) ≡ false → Does b (line.Deliver message) own events → Does a (line.Deliver message) own events
   deliver_back message down does = by (sent_at message now.waiting) refl down does
     where
-      to_today : (o : Option Sent) → sent_at message now.waiting ≡ o → Delivers a message o own events → Does a (line.Deliver message) own events
-      to_today o e did = subst (λ w. Delivers a message (sent_at message w) own events) (sym is.waiting) (subst (λ x. Delivers a message x own events) (sym e) did)
+      to_stored : (o : Option Sent) → sent_at message now.waiting ≡ o → Delivers a message o own events → Does a (line.Deliver message) own events
+      to_stored o e did = subst (λ w. Delivers a message (sent_at message w) own events) (sym is.waiting) (subst (λ x. Delivers a message x own events) (sym e) did)
 
       uncut : (strength : Strength) → link_down strength ≡ None → is_cut strength ≡ false
       uncut Strong x = refl
@@ -128,11 +128,11 @@ module _ (old : StoredCell) (now : Cell) (is : IsToday old now) (own : Reply) (e
       uncut Down x = cc
 
       by : (o : Option Sent) → sent_at message now.waiting ≡ o → is_down_for (receiver now o) ≡ false → Delivers b message (sent_at message now.waiting) own events → Does a (line.Deliver message) own events
-      by None e low did = to_today None e (subst (λ x. Delivers b message x own events) e did)
+      by None e low did = to_stored None e (subst (λ x. Delivers b message x own events) e did)
       by (Some (AnswerSent server client volume number answer)) e low did =
           alike_back (line.Deliver message) (λ v in_it. (let no : None ≡ Some v = sym (ap replica_to e) ∙ in_it in cc)) did
       by (Some (ChunkSent client server volume number span)) e low did =
-          to_today (Some (ChunkSent client server volume number span)) e (over (link_down (now.links client server)) refl (subst (λ x. Delivers b message x own events) e did))
+          to_stored (Some (ChunkSent client server volume number span)) e (over (link_down (now.links client server)) refl (subst (λ x. Delivers b message x own events) e did))
         where
           over : (o : Option Refused) → link_down (now.links client server) ≡ o → Unless (link_down (now.links client server)) (Comes b (ChunkSent client server volume number span)) own events
               → Unless (link_down (old.made.links client server)) (Comes a (ChunkSent client server volume number span)) own events

@@ -1,4 +1,4 @@
--- Each cell that is its disks is one of today, over the same site.
+-- Each cell that is its disks is one of `coda_stored`, over the same site.
 use Rattle.std.proofs.Common.{◌≡◌, ◌≢◌, ℕ, zero, suc, ◌+◌, ◌*◌, ◌-◌, ◌<◌, ◌≤◌, ◌==◌, ◌&&◌, not, Bool, true, false, cond, [], map, Option, Some, None, option_map, refl, sym, ap, ◌∙◌, subst, inl, inr, arith}
 use Rattle.std.specs.Prelude.{IfSome}
 use Rattle.std.proofs.lemmas.Bool.{eqb-true, eq-eqb, cases_eq, and_parts, false≢true, leb-true, le-leb}
@@ -23,7 +23,7 @@ use Rattle.coda_stored.specs.Cells.{Side, StoredCell, no_side, empty_disk, unmad
 use Rattle.coda_stored.specs.Held.{lying_disk}
 use Rattle.coda_stored.specs.Kept.{IsGiven}
 use Rattle.coda_stored.specs.Seen.{own_given, IsClientSeen, IsReplicaSeen, IsSeen}
-use Rattle.coda_site.specs.Sites as today
+use Rattle.coda_site.specs.Sites as as_stored
 use Rattle.coda_site.specs.Sites.{is_client_disk, is_replica_disk, place_in}
 use Rattle.coda_site.specs.declared.site.Place.{Place}
 use Rattle.coda_site.specs.declared.site.Site.{Site}
@@ -32,10 +32,10 @@ use Rattle.coda_shelves.specs.Cells.{Row, Cell, asked, is_up, Stand, stand_of}
 use Rattle.coda_shelves.specs.Kept.{IsArea, IsLabelled, IsOfClient, IsOfServer}
 use Rattle.coda_shelves.specs.Placed.{ArePlaced}
 use Rattle.coda_shelves.specs.Running.{IsKept}
-use Rattle.coda_shelves.specs.Today.{IsReplicaSame, IsToday}
+use Rattle.coda_shelves.specs.Stored.{IsReplicaSame, IsStoredAs}
 use Rattle.coda_shelves.proofs.Rows.{stand_one}
-use Rattle.coda_shelves.proofs.TodayEnds.{moved_same}
-use Rattle.coda_shelves.proofs.TodayMaking.{same_header}
+use Rattle.coda_shelves.proofs.StoredEnds.{moved_same}
+use Rattle.coda_shelves.proofs.StoredMaking.{same_header}
 use Rattle.coda_site.specs.Shelves.{as_journal, IsSite}
 use Rattle.coda_site.proofs.Leaving.{client_plain, places_apart, standing_plain}
 
@@ -126,7 +126,7 @@ replica_place number e =
     high_by : (n : ℕ) → is_replica_disk n ≡ true → 256 ≤ n
     high_by n e = leb-true 256 n e
 
--- ---- the cell of today
+-- ---- the cell of `coda_stored`
 
 abbrev pub actor_by : Bool → PlainActor ReplicaEntry → Actor ReplicaEntry
 actor_by false x = record { history = x.disk.history; failed = x.disk.failed; up = is_up x.life }
@@ -155,8 +155,8 @@ module _ (cell : Cell) where
   place_at None = 0
   place_at (Some at) = disk_at at.row (alone at.servers)
 
-  abbrev pub todays : (ℕ → PlainActor KeptEntry) → StoredCell
-  todays plain = record {
+  abbrev pub stored_line : (ℕ → PlainActor KeptEntry) → StoredCell
+  stored_line plain = record {
     made = record {
       clock = cell.clock;
       servers = map (λ (r : Row). alone r.servers) cell.rows;
@@ -184,7 +184,7 @@ module _ (cell : Cell) where
 
 module _ (cell : Cell) (kept : IsKept cell) (placed : ArePlaced cell) (plain : ℕ → PlainActor KeptEntry) (placed_plain : (row server : ℕ) → IsServer server → plain (disk_at row server) ≡ as_journal replica_journal (cell.replicas row server)) where
   abbrev old : StoredCell
-  old = todays cell plain
+  old = stored_line cell plain
 
   number_of : (volume : ℕ) (at : Stand) → stand_of cell volume ≡ Some at → (header : Header) → asked (replica_of cell at).life ≡ Some header → header.number ≡ volume
   number_of volume at stands header e =
@@ -244,8 +244,8 @@ module _ (cell : Cell) (kept : IsKept cell) (placed : ArePlaced cell) (plain : �
       (moved_same (replica_journal (replica_of cell at).disk) volume (old.made.acted.replicas (alone at.servers) volume) (actor_by (foreign_at cell at) (replica_of cell at)) (old.replicas volume) _ (replica_of cell at) (replica_of cell at)
       actor (ap (side_at cell) stands) refl (same_by volume at stands (foreign_at cell at) refl))
 
-  pub is_today : IsToday old cell
-  is_today = record {
+  pub is_stored : IsStoredAs old cell
+  is_stored = record {
     clock = refl;
     servers = refl;
     homes = refl;
@@ -423,10 +423,10 @@ module _ {D : Type 0} (told : D → Told) (out : ℕ → Bool) (has : ℕ → To
   plain_at row server range = plain_is (disk_at row server) (le-leb 256 (disk_at row server) (omega arith)) ∙ s.replicas.1 row server range
 
   abbrev behind : StoredCell
-  behind = todays cell plain
+  behind = stored_line cell plain
 
-  today_is : IsToday behind cell
-  today_is = is_today cell kept placed plain plain_at
+  stored_is : IsStoredAs behind cell
+  stored_is = is_stored cell kept placed plain plain_at
 
   some_place : (volume : ℕ) (o : Option Place) → option_map (λ (at : Stand). alone at.servers) (stand_of cell volume) ≡ option_map (λ (p : Place). p.server) o → ((at : Stand) → stand_of cell volume ≡ Some at → IfSome o (λ p. disk_at at.row (alone at.servers) ≡ p.disk))
       → IfSome o (λ p. place_at cell (stand_of cell volume) ≡ p.disk)
@@ -463,21 +463,21 @@ module _ {D : Type 0} (told : D → Told) (out : ℕ → Bool) (has : ℕ → To
           by (Down header) g = absurd (asking header (ap asked g))
           by (Up header) g = absurd (asking header (ap asked g))
 
-  pub site_enters : today.IsSite told out has behind site
+  pub site_enters : as_stored.IsSite told out has behind site
   site_enters = record {
     clock = s.clock;
     servers = s.servers;
     homes = s.homes;
     places = λ volume. some_place volume (place_in site volume) (s.homes volume) (s.places volume);
     areas = s.areas;
-    clients = λ k of. subst (Fits (client_form told) told (out k) (has k) (slot_at site.clients k)) (sym (client_plain (behind.made.acted.clients k) (behind.clients k) (cell.clients k) (today_is.clients k))) (s.clients k of);
+    clients = λ k of. subst (Fits (client_form told) told (out k) (has k) (slot_at site.clients k)) (sym (client_plain (behind.made.acted.clients k) (behind.clients k) (cell.clients k) (stored_is.clients k))) (s.clients k of);
     replicas = (
       plain,
       record {
         placed = λ volume server e.
             let at = stand_homed cell kept placed plain plain_at volume server (stand_of cell volume) e in
             let range = home_range cell kept placed plain plain_at volume at.0 at.1 in
-            ap plain (ap (place_at cell) at.1) ∙ plain_at at.0.row (alone at.0.servers) range ∙ sym (standing_plain told out has behind cell today_is kept placed volume at.0 at.1) ∙ ap (λ n. standing behind n volume) at.2;
+            ap plain (ap (place_at cell) at.1) ∙ plain_at at.0.row (alone at.0.servers) range ∙ sym (standing_plain told out has behind cell stored_is kept placed volume at.0 at.1) ∙ ap (λ n. standing behind n volume) at.2;
         others = λ number off. others_at number off (is_replica_disk number) refl;
       },
       λ k of. subst (Fits (replica_form told) told (out k) (has k) (slot_at site.replicas k)) (sym (plain_is k of)) (s.replicas.2 k of),

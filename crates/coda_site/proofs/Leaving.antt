@@ -1,4 +1,4 @@
--- A site that stands for a cell of today stands for the cell that is its disks.
+-- A site that stands for a cell of `coda_stored` stands for the cell that is its disks.
 use Rattle.std.proofs.Common.{◌≡◌, ℕ, suc, ◌≤◌, Bool, true, false, Option, Some, None, option_map, refl, sym, ap, ◌∙◌, subst, arith}
 use Rattle.std.specs.Prelude.{IfSome}
 use Rattle.std.proofs.lemmas.Bool.{le-leb}
@@ -16,7 +16,7 @@ use Rattle.coda_script.specs.Ranges.{IsServer}
 use Rattle.coda_venus.specs.History.{Payload}
 use Rattle.coda_matching.specs.Clients.{journal_by, payload_by}
 use Rattle.coda_stored.specs.Cells.{Side, StoredCell, life_of, plain_client, plain_replica, on_disk, standing}
-use Rattle.coda_site.specs.Sites as today
+use Rattle.coda_site.specs.Sites as as_stored
 use Rattle.coda_site.specs.Sites.{is_client_disk, is_replica_disk, place_in}
 use Rattle.coda_site.specs.declared.site.Place.{Place}
 use Rattle.coda_site.specs.declared.site.Site.{Site}
@@ -24,8 +24,8 @@ use Rattle.coda_shelves.specs.Shelves.{client_journal, replica_journal, disk_at}
 use Rattle.coda_shelves.specs.Cells.{Cell, shelves_of, asked, is_up, Stand, stand_of}
 use Rattle.coda_shelves.specs.Placed.{ArePlaced}
 use Rattle.coda_shelves.specs.Running.{IsKept}
-use Rattle.coda_shelves.specs.Today.{IsClientSame, IsReplicaSame, IsToday}
-use Rattle.coda_shelves.proofs.TodayDisks.{standing_disk}
+use Rattle.coda_shelves.specs.Stored.{IsClientSame, IsReplicaSame, IsStoredAs}
+use Rattle.coda_shelves.proofs.StoredDisks.{standing_disk}
 use Rattle.coda_site.specs.Shelves.{as_journal, IsSite}
 
 some_mapped : {A : Type 0} (o : Option A) (P Q : A → Type 0) → ((a : A) → P a → Q a) → IfSome o P → IfSome o Q
@@ -52,7 +52,7 @@ client_plain actor side now same = λ i. record {
 pub places_apart : (row server line other : ℕ) → 1 ≤ server → server ≤ 8 → 1 ≤ other → other ≤ 8 → disk_at row server ≡ disk_at line other → (row ≡ line) × (server ≡ other)
 places_apart row server line other a b c d e = (omega (arith, a, b, c, d, e), omega (arith, a, b, c, d, e))
 
-module _ {D : Type 0} (told : D → Told) (out : ℕ → Bool) (has : ℕ → Told) (old : StoredCell) (cell : Cell) (is : IsToday old cell) (kept : IsKept cell) (placed : ArePlaced cell) where
+module _ {D : Type 0} (told : D → Told) (out : ℕ → Bool) (has : ℕ → Told) (old : StoredCell) (cell : Cell) (is : IsStoredAs old cell) (kept : IsKept cell) (placed : ArePlaced cell) where
   -- a replica as its journal has it, whoever's the disk is
   pub standing_plain : (volume : ℕ) (at : Stand) → stand_of cell volume ≡ Some at → standing old (alone at.servers) volume ≡ as_journal replica_journal (cell.replicas at.row (alone at.servers))
   standing_plain volume at stands = λ i. record { disk = disk_is i; life = life_is i; left = left_is i }
@@ -93,7 +93,7 @@ module _ {D : Type 0} (told : D → Told) (out : ℕ → Bool) (has : ℕ → To
   server_range volume at stands = let m = placed.made volume at stands in let own = (kept.replicas_ask at.row (alone at.servers) m.0 m.1).0 in (own.4, own.5)
 
   -- what stands at a place is that place's replica
-  module _ (plain : ℕ → PlainActor KeptEntry) (are : today.AreReplicas old plain) where
+  module _ (plain : ℕ → PlainActor KeptEntry) (are : as_stored.AreReplicas old plain) where
     pub plain_left : (row server : ℕ) → IsServer server → plain (disk_at row server) ≡ as_journal replica_journal (cell.replicas row server)
     plain_left row server range = by (cell.replicas row server).life refl
       where
@@ -117,7 +117,7 @@ module _ {D : Type 0} (told : D → Told) (out : ℕ → Bool) (has : ℕ → To
             ∙ is.idle row server range e
             ∙ (λ i. record { disk = replica_journal (cell.replicas row server).disk; life = sym e i; left = sym (kept.replicas_left row server e) i })
 
-  module _ (site : Site D) (s : today.IsSite told out has old site) where
+  module _ (site : Site D) (s : as_stored.IsSite told out has old site) where
     pub site_leaves : IsSite told out has cell site
     site_leaves = record {
       clock = sym is.clock ∙ s.clock;

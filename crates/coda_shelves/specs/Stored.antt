@@ -1,4 +1,4 @@
--- How a cell on disks, as it is told of today, stands for a cell that is its disks.
+-- How a cell on disks, as `coda_stored` tells of it, stands for a cell that is its disks.
 use Rattle.std.specs.Prelude.{◌≡◌, ◌≢◌, ℕ, true, false, List, [], map, length, Some, None}
 use Rattle.std.specs.Option.{option_map}
 use Rattle.coda_actors.specs.Plain.{PlainDisk, PlainActor, Unmade}
@@ -10,7 +10,7 @@ use Rattle.coda_script.specs.Ranges.{IsServer}
 use Rattle.coda_cell.specs.Steps.{alone}
 use Rattle.coda_stored.specs.Cells.{Side, StoredCell}
 use Rattle.coda_stored.specs.Held.{lying_disk}
-use Rattle.coda_stored.specs.Lines as todays
+use Rattle.coda_stored.specs.Lines as stored_line
 use Rattle.coda_stored.specs.Mounted.{Shelf, HoldsShelf, LineFinds}
 use Rattle.coda_stored.specs.Seen.{mounts_none}
 use Rattle.coda_script.specs.Ranges.{InRange}
@@ -41,7 +41,7 @@ pub record IsReplicaSame (volume : ℕ) (actor : Actor ReplicaEntry) (side : Sid
       × ((header : Header) → now.disk.header ≡ Some header → asked now.life ≡ Some header)
   pub others : side.foreign ≡ true → (other ≡ replica_journal now.disk) × (is_up now.life ≡ false) × (actor.history ≡ []) × (actor.failed ≡ None) × ((header : Header) → asked now.life ≡ Some header → now.disk.header ≢ Some header)
 
-pub record IsToday (old : StoredCell) (now : Cell) : Type 0 where
+pub record IsStoredAs (old : StoredCell) (now : Cell) : Type 0 where
   pub clock : old.made.clock ≡ now.clock
   pub servers : old.made.servers ≡ map (λ (r : Row). alone r.servers) now.rows
   pub homes : old.made.homes ≡ (λ volume. option_map (λ (at : Stand). alone at.servers) (stand_of now volume))
@@ -58,7 +58,7 @@ pub record IsToday (old : StoredCell) (now : Cell) : Type 0 where
       → IsReplicaSame volume (old.made.acted.replicas (alone at.servers) volume) (old.replicas volume) (old.others volume) (now.replicas at.row (alone at.servers))
   pub idle : (row server : ℕ) → IsServer server → (now.replicas row server).life ≡ Unmade → old.idle (disk_at row server) ≡ lying_disk (replica_journal (now.replicas row server).disk)
 
--- what the disk of the volume that a line makes holds, as it is told of today
+-- what the disk of the volume that a line makes holds, as `coda_stored` tells of it
 abbrev pub shelf_of : PlainDisk ReplicaEntry → Shelf
 shelf_of disk = record { volume = volume_of disk.header; given = disk.header; actor = record { history = disk.history; failed = disk.failed; up = true } }
 
@@ -66,31 +66,31 @@ abbrev pub shelf_for : Cell → Line → Shelf
 shelf_for now (line.Volume volume servers area) = shelf_of (now.replicas (length now.rows) (alone servers)).disk
 shelf_for now said = shelf_of blank
 
--- a line does this in the cell that is its disks, and it is the cell that today's line leaves
-pub record DoesToday (now : Cell) (said : Line) (reply : Reply) (outside : List (List ℕ)) (end : StoredCell) : Type 0 where
+-- a line does this in the cell that is its disks, and it is the cell that the line of `coda_stored` leaves
+pub record DoesStored (now : Cell) (said : Line) (reply : Reply) (outside : List (List ℕ)) (end : StoredCell) : Type 0 where
   pub next : Cell
   pub happens : Happens now said reply outside next
-  pub today : IsToday end next
+  pub as_stored : IsStoredAs end next
 
--- Whatever a line does in a cell on disks of today, it may do in the cell that is its disks: whether it mounts no disk of an actor that it makes, or makes one on the
+-- Whatever a line does in a cell of `coda_stored`, it may do in the cell that is its disks: whether it mounts no disk of an actor that it makes, or makes one on the
 -- disk that it finds.
-pub record TodaysLinesHappen : Type 0 where
-  pub lines : (old end : StoredCell) (now : Cell) (said : Line) (reply : Reply) (outside : List (List ℕ)) → IsToday old now → IsKept now → InRange said → is_built said ≡ true
-      → mounts_none old said ≡ true → todays.Happens old said reply outside end → DoesToday now said reply outside end
-  pub makes : (old end : StoredCell) (now : Cell) (said : Line) (reply : Reply) (outside : List (List ℕ)) → IsToday old now → IsKept now → InRange said → is_built said ≡ true
-      → mounts_none old said ≡ false → LineFinds old (shelf_for now said) said reply outside end → DoesToday now said reply outside end
-  -- and that disk holds what is told of it today
-  pub holds : (old : StoredCell) (now : Cell) (said : Line) → IsToday old now → IsKept now → InRange said → is_built said ≡ true → HoldsShelf old said (shelf_for now said)
+pub record StoredLinesHappen : Type 0 where
+  pub lines : (old end : StoredCell) (now : Cell) (said : Line) (reply : Reply) (outside : List (List ℕ)) → IsStoredAs old now → IsKept now → InRange said → is_built said ≡ true
+      → mounts_none old said ≡ true → stored_line.Happens old said reply outside end → DoesStored now said reply outside end
+  pub makes : (old end : StoredCell) (now : Cell) (said : Line) (reply : Reply) (outside : List (List ℕ)) → IsStoredAs old now → IsKept now → InRange said → is_built said ≡ true
+      → mounts_none old said ≡ false → LineFinds old (shelf_for now said) said reply outside end → DoesStored now said reply outside end
+  -- and that disk holds what `coda_stored` tells of it
+  pub holds : (old : StoredCell) (now : Cell) (said : Line) → IsStoredAs old now → IsKept now → InRange said → is_built said ≡ true → HoldsShelf old said (shelf_for now said)
 
--- a line does this in the cell on disks of today, and it is the cell that the line leaves
-pub record DidToday (old : StoredCell) (becoming : todays.Becoming) (reply : Reply) (outside : List (List ℕ)) (next : Cell) : Type 0 where
+-- a line does this in the cell of `coda_stored`, and it is the cell that the line leaves
+pub record DidStored (old : StoredCell) (becoming : stored_line.Becoming) (reply : Reply) (outside : List (List ℕ)) (next : Cell) : Type 0 where
   pub end : StoredCell
   pub happens : becoming reply outside end
-  pub today : IsToday end next
+  pub as_stored : IsStoredAs end next
 
--- And nothing else: whatever a line may do in the cell that is its disks, it may do in the cell on disks of today.
-pub record LinesHappenToday : Type 0 where
-  pub lines : (old : StoredCell) (now next : Cell) (said : Line) (reply : Reply) (outside : List (List ℕ)) → IsToday old now → IsKept now → InRange said → is_built said ≡ true
-      → mounts_none old said ≡ true → Happens now said reply outside next → DidToday old (todays.Happens old said) reply outside next
-  pub makes : (old : StoredCell) (now next : Cell) (said : Line) (reply : Reply) (outside : List (List ℕ)) → IsToday old now → IsKept now → InRange said → is_built said ≡ true
-      → mounts_none old said ≡ false → Happens now said reply outside next → DidToday old (LineFinds old (shelf_for now said) said) reply outside next
+-- And nothing else: whatever a line may do in the cell that is its disks, it may do in the cell of `coda_stored`.
+pub record LinesHappenStored : Type 0 where
+  pub lines : (old : StoredCell) (now next : Cell) (said : Line) (reply : Reply) (outside : List (List ℕ)) → IsStoredAs old now → IsKept now → InRange said → is_built said ≡ true
+      → mounts_none old said ≡ true → Happens now said reply outside next → DidStored old (stored_line.Happens old said) reply outside next
+  pub makes : (old : StoredCell) (now next : Cell) (said : Line) (reply : Reply) (outside : List (List ℕ)) → IsStoredAs old now → IsKept now → InRange said → is_built said ≡ true
+      → mounts_none old said ≡ false → Happens now said reply outside next → DidStored old (LineFinds old (shelf_for now said) said) reply outside next

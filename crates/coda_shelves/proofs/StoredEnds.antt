@@ -1,4 +1,4 @@
--- However the events of a line end in a cell on disks of today, so they end in a cell that is its disks.
+-- However the events of a line end in a cell of `coda_stored`, so they end in a cell that is its disks.
 use Rattle.std.proofs.Common.{◌≡◌, ◌≢◌, ℕ, ◌+◌, ◌==◌, ◌&&◌, Bool, true, false, cond, List, [], ◌∷◌, ◌++◌, length, Option, Some, None, option_map, refl, sym, ap, ◌∙◌, subst, inl, inr}
 use Rattle.std.specs.Prelude.{IfSome}
 use Rattle.std.proofs.lemmas.Bool.{eqb-true, eq-eqb, ne_eqb, cases_eq, false≢true}
@@ -17,15 +17,15 @@ use Rattle.coda_cell.specs.Made.{Copy}
 use Rattle.coda_cell.specs.Steps.{alone}
 use Rattle.coda_matching.specs.Replicas.{entry_at}
 use Rattle.coda_stored.specs.Cells.{Side, StoredCell}
-use Rattle.coda_stored.specs.Cells as today
+use Rattle.coda_stored.specs.Cells as as_stored
 use Rattle.coda_stored.specs.Held.{lying_disk}
-use Rattle.coda_stored.specs.Lines as todays
+use Rattle.coda_stored.specs.Lines as stored_line
 use Rattle.coda_stored.specs.Room as room
 use Rattle.coda_stored.proofs.Entering.{IsBy, AreBy, by_parts}
 use Rattle.coda_shelves.specs.Shelves.{disk_at, replica_journal}
 use Rattle.coda_shelves.specs.Cells.{Cell, asked, is_up, Stand, stand_of, with_client, with_replica, with_volume, grown, fallen, failing, failed, entries_at, after, after_all}
 use Rattle.coda_shelves.specs.Lines.{LacksUnder, LacksFor, LacksAt, Lacks, FitsOne, Fits, EndsBy}
-use Rattle.coda_shelves.specs.Today.{IsClientSame, IsReplicaSame, IsToday}
+use Rattle.coda_shelves.specs.Stored.{IsClientSame, IsReplicaSame, IsStoredAs}
 use Rattle.coda_shelves.proofs.Mounting.{at_place}
 use Rattle.coda_shelves.proofs.Rows.{stand_one}
 use Rattle.coda_shelves.proofs.Stopping.{UpClient, UpReplica, AreClean, up_under, one_step, clean_grown, by_step}
@@ -54,10 +54,10 @@ moved_same o v a b c d x y p q r is = subst (λ z. IsReplicaSame v z c o x) (sym
 
 -- ---- another actor on each side
 
-module _ (old : StoredCell) (now : Cell) (is : IsToday old now) where
-  pub client_today : (client : ℕ) (actor : Actor ClientEntry) (side : Side) (next : PlainActor ClientEntry) → IsClientSame actor side next → asked next.life ≡ asked (now.clients client).life
-      → IsToday (record old { made = record old.made { acted = plain.with_client old.made.acted client actor }; clients = put old.clients client side }) (with_client now client next)
-  client_today client actor side next same asks = record {
+module _ (old : StoredCell) (now : Cell) (is : IsStoredAs old now) where
+  pub client_stored : (client : ℕ) (actor : Actor ClientEntry) (side : Side) (next : PlainActor ClientEntry) → IsClientSame actor side next → asked next.life ≡ asked (now.clients client).life
+      → IsStoredAs (record old { made = record old.made { acted = plain.with_client old.made.acted client actor }; clients = put old.clients client side }) (with_client now client next)
+  client_stored client actor side next same asks = record {
     clock = is.clock;
     servers = is.servers;
     homes = is.homes;
@@ -80,10 +80,10 @@ module _ (old : StoredCell) (now : Cell) (is : IsToday old now) where
         | false ↦ λ e. refl
       ] refl
 
-  pub replica_today : (server volume : ℕ) (at : Stand) → stand_of now volume ≡ Some at → server ≡ alone at.servers → (actor : Actor ReplicaEntry) (side : Side) (next : PlainActor ReplicaEntry)
+  pub replica_stored : (server volume : ℕ) (at : Stand) → stand_of now volume ≡ Some at → server ≡ alone at.servers → (actor : Actor ReplicaEntry) (side : Side) (next : PlainActor ReplicaEntry)
       → IsReplicaSame volume actor side (old.others volume) next → (header : Header) → asked next.life ≡ Some header
-      → IsToday (record old { made = record old.made { acted = plain.with_replica old.made.acted server volume actor }; replicas = put old.replicas volume side }) (with_replica now at.row server next)
-  replica_today server volume at stands home actor side next same header asks = record {
+      → IsStoredAs (record old { made = record old.made { acted = plain.with_replica old.made.acted server volume actor }; replicas = put old.replicas volume side }) (with_replica now at.row server next)
+  replica_stored server volume at stands home actor side next same header asks = record {
     clock = is.clock;
     servers = is.servers;
     homes = is.homes;
@@ -164,7 +164,7 @@ lacked_for (Some header) disk [] lacks = lacks
 lacked_for (Some header) disk (x ∷ []) lacks = lacks
 lacked_for (Some header) disk (x ∷ y ∷ entries) lacks = lacks
 
-module _ (old : StoredCell) (now : Cell) (is : IsToday old now) where
+module _ (old : StoredCell) (now : Cell) (is : IsStoredAs old now) where
   same_history : (server volume : ℕ) (up : UpReplica now server volume) → (old.made.acted.replicas server volume).history ≡ (now.replicas up.0.row server).disk.history
   same_history server volume (at, stands, home, up) =
       let high = subst (λ n. is_up (now.replicas at.row n).life ≡ true) home up in
@@ -200,23 +200,23 @@ module _ (old : StoredCell) (now : Cell) (is : IsToday old now) where
   up_asks : (life : Life) → is_up life ≡ true → (header : Header) × (asked life ≡ Some header)
   up_asks life up = let u = up_under life up in (u.0, ap asked u.1)
 
-  client_entered : (client : ℕ) (entry : ClientEntry) → IsToday (today.after old (Entered (AtClient client entry))) (after now (Entered (AtClient client entry)))
+  client_entered : (client : ℕ) (entry : ClientEntry) → IsStoredAs (as_stored.after old (Entered (AtClient client entry))) (after now (Entered (AtClient client entry)))
   client_entered client entry =
       let same = is.clients client in
-      subst (λ f. IsToday (record old { made = record old.made { acted = plain.with_client old.made.acted client (grown_actor entry (old.made.acted.clients client)) }; clients = f }) (with_client now client (grown entry (now.clients client)))) (put_same old.clients client)
-      (client_today old now is client (grown_actor entry (old.made.acted.clients client)) (old.clients client) (grown entry (now.clients client))
+      subst (λ f. IsStoredAs (record old { made = record old.made { acted = plain.with_client old.made.acted client (grown_actor entry (old.made.acted.clients client)) }; clients = f }) (with_client now client (grown entry (now.clients client)))) (put_same old.clients client)
+      (client_stored old now is client (grown_actor entry (old.made.acted.clients client)) (old.clients client) (grown entry (now.clients client))
       (record { history = ap (λ h. h ++ entry ∷ []) same.history; failed = same.failed; up = same.up; given = same.given; asks = same.asks; left = same.left }) refl)
 
-  replica_entered : (server volume : ℕ) (entry : ReplicaEntry) (up : UpReplica now server volume) → IsToday (today.after old (Entered (AtReplica server volume entry))) (after now (Entered (AtReplica server volume entry)))
+  replica_entered : (server volume : ℕ) (entry : ReplicaEntry) (up : UpReplica now server volume) → IsStoredAs (as_stored.after old (Entered (AtReplica server volume entry))) (after now (Entered (AtReplica server volume entry)))
   replica_entered server volume entry (at, stands, home, up) =
       let x = now.replicas at.row server in
       let u = up_asks x.life up in
       let high = subst (λ n. is_up (now.replicas at.row n).life ≡ true) home up in
       let same : IsReplicaSame volume (old.made.acted.replicas server volume) (old.replicas volume) (old.others volume) x = subst (λ n. IsReplicaSame volume (old.made.acted.replicas n volume) (old.replicas volume) (old.others volume) (now.replicas at.row n)) (sym home) (is.replicas volume at stands) in
       let foreign = own_up old now is volume at stands high in
-      subst (IsToday (today.after old (Entered (AtReplica server volume entry)))) (ap (λ o. with_volume now o server (grown entry)) (sym stands))
-      (subst (λ f. IsToday (record old { made = record old.made { acted = plain.with_replica old.made.acted server volume (grown_actor entry (old.made.acted.replicas server volume)) }; replicas = f }) (with_replica now at.row server (grown entry x))) (put_same old.replicas volume)
-      (replica_today old now is server volume at stands home (grown_actor entry (old.made.acted.replicas server volume)) (old.replicas volume) (grown entry x)
+      subst (IsStoredAs (as_stored.after old (Entered (AtReplica server volume entry)))) (ap (λ o. with_volume now o server (grown entry)) (sym stands))
+      (subst (λ f. IsStoredAs (record old { made = record old.made { acted = plain.with_replica old.made.acted server volume (grown_actor entry (old.made.acted.replicas server volume)) }; replicas = f }) (with_replica now at.row server (grown entry x))) (put_same old.replicas volume)
+      (replica_stored old now is server volume at stands home (grown_actor entry (old.made.acted.replicas server volume)) (old.replicas volume) (grown entry x)
       (record {
         made = same.made;
         up = same.up;
@@ -226,23 +226,23 @@ module _ (old : StoredCell) (now : Cell) (is : IsToday old now) where
         others = λ e. absurd (false≢true (sym foreign ∙ e));
       }) u.0 u.1))
 
-  client_fell : (client : ℕ) (entry : ClientEntry) → UpClient now client → IsToday (today.failed old (AtClient client entry)) (failed now (AtClient client entry))
+  client_fell : (client : ℕ) (entry : ClientEntry) → UpClient now client → IsStoredAs (as_stored.failed old (AtClient client entry)) (failed now (AtClient client entry))
   client_fell client entry up =
       let same = is.clients client in
-      subst (λ f. IsToday (record old { made = record old.made { acted = plain.with_client old.made.acted client (fallen_actor entry (old.made.acted.clients client)) }; clients = f }) (with_client now client (failing entry (now.clients client)))) (put_same old.clients client)
-      (client_today old now is client (fallen_actor entry (old.made.acted.clients client)) (old.clients client) (failing entry (now.clients client))
+      subst (λ f. IsStoredAs (record old { made = record old.made { acted = plain.with_client old.made.acted client (fallen_actor entry (old.made.acted.clients client)) }; clients = f }) (with_client now client (failing entry (now.clients client)))) (put_same old.clients client)
+      (client_stored old now is client (fallen_actor entry (old.made.acted.clients client)) (old.clients client) (failing entry (now.clients client))
       (record { history = same.history; failed = refl; up = λ header e. sym (fallen_down (now.clients client).life); given = same.given; asks = same.asks ∙ sym (fallen_asks (now.clients client).life); left = same.left }) (fallen_asks (now.clients client).life))
 
-  replica_fell : (server volume : ℕ) (entry : ReplicaEntry) (up : UpReplica now server volume) → IsToday (today.failed old (AtReplica server volume entry)) (failed now (AtReplica server volume entry))
+  replica_fell : (server volume : ℕ) (entry : ReplicaEntry) (up : UpReplica now server volume) → IsStoredAs (as_stored.failed old (AtReplica server volume entry)) (failed now (AtReplica server volume entry))
   replica_fell server volume entry (at, stands, home, up) =
       let x = now.replicas at.row server in
       let u = up_asks x.life up in
       let high = subst (λ n. is_up (now.replicas at.row n).life ≡ true) home up in
       let same : IsReplicaSame volume (old.made.acted.replicas server volume) (old.replicas volume) (old.others volume) x = subst (λ n. IsReplicaSame volume (old.made.acted.replicas n volume) (old.replicas volume) (old.others volume) (now.replicas at.row n)) (sym home) (is.replicas volume at stands) in
       let foreign = own_up old now is volume at stands high in
-      subst (IsToday (today.failed old (AtReplica server volume entry))) (ap (λ o. with_volume now o server (failing entry)) (sym stands))
-      (subst (λ f. IsToday (record old { made = record old.made { acted = plain.with_replica old.made.acted server volume (fallen_actor entry (old.made.acted.replicas server volume)) }; replicas = f }) (with_replica now at.row server (failing entry x))) (put_same old.replicas volume)
-      (replica_today old now is server volume at stands home (fallen_actor entry (old.made.acted.replicas server volume)) (old.replicas volume) (failing entry x)
+      subst (IsStoredAs (as_stored.failed old (AtReplica server volume entry))) (ap (λ o. with_volume now o server (failing entry)) (sym stands))
+      (subst (λ f. IsStoredAs (record old { made = record old.made { acted = plain.with_replica old.made.acted server volume (fallen_actor entry (old.made.acted.replicas server volume)) }; replicas = f }) (with_replica now at.row server (failing entry x))) (put_same old.replicas volume)
+      (replica_stored old now is server volume at stands home (fallen_actor entry (old.made.acted.replicas server volume)) (old.replicas volume) (failing entry x)
       (record {
         made = (same.made.0, fallen_asks x.life ∙ same.made.1);
         up = sym (fallen_down x.life);
@@ -259,20 +259,20 @@ module _ (old : StoredCell) (now : Cell) (is : IsToday old now) where
       let same : IsReplicaSame volume (old.made.acted.replicas server volume) (old.replicas volume) (old.others volume) (now.replicas at.row server) = subst (λ n. IsReplicaSame volume (old.made.acted.replicas n volume) (old.replicas volume) (old.others volume) (now.replicas at.row n)) (sym home) (is.replicas volume at stands) in
       ap length (same.own (own_up old now is volume at stands high)).0 ∙ ap (λ o. entries_at now o server) (sym stands)
 
-  pub event_today : (event : Event) → IsBy (UpClient now) (UpReplica now) event → IsToday (today.after old event) (after now event)
-  event_today (VolumeMade v s) by = absurd by
-  event_today (ClientMade c b) by = absurd by
-  event_today (Ticked seconds) by = record { clock = ap (λ n. later n seconds) is.clock; servers = is.servers; homes = is.homes; sizes = is.sizes; links = is.links; waiting = is.waiting; posted = is.posted; copies = is.copies; uses = is.uses; areas = is.areas; places = is.places; clients = is.clients; replicas = is.replicas; idle = is.idle }
-  event_today (LinkSet c s strength) by = record { clock = is.clock; servers = is.servers; homes = is.homes; sizes = is.sizes; links = ap (λ l. linked l c s strength) is.links; waiting = is.waiting; posted = is.posted; copies = ap (λ m. cut_by (λ (copy : Copy). copy.server) strength m c s) is.copies; uses = is.uses; areas = is.areas; places = is.places; clients = is.clients; replicas = is.replicas; idle = is.idle }
-  event_today (Entered (AtClient client entry)) by = client_entered client entry
-  event_today (Entered (AtReplica server volume entry)) by = replica_entered server volume entry by.0
-  event_today (Posted sent) by = record { clock = is.clock; servers = is.servers; homes = is.homes; sizes = is.sizes; links = is.links; waiting = (λ i. is.waiting i ++ (is.posted i + 1, sent) ∷ []); posted = ap (λ n. n + 1) is.posted; copies = is.copies; uses = is.uses; areas = is.areas; places = is.places; clients = is.clients; replicas = is.replicas; idle = is.idle }
-  event_today (Lost message) by = record { clock = is.clock; servers = is.servers; homes = is.homes; sizes = is.sizes; links = is.links; waiting = ap (without message) is.waiting; posted = is.posted; copies = is.copies; uses = is.uses; areas = is.areas; places = is.places; clients = is.clients; replicas = is.replicas; idle = is.idle }
-  event_today (Used client fids) by = record { clock = is.clock; servers = is.servers; homes = is.homes; sizes = is.sizes; links = is.links; waiting = is.waiting; posted = is.posted; copies = is.copies; uses = ap (λ u. put u client (used_then (u client) fids)) is.uses; areas = is.areas; places = is.places; clients = is.clients; replicas = is.replicas; idle = is.idle }
-  event_today (Kept client server fid) by = record { clock = is.clock; servers = is.servers; homes = is.homes; sizes = is.sizes; links = is.links; waiting = is.waiting; posted = is.posted; copies = λ i. with_copy (is.copies i) client fid (record { server = server; position = given_at server fid.volume by i }); uses = is.uses; areas = is.areas; places = is.places; clients = is.clients; replicas = is.replicas; idle = is.idle }
-  event_today (Stale client fids) by = record { clock = is.clock; servers = is.servers; homes = is.homes; sizes = is.sizes; links = is.links; waiting = is.waiting; posted = is.posted; copies = ap (λ m. but_of m client fids) is.copies; uses = is.uses; areas = is.areas; places = is.places; clients = is.clients; replicas = is.replicas; idle = is.idle }
+  pub event_stored : (event : Event) → IsBy (UpClient now) (UpReplica now) event → IsStoredAs (as_stored.after old event) (after now event)
+  event_stored (VolumeMade v s) by = absurd by
+  event_stored (ClientMade c b) by = absurd by
+  event_stored (Ticked seconds) by = record { clock = ap (λ n. later n seconds) is.clock; servers = is.servers; homes = is.homes; sizes = is.sizes; links = is.links; waiting = is.waiting; posted = is.posted; copies = is.copies; uses = is.uses; areas = is.areas; places = is.places; clients = is.clients; replicas = is.replicas; idle = is.idle }
+  event_stored (LinkSet c s strength) by = record { clock = is.clock; servers = is.servers; homes = is.homes; sizes = is.sizes; links = ap (λ l. linked l c s strength) is.links; waiting = is.waiting; posted = is.posted; copies = ap (λ m. cut_by (λ (copy : Copy). copy.server) strength m c s) is.copies; uses = is.uses; areas = is.areas; places = is.places; clients = is.clients; replicas = is.replicas; idle = is.idle }
+  event_stored (Entered (AtClient client entry)) by = client_entered client entry
+  event_stored (Entered (AtReplica server volume entry)) by = replica_entered server volume entry by.0
+  event_stored (Posted sent) by = record { clock = is.clock; servers = is.servers; homes = is.homes; sizes = is.sizes; links = is.links; waiting = (λ i. is.waiting i ++ (is.posted i + 1, sent) ∷ []); posted = ap (λ n. n + 1) is.posted; copies = is.copies; uses = is.uses; areas = is.areas; places = is.places; clients = is.clients; replicas = is.replicas; idle = is.idle }
+  event_stored (Lost message) by = record { clock = is.clock; servers = is.servers; homes = is.homes; sizes = is.sizes; links = is.links; waiting = ap (without message) is.waiting; posted = is.posted; copies = is.copies; uses = is.uses; areas = is.areas; places = is.places; clients = is.clients; replicas = is.replicas; idle = is.idle }
+  event_stored (Used client fids) by = record { clock = is.clock; servers = is.servers; homes = is.homes; sizes = is.sizes; links = is.links; waiting = is.waiting; posted = is.posted; copies = is.copies; uses = ap (λ u. put u client (used_then (u client) fids)) is.uses; areas = is.areas; places = is.places; clients = is.clients; replicas = is.replicas; idle = is.idle }
+  event_stored (Kept client server fid) by = record { clock = is.clock; servers = is.servers; homes = is.homes; sizes = is.sizes; links = is.links; waiting = is.waiting; posted = is.posted; copies = λ i. with_copy (is.copies i) client fid (record { server = server; position = given_at server fid.volume by i }); uses = is.uses; areas = is.areas; places = is.places; clients = is.clients; replicas = is.replicas; idle = is.idle }
+  event_stored (Stale client fids) by = record { clock = is.clock; servers = is.servers; homes = is.homes; sizes = is.sizes; links = is.links; waiting = is.waiting; posted = is.posted; copies = ap (λ m. but_of m client fids) is.copies; uses = is.uses; areas = is.areas; places = is.places; clients = is.clients; replicas = is.replicas; idle = is.idle }
 
-  pub append_fell : (append : Append) → IsBy (UpClient now) (UpReplica now) (Entered append) → IsToday (today.failed old append) (failed now append)
+  pub append_fell : (append : Append) → IsBy (UpClient now) (UpReplica now) (Entered append) → IsStoredAs (as_stored.failed old append) (failed now append)
   append_fell (AtClient client entry) by = client_fell client entry by
   append_fell (AtReplica server volume entry) by = replica_fell server volume entry by.0
 
@@ -280,11 +280,11 @@ module _ (old : StoredCell) (now : Cell) (is : IsToday old now) where
 
 -- what was said of events so far, and of those behind them
 pub record IsOn (old : StoredCell) (now : Cell) (events : List Event) : Type 0 where
-  pub today : IsToday (today.after_all old events) (after_all now events)
+  pub as_stored : IsStoredAs (as_stored.after_all old events) (after_all now events)
   pub fits : room.Fits old events → Fits now events
   pub ups : (next : Event) → IsBy (UpClient now) (UpReplica now) next → IsBy (UpClient (after_all now events)) (UpReplica (after_all now events)) next
 
-fits_one : (old : StoredCell) (now : Cell) → IsToday old now → (event : Event) → IsBy (UpClient now) (UpReplica now) event → room.FitsOne old event → FitsOne now event
+fits_one : (old : StoredCell) (now : Cell) → IsStoredAs old now → (event : Event) → IsBy (UpClient now) (UpReplica now) event → room.FitsOne old event → FitsOne now event
 fits_one old now is (VolumeMade v s) by fit = tt
 fits_one old now is (ClientMade c b) by fit = tt
 fits_one old now is (Ticked seconds) by fit = tt
@@ -296,14 +296,14 @@ fits_one old now is (Used client fids) by fit = tt
 fits_one old now is (Kept client server fid) by fit = tt
 fits_one old now is (Stale client fids) by fit = tt
 
-pub events_today : (old : StoredCell) (now : Cell) → IsToday old now → AreClean now → (events : List Event) → AreBy (UpClient now) (UpReplica now) events → IsOn old now events
-events_today old now is clean [] are = record { today = is; fits = λ f. tt; ups = λ next by. by }
-events_today old now is clean (event ∷ events) are =
+pub events_stored : (old : StoredCell) (now : Cell) → IsStoredAs old now → AreClean now → (events : List Event) → AreBy (UpClient now) (UpReplica now) events → IsOn old now events
+events_stored old now is clean [] are = record { as_stored = is; fits = λ f. tt; ups = λ next by. by }
+events_stored old now is clean (event ∷ events) are =
     let step = one_step now clean (λ m. None) event are.0 in
     let next = after now event in
-    let rest = events_today (today.after old event) next (event_today old now is event are.0) (clean_grown now next clean step.grown) events (by_step now next (λ m. None) event step events are.1) in
+    let rest = events_stored (as_stored.after old event) next (event_stored old now is event are.0) (clean_grown now next clean step.grown) events (by_step now next (λ m. None) event step events are.1) in
     record {
-      today = rest.today;
+      as_stored = rest.as_stored;
       fits = λ f. (fits_one old now is event are.0 f.0, rest.fits f.1);
       ups = λ e by. rest.ups e (by_step now next (λ m. None) event step (e ∷ []) (by, tt)).0;
     }
@@ -314,31 +314,31 @@ events_today old now is clean (event ∷ events) are =
 pub record Follows (old : StoredCell) (events : List Event) (own reply : Reply) (now : Cell) (end : StoredCell) : Type 0 where
   pub next : Cell
   pub ends : EndsBy now events own reply next
-  pub today : IsToday end next
+  pub as_stored : IsStoredAs end next
 
-pub ends_today : (old : StoredCell) (now : Cell) → IsToday old now → AreClean now → (events : List Event) (own reply : Reply) (end : StoredCell) → AreBy (UpClient now) (UpReplica now) events → todays.EndsBy old events own reply end → Follows old events own reply now end
-ends_today old now is clean events own reply end are (inl all) =
-    let on = events_today old now is clean events are in
-    record { next = after_all now events; ends = inl (on.fits all.0, all.1, refl); today = subst (λ c. IsToday c (after_all now events)) (sym all.2) on.today }
-ends_today old now is clean events own reply end are (inr (inl full)) =
+pub ends_stored : (old : StoredCell) (now : Cell) → IsStoredAs old now → AreClean now → (events : List Event) (own reply : Reply) (end : StoredCell) → AreBy (UpClient now) (UpReplica now) events → stored_line.EndsBy old events own reply end → Follows old events own reply now end
+ends_stored old now is clean events own reply end are (inl all) =
+    let on = events_stored old now is clean events are in
+    record { next = after_all now events; ends = inl (on.fits all.0, all.1, refl); as_stored = subst (λ c. IsStoredAs c (after_all now events)) (sym all.2) on.as_stored }
+ends_stored old now is clean events own reply end are (inr (inl full)) =
     let parts = by_parts (UpClient now) (UpReplica now) full.0.done (Entered full.0.next ∷ full.0.rest) (subst (AreBy (UpClient now) (UpReplica now)) full.0.is are) in
-    let on = events_today old now is clean full.0.done parts.0 in
+    let on = events_stored old now is clean full.0.done parts.0 in
     record {
       next = after_all now full.0.done;
       ends = inr (inl (
         record { done = full.0.done; next = full.0.next; rest = full.0.rest; is = full.0.is },
         on.fits full.1,
-        lacks_now (today.after_all old full.0.done) (after_all now full.0.done) on.today full.0.next (on.ups (Entered full.0.next) parts.1.0) full.2,
+        lacks_now (as_stored.after_all old full.0.done) (after_all now full.0.done) on.as_stored full.0.next (on.ups (Entered full.0.next) parts.1.0) full.2,
         full.3,
         refl,
       ));
-      today = subst (λ c. IsToday c (after_all now full.0.done)) (sym full.4) on.today;
+      as_stored = subst (λ c. IsStoredAs c (after_all now full.0.done)) (sym full.4) on.as_stored;
     }
-ends_today old now is clean events own reply end are (inr (inr fault)) =
+ends_stored old now is clean events own reply end are (inr (inr fault)) =
     let parts = by_parts (UpClient now) (UpReplica now) fault.0.done (Entered fault.0.next ∷ fault.0.rest) (subst (AreBy (UpClient now) (UpReplica now)) fault.0.is are) in
-    let on = events_today old now is clean fault.0.done parts.0 in
+    let on = events_stored old now is clean fault.0.done parts.0 in
     record {
       next = failed (after_all now fault.0.done) fault.0.next;
       ends = inr (inr (record { done = fault.0.done; next = fault.0.next; rest = fault.0.rest; is = fault.0.is }, on.fits fault.1, fault.2, refl));
-      today = subst (λ c. IsToday c (failed (after_all now fault.0.done) fault.0.next)) (sym fault.3) (append_fell (today.after_all old fault.0.done) (after_all now fault.0.done) on.today fault.0.next (on.ups (Entered fault.0.next) parts.1.0));
+      as_stored = subst (λ c. IsStoredAs c (failed (after_all now fault.0.done) fault.0.next)) (sym fault.3) (append_fell (as_stored.after_all old fault.0.done) (after_all now fault.0.done) on.as_stored fault.0.next (on.ups (Entered fault.0.next) parts.1.0));
     }

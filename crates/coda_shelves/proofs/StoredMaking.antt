@@ -1,4 +1,4 @@
--- Lines that make actors, today and in cells that are their disks.
+-- Lines that make actors, in cells of `coda_stored` and in cells that are their disks.
 use Rattle.std.proofs.Common.{◌≡◌, ◌≢◌, ℕ, ◌+◌, ◌-◌, ◌^◌, ◌==◌, ◌&&◌, Bool, true, false, cond, List, [], ◌∷◌, ◌++◌, length, map, Option, Some, None, option_map, refl, sym, ap, ◌∙◌, subst, inl, inr, ◌⊎◌, arith}
 use Rattle.std.proofs.lemmas.Bool.{eqb-true, eq-eqb, ne_eqb, cases_eq, false≢true}
 use Rattle.coda_actors.specs.Plain.{PlainDisk, PlainActor, Life, Unmade, Down, Up, Mounts}
@@ -14,24 +14,24 @@ use Rattle.coda_script.specs.declared.reply.Reply.{Reply}
 use Rattle.coda_cell.specs.State.{put}
 use Rattle.coda_cell.specs.Steps.{alone}
 use Rattle.coda_stored.specs.Cells.{Side, StoredCell, IsAnothers, disk_number}
-use Rattle.coda_stored.specs.Cells as today
+use Rattle.coda_stored.specs.Cells as as_stored
 use Rattle.coda_stored.specs.Held.{lying_disk}
-use Rattle.coda_stored.specs.Lines as todays
+use Rattle.coda_stored.specs.Lines as stored_line
 use Rattle.coda_stored.specs.Mounted.{plain_shelf, Making, FindsDisk, making_client, making_volume, client_elsewhere, volume_elsewhere, asking_elsewhere, ClientFinds, VolumeFinds}
 use Rattle.coda_shelves.specs.Shelves.{disk_at, client_header, group_of, replica_header, replica_journal}
 use Rattle.coda_shelves.specs.Cells.{Cell, Row, asked, is_up, Stand, stand_of}
 use Rattle.coda_shelves.specs.Lines as now
-use Rattle.coda_shelves.specs.Today.{IsClientSame, IsReplicaSame, IsToday, shelf_of}
+use Rattle.coda_shelves.specs.Stored.{IsClientSame, IsReplicaSame, IsStoredAs, shelf_of}
 use Rattle.coda_shelves.proofs.Mounting.{at_put}
 use Rattle.coda_shelves.proofs.Rows.{stand_below, stand_last, stand_other}
-use Rattle.coda_shelves.proofs.TodayDisks.{Ends, taken_disk, taken_mounts}
-use Rattle.coda_shelves.proofs.TodayEnds.{some_at, moved_same}
+use Rattle.coda_shelves.proofs.StoredDisks.{Ends, taken_disk, taken_mounts}
+use Rattle.coda_shelves.proofs.StoredEnds.{some_at, moved_same}
 
 abbrev pub is_entries : Mounting → Bool
 is_entries (Entries count) = true
 is_entries ending = false
 
--- ---- how a mounting ends, as it is told of today
+-- ---- how a mounting ends, as `coda_stored` tells of it
 
 -- the actor and the side of one that was made, by what its mounting left
 pub record IsMounted {E : Type 0} (header : Header) (given : Option Header) (actor : Actor E) (make : Making E) (elsewhere old : StoredCell) (reply : Reply) (outside : List (List ℕ)) (end : StoredCell) : Type 0 where
@@ -42,7 +42,7 @@ pub record IsMounted {E : Type 0} (header : Header) (given : Option Header) (act
   pub says : reply ≡ now.opening [] false (ending ∷ [])
   pub out : outside ≡ []
   pub is : (((at : ℕ) × (ending ≡ Foreign at)) × (end ≡ old))
-      ⊎ (((at : ℕ) → ending ≡ Foreign at → ⊥) × ((end ≡ make (record { history = disk.history; failed = disk.failed; up = is_entries ending }) (todays.asking header disk.header)) × ((disk.header ≡ None) ⊎ (disk.header ≡ Some header))))
+      ⊎ (((at : ℕ) → ending ≡ Foreign at → ⊥) × ((end ≡ make (record { history = disk.history; failed = disk.failed; up = is_entries ending }) (stored_line.asking header disk.header)) × ((disk.header ≡ None) ⊎ (disk.header ≡ Some header))))
       ⊎ ((ending ≡ DiskFault) × (disk ≡ record { header = given; history = actor.history; failed = actor.failed }) × IsAnothers header given × (end ≡ elsewhere))
 
 module _ {E : Type 0} (header : Header) (given : Option Header) (actor : Actor E) (make : Making E) (elsewhere old : StoredCell) (reply : Reply) (outside : List (List ℕ)) (end : StoredCell) where
@@ -92,15 +92,15 @@ module _ {E : Type 0} (header : Header) (given : Option Header) (actor : Actor E
     mounts = inr (none, refl);
     says = says;
     out = out;
-    is = inr (inl ((λ at e. cc), (next ∙ (λ i. make (record { history = none i; failed = None; up = false }) (todays.asking header (Some header))), inr refl)));
+    is = inr (inl ((λ at e. cc), (next ∙ (λ i. make (record { history = none i; failed = None; up = false }) (stored_line.asking header (Some header))), inr refl)));
   }
 
 -- ---- a client
 
-module _ (old : StoredCell) (cell : Cell) (is : IsToday old cell) (client blocks area : ℕ) where
+module _ (old : StoredCell) (cell : Cell) (is : IsStoredAs old cell) (client blocks area : ℕ) where
   -- a cell with a client more
   pub client_made : (actor : Actor ClientEntry) (side : Side) (next : PlainActor ClientEntry) → IsClientSame actor side next → asked next.life ≡ Some (client_header client blocks area)
-      → IsToday (making_client old client blocks area actor side) (record cell { clients = put cell.clients client next; areas = cell.areas + area })
+      → IsStoredAs (making_client old client blocks area actor side) (record cell { clients = put cell.clients client next; areas = cell.areas + area })
   client_made actor side next same asks = record {
     clock = is.clock;
     servers = is.servers;
@@ -130,8 +130,8 @@ module _ (old : StoredCell) (cell : Cell) (is : IsToday old cell) (client blocks
       same : IsClientSame (old.made.acted.clients client) (old.clients client) (cell.clients client)
       same = is.clients client
 
-      m : IsMounted (today.client_header client blocks area) (old.clients client).given (old.made.acted.clients client) (making_client old client blocks area) (client_elsewhere old client blocks area) old reply outside end
-      m = mounted (today.client_header client blocks area) (old.clients client).given (old.made.acted.clients client) (making_client old client blocks area) (client_elsewhere old client blocks area) old reply outside end finds
+      m : IsMounted (as_stored.client_header client blocks area) (old.clients client).given (old.made.acted.clients client) (making_client old client blocks area) (client_elsewhere old client blocks area) old reply outside end
+      m = mounted (as_stored.client_header client blocks area) (old.clients client).given (old.made.acted.clients client) (making_client old client blocks area) (client_elsewhere old client blocks area) old reply outside end finds
 
       on_disk : Mounts (client_header client blocks area) (cell.clients client).disk m.ending m.disk
       on_disk = subst (λ d. Mounts (client_header client blocks area) d m.ending m.disk) (λ i. record { header = same.given i; history = same.history i; failed = same.failed i }) m.mounts
@@ -144,7 +144,7 @@ module _ (old : StoredCell) (cell : Cell) (is : IsToday old cell) (client blocks
           record {
             next = record cell { clients = put cell.clients client x; areas = cell.areas + area };
             happens = (Entries count, disk, told, mounts, says, out, refl);
-            today = subst (λ c. IsToday c (record cell { clients = put cell.clients client x; areas = cell.areas + area })) (sym next)
+            as_stored = subst (λ c. IsStoredAs c (record cell { clients = put cell.clients client x; areas = cell.areas + area })) (sym next)
                 (client_made actor side x (record { history = history; failed = failed; up = λ h e. up; given = given; asks = asks; left = left }) refl);
           }
       done (Foreign at) disk actor side told fit mounts says out history failed up given asks left next = absurd (fit at refl)
@@ -153,27 +153,27 @@ module _ (old : StoredCell) (cell : Cell) (is : IsToday old cell) (client blocks
           record {
             next = record cell { clients = put cell.clients client x; areas = cell.areas + area };
             happens = (DiskFault, disk, told, mounts, says, out, refl);
-            today = subst (λ c. IsToday c (record cell { clients = put cell.clients client x; areas = cell.areas + area })) (sym next)
+            as_stored = subst (λ c. IsStoredAs c (record cell { clients = put cell.clients client x; areas = cell.areas + area })) (sym next)
                 (client_made actor side x (record { history = history; failed = failed; up = λ h e. up; given = given; asks = asks; left = left }) refl);
           }
       done Memory disk actor side told fit mounts says out history failed up given asks left next = absurd told
 
       refused : (ending : Mounting) (at : ℕ) → ending ≡ Foreign at → now.IsTold ending → Mounts (client_header client blocks area) (cell.clients client).disk ending m.disk → reply ≡ now.opening [] false (ending ∷ []) → end ≡ old
           → Ends (now.MakesClient cell client (client_header client blocks area)) reply outside end
-      refused (Foreign b) at e told mounts says next = record { next = cell; happens = (Foreign b, m.disk, told, mounts, says, m.out, refl); today = subst (λ c. IsToday c cell) (sym next) is }
+      refused (Foreign b) at e told mounts says next = record { next = cell; happens = (Foreign b, m.disk, told, mounts, says, m.out, refl); as_stored = subst (λ c. IsStoredAs c cell) (sym next) is }
       refused (Entries count) at e told mounts says next = cc
       refused DiskFault at e told mounts says next = cc
       refused Memory at e told mounts says next = cc
 
       by : (((at : ℕ) × (m.ending ≡ Foreign at)) × (end ≡ old))
-          ⊎ (((at : ℕ) → m.ending ≡ Foreign at → ⊥) × ((end ≡ making_client old client blocks area (record { history = m.disk.history; failed = m.disk.failed; up = is_entries m.ending }) (todays.asking (today.client_header client blocks area) m.disk.header)) × ((m.disk.header ≡ None) ⊎ (m.disk.header ≡ Some (today.client_header client blocks area)))))
-          ⊎ ((m.ending ≡ DiskFault) × (m.disk ≡ record { header = (old.clients client).given; history = (old.made.acted.clients client).history; failed = (old.made.acted.clients client).failed }) × IsAnothers (today.client_header client blocks area) (old.clients client).given × (end ≡ client_elsewhere old client blocks area))
+          ⊎ (((at : ℕ) → m.ending ≡ Foreign at → ⊥) × ((end ≡ making_client old client blocks area (record { history = m.disk.history; failed = m.disk.failed; up = is_entries m.ending }) (stored_line.asking (as_stored.client_header client blocks area) m.disk.header)) × ((m.disk.header ≡ None) ⊎ (m.disk.header ≡ Some (as_stored.client_header client blocks area)))))
+          ⊎ ((m.ending ≡ DiskFault) × (m.disk ≡ record { header = (old.clients client).given; history = (old.made.acted.clients client).history; failed = (old.made.acted.clients client).failed }) × IsAnothers (as_stored.client_header client blocks area) (old.clients client).given × (end ≡ client_elsewhere old client blocks area))
           → Ends (now.MakesClient cell client (client_header client blocks area)) reply outside end
       by (inl ((at, e), next)) = refused m.ending at e m.told on_disk m.says next
       by (inr (inl (fit, (next, own)))) =
-          done m.ending m.disk (record { history = m.disk.history; failed = m.disk.failed; up = is_entries m.ending }) (todays.asking (today.client_header client blocks area) m.disk.header) m.told fit on_disk m.says m.out refl refl refl refl refl refl next
+          done m.ending m.disk (record { history = m.disk.history; failed = m.disk.failed; up = is_entries m.ending }) (stored_line.asking (as_stored.client_header client blocks area) m.disk.header) m.told fit on_disk m.says m.out refl refl refl refl refl refl next
       by (inr (inr (fault, disk_is, other, next))) =
-          done m.ending m.disk (crashed (old.made.acted.clients client)) (asking_elsewhere (today.client_header client blocks area) (old.clients client).given) m.told
+          done m.ending m.disk (crashed (old.made.acted.clients client)) (asking_elsewhere (as_stored.client_header client blocks area) (old.clients client).given) m.told
           (λ at e. (let no : DiskFault ≡ Foreign at = sym fault ∙ e in cc)) on_disk m.says m.out (ap (λ (d : PlainDisk ClientEntry). d.history) (sym disk_is)) (ap (λ (d : PlainDisk ClientEntry). d.failed) (sym disk_is))
           (ap is_entries (sym fault)) (ap (λ (d : PlainDisk ClientEntry). d.header) (sym disk_is)) refl refl next
 
@@ -187,8 +187,8 @@ pub map_length : (rows : List Row) → length (map (λ (r : Row). alone r.server
 map_length [] = refl
 map_length (r ∷ rows) = (let rest = map_length rows in omega (arith, rest))
 
-pub same_header : (volume server area : ℕ) → replica_header volume (server ∷ []) area server ≡ today.replica_header volume server area
-same_header volume server area = λ i. record (today.replica_header volume server area) { group = group i }
+pub same_header : (volume server area : ℕ) → replica_header volume (server ∷ []) area server ≡ as_stored.replica_header volume server area
+same_header volume server area = λ i. record (as_stored.replica_header volume server area) { group = group i }
   where
     group : group_of (server ∷ []) ≡ 2 ^ (server - 1)
     group = plus_zero (2 ^ (server - 1))
@@ -196,7 +196,7 @@ same_header volume server area = λ i. record (today.replica_header volume serve
         plus_zero : (n : ℕ) → n + 0 ≡ n
         plus_zero n = omega arith
 
-module _ (old : StoredCell) (cell : Cell) (is : IsToday old cell) (volume server area : ℕ) (none : stand_of cell volume ≡ None) where
+module _ (old : StoredCell) (cell : Cell) (is : IsStoredAs old cell) (volume server area : ℕ) (none : stand_of cell volume ≡ None) where
   abbrev first : ℕ → PlainActor ReplicaEntry
   first = cell.replicas (length cell.rows)
 
@@ -213,7 +213,7 @@ module _ (old : StoredCell) (cell : Cell) (is : IsToday old cell) (volume server
   stands_else next v off = stand_other 0 cell.rows last v (λ e. off (sym e))
 
   pub volume_made : (actor : Actor ReplicaEntry) (side : Side) (others : ℕ → PlainDisk KeptEntry) (next : PlainActor ReplicaEntry) (header : Header) → IsReplicaSame volume actor side (others volume) next → ((v : ℕ) → v ≢ volume → others v ≡ old.others v)
-      → asked next.life ≡ Some header → IsToday (record (making_volume old volume server area actor side) { others = others }) (made_cell next)
+      → asked next.life ≡ Some header → IsStoredAs (record (making_volume old volume server area actor side) { others = others }) (made_cell next)
   volume_made actor side others next header same rest asks = record {
     clock = is.clock;
     servers = ap (λ l. l ++ server ∷ []) is.servers ∙ sym (map_last cell.rows last);
@@ -288,31 +288,31 @@ module _ (old : StoredCell) (cell : Cell) (is : IsToday old cell) (volume server
   abbrev header : Header
   header = replica_header volume (server ∷ []) area server
 
-  abbrev header_today : Header
-  header_today = today.replica_header volume server area
+  abbrev header_stored : Header
+  header_stored = as_stored.replica_header volume server area
 
   -- how the one mounting of a volume's row ends
   ends_row : (ending : Mounting) (disk : PlainDisk ReplicaEntry) (reply : Reply) (outside : List (List ℕ)) (end : StoredCell) → now.IsTold ending → ((at : ℕ) → ending ≡ Foreign at → ⊥) → Mounts header (first server).disk ending disk
-      → reply ≡ now.opening [] false (ending ∷ []) → outside ≡ [] → ((life : Life) → asked life ≡ Some header → is_up life ≡ is_entries ending → IsToday end (made_cell (record { disk = disk; life = life; left = None })))
+      → reply ≡ now.opening [] false (ending ∷ []) → outside ≡ [] → ((life : Life) → asked life ≡ Some header → is_up life ≡ is_entries ending → IsStoredAs end (made_cell (record { disk = disk; life = life; left = None })))
       → Ends (now.MakesVolume cell volume (server ∷ []) area) reply outside end
-  ends_row (Entries count) disk reply outside end told fit mounts says out today_of = record {
+  ends_row (Entries count) disk reply outside end told fit mounts says out stored_of = record {
     next = made_cell (record { disk = disk; life = Up header; left = None });
     happens = (Entries count ∷ [], put first server (record { disk = disk; life = Up header; left = None }), (told, (disk, mounts, (refl, refl))), says, out, refl);
-    today = today_of (Up header) refl refl;
+    as_stored = stored_of (Up header) refl refl;
   }
-  ends_row (Foreign at) disk reply outside end told fit mounts says out today_of = absurd (fit at refl)
-  ends_row DiskFault disk reply outside end told fit mounts says out today_of = record {
+  ends_row (Foreign at) disk reply outside end told fit mounts says out stored_of = absurd (fit at refl)
+  ends_row DiskFault disk reply outside end told fit mounts says out stored_of = record {
     next = made_cell (record { disk = disk; life = Down header; left = None });
     happens = (DiskFault ∷ [], put first server (record { disk = disk; life = Down header; left = None }), (told, (disk, mounts, (refl, refl))), says, out, refl);
-    today = today_of (Down header) refl refl;
+    as_stored = stored_of (Down header) refl refl;
   }
-  ends_row Memory disk reply outside end told fit mounts says out today_of = absurd told
+  ends_row Memory disk reply outside end told fit mounts says out stored_of = absurd told
 
   pub volume_finds : (reply : Reply) (outside : List (List ℕ)) (end : StoredCell) → VolumeFinds old (shelf_of (first server).disk) volume server area reply outside end → Ends (now.MakesVolume cell volume (server ∷ []) area) reply outside end
   volume_finds reply outside end finds = by m.is
     where
-      m : IsMounted header_today (first server).disk.header (record { history = (first server).disk.history; failed = (first server).disk.failed; up = true }) (making_volume old volume server area) (volume_elsewhere old (shelf_of (first server).disk) volume server area) old reply outside end
-      m = mounted header_today (first server).disk.header (record { history = (first server).disk.history; failed = (first server).disk.failed; up = true }) (making_volume old volume server area) (volume_elsewhere old (shelf_of (first server).disk) volume server area) old reply outside end finds
+      m : IsMounted header_stored (first server).disk.header (record { history = (first server).disk.history; failed = (first server).disk.failed; up = true }) (making_volume old volume server area) (volume_elsewhere old (shelf_of (first server).disk) volume server area) old reply outside end
+      m = mounted header_stored (first server).disk.header (record { history = (first server).disk.history; failed = (first server).disk.failed; up = true }) (making_volume old volume server area) (volume_elsewhere old (shelf_of (first server).disk) volume server area) old reply outside end finds
 
       on_disk : Mounts header (first server).disk m.ending m.disk
       on_disk = subst (λ h. Mounts h (first server).disk m.ending m.disk) (sym (same_header volume server area)) m.mounts
@@ -321,7 +321,7 @@ module _ (old : StoredCell) (cell : Cell) (is : IsToday old cell) (volume server
       refused (Foreign b) at e told mounts says next = record {
         next = now.with_row true cell volume (server ∷ []) area first;
         happens = (Foreign b ∷ [], first, (mounts.0, refl, refl), says, m.out, refl);
-        today = subst (λ c. IsToday c (now.with_row true cell volume (server ∷ []) area first)) (sym next) (record {
+        as_stored = subst (λ c. IsStoredAs c (now.with_row true cell volume (server ∷ []) area first)) (sym next) (record {
           clock = is.clock;
           servers = is.servers;
           homes = is.homes;
@@ -349,13 +349,13 @@ module _ (old : StoredCell) (cell : Cell) (is : IsToday old cell) (volume server
       refused Memory at e told mounts says next = cc
 
       by : (((at : ℕ) × (m.ending ≡ Foreign at)) × (end ≡ old))
-          ⊎ (((at : ℕ) → m.ending ≡ Foreign at → ⊥) × ((end ≡ making_volume old volume server area (record { history = m.disk.history; failed = m.disk.failed; up = is_entries m.ending }) (todays.asking header_today m.disk.header)) × ((m.disk.header ≡ None) ⊎ (m.disk.header ≡ Some header_today))))
-          ⊎ ((m.ending ≡ DiskFault) × (m.disk ≡ record { header = (first server).disk.header; history = (first server).disk.history; failed = (first server).disk.failed }) × IsAnothers header_today (first server).disk.header × (end ≡ volume_elsewhere old (shelf_of (first server).disk) volume server area))
+          ⊎ (((at : ℕ) → m.ending ≡ Foreign at → ⊥) × ((end ≡ making_volume old volume server area (record { history = m.disk.history; failed = m.disk.failed; up = is_entries m.ending }) (stored_line.asking header_stored m.disk.header)) × ((m.disk.header ≡ None) ⊎ (m.disk.header ≡ Some header_stored))))
+          ⊎ ((m.ending ≡ DiskFault) × (m.disk ≡ record { header = (first server).disk.header; history = (first server).disk.history; failed = (first server).disk.failed }) × IsAnothers header_stored (first server).disk.header × (end ≡ volume_elsewhere old (shelf_of (first server).disk) volume server area))
           → Ends (now.MakesVolume cell volume (server ∷ []) area) reply outside end
       by (inl ((at, e), next)) = refused m.ending at e m.told on_disk m.says next
       by (inr (inl (fit, (next, own)))) = ends_row m.ending m.disk reply outside end m.told fit on_disk m.says m.out (λ life asks up.
-          subst (λ c. IsToday c (made_cell (record { disk = m.disk; life = life; left = None }))) (sym next)
-          (volume_made (record { history = m.disk.history; failed = m.disk.failed; up = is_entries m.ending }) (todays.asking header_today m.disk.header) old.others (record { disk = m.disk; life = life; left = None }) header
+          subst (λ c. IsStoredAs c (made_cell (record { disk = m.disk; life = life; left = None }))) (sym next)
+          (volume_made (record { history = m.disk.history; failed = m.disk.failed; up = is_entries m.ending }) (stored_line.asking header_stored m.disk.header) old.others (record { disk = m.disk; life = life; left = None }) header
           (record {
             made = (header, asks);
             up = sym up;
@@ -365,12 +365,12 @@ module _ (old : StoredCell) (cell : Cell) (is : IsToday old cell) (volume server
             others = λ f. absurd (false≢true f);
           }) (λ v off. refl) asks))
         where
-          header_is : ((m.disk.header ≡ None) ⊎ (m.disk.header ≡ Some header_today)) → (h : Header) → m.disk.header ≡ Some h → header_today ≡ h
+          header_is : ((m.disk.header ≡ None) ⊎ (m.disk.header ≡ Some header_stored)) → (h : Header) → m.disk.header ≡ Some h → header_stored ≡ h
           header_is (inl nothing) h g = (let no : None ≡ Some h = sym nothing ∙ g in cc)
-          header_is (inr gave) h g = (let same : Some header_today ≡ Some h = sym gave ∙ g in cc)
+          header_is (inr gave) h g = (let same : Some header_stored ≡ Some h = sym gave ∙ g in cc)
       by (inr (inr (fault, disk_is, other, next))) = ends_row m.ending m.disk reply outside end m.told (λ at e. (let no : DiskFault ≡ Foreign at = sym fault ∙ e in cc)) on_disk m.says m.out (λ life asks up.
-          subst (λ c. IsToday c (made_cell (record { disk = m.disk; life = life; left = None }))) (sym next)
-          (volume_made (crashed new_actor) (asking_elsewhere header_today (first server).disk.header) (put old.others volume (plain_shelf (shelf_of (first server).disk)).disk) (record { disk = m.disk; life = life; left = None }) header
+          subst (λ c. IsStoredAs c (made_cell (record { disk = m.disk; life = life; left = None }))) (sym next)
+          (volume_made (crashed new_actor) (asking_elsewhere header_stored (first server).disk.header) (put old.others volume (plain_shelf (shelf_of (first server).disk)).disk) (record { disk = m.disk; life = life; left = None }) header
           (record {
             made = (header, asks);
             up = sym (up ∙ ap is_entries fault);

@@ -1,4 +1,4 @@
--- A line does in a cell that is its disks what it does in the cell on disks of today.
+-- A line does in a cell that is its disks what it does in the cell of `coda_stored`.
 use Rattle.std.proofs.Common.{◌≡◌, ℕ, ◌==◌, ◌&&◌, ◌||◌, not, Bool, true, false, cond, List, [], ◌∷◌, map, Option, Some, None, is_some, option_map, Result, Ok, Err, refl, sym, ap, ◌∙◌, subst}
 use Rattle.std.specs.Option.{option_map_or, option_and_then, unwrap_or}
 use Rattle.std.proofs.lemmas.Bool.{eqb-true, false≢true}
@@ -26,10 +26,10 @@ use Rattle.coda_cell.specs.Refused.{Refused}
 use Rattle.coda_cell.proofs.AlikeStates.{replica_to, replica_in, home_of, AreAlike, does_alike}
 use Rattle.coda_cell.proofs.Histories.{server_stays}
 use Rattle.coda_stored.specs.Cells.{StoredCell}
-use Rattle.coda_stored.specs.Lines as today
+use Rattle.coda_stored.specs.Lines as as_stored
 use Rattle.coda_shelves.specs.Cells.{Cell, asked, is_up, Stand, stand_of, state_of}
 use Rattle.coda_shelves.specs.Lines.{client_down, replica_down, is_cut, receiver, needs, is_down_for, links_to, meets}
-use Rattle.coda_shelves.specs.Today.{IsReplicaSame, IsToday}
+use Rattle.coda_shelves.specs.Stored.{IsReplicaSame, IsStoredAs}
 
 and_swap : (a b c : Bool) → (a && (b && c)) ≡ (b && (a && c))
 and_swap true true c = refl
@@ -52,7 +52,7 @@ is_true : (b : Bool) → not b ≡ false → b ≡ true
 is_true true e = refl
 is_true false e = cc
 
-module _ (old : StoredCell) (now : Cell) (is : IsToday old now) where
+module _ (old : StoredCell) (now : Cell) (is : IsStoredAs old now) where
   abbrev pub s : CellState
   s = made.state_of old.made
 
@@ -132,7 +132,7 @@ module _ (old : StoredCell) (now : Cell) (is : IsToday old now) where
 
   -- ---- who is down
 
-  pub client_down_same : (client : ℕ) → today.client_down old client ≡ client_down now client
+  pub client_down_same : (client : ℕ) → as_stored.client_down old client ≡ client_down now client
   client_down_same client =
       ap (λ (f : ℕ → Option ℕ). is_some (f client) && not (old.made.acted.clients client).up) is.sizes
       ∙ by (asked (now.clients client).life) refl
@@ -141,7 +141,7 @@ module _ (old : StoredCell) (now : Cell) (is : IsToday old now) where
       by None e = ap (λ (o : Option Header). is_some (option_map (λ (header : Header). header.cache) o) && not (old.made.acted.clients client).up) e ∙ sym (ap (λ (o : Option Header). is_some o && not (is_up (now.clients client).life)) e)
       by (Some header) e = ap (λ (o : Option Header). is_some (option_map (λ (h : Header). h.cache) o) && not (old.made.acted.clients client).up) e ∙ ap not ((is.clients client).up header e) ∙ sym (ap (λ (o : Option Header). is_some o && not (is_up (now.clients client).life)) e)
 
-  pub replica_down_is : (volume : ℕ) (at : Stand) → stand_of now volume ≡ Some at → today.replica_down old volume ≡ not (is_up (now.replicas at.row (alone at.servers)).life)
+  pub replica_down_is : (volume : ℕ) (at : Stand) → stand_of now volume ≡ Some at → as_stored.replica_down old volume ≡ not (is_up (now.replicas at.row (alone at.servers)).life)
   replica_down_is volume at stands =
       ap (λ (f : ℕ → Option ℕ). option_map_or (λ server. not (old.made.acted.replicas server volume).up) (f volume) false) is.homes
       ∙ ap (λ (o : Option Stand). option_map_or (λ server. not (old.made.acted.replicas server volume).up) (option_map (λ (x : Stand). alone x.servers) o) false) stands
@@ -161,7 +161,7 @@ module _ (old : StoredCell) (now : Cell) (is : IsToday old now) where
           let r = replica_of (λ server. (now.replicas at.row server).disk.history) volume (alone at.servers) in
           (at, e, sym (eqb-true r.server server there) ∙ server_stays (new_replica (alone at.servers) volume) (now.replicas at.row (alone at.servers)).disk.history)
 
-  holder_down_same : (server volume : ℕ) → (holder_named t server volume).there ≡ true → today.replica_down old volume ≡ replica_down now server volume
+  holder_down_same : (server volume : ℕ) → (holder_named t server volume).there ≡ true → as_stored.replica_down old volume ≡ replica_down now server volume
   holder_down_same server volume there =
       let at = holder_stands server volume there in
       replica_down_is volume at.0 at.1 ∙ ap (λ n. not (is_up (now.replicas at.0.row n).life)) (sym at.2) ∙ sym (replica_down_now server volume at.0 at.1)
@@ -182,14 +182,14 @@ module _ (old : StoredCell) (now : Cell) (is : IsToday old now) where
       by true e = refl
       by false e = cc
 
-  on_holder_down : (client volume server : ℕ) → not (is_some (first_missing (on_holder t client volume server))) ≡ true → today.replica_down old volume ≡ replica_down now server volume
+  on_holder_down : (client volume server : ℕ) → not (is_some (first_missing (on_holder t client volume server))) ≡ true → as_stored.replica_down old volume ≡ replica_down now server volume
   on_holder_down client volume server e = holder_down_same server volume (third (client_named t client) (volume_named t volume) (holder_named t server volume) e)
 
   -- a client and a volume
-  volume_down : (client volume : ℕ) → (today.all_there (on_volume s client volume) && today.client_down old client) ≡ is_down_for (record { named = on_volume t client volume; down = client_down now client })
-  volume_down client volume = λ i. today.all_there (on_volume_same client volume i) && client_down_same client i
+  volume_down : (client volume : ℕ) → (as_stored.all_there (on_volume s client volume) && as_stored.client_down old client) ≡ is_down_for (record { named = on_volume t client volume; down = client_down now client })
+  volume_down client volume = λ i. as_stored.all_there (on_volume_same client volume i) && client_down_same client i
 
-  tasks_down : (work : Task) → today.task_down old work ≡ is_down_for (needs now (line.Task work))
+  tasks_down : (work : Task) → as_stored.task_down old work ≡ is_down_for (needs now (line.Task work))
   tasks_down (task.Create client volume path mode owner) = volume_down client volume
   tasks_down (task.Mkdir client volume path mode owner) = volume_down client volume
   tasks_down (task.Symlink client volume path target) = volume_down client volume
@@ -201,47 +201,47 @@ module _ (old : StoredCell) (now : Cell) (is : IsToday old now) where
   tasks_down (task.Read client volume path) = volume_down client volume
   tasks_down (task.List client volume path) = volume_down client volume
   tasks_down (task.Drain client volume server window) =
-      (λ i. today.all_there (on_holder_same client volume server i) && (client_down_same client i || today.replica_down old volume))
+      (λ i. as_stored.all_there (on_holder_same client volume server i) && (client_down_same client i || as_stored.replica_down old volume))
       ∙ and_only (not (is_some (first_missing (on_holder t client volume server)))) _ _ (λ all. ap (λ b. client_down now client || b) (on_holder_down client volume server all))
   tasks_down (task.Hardlink client volume from to) = refl
   tasks_down (task.Refresh client volume server) = refl
   tasks_down (task.Giveup client volume) = refl
 
-  receiver_down_same : (o : Option Sent) → today.receiver_down old o ≡ is_down_for (receiver now o)
+  receiver_down_same : (o : Option Sent) → as_stored.receiver_down old o ≡ is_down_for (receiver now o)
   receiver_down_same None = refl
   receiver_down_same (Some (ChunkSent client server volume number span)) =
-      (λ i. not (today.is_cut (is.links i client server)) && (today.all_there (on_holder_same client volume server i) && today.replica_down old volume))
-      ∙ ap (λ b. not b && (not (is_some (first_missing (on_holder t client volume server))) && today.replica_down old volume)) (cut_same (now.links client server))
-      ∙ and_swap (not (is_cut (now.links client server))) (not (is_some (first_missing (on_holder t client volume server)))) (today.replica_down old volume)
+      (λ i. not (as_stored.is_cut (is.links i client server)) && (as_stored.all_there (on_holder_same client volume server i) && as_stored.replica_down old volume))
+      ∙ ap (λ b. not b && (not (is_some (first_missing (on_holder t client volume server))) && as_stored.replica_down old volume)) (cut_same (now.links client server))
+      ∙ and_swap (not (is_cut (now.links client server))) (not (is_some (first_missing (on_holder t client volume server)))) (as_stored.replica_down old volume)
       ∙ and_only (not (is_some (first_missing (on_holder t client volume server)))) _ _ (λ all. ap (λ b. not (is_cut (now.links client server)) && b) (on_holder_down client volume server all))
     where
-      cut_same : (strength : Strength) → today.is_cut strength ≡ is_cut strength
+      cut_same : (strength : Strength) → as_stored.is_cut strength ≡ is_cut strength
       cut_same Strong = refl
       cut_same Weak = refl
       cut_same Down = refl
   receiver_down_same (Some (AnswerSent server client volume number answer)) =
-      (λ i. not (today.is_cut (is.links i client server)) && (today.all_there (on_holder_same client volume server i) && client_down_same client i))
+      (λ i. not (as_stored.is_cut (is.links i client server)) && (as_stored.all_there (on_holder_same client volume server i) && client_down_same client i))
       ∙ ap (λ b. not b && (not (is_some (first_missing (on_holder t client volume server))) && client_down now client)) (cut_same (now.links client server))
       ∙ and_swap (not (is_cut (now.links client server))) (not (is_some (first_missing (on_holder t client volume server)))) (client_down now client)
     where
-      cut_same : (strength : Strength) → today.is_cut strength ≡ is_cut strength
+      cut_same : (strength : Strength) → as_stored.is_cut strength ≡ is_cut strength
       cut_same Strong = refl
       cut_same Weak = refl
       cut_same Down = refl
 
-  pub down_same : (said : Line) → today.is_down_for old said ≡ is_down_for (needs now said)
+  pub down_same : (said : Line) → as_stored.is_down_for old said ≡ is_down_for (needs now said)
   down_same (line.Link client server strength) =
-      (λ i. today.all_there (record { number = client; there = client_named_same client i } ∷ record { number = server; there = (server_named (record s { servers = is.servers i }) server).there } ∷ []) && client_down_same client i)
+      (λ i. as_stored.all_there (record { number = client; there = client_named_same client i } ∷ record { number = server; there = (server_named (record s { servers = is.servers i }) server).there } ∷ []) && client_down_same client i)
   down_same (line.Task work) = tasks_down work
   down_same (line.ShowVolume server volume) =
-      (λ i. today.all_there (record { number = server; there = holder_named_same server volume i } ∷ []) && today.replica_down old volume)
+      (λ i. as_stored.all_there (record { number = server; there = holder_named_same server volume i } ∷ []) && as_stored.replica_down old volume)
       ∙ and_only (not (is_some (first_missing (holder_named t server volume ∷ [])))) _ _ (λ all. holder_down_same server volume (one (holder_named t server volume) all))
   down_same (line.ShowLog client volume) = volume_down client volume
-  down_same (line.Send client volume server window) = λ i. today.all_there (on_holder_same client volume server i) && client_down_same client i
-  down_same (line.Deliver message) = ap (λ w. today.receiver_down old (sent_at message w)) is.waiting ∙ receiver_down_same (sent_at message now.waiting)
-  down_same (line.ArmClient client passes) = λ i. today.all_there (record { number = client; there = client_named_same client i } ∷ []) && client_down_same client i
+  down_same (line.Send client volume server window) = λ i. as_stored.all_there (on_holder_same client volume server i) && client_down_same client i
+  down_same (line.Deliver message) = ap (λ w. as_stored.receiver_down old (sent_at message w)) is.waiting ∙ receiver_down_same (sent_at message now.waiting)
+  down_same (line.ArmClient client passes) = λ i. as_stored.all_there (record { number = client; there = client_named_same client i } ∷ []) && client_down_same client i
   down_same (line.ArmReplica server volume passes) =
-      (λ i. today.all_there (record { number = server; there = holder_named_same server volume i } ∷ []) && today.replica_down old volume)
+      (λ i. as_stored.all_there (record { number = server; there = holder_named_same server volume i } ∷ []) && as_stored.replica_down old volume)
       ∙ and_only (not (is_some (first_missing (holder_named t server volume ∷ [])))) _ _ (λ all. holder_down_same server volume (one (holder_named t server volume) all))
   down_same (line.Volume volume servers area) = refl
   down_same (line.Client client blocks area) = refl
@@ -255,18 +255,18 @@ module _ (old : StoredCell) (now : Cell) (is : IsToday old now) where
 
   -- ---- what a line does
 
-  pub offers_same : (client volume : ℕ) → offers_of (today.met_by old volume) client volume ≡ offers_of (record t { links = links_to now volume }) client volume
+  pub offers_same : (client volume : ℕ) → offers_of (as_stored.met_by old volume) client volume ≡ offers_of (record t { links = links_to now volume }) client volume
   offers_same client volume = by (stand_of now volume) refl
     where
-      by : (o : Option Stand) → stand_of now volume ≡ o → option_and_then (λ (r : ReplicaState). reached (today.links_to old volume client r.server) r) (s.replicas volume) ≡ option_and_then (λ (r : ReplicaState). reached (links_to now volume client r.server) r) (t.replicas volume)
-      by None e = ap (λ x. option_and_then (λ (r : ReplicaState). reached (today.links_to old volume client r.server) r) x) (volume_by volume None e)
+      by : (o : Option Stand) → stand_of now volume ≡ o → option_and_then (λ (r : ReplicaState). reached (as_stored.links_to old volume client r.server) r) (s.replicas volume) ≡ option_and_then (λ (r : ReplicaState). reached (links_to now volume client r.server) r) (t.replicas volume)
+      by None e = ap (λ x. option_and_then (λ (r : ReplicaState). reached (as_stored.links_to old volume client r.server) r) x) (volume_by volume None e)
           ∙ sym (ap (λ x. option_and_then (λ (r : ReplicaState). reached (links_to now volume client r.server) r) x) (volume_now volume None e))
       by (Some at) e = at_life (is_up (now.replicas at.row (alone at.servers)).life) refl
         where
-          down_now : (b : Bool) → is_up (now.replicas at.row (alone at.servers)).life ≡ b → today.replica_down old volume ≡ not b
+          down_now : (b : Bool) → is_up (now.replicas at.row (alone at.servers)).life ≡ b → as_stored.replica_down old volume ≡ not b
           down_now b life = replica_down_is volume at e ∙ ap not life
 
-          first : (b : Bool) → is_up (now.replicas at.row (alone at.servers)).life ≡ b → (r : ReplicaState) → r.server ≡ alone at.servers → reached (today.links_to old volume client r.server) r ≡ reached (cond (not b) Down (now.links client (alone at.servers))) r
+          first : (b : Bool) → is_up (now.replicas at.row (alone at.servers)).life ≡ b → (r : ReplicaState) → r.server ≡ alone at.servers → reached (as_stored.links_to old volume client r.server) r ≡ reached (cond (not b) Down (now.links client (alone at.servers))) r
           first b life r home = λ i. reached (cond (down_now b life i) Down (is.links i client (home i))) r
 
           second : (b : Bool) → is_up (now.replicas at.row (alone at.servers)).life ≡ b → (r : ReplicaState) → r.server ≡ alone at.servers → reached (links_to now volume client r.server) r ≡ reached (cond (not b) Down (now.links client (alone at.servers))) r
@@ -274,15 +274,15 @@ module _ (old : StoredCell) (now : Cell) (is : IsToday old now) where
               ∙ ap (λ x. reached (cond x Down (now.links client (alone at.servers))) r) (replica_down_now (alone at.servers) volume at e ∙ ap not life)
 
           at_life : (b : Bool) → is_up (now.replicas at.row (alone at.servers)).life ≡ b
-              → option_and_then (λ (r : ReplicaState). reached (today.links_to old volume client r.server) r) (s.replicas volume) ≡ option_and_then (λ (r : ReplicaState). reached (links_to now volume client r.server) r) (t.replicas volume)
+              → option_and_then (λ (r : ReplicaState). reached (as_stored.links_to old volume client r.server) r) (s.replicas volume) ≡ option_and_then (λ (r : ReplicaState). reached (links_to now volume client r.server) r) (t.replicas volume)
           at_life true life =
               let r = replica_of (λ server. (now.replicas at.row server).disk.history) volume (alone at.servers) in
               let home = server_stays (new_replica (alone at.servers) volume) (now.replicas at.row (alone at.servers)).disk.history in
-              ap (λ x. option_and_then (λ (r : ReplicaState). reached (today.links_to old volume client r.server) r) x) (replica_up_same volume at e life ∙ volume_now volume (Some at) e)
+              ap (λ x. option_and_then (λ (r : ReplicaState). reached (as_stored.links_to old volume client r.server) r) x) (replica_up_same volume at e life ∙ volume_now volume (Some at) e)
               ∙ first true life r home ∙ sym (second true life r home)
               ∙ sym (ap (λ x. option_and_then (λ (r : ReplicaState). reached (links_to now volume client r.server) r) x) (volume_now volume (Some at) e))
           at_life false life =
-              ap (λ x. option_and_then (λ (r : ReplicaState). reached (today.links_to old volume client r.server) r) x) (volume_by volume (Some at) e)
+              ap (λ x. option_and_then (λ (r : ReplicaState). reached (as_stored.links_to old volume client r.server) r) x) (volume_by volume (Some at) e)
               ∙ first false life (replica_of (λ server. (old.made.acted.replicas server volume).history) volume (alone at.servers)) (server_stays (new_replica (alone at.servers) volume) (old.made.acted.replicas (alone at.servers) volume).history)
               ∙ sym (second false life (replica_of (λ server. (now.replicas at.row server).disk.history) volume (alone at.servers)) (server_stays (new_replica (alone at.servers) volume) (now.replicas at.row (alone at.servers)).disk.history))
               ∙ sym (ap (λ x. option_and_then (λ (r : ReplicaState). reached (links_to now volume client r.server) r) x) (volume_now volume (Some at) e))
@@ -292,11 +292,11 @@ module _ (old : StoredCell) (now : Cell) (is : IsToday old now) where
   ruled_same client server volume number (Ok ruled) = λ i. ruled_in (record s { waiting = is.waiting i; posted = is.posted i }) client server volume number (Ok ruled)
 
   module _ (own : Reply) (events : List Event) where
-    asked_same : (client volume : ℕ) (ask : Option Nodes → ClientState → Answer) → Unless (first_missing (on_volume s client volume)) (ByClient (today.met_by old volume) client volume ask) own events
+    asked_same : (client volume : ℕ) (ask : Option Nodes → ClientState → Answer) → Unless (first_missing (on_volume s client volume)) (ByClient (as_stored.met_by old volume) client volume ask) own events
         → Unless (first_missing (on_volume t client volume)) (ByClient (record t { links = links_to now volume }) client volume ask) own events
-    asked_same client volume ask does = by (first_missing (on_volume t client volume)) (subst (λ l. Unless (first_missing l) (ByClient (today.met_by old volume) client volume ask) own events) (on_volume_same client volume) does)
+    asked_same client volume ask does = by (first_missing (on_volume t client volume)) (subst (λ l. Unless (first_missing l) (ByClient (as_stored.met_by old volume) client volume ask) own events) (on_volume_same client volume) does)
       where
-        by : (o : Option Refused) → Unless o (ByClient (today.met_by old volume) client volume ask) own events → Unless o (ByClient (record t { links = links_to now volume }) client volume ask) own events
+        by : (o : Option Refused) → Unless o (ByClient (as_stored.met_by old volume) client volume ask) own events → Unless o (ByClient (record t { links = links_to now volume }) client volume ask) own events
         by (Some why) did = did
         by None did = record {
           client = did.client;
@@ -305,7 +305,7 @@ module _ (old : StoredCell) (now : Cell) (is : IsToday old now) where
           happened = did.happened ∙ ap (λ o. map (at_client client) (ask o did.client).entries) (offers_same client volume);
         }
 
-    operated_same : (client volume : ℕ) (ask : Asked) → Unless (first_missing (on_volume s client volume)) (ByClient (today.met_by old volume) client volume (λ offers c. operate offers c old.made.clock volume ask)) own events
+    operated_same : (client volume : ℕ) (ask : Asked) → Unless (first_missing (on_volume s client volume)) (ByClient (as_stored.met_by old volume) client volume (λ offers c. operate offers c old.made.clock volume ask)) own events
         → Unless (first_missing (on_volume t client volume)) (ByClient (record t { links = links_to now volume }) client volume (λ offers c. operate offers c now.clock volume ask)) own events
     operated_same client volume ask does =
         subst (λ n. Unless (first_missing (on_volume t client volume)) (ByClient (record t { links = links_to now volume }) client volume (λ offers c. operate offers c n volume ask)) own events) is.clock
@@ -350,7 +350,7 @@ module _ (old : StoredCell) (now : Cell) (is : IsToday old now) where
             (λ v is_v. subst (λ w. s.replicas w ≡ t.replicas w) (same volume v is_v) (replica_up_same volume at.0 at.1 up))) does
             )
 
-    pub tasks_same : (work : Task) → is_down_for (needs now (line.Task work)) ≡ false → Does (today.meets old (line.Task work)) (line.Task work) own events → Does (meets now (line.Task work)) (line.Task work) own events
+    pub tasks_same : (work : Task) → is_down_for (needs now (line.Task work)) ≡ false → Does (as_stored.meets old (line.Task work)) (line.Task work) own events → Does (meets now (line.Task work)) (line.Task work) own events
     tasks_same (task.Create client volume path mode owner) down does = operated_same client volume (Create path (unwrap_or mode 420) (unwrap_or owner 0)) does
     tasks_same (task.Mkdir client volume path mode owner) down does = operated_same client volume (Mkdir path (unwrap_or mode 493) (unwrap_or owner 0)) does
     tasks_same (task.Symlink client volume path target) down does = operated_same client volume (Symlink path target) does
