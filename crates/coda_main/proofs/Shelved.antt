@@ -1,7 +1,7 @@
 -- What the cell of the code tells of a run over whatever stands on the disks of a bay.
 use Rattle.std.proofs.Common.{◌≡◌, ◌≢◌, ◌≤◌, ◌+◌, ◌++◌, ◌⊎◌, ℕ, Bool, true, false, not, List, [], ◌∷◌, Option, Some, None, Ok, refl, sym, ap, ◌∙◌, subst, inl, inr, arith}
 use Rattle.std.proofs.lemmas.List.{append_assoc, append-nil}
-use Rattle.std.specs.Prelude.{drop, length}
+use Rattle.std.specs.Prelude.{Result, drop, length}
 use Rattle.std.specs.Option.{option_map, option_map_or}
 use Rattle.coda_disk.specs.Bays.{plus}
 use Rattle.coda_disk.specs.Told.{Told}
@@ -35,7 +35,6 @@ use Rattle.coda_site.specs.Steps as steps
 use Rattle.coda_site.specs.Totals.{Counts, IsCounted, IsFault, has_armed}
 use Rattle.coda_site.proofs.Behind as stand
 use Rattle.coda_site.proofs.Stepping.{IsStepped, stepped, built_same}
-use Rattle.coda_runs.specs.Runs.{LineRefused}
 use Rattle.coda_runs.specs.Shelved.{LineGives}
 use Rattle.coda_runs.specs.Shows.{CanShow}
 use Rattle.coda_runs.specs.Texts.{shown_volume, shown_log, text_of}
@@ -94,6 +93,9 @@ nothing_can cell _ none = tt
 
 -- ---- lines
 
+abbrev as_ok : Reply → Result Reply (Unit {0})
+as_ok reply = Ok reply
+
 -- A line was carried out with this reply, and this is its text in each cell on disks that the site stands for then.
 module _ {D : Type 0} (told : D → Told) (old new : Moment D) (said : Line) (reply : Reply) (text : List ℕ) (range : InRange said) (built : stored.is_built said ≡ true)
     (does : (cell : StoredCell) → steps.Admits cell said → sites.IsSite told old.out old.has cell old.site → steps.Becomes told new.out new.has (stored.Happens cell said) reply old.answered new.answered new.site)
@@ -106,7 +108,7 @@ module _ {D : Type 0} (told : D → Told) (old new : Moment D) (said : Line) (re
   pub line_shelved : (plain : Cell) → Shows told old.out old.has plain old.site → Answered told plain said reply text old new
   line_shelved plain shows =
       let s : IsStepped told new.out new.has plain (stand.behind told old.out old.has plain old.site shows) said reply old.answered new.answered new.site
-      = stepped told old.out new.out old.has new.has said (Ok {E = Unit {0}} reply) old.answered new.answered old.site new.site range built does finds plain shows in
+      = stepped told old.out new.out old.has new.has said (as_ok reply) old.answered new.answered old.site new.site range built does finds plain shows in
       let became = s.becomes in
       let past = stand.behind told old.out old.has plain old.site shows in
       let same : answered_since old new ≡ became.outside = ap (λ images. drop (length old.answered) images) became.answered ∙ behind old.answered became.outside in
@@ -180,8 +182,11 @@ alone_shown = record {
   refusal = λ t b line column kind is refuses. refuses;
 }
 
+abbrev pub CellRefuses : Refuses Cell
+CellRefuses old bytes column kind = IsBadLine bytes column kind
+
 -- the cell alone
-pub untallied : Simulates (λ (c : Cell) (t : TalliedCell). c ≡ t.cell) LineGives LineRefused TalliedGives TalliedRefuses
+pub untallied : Simulates (λ (c : Cell) (t : TalliedCell). c ≡ t.cell) LineGives CellRefuses TalliedGives TalliedRefuses
 untallied = record {
   step = λ c t t' line text outside is ran. (t'.cell, subst (λ (x : Cell). LineGives x line text outside t'.cell) (sym is) (go t t' line text outside ran), refl);
   refusal = λ c t line column kind is refuses. refuses;
@@ -241,8 +246,8 @@ module _ {D M : Type 0} (new old last : M) (told : D → Told) (at : M → Momen
       let alone = reports_shown alone_shown first entry end left_old left_new held_old held_new outside status refl both.1 in
       let shown : Reports TalliedGives TalliedRefuses first end.at left_old left_new held_old held_new outside status = subst (λ (t : TalliedCell). Reports TalliedGives TalliedRefuses first t left_old left_new held_old held_new outside status) alone.2 alone.1 in
       let cells = reports_shown untallied (begun_on shelves) first end.at left_old left_new held_old held_new outside status refl shown in
-      let cell_run : Reports LineGives LineRefused (begun_on shelves) end.at.cell left_old left_new held_old held_new outside status = subst (λ (c : Cell). Reports LineGives LineRefused (begun_on shelves) c left_old left_new held_old held_new outside status) cells.2 cells.1 in
-      let ran = reports_ran LineGives LineRefused (begun_on shelves) end.at.cell left_old left_new held_old held_new outside status cell_run in
+      let cell_run : Reports LineGives CellRefuses (begun_on shelves) end.at.cell left_old left_new held_old held_new outside status = subst (λ (c : Cell). Reports LineGives CellRefuses (begun_on shelves) c left_old left_new held_old held_new outside status) cells.2 cells.1 in
+      let ran = reports_ran LineGives CellRefuses (begun_on shelves) end.at.cell left_old left_new held_old held_new outside status cell_run in
       let tallies = λ (memory : status ≢ Memory). tallied_left at counts last new status memory leaves sums end.at.tally both.2.1 in
       record {
         cell = end.at.cell;
