@@ -61,12 +61,13 @@ back_pending : (o : Option Cut) (pending : List Record) (rec : Record) → In re
 back_pending None pending rec i = i
 back_pending (Some cut) pending rec i = in_above cut.last rec pending i
 
-module _ (h : Histories) (volume server client : ℕ) (f : Fid) (kept : (c : ℕ) → AreKept h c volume) where
-  counted : (c : ℕ) → AreCreationsCounted 0 (full_of (deeds_in h c volume))
-  counted c = counted_from volume c 0 (full_of (deeds_in h c volume)) (kept c).numbered
+module _ (h : Histories) (volume server client : ℕ) (f : Fid) (kept : (c : ℕ) → AreKept h c volume)
+  where
+    counted : (c : ℕ) → AreCreationsCounted 0 (full_of (deeds_in h c volume))
+    counted c = counted_from volume c 0 (full_of (deeds_in h c volume)) (kept c).numbered
 
-  own : (c : ℕ) (rec : Record) → In rec (full_of (deeds_in h c volume)) → creates f rec.op ≡ true → c ≡ f.vnode
-  own c rec i e = made_own volume c 0 (full_of (deeds_in h c volume)) rec f (kept c).numbered i e
+    own : (c : ℕ) (rec : Record) → In rec (full_of (deeds_in h c volume)) → creates f rec.op ≡ true → c ≡ f.vnode
+    own c rec i e = made_own volume c 0 (full_of (deeds_in h c volume)) rec f (kept c).numbered i e
 
     in_pending : (c : ℕ) (rec : Record) → In rec (pending_of (deeds_in h c volume))
         → In rec (full_of (deeds_in h c volume))

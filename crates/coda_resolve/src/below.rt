@@ -10,9 +10,9 @@ ghost use Rattle.coda_resolve.specs.Reached.{IsSearch, AreReached};
 
 use crate::doubles::values;
 use crate::view::held_in;
-use coda_record::View;
 use crate::walking::push_all;
 use coda_fid::Fid;
+use coda_record::View;
 use coda_reslog::Held;
 use coda_tree::NodeKind;
 use std::alloc::{AllocError, Global};

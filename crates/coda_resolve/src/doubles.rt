@@ -17,8 +17,8 @@ ghost use Rattle.coda_resolve.specs.Resolution.{copies_at, has_in};
 ghost use Rattle.coda_resolve.specs.Views.{objects_of, replicas_of, AreInOrder};
 
 use crate::view::held_in;
-use coda_record::View;
 use coda_fid::Fid;
+use coda_record::View;
 use coda_reslog::{Held, Lost, ResEntry};
 use coda_tree::{Entries, NodeKind};
 use std::alloc::{AllocError, Global};

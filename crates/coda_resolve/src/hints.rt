@@ -1,7 +1,7 @@
 // Where the objects of a view may well be found, and when they were met. No clause speaks of these: who is given a wrong one looks
 // further.
-use coda_record::View;
 use coda_fid::Fid;
+use coda_record::View;
 use coda_reslog::Held;
 use std::alloc::{AllocError, Global};
 

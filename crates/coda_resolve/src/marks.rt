@@ -10,10 +10,10 @@ ghost use Rattle.coda_resolve.specs.Views.{replicas_of, AreInOrder};
 use crate::copies::is_marked;
 use crate::fate::Fate;
 use crate::view::copies_at;
-use coda_record::View;
 use crate::walking::{Taken, walk};
 use crate::why::{Mark, Why};
 use coda_fid::Fid;
+use coda_record::View;
 use coda_reslog::Held;
 use std::alloc::{AllocError, Global};
 

@@ -12,8 +12,8 @@ use crate::doubles::values;
 use crate::fate::{Fate, fate_near, look_ahead};
 use crate::hints::{Hints, all_hints};
 use crate::reading::Known;
-use coda_record::View;
 use coda_fid::Fid;
+use coda_record::View;
 use coda_tree::NodeKind;
 use std::alloc::{AllocError, Global};
 
