@@ -10,7 +10,7 @@ use Rattle.coda_plain.specs.Histories.{DoFollow}
 use Rattle.coda_record.specs.Form.{Format}
 use Rattle.coda_record.specs.Spelling.{HasSpelling}
 use Rattle.coda_record.specs.Walks.{Agrees}
-use Rattle.coda_record.proofs.Laws.{one_spelling}
+use Rattle.coda_values.proofs.Laws.{one_spelling}
 
 -- All that a crash may leave of a journal at rest reads as its list.
 pub at_rest_stands : (told : Told) (header : Header) (start used area : ℕ) (payloads : List (List ℕ)) → IsOpen told header start used area payloads → Stands told header payloads None
