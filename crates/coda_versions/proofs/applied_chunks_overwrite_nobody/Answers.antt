@@ -1,0 +1,5 @@
+use Rattle.coda_versions.proofs.Overwriting.{chunks_overwrite_nobody as law}
+use Rattle.coda_versions.proofs.applied_chunks_overwrite_nobody.Goals as goal
+
+pub returns : goal.returns
+returns c = law
