@@ -24,17 +24,20 @@ pub record IsInDoubt (told : Told) (header : Header) (payloads : List (List ℕ)
   pub each : (c : List ℕ) → told.may_leave c → IsOldOrSnapshot header payloads snapshot c
 
 -- Done: at rest with the snapshot alone. No room: at rest with the old list. A call of the disk was refused: in doubt.
-abbrev pub TruncateAnswers : {D T : Type 0} → (D → Told) → Header → List (List ℕ) → List ℕ → Store D → Result T JournalFault → Type 0
+abbrev pub TruncateAnswers : {D T : Type 0} → (D → Told) → Header → List (List ℕ) → List ℕ → Store D
+    → Result T JournalFault → Type 0
 TruncateAnswers told header payloads snapshot new (Ok x) = IsStore told header new (snapshot ∷ [])
 TruncateAnswers told header payloads snapshot new (Err (JournalFull used need area)) = IsStore told header new payloads
-TruncateAnswers told header payloads snapshot new (Err DiskFault) = IsInDoubt (told new.journal.disk) header payloads snapshot
+TruncateAnswers told header payloads snapshot new (Err DiskFault) =
+    IsInDoubt (told new.journal.disk) header payloads snapshot
 
 -- a truncation of a store at rest with this list to this snapshot
-pub record Truncating {D T : Type 0} (told : D → Told) (header : Header) (old : Store D) (payloads : List (List ℕ)) (snapshot : List ℕ)
-    (new : Store D) (result : Result T JournalFault) : Type 0 where
+pub record Truncating {D T : Type 0} (told : D → Told) (header : Header) (old : Store D) (payloads : List (List ℕ))
+    (snapshot : List ℕ) (new : Store D) (result : Result T JournalFault) : Type 0 where
   pub any_moment : LeavesOnly (told old.journal.disk) (told new.journal.disk) (IsOldOrSnapshot header payloads snapshot)
   pub answers : TruncateAnswers told header payloads snapshot new result
 
-abbrev pub Truncates : {D T : Type 0} → (D → Told) → Header → Store D → List (List ℕ) → List ℕ → Store D → Result T JournalFault → Type 0
+abbrev pub Truncates : {D T : Type 0} → (D → Told) → Header → Store D → List (List ℕ) → List ℕ → Store D
+    → Result T JournalFault → Type 0
 Truncates told header old payloads snapshot new result =
     IsStore told header old payloads → Truncating told header old payloads snapshot new result

@@ -1,5 +1,5 @@
-//! A list of entries on a disk, of which a snapshot may take the place. After a crash in the midst of that it is the list that was
-//! there, or the snapshot alone.
+//! A list of entries on a disk, of which a snapshot may take the place. After a crash in the midst of that it is the
+//! list that was there, or the snapshot alone.
 #![tactic(auto)]
 
 mod area;
@@ -8,3 +8,6 @@ mod store;
 
 pub use laws::{stores_stay_ours, truncations_are_whole};
 pub use store::Store;
+
+#[cfg(test)]
+mod tests;
