@@ -20,3 +20,6 @@ pub use planned::Plan;
 pub use planning::plan;
 pub use queue::Queue;
 pub use room::{queue_of, who_goes};
+
+#[cfg(test)]
+mod tests;

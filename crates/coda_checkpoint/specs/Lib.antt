@@ -1,0 +1,2 @@
+pub mod Truncating
+pub mod Laws
