@@ -17,7 +17,7 @@ use Rattle.coda_cell.specs.State.{Event, VolumeMade, ClientMade, Ticked, LinkSet
 use Rattle.coda_cell.specs.Made.{Copy, plain_letter, grown as grown_cell, grown_all}
 use Rattle.coda_cell.specs.Steps.{alone}
 use Rattle.coda_matching.specs.Replicas.{IsDecision}
-use Rattle.coda_stored.proofs.Entering.{IsBy, AreBy}
+use Rattle.coda_shelves.proofs.Entering.{IsBy, AreBy}
 use Rattle.coda_shelves.specs.Shelves.{entries_on, volume_of}
 use Rattle.coda_shelves.specs.Cells.{Cell, asked, is_up, Stand, stand_of, with_client, with_replica, with_volume, grown, fallen, failing, failed, entries_at, after, after_all}
 use Rattle.coda_shelves.specs.Running.{made_now, IsKept}
