@@ -2,7 +2,7 @@
 use Rattle.std.proofs.Common.{◌≡◌, ◌≢◌, ◌+◌, ◌==◌, ◌&&◌, ℕ, Bool, true, false, List, [], ◌∷◌, ◌++◌, length, map, Option, Some, None, refl, sym, ap, ◌∙◌, subst, inl, inr, ◌⊎◌, arith}
 use Rattle.std.specs.Option.{unwrap_or}
 use Rattle.std.proofs.lemmas.Bool.{false≢true}
-use Rattle.std.proofs.lemmas.List.{append-length}
+use Rattle.std.proofs.lemmas.List.{length-append}
 use Rattle.coda_fid.specs.declared.op.Record.{Record}
 use Rattle.coda_tree.specs.Volume.{Nodes}
 use Rattle.coda_record.specs.declared.answer.Answer.{Answer as RecordAnswer}
@@ -40,7 +40,7 @@ abbrev OneDoing : Doing → Type 0
 OneDoing doing = (reply second : Reply) (events others : List Event) → doing reply events → doing second others → (reply ≡ second) × (events ≡ others)
 
 some_once : {A : Type 0} (o : Option A) (a b : A) → o ≡ Some a → o ≡ Some b → a ≡ b
-some_once o a b x y = let z : (let some : A → Option A = λ v. Some v in some a ≡ some b) = sym x ∙ y in cc
+some_once {A = A} o a b x y = let z : (let some : A → Option A = λ v. Some v in some a ≡ some b) = sym x ∙ y in cc
 
 unless_one : (o : Option Refused) (own : Doing) → OneDoing own → OneDoing (Unless o own)
 unless_one (Some why) own is reply second events others a b = (a.0 ∙ sym b.0, a.1 ∙ sym b.1)
@@ -88,11 +88,11 @@ says_one : (said : Reply) → OneDoing (Says said)
 says_one said reply second events others a b = (a.0 ∙ sym b.0, a.1 ∙ sym b.1)
 
 delivers_one : (s : CellState) (message : ℕ) (o : Option Sent) → OneDoing (Delivers s message o)
-delivers_one s message None reply second events others a b = (a.0 ∙ sym b.0, a.1 ∙ sym b.1)
+delivers_one s message None = λ reply second events others a b. (a.0 ∙ sym b.0, a.1 ∙ sym b.1)
 delivers_one s message (Some sent) = unless_one (link_down (s.links (client_of sent) (server_of sent))) (Comes s sent) (comes_one s sent)
 
 loses_one : (message : ℕ) (o : Option Sent) → OneDoing (Loses message o)
-loses_one message None reply second events others a b = (a.0 ∙ sym b.0, a.1 ∙ sym b.1)
+loses_one message None = λ reply second events others a b. (a.0 ∙ sym b.0, a.1 ∙ sym b.1)
 loses_one message (Some sent) = happens_one (Lost message) (LetterLost message)
 
 asks_one : (s : CellState) (client volume : ℕ) (ask : Option Nodes → ClientState → Answer) → OneDoing (Naming (on_volume s client volume) (ByClient s client volume ask))
@@ -110,7 +110,7 @@ task_one s (task.Rename client volume from to) = asks_one s client volume _
 task_one s (task.Read client volume path) = asks_one s client volume _
 task_one s (task.List client volume path) = asks_one s client volume _
 task_one s (task.Drain client volume server window) = unless_one _ _ (both_one s client volume (unwrap_or window 600))
-task_one s _ reply second events others a b = absurd a
+task_one s _ = λ reply second events others a b. absurd a
 
 does_one : (s : CellState) (said : Line) → OneDoing (Does s said)
 does_one s (line.Volume volume servers area) = unless_one _ _ (happens_one _ _)
@@ -123,7 +123,7 @@ does_one s (line.ShowLog client volume) = unless_one _ _ (says_one _)
 does_one s (line.Send client volume server window) = unless_one _ _ (send_one s client volume server (unwrap_or window 600))
 does_one s (line.Deliver message) = delivers_one s message (sent_at message s.waiting)
 does_one s (line.Lose message) = loses_one message (sent_at message s.waiting)
-does_one s _ reply second events others a b = absurd a
+does_one s _ = λ reply second events others a b. absurd a
 
 -- ---- how events end
 
@@ -166,7 +166,7 @@ acts_one old new other said reply second quiet also a b =
 
 module _ {E : Type 0} where
   longer : (history : List E) (entry : E) → history ≡ history ++ entry ∷ [] → ⊥
-  longer history entry e = let l : length history ≡ length history + 1 = ap length e ∙ append-length history (entry ∷ []) in omega (arith, l)
+  longer history entry e = let l : length history ≡ length history + 1 = ap length e ∙ length-append history (entry ∷ []) in omega (arith, l)
 
   -- with as many entries, a disk that joins what failed is one disk
   joins_one : (header : Header) (old new other : PlainDisk E) → Joins header old new → Joins header old other → length new.history ≡ length other.history → new ≡ other
@@ -176,9 +176,9 @@ module _ {E : Type 0} where
           → (other.history ≡ old.history) ⊎ ((entry : E) × (old.failed ≡ Some entry) × (other.history ≡ old.history ++ entry ∷ [])) → new.history ≡ other.history
       histories (inl x) (inl y) = x ∙ sym y
       histories (inl x) (inr (entry, is, y)) =
-          let l : length old.history ≡ length old.history + 1 = ap length (sym x) ∙ same ∙ ap length y ∙ append-length old.history (entry ∷ []) in absurd (omega (arith, l))
+          let l : length old.history ≡ length old.history + 1 = ap length (sym x) ∙ same ∙ ap length y ∙ length-append old.history (entry ∷ []) in absurd (omega (arith, l))
       histories (inr (entry, is, x)) (inl y) =
-          let l : length old.history + 1 ≡ length old.history = sym (append-length old.history (entry ∷ [])) ∙ ap length (sym x) ∙ same ∙ ap length y in absurd (omega (arith, l))
+          let l : length old.history + 1 ≡ length old.history = sym (length-append old.history (entry ∷ [])) ∙ ap length (sym x) ∙ same ∙ ap length y in absurd (omega (arith, l))
       histories (inr (entry, is, x)) (inr (second, also, y)) = x ∙ ap (λ e. old.history ++ e ∷ []) (some_once old.failed entry second is also) ∙ sym y
 
 -- a mounting that is told and didn't fail
@@ -270,10 +270,10 @@ row_is : (header : ℕ → Header) (old : ℕ → PlainActor ReplicaEntry) (serv
 row_is header old server [] new row = absurd row
 row_is header old server (Foreign at ∷ []) new row = record { ending = Foreign at; told = tt; ends = refl; disk = (old server).disk; mounts = (row.0, refl); is = row.2 }
 row_is header old server (Foreign at ∷ e ∷ rest) new row = absurd (let s = row.1 in cc)
-row_is header old server (Entries count ∷ []) new (told, disk, mounts, none, is) = record { ending = Entries count; told = tt; ends = refl; disk = disk; mounts = mounts; is = is }
-row_is header old server (Entries count ∷ e ∷ rest) new (told, disk, mounts, none, is) = absurd (let s = none in cc)
-row_is header old server (DiskFault ∷ []) new (told, disk, mounts, none, is) = record { ending = DiskFault; told = tt; ends = refl; disk = disk; mounts = mounts; is = is }
-row_is header old server (DiskFault ∷ e ∷ rest) new (told, disk, mounts, none, is) = absurd (let s = none in cc)
+row_is header old server (Entries count ∷ []) new (told, (disk, mounts, (none, is))) = record { ending = Entries count; told = tt; ends = refl; disk = disk; mounts = mounts; is = is }
+row_is header old server (Entries count ∷ e ∷ rest) new (told, (disk, mounts, (none, is))) = absurd (let s = none in cc)
+row_is header old server (DiskFault ∷ []) new (told, (disk, mounts, (none, is))) = record { ending = DiskFault; told = tt; ends = refl; disk = disk; mounts = mounts; is = is }
+row_is header old server (DiskFault ∷ e ∷ rest) new (told, (disk, mounts, (none, is))) = absurd (let s = none in cc)
 row_is header old server (Memory ∷ rest) new row = absurd row.0
 
 volume_makes_one : (old : Cell) (volume : ℕ) (servers : List ℕ) (area : ℕ) → is_alone servers ≡ true → OneOutcome (MakesVolume old volume servers area)
@@ -317,13 +317,13 @@ arming_one false None old new other reply second outside images a b = (a.0 ∙ s
 
 pub quiet_lines_have_one_outcome : QuietLinesHaveOneOutcome
 quiet_lines_have_one_outcome old new other (line.Volume volume servers area) reply second outside images built quiet a b =
-    (quiet.1, mounting_one old (line.Volume volume servers area) built _ (outcome_unless old (no_volume old volume (area_of area)) (MakesVolume old volume servers (area_of area)) (volume_makes_one old volume servers (area_of area) built)) reply second outside images new other quiet.0 quiet.1 a b)
+    (let one = mounting_one old (line.Volume volume servers area) built _ (outcome_unless old (no_volume old volume (area_of area)) (MakesVolume old volume servers (area_of area)) (volume_makes_one old volume servers (area_of area) built)) reply second outside images new other quiet.0 quiet.1 a b in (quiet.1, one.0, one.1))
 quiet_lines_have_one_outcome old new other (line.Client client blocks area) reply second outside images built quiet a b =
-    (quiet.1, mounting_one old (line.Client client blocks area) built _ (outcome_unless old (no_client old client (area_of area)) _ (client_makes_one old client (client_header client blocks (area_of area)))) reply second outside images new other quiet.0 quiet.1 a b)
+    (let one = mounting_one old (line.Client client blocks area) built _ (outcome_unless old (no_client old client (area_of area)) _ (client_makes_one old client (client_header client blocks (area_of area)))) reply second outside images new other quiet.0 quiet.1 a b in (quiet.1, one.0, one.1))
 quiet_lines_have_one_outcome old new other (line.RecoverClient client) reply second outside images built quiet a b =
-    (quiet.1, mounting_one old (line.RecoverClient client) built _ (outcome_unless old (first_missing (the_client old client).named) _ (recovers_one client_payloads (old.clients client) (with_client old client))) reply second outside images new other quiet.0 quiet.1 a b)
+    (let one = mounting_one old (line.RecoverClient client) built _ (outcome_unless old (first_missing (the_client old client).named) _ (recovers_one client_payloads (old.clients client) (with_client old client))) reply second outside images new other quiet.0 quiet.1 a b in (quiet.1, one.0, one.1))
 quiet_lines_have_one_outcome old new other (line.RecoverReplica server volume) reply second outside images built quiet a b =
-    (quiet.1, mounting_one old (line.RecoverReplica server volume) built _ (outcome_unless old (first_missing (the_replica old server volume).named) _ (at_replica_one old (stand_of old volume) server)) reply second outside images new other quiet.0 quiet.1 a b)
+    (let one = mounting_one old (line.RecoverReplica server volume) built _ (outcome_unless old (first_missing (the_replica old server volume).named) _ (at_replica_one old (stand_of old volume) server)) reply second outside images new other quiet.0 quiet.1 a b in (quiet.1, one.0, one.1))
 quiet_lines_have_one_outcome old new other (line.CrashClient client choice) reply second outside images built quiet a b = absurd quiet
 quiet_lines_have_one_outcome old new other (line.CrashReplica server volume choice) reply second outside images built quiet a b = absurd quiet
 quiet_lines_have_one_outcome old new other (line.ArmClient client passes) reply second outside images built quiet a b =
