@@ -1,11 +1,9 @@
 -- A line has one outcome, where no disk fails and nothing crashes.
-use Rattle.std.proofs.Common.{◌≡◌, ◌≢◌, ◌+◌, ◌==◌, ◌&&◌, ℕ, Bool, true, false, List, [], ◌∷◌, ◌++◌, length, map, Option, Some, None, refl, sym, ap, ◌∙◌, subst, inl, inr, ◌⊎◌, arith}
+use Rattle.std.proofs.Common.{◌≡◌, ◌≢◌, ◌+◌, ℕ, Bool, true, false, List, [], ◌∷◌, ◌++◌, length, map, Option, Some, None, refl, sym, ap, ◌∙◌, subst, inl, inr, ◌⊎◌, arith}
 use Rattle.std.specs.Option.{unwrap_or}
 use Rattle.std.proofs.lemmas.Bool.{false≢true}
 use Rattle.std.proofs.lemmas.List.{length-append}
-use Rattle.coda_fid.specs.declared.op.Record.{Record}
 use Rattle.coda_tree.specs.Volume.{Nodes}
-use Rattle.coda_record.specs.declared.answer.Answer.{Answer as RecordAnswer}
 use Rattle.coda_actors.specs.Plain.{PlainDisk, PlainActor, Joins, Mounts, recovered_as, left_after}
 use Rattle.coda_actors.specs.declared.slot.Mounting.{Mounting}
 use Rattle.coda_actors.specs.declared.slot.Mounting.TheVariants.{Entries, Foreign, DiskFault, Memory}
@@ -18,20 +16,19 @@ use Rattle.coda_script.specs.declared.line.Line.TheVariants as line
 use Rattle.coda_script.specs.declared.line.Task.{Task}
 use Rattle.coda_script.specs.declared.line.Task.TheVariants as task
 use Rattle.coda_script.specs.declared.reply.Reply.{Reply}
-use Rattle.coda_script.specs.declared.reply.Reply.TheVariants.{Opened, Accepted, Recovered, ShowVolume, ShowLog, Lost}
-use Rattle.coda_cell.specs.Ask.{Asked, Create, Mkdir, Symlink, Store, Setattr, Remove, Rmdir, Rename}
-use Rattle.coda_cell.specs.Asking.{Answer, operate, read, list}
+use Rattle.coda_script.specs.declared.reply.Reply.TheVariants.{Accepted, Lost}
+use Rattle.coda_cell.specs.Asking.{Answer, read}
 use Rattle.coda_cell.specs.Refused.{Refused}
 use Rattle.coda_cell.specs.Messages.{sends, chunk_comes, answer_comes}
 use Rattle.coda_cell.specs.Sending.{drain}
-use Rattle.coda_cell.specs.State.{ClientState, ReplicaState, CellState, Event, Entered, LinkSet, Ticked, Lost as LetterLost, at_client}
-use Rattle.coda_cell.specs.Steps.{Doing, Unless, Naming, reply_to, offers_of, first_missing, ByClient, ByBoth, BySend, ByRuling, ByTaking, Happens as HappensOne, Says, Comes, Delivers, Loses, link_down, on_volume, on_holder, DoesTask, Does, bytes_of, is_alone}
-use Rattle.coda_shelves.specs.Cells.{Cell, Stand, stand_of, asked, with_client, with_replica, after, after_all, failed}
+use Rattle.coda_cell.specs.State.{ClientState, ReplicaState, CellState, Event, Entered, Ticked, Lost as LetterLost, at_client}
+use Rattle.coda_cell.specs.Steps.{Doing, Unless, Naming, reply_to, offers_of, first_missing, ByClient, ByBoth, BySend, ByRuling, ByTaking, Happens as HappensOne, Says, Comes, Delivers, Loses, link_down, on_volume, on_holder, DoesTask, Does, is_alone}
+use Rattle.coda_shelves.specs.Cells.{Cell, Stand, stand_of, asked, with_client, with_replica, after, after_all}
 use Rattle.coda_cell.specs.State.{put}
 use Rattle.coda_shelves.specs.Lines as plain
 use Rattle.coda_shelves.specs.Lines.{Becoming, refused_fault, refused_full, is_built, Stop, Fits, FitsOne, Lacks, EndsBy, Acts, meets, UnlessDown, needs, is_down_for, DoesUp, Happens, Payloads, Recovers, recovery, client_payloads, replica_payloads, AtReplicaOf, opening, is_others, made_on, MountsRow, MakesVolume, MakesClient, no_volume, no_client, area_of, the_client, the_replica}
 use Rattle.coda_shelves.specs.Shelves.{client_header, replica_header}
-use Rattle.coda_shelves.specs.Quiet.{AreQuiet, QuietLinesHaveOneOutcome}
+use Rattle.coda_shelves.specs.Quiet.{QuietLinesHaveOneOutcome}
 
 -- ---- what acts
 
@@ -290,7 +287,7 @@ volume_makes_one old volume (server ∷ []) area alone reply second outside imag
     let disks : a.disk ≡ b.disk = mounts_one (header server) (first server).disk a.disk b.disk a.ending b.ending ends.0 ends.1 a.mounts b.mounts in (
       none ∙ sym none2,
       is ∙ (λ i. plain.with_row (is_others (a.ends i)) old volume (server ∷ []) area (a.is i)) ∙ (λ i. plain.with_row (is_others (ends.1 i ∷ [])) old volume (server ∷ []) area (row_behind header first server (ends.1 i) (disks i)))
-      ∙ (λ i. plain.with_row (is_others (sym b.ends i)) old volume (server ∷ []) area (sym b.is i)) ∙ sym is2,
+          ∙ (λ i. plain.with_row (is_others (sym b.ends i)) old volume (server ∷ []) area (sym b.is i)) ∙ sym is2,
     )
 
 -- ---- every line
