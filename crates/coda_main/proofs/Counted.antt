@@ -11,7 +11,7 @@ use Rattle.coda_script.specs.declared.reply.ClientState.TheVariants.{Hoarding, E
 use Rattle.coda_script.specs.declared.reply.Reply.{Reply}
 use Rattle.coda_script.specs.declared.reply.Reply.TheVariants.{Refused, Accepted, Read, Listed, State, ShowVolume, ShowLog}
 use Rattle.coda_report.specs.Texts.{reply_text}
-use Rattle.coda_stored.specs.Lines.{refused_fault}
+use Rattle.coda_shelves.specs.Lines.{refused_fault}
 use Rattle.coda_main.specs.Tallies.{IsText, tells_fault, CountedRepliesAreTold}
 
 -- whether bytes are the same, one after the other

@@ -3,9 +3,6 @@ pub mod Lines
 pub mod Shows
 pub mod Reported
 pub mod Cached
-pub mod Held
-pub mod Later
 pub mod Tallies
 pub mod Counting
 pub mod Asking
-pub mod Shelved

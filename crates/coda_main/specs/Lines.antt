@@ -4,7 +4,7 @@ use Rattle.coda_engine.specs.declared.status.Kind.{Kind}
 use Rattle.coda_script.specs.declared.line.Line.{Line}
 use Rattle.coda_script.specs.Lines.{line_of}
 use Rattle.coda_site.specs.Makings.{asks_bay}
-use Rattle.coda_stored.specs.Lines.{is_built}
+use Rattle.coda_shelves.specs.Lines.{is_built}
 use Rattle.coda_runs.specs.Runs.{IsUnbuilt}
 
 -- The bytes run as a line with this text: they say nothing, and the text is empty then, or they say a line that is built.

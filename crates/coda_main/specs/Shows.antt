@@ -1,20 +1,13 @@
--- The cell of the code as a machine: what it does is what any cell on disks may do that it shows.
+-- The cell of the code as a machine: what it is between two lines, and how a line stops.
 use Rattle.std.specs.Prelude.{◌≡◌, ◌≤◌, ◌++◌, ℕ, Bool, ⊤, nat_lt, List, drop, length, if◌then◌else◌}
 use Rattle.coda_disk.specs.Told.{Told}
 use Rattle.coda_engine.specs.declared.machine.LineStop.{LineStop}
 use Rattle.coda_engine.specs.declared.machine.LineStop.TheVariants.{Refused, Unwritten, Bay, Memory as OutOfMemory}
 use Rattle.coda_script.specs.declared.fault.LineFault.{LineFault}
 use Rattle.coda_script.specs.declared.fault.LineFault.TheVariants.{BadLine, Memory}
-use Rattle.coda_script.specs.declared.line.Line.{Line}
-use Rattle.coda_script.specs.declared.reply.Reply.{Reply}
-use Rattle.coda_cell.specs.Made.{state_of}
-use Rattle.coda_stored.specs.Kept.{IsStoredKept}
-use Rattle.coda_stored.specs.Lines.{Happens}
-use Rattle.coda_site.specs.Sites.{IsSite, IsReady, IsClosable}
+use Rattle.coda_site.specs.Sites.{IsReady, IsClosable}
 use Rattle.coda_site.specs.declared.site.Site.{Site}
-use Rattle.coda_runs.specs.Shows.{Recorded, RecordGives}
-use Rattle.coda_runs.specs.Texts.{text_of}
-use Rattle.coda_main.specs.Lines.{IsGoodLine, IsBadLine}
+use Rattle.coda_main.specs.Lines.{IsBadLine}
 
 -- What a cell of the code is between two lines: the numbers that are out of its bay, what the disks tell that the bay has, the images that its
 -- crashes left, and the site.
@@ -26,12 +19,6 @@ pub record Moment (D : Type 0) : Type 1 where
 
 abbrev pub moment : {D : Type 0} → (ℕ → Bool) → (ℕ → Told) → List (List ℕ) → Site D → Moment D
 moment out has answered site = record { out = out; has = has; answered = answered; site = site }
-
--- The cell that is recorded is kept, the site and the bay stand for it, and the bay answered what is recorded.
-pub record Shows {D : Type 0} (told : D → Told) (plain : Recorded) (now : Moment D) : Type 0 where
-  pub kept : IsStoredKept plain.cell
-  pub stands : IsSite told now.out now.has plain.cell now.site
-  pub answered : now.answered ≡ plain.answered
 
 -- the site goes on, and gives all disks back that are out
 abbrev pub MayGoOn : {D : Type 0} → (D → Told) → Moment D → Type 0
@@ -48,13 +35,6 @@ MayRun told now lines = MayGoOn told now × (now.site.net.posted ≤ lines)
 -- the images that the bay answered from one moment to another
 abbrev pub answered_since : {D : Type 0} → Moment D → Moment D → List (List ℕ)
 answered_since old new = drop (length old.answered) new.answered
-
--- A line ran: it is a good one; the site goes on if it did before; and from each cell on disks that old shows, one that new shows may be
--- reached by this line.
-pub record CellGives {D : Type 0} (told : D → Told) (old : Moment D) (bytes text : List ℕ) (outside : List (List ℕ)) (new : Moment D) : Type 0 where
-  pub good : IsGoodLine bytes text
-  pub goes_on : MayGoOn told old → MayGoOn told new
-  pub gives : (plain : Recorded) → Shows told plain old → (next : Recorded) × RecordGives plain bytes text outside next × Shows told next new
 
 -- how a line stops that wasn't read: as its fault says; a column of 4 GiB or more, which no script has, can't be named
 abbrev pub stop_at : LineFault → LineStop
@@ -74,12 +54,3 @@ StopsWithin (Refused fault) = ⊥
 StopsWithin Unwritten = ⊥
 StopsWithin Bay = ⊤
 StopsWithin OutOfMemory = ⊤
-
--- From a cell on disks a line may have a reply whose text is this one, and what it leaves is shown.
-pub record Answered {D : Type 0} (told : D → Told) (plain : Recorded) (said : Line) (text : List ℕ) (old new : Moment D) : Type 0 where
-  pub next : Recorded
-  pub reply : Reply
-  pub happens : Happens plain.cell said reply (answered_since old new) next.cell
-  pub printed : text ≡ text_of (state_of next.cell.made) reply
-  pub answered : next.answered ≡ plain.answered ++ answered_since old new
-  pub shows : Shows told next new

@@ -15,10 +15,8 @@ use Rattle.coda_script.specs.declared.line.Line.{Line}
 use Rattle.coda_script.specs.declared.refusal.Refusal.TheVariants.{DiskFault}
 use Rattle.coda_script.specs.declared.reply.Reply.{Reply}
 use Rattle.coda_script.specs.declared.reply.Reply.TheVariants.{Refused, Accepted, ShowVolume, ShowLog}
-use Rattle.coda_stored.specs.Lines.{is_built, refused_fault}
+use Rattle.coda_shelves.specs.Lines.{is_built, refused_fault}
 use Rattle.coda_site.specs.Totals.{has_armed}
-use Rattle.coda_stored.specs.Cells.{StoredCell}
-use Rattle.coda_runs.specs.Runs.{Replies, LineRefused}
 use Rattle.coda_main.specs.Lines.{IsBadLine}
 
 -- ---- lines and replies
@@ -72,21 +70,6 @@ TallyGives old bytes text outside new = ((line_of bytes ≡ Ok None) × (text �
 
 abbrev pub TallyRefuses : Tally → List ℕ → ℕ → Kind → Type 0
 TallyRefuses old bytes column kind = IsBadLine bytes column kind
-
--- a cell on disks, and the tally of the lines that ran in it
-pub record TalliedCell : Type 0 where
-  pub cell : StoredCell
-  pub tally : Tally
-
--- From old, the cell may run this line, with the text of its reply and these answers of the bay, and be new then; and the tally is kept of the line and
--- of this reply.
-abbrev pub TalliedGives : TalliedCell → List ℕ → List ℕ → List (List ℕ) → TalliedCell → Type 0
-TalliedGives old bytes text outside new =
-    ((line_of bytes ≡ Ok None) × (text ≡ []) × (outside ≡ []) × (new ≡ old))
-    ⊎ ((r : Replies old.cell bytes text outside new.cell) × (new.tally ≡ tally_with r.said r.reply old.tally))
-
-abbrev pub TalliedRefuses : TalliedCell → List ℕ → ℕ → Kind → Type 0
-TalliedRefuses old bytes column kind = LineRefused old.cell bytes column kind
 
 -- What was read and written is the report of a run with this tally. Unless memory was wanting, the bay's sum of the faults of disks rose by as many
 -- at least as the run has replies that a disk failed, and its sum of `arm` calls by as many as lines that arm a disk were answered `ok`, each up to

@@ -1,24 +1,18 @@
 // The cell as a machine that runs the lines of a script.
-ghost use Rattle.std.specs.Prelude.{◌≡◌, ◌<◌, ◌≤◌, ◌+◌, ◌^◌, ℕ, true, false, List, ◌∷◌, IfOk, IfErr, OnOk, IfSome, Ok, Err};
+ghost use Rattle.std.specs.Prelude.{◌≡◌, ◌<◌, ◌≤◌, ◌+◌, ◌^◌, true, IfOk, IfErr, OnOk, IfSome, Ok, Err};
 ghost use Rattle.coda_io.specs.Faults.{Rose};
 ghost use Rattle.coda_script.specs.Lines.{line_of};
 ghost use Rattle.coda_script.specs.Ranges.{InRange};
-ghost use Rattle.coda_stored.specs.Lines.{is_built};
-ghost use Rattle.coda_runs.specs.Shows.{Recorded};
-ghost use Rattle.coda_stored.specs.Cells.{StoredCell};
-ghost use Rattle.coda_stored.specs.Resuming.{Awaited, is_awaited};
-ghost use Rattle.coda_stored.specs.Seen.{seen, mounts_none};
-ghost use Rattle.coda_main.specs.Held.{ShowsHeld, AnsweredHeld, held_reply};
-ghost use Rattle.coda_main.specs.Later.{ShowsWaiting, AnsweredAgain, AnsweredBetween, AnsweredElsewhere};
 ghost use Rattle.coda_script.specs.declared.reply.Reply.{Reply};
 ghost use Rattle.coda_shelves.specs.Cells.{Cell as PlainCell};
+ghost use Rattle.coda_shelves.specs.Lines.{is_built};
 ghost use Rattle.coda_site.specs.Makings.{asks_bay};
-ghost use Rattle.coda_site.specs.Shelves.{Shows as ShowsPlain};
-ghost use Rattle.coda_main.specs.Shelved.{Answered as AnsweredPlain};
+ghost use Rattle.coda_site.specs.Shelves.{Shows};
 ghost use Rattle.coda_site.specs.Totals.{IsCounted, IsFault, has_armed, total, totals};
 ghost use Rattle.coda_main.specs.Counting.{BreaksOff};
+ghost use Rattle.coda_main.specs.Reported.{Answered};
+ghost use Rattle.coda_main.specs.Shows.{moment, MayGoOn, MayClose, StopsSo, StopsWithin, stop_at};
 ghost use Rattle.coda_main.specs.Tallies.{IsText};
-ghost use Rattle.coda_main.specs.Shows.{moment, Shows, MayGoOn, MayClose, Answered, StopsSo, StopsWithin, stop_at};
 
 use crate::report::text_of;
 use coda_disk::Bay;
@@ -95,25 +89,9 @@ fn answer<B: Bay>(alloc: Global, cell: &mut Cell<B>, said: &Line) -> Result<Vec<
     requires few { cell.old.site.net.posted < 2 ^ 63 }
     ensures goes_on { OnOk result (MayGoOn B.D.told (moment (B.out cell.new.bay) (B.has cell.new.bay) (B.answered cell.new.bay) cell.new.site)) }
     ensures closable { MayClose (moment (B.out cell.new.bay) (B.has cell.new.bay) (B.answered cell.new.bay) cell.new.site) }
-    ensures answered { IfOk result (λ text. (plain : Recorded) → Shows B.D.told plain (moment (B.out cell.old.bay) (B.has cell.old.bay) (B.answered cell.old.bay) cell.old.site)
-        → Answered B.D.told plain said.now text.items (moment (B.out cell.old.bay) (B.has cell.old.bay) (B.answered cell.old.bay) cell.old.site) (moment (B.out cell.new.bay) (B.has cell.new.bay) (B.answered cell.new.bay) cell.new.site)) }
-    ensures again { IfOk result (λ text. (stored : StoredCell) (next : Awaited) (left : List Awaited) (images : List (List ℕ)) → is_awaited next said.now ≡ true
-        → ShowsWaiting B.D.told stored next left images (moment (B.out cell.old.bay) (B.has cell.old.bay) (B.answered cell.old.bay) cell.old.site)
-        → AnsweredAgain B.D.told stored next left images text.items (moment (B.out cell.old.bay) (B.has cell.old.bay) (B.answered cell.old.bay) cell.old.site) (moment (B.out cell.new.bay) (B.has cell.new.bay) (B.answered cell.new.bay) cell.new.site)) }
-    ensures between { IfOk result (λ text. (stored : StoredCell) (next : Awaited) (left : List Awaited) (images : List (List ℕ)) → mounts_none (seen stored (next ∷ left)) said.now ≡ true
-        → ShowsWaiting B.D.told stored next left images (moment (B.out cell.old.bay) (B.has cell.old.bay) (B.answered cell.old.bay) cell.old.site)
-        → AnsweredBetween B.D.told stored next left images said.now text.items (moment (B.out cell.old.bay) (B.has cell.old.bay) (B.answered cell.old.bay) cell.old.site) (moment (B.out cell.new.bay) (B.has cell.new.bay) (B.answered cell.new.bay) cell.new.site)) }
-    ensures elsewhere { IfOk result (λ text. (stored : StoredCell) (next : Awaited) (left : List Awaited) (images : List (List ℕ)) → mounts_none (seen stored (next ∷ left)) said.now ≡ false
-        → ShowsWaiting B.D.told stored next left images (moment (B.out cell.old.bay) (B.has cell.old.bay) (B.answered cell.old.bay) cell.old.site)
-        → AnsweredElsewhere B.D.told stored next left images said.now text.items (moment (B.out cell.old.bay) (B.has cell.old.bay) (B.answered cell.old.bay) cell.old.site) (moment (B.out cell.new.bay) (B.has cell.new.bay) (B.answered cell.new.bay) cell.new.site)) }
-    ensures held { IfOk result (λ text. (at : Recorded) → ShowsHeld B.D.told at (moment (B.out cell.old.bay) (B.has cell.old.bay) (B.answered cell.old.bay) cell.old.site)
-        → AnsweredHeld B.D.told at said.now text.items (moment (B.out cell.old.bay) (B.has cell.old.bay) (B.answered cell.old.bay) cell.old.site) (moment (B.out cell.new.bay) (B.has cell.new.bay) (B.answered cell.new.bay) cell.new.site)) }
-    ensures counts { IfOk result (λ text. (reply : Reply) × IsText reply text.items × IsCounted (IsFault (Ok reply)) (has_armed said.now (Ok reply)) (totals B.D.told B.D.faults B.D.arms (B.disk_faults cell.old.bay) (B.disk_arms cell.old.bay) cell.old.site) (totals B.D.told B.D.faults B.D.arms (B.disk_faults cell.new.bay) (B.disk_arms cell.new.bay) cell.new.site)
-        × ((plain : Recorded) → Shows B.D.told plain (moment (B.out cell.old.bay) (B.has cell.old.bay) (B.answered cell.old.bay) cell.old.site) → (a : Answered B.D.told plain said.now text.items (moment (B.out cell.old.bay) (B.has cell.old.bay) (B.answered cell.old.bay) cell.old.site) (moment (B.out cell.new.bay) (B.has cell.new.bay) (B.answered cell.new.bay) cell.new.site)) × (a.reply ≡ reply))
-        × ((at : Recorded) → ShowsHeld B.D.told at (moment (B.out cell.old.bay) (B.has cell.old.bay) (B.answered cell.old.bay) cell.old.site) → (a : AnsweredHeld B.D.told at said.now text.items (moment (B.out cell.old.bay) (B.has cell.old.bay) (B.answered cell.old.bay) cell.old.site) (moment (B.out cell.new.bay) (B.has cell.new.bay) (B.answered cell.new.bay) cell.new.site)) × (held_reply a.answers ≡ reply))) }
-    ensures shelved { IfOk result (λ text. (reply : Reply) × IsText reply text.items × IsCounted (IsFault (Ok reply)) (has_armed said.now (Ok reply)) (totals B.D.told B.D.faults B.D.arms (B.disk_faults cell.old.bay) (B.disk_arms cell.old.bay) cell.old.site) (totals B.D.told B.D.faults B.D.arms (B.disk_faults cell.new.bay) (B.disk_arms cell.new.bay) cell.new.site)
-        × ((plain : PlainCell) → ShowsPlain B.D.told (B.out cell.old.bay) (B.has cell.old.bay) plain cell.old.site
-        → AnsweredPlain B.D.told plain said.now reply text.items (moment (B.out cell.old.bay) (B.has cell.old.bay) (B.answered cell.old.bay) cell.old.site) (moment (B.out cell.new.bay) (B.has cell.new.bay) (B.answered cell.new.bay) cell.new.site))) }
+    ensures answered { IfOk result (λ text. (reply : Reply) × IsText reply text.items × IsCounted (IsFault (Ok reply)) (has_armed said.now (Ok reply)) (totals B.D.told B.D.faults B.D.arms (B.disk_faults cell.old.bay) (B.disk_arms cell.old.bay) cell.old.site) (totals B.D.told B.D.faults B.D.arms (B.disk_faults cell.new.bay) (B.disk_arms cell.new.bay) cell.new.site)
+        × ((plain : PlainCell) → Shows B.D.told (B.out cell.old.bay) (B.has cell.old.bay) plain cell.old.site
+        → Answered B.D.told plain said.now reply text.items (moment (B.out cell.old.bay) (B.has cell.old.bay) (B.answered cell.old.bay) cell.old.site) (moment (B.out cell.new.bay) (B.has cell.new.bay) (B.answered cell.new.bay) cell.new.site))) }
     ensures stopped { IfErr result StopsWithin }
     ensures posted { cell.new.site.net.posted ≤ cell.old.site.net.posted + 1 }
     ensures later { B.faults cell.old.bay ≤ B.faults cell.new.bay }
@@ -136,14 +114,13 @@ fn answer<B: Bay>(alloc: Global, cell: &mut Cell<B>, said: &Line) -> Result<Vec<
 
 impl<B: Bay> Machine for CellMachine<B> {
     ghost use Rattle.coda_main.specs.Lines.{AsksBay, IsBadLine};
-    ghost use Rattle.coda_main.specs.Later.{MachineGives};
-    ghost use Rattle.coda_main.specs.Shelved.{LineRan};
+    ghost use Rattle.coda_main.specs.Reported.{Ran};
     ghost use Rattle.coda_main.specs.Shows.{MayRun};
-    ghost use Rattle.coda_main.specs.Counting.{BreaksOff, CountsLine};
+    ghost use Rattle.coda_main.specs.Counting.{BreaksOff};
     ghost use Rattle.coda_site.specs.Totals.{total, totals};
     ghost use Rattle.std.proofs.Math.Nat.{le_refl, le_trans};
 
-    ghost gives = { λ old line text outside new. MachineGives B.D.told (moment (B.out old.cell.bay) (B.has old.cell.bay) (B.answered old.cell.bay) old.cell.site) line text outside (moment (B.out new.cell.bay) (B.has new.cell.bay) (B.answered new.cell.bay) new.cell.site) × CountsLine B.D.told (moment (B.out old.cell.bay) (B.has old.cell.bay) (B.answered old.cell.bay) old.cell.site) (totals B.D.told B.D.faults B.D.arms (B.disk_faults old.cell.bay) (B.disk_arms old.cell.bay) old.cell.site) line text outside (moment (B.out new.cell.bay) (B.has new.cell.bay) (B.answered new.cell.bay) new.cell.site) (totals B.D.told B.D.faults B.D.arms (B.disk_faults new.cell.bay) (B.disk_arms new.cell.bay) new.cell.site) × LineRan B.D.told (moment (B.out old.cell.bay) (B.has old.cell.bay) (B.answered old.cell.bay) old.cell.site) (totals B.D.told B.D.faults B.D.arms (B.disk_faults old.cell.bay) (B.disk_arms old.cell.bay) old.cell.site) line text outside (moment (B.out new.cell.bay) (B.has new.cell.bay) (B.answered new.cell.bay) new.cell.site) (totals B.D.told B.D.faults B.D.arms (B.disk_faults new.cell.bay) (B.disk_arms new.cell.bay) new.cell.site) };
+    ghost gives = { λ old line text outside new. Ran B.D.told (moment (B.out old.cell.bay) (B.has old.cell.bay) (B.answered old.cell.bay) old.cell.site) (totals B.D.told B.D.faults B.D.arms (B.disk_faults old.cell.bay) (B.disk_arms old.cell.bay) old.cell.site) line text outside (moment (B.out new.cell.bay) (B.has new.cell.bay) (B.answered new.cell.bay) new.cell.site) (totals B.D.told B.D.faults B.D.arms (B.disk_faults new.cell.bay) (B.disk_arms new.cell.bay) new.cell.site) };
 
     ghost refuses = { λ machine line column kind. IsBadLine line column kind };
 

@@ -1,12 +1,10 @@
 // The texts of replies, in the cell that a line left.
 ghost use Rattle.std.specs.Prelude.{◌≡◌, false, [], Some, IfOk};
 ghost use Rattle.coda_cell.specs.Cells.{volume_at};
-ghost use Rattle.coda_cell.specs.Made.{state_of};
 ghost use Rattle.coda_cell.specs.State.{ClientState};
-ghost use Rattle.coda_stored.specs.Cells.{StoredCell};
-ghost use Rattle.coda_stored.specs.Seen.{IsSeen};
-ghost use Rattle.coda_stored.specs.Lines.{client_down, replica_down};
-ghost use Rattle.coda_site.specs.Sites.{IsSite};
+ghost use Rattle.coda_shelves.specs.Cells.{Cell as PlainCell, state_of};
+ghost use Rattle.coda_shelves.specs.Lines.{client_down, replica_down};
+ghost use Rattle.coda_site.specs.Shelves.{Shows};
 ghost use Rattle.coda_runs.specs.Shows.{CanShow};
 ghost use Rattle.coda_script.specs.declared.reply.Reply.TheVariants.{ShowVolume, ShowLog};
 ghost use Rattle.coda_main.specs.Tallies.{IsText};
@@ -34,8 +32,8 @@ fn volume_shown<B: Bay>(
     volume: u32,
 ) -> Result<Bytes, AllocError>
     ensures said { IfOk result (λ text. IsText (ShowVolume server volume) text) }
-    ensures shown { IfOk result (λ text. (stored : StoredCell) → IsSeen stored → IsSite B.D.told (B.out cell.now.bay) (B.has cell.now.bay) stored cell.now.site
-        → replica_down stored volume ≡ false → text ≡ shown_volume server (volume_at ((state_of stored.made).replicas volume) server)) }
+    ensures shown { IfOk result (λ text. (plain : PlainCell) → Shows B.D.told (B.out cell.now.bay) (B.has cell.now.bay) plain cell.now.site
+        → replica_down plain server volume ≡ false → text ≡ shown_volume server (volume_at ((state_of plain).replicas volume) server)) }
 {
     match cell.volume(server, volume) {
         Some(tree) => volume_text(alloc, tree, server),
@@ -51,8 +49,8 @@ fn log_shown<B: Bay>(
     volume: u32,
 ) -> Result<Bytes, AllocError>
     ensures said { IfOk result (λ text. IsText (ShowLog client volume) text) }
-    ensures shown { IfOk result (λ text. (stored : StoredCell) → IsSeen stored → IsSite B.D.told (B.out cell.now.bay) (B.has cell.now.bay) stored cell.now.site
-        → client_down stored client ≡ false → (c : ClientState) → (state_of stored.made).clients client ≡ Some c → text ≡ shown_log (Some c) volume) }
+    ensures shown { IfOk result (λ text. (plain : PlainCell) → Shows B.D.told (B.out cell.now.bay) (B.has cell.now.bay) plain cell.now.site
+        → client_down plain client ≡ false → (c : ClientState) → (state_of plain).clients client ≡ Some c → text ≡ shown_log (Some c) volume) }
 {
     match cell.log(client, volume) {
         Some(log) => log_text(alloc, log),
@@ -63,8 +61,8 @@ fn log_shown<B: Bay>(
 /// The text of a reply in the cell that the line left.
 pub fn text_of<B: Bay>(alloc: Global, cell: &Cell<B>, reply: &Reply) -> Result<Bytes, AllocError>
     ensures said { IfOk result (λ text. IsText reply.now text) }
-    ensures printed { IfOk result (λ text. (stored : StoredCell) → IsSeen stored → IsSite B.D.told (B.out cell.now.bay) (B.has cell.now.bay) stored cell.now.site
-        → CanShow stored reply.now → text ≡ text_of (state_of stored.made) reply.now) }
+    ensures printed { IfOk result (λ text. (plain : PlainCell) → Shows B.D.told (B.out cell.now.bay) (B.has cell.now.bay) plain cell.now.site
+        → CanShow plain reply.now → text ≡ text_of (state_of plain) reply.now) }
 {
     match reply {
         Reply::ShowVolume { server, volume } => volume_shown(alloc, cell, *server, *volume),

@@ -4,7 +4,7 @@ use Rattle.coda_io.specs.Faults.{Rose}
 use Rattle.coda_script.specs.declared.line.Line.{Line}
 use Rattle.coda_script.specs.declared.reply.Reply.{Reply}
 use Rattle.coda_script.specs.declared.reply.Reply.TheVariants.{Recovered}
-use Rattle.coda_stored.specs.Lines.{refused_fault}
+use Rattle.coda_shelves.specs.Lines.{refused_fault}
 use Rattle.coda_site.specs.Totals.{Counts}
 use Rattle.coda_trace.specs.declared.event.Event.{Event}
 use Rattle.coda_trace.specs.declared.event.Note.{Note}

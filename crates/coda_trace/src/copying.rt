@@ -2,7 +2,7 @@
 ghost use Rattle.std.specs.Prelude.{◌≡◌, true, IfOk};
 ghost use Rattle.coda_site.specs.Makings.{is_disk_line};
 ghost use Rattle.coda_trace.specs.Copies.{is_plain_line};
-ghost use Rattle.coda_stored.specs.Lines.{is_built};
+ghost use Rattle.coda_shelves.specs.Lines.{is_built};
 
 use crate::operations::copy_task;
 use coda_script::Line;

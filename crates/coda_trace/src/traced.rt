@@ -1,24 +1,18 @@
 // A cell with the trace of its steps.
-ghost use Rattle.std.specs.Prelude.{◌≡◌, ◌≢◌, ◌≤◌, ◌<◌, ◌+◌, ◌^◌, ℕ, true, false, List, [], ◌∷◌, length, Some, None, MatchOption, IfOk, OnErr, Err};
+ghost use Rattle.std.specs.Prelude.{◌≡◌, ◌≢◌, ◌≤◌, ◌<◌, ◌+◌, ◌^◌, ℕ, true, false, List, [], length, Some, None, MatchOption, IfOk, OnErr, Err};
 ghost use Rattle.coda_io.specs.Faults.{Rose};
 ghost use Rattle.coda_script.specs.Ranges.{InRange};
 ghost use Rattle.coda_cell.specs.Cells.{volume_at};
-ghost use Rattle.coda_cell.specs.Made.{state_of};
 ghost use Rattle.coda_cell.specs.State.{ClientState, log_of, new_volume};
-ghost use Rattle.coda_stored.specs.Cells.{StoredCell, nothing_stored};
-ghost use Rattle.coda_stored.specs.Held.{IsHeld, begun_from};
-ghost use Rattle.coda_stored.specs.Kept.{IsStoredKept};
-ghost use Rattle.coda_stored.specs.Seen.{mounts_none, IsSeen};
-ghost use Rattle.coda_stored.specs.Lines.{is_built, Happens, client_down, replica_down};
-ghost use Rattle.coda_stored.specs.Mounted.{Shelf, HoldsShelf};
-ghost use Rattle.coda_stored.specs.Resuming.{at_rest, Awaited, is_awaited, AreAwaited, MakeAllAgain};
-ghost use Rattle.coda_site.specs.Awaiting.{IsAwaiting, Resumes};
+ghost use Rattle.coda_shelves.specs.Cells.{Cell as PlainCell, begun_on, shelves_of, state_of};
+ghost use Rattle.coda_shelves.specs.Kept.{AreKept};
+ghost use Rattle.coda_shelves.specs.Lines.{is_built, Happens, client_down, replica_down};
+ghost use Rattle.coda_shelves.specs.Shelves.{Shelves};
 ghost use Rattle.coda_site.specs.Makings.{asks_bay};
-ghost use Rattle.coda_site.specs.Sites.{IsSite, IsReady, IsClosable};
-ghost use Rattle.coda_site.specs.Steps.{Admits, Becomes, Mounts, Finds};
+ghost use Rattle.coda_site.specs.Shelves.{Shows, Leads, AreOnDisks};
+ghost use Rattle.coda_site.specs.Sites.{IsReady, IsClosable};
 ghost use Rattle.coda_site.specs.Totals.{IsCounted, IsFault, has_armed, total, totals};
 ghost use Rattle.coda_disk.specs.Bays.{plus};
-ghost use Rattle.coda_site.specs.Cells.{AreBlank, AreOnDisks};
 ghost use Rattle.coda_trace.specs.Notes.{IsNoteOf, IsTraced};
 ghost use Rattle.coda_trace.specs.Told.{AreSteps, GoesOn};
 
@@ -67,10 +61,7 @@ impl<B: Bay> TracedCell<B> {
         ensures closable { IsClosable (B.out result.cell.bay) result.cell.site }
         ensures posted { result.cell.site.net.posted ≡ 0 }
         ensures empty { (result.cell.site.servers.items ≡ []) × (result.cell.site.areas ≡ 0) }
-        ensures stands { AreBlank (B.has result.cell.bay) → IsSite B.D.told (B.out result.cell.bay) (B.has result.cell.bay) nothing_stored result.cell.site }
-        ensures waits { (cell : StoredCell) (lines : List Awaited) → IsStoredKept cell → MakeAllAgain cell lines → AreOnDisks B.D.told (B.has result.cell.bay) cell
-            → IsAwaiting B.D.told (B.out result.cell.bay) (B.has result.cell.bay) (at_rest cell) lines result.cell.site }
-        ensures begins { (cell : StoredCell) (held : IsHeld cell) → AreOnDisks B.D.told (B.has result.cell.bay) cell → IsSite B.D.told (B.out result.cell.bay) (B.has result.cell.bay) (begun_from cell held) result.cell.site }
+        ensures shelves { (shelves : Shelves) → AreKept shelves → AreOnDisks B.D.told (B.has result.cell.bay) shelves → Shows B.D.told (B.out result.cell.bay) (B.has result.cell.bay) (begun_on shelves) result.cell.site }
         ensures counts { totals B.D.told B.D.faults B.D.arms (B.disk_faults result.cell.bay) (B.disk_arms result.cell.bay) result.cell.site ≡ record { faults = plus (B.disk_faults bay) 0; arms = plus (B.disk_arms bay) 0 } }
         ensures untraced { result.events.items ≡ [] }
     {
@@ -94,15 +85,8 @@ impl<B: Bay> TracedCell<B> {
         requires short { length self.old.events.items < 2 ^ 32 }
         ensures ready { result ≢ Err CellFault.Bay → IsReady B.D.told (B.out self.new.cell.bay) self.new.cell.site }
         ensures closable { IsClosable (B.out self.new.cell.bay) self.new.cell.site }
-        ensures does { (cell : StoredCell) → Admits cell line.now → IsSite B.D.told (B.out self.old.cell.bay) (B.has self.old.cell.bay) cell self.old.cell.site
-            → IfOk result (λ reply. Becomes B.D.told (B.out self.new.cell.bay) (B.has self.new.cell.bay) (Happens cell line.now) reply (B.answered self.old.cell.bay) (B.answered self.new.cell.bay) self.new.cell.site) }
-        ensures again { (cell : StoredCell) (awaited : Awaited) (left : List Awaited) → is_awaited awaited line.now ≡ true → IsStoredKept cell
-            → AreAwaited cell (length self.old.cell.site.servers.items) self.old.cell.site.areas (awaited ∷ left) → IsAwaiting B.D.told (B.out self.old.cell.bay) (B.has self.old.cell.bay) cell (awaited ∷ left) self.old.cell.site
-            → IfOk result (λ reply. Resumes B.D.told (B.out self.new.cell.bay) (B.has self.new.cell.bay) cell awaited left reply (B.answered self.old.cell.bay) (B.answered self.new.cell.bay) self.new.cell.site) }
-        ensures mounts { (cell : StoredCell) → IsSeen cell → mounts_none cell line.now ≡ false → IsSite B.D.told (B.out self.old.cell.bay) (B.has self.old.cell.bay) cell self.old.cell.site
-            → IfOk result (λ reply. Mounts B.D.told (B.out self.new.cell.bay) (B.has self.new.cell.bay) cell line.now reply (B.answered self.old.cell.bay) (B.answered self.new.cell.bay) self.new.cell.site) }
-        ensures finds { (cell : StoredCell) (shelf : Shelf) → IsSeen cell → mounts_none cell line.now ≡ false → HoldsShelf cell line.now shelf → IsSite B.D.told (B.out self.old.cell.bay) (B.has self.old.cell.bay) cell self.old.cell.site
-            → IfOk result (λ reply. Finds B.D.told (B.out self.new.cell.bay) (B.has self.new.cell.bay) cell shelf line.now reply (B.answered self.old.cell.bay) (B.answered self.new.cell.bay) self.new.cell.site) }
+        ensures does { (plain : PlainCell) → Shows B.D.told (B.out self.old.cell.bay) (B.has self.old.cell.bay) plain self.old.cell.site
+            → IfOk result (λ reply. Leads B.D.told (B.out self.new.cell.bay) (B.has self.new.cell.bay) (Happens plain line.now) reply (B.answered self.old.cell.bay) (B.answered self.new.cell.bay) self.new.cell.site) }
         ensures posted { self.new.cell.site.net.posted ≤ self.old.cell.site.net.posted + 1 }
         ensures later { B.faults self.old.cell.bay ≤ B.faults self.new.cell.bay }
         ensures bay_cause { result ≡ Err CellFault.Bay → Rose (B.faults self.old.cell.bay) (B.faults self.new.cell.bay) }
@@ -113,10 +97,10 @@ impl<B: Bay> TracedCell<B> {
         ensures traced { IfOk result (λ reply. IsTraced line.now reply (totals B.D.told B.D.faults B.D.arms (B.disk_faults self.old.cell.bay) (B.disk_arms self.old.cell.bay) self.old.cell.site) (totals B.D.told B.D.faults B.D.arms (B.disk_faults self.new.cell.bay) (B.disk_arms self.new.cell.bay) self.new.cell.site) self.old.events.items self.new.events.items) }
         ensures untraced { OnErr result (self.new.events.items ≡ self.old.events.items) }
 
-        // Where the trace has the steps of a run to the cell for which the site stands, it has those of a run to what
-        // the line leaves.
-        ensures steps { (start cell : StoredCell) (images : List (List ℕ)) → IsStoredKept cell → IsSite B.D.told (B.out self.old.cell.bay) (B.has self.old.cell.bay) cell self.old.cell.site
-            → AreSteps start self.old.events.items images cell → IfOk result (λ _. GoesOn B.D.told (B.out self.new.cell.bay) (B.has self.new.cell.bay) start self.new.events.items images (B.answered self.old.cell.bay) (B.answered self.new.cell.bay) self.new.cell.site) }
+        // Where the trace has the steps of a run to a cell that the site shows, it has those of a run to what the line
+        // leaves.
+        ensures steps { (start plain : PlainCell) (images : List (List ℕ)) → Shows B.D.told (B.out self.old.cell.bay) (B.has self.old.cell.bay) plain self.old.cell.site
+            → AreSteps start self.old.events.items images plain → IfOk result (λ _. GoesOn B.D.told (B.out self.new.cell.bay) (B.has self.new.cell.bay) start self.new.events.items images (B.answered self.old.cell.bay) (B.answered self.new.cell.bay) self.new.cell.site) }
     {
         self.events.reserve(1)?;
         let line_copy = copy_line(line)?;
@@ -147,9 +131,7 @@ impl<B: Bay> TracedCell<B> {
     pub fn close(self) -> B
         requires { IsClosable (B.out self.cell.bay) self.cell.site }
         ensures out { IsReady B.D.told (B.out self.cell.bay) self.cell.site → (number : ℕ) → B.out result number ≡ false }
-        ensures stands { (cell : StoredCell) → IsReady B.D.told (B.out self.cell.bay) self.cell.site → IsSite B.D.told (B.out self.cell.bay) (B.has self.cell.bay) cell self.cell.site → AreOnDisks B.D.told (B.has result) cell }
-        ensures waits { (cell : StoredCell) (volumes areas : ℕ) (left : List Awaited) → IsReady B.D.told (B.out self.cell.bay) self.cell.site → IsStoredKept cell → AreAwaited cell volumes areas left
-            → IsAwaiting B.D.told (B.out self.cell.bay) (B.has self.cell.bay) cell left self.cell.site → AreOnDisks B.D.told (B.has result) cell }
+        ensures shelves { (plain : PlainCell) → IsReady B.D.told (B.out self.cell.bay) self.cell.site → Shows B.D.told (B.out self.cell.bay) (B.has self.cell.bay) plain self.cell.site → AreOnDisks B.D.told (B.has result) (shelves_of plain) }
         ensures answered { B.answered result ≡ B.answered self.cell.bay }
         ensures faults { B.faults result ≡ B.faults self.cell.bay }
         ensures follows { B.follows self.cell.bay result }
@@ -161,21 +143,17 @@ impl<B: Bay> TracedCell<B> {
 
     /// The volume that a server has; `None` where it has none of this number, or is down.
     pub fn volume(&self, server: u8, volume: u32) -> Option<&Volume>
-        ensures down { (cell : StoredCell) → IsSeen cell → IsSite B.D.told (B.out self.now.cell.bay) (B.has self.now.cell.bay) cell self.now.cell.site
-            → replica_down cell volume ≡ true → result ≡ None }
-        ensures shown { (cell : StoredCell) → IsSeen cell → IsSite B.D.told (B.out self.now.cell.bay) (B.has self.now.cell.bay) cell self.now.cell.site
-            → replica_down cell volume ≡ false
-            → MatchOption result (volume_at ((state_of cell.made).replicas volume) server ≡ None) (λ tree. volume_at ((state_of cell.made).replicas volume) server ≡ Some tree.now) }
+        ensures shown { (plain : PlainCell) → Shows B.D.told (B.out self.now.cell.bay) (B.has self.now.cell.bay) plain self.now.cell.site
+            → replica_down plain server volume ≡ false
+            → MatchOption result (volume_at ((state_of plain).replicas volume) server ≡ None) (λ tree. volume_at ((state_of plain).replicas volume) server ≡ Some tree.now) }
     {
         self.cell.volume(server, volume)
     }
 
     /// A client's log of a volume; `None` where the client isn't there or is down, or never had a log of the volume.
     pub fn log(&self, client: u8, volume: u32) -> Option<&Log>
-        ensures down { (cell : StoredCell) → IsSeen cell → IsSite B.D.told (B.out self.now.cell.bay) (B.has self.now.cell.bay) cell self.now.cell.site
-            → client_down cell client ≡ true → result ≡ None }
-        ensures shown { (cell : StoredCell) → IsSeen cell → IsSite B.D.told (B.out self.now.cell.bay) (B.has self.now.cell.bay) cell self.now.cell.site
-            → client_down cell client ≡ false → (c : ClientState) → (state_of cell.made).clients client ≡ Some c
+        ensures shown { (plain : PlainCell) → Shows B.D.told (B.out self.now.cell.bay) (B.has self.now.cell.bay) plain self.now.cell.site
+            → client_down plain client ≡ false → (c : ClientState) → (state_of plain).clients client ≡ Some c
             → MatchOption result (log_of (c.volumes volume) ≡ log_of new_volume) (λ log. log.now ≡ log_of (c.volumes volume)) }
     {
         self.cell.log(client, volume)
