@@ -1,7 +1,7 @@
 -- That an operation which is answered as done was performed.
 use Rattle.std.proofs.Common.{◌≡◌, ℕ, ◌+◌, Bool, true, false, cond, List, [], ◌∷◌, ◌++◌, append_assoc, map as map_list, Option, Some, None, Result, Ok, Err, refl, sym, ap, subst, ◌∙◌, inl, inr}
 use Rattle.std.specs.FinMap as map
-use Rattle.std.specs.Option.{unwrap_or}
+use Rattle.std.specs.Option.{option_map, unwrap_or}
 use Rattle.coda_fid.specs.Fid.{root_of}
 use Rattle.coda_fid.specs.declared.fid.Fid.{Fid}
 use Rattle.coda_fid.specs.declared.op.Attrs.{Attrs}
@@ -35,10 +35,10 @@ use Rattle.coda_cell.specs.Asking.{Said, Answer, answers, look_ups, behind_fetch
 use Rattle.coda_cell.specs.Held.{held_after_fetches, Fetch}
 use Rattle.coda_cell.specs.Looking.{resolve, entries_of, is_fetched}
 use Rattle.coda_cell.specs.Accepting.{Accepted, Sight, sight_of, store_at, setattr_at, accept}
-use Rattle.coda_cell.specs.State.{pending, ClientVolume, ClientState, client_after_all, ReplicaState, CellState, Event, after_all, at_client}
-use Rattle.coda_cell.specs.Made.{MadeCell, state_of, grown_all}
+use Rattle.coda_cell.specs.Made.{client_of}
+use Rattle.coda_cell.proofs.Histories.{number_stays}
+use Rattle.coda_cell.specs.State.{pending, new_client, ClientVolume, ClientState, client_after_all, ReplicaState, CellState, Event, after_all, at_client}
 use Rattle.coda_cell.specs.Refusing.{refusal}
-use Rattle.coda_cell.specs.Runs.{IsKept}
 use Rattle.coda_cell.specs.Sending.{Freezing, freezing, Ruling, ruling, Taking, taking, answered_to, ruled_on, drained_of, drain}
 use Rattle.coda_cell.specs.Steps.{Doing, Unless, first_missing, on_volume, on_holder, offers_of, reply_to, ByClient, ByBoth, bytes_of, DoesTask, Does}
 use Rattle.coda_cell.proofs.Accepted.{MayMove, Relies, found_then, accepted_relies}
@@ -47,15 +47,14 @@ use Rattle.coda_cell.proofs.Events.{after_client}
 use Rattle.coda_cell.proofs.Families.{put_here}
 use Rattle.coda_cell.proofs.Fetches.{client_after_both, client_after_fetches, keeps_look_ups}
 use Rattle.coda_cell.proofs.Offered.{fetched_is_offered}
-use Rattle.coda_cell.proofs.KeptLines.{lines_keep_cells}
-use Rattle.coda_stored.specs.Cells.{StoredCell}
-use Rattle.coda_stored.specs.Kept.{IsStoredKept}
-use Rattle.coda_stored.specs.Lines.{refused_down, refused_full, refused_fault}
-use Rattle.coda_runs.specs.Performed.{HasNoOther, IsNew, IsStored, IsSet, IsGone, IsMoved, OthersStay, content_of, DoesAsked, IsPerformed, WasPerformed, OperationsArePerformed}
+use Rattle.coda_journal.specs.declared.header.Header.{Header}
+use Rattle.coda_shelves.specs.Cells.{Cell, asked, state_of}
+use Rattle.coda_shelves.specs.Lines.{is_cut, task_on, refused_down, refused_full, refused_fault}
+use Rattle.coda_runs.specs.Performed.{CanReach, HasNoOther, Stamp, IsVersionOf, IsNew, IsStored, IsSet, IsGone, IsMoved, OthersStay, content_of, DoesAsked, IsPerformed, WasPerformed, OperationsArePerformed}
 use Rattle.coda_runs.proofs.Performed.{leads, creation_made, made_new, store_at_stored, stored_so, setattr_changed, changed_so, IsNoDir, accept_removed, accept_rmdir_removed, removed_so, accept_renamed, apart_names, rename_leaves, replaced_so}
-use Rattle.coda_runs.proofs.Served.{Keeps, keeps_look, has_fetched, put_off}
-use Rattle.coda_runs.proofs.Unchanged.{others_stay}
-use Rattle.coda_runs.proofs.Meeting.{met, met_kept, ShowsAs, clients_as, Ends, WasDown, DidAll, LackedRoom, HadFault, line_ends}
+use Rattle.coda_runs.proofs.Served.{Keeps, keeps_look, has_fetched, put_off, reaches}
+use Rattle.coda_runs.proofs.Unchanged.{moved_whole, others_stay}
+use Rattle.coda_runs.proofs.Meeting.{met, IsMet, ShowsAs, clients_as, Ends, WasDown, DidAll, LackedRoom, HadFault, line_ends}
 
 -- ---- what each operation leaves
 
@@ -68,6 +67,13 @@ put_there : (m : Nodes) (own : ℕ) (rec : Record) (op : Op) (dir : Fid) (name :
     → map.get (applied m own rec) fid ≡ Some node
 put_there m own rec op dir name fid node is adds = ap (λ n. map.get n fid) (applied_is m own rec op is ∙ adds) ∙ get_here fids_total (bound m dir name fid) fid node
 
+abbrev stamp : ℕ → Record → Stamp
+stamp own rec = record { client = own; number = rec.number; time = rec.time }
+
+-- an operation gives its own version
+stamped : (own : ℕ) (rec : Record) → IsVersionOf (stamp own rec) (sid_of own rec)
+stamped own rec = record { client_is = refl; number_is = refl }
+
 module _ (s : Sight) (volume own : ℕ) (rec : Record) where
   abbrev m : Nodes
   m = s.held.nodes
@@ -75,68 +81,71 @@ module _ (s : Sight) (volume own : ℕ) (rec : Record) where
   abbrev n : Nodes
   n = applied s.held.nodes own rec
 
+  abbrev by_rec : Stamp
+  by_rec = stamp own rec
+
   -- an object that the operation binds nowhere has no other name
   no_other : (fid : Fid) → ((dir : Fid) (name : Name) → IsBoundBy rec.op dir name fid → ⊥) → HasNoOther m n fid
   no_other fid never = λ dir name is. elim (bound_before m own rec dir name fid is) [ inl was ↦ was | inr by ↦ absurd (never dir name by) ]
 
-  created : (path : List Name) (mode owner : ℕ) → accept s volume (Create path mode owner) ≡ Ok rec.op → IsNew m n volume path (File []) mode owner (object_of rec.op)
+  created : (path : List Name) (mode owner : ℕ) → accept s volume (Create path mode owner) ≡ Ok rec.op → IsNew by_rec m n volume path (File []) mode owner (object_of rec.op)
   unfolding accept
   created path mode owner h =
       let x = creation_made s volume path (ending path) (λ dir name fid. CreateOp dir name fid mode owner) rec.op refl h in
       let node = empty_file mode owner rec.time (sid_of own rec) in
-      subst (IsNew m n volume path (File []) mode owner) (sym (ap object_of x.is))
-      (made_new s volume own path (λ dir name fid. CreateOp dir name fid mode owner) rec node x (accepted_relies s volume (Create path mode owner) rec.op h)
+      subst (IsNew by_rec m n volume path (File []) mode owner) (sym (ap object_of x.is))
+      (made_new by_rec s volume own path (λ dir name fid. CreateOp dir name fid mode owner) rec node x (accepted_relies s volume (Create path mode owner) rec.op h)
       (subst (λ op. IsBoundBy op x.end.dir x.end.last x.fid) (sym x.is) (refl, refl, refl))
       (λ dir name by. (
       let at : IsBoundBy (CreateOp x.end.dir x.end.last x.fid mode owner) dir name x.fid = subst (λ op. IsBoundBy op dir name x.fid) x.is by in
       (at.0, at.1)))
-      (put_there m own rec (CreateOp x.end.dir x.end.last x.fid mode owner) x.end.dir x.end.last x.fid node x.is refl))
+      (put_there m own rec (CreateOp x.end.dir x.end.last x.fid mode owner) x.end.dir x.end.last x.fid node x.is refl) refl (stamped own rec) refl)
 
-  made_dir : (path : List Name) (mode owner : ℕ) → accept s volume (Mkdir path mode owner) ≡ Ok rec.op → IsNew m n volume path (Dir map.empty) mode owner (object_of rec.op)
+  made_dir : (path : List Name) (mode owner : ℕ) → accept s volume (Mkdir path mode owner) ≡ Ok rec.op → IsNew by_rec m n volume path (Dir map.empty) mode owner (object_of rec.op)
   unfolding accept
   made_dir path mode owner h =
       let x = creation_made s volume path (ending path) (λ dir name fid. MkdirOp dir name fid mode owner) rec.op refl h in
       let node = empty_dir mode owner rec.time (sid_of own rec) in
-      subst (IsNew m n volume path (Dir map.empty) mode owner) (sym (ap object_of x.is))
-      (made_new s volume own path (λ dir name fid. MkdirOp dir name fid mode owner) rec node x (accepted_relies s volume (Mkdir path mode owner) rec.op h)
+      subst (IsNew by_rec m n volume path (Dir map.empty) mode owner) (sym (ap object_of x.is))
+      (made_new by_rec s volume own path (λ dir name fid. MkdirOp dir name fid mode owner) rec node x (accepted_relies s volume (Mkdir path mode owner) rec.op h)
       (subst (λ op. IsBoundBy op x.end.dir x.end.last x.fid) (sym x.is) (refl, refl, refl))
       (λ dir name by. (
       let at : IsBoundBy (MkdirOp x.end.dir x.end.last x.fid mode owner) dir name x.fid = subst (λ op. IsBoundBy op dir name x.fid) x.is by in
       (at.0, at.1)))
-      (put_there m own rec (MkdirOp x.end.dir x.end.last x.fid mode owner) x.end.dir x.end.last x.fid node x.is refl))
+      (put_there m own rec (MkdirOp x.end.dir x.end.last x.fid mode owner) x.end.dir x.end.last x.fid node x.is refl) refl (stamped own rec) refl)
 
-  linked : (path : List Name) (target : List ℕ) → accept s volume (Symlink path target) ≡ Ok rec.op → IsNew m n volume path (Link target) 511 0 (object_of rec.op)
+  linked : (path : List Name) (target : List ℕ) → accept s volume (Symlink path target) ≡ Ok rec.op → IsNew by_rec m n volume path (Link target) 511 0 (object_of rec.op)
   unfolding accept
   linked path target h =
       let x = creation_made s volume path (ending path) (λ dir name fid. SymlinkOp dir name fid target 511 0) rec.op refl h in
       let node = new_link target 511 0 rec.time (sid_of own rec) in
-      subst (IsNew m n volume path (Link target) 511 0) (sym (ap object_of x.is))
-      (made_new s volume own path (λ dir name fid. SymlinkOp dir name fid target 511 0) rec node x (accepted_relies s volume (Symlink path target) rec.op h)
+      subst (IsNew by_rec m n volume path (Link target) 511 0) (sym (ap object_of x.is))
+      (made_new by_rec s volume own path (λ dir name fid. SymlinkOp dir name fid target 511 0) rec node x (accepted_relies s volume (Symlink path target) rec.op h)
       (subst (λ op. IsBoundBy op x.end.dir x.end.last x.fid) (sym x.is) (refl, refl, refl))
       (λ dir name by. (
       let at : IsBoundBy (SymlinkOp x.end.dir x.end.last x.fid target 511 0) dir name x.fid = subst (λ op. IsBoundBy op dir name x.fid) x.is by in
       (at.0, at.1)))
-      (put_there m own rec (SymlinkOp x.end.dir x.end.last x.fid target 511 0) x.end.dir x.end.last x.fid node x.is refl))
+      (put_there m own rec (SymlinkOp x.end.dir x.end.last x.fid target 511 0) x.end.dir x.end.last x.fid node x.is refl) refl (stamped own rec) refl)
 
-  stored : (path : List Name) (content : List ℕ) → accept s volume (Store path content) ≡ Ok rec.op → IsStored m n volume path content (object_of rec.op)
+  stored : (path : List Name) (content : List ℕ) → accept s volume (Store path content) ≡ Ok rec.op → IsStored by_rec m n volume path content (object_of rec.op)
   unfolding accept
   stored path content h =
       let a = found_then (resolve m (root_of volume) path) (λ fid. store_at (map.get m fid) fid content) rec.op h in
       let x = store_at_stored m volume path content a.0 (map.get m a.0) rec.op (leads m (root_of volume) path a.0 a.1) refl a.2 in
-      subst (IsStored m n volume path content) (sym (ap object_of x.is))
-      (stored_so m volume rec.time (sid_of own rec) path content rec.op x n (applied_is m own rec (StoreOp x.fid x.node.sid content) x.is)
+      subst (IsStored by_rec m n volume path content) (sym (ap object_of x.is))
+      (stored_so by_rec m volume rec.time (sid_of own rec) path content rec.op x n (applied_is m own rec (StoreOp x.fid x.node.sid content) x.is)
       (no_other x.fid (λ dir name by. subst (λ op. IsBoundBy op dir name x.fid) x.is by))
-      (λ dir name was. still_bound s volume own rec dir name x.fid (accepted_relies s volume (Store path content) rec.op h) was (ap (unbinds x.fid) x.is)))
+      (λ dir name was. still_bound s volume own rec dir name x.fid (accepted_relies s volume (Store path content) rec.op h) was (ap (unbinds x.fid) x.is)) refl (stamped own rec))
 
-  attributes_set : (path : List Name) (attrs : Attrs) → accept s volume (Setattr path attrs) ≡ Ok rec.op → IsSet m n volume path attrs (object_of rec.op)
+  attributes_set : (path : List Name) (attrs : Attrs) → accept s volume (Setattr path attrs) ≡ Ok rec.op → IsSet by_rec m n volume path attrs (object_of rec.op)
   unfolding accept
   attributes_set path attrs h =
       let a = found_then (resolve m (root_of volume) path) (λ fid. setattr_at (map.get m fid) fid attrs) rec.op h in
       let x = setattr_changed m volume path attrs a.0 (map.get m a.0) rec.op (leads m (root_of volume) path a.0 a.1) refl a.2 in
-      subst (IsSet m n volume path attrs) (sym (ap object_of x.is))
-      (changed_so m volume rec.time (sid_of own rec) path attrs rec.op x n (applied_is m own rec (SetattrOp x.fid x.node.sid attrs) x.is)
+      subst (IsSet by_rec m n volume path attrs) (sym (ap object_of x.is))
+      (changed_so by_rec m volume rec.time (sid_of own rec) path attrs rec.op x n (applied_is m own rec (SetattrOp x.fid x.node.sid attrs) x.is)
       (no_other x.fid (λ dir name by. subst (λ op. IsBoundBy op dir name x.fid) x.is by))
-      (λ dir name was. still_bound s volume own rec dir name x.fid (accepted_relies s volume (Setattr path attrs) rec.op h) was (ap (unbinds x.fid) x.is)))
+      (λ dir name was. still_bound s volume own rec dir name x.fid (accepted_relies s volume (Setattr path attrs) rec.op h) was (ap (unbinds x.fid) x.is)) (stamped own rec))
 
   removed : (path : List Name) → accept s volume (Remove path) ≡ Ok rec.op → IsGone m n volume path IsNoDir (object_of rec.op)
   unfolding accept
@@ -180,6 +189,10 @@ module _ (s : Sight) (volume own : ℕ) (rec : Record) where
         replaced = λ other is. (
             let gone = replaced_so m x.old.dir x.old.last x.new.dir x.new.last x.fid x.over may other is in
             (gone.0, ap (λ q. map.get q other) leaves ∙ gone.1)
+            );
+        as_it_was = λ before is. (
+            let whole = moved_whole m x.old.dir x.old.last x.new.dir x.new.last x.fid x.over may before is in
+            (whole.0, ap (λ q. map.get q x.fid) leaves ∙ whole.1, whole.2)
             );
       })
 
@@ -235,30 +248,28 @@ module _ (offers : Option Nodes) (c : ClientState) (time volume : ℕ) (ask : As
 -- what the line's operation does, whatever the client holds
 abbrev DoesAlways : Task → ℕ → ℕ → Asked → Type 0
 DoesAlways t client volume ask =
-    (s : Sight) (own : ℕ) (rec : Record) → accept s volume ask ≡ Ok rec.op → DoesAsked t client volume s.held.nodes (applied s.held.nodes own rec) (object_of rec.op)
+    (s : Sight) (own : ℕ) (rec : Record) → accept s volume ask ≡ Ok rec.op → DoesAsked (stamp own rec) t client volume s.held.nodes (applied s.held.nodes own rec) (object_of rec.op)
 
-module _ (cell : MadeCell) (kept : IsKept cell) (number : ℕ) (object : Fid) where
-  abbrev s : CellState
-  s = state_of cell
-
+module _ (s : CellState) (Reaches : ℕ → ℕ → ℕ → Type 0) (number : ℕ) (object : Fid) where
   abbrev Was : Task → List Event → Type 0
-  Was t events = WasPerformed t (state_of cell).clients (state_of (grown_all cell events)).clients (state_of cell).replicas cell.clock number object
+  Was t events = WasPerformed Reaches t s.clients (after_all s events).clients s.replicas s.clock number object
 
   -- what an operation leaves of its client
-  performed : (t : Task) (client volume : ℕ) (ask : Asked) (c : ClientState)
-      → (let offers = offers_of s client volume in (answer : Answer) (x : Operation offers c cell.clock volume ask number object answer) → DoesAlways t client volume ask
-      → (let rec = next_record (c.volumes volume) cell.clock x.op in
-      IsPerformed s.replicas t c (client_after_all (behind_fetches c (look_ups offers c.held volume ask)) (Did volume (Operated rec) ∷ [])) client volume cell.clock number object))
-  performed t client volume ask c answer x does =
+  performed : (t : Task) (client volume : ℕ) → ((server : ℕ) → is_cut (s.links client server) ≡ false → Reaches client volume server) → (ask : Asked) (c : ClientState)
+      → (let offers = offers_of s client volume in (answer : Answer) (x : Operation offers c s.clock volume ask number object answer) → DoesAlways t client volume ask
+      → (let rec = next_record (c.volumes volume) s.clock x.op in
+      IsPerformed (Reaches client volume) s.replicas t c (client_after_all (behind_fetches c (look_ups offers c.held volume ask)) (Did volume (Operated rec) ∷ [])) client volume s.clock number object))
+  performed t client volume reach ask c answer x does =
       let offers = offers_of s client volume in
       let fetches = look_ups offers c.held volume ask in
-      let rec = next_record (c.volumes volume) cell.clock x.op in
+      let rec = next_record (c.volumes volume) s.clock x.op in
       let sight = sight_of (behind_fetches c fetches) volume in
       let v = c.volumes volume in
       record {
         before = (held_after_fetches c.held fetches).nodes;
-        fetched = has_fetched s client volume c.held fetches (keeps_look_ups (Keeps c.held.nodes) offers (keeps_look c.held.nodes offers) c.held volume ask (λ fid node is. is)) (fetched_is_offered offers c.held volume ask);
-        done = subst (DoesAsked t client volume sight.held.nodes (applied sight.held.nodes c.number rec)) (sym x.object_is) (does sight c.number rec x.accepted);
+        fetched = has_fetched s client volume (Reaches client volume) reach c.held fetches (keeps_look_ups (Keeps c.held.nodes) offers (keeps_look c.held.nodes offers) c.held volume ask (λ fid node is. is)) (fetched_is_offered offers c.held volume ask);
+        done = subst (λ n. DoesAsked (record { client = c.number; number = n; time = s.clock }) t client volume sight.held.nodes (applied sight.held.nodes c.number rec) object) (sym x.number_is)
+            (subst (DoesAsked (stamp c.number rec) t client volume sight.held.nodes (applied sight.held.nodes c.number rec)) (sym x.object_is) (does sight c.number rec x.accepted));
         others = subst (OthersStay sight.held.nodes (applied sight.held.nodes c.number rec)) (sym x.object_is) (others_stay sight volume c.number rec (accepted_relies sight volume ask x.op x.accepted));
         rec = rec;
         kept = ap pending (put_here c.volumes volume (record v { back = v.back ++ rec ∷ []; operations = rec.number; creations = v.creations + created_by rec.op })) ∙ sym (append_assoc v.front v.back (rec ∷ []));
@@ -269,16 +280,16 @@ module _ (cell : MadeCell) (kept : IsKept cell) (number : ℕ) (object : Fid) wh
         replays = refl;
       }
 
-  finished : (t : Task) (client volume : ℕ) (c new : ClientState) (entries : List ClientEntry) (events : List Event) → state_of (grown_all cell events) ≡ after_all s events → s.clients client ≡ Some c → events ≡ map_list (at_client client) entries
-      → client_after_all c entries ≡ new → IsPerformed s.replicas t c new client volume cell.clock number object → Was t events
-  finished t client volume c new entries events left there happened entered performed = record {
+  finished : (t : Task) (client volume : ℕ) (c new : ClientState) (entries : List ClientEntry) (events : List Event) → s.clients client ≡ Some c → events ≡ map_list (at_client client) entries
+      → client_after_all c entries ≡ new → IsPerformed (Reaches client volume) s.replicas t c new client volume s.clock number object → Was t events
+  finished t client volume c new entries events there happened entered performed = record {
     client = client;
     volume = volume;
     old = c;
     new = new;
     was = there;
-    is = ap (λ (q : CellState). q.clients client) (left ∙ ap (after_all s) happened ∙ after_client s client c entries there) ∙ put_here s.clients client (Some (client_after_all c entries)) ∙ ap Some entered;
-    others = λ other ne. ap (λ (q : CellState). q.clients other) (left ∙ ap (after_all s) happened ∙ after_client s client c entries there) ∙ put_off s.clients client other (Some (client_after_all c entries)) ne;
+    is = ap (λ (q : CellState). q.clients client) (ap (after_all s) happened ∙ after_client s client c entries there) ∙ put_here s.clients client (Some (client_after_all c entries)) ∙ ap Some entered;
+    others = λ other ne. ap (λ (q : CellState). q.clients other) (ap (after_all s) happened ∙ after_client s client c entries there) ∙ put_off s.clients client other (Some (client_after_all c entries)) ne;
     performed = performed;
   }
 
@@ -287,21 +298,21 @@ module _ (cell : MadeCell) (kept : IsKept cell) (number : ℕ) (object : Fid) wh
   entered_behind c fetches entry entries are =
       ap (client_after_all c) are ∙ client_after_both c (entries_of fetches) (entry ∷ []) ∙ ap (λ b. client_after_all b (entry ∷ [])) (client_after_fetches c fetches)
 
-  answered : (t : Task) (client volume : ℕ) (ask : Asked) (c : ClientState) (answer : Answer) (events : List Event) → Operation (offers_of s client volume) c cell.clock volume ask number object answer → DoesAlways t client volume ask
-      → state_of (grown_all cell events) ≡ after_all s events → s.clients client ≡ Some c → events ≡ map_list (at_client client) answer.entries → Was t events
-  answered t client volume ask c answer events x does left there happened =
+  answered : (t : Task) (client volume : ℕ) → ((server : ℕ) → is_cut (s.links client server) ≡ false → Reaches client volume server) → (ask : Asked) (c : ClientState) (answer : Answer) (events : List Event) → Operation (offers_of s client volume) c s.clock volume ask number object answer → DoesAlways t client volume ask
+      → s.clients client ≡ Some c → events ≡ map_list (at_client client) answer.entries → Was t events
+  answered t client volume reach ask c answer events x does there happened =
       let fetches = look_ups (offers_of s client volume) c.held volume ask in
-      let entry = Did volume (Operated (next_record (c.volumes volume) cell.clock x.op)) in
-      finished t client volume c (client_after_all (behind_fetches c fetches) (entry ∷ [])) answer.entries events left there happened (entered_behind c fetches entry answer.entries x.entries_are) (performed t client volume ask c answer x does)
+      let entry = Did volume (Operated (next_record (c.volumes volume) s.clock x.op)) in
+      finished t client volume c (client_after_all (behind_fetches c fetches) (entry ∷ [])) answer.entries events there happened (entered_behind c fetches entry answer.entries x.entries_are) (performed t client volume reach ask c answer x does)
 
   never_refused : (why : Refused) → (let r : Reply = Done number object in r) ≡ refusal why → ⊥
   never_refused why is = cc
 
-  operated : (t : Task) (client volume : ℕ) (ask : Asked) (o : Option Refused) (events : List Event) → DoesAlways t client volume ask → state_of (grown_all cell events) ≡ after_all s events
-      → Unless o (ByClient s client volume (λ offers c. operate offers c cell.clock volume ask)) (Done number object) events → Was t events
-  operated t client volume ask (Some why) events does left isnt = absurd (never_refused why isnt.0)
-  operated t client volume ask None events does left did =
-      answered t client volume ask did.client (operate (offers_of s client volume) did.client cell.clock volume ask) events (operation (offers_of s client volume) did.client cell.clock volume ask number object did.answered) does left did.there did.happened
+  operated : (t : Task) (client volume : ℕ) → ((server : ℕ) → is_cut (s.links client server) ≡ false → Reaches client volume server) → (ask : Asked) (o : Option Refused) (events : List Event) → DoesAlways t client volume ask
+      → Unless o (ByClient s client volume (λ offers c. operate offers c s.clock volume ask)) (Done number object) events → Was t events
+  operated t client volume reach ask (Some why) events does isnt = absurd (never_refused why isnt.0)
+  operated t client volume reach ask None events does did =
+      answered t client volume reach ask did.client (operate (offers_of s client volume) did.client s.clock volume ask) events (operation (offers_of s client volume) did.client s.clock volume ask number object did.answered) does did.there did.happened
 
   -- ---- lines that are never answered so
 
@@ -349,45 +360,45 @@ module _ (cell : MadeCell) (kept : IsKept cell) (number : ℕ) (object : Fid) wh
 
   -- ---- each line
 
-  task_was : (t : Task) (events : List Event) → state_of (grown_all cell events) ≡ after_all s events → DoesTask s t (Done number object) events → Was t events
-  task_was (task.Create client volume path mode owner) events left does =
-      operated (task.Create client volume path mode owner) client volume (Create path (unwrap_or mode 420) (unwrap_or owner 0)) (first_missing (on_volume s client volume)) events
-      (λ sight own rec h. (refl, refl, created sight volume own rec path (unwrap_or mode 420) (unwrap_or owner 0) h)) left does
-  task_was (task.Mkdir client volume path mode owner) events left does =
-      operated (task.Mkdir client volume path mode owner) client volume (Mkdir path (unwrap_or mode 493) (unwrap_or owner 0)) (first_missing (on_volume s client volume)) events
-      (λ sight own rec h. (refl, refl, made_dir sight volume own rec path (unwrap_or mode 493) (unwrap_or owner 0) h)) left does
-  task_was (task.Symlink client volume path target) events left does =
-      operated (task.Symlink client volume path target) client volume (Symlink path target) (first_missing (on_volume s client volume)) events
-      (λ sight own rec h. (refl, refl, linked sight volume own rec path target h)) left does
-  task_was (task.Store client volume path content) events left does =
-      operated (task.Store client volume path content) client volume (Store path (bytes_of content)) (first_missing (on_volume s client volume)) events
-      (λ sight own rec h. (refl, refl, subst (λ bytes. IsStored sight.held.nodes (applied sight.held.nodes own rec) volume path bytes (object_of rec.op)) (stores content) (stored sight volume own rec path (bytes_of content) h))) left does
+  task_was : (t : Task) (events : List Event) → ((client volume server : ℕ) → task_on t ≡ Some (client, volume) → is_cut (s.links client server) ≡ false → Reaches client volume server) → DoesTask s t (Done number object) events → Was t events
+  task_was (task.Create client volume path mode owner) events reach does =
+      operated (task.Create client volume path mode owner) client volume (λ server up. reach client volume server refl up) (Create path (unwrap_or mode 420) (unwrap_or owner 0)) (first_missing (on_volume s client volume)) events
+      (λ sight own rec h. (refl, refl, created sight volume own rec path (unwrap_or mode 420) (unwrap_or owner 0) h)) does
+  task_was (task.Mkdir client volume path mode owner) events reach does =
+      operated (task.Mkdir client volume path mode owner) client volume (λ server up. reach client volume server refl up) (Mkdir path (unwrap_or mode 493) (unwrap_or owner 0)) (first_missing (on_volume s client volume)) events
+      (λ sight own rec h. (refl, refl, made_dir sight volume own rec path (unwrap_or mode 493) (unwrap_or owner 0) h)) does
+  task_was (task.Symlink client volume path target) events reach does =
+      operated (task.Symlink client volume path target) client volume (λ server up. reach client volume server refl up) (Symlink path target) (first_missing (on_volume s client volume)) events
+      (λ sight own rec h. (refl, refl, linked sight volume own rec path target h)) does
+  task_was (task.Store client volume path content) events reach does =
+      operated (task.Store client volume path content) client volume (λ server up. reach client volume server refl up) (Store path (bytes_of content)) (first_missing (on_volume s client volume)) events
+      (λ sight own rec h. (refl, refl, subst (λ bytes. IsStored (stamp own rec) sight.held.nodes (applied sight.held.nodes own rec) volume path bytes (object_of rec.op)) (stores content) (stored sight volume own rec path (bytes_of content) h))) does
     where
       stores : (c : Content) → bytes_of c ≡ content_of c
       stores (Text text) = refl
       stores (Fill length byte) = refl
-  task_was (task.Setattr client volume path attrs) events left does =
-      operated (task.Setattr client volume path attrs) client volume (Setattr path attrs) (first_missing (on_volume s client volume)) events
-      (λ sight own rec h. (refl, refl, attributes_set sight volume own rec path attrs h)) left does
-  task_was (task.Remove client volume path) events left does =
-      operated (task.Remove client volume path) client volume (Remove path) (first_missing (on_volume s client volume)) events
-      (λ sight own rec h. (refl, refl, removed sight volume own rec path h)) left does
-  task_was (task.Rmdir client volume path) events left does =
-      operated (task.Rmdir client volume path) client volume (Rmdir path) (first_missing (on_volume s client volume)) events
-      (λ sight own rec h. (refl, refl, removed_dir sight volume own rec path h)) left does
-  task_was (task.Rename client volume from to) events left does =
-      operated (task.Rename client volume from to) client volume (Rename from to) (first_missing (on_volume s client volume)) events
-      (λ sight own rec h. (refl, refl, renamed sight volume own rec from to h)) left does
-  task_was (task.Read client volume path) events left does =
+  task_was (task.Setattr client volume path attrs) events reach does =
+      operated (task.Setattr client volume path attrs) client volume (λ server up. reach client volume server refl up) (Setattr path attrs) (first_missing (on_volume s client volume)) events
+      (λ sight own rec h. (refl, refl, attributes_set sight volume own rec path attrs h)) does
+  task_was (task.Remove client volume path) events reach does =
+      operated (task.Remove client volume path) client volume (λ server up. reach client volume server refl up) (Remove path) (first_missing (on_volume s client volume)) events
+      (λ sight own rec h. (refl, refl, removed sight volume own rec path h)) does
+  task_was (task.Rmdir client volume path) events reach does =
+      operated (task.Rmdir client volume path) client volume (λ server up. reach client volume server refl up) (Rmdir path) (first_missing (on_volume s client volume)) events
+      (λ sight own rec h. (refl, refl, removed_dir sight volume own rec path h)) does
+  task_was (task.Rename client volume from to) events reach does =
+      operated (task.Rename client volume from to) client volume (λ server up. reach client volume server refl up) (Rename from to) (first_missing (on_volume s client volume)) events
+      (λ sight own rec h. (refl, refl, renamed sight volume own rec from to h)) does
+  task_was (task.Read client volume path) events reach does =
       absurd (unless_never (first_missing (on_volume s client volume)) (ByClient s client volume (λ offers c. read offers c volume path)) events (λ did. not_shown read_in not_read _ _ _ did.answered) does)
-  task_was (task.List client volume path) events left does =
+  task_was (task.List client volume path) events reach does =
       absurd (unless_never (first_missing (on_volume s client volume)) (ByClient s client volume (λ offers c. list offers c volume path)) events (λ did. not_shown list_in not_listed _ _ _ did.answered) does)
-  task_was (task.Drain client volume server window) events left does =
+  task_was (task.Drain client volume server window) events reach does =
       absurd (unless_never (first_missing (on_holder s client volume server)) (ByBoth s client volume (unwrap_or window 600)) events
       (λ did. not_drain (s.links client did.replica.server) s.clock (unwrap_or window 600) client volume (did.client.volumes volume) did.replica did.answered) does)
-  task_was (task.Hardlink client volume from to) events left does = absurd does
-  task_was (task.Refresh client volume server) events left does = absurd does
-  task_was (task.Giveup client volume) events left does = absurd does
+  task_was (task.Hardlink client volume from to) events reach does = absurd does
+  task_was (task.Refresh client volume server) events reach does = absurd does
+  task_was (task.Giveup client volume) events reach does = absurd does
 
 -- ---- a cell on disks
 
@@ -403,24 +414,33 @@ never_full number object e = cc
 never_failed : (number : ℕ) (object : Fid) → done number object ≡ refused_fault → ⊥
 never_failed number object e = cc
 
-module _ (old new : StoredCell) (kept : IsStoredKept old) (t : Task) (number : ℕ) (object : Fid) where
-  abbrev IsLeft : StoredCell → Type 0
-  IsLeft cell = WasPerformed t (state_of old.made).clients (state_of cell.made).clients (state_of old.made).replicas old.made.clock number object
+module _ (old new : Cell) (t : Task) (number : ℕ) (object : Fid) where
+  abbrev IsLeft : Cell → Type 0
+  IsLeft cell = WasPerformed (CanReach old) t (state_of old).clients (state_of cell).clients (state_of old).replicas old.clock number object
 
-  all_done : (links : ℕ → ℕ → Strength) (events : List Event) → Does (state_of (met old links)) (line.Task t) (Done number object) events
-      → ShowsAs (grown_all (met old links) events) new.made → IsLeft new
-  all_done links events does shows =
-      let cell = met old links in
-      let found = met_kept old links kept in
-      subst (λ clients. WasPerformed t (state_of old.made).clients clients (state_of old.made).replicas old.made.clock number object) (clients_as (grown_all cell events) new.made shows)
-      (task_was cell found number object t events (lines_keep_cells cell (line.Task t) (Done number object) events found tt does).shown does)
+  all_done : (at : IsMet old (line.Task t)) (events : List Event) → Does (met old at.links) (line.Task t) (Done number object) events
+      → ShowsAs (after_all (met old at.links) events) new → IsLeft new
+  all_done at events does shows =
+      subst (λ clients. WasPerformed (CanReach old) t (state_of old).clients clients (state_of old).replicas old.clock number object) (clients_as (after_all (met old at.links) events) new shows)
+      (task_was (met old at.links) (CanReach old) number object t events (reaches old t at) does)
 
   ended : (reply : Reply) → reply ≡ Done number object → Ends old (line.Task t) reply new → IsLeft new
   ended reply done (WasDown down is same) = absurd (never_down number object (sym done ∙ is))
-  ended reply done (DidAll links events does shows) = all_done links events (subst (λ r. Does (state_of (met old links)) (line.Task t) r events) done does) shows
+  ended reply done (DidAll at events does shows) = all_done at events (subst (λ r. Does (met old at.links) (line.Task t) r events) done does) shows
   ended reply done (LackedRoom at own events stop does shows is lacks same) = absurd (never_full number object (sym done ∙ is))
   ended reply done (HadFault at own events stop does shows is same) = absurd (never_failed number object (sym done ∙ is))
 
+-- a client goes by its number
+own_number : (cell : Cell) (client : ℕ) (c : ClientState) → (state_of cell).clients client ≡ Some c → c.number ≡ client
+own_number cell client c e = by (asked (cell.clients client).life) e
+  where
+    by : (o : Option Header) → option_map (λ (header : Header). client_of client (cell.clients client).disk.history header.cache) o ≡ Some c → c.number ≡ client
+    by None e = cc
+    by (Some header) e =
+        let same : client_of client (cell.clients client).disk.history header.cache ≡ c = cc in
+        ap (λ (x : ClientState). x.number) (sym same) ∙ number_stays (new_client client header.cache) (cell.clients client).disk.history
+
 pub operations_are_performed : OperationsArePerformed
 operations_are_performed cell kept t number object answered new happens =
-    ended cell new kept t number object (Done number object) refl (line_ends cell (line.Task t) (Done number object) answered new happens)
+    let was = ended cell new t number object (Done number object) refl (line_ends cell (line.Task t) (Done number object) answered new refl happens) in
+    (was, own_number cell was.client was.old was.was)

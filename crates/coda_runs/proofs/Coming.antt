@@ -1,38 +1,23 @@
--- What every line comes to in a cell on disks: it acts; or it makes an actor, crashes it or recovers it, and touches no letter.
-use Rattle.std.proofs.Common.{◌≡◌, ℕ, ◌||◌, Bool, true, false, List, [], ◌∷◌, Option, Some, None, is_some, refl, sym, ap, ◌∙◌, subst, inl, inr}
-use Rattle.std.specs.Prelude.{◌+◌, nat_le, nat_lt, length}
-use Rattle.coda_journal.specs.declared.header.Header.{Header}
-use Rattle.coda_plain.specs.Cell.{PlainCell}
-use Rattle.coda_plain.specs.Moves.{Who, TheClient, TheReplica, Crashes, Recovers, after as after_move}
+-- What every line comes to in a cell that is its disks: it acts; or it makes an actor, crashes it or recovers it, and touches no letter.
+use Rattle.std.proofs.Common.{◌≡◌, ℕ, Bool, true, false, List, [], ◌∷◌, ◌++◌, Option, Some, None, refl, sym, ap, ◌∙◌, subst}
+use Rattle.coda_actors.specs.Plain.{PlainActor}
+use Rattle.coda_actors.specs.declared.slot.Mounting.{Mounting}
+use Rattle.coda_actors.specs.declared.slot.Mounting.TheVariants.{Entries, Foreign, DiskFault, Memory}
+use Rattle.coda_plain.specs.Cell.{ClientEntry}
+use Rattle.coda_plain.specs.Decisions.{ReplicaEntry}
 use Rattle.coda_report.specs.Texts.{IsWhole}
 use Rattle.coda_script.specs.declared.line.Line.{Line}
 use Rattle.coda_script.specs.declared.line.Line.TheVariants as line
 use Rattle.coda_script.specs.declared.reply.Reply.{Reply}
-use Rattle.coda_script.specs.declared.reply.Reply.TheVariants.{Opened, Accepted, Crashed, Recovered}
-use Rattle.coda_cell.specs.State.{VolumeMade, ClientMade}
-use Rattle.coda_cell.specs.Made.{MadeCell, state_of, grown}
+use Rattle.coda_script.specs.declared.reply.Reply.TheVariants.{Accepted, Crashed}
 use Rattle.coda_cell.specs.Refusing.{refusal}
-use Rattle.coda_cell.specs.Steps.{client_named, holder_named, first_missing, no_room, alone}
+use Rattle.coda_cell.specs.Steps.{first_missing}
 use Rattle.coda_cell.specs.Refused.{Refused as Refusal}
-use Rattle.coda_stored.specs.Cells.{StoredCell, client_header, replica_header, Side}
-use Rattle.coda_stored.specs.Lines.{is_down_for, Becoming, Unless, UnlessDown, Opens, no_volume, no_client, with_volume, with_client, area_of, IsRefused, CrashesClient, CrashesReplica, RecoversClient, RecoversReplica, Stays, Happens, refused_down, refused_fault, refused_foreign}
+use Rattle.coda_shelves.specs.Shelves.{client_header}
+use Rattle.coda_shelves.specs.Cells.{Cell, Stand, stand_of, with_client, with_replica}
+use Rattle.coda_shelves.specs.Lines.{Becoming, Stays, Unless, UnlessDown, needs, is_down_for, the_client, the_replica, is_others, opening, area_of, no_volume, no_client, with_row, MakesVolume, with_made, MakesClient, client_payloads, replica_payloads, Crashes, recovery, Recovers, AtReplicaOf, Happens, refused_down}
 use Rattle.coda_runs.proofs.Meeting.{Ends, line_ends}
-
--- a cell whose histories are others
-abbrev pub acting : MadeCell → PlainCell → MadeCell
-acting made acted = record made { acted = acted }
-
--- what a line leaves that doesn't act: histories, beside an actor that wasn't there if it makes one
-pub data Leaves (old new : MadeCell) : Type 0 where
-  Actors : (acted : PlainCell) → new ≡ acting old acted → Leaves old new
-  OneVolume : (volume server : ℕ) (acted : PlainCell) → old.homes volume ≡ None → new ≡ acting (grown old (VolumeMade volume server)) acted → Leaves old new
-  OneClient : (client blocks : ℕ) (acted : PlainCell) → old.sizes client ≡ None → new ≡ acting (grown old (ClientMade client blocks)) acted → Leaves old new
-
--- the letters that wait are those that waited
-pub leaves_letters : (old new : MadeCell) → Leaves old new → new.waiting ≡ old.waiting
-leaves_letters old new (Actors acted is) = ap (λ (c : MadeCell). c.waiting) is
-leaves_letters old new (OneVolume volume server acted none is) = ap (λ (c : MadeCell). c.waiting) is
-leaves_letters old new (OneClient client blocks acted none is) = ap (λ (c : MadeCell). c.waiting) is
+use Rattle.coda_runs.proofs.Unlettered.{is_acting}
 
 -- the lines that touch letters
 abbrev pub touches_letters : Line → Bool
@@ -41,115 +26,106 @@ touches_letters (line.Deliver message) = true
 touches_letters (line.Lose message) = true
 touches_letters _ = false
 
-pub data ComesTo (old : StoredCell) (said : Line) (reply : Reply) (new : StoredCell) : Type 0 where
-  Acted : Ends old said reply new → ComesTo old said reply new
-  Aside : touches_letters said ≡ false → IsWhole reply → Leaves old.made new.made → ComesTo old said reply new
+pub data ComesTo (old : Cell) (said : Line) (reply : Reply) (new : Cell) : Type 0 where
+  Acted : is_acting said ≡ true → Ends old said reply new → ComesTo old said reply new
+  Aside : touches_letters said ≡ false → IsWhole reply → new.waiting ≡ old.waiting → ComesTo old said reply new
 
--- ---- where there is room for an actor, it isn't there
+-- ---- replies that show nothing
 
-not_there : {A : Type 0} (o : Option A) (full : Bool) → no_room (is_some o) full ≡ None → o ≡ None
-not_there None full e = refl
-not_there (Some x) full e = cc
+opening_whole : (counts : List ℕ) (faulty : Bool) (endings : List Mounting) → IsWhole (opening counts faulty endings)
+opening_whole counts false [] = tt
+opening_whole counts true [] = tt
+opening_whole counts faulty (Entries count ∷ endings) = opening_whole (counts ++ count ∷ []) faulty endings
+opening_whole counts faulty (Foreign at ∷ endings) = tt
+opening_whole counts faulty (DiskFault ∷ endings) = opening_whole counts true endings
+opening_whole counts faulty (Memory ∷ endings) = opening_whole counts true endings
+
+recovery_whole : (ending : Mounting) → IsWhole (recovery ending)
+recovery_whole (Entries count) = tt
+recovery_whole (Foreign at) = tt
+recovery_whole DiskFault = tt
+recovery_whole Memory = tt
 
 -- ---- lines that don't act
 
--- such a line leaves this
-abbrev IsLeft : StoredCell → Reply → StoredCell → Type 0
-IsLeft old reply new = IsWhole reply × Leaves old.made new.made
+row_letters : (others : Bool) (cell : Cell) (volume : ℕ) (servers : List ℕ) (area : ℕ) (row : ℕ → PlainActor ReplicaEntry) → (with_row others cell volume servers area row).waiting ≡ cell.waiting
+row_letters true cell volume servers area row = refl
+row_letters false cell volume servers area row = refl
 
-module _ (old : StoredCell) (reply : Reply) (outside : List (List ℕ)) (new : StoredCell) where
-  stays : new ≡ old → Leaves old.made new.made
-  stays is = Actors old.made.acted (ap (λ (c : StoredCell). c.made) is)
+made_letters : (others : Bool) (cell : Cell) (client area : ℕ) (actor : PlainActor ClientEntry) → (with_made others cell client area actor).waiting ≡ cell.waiting
+made_letters true cell client area actor = refl
+made_letters false cell client area actor = refl
+
+module _ (old : Cell) (reply : Reply) (outside : List (List ℕ)) (new : Cell) where
+  -- such a line leaves this
+  abbrev IsLeft : Type 0
+  IsLeft = IsWhole reply × (new.waiting ≡ old.waiting)
 
   whole : (other : Reply) → IsWhole other → reply ≡ other → IsWhole reply
   whole other is same = subst IsWhole (sym same) is
 
-  unless_left : (o : Option Refusal) (own : Becoming) → (o ≡ None → own reply outside new → IsLeft old reply new) → Unless old o own reply outside new
-      → IsLeft old reply new
-  unless_left (Some why) own rest does = (whole (refusal why) tt does.0, stays does.2)
-  unless_left None own rest does = rest refl does
+  stays : new ≡ old → new.waiting ≡ old.waiting
+  stays is = ap (λ (c : Cell). c.waiting) is
 
-  down_left : (b : Bool) (own : Becoming) → (own reply outside new → IsLeft old reply new) → UnlessDown b old own reply outside new → IsLeft old reply new
+  unless_left : (o : Option Refusal) (own : Becoming) → (own reply outside new → IsLeft) → Unless old o own reply outside new → IsLeft
+  unless_left (Some why) own rest does = (whole (refusal why) tt does.0, stays does.2)
+  unless_left None own rest does = rest does
+
+  down_left : (b : Bool) (own : Becoming) → (own reply outside new → IsLeft) → UnlessDown b old own reply outside new → IsLeft
   down_left true own rest does = (whole refused_down tt does.0, stays does.2)
   down_left false own rest does = rest does
 
-  arms_left : (o : Option Refusal) → Unless old o (Stays old Accepted) reply outside new → IsLeft old reply new
-  arms_left o does = unless_left o (Stays old Accepted) (λ all did. (whole Accepted tt did.0, stays did.2)) does
+  volume_left : (volume : ℕ) (servers : List ℕ) (area : ℕ) → MakesVolume old volume servers area reply outside new → IsLeft
+  volume_left volume servers area (endings, row, mounts, says, out, next) =
+      (whole (opening [] false endings) (opening_whole [] false endings) says, ap (λ (c : Cell). c.waiting) next ∙ row_letters (is_others endings) old volume servers area row)
 
-  volume_left : (volume server area : ℕ) → old.made.homes volume ≡ None
-      → Opens old (replica_header volume server area) (with_volume old volume server area) (TheReplica server volume) reply outside new → IsLeft old reply new
-  volume_left volume server area none (out, inl up) =
-      (whole (Opened (0 ∷ [])) tt up.0, OneVolume volume server old.made.acted none (ap (λ (c : StoredCell). c.made) up.1))
-  volume_left volume server area none (out, inr down) =
-      (whole refused_fault tt down.2, OneVolume volume server (after_move old.made.acted (Crashes (TheReplica server volume))) none (ap (λ (c : StoredCell). c.made) down.3))
+  client_left : (client blocks area : ℕ) → MakesClient old client (client_header client blocks area) reply outside new → IsLeft
+  client_left client blocks area (ending, disk, told, mounts, says, out, next) =
+      (whole (opening [] false (ending ∷ [])) (opening_whole [] false (ending ∷ [])) says, ap (λ (c : Cell). c.waiting) next ∙ made_letters (is_others (ending ∷ [])) old client area _)
 
-  client_left : (client blocks area : ℕ) → old.made.sizes client ≡ None
-      → Opens old (client_header client blocks area) (with_client old client blocks area) (TheClient client) reply outside new → IsLeft old reply new
-  client_left client blocks area none (out, inl up) =
-      (whole (Opened (0 ∷ [])) tt up.0, OneClient client blocks old.made.acted none (ap (λ (c : StoredCell). c.made) up.1))
-  client_left client blocks area none (out, inr down) =
-      (whole refused_fault tt down.2, OneClient client blocks (after_move old.made.acted (Crashes (TheClient client))) none (ap (λ (c : StoredCell). c.made) down.3))
+  crash_left : {Entry : Type 0} (payloads : _) (actor : PlainActor Entry) (goes : PlainActor Entry → Cell) → ((a : PlainActor Entry) → (goes a).waiting ≡ old.waiting) → Crashes payloads actor goes reply outside new → IsLeft
+  crash_left payloads actor goes letters (header, is, (image, may, says, out, next)) = (whole Crashed tt says, ap (λ (c : Cell). c.waiting) next ∙ letters _)
 
-  refused_left : (who : Who) (side : Side) (header : Header) (entries : ℕ) (tried : Side) (mid : StoredCell)
-      → IsRefused old who side header entries tried mid → new.made ≡ mid.made → Leaves old.made new.made
-  refused_left who side header entries tried mid (inl same) is = Actors (after_move old.made.acted (Crashes who)) (is ∙ ap (λ (c : StoredCell). c.made) same.1)
-  refused_left who side header entries tried mid (inr next) is =
-      Actors (after_move (after_move old.made.acted (Recovers who false)) (Crashes who)) (is ∙ ap (λ (c : StoredCell). c.made) next.2)
+  recover_left : {Entry : Type 0} (payloads : _) (actor : PlainActor Entry) (goes : PlainActor Entry → Cell) → ((a : PlainActor Entry) → (goes a).waiting ≡ old.waiting) → Recovers payloads actor goes reply outside new → IsLeft
+  recover_left payloads actor goes letters (header, is, (ending, disk, told, mounts, from, says, out, next)) = (whole (recovery ending) (recovery_whole ending) says, ap (λ (c : Cell). c.waiting) next ∙ letters _)
 
-  crashes_client_left : (client : ℕ) → CrashesClient old client reply outside new → IsLeft old reply new
-  crashes_client_left client did = (whole Crashed tt did.2, Actors (after_move old.made.acted (Crashes (TheClient client))) (ap (λ (c : StoredCell). c.made) did.4))
+  crash_replica_left : (o : Option Stand) (server : ℕ) → AtReplicaOf old o server (Crashes replica_payloads) reply outside new → IsLeft
+  crash_replica_left None server does = absurd does
+  crash_replica_left (Some at) server does = crash_left replica_payloads (old.replicas at.row server) (with_replica old at.row server) (λ a. refl) does
 
-  crashes_replica_left : (server volume : ℕ) → CrashesReplica old server volume reply outside new → IsLeft old reply new
-  crashes_replica_left server volume did =
-      (whole Crashed tt did.2, Actors (after_move old.made.acted (Crashes (TheReplica server volume))) (ap (λ (c : StoredCell). c.made) did.4))
+  recover_replica_left : (o : Option Stand) (server : ℕ) → AtReplicaOf old o server (Recovers replica_payloads) reply outside new → IsLeft
+  recover_replica_left None server does = absurd does
+  recover_replica_left (Some at) server does = recover_left replica_payloads (old.replicas at.row server) (with_replica old at.row server) (λ a. refl) does
 
-  recovers_client_left : (client : ℕ) → RecoversClient old client reply outside new → IsLeft old reply new
-  recovers_client_left client (none, (header, asked, inl did)) =
-      (whole (Recovered _) tt did.1, Actors (after_move old.made.acted (Recovers (TheClient client) did.0)) (ap (λ (c : StoredCell). c.made) did.3))
-  recovers_client_left client (none, (header, asked, inr (inr (at, differs, replied, is)))) =
-      (whole (refused_foreign at) tt replied, Actors (after_move old.made.acted (Crashes (TheClient client))) (ap (λ (c : StoredCell). c.made) is))
-  recovers_client_left client (none, (header, asked, inr (inl did))) =
-      (whole refused_fault tt did.3, refused_left (TheClient client) _ header _ did.0 did.1 did.2 (ap (λ (c : StoredCell). c.made) did.4))
-
-  recovers_replica_left : (server volume : ℕ) → RecoversReplica old server volume reply outside new → IsLeft old reply new
-  recovers_replica_left server volume (none, (header, asked, inl did)) =
-      (whole (Recovered _) tt did.1, Actors (after_move old.made.acted (Recovers (TheReplica server volume) did.0)) (ap (λ (c : StoredCell). c.made) did.3))
-  recovers_replica_left server volume (none, (header, asked, inr (inr (at, differs, replied, is)))) =
-      (whole (refused_foreign at) tt replied, Actors (after_move old.made.acted (Crashes (TheReplica server volume))) (ap (λ (c : StoredCell). c.made) is))
-  recovers_replica_left server volume (none, (header, asked, inr (inl did))) =
-      (whole refused_fault tt did.3, refused_left (TheReplica server volume) _ header _ did.0 did.1 did.2 (ap (λ (c : StoredCell). c.made) did.4))
+  arms_left : (o : Option Refusal) → Unless old o (Stays old Accepted) reply outside new → IsLeft
+  arms_left o does = unless_left o (Stays old Accepted) (λ did. (whole Accepted tt did.0, stays did.2)) does
 
   -- ---- every line
 
-  aside : (said : Line) → touches_letters said ≡ false → IsLeft old reply new → ComesTo old said reply new
+  aside : (said : Line) → touches_letters said ≡ false → IsLeft → ComesTo old said reply new
   aside said none left = Aside none left.0 left.1
 
   pub line_comes : (said : Line) → Happens old said reply outside new → ComesTo old said reply new
-  line_comes (line.Volume volume servers area) does =
-      let full = nat_le 64 (length old.made.servers) || nat_lt 512 (old.areas + area_of area) in
-      aside (line.Volume volume servers area) refl (unless_left (no_volume old volume (area_of area)) _
-      (λ room did. volume_left volume (alone servers) (area_of area) (not_there (old.made.homes volume) full room) did) does)
-  line_comes (line.Client client blocks area) does =
-      let full = nat_lt 512 (old.areas + area_of area) in
-      aside (line.Client client blocks area) refl (unless_left (no_client old client (area_of area)) _ (λ room did. client_left client blocks (area_of area) (not_there (old.made.sizes client) full room) did) does)
-  line_comes (line.CrashClient client choice) does =
-      aside (line.CrashClient client choice) refl (unless_left (first_missing (client_named (state_of old.made) client ∷ [])) (CrashesClient old client) (λ all did. crashes_client_left client did) does)
-  line_comes (line.CrashReplica server volume choice) does =
-      aside (line.CrashReplica server volume choice) refl (unless_left (first_missing (holder_named (state_of old.made) server volume ∷ [])) (CrashesReplica old server volume) (λ all did. crashes_replica_left server volume did) does)
-  line_comes (line.RecoverClient client) does =
-      aside (line.RecoverClient client) refl (unless_left (first_missing (client_named (state_of old.made) client ∷ [])) (RecoversClient old client) (λ all did. recovers_client_left client did) does)
-  line_comes (line.RecoverReplica server volume) does =
-      aside (line.RecoverReplica server volume) refl (unless_left (first_missing (holder_named (state_of old.made) server volume ∷ [])) (RecoversReplica old server volume) (λ all did. recovers_replica_left server volume did) does)
+  line_comes (line.Volume volume servers area) does = aside (line.Volume volume servers area) refl (unless_left (no_volume old volume (area_of area)) (MakesVolume old volume servers (area_of area)) (volume_left volume servers (area_of area)) does)
+  line_comes (line.Client client blocks area) does = aside (line.Client client blocks area) refl (unless_left (no_client old client (area_of area)) (MakesClient old client (client_header client blocks (area_of area))) (client_left client blocks (area_of area)) does)
+  line_comes (line.CrashClient client choice) does = aside (line.CrashClient client choice) refl
+      (unless_left (first_missing (the_client old client).named) (Crashes client_payloads (old.clients client) (with_client old client)) (crash_left client_payloads (old.clients client) (with_client old client) (λ a. refl)) does)
+  line_comes (line.CrashReplica server volume choice) does = aside (line.CrashReplica server volume choice) refl
+      (unless_left (first_missing (the_replica old server volume).named) (AtReplicaOf old (stand_of old volume) server (Crashes replica_payloads)) (crash_replica_left (stand_of old volume) server) does)
+  line_comes (line.RecoverClient client) does = aside (line.RecoverClient client) refl
+      (unless_left (first_missing (the_client old client).named) (Recovers client_payloads (old.clients client) (with_client old client)) (recover_left client_payloads (old.clients client) (with_client old client) (λ a. refl)) does)
+  line_comes (line.RecoverReplica server volume) does = aside (line.RecoverReplica server volume) refl
+      (unless_left (first_missing (the_replica old server volume).named) (AtReplicaOf old (stand_of old volume) server (Recovers replica_payloads)) (recover_replica_left (stand_of old volume) server) does)
   line_comes (line.ArmClient client passes) does =
-      aside (line.ArmClient client passes) refl (down_left (is_down_for old (line.ArmClient client passes)) _ (arms_left (first_missing (client_named (state_of old.made) client ∷ []))) does)
+      aside (line.ArmClient client passes) refl (down_left (is_down_for (needs old (line.ArmClient client passes))) _ (arms_left (first_missing (the_client old client).named)) does)
   line_comes (line.ArmReplica server volume passes) does =
-      aside (line.ArmReplica server volume passes) refl (down_left (is_down_for old (line.ArmReplica server volume passes)) _ (arms_left (first_missing (holder_named (state_of old.made) server volume ∷ []))) does)
-  line_comes (line.Link client server strength) does = Acted (line_ends old (line.Link client server strength) reply outside new does)
-  line_comes (line.Tick seconds) does = Acted (line_ends old (line.Tick seconds) reply outside new does)
-  line_comes (line.Task t) does = Acted (line_ends old (line.Task t) reply outside new does)
-  line_comes (line.ShowVolume server volume) does = Acted (line_ends old (line.ShowVolume server volume) reply outside new does)
-  line_comes (line.ShowLog client volume) does = Acted (line_ends old (line.ShowLog client volume) reply outside new does)
-  line_comes (line.Send client volume server window) does = Acted (line_ends old (line.Send client volume server window) reply outside new does)
-  line_comes (line.Deliver message) does = Acted (line_ends old (line.Deliver message) reply outside new does)
-  line_comes (line.Lose message) does = Acted (line_ends old (line.Lose message) reply outside new does)
+      aside (line.ArmReplica server volume passes) refl (down_left (is_down_for (needs old (line.ArmReplica server volume passes))) _ (arms_left (first_missing (the_replica old server volume).named)) does)
+  line_comes (line.Link client server strength) does = Acted refl (line_ends old (line.Link client server strength) reply outside new refl does)
+  line_comes (line.Tick seconds) does = Acted refl (line_ends old (line.Tick seconds) reply outside new refl does)
+  line_comes (line.Task t) does = Acted refl (line_ends old (line.Task t) reply outside new refl does)
+  line_comes (line.ShowVolume server volume) does = Acted refl (line_ends old (line.ShowVolume server volume) reply outside new refl does)
+  line_comes (line.ShowLog client volume) does = Acted refl (line_ends old (line.ShowLog client volume) reply outside new refl does)
+  line_comes (line.Send client volume server window) does = Acted refl (line_ends old (line.Send client volume server window) reply outside new refl does)
+  line_comes (line.Deliver message) does = Acted refl (line_ends old (line.Deliver message) reply outside new refl does)
+  line_comes (line.Lose message) does = Acted refl (line_ends old (line.Lose message) reply outside new refl does)
   line_comes _ does = absurd does.1.does

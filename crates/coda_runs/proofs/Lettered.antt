@@ -12,11 +12,12 @@ use Rattle.coda_net.specs.Pool.{is_sent}
 use Rattle.coda_letters.specs.Sent.{Sent, ChunkSent, AnswerSent, client_of, server_of, bytes_of, letter_of, Waiting, sent_at, without, lost_by, with_sent, number_of}
 use Rattle.coda_certify.specs.declared.verdict.Verdict.{Verdict}
 use Rattle.coda_certify.specs.declared.verdict.Verdict.TheVariants as verdicts
-use Rattle.coda_plain.specs.Cell.{ClientEntry, Did, Ruled, AnswerSent as PlainAnswer}
-use Rattle.coda_plain.specs.Decisions.{ReplicaEntry}
+use Rattle.coda_plain.specs.Cell.{ClientEntry, Did, Ruled, AnswerSent as PlainAnswer, Joins}
+use Rattle.coda_plain.specs.Decisions.{ReplicaEntry, decisions_of}
 use Rattle.coda_plain.specs.Deeds.{chunks_of, span_of}
 use Rattle.coda_plain.specs.Histories.{In}
 use Rattle.coda_plain.specs.Moves.{AtReplica, done_on}
+use Rattle.coda_plain.specs.Sound.{IsDecided as IsDecidedNow}
 use Rattle.coda_plain.proofs.Chunking.{numbered as chunks_are_numbered}
 use Rattle.coda_plain.proofs.Soundness.{none_joins}
 use Rattle.coda_script.specs.declared.line.Line.{Line}
@@ -29,24 +30,27 @@ use Rattle.coda_script.specs.declared.reply.Reply.TheVariants as replies
 use Rattle.coda_script.specs.declared.line.Strength.{Strength}
 use Rattle.coda_cell.specs.State.{CellState, Event, Entered, after, after_all, at_client}
 use Rattle.coda_cell.specs.Sending.{Freezing, freezing, Ruling, ruling, Taking, taking, deeds_at, entries_at, reply_answer}
-use Rattle.coda_cell.specs.Made.{MadeCell, state_of, grown_all, plain_answer}
+use Rattle.coda_cell.specs.Made.{MadeCell, plain_answer}
 use Rattle.coda_cell.specs.Messages.{over, posting, going_by, sends_of, ruled_in, reply_taken, taken_in}
 use Rattle.coda_cell.specs.Refusing.{refusal}
-use Rattle.coda_cell.specs.Runs.{IsKept, AreNumbered, MakesNumbered}
-use Rattle.coda_cell.specs.Steps.{reply_to, Doing, Unless, first_missing, on_volume, on_holder, client_named, server_named, holder_named, no_volume, no_client, BySend, ByRuling, ByTaking, Comes, link_down, Delivers, Loses, Does}
+use Rattle.coda_cell.specs.Runs.{IsKept as IsMadeKept, AreNumbered}
+use Rattle.coda_cell.specs.Steps.{reply_to, Doing, Unless, first_missing, on_volume, on_holder, client_named, server_named, holder_named, BySend, ByRuling, ByTaking, Comes, link_down, Delivers, Loses, Does}
 use Rattle.coda_cell.specs.Refused.{Refused}
 use Rattle.coda_cell.specs.Refused as refused
 use Rattle.coda_cell.proofs.CarriedLetters.{posting_after}
 use Rattle.coda_cell.proofs.KeptLetters.{IsWaiting, waits}
-use Rattle.coda_cell.proofs.KeptLines.{lines_keep_cells}
 use Rattle.coda_cell.proofs.Moving.{after_both}
-use Rattle.coda_stored.specs.Cells.{StoredCell}
-use Rattle.coda_stored.specs.Kept.{whole, IsStoredKept}
-use Rattle.coda_stored.specs.Lines.{Stop}
+use Rattle.coda_shelves.specs.Shelves.{found_on}
+use Rattle.coda_shelves.specs.Cells.{Cell, shelves_of}
+use Rattle.coda_shelves.specs.Kept.{IsDecided}
+use Rattle.coda_shelves.specs.Lines.{Stop}
+use Rattle.coda_shelves.specs.Running.{made_now, IsKept}
+use Rattle.coda_shelves.proofs.Whole.{now_by}
+use Rattle.coda_shelves.proofs.Wholly.{learned, whole_kept}
 use Rattle.coda_runs.specs.Lettered.{answer_with, answer_told, WaitsUnder, WentAs, SendTells, CameFor, DeliveryTells, LossTells, TellsLetters, RepliesNameLetters, IsSo, LettersSayWhatIsSo}
-use Rattle.coda_runs.proofs.Coming.{leaves_letters, touches_letters, ComesTo, Acted, Aside, line_comes}
-use Rattle.coda_runs.proofs.Meeting.{met, met_kept, ShowsAs, Ends, WasDown, DidAll, LackedRoom, HadFault}
-use Rattle.coda_runs.proofs.Unlettered.{entries_stay, stopped_entries, task_entries, line_first}
+use Rattle.coda_runs.proofs.Coming.{touches_letters, ComesTo, Acted, Aside, line_comes}
+use Rattle.coda_runs.proofs.Meeting.{met, ShowsAs, waiting_as, Ends, WasDown, DidAll, LackedRoom, HadFault}
+use Rattle.coda_runs.proofs.Unlettered.{is_acting, entries_stay, stopped_entries, task_entries, line_first}
 
 -- ---- letters by their numbers
 
@@ -339,33 +343,24 @@ module _ (s : CellState) (numbered : AreNumbered 0 s.posted s.waiting) where
       (subst (λ es. LossTells message (replies.Lost message) s.waiting (behind_of es)) (sym does.1)
       (refl, record { sent = sent; waited = is; gone = lost_at 0 s.posted s.waiting message numbered; others = others_wait s.waiting message }))
 
-unless_stays : (cell : MadeCell) (o : Option Refused) (own : Doing) (reply : Reply) (events : List Event) → (own reply events → (grown_all cell events).waiting ≡ cell.waiting) → Unless o own reply events → (grown_all cell events).waiting ≡ cell.waiting
-unless_stays cell (Some why) own reply events rest does = ap (λ es. (grown_all cell es).waiting) does.1
-unless_stays cell None own reply events rest does = rest does
+unless_stays : (s : CellState) (o : Option Refused) (own : Doing) (reply : Reply) (events : List Event) → (own reply events → (after_all s events).waiting ≡ s.waiting) → Unless o own reply events → (after_all s events).waiting ≡ s.waiting
+unless_stays s (Some why) own reply events rest does = ap (λ es. (after_all s es).waiting) does.1
+unless_stays s None own reply events rest does = rest does
 
--- the letters that wait behind a line, as the histories leave them
-behind : (cell : MadeCell) (said : Line) (reply : Reply) (events : List Event) → IsKept cell → MakesNumbered said → Does (state_of cell) said reply events → (after_all (state_of cell) events).waiting ≡ (grown_all cell events).waiting
-behind cell said reply events kept made does = ap (λ (c : CellState). c.waiting) (sym (lines_keep_cells cell said reply events kept made does).shown)
-
-tells : (cell : MadeCell) (said : Line) (reply : Reply) (events : List Event) → IsKept cell → Does (state_of cell) said reply events → TellsLetters said reply cell.waiting (grown_all cell events).waiting
-tells cell (line.Send client volume server window) reply events kept does =
-    subst (SendTells client volume server reply cell.waiting) (behind cell (line.Send client volume server window) reply events kept tt does)
-    (send_tells (state_of cell) kept.letters.numbered client volume server (unwrap_or window 600) (first_missing (on_holder (state_of cell) client volume server)) reply events does)
-tells cell (line.Deliver message) reply events kept does =
-    subst (DeliveryTells message reply cell.waiting) (behind cell (line.Deliver message) reply events kept tt does)
-    (delivery_tells (state_of cell) kept.letters.numbered message (sent_at message cell.waiting) reply events refl does)
-tells cell (line.Lose message) reply events kept does =
-    subst (LossTells message reply cell.waiting) (behind cell (line.Lose message) reply events kept tt does)
-    (loss_tells (state_of cell) kept.letters.numbered message (sent_at message cell.waiting) reply events refl does)
-tells cell (line.Volume volume servers area) reply events kept does = unless_stays cell (no_volume (state_of cell) volume) _ reply events (λ did. ap (λ es. (grown_all cell es).waiting) did.1) does
-tells cell (line.Client client blocks area) reply events kept does = unless_stays cell (no_client (state_of cell) client) _ reply events (λ did. ap (λ es. (grown_all cell es).waiting) did.1) does
-tells cell (line.Link client server strength) reply events kept does =
-    unless_stays cell (first_missing (client_named (state_of cell) client ∷ server_named (state_of cell) server ∷ [])) _ reply events (λ did. ap (λ es. (grown_all cell es).waiting) did.1) does
-tells cell (line.Tick seconds) reply events kept does = ap (λ es. (grown_all cell es).waiting) does.1
-tells cell (line.Task t) reply events kept does = entries_stay cell events (task_entries (state_of cell) reply events t does)
-tells cell (line.ShowVolume server volume) reply events kept does = unless_stays cell (first_missing (holder_named (state_of cell) server volume ∷ [])) _ reply events (λ did. ap (λ es. (grown_all cell es).waiting) did.1) does
-tells cell (line.ShowLog client volume) reply events kept does = unless_stays cell (first_missing (on_volume (state_of cell) client volume)) _ reply events (λ did. ap (λ es. (grown_all cell es).waiting) did.1) does
-tells cell _ reply events kept does = absurd does
+tells : (s : CellState) (said : Line) (reply : Reply) (events : List Event) → AreNumbered 0 s.posted s.waiting → is_acting said ≡ true → Does s said reply events → TellsLetters said reply s.waiting (after_all s events).waiting
+tells s (line.Send client volume server window) reply events numbered acts does =
+    send_tells s numbered client volume server (unwrap_or window 600) (first_missing (on_holder s client volume server)) reply events does
+tells s (line.Deliver message) reply events numbered acts does = delivery_tells s numbered message (sent_at message s.waiting) reply events refl does
+tells s (line.Lose message) reply events numbered acts does = loss_tells s numbered message (sent_at message s.waiting) reply events refl does
+tells s (line.Link client server strength) reply events numbered acts does =
+    unless_stays s (first_missing (client_named s client ∷ server_named s server ∷ [])) _ reply events (λ did. ap (λ es. (after_all s es).waiting) did.1) does
+tells s (line.Tick seconds) reply events numbered acts does = ap (λ es. (after_all s es).waiting) does.1
+tells s (line.Task t) reply events numbered acts does = entries_stay s events (task_entries s reply events t does)
+tells s (line.ShowVolume server volume) reply events numbered acts does = unless_stays s (first_missing (holder_named s server volume ∷ [])) _ reply events (λ did. ap (λ es. (after_all s es).waiting) did.1) does
+tells s (line.ShowLog client volume) reply events numbered acts does = unless_stays s (first_missing (on_volume s client volume)) _ reply events (λ did. ap (λ es. (after_all s es).waiting) did.1) does
+tells s (line.Volume volume servers area) reply events numbered acts does = cc
+tells s (line.Client client blocks area) reply events numbered acts does = cc
+tells s _ reply events numbered acts does = absurd does
 
 -- ---- a cell on disks
 
@@ -382,37 +377,33 @@ refused_so (line.Deliver message) name args old new same = same
 refused_so (line.Lose message) name args old new same = same
 refused_so _ name args old new same = same
 
-module _ (old new : StoredCell) (kept : IsStoredKept old) (said : Line) where
+module _ (old new : Cell) (numbered : AreNumbered 0 old.posted old.waiting) (said : Line) where
   abbrev Tells : Reply → Type 0
-  Tells reply = TellsLetters said reply old.made.waiting new.made.waiting
+  Tells reply = TellsLetters said reply old.waiting new.waiting
 
   -- a line that is stopped at an entry posted nothing before it
-  stopped : (links : ℕ → ℕ → Strength) (own : Reply) (events : List Event) (stop : Stop events) → Does (state_of (met old links)) said own events
-      → ShowsAs (grown_all (met old links) stop.done) new.made → new.made.waiting ≡ old.made.waiting
-  stopped links own events stop does shows =
-      sym shows.waiting ∙ entries_stay (met old links) stop.done (stopped_entries events (line_first (state_of (met old links)) own events said does) stop)
+  stopped : is_acting said ≡ true → (links : ℕ → ℕ → Strength) (own : Reply) (events : List Event) (stop : Stop events) → Does (met old links) said own events
+      → ShowsAs (after_all (met old links) stop.done) new → new.waiting ≡ old.waiting
+  stopped acts links own events stop does shows =
+      sym (waiting_as (after_all (met old links) stop.done) new shows) ∙ entries_stay (met old links) stop.done (stopped_entries events (line_first (met old links) own events said acts does) stop)
 
-  all_told : (reply : Reply) (links : ℕ → ℕ → Strength) (events : List Event) → Does (state_of (met old links)) said reply events
-      → ShowsAs (grown_all (met old links) events) new.made → Tells reply
-  all_told reply links events does shows =
-      subst (TellsLetters said reply old.made.waiting) shows.waiting (tells (met old links) said reply events (met_kept old links kept) does)
+  refusal_told : (reply : Reply) (name : Refusal) → reply ≡ replies.Refused name [] → new.waiting ≡ old.waiting → Tells reply
+  refusal_told reply name is same = subst Tells (sym is) (refused_so said name [] old.waiting new.waiting same)
 
-  refusal_told : (reply : Reply) (name : Refusal) → reply ≡ replies.Refused name [] → new.made.waiting ≡ old.made.waiting → Tells reply
-  refusal_told reply name is same = subst Tells (sym is) (refused_so said name [] old.made.waiting new.made.waiting same)
-
-  ended : (reply : Reply) → Ends old said reply new → Tells reply
-  ended reply (WasDown down is same) = refusal_told reply names.Down is (ap (λ (c : StoredCell). c.made.waiting) same)
-  ended reply (DidAll links events does shows) = all_told reply links events does shows
-  ended reply (LackedRoom at own events stop does shows is lacks same) = refusal_told reply names.JournalFull is (stopped at.links own events stop does shows)
-  ended reply (HadFault at own events stop does shows is same) = refusal_told reply names.DiskFault is (stopped at.links own events stop does shows)
+  ended : is_acting said ≡ true → (reply : Reply) → Ends old said reply new → Tells reply
+  ended acts reply (WasDown down is same) = refusal_told reply names.Down is (ap (λ (c : Cell). c.waiting) same)
+  ended acts reply (DidAll at events does shows) =
+      subst (TellsLetters said reply old.waiting) (waiting_as (after_all (met old at.links) events) new shows) (tells (met old at.links) said reply events numbered acts does)
+  ended acts reply (LackedRoom at own events stop does shows is lacks same) = refusal_told reply names.JournalFull is (stopped acts at.links own events stop does shows)
+  ended acts reply (HadFault at own events stop does shows is same) = refusal_told reply names.DiskFault is (stopped acts at.links own events stop does shows)
 
   came : (reply : Reply) → ComesTo old said reply new → Tells reply
-  came reply (Acted ends) = ended reply ends
-  came reply (Aside none whole leaves) = untouched said reply old.made.waiting new.made.waiting none (leaves_letters old.made new.made leaves)
+  came reply (Acted acts ends) = ended acts reply ends
+  came reply (Aside none whole leaves) = untouched said reply old.waiting new.waiting none leaves
 
 pub replies_name_letters : RepliesNameLetters
 replies_name_letters cell kept said reply answered new happens =
-    came cell new kept said reply (line_comes cell reply answered new said happens)
+    came cell new (kept.letters none_joins).letters.numbered said reply (line_comes cell reply answered new said happens)
 
 -- ---- what letters say
 
@@ -420,19 +411,35 @@ verdict_is : (verdict : Verdict) → plain_answer (answer_with verdict) ≡ Rule
 verdict_is verdicts.Applied = refl
 verdict_is (verdicts.Conflict refused why) = refl
 
-pub is_so : (cell : MadeCell) (sent : Sent) → IsKept cell → IsWaiting cell.acted sent → IsSo cell sent
-is_so cell (ChunkSent client server volume number span) kept there =
+-- of a cell as it would be found
+abbrev pub IsSoIn : MadeCell → Sent → Type 0
+IsSoIn cell (ChunkSent client server volume number span) = In (record { number = number; home = server; span = span }) (chunks_of (done_on cell.acted client volume))
+IsSoIn cell (AnswerSent server client volume number answer) = (verdict : Verdict) → answer ≡ answer_with verdict → IsDecidedNow (λ s w. (cell.acted.replicas s w).history) volume client number verdict
+
+so_in : (cell : MadeCell) (sent : Sent) → IsMadeKept cell → IsWaiting cell.acted sent → IsSoIn cell sent
+so_in cell (ChunkSent client server volume number span) kept there =
     let agree = kept.sound.agree none_joins in
     let deeds = done_on cell.acted client volume in
     let froze = agree.sent there.message client server volume number there.there in
     let own : span_of deeds number ≡ froze.0 = (chunks_are_numbered deeds (agree.lawful client volume)).own (record { number = number; home = server; span = froze.0 }) froze.1 in
     subst (λ recs. In (record { number = number; home = server; span = recs }) (chunks_of deeds)) (sym (there.said ∙ own)) froze.1
-is_so cell (AnswerSent server client volume number answer) kept there = λ verdict is.
+so_in cell (AnswerSent server client volume number answer) kept there = λ verdict is.
     let agree = kept.sound.agree none_joins in
     agree.answered there.message server client volume number verdict (there.there ∙ ap (λ a. some (PlainAnswer server client volume number a)) (ap plain_answer is ∙ verdict_is verdict))
 
+-- a letter that waits in a cell that is kept, whichever of the entries join
+pub waits_so : (cell : Cell) (kept : IsKept cell) (joins : Joins) (message : ℕ) (sent : Sent) → sent_at message cell.waiting ≡ Some sent → IsSoIn (made_now cell joins kept.pool (learned cell kept joins)) sent
+waits_so cell kept joins message sent is =
+    let found = made_now cell joins kept.pool (learned cell kept joins) in
+    let found_kept = whole_kept cell kept joins in
+    so_in found sent found_kept (waits found.acted message cell.waiting sent found_kept.letters.pooled is)
+
+found_so : (cell : Cell) (kept : IsKept cell) (joins : Joins) (sent : Sent) → IsSoIn (made_now cell joins kept.pool (learned cell kept joins)) sent → IsSo (found_on (shelves_of cell) joins) sent
+found_so cell kept joins (ChunkSent client server volume number span) so = so
+found_so cell kept joins (AnswerSent server client volume number answer) so = λ verdict is.
+    let d = so verdict is in
+    now_by cell joins kept.pool (learned cell kept joins) d.server volume (λ l. In d.by (decisions_of volume l) → IsDecided (found_on (shelves_of cell) joins) volume client number verdict) (λ i. absurd i)
+    (λ at stands home named i. record { row = at.row; server = d.server; by = d.by; there = (named, i); client_is = d.client_is; number_is = d.number_is; verdict_is = d.verdict_is }) d.there
+
 pub letters_say_what_is_so : LettersSayWhatIsSo
-letters_say_what_is_so cell is_kept message sent is =
-    let found = whole cell.made none_joins in
-    let kept = is_kept.kept none_joins in
-    is_so found sent kept (waits found.acted message cell.made.waiting sent kept.letters.pooled is)
+letters_say_what_is_so cell kept message sent is joins = found_so cell kept joins sent (waits_so cell kept joins message sent is)

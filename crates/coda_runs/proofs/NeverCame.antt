@@ -1,79 +1,338 @@
--- Whoever never came in a later run is as the earlier one left it.
-use Rattle.std.proofs.Common.{◌≡◌, ℕ, ◌==◌, ◌||◌, Bool, true, false, List, [], ◌∷◌, refl, sym, ◌∙◌, subst, inl, inr}
-use Rattle.coda_engine.specs.Run.{Runs}
-use Rattle.coda_stored.specs.Cells.{StoredCell}
-use Rattle.coda_stored.specs.Patient.{AreAsTheyWere}
-use Rattle.coda_stored.specs.Resuming.{at_rest, Awaited, ClientAgain, VolumeAgain, awaits_client, awaits_volume, AreAwaited}
-use Rattle.coda_stored.proofs.Between.{lines_come_between}
-use Rattle.coda_stored.proofs.Patient.{those_to_come_stay}
-use Rattle.coda_stored.proofs.Resuming.{again_stays, awaited_stay}
-use Rattle.coda_runs.specs.Later.{Later, Waits, Goes, Strays, resumed, LaterGives}
-use Rattle.coda_runs.proofs.Later.{rest_awaited}
-use Rattle.coda_runs.specs.NeverCame.{WhoNeverCameIsAsItWas}
+-- Whoever no line made is as it was.
+use Rattle.std.proofs.Common.{◌≡◌, ◌≢◌, ℕ, ◌==◌, ◌&&◌, Bool, true, false, cond, List, [], ◌∷◌, length, Option, Some, None, is_some, option_map, refl, sym, ap, ◌∙◌, subst, inl, inr, ◌⊎◌}
+use Rattle.std.specs.Option.{option_map_or}
+use Rattle.std.proofs.lemmas.Bool.{eqb-true, cases_eq, and_parts}
+use Rattle.coda_actors.specs.Plain.{PlainActor, Life, Unmade}
+use Rattle.coda_actors.specs.declared.slot.Mounting.{Mounting}
+use Rattle.coda_actors.specs.declared.slot.Mounting.TheVariants.{Entries, Foreign, DiskFault, Memory}
+use Rattle.coda_journal.specs.declared.header.Header.{Header}
+use Rattle.coda_plain.specs.Cell.{ClientEntry}
+use Rattle.coda_plain.specs.Decisions.{ReplicaEntry}
+use Rattle.coda_plain.specs.Histories.{In}
+use Rattle.coda_plain.specs.Moves.{Append, AtClient, AtReplica}
+use Rattle.coda_script.specs.declared.line.Line.{Line}
+use Rattle.coda_script.specs.declared.line.Line.TheVariants as line
+use Rattle.coda_script.specs.declared.reply.Reply.{Reply}
+use Rattle.coda_script.specs.declared.reply.Reply.TheVariants.{Accepted}
+use Rattle.coda_cell.specs.Made.{client_of, replica_of}
+use Rattle.coda_cell.specs.Refused.{Refused}
+use Rattle.coda_cell.specs.State.{put, ReplicaState, Event, VolumeMade, ClientMade, Ticked, LinkSet, Entered, Posted, Lost, Used, Kept, Stale}
+use Rattle.coda_cell.specs.Steps.{alone, first_missing, client_named, holder_named, Does}
+use Rattle.coda_cell.proofs.Families.{put_here}
+use Rattle.coda_shelves.specs.Shelves.{client_header, replica_header}
+use Rattle.coda_shelves.specs.Cells.{Row, Cell, asked, Stand, stand_of, state_of, with_client, with_replica, with_volume, grown, failing, failed, after, after_all}
+use Rattle.coda_shelves.specs.Lines.{Becoming, Stays, Unless, UnlessDown, needs, is_down_for, EndsBy, Acts, the_client, the_replica, is_others, MountsRow, area_of, no_volume, no_client, with_row, MakesVolume, with_made, MakesClient, client_payloads, replica_payloads, Crashes, Recovers, AtReplicaOf, DoesUp}
+use Rattle.coda_shelves.specs.Placed.{ArePlaced}
+use Rattle.coda_runs.specs.Again.{MountsClient, MountsPlace, WhoNeverCameIsAsItWas}
+use Rattle.coda_runs.proofs.Ended.{home_is}
+use Rattle.coda_runs.proofs.Meeting.{met, is_met}
+use Rattle.coda_runs.proofs.Served.{put_off}
+use Rattle.coda_runs.proofs.Unlettered.{is_acting}
+use Rattle.coda_runs.proofs.Whose.{IsOf, AreOf, IsThere, Holds, of_front, of_next, of_more, of_line}
 
--- ---- who is among fewer lines is among more
+-- who isn't made asks for no header
+never_asks : (life : Life) (header : Header) → life ≡ Unmade → asked life ≡ Some header → ⊥
+never_asks life header unmade asks = (let no : None ≡ Some header = sym (ap asked unmade) ∙ asks in cc)
 
-or_true : (a b : Bool) → b ≡ true → (a || b) ≡ true
-or_true true b is = refl
-or_true false b is = is
+-- the rows stay, whatever happens that adds entries
+event_rows : (cell : Cell) (event : Event) → (after cell event).rows ≡ cell.rows
+event_rows cell (VolumeMade volume server) = refl
+event_rows cell (ClientMade client blocks) = refl
+event_rows cell (Ticked seconds) = refl
+event_rows cell (LinkSet client server strength) = refl
+event_rows cell (Entered (AtClient client entry)) = refl
+event_rows cell (Entered (AtReplica server volume entry)) = by (stand_of cell volume)
+  where
+    by : (o : Option Stand) → (with_volume cell o server (grown entry)).rows ≡ cell.rows
+    by None = refl
+    by (Some at) = refl
+event_rows cell (Posted sent) = refl
+event_rows cell (Lost message) = refl
+event_rows cell (Used client fids) = refl
+event_rows cell (Kept client server fid) = refl
+event_rows cell (Stale client fids) = refl
 
-client_among : (next : Awaited) (left : List Awaited) (client : ℕ) → awaits_client left client ≡ true → awaits_client (next ∷ left) client ≡ true
-client_among (ClientAgain other blocks area) left client waits = or_true (client == other) (awaits_client left client) waits
-client_among (VolumeAgain volume server area) left client waits = waits
+-- ---- whatever a line does that acts
 
-volume_among : (next : Awaited) (left : List Awaited) (volume : ℕ) → awaits_volume left volume ≡ true → awaits_volume (next ∷ left) volume ≡ true
-volume_among (ClientAgain client blocks area) left volume waits = waits
-volume_among (VolumeAgain other server area) left volume waits = or_true (volume == other) (awaits_volume left volume) waits
+-- what P tells of all cells that events of these leave, and that a failed append of these leaves
+module _ (old : Cell) (C : ℕ → Type 0) (R : ℕ → ℕ → Type 0) (P : Cell → Type 0) (first : P old)
+    (events_so : (events : List Event) → AreOf C R events → P (after_all old events)) (failed_so : (events : List Event) (append : Append) → AreOf C R events → IsOf C R (Entered append) → P (failed (after_all old events) append)) where
+  ends_so : (events : List Event) (own reply : Reply) (new : Cell) → AreOf C R events → EndsBy old events own reply new → P new
+  ends_so events own reply new are (inl all) = subst P (sym all.2) (events_so events are)
+  ends_so events own reply new are (inr (inl (stop, fits, lacks, says, is))) = subst P (sym is) (events_so stop.done (of_front C R stop.done (Entered stop.next ∷ stop.rest) (subst (AreOf C R) stop.is are)))
+  ends_so events own reply new are (inr (inr (stop, fits, says, is))) =
+      let split = subst (AreOf C R) stop.is are in
+      subst P (sym is) (failed_so stop.done stop.next (of_front C R stop.done (Entered stop.next ∷ stop.rest) split) (of_next C R stop.done stop.rest (Entered stop.next) split))
 
-fewer : (next : Awaited) (left : List Awaited) (new old : StoredCell) → AreAsTheyWere (next ∷ left) new old → AreAsTheyWere left new old
-fewer next left new old are = record {
-  clients = λ client waits. are.clients client (client_among next left client waits);
-  replicas = λ server volume waits. are.replicas server volume (volume_among next left volume waits);
-}
+  pub acts_so : ((client : ℕ) → (client_named (state_of old) client).there ≡ true → C client) → ((server volume : ℕ) → (holder_named (state_of old) server volume).there ≡ true → R server volume)
+      → (said : Line) → is_acting said ≡ true → (reply : Reply) (new : Cell) → Acts old said reply new → P new
+  acts_so f g said acting reply new acts =
+      let m = is_met old said in
+      let s = met old m.links in
+      ends_so acts.events acts.own reply new (of_more (IsThere s acts.own acts.events) C (Holds s acts.own acts.events) R f g acts.events
+      (of_line s acts.own acts.events said acting (subst (λ t. Does t said acts.own acts.events) m.is acts.does))) acts.ends
 
-then : (left : List Awaited) (new mid old : StoredCell) → AreAsTheyWere left new mid → AreAsTheyWere left mid old → AreAsTheyWere left new old
-then left new mid old later first = record {
-  clients = λ client waits. ((later.clients client waits).0 ∙ (first.clients client waits).0, (later.clients client waits).1 ∙ (first.clients client waits).1);
-  replicas = λ server volume waits. ((later.replicas server volume waits).0 ∙ (first.replicas server volume waits).0, (later.replicas server volume waits).1 ∙ (first.replicas server volume waits).1);
-}
+  pub unless_so : (o : Option Refused) (own : Becoming) (reply : Reply) (outside : List (List ℕ)) (new : Cell) → (own reply outside new → P new) → Unless old o own reply outside new → P new
+  unless_so (Some why) own reply outside new rest does = subst P (sym does.2) first
+  unless_so None own reply outside new rest does = rest does
 
--- ---- lines
+-- ---- a client
 
-abbrev IsAsLeft : StoredCell → Later → Type 0
-IsAsLeft past (Waits cell next left answered) = ((volumes : ℕ) × (areas : ℕ) × AreAwaited cell volumes areas (next ∷ left)) × AreAsTheyWere (next ∷ left) cell (at_rest past)
-IsAsLeft past (Goes at) = Unit {0}
-IsAsLeft past Strays = Unit {0}
+module _ (old : Cell) (client : ℕ) (unmade : (old.clients client).life ≡ Unmade) where
+  abbrev Off : ℕ → Type 0
+  Off n = client ≢ n
 
-module _ (past : StoredCell) where
-  resumed_left : (cell : StoredCell) (left : List Awaited) (answered : List (List ℕ)) (volumes areas : ℕ) → AreAwaited cell volumes areas left → AreAsTheyWere left cell (at_rest past)
-      → IsAsLeft past (resumed cell left answered)
-  resumed_left cell [] answered volumes areas awaited are = tt
-  resumed_left cell (next ∷ left) answered volumes areas awaited are = ((volumes, areas, awaited), are)
+  abbrev Any : ℕ → ℕ → Type 0
+  Any server volume = Unit {0}
 
-  gives_left : (old new : Later) (bytes text : List ℕ) (outside : List (List ℕ)) → IsAsLeft past old → LaterGives old bytes text outside new → IsAsLeft past new
-  gives_left (Waits cell next left answered) new bytes text outside is (inl silent) = subst (IsAsLeft past) (sym silent.3) is
-  gives_left (Waits cell next left answered) new bytes text outside (awaited, are) (inr (inl r)) =
-      let rest = rest_awaited cell next left awaited.0 awaited.1 awaited.2 in
-      let stays = again_stays cell r.found next r.reply r.makes in
-      subst (IsAsLeft past) (sym r.goes_on)
-      (resumed_left r.found left answered rest.0 rest.1 (awaited_stay cell r.found stays.made rest.0 rest.1 left rest.2)
-      (then left r.found cell (at_rest past) (those_to_come_stay.again cell r.found awaited.0 awaited.1 next left r.reply awaited.2 r.makes) (fewer next left cell (at_rest past) are)))
-  gives_left (Waits cell next left answered) new bytes text outside (awaited, are) (inr (inr (inl b))) =
-      let all_left = next ∷ left in
-      subst (IsAsLeft past) (sym b.goes_on) (
-        (awaited.0, awaited.1, lines_come_between.awaited cell b.found awaited.0 awaited.1 all_left b.said b.reply outside awaited.2 b.does),
-        then all_left b.found cell (at_rest past) (those_to_come_stay.between cell b.found all_left b.said b.reply outside b.does) are,
-      )
-  gives_left (Waits cell next left answered) new bytes text outside is (inr (inr (inr (inl f)))) = subst (IsAsLeft past) (sym f.stays) is
-  gives_left (Waits cell next left answered) new bytes text outside is (inr (inr (inr (inr e)))) = subst (IsAsLeft past) (sym e.strays) tt
-  gives_left (Goes at) new bytes text outside is (next, gives, same) = subst (IsAsLeft past) (sym same) tt
-  gives_left Strays new bytes text outside is same = subst (IsAsLeft past) (sym same) tt
+  abbrev IsSame : Cell → Type 0
+  IsSame cell = cell.clients client ≡ old.clients client
 
-  runs_left : (old new : Later) (ls : List (List ℕ)) (report : List ℕ) (outside : List (List ℕ)) → IsAsLeft past old → Runs LaterGives old ls report outside new → IsAsLeft past new
-  runs_left old new [] report outside is run = subst (IsAsLeft past) (sym run.2) is
-  runs_left old new (l ∷ more) report outside is run = runs_left run.0 new more run.2 run.4 (gives_left old run.0 l run.1 run.3 is run.5) run.6
+  asks_off : (n : ℕ) (header : Header) → asked (old.clients n).life ≡ Some header → Off n
+  asks_off n header asks same = never_asks (old.clients client).life header unmade (ap (λ k. asked (old.clients k).life) same ∙ asks)
+
+  there_off : (n : ℕ) → (client_named (state_of old) n).there ≡ true → Off n
+  there_off n there = by (asked (old.clients n).life) refl there
+    where
+      by : (o : Option Header) → asked (old.clients n).life ≡ o → is_some (option_map (λ (h : Header). client_of n (old.clients n).disk.history h.cache) o) ≡ true → Off n
+      by None e is = cc
+      by (Some header) e is = asks_off n header e
+
+  volume_off : (cell : Cell) (o : Option Stand) (server : ℕ) (f : _) → (with_volume cell o server f).clients client ≡ cell.clients client
+  volume_off cell None server f = refl
+  volume_off cell (Some at) server f = refl
+
+  event_off : (cell : Cell) (event : Event) → IsOf Off Any event → (after cell event).clients client ≡ cell.clients client
+  event_off cell (Entered (AtClient n entry)) off = put_off cell.clients n client _ off
+  event_off cell (Entered (AtReplica server volume entry)) off = volume_off cell (stand_of cell volume) server (grown entry)
+  event_off cell (VolumeMade volume server) off = refl
+  event_off cell (ClientMade n blocks) off = refl
+  event_off cell (Ticked seconds) off = refl
+  event_off cell (LinkSet n server strength) off = refl
+  event_off cell (Posted sent) off = refl
+  event_off cell (Lost message) off = refl
+  event_off cell (Used n fids) off = refl
+  event_off cell (Kept n server fid) off = refl
+  event_off cell (Stale n fids) off = refl
+
+  events_off : (cell : Cell) (events : List Event) → AreOf Off Any events → (after_all cell events).clients client ≡ cell.clients client
+  events_off cell [] are = refl
+  events_off cell (event ∷ events) are = events_off (after cell event) events are.1 ∙ event_off cell event are.0
+
+  failed_off : (cell : Cell) (append : Append) → IsOf Off Any (Entered append) → (failed cell append).clients client ≡ cell.clients client
+  failed_off cell (AtClient n entry) off = put_off cell.clients n client _ off
+  failed_off cell (AtReplica server volume entry) off = volume_off cell (stand_of cell volume) server (failing entry)
+
+  abbrev unless_is : (o : Option Refused) (own : Becoming) (reply : Reply) (outside : List (List ℕ)) (new : Cell) → (own reply outside new → IsSame new) → Unless old o own reply outside new → IsSame new
+  unless_is = unless_so old Off Any IsSame refl (events_off old) (λ events append are is. failed_off (after_all old events) append is ∙ events_off old events are)
+
+  acts_is : (said : Line) → is_acting said ≡ true → (reply : Reply) (new : Cell) → Acts old said reply new → IsSame new
+  acts_is = acts_so old Off Any IsSame refl (events_off old) (λ events append are is. failed_off (after_all old events) append is ∙ events_off old events are) there_off (λ server volume is. tt)
+
+  with_off : (n : ℕ) (actor : PlainActor ClientEntry) (new : Cell) → Off n → new ≡ with_client old n actor → IsSame new
+  with_off n actor new off is = ap (λ (c : Cell). c.clients client) is ∙ put_off old.clients n client actor off
+
+  row_off : (others : Bool) (volume : ℕ) (servers : List ℕ) (area : ℕ) (row : _) → IsSame (with_row others old volume servers area row)
+  row_off true volume servers area row = refl
+  row_off false volume servers area row = refl
+
+  made_off : (others : Bool) (n area : ℕ) (actor : PlainActor ClientEntry) → Off n → IsSame (with_made others old n area actor)
+  made_off true n area actor off = refl
+  made_off false n area actor off = put_off old.clients n client actor off
+
+  crash_at : (reply : Reply) (outside : List (List ℕ)) (new : Cell) (o : Option Stand) (server : ℕ) → AtReplicaOf old o server (Crashes replica_payloads) reply outside new → IsSame new
+  crash_at reply outside new None server does = absurd does
+  crash_at reply outside new (Some at) server (header, is, (image, may, says, out, next)) = ap (λ (c : Cell). c.clients client) next
+
+  recover_at : (reply : Reply) (outside : List (List ℕ)) (new : Cell) (o : Option Stand) (server : ℕ) → AtReplicaOf old o server (Recovers replica_payloads) reply outside new → IsSame new
+  recover_at reply outside new None server does = absurd does
+  recover_at reply outside new (Some at) server (header, is, (ending, disk, told, mounts, from, says, out, next)) = ap (λ (c : Cell). c.clients client) next
+
+  abbrev Is : Line → Cell → Type 0
+  Is said new = IsSame new ⊎ MountsClient said client
+
+  client_up : (said : Line) (reply : Reply) (outside : List (List ℕ)) (new : Cell) → DoesUp old said reply outside new → Is said new
+  client_up (line.Volume volume servers area) reply outside new does = inl (unless_is (no_volume old volume (area_of area)) (MakesVolume old volume servers (area_of area)) reply outside new
+      (λ (endings, row, mounts, says, out, next). ap (λ (c : Cell). c.clients client) next ∙ row_off (is_others endings) volume servers (area_of area) row) does)
+  client_up (line.Client n blocks area) reply outside new does = elim (cases_eq client n) [
+    | inl same ↦ inr same
+    | inr off ↦ inl (unless_is (no_client old n (area_of area)) (MakesClient old n (client_header n blocks (area_of area))) reply outside new
+        (λ (ending, disk, told, mounts, says, out, next). ap (λ (c : Cell). c.clients client) next ∙ made_off (is_others (ending ∷ [])) n (area_of area) _ off) does)
+  ]
+  client_up (line.CrashClient n choice) reply outside new does = inl (unless_is (first_missing (the_client old n).named) (Crashes client_payloads (old.clients n) (with_client old n)) reply outside new
+      (λ (header, is, (image, may, says, out, next)). with_off n _ new (asks_off n header is) next) does)
+  client_up (line.CrashReplica server volume choice) reply outside new does =
+      inl (unless_is (first_missing (the_replica old server volume).named) (AtReplicaOf old (stand_of old volume) server (Crashes replica_payloads)) reply outside new (crash_at reply outside new (stand_of old volume) server) does)
+  client_up (line.RecoverClient n) reply outside new does = inl (unless_is (first_missing (the_client old n).named) (Recovers client_payloads (old.clients n) (with_client old n)) reply outside new
+      (λ (header, is, (ending, disk, told, mounts, from, says, out, next)). with_off n _ new (asks_off n header is) next) does)
+  client_up (line.RecoverReplica server volume) reply outside new does =
+      inl (unless_is (first_missing (the_replica old server volume).named) (AtReplicaOf old (stand_of old volume) server (Recovers replica_payloads)) reply outside new (recover_at reply outside new (stand_of old volume) server) does)
+  client_up (line.ArmClient n passes) reply outside new does = inl (unless_is (first_missing (the_client old n).named) (Stays old Accepted) reply outside new (λ did. ap (λ (c : Cell). c.clients client) did.2) does)
+  client_up (line.ArmReplica server volume passes) reply outside new does = inl (unless_is (first_missing (the_replica old server volume).named) (Stays old Accepted) reply outside new (λ did. ap (λ (c : Cell). c.clients client) did.2) does)
+  client_up (line.Link n server strength) reply outside new does = inl (acts_is (line.Link n server strength) refl reply new does.1)
+  client_up (line.Tick seconds) reply outside new does = inl (acts_is (line.Tick seconds) refl reply new does.1)
+  client_up (line.Task t) reply outside new does = inl (acts_is (line.Task t) refl reply new does.1)
+  client_up (line.ShowVolume server volume) reply outside new does = inl (acts_is (line.ShowVolume server volume) refl reply new does.1)
+  client_up (line.ShowLog n volume) reply outside new does = inl (acts_is (line.ShowLog n volume) refl reply new does.1)
+  client_up (line.Send n volume server window) reply outside new does = inl (acts_is (line.Send n volume server window) refl reply new does.1)
+  client_up (line.Deliver message) reply outside new does = inl (acts_is (line.Deliver message) refl reply new does.1)
+  client_up (line.Lose message) reply outside new does = inl (acts_is (line.Lose message) refl reply new does.1)
+  client_up _ reply outside new does = absurd does.1.does
+
+  client_down : (said : Line) (reply : Reply) (outside : List (List ℕ)) (new : Cell) (b : Bool) → UnlessDown b old (DoesUp old said) reply outside new → Is said new
+  client_down said reply outside new true does = inl (ap (λ (c : Cell). c.clients client) does.2)
+  client_down said reply outside new false does = client_up said reply outside new does
+
+-- ---- a replica
+
+-- a replica of a row whose disk no line mounts
+row_else : (others : Bool) (header : ℕ → Header) (s : ℕ) (servers : List ℕ) (endings : List Mounting) (old new : ℕ → PlainActor ReplicaEntry) → MountsRow others header old servers endings new → (new s ≡ old s) ⊎ In s servers
+row_else others header s [] endings old new m = inl (ap (λ (f : ℕ → PlainActor ReplicaEntry). f s) m.1)
+row_else others header s (server ∷ servers) [] old new m = absurd m
+row_else others header s (server ∷ servers) (Foreign at ∷ endings) old new m = inl (ap (λ (f : ℕ → PlainActor ReplicaEntry). f s) m.2)
+row_else others header s (server ∷ servers) (Memory ∷ endings) old new m = absurd m.0
+row_else others header s (server ∷ servers) (Entries count ∷ endings) old new (told, (disk, mounts, rest)) = elim (cases_eq s server) [
+  | inl same ↦ inr (inl same)
+  | inr off ↦ elim (row_else others header s servers endings _ new rest) [ inl same ↦ inl (same ∙ put_off old server s _ off) | inr there ↦ inr (inr there) ]
+]
+row_else others header s (server ∷ servers) (DiskFault ∷ endings) old new (told, (disk, mounts, rest)) = elim (cases_eq s server) [
+  | inl same ↦ inr (inl same)
+  | inr off ↦ elim (row_else others header s servers endings _ new rest) [ inl same ↦ inl (same ∙ put_off old server s _ off) | inr there ↦ inr (inr there) ]
+]
+
+module _ (old : Cell) (placed : ArePlaced old) (row server : ℕ) (unmade : (old.replicas row server).life ≡ Unmade) where
+  abbrev AnyClient : ℕ → Type 0
+  AnyClient client = Unit {0}
+
+  -- it isn't the replica of this volume on this server
+  abbrev OffPlace : ℕ → ℕ → Type 0
+  OffPlace n volume = (at : Stand) → stand_of old volume ≡ Some at → row ≡ at.row → server ≡ n → ⊥
+
+  abbrev IsSamePlace : Cell → Type 0
+  IsSamePlace cell = cell.replicas row server ≡ old.replicas row server
+
+  holds_off : (n volume : ℕ) → (holder_named (state_of old) n volume).there ≡ true → OffPlace n volume
+  holds_off n volume there at stands row_is server_is =
+      let replica = replica_of (λ s. (old.replicas at.row s).disk.history) volume (alone at.servers) in
+      let home : alone at.servers ≡ n = sym (home_is old volume at) ∙ eqb-true replica.server n
+      (ap (λ (o : Option Stand). option_map_or (λ (r : ReplicaState). r.server == n) (option_map (λ (b : Stand). replica_of (λ s. (old.replicas b.row s).disk.history) volume (alone b.servers)) o) false) (sym stands) ∙ there) in
+      let made = placed.made volume at stands in
+      never_asks (old.replicas row server).life made.0 unmade ((λ i. asked (old.replicas (row_is i) ((server_is ∙ sym home) i)).life) ∙ made.1)
+
+  place_off : (cell : Cell) (r s : ℕ) (actor : PlainActor ReplicaEntry) → (row ≡ r → server ≡ s → ⊥) → (with_replica cell r s actor).replicas row server ≡ cell.replicas row server
+  place_off cell r s actor off = elim ((row == r) && (server == s)) as (λ b. ((row == r) && (server == s)) ≡ b → cond b actor (cell.replicas row server) ≡ cell.replicas row server) [
+    | true ↦ λ e. (let both = and_parts (row == r) (server == s) e in absurd (off (eqb-true row r both.0) (eqb-true server s both.1)))
+    | false ↦ λ e. refl
+  ] refl
+
+  place_volume_off : (cell : Cell) → cell.rows ≡ old.rows → (n volume : ℕ) (f : PlainActor ReplicaEntry → PlainActor ReplicaEntry) → OffPlace n volume → (with_volume cell (stand_of cell volume) n f).replicas row server ≡ cell.replicas row server
+  place_volume_off cell rows n volume f off = by (stand_of cell volume) refl
+    where
+      by : (o : Option Stand) → stand_of cell volume ≡ o → (with_volume cell o n f).replicas row server ≡ cell.replicas row server
+      by None e = refl
+      by (Some at) e = place_off cell at.row n (f (cell.replicas at.row n)) (off at (ap (λ (rs : List Row). stand_of (record old { rows = rs }) volume) (sym rows) ∙ e))
+
+  place_event_off : (cell : Cell) → cell.rows ≡ old.rows → (event : Event) → IsOf AnyClient OffPlace event → (after cell event).replicas row server ≡ cell.replicas row server
+  place_event_off cell rows (Entered (AtClient n entry)) off = refl
+  place_event_off cell rows (Entered (AtReplica n volume entry)) off = place_volume_off cell rows n volume (grown entry) off
+  place_event_off cell rows (VolumeMade volume n) off = refl
+  place_event_off cell rows (ClientMade n blocks) off = refl
+  place_event_off cell rows (Ticked seconds) off = refl
+  place_event_off cell rows (LinkSet n s strength) off = refl
+  place_event_off cell rows (Posted sent) off = refl
+  place_event_off cell rows (Lost message) off = refl
+  place_event_off cell rows (Used n fids) off = refl
+  place_event_off cell rows (Kept n s fid) off = refl
+  place_event_off cell rows (Stale n fids) off = refl
+
+  place_events_off : (cell : Cell) → cell.rows ≡ old.rows → (events : List Event) → AreOf AnyClient OffPlace events → ((after_all cell events).replicas row server ≡ cell.replicas row server) × ((after_all cell events).rows ≡ old.rows)
+  place_events_off cell rows [] are = (refl, rows)
+  place_events_off cell rows (event ∷ events) are = (let rest = place_events_off (after cell event) (event_rows cell event ∙ rows) events are.1 in (rest.0 ∙ place_event_off cell rows event are.0, rest.1))
+
+  place_failed_off : (cell : Cell) → cell.rows ≡ old.rows → (append : Append) → IsOf AnyClient OffPlace (Entered append) → (failed cell append).replicas row server ≡ cell.replicas row server
+  place_failed_off cell rows (AtClient n entry) off = refl
+  place_failed_off cell rows (AtReplica n volume entry) off = place_volume_off cell rows n volume (failing entry) off
+
+  failed_is : (events : List Event) (append : Append) → AreOf AnyClient OffPlace events → IsOf AnyClient OffPlace (Entered append) → IsSamePlace (failed (after_all old events) append)
+  failed_is events append are is = (let all = place_events_off old refl events are in place_failed_off (after_all old events) all.1 append is ∙ all.0)
+
+  abbrev place_unless_is : (o : Option Refused) (own : Becoming) (reply : Reply) (outside : List (List ℕ)) (new : Cell) → (own reply outside new → IsSamePlace new) → Unless old o own reply outside new → IsSamePlace new
+  place_unless_is = unless_so old AnyClient OffPlace IsSamePlace refl (λ events are. (place_events_off old refl events are).0) failed_is
+
+  place_acts_is : (said : Line) → is_acting said ≡ true → (reply : Reply) (new : Cell) → Acts old said reply new → IsSamePlace new
+  place_acts_is = acts_so old AnyClient OffPlace IsSamePlace refl (λ events are. (place_events_off old refl events are).0) failed_is (λ client is. tt) holds_off
+
+  place_made_off : (others : Bool) (n area : ℕ) (actor : PlainActor ClientEntry) → IsSamePlace (with_made others old n area actor)
+  place_made_off true n area actor = refl
+  place_made_off false n area actor = refl
+
+  place_row_off : (others : Bool) (volume : ℕ) (servers : List ℕ) (area : ℕ) (actors : ℕ → PlainActor ReplicaEntry) → (row ≡ length old.rows → actors server ≡ old.replicas (length old.rows) server) → IsSamePlace (with_row others old volume servers area actors)
+  place_row_off others volume servers area actors same = elim (cases_eq row (length old.rows)) [
+    | inl here ↦ by others (subst (λ r. put old.replicas (length old.rows) actors r server ≡ old.replicas r server) (sym here) (ap (λ (f : ℕ → PlainActor ReplicaEntry). f server) (put_here old.replicas (length old.rows) actors) ∙ same here))
+    | inr off ↦ by others (ap (λ (f : ℕ → PlainActor ReplicaEntry). f server) (put_off old.replicas (length old.rows) row actors off))
+  ]
+    where
+      by : (o : Bool) → put old.replicas (length old.rows) actors row server ≡ old.replicas row server → IsSamePlace (with_row o old volume servers area actors)
+      by true is = is
+      by false is = is
+
+  -- an actor that asks for a header isn't this
+  place_asks_off : (r s : ℕ) (header : Header) → asked (old.replicas r s).life ≡ Some header → row ≡ r → server ≡ s → ⊥
+  place_asks_off r s header asks row_is server_is = never_asks (old.replicas row server).life header unmade ((λ i. asked (old.replicas (row_is i) (server_is i)).life) ∙ asks)
+
+  place_crash_at : (reply : Reply) (outside : List (List ℕ)) (new : Cell) (o : Option Stand) (n : ℕ) → AtReplicaOf old o n (Crashes replica_payloads) reply outside new → IsSamePlace new
+  place_crash_at reply outside new None n does = absurd does
+  place_crash_at reply outside new (Some at) n (header, is, (image, may, says, out, next)) = ap (λ (c : Cell). c.replicas row server) next ∙ place_off old at.row n _ (place_asks_off at.row n header is)
+
+  place_recover_at : (reply : Reply) (outside : List (List ℕ)) (new : Cell) (o : Option Stand) (n : ℕ) → AtReplicaOf old o n (Recovers replica_payloads) reply outside new → IsSamePlace new
+  place_recover_at reply outside new None n does = absurd does
+  place_recover_at reply outside new (Some at) n (header, is, (ending, disk, told, mounts, from, says, out, next)) = ap (λ (c : Cell). c.replicas row server) next ∙ place_off old at.row n _ (place_asks_off at.row n header is)
+
+  abbrev IsPlace : Line → Cell → Type 0
+  IsPlace said new = IsSamePlace new ⊎ MountsPlace old said row server
+
+  makes_volume : (volume : ℕ) (servers : List ℕ) (area : ℕ) (reply : Reply) (outside : List (List ℕ)) (new : Cell) → MakesVolume old volume servers area reply outside new → IsSamePlace new ⊎ ((row ≡ length old.rows) × In server servers)
+  makes_volume volume servers area reply outside new (endings, actors, mounts, says, out, next) =
+      let left = λ (same : row ≡ length old.rows → actors server ≡ old.replicas (length old.rows) server). ap (λ (c : Cell). c.replicas row server) next ∙ place_row_off (is_others endings) volume servers area actors same in
+      elim (cases_eq row (length old.rows)) [
+        | inl here ↦ elim (row_else (is_others endings) (replica_header volume servers area) server servers endings (old.replicas (length old.rows)) actors mounts) [ inl same ↦ inl (left (λ e. same)) | inr there ↦ inr (here, there) ]
+        | inr off ↦ inl (left (λ e. absurd (off e)))
+      ]
+
+  replica_up : (said : Line) (reply : Reply) (outside : List (List ℕ)) (new : Cell) → DoesUp old said reply outside new → IsPlace said new
+  replica_up (line.Volume volume servers area) reply outside new does = by (no_volume old volume (area_of area)) does
+    where
+      by : (o : Option Refused) → Unless old o (MakesVolume old volume servers (area_of area)) reply outside new → IsSamePlace new ⊎ ((row ≡ length old.rows) × In server servers)
+      by (Some why) does = inl (ap (λ (c : Cell). c.replicas row server) does.2)
+      by None does = makes_volume volume servers (area_of area) reply outside new does
+  replica_up (line.Client n blocks area) reply outside new does = inl (place_unless_is (no_client old n (area_of area)) (MakesClient old n (client_header n blocks (area_of area))) reply outside new
+      (λ (ending, disk, told, mounts, says, out, next). ap (λ (c : Cell). c.replicas row server) next ∙ place_made_off (is_others (ending ∷ [])) n (area_of area) _) does)
+  replica_up (line.CrashClient n choice) reply outside new does = inl (place_unless_is (first_missing (the_client old n).named) (Crashes client_payloads (old.clients n) (with_client old n)) reply outside new
+      (λ (header, is, (image, may, says, out, next)). ap (λ (c : Cell). c.replicas row server) next) does)
+  replica_up (line.CrashReplica n volume choice) reply outside new does =
+      inl (place_unless_is (first_missing (the_replica old n volume).named) (AtReplicaOf old (stand_of old volume) n (Crashes replica_payloads)) reply outside new (place_crash_at reply outside new (stand_of old volume) n) does)
+  replica_up (line.RecoverClient n) reply outside new does = inl (place_unless_is (first_missing (the_client old n).named) (Recovers client_payloads (old.clients n) (with_client old n)) reply outside new
+      (λ (header, is, (ending, disk, told, mounts, from, says, out, next)). ap (λ (c : Cell). c.replicas row server) next) does)
+  replica_up (line.RecoverReplica n volume) reply outside new does =
+      inl (place_unless_is (first_missing (the_replica old n volume).named) (AtReplicaOf old (stand_of old volume) n (Recovers replica_payloads)) reply outside new (place_recover_at reply outside new (stand_of old volume) n) does)
+  replica_up (line.ArmClient n passes) reply outside new does = inl (place_unless_is (first_missing (the_client old n).named) (Stays old Accepted) reply outside new (λ did. ap (λ (c : Cell). c.replicas row server) did.2) does)
+  replica_up (line.ArmReplica n volume passes) reply outside new does = inl (place_unless_is (first_missing (the_replica old n volume).named) (Stays old Accepted) reply outside new (λ did. ap (λ (c : Cell). c.replicas row server) did.2) does)
+  replica_up (line.Link n s strength) reply outside new does = inl (place_acts_is (line.Link n s strength) refl reply new does.1)
+  replica_up (line.Tick seconds) reply outside new does = inl (place_acts_is (line.Tick seconds) refl reply new does.1)
+  replica_up (line.Task t) reply outside new does = inl (place_acts_is (line.Task t) refl reply new does.1)
+  replica_up (line.ShowVolume s volume) reply outside new does = inl (place_acts_is (line.ShowVolume s volume) refl reply new does.1)
+  replica_up (line.ShowLog n volume) reply outside new does = inl (place_acts_is (line.ShowLog n volume) refl reply new does.1)
+  replica_up (line.Send n volume s window) reply outside new does = inl (place_acts_is (line.Send n volume s window) refl reply new does.1)
+  replica_up (line.Deliver message) reply outside new does = inl (place_acts_is (line.Deliver message) refl reply new does.1)
+  replica_up (line.Lose message) reply outside new does = inl (place_acts_is (line.Lose message) refl reply new does.1)
+  replica_up _ reply outside new does = absurd does.1.does
+
+  replica_down : (said : Line) (reply : Reply) (outside : List (List ℕ)) (new : Cell) (b : Bool) → UnlessDown b old (DoesUp old said) reply outside new → IsPlace said new
+  replica_down said reply outside new true does = inl (ap (λ (c : Cell). c.replicas row server) does.2)
+  replica_down said reply outside new false does = replica_up said reply outside new does
 
 pub who_never_came_is_as_it_was : WhoNeverCameIsAsItWas
-who_never_came_is_as_it_was past cell lines left next before answered ls report outside all run =
-    let same : AreAsTheyWere lines (at_rest past) (at_rest past) = record { clients = λ client waits. (refl, refl); replicas = λ server volume waits. (refl, refl) } in
-    (runs_left past (resumed (at_rest past) lines before) (Waits cell next left answered) ls report outside (resumed_left past (at_rest past) lines before 0 0 all.each same) run).1
+who_never_came_is_as_it_was = record {
+  clients = λ cell new said reply outside client does unmade. client_down cell client unmade said reply outside new (is_down_for (needs cell said)) does;
+  replicas = λ cell new said reply outside row server placed does unmade. replica_down cell placed row server unmade said reply outside new (is_down_for (needs cell said)) does;
+}

@@ -1,8 +1,8 @@
 -- No line does anything on a volume that isn't made.
-use Rattle.std.proofs.Common.{◌≡◌, ℕ, ◌==◌, Bool, true, false, cond, List, [], ◌∷◌, ◌++◌, append-nil, map, take, Option, Some, None, is_some, option_map, Result, Ok, Err, refl, sym, ap, ◌∙◌, subst, inl, inr}
+use Rattle.std.proofs.Common.{◌≡◌, ℕ, Bool, true, false, cond, List, [], ◌∷◌, ◌++◌, append-nil, map, take, Option, Some, None, is_some, option_map, Result, Ok, Err, refl, sym, ap, ◌∙◌, subst, inl, inr}
 use Rattle.std.specs.Prelude.{nat_lt}
 use Rattle.std.specs.Option.{unwrap_or}
-use Rattle.std.proofs.lemmas.Bool.{eqb-true, ne_eqb}
+use Rattle.std.proofs.lemmas.Bool.{ne_eqb}
 use Rattle.coda_fid.specs.declared.op.Op.{Op}
 use Rattle.coda_fid.specs.declared.op.Record.{Record}
 use Rattle.coda_tree.specs.Volume.{Nodes}
@@ -18,16 +18,16 @@ use Rattle.coda_script.specs.declared.line.Task.TheVariants as task
 use Rattle.coda_script.specs.declared.reply.Reply.{Reply}
 use Rattle.coda_script.specs.declared.reply.Reply.TheVariants.{Opened as IsOpened, Accepted as IsAccepted, ShowVolume as IsShown, ShowLog as LogIsShown}
 use Rattle.coda_letters.specs.Sent.{Sent, ChunkSent, AnswerSent, Waiting, lost_by, number_of, sent_at}
-use Rattle.coda_plain.specs.Cell.{ClientEntry, Fetched, Did, Dropping, deed_on, deeds_of, Actor, new_actor, found, joined_to}
+use Rattle.coda_plain.specs.Cell.{ClientEntry, Fetched, Did, Dropping, deed_on, deeds_of, joined_to}
 use Rattle.coda_plain.specs.Decisions.{ReplicaEntry}
 use Rattle.coda_plain.specs.Deeds.{Deed, Operated}
-use Rattle.coda_plain.specs.Moves.{Append, AtClient, AtReplica, Who, TheClient, TheReplica, Crashes, Recovers, crashed, recovered, grown as grown_actor, fallen}
+use Rattle.coda_plain.specs.Moves.{Append, AtClient, AtReplica}
 use Rattle.coda_cell.specs.Accepting.{Accepted, sight_of, accept}
 use Rattle.coda_cell.specs.Ask.{Asked, Create, Mkdir, Symlink, Store, Setattr, Remove, Rmdir, Rename, too_big}
 use Rattle.coda_cell.specs.Asking.{Said, Answer, answers, look_ups, behind_fetches, next_record, has_room, is_full, entered, answer_to, operate_unless, operate, read, list}
 use Rattle.coda_cell.specs.Held.{Fetch}
 use Rattle.coda_cell.specs.Looking.{entries_of}
-use Rattle.coda_cell.specs.Made.{MadeCell, replica_of, state_of}
+use Rattle.coda_cell.specs.Made.{replica_of}
 use Rattle.coda_cell.specs.Messages.{over, posting, going_by, sends_of, sends, ruled_in, chunk_comes, taken_in, answer_comes}
 use Rattle.coda_cell.specs.Refused.{Refused}
 use Rattle.coda_cell.specs.Sending.{Freezing, freezing, Ruling, ruling_of, Taking, taking, deeds_at, entries_at, decides, answered_to, ruled_on, drained_of, drain}
@@ -35,10 +35,17 @@ use Rattle.coda_cell.specs.State.{ClientVolume, ClientState, ReplicaState, CellS
 use Rattle.coda_cell.specs.Steps.{client_named, volume_named, server_named, holder_named, on_volume, on_holder, first_missing, no_volume as no_volume_in, no_client as no_client_in, Doing, Unless, Happens as HappensOne, Says, ByClient, ByBoth, BySend, ByRuling, ByTaking, bytes_of, Comes, link_down, Delivers, Loses, alone, Does}
 use Rattle.coda_cell.proofs.Events.{are_there, all_there}
 use Rattle.coda_cell.proofs.Moving.{deeds_both}
-use Rattle.coda_stored.specs.Cells.{StoredCell, nothing_stored, client_header, replica_header, after, after_all, moved, failed}
-use Rattle.coda_stored.specs.Lines.{is_down_for, task_meets, meets, Acts, Becoming, Unless as UnlessStored, UnlessDown, Opens, no_volume, no_client, with_volume, with_client, area_of, with_client_side, with_replica_side, CrashesClient, CrashesReplica, RecoversClient, RecoversReplica, Stays, DoesUp}
-use Rattle.coda_runs.specs.Runs.{LineGives}
-use Rattle.coda_runs.specs.Volumes.{DidNoMore, LinesActOnMadeVolumes, ActedOnMadeVolumes, ScriptsActOnMadeVolumes}
+use Rattle.coda_actors.specs.Plain.{PlainDisk, PlainActor, Mounts}
+use Rattle.coda_actors.specs.declared.slot.Mounting.{Mounting}
+use Rattle.coda_shelves.specs.Shelves.{blank_shelves, client_header, entries_on}
+use Rattle.coda_shelves.specs.Cells.{Cell, begun_on, Stand, stand_of, state_of, with_client, with_volume, grown, failing, failed, after, after_all}
+use Rattle.coda_shelves.specs.Lines.{needs, is_down_for, meets, Acts, Becoming, Unless as UnlessShelved, UnlessDown, the_client, the_replica, is_others, made_on, area_of, no_volume, no_client, with_row, MakesVolume, with_made, MakesClient, client_payloads, replica_payloads, Crashes, Recovers, AtReplicaOf, Stays, DoesUp}
+use Rattle.coda_shelves.proofs.Mounting.{at_put}
+use Rattle.coda_shelves.proofs.Taken.{mounted_taken}
+use Rattle.coda_runs.specs.Shelved.{LineGives}
+use Rattle.coda_runs.specs.Volumes.{IsSameOn, DidNoMore, LinesActOnMadeVolumes, ScriptsActOnMadeVolumes}
+use Rattle.coda_runs.proofs.Meeting.{is_met}
+use Rattle.coda_runs.proofs.Staying.{happens_stay}
 
 -- ---- whose deeds are on which volumes
 
@@ -241,29 +248,8 @@ module _ (s : CellState) (reply : Reply) (events : List Event) where
 
 -- ---- what a cell meets has the volumes that were made
 
-task_replicas : (cell : StoredCell) (t : Task) → (task_meets cell t).replicas ≡ (state_of cell.made).replicas
-task_replicas cell (task.Create client volume path mode owner) = refl
-task_replicas cell (task.Mkdir client volume path mode owner) = refl
-task_replicas cell (task.Symlink client volume path target) = refl
-task_replicas cell (task.Store client volume path content) = refl
-task_replicas cell (task.Setattr client volume path attrs) = refl
-task_replicas cell (task.Remove client volume path) = refl
-task_replicas cell (task.Rmdir client volume path) = refl
-task_replicas cell (task.Rename client volume from to) = refl
-task_replicas cell (task.Read client volume path) = refl
-task_replicas cell (task.List client volume path) = refl
-task_replicas cell (task.Drain client volume server window) = refl
-task_replicas cell (task.Hardlink client volume from to) = refl
-task_replicas cell (task.Refresh client volume server) = refl
-task_replicas cell (task.Giveup client volume) = refl
-
-met_replicas : (cell : StoredCell) (said : Line) → (meets cell said).replicas ≡ (state_of cell.made).replicas
-met_replicas cell (line.Task t) = task_replicas cell t
-met_replicas cell said = refl
-
-some_home : (cell : MadeCell) (volume : ℕ) (o : Option ℕ) → is_some (option_map (replica_of (λ server. (cell.acted.replicas server volume).history) volume) o) ≡ true → is_some o ≡ true
-some_home cell volume None e = e
-some_home cell volume (Some home) e = refl
+met_replicas : (cell : Cell) (said : Line) → (meets cell said).replicas ≡ (state_of cell).replicas
+met_replicas cell said = ap (λ (s : CellState). s.replicas) (is_met cell said).is
 
 -- ---- what clients did elsewhere
 
@@ -277,212 +263,168 @@ deed_elsewhere volume V not client (Dropping gone entry) on = deed_elsewhere vol
 deeds_more : (volume : ℕ) (history : List ClientEntry) (entry : ClientEntry) → deed_on volume entry ≡ [] → deeds_of volume (history ++ entry ∷ []) ≡ deeds_of volume history
 deeds_more volume history entry none = deeds_both volume history (entry ∷ []) ∙ ap (λ ds. deeds_of volume history ++ (ds ++ [])) none ∙ append-nil (deeds_of volume history)
 
-grown_same : (volume : ℕ) (actor : Actor ClientEntry) (entry : ClientEntry) (joins : Bool) → deed_on volume entry ≡ [] → deeds_of volume (found joins (grown_actor entry actor)) ≡ deeds_of volume (found joins actor)
-grown_same volume actor entry false none = deeds_more volume actor.history entry none
-grown_same volume actor entry true none = by actor.failed refl
+grown_same : (volume : ℕ) (actor : PlainActor ClientEntry) (entry : ClientEntry) (joins : Bool) → deed_on volume entry ≡ [] → deeds_of volume (entries_on joins (grown entry actor).disk) ≡ deeds_of volume (entries_on joins actor.disk)
+grown_same volume actor entry false none = deeds_more volume actor.disk.history entry none
+grown_same volume actor entry true none = by actor.disk.failed
   where
-    by : (o : Option ClientEntry) → actor.failed ≡ o → deeds_of volume (found true (grown_actor entry actor)) ≡ deeds_of volume (found true actor)
-    by None e = subst (λ f. deeds_of volume (joined_to (actor.history ++ entry ∷ []) true f) ≡ deeds_of volume (joined_to actor.history true f)) (sym e) (deeds_more volume actor.history entry none)
-    by (Some last) e = subst (λ f. deeds_of volume (joined_to (actor.history ++ entry ∷ []) true f) ≡ deeds_of volume (joined_to actor.history true f)) (sym e)
-        (deeds_both volume (actor.history ++ entry ∷ []) (last ∷ []) ∙ ap (λ ds. ds ++ deeds_of volume (last ∷ [])) (deeds_more volume actor.history entry none) ∙ sym (deeds_both volume actor.history (last ∷ [])))
+    by : (o : Option ClientEntry) → deeds_of volume (joined_to (actor.disk.history ++ entry ∷ []) true o) ≡ deeds_of volume (joined_to actor.disk.history true o)
+    by None = deeds_more volume actor.disk.history entry none
+    by (Some last) =
+        deeds_both volume (actor.disk.history ++ entry ∷ []) (last ∷ []) ∙ ap (λ ds. ds ++ deeds_of volume (last ∷ [])) (deeds_more volume actor.disk.history entry none) ∙ sym (deeds_both volume actor.disk.history (last ∷ []))
 
--- an actor that would be found to have done the same there
-abbrev IsSameOn : ℕ → Actor ClientEntry → Actor ClientEntry → Type 0
-IsSameOn volume new old = (joins : Bool) → (earlier : Bool) × (deeds_of volume (found joins new) ≡ deeds_of volume (found earlier old))
+same_on : (volume : ℕ) (disk : PlainDisk ClientEntry) → IsSameOn volume disk disk
+same_on volume disk joins = (joins, refl)
 
-same_on : (volume : ℕ) (actor : Actor ClientEntry) → IsSameOn volume actor actor
-same_on volume actor joins = (joins, refl)
-
-same_then : (volume : ℕ) (old mid new : Actor ClientEntry) → IsSameOn volume mid old → IsSameOn volume new mid → IsSameOn volume new old
+same_then : (volume : ℕ) (old mid new : PlainDisk ClientEntry) → IsSameOn volume mid old → IsSameOn volume new mid → IsSameOn volume new old
 same_then volume old mid new first rest joins = (let b = rest joins in let a = first b.0 in (a.0, b.1 ∙ a.1))
 
-fallen_same : (volume : ℕ) (actor : Actor ClientEntry) (entry : ClientEntry) → deed_on volume entry ≡ [] → IsSameOn volume (fallen entry actor) actor
-fallen_same volume actor entry none true = (false, deeds_more volume actor.history entry none)
-fallen_same volume actor entry none false = (false, refl)
+failing_same : (volume : ℕ) (actor : PlainActor ClientEntry) (entry : ClientEntry) → deed_on volume entry ≡ [] → IsSameOn volume (failing entry actor).disk actor.disk
+failing_same volume actor entry none true = (false, deeds_more volume actor.disk.history entry none)
+failing_same volume actor entry none false = (false, refl)
 
-recovered_same : (volume : ℕ) (actor : Actor ClientEntry) (joined : Bool) → IsSameOn volume (recovered joined actor) actor
-recovered_same volume actor joined true = (joined, refl)
-recovered_same volume actor joined false = (joined, refl)
+-- what is found of a disk that was mounted was found before
+mounted_same : (volume : ℕ) (header : _) (old new : PlainDisk ClientEntry) (ending : Mounting) → Mounts header old ending new → IsSameOn volume new old
+mounted_same volume header old new ending m joins = let e = (mounted_taken (λ h. Unit {0}) header old new ending tt m).entries joins in (e.0, ap (deeds_of volume) e.1)
 
--- another actor of one client
-put_same : (cell : StoredCell) (at : ℕ) (actor : Actor ClientEntry) (volume : ℕ) → IsSameOn volume actor (cell.made.acted.clients at) → (client : ℕ) → IsSameOn volume (cond (client == at) actor (cell.made.acted.clients client)) (cell.made.acted.clients client)
-put_same cell at actor volume same client = elim (client == at) as (λ b. (client == at) ≡ b → IsSameOn volume (cond b actor (cell.made.acted.clients client)) (cell.made.acted.clients client)) [
-  | true ↦ λ e. subst (λ n. IsSameOn volume actor (cell.made.acted.clients n)) (sym (eqb-true client at e)) same
-  | false ↦ λ e. same_on volume (cell.made.acted.clients client)
-] refl
+-- of every client of a cell
+abbrev AreSameOn : ℕ → Cell → Cell → Type 0
+AreSameOn volume new old = (client : ℕ) → IsSameOn volume (new.clients client).disk (old.clients client).disk
+
+all_same : (volume : ℕ) (cell : Cell) → AreSameOn volume cell cell
+all_same volume cell client = same_on volume (cell.clients client).disk
+
+all_then : (volume : ℕ) (old mid new : Cell) → AreSameOn volume mid old → AreSameOn volume new mid → AreSameOn volume new old
+all_then volume old mid new first rest client = same_then volume (old.clients client).disk (mid.clients client).disk (new.clients client).disk (first client) (rest client)
+
+client_same : (volume : ℕ) (cell : Cell) (at : ℕ) (actor : PlainActor ClientEntry) → IsSameOn volume actor.disk (cell.clients at).disk → AreSameOn volume (with_client cell at actor) cell
+client_same volume cell at actor same = at_put (λ c a. IsSameOn volume a.disk (cell.clients c).disk) cell.clients at actor same (all_same volume cell)
+
+volume_same : (volume : ℕ) (cell : Cell) (o : Option Stand) (server : ℕ) (f : _) → AreSameOn volume (with_volume cell o server f) cell
+volume_same volume cell None server f = all_same volume cell
+volume_same volume cell (Some at) server f = all_same volume cell
 
 -- ---- events
 
 module _ (V : ℕ → Type 0) (volume : ℕ) (not : V volume → ⊥) where
-  event_same : (cell : StoredCell) (event : Event) → IsOn V event → (client : ℕ) → IsSameOn volume ((after cell event).made.acted.clients client) (cell.made.acted.clients client)
-  event_same cell (VolumeMade v s) on client = same_on volume (cell.made.acted.clients client)
-  event_same cell (ClientMade c blocks) on client = same_on volume (cell.made.acted.clients client)
-  event_same cell (Ticked seconds) on client = same_on volume (cell.made.acted.clients client)
-  event_same cell (LinkSet c s strength) on client = same_on volume (cell.made.acted.clients client)
-  event_same cell (Entered (AtClient c (Fetched fid parent node))) on client = put_same cell c (grown_actor (Fetched fid parent node) (cell.made.acted.clients c)) volume (λ joins. (joins, grown_same volume (cell.made.acted.clients c) (Fetched fid parent node) joins refl)) client
-  event_same cell (Entered (AtClient c (Did v deed))) on client = put_same cell c (grown_actor (Did v deed) (cell.made.acted.clients c)) volume (λ joins. (joins, grown_same volume (cell.made.acted.clients c) (Did v deed) joins (deed_elsewhere volume V not c (Did v deed) on))) client
-  event_same cell (Entered (AtClient c (Dropping gone entry))) on client = put_same cell c (grown_actor (Dropping gone entry) (cell.made.acted.clients c)) volume (λ joins. (joins, grown_same volume (cell.made.acted.clients c) (Dropping gone entry) joins (deed_elsewhere volume V not c (Dropping gone entry) on))) client
-  event_same cell (Entered (AtReplica server v entry)) on client = same_on volume (cell.made.acted.clients client)
-  event_same cell (Posted sent) on client = same_on volume (cell.made.acted.clients client)
-  event_same cell (Lost message) on client = same_on volume (cell.made.acted.clients client)
-  event_same cell (Used c fids) on client = same_on volume (cell.made.acted.clients client)
-  event_same cell (Kept c server fid) on client = same_on volume (cell.made.acted.clients client)
-  event_same cell (Stale c fids) on client = same_on volume (cell.made.acted.clients client)
+  event_same : (cell : Cell) (event : Event) → IsOn V event → AreSameOn volume (after cell event) cell
+  event_same cell (VolumeMade v s) on = all_same volume cell
+  event_same cell (ClientMade c blocks) on = all_same volume cell
+  event_same cell (Ticked seconds) on = all_same volume cell
+  event_same cell (LinkSet c s strength) on = all_same volume cell
+  event_same cell (Entered (AtClient c entry)) on = client_same volume cell c (grown entry (cell.clients c)) (λ joins. (joins, grown_same volume (cell.clients c) entry joins (deed_elsewhere volume V not c entry on)))
+  event_same cell (Entered (AtReplica server v entry)) on = volume_same volume cell (stand_of cell v) server (grown entry)
+  event_same cell (Posted sent) on = all_same volume cell
+  event_same cell (Lost message) on = all_same volume cell
+  event_same cell (Used c fids) on = all_same volume cell
+  event_same cell (Kept c server fid) on = all_same volume cell
+  event_same cell (Stale c fids) on = all_same volume cell
 
-  events_same : (cell : StoredCell) (events : List Event) → AreOn V events → (client : ℕ) → IsSameOn volume ((after_all cell events).made.acted.clients client) (cell.made.acted.clients client)
-  events_same cell [] on client = same_on volume (cell.made.acted.clients client)
-  events_same cell (event ∷ events) on client =
-      same_then volume (cell.made.acted.clients client) ((after cell event).made.acted.clients client) ((after_all (after cell event) events).made.acted.clients client) (event_same cell event on.0 client) (events_same (after cell event) events on.1 client)
+  events_same : (cell : Cell) (events : List Event) → AreOn V events → AreSameOn volume (after_all cell events) cell
+  events_same cell [] on = all_same volume cell
+  events_same cell (event ∷ events) on = all_then volume cell (after cell event) (after_all (after cell event) events) (event_same cell event on.0) (events_same (after cell event) events on.1)
 
-  failed_same : (cell : StoredCell) (append : Append) → IsOn V (Entered append) → (client : ℕ) → IsSameOn volume ((failed cell append).made.acted.clients client) (cell.made.acted.clients client)
-  failed_same cell (AtClient c (Fetched fid parent node)) on client = put_same cell c (fallen (Fetched fid parent node) (cell.made.acted.clients c)) volume (fallen_same volume (cell.made.acted.clients c) (Fetched fid parent node) refl) client
-  failed_same cell (AtClient c (Did v deed)) on client = put_same cell c (fallen (Did v deed) (cell.made.acted.clients c)) volume (fallen_same volume (cell.made.acted.clients c) (Did v deed) (deed_elsewhere volume V not c (Did v deed) on)) client
-  failed_same cell (AtClient c (Dropping gone entry)) on client = put_same cell c (fallen (Dropping gone entry) (cell.made.acted.clients c)) volume (fallen_same volume (cell.made.acted.clients c) (Dropping gone entry) (deed_elsewhere volume V not c (Dropping gone entry) on)) client
-  failed_same cell (AtReplica server v entry) on client = same_on volume (cell.made.acted.clients client)
-
--- a volume that isn't made behind an event wasn't made before it
-event_unmade : (cell : StoredCell) (event : Event) (volume : ℕ) → (after cell event).made.homes volume ≡ None → cell.made.homes volume ≡ None
-event_unmade cell (VolumeMade v s) volume none = by (volume == v) none
-  where
-    by : (b : Bool) → cond b (Some s) (cell.made.homes volume) ≡ None → cell.made.homes volume ≡ None
-    by true e = cc
-    by false e = e
-event_unmade cell (ClientMade c blocks) volume none = none
-event_unmade cell (Ticked seconds) volume none = none
-event_unmade cell (LinkSet c s strength) volume none = none
-event_unmade cell (Entered append) volume none = none
-event_unmade cell (Posted sent) volume none = none
-event_unmade cell (Lost message) volume none = none
-event_unmade cell (Used c fids) volume none = none
-event_unmade cell (Kept c server fid) volume none = none
-event_unmade cell (Stale c fids) volume none = none
-
-events_unmade : (cell : StoredCell) (events : List Event) (volume : ℕ) → (after_all cell events).made.homes volume ≡ None → cell.made.homes volume ≡ None
-events_unmade cell [] volume none = none
-events_unmade cell (event ∷ events) volume none = event_unmade cell event volume (events_unmade (after cell event) events volume none)
+  failed_same : (cell : Cell) (append : Append) → IsOn V (Entered append) → AreSameOn volume (failed cell append) cell
+  failed_same cell (AtClient c entry) on = client_same volume cell c (failing entry (cell.clients c)) (failing_same volume (cell.clients c) entry (deed_elsewhere volume V not c entry on))
+  failed_same cell (AtReplica server v entry) on = volume_same volume cell (stand_of cell v) server (failing entry)
 
 -- ---- lines
 
-module _ (old : StoredCell) (reply : Reply) (outside : List (List ℕ)) (new : StoredCell) (client volume : ℕ) where
+row_same : (volume : ℕ) (others : Bool) (cell : Cell) (at : ℕ) (servers : List ℕ) (area : ℕ) (row : _) → AreSameOn volume (with_row others cell at servers area row) cell
+row_same volume true cell at servers area row = all_same volume cell
+row_same volume false cell at servers area row = all_same volume cell
+
+made_same : (volume : ℕ) (others : Bool) (cell : Cell) (at area : ℕ) (actor : PlainActor ClientEntry) → IsSameOn volume actor.disk (cell.clients at).disk → AreSameOn volume (with_made others cell at area actor) cell
+made_same volume true cell at area actor same = all_same volume cell
+made_same volume false cell at area actor same = client_same volume cell at actor same
+
+module _ (old : Cell) (reply : Reply) (outside : List (List ℕ)) (new : Cell) (volume : ℕ) (none : stand_of old volume ≡ None) where
   abbrev NoMore : Type 0
-  NoMore = new.made.homes volume ≡ None → DidNoMore old new client volume
+  NoMore = AreSameOn volume new old
 
-  -- a cell in which it is so
-  as_in : (mid : StoredCell) → new ≡ mid → (mid.made.homes volume ≡ None → DidNoMore old mid client volume) → NoMore
-  as_in mid is rest none = subst (λ (c : StoredCell). DidNoMore old c client volume) (sym is) (rest (ap (λ (c : StoredCell). c.made.homes volume) (sym is) ∙ none))
-
-  same_more : new ≡ old → NoMore
-  same_more is = as_in old is (λ none. record { unmade = none; before = same_on volume (old.made.acted.clients client) })
-
-  -- the actors' histories alone tell
-  told_by : (mid : StoredCell) → new ≡ mid → mid.made.homes ≡ old.made.homes → IsSameOn volume (mid.made.acted.clients client) (old.made.acted.clients client) → NoMore
-  told_by mid is homes same = as_in mid is (λ none. record { unmade = ap (λ (f : ℕ → Option ℕ). f volume) (sym homes) ∙ none; before = same })
-
-  -- a volume that wasn't made isn't met
-  not_there : (said : Line) → old.made.homes volume ≡ None → is_some ((meets old said).replicas volume) ≡ true → ⊥
-  not_there said none e =
-      let homed = some_home old.made volume (old.made.homes volume) (ap (λ (f : ℕ → Option ReplicaState). is_some (f volume)) (sym (met_replicas old said)) ∙ e) in
-      (let no : false ≡ true = ap is_some (sym none) ∙ homed in cc)
-
-  module _ (V : ℕ → Type 0) (not : old.made.homes volume ≡ None → V volume → ⊥) where
-    after_more : (events : List Event) → AreOn V events → new ≡ after_all old events → NoMore
-    after_more events on is = as_in (after_all old events) is (λ none.
-        let before = events_unmade old events volume none in
-        record { unmade = before; before = events_same V volume (not before) old events on client })
-
-    failed_more : (events : List Event) (append : Append) → AreOn V events → IsOn V (Entered append) → new ≡ failed (after_all old events) append → NoMore
-    failed_more events append on next is = as_in (failed (after_all old events) append) is (λ none.
-        let before = events_unmade old events volume none in
-        record {
-          unmade = before;
-          before = same_then volume (old.made.acted.clients client) ((after_all old events).made.acted.clients client) ((failed (after_all old events) append).made.acted.clients client)
-              (events_same V volume (not before) old events on client) (failed_same V volume (not before) (after_all old events) append next client);
-        })
+  as_in : (mid : Cell) → new ≡ mid → AreSameOn volume mid old → NoMore
+  as_in mid is same = subst (λ (c : Cell). AreSameOn volume c old) (sym is) same
 
   acts_more : (said : Line) → Acts old said reply new → NoMore
   acts_more said acts =
       let V : ℕ → Type 0 = λ v. is_some ((meets old said).replicas v) ≡ true in
       let on : AreOn V acts.events = on_line (meets old said) acts.own acts.events said acts.does in
+      let not : V volume → ⊥ = λ e. (let no : false ≡ true = sym (ap (λ (o : Option Stand). is_some (option_map (λ (at : Stand). replica_of (λ s. (old.replicas at.row s).disk.history) volume (alone at.servers)) o)) none)
+      ∙ ap (λ (f : ℕ → Option ReplicaState). is_some (f volume)) (sym (met_replicas old said)) ∙ e in cc) in
       elim acts.ends [
-        | inl all ↦ after_more V (not_there said) acts.events on all.2
-        | inr (inl (stop, fits, lacks, replied, is)) ↦ after_more V (not_there said) stop.done (on_front V stop.done (Entered stop.next ∷ stop.rest) (subst (AreOn V) stop.is on)) is
-        | inr (inr (stop, fits, replied, is)) ↦ failed_more V (not_there said) stop.done stop.next (on_front V stop.done (Entered stop.next ∷ stop.rest) (subst (AreOn V) stop.is on))
-            (on_next V stop.done (Entered stop.next) stop.rest (subst (AreOn V) stop.is on)) is
+        | inl all ↦ as_in _ all.2 (events_same V volume not old acts.events on)
+        | inr (inl (stop, fits, lacks, replied, is)) ↦ as_in _ is (events_same V volume not old stop.done (on_front V stop.done (Entered stop.next ∷ stop.rest) (subst (AreOn V) stop.is on)))
+        | inr (inr (stop, fits, replied, is)) ↦ as_in _ is (all_then volume old (after_all old stop.done) (failed (after_all old stop.done) stop.next)
+            (events_same V volume not old stop.done (on_front V stop.done (Entered stop.next ∷ stop.rest) (subst (AreOn V) stop.is on)))
+            (failed_same V volume not (after_all old stop.done) stop.next (on_next V stop.done (Entered stop.next) stop.rest (subst (AreOn V) stop.is on))))
       ]
 
-  unless_more : (o : Option Refused) (own : Becoming) → (o ≡ None → own reply outside new → NoMore) → UnlessStored old o own reply outside new → NoMore
-  unless_more (Some why) own rest does = same_more does.2
-  unless_more None own rest does = rest refl does
+  unless_more : (o : Option Refused) (own : Becoming) → (own reply outside new → NoMore) → UnlessShelved old o own reply outside new → NoMore
+  unless_more (Some why) own rest does = as_in old does.2 (all_same volume old)
+  unless_more None own rest does = rest does
 
-  -- a volume is made, or a client
-  opens_volume : (at server area : ℕ) → Opens old (replica_header at server area) (with_volume old at server area) (TheReplica server at) reply outside new → NoMore
-  opens_volume at server area (out, inl (replied, is)) = as_in _ is (λ none. record { unmade = event_unmade old (VolumeMade at server) volume none; before = same_on volume (old.made.acted.clients client) })
-  opens_volume at server area (out, inr (given, tried, replied, is)) = as_in _ is (λ none. record { unmade = event_unmade old (VolumeMade at server) volume none; before = same_on volume (old.made.acted.clients client) })
+  crash_replica_more : (o : Option Stand) (server : ℕ) → AtReplicaOf old o server (Crashes replica_payloads) reply outside new → NoMore
+  crash_replica_more None server does = absurd does
+  crash_replica_more (Some at) server (header, is, (image, may, says, out, next)) = as_in _ next (all_same volume old)
 
-  opens_client : (at blocks area : ℕ) → Opens old (client_header at blocks area) (with_client old at blocks area) (TheClient at) reply outside new → NoMore
-  opens_client at blocks area (out, inl (replied, is)) = told_by _ is refl (same_on volume (old.made.acted.clients client))
-  opens_client at blocks area (out, inr (given, tried, replied, is)) = told_by _ is refl (put_same old at (crashed (old.made.acted.clients at)) volume (λ joins. (joins, refl)) client)
-
-  -- an actor crashes, or is recovered
-  crash_same : (who : Who) → IsSameOn volume ((moved old (Crashes who)).made.acted.clients client) (old.made.acted.clients client)
-  crash_same (TheClient at) = put_same old at (crashed (old.made.acted.clients at)) volume (λ joins. (joins, refl)) client
-  crash_same (TheReplica server at) = same_on volume (old.made.acted.clients client)
-
-  pub recovers_client_more : (at : ℕ) → RecoversClient old at reply outside new → NoMore
-  recovers_client_more at (out, (header, asked, inl (joined, replied, read, is, may))) = told_by _ is refl (put_same old at (recovered joined (old.made.acted.clients at)) volume (recovered_same volume (old.made.acted.clients at) joined) client)
-  recovers_client_more at (out, (header, asked, inr (inl (tried, mid, inl refused, replied, is)))) = told_by _ (is ∙ ap (λ (c : StoredCell). with_client_side c at tried) refused.1) refl (crash_same (TheClient at))
-  recovers_client_more at (out, (header, asked, inr (inl (tried, mid, inr refused, replied, is)))) =
-      let once = moved old (Recovers (TheClient at) false) in
-      told_by _ (is ∙ ap (λ (c : StoredCell). with_client_side c at tried) refused.2) refl
-      (same_then volume (old.made.acted.clients client) (once.made.acted.clients client) ((moved once (Crashes (TheClient at))).made.acted.clients client)
-      (put_same old at (recovered false (old.made.acted.clients at)) volume (recovered_same volume (old.made.acted.clients at) false) client)
-      (put_same once at (crashed (once.made.acted.clients at)) volume (λ joins. (joins, refl)) client))
-  recovers_client_more at (out, (header, asked, inr (inr (place, differs, replied, is)))) = told_by _ is refl (crash_same (TheClient at))
-
-  pub recovers_replica_more : (server at : ℕ) → RecoversReplica old server at reply outside new → NoMore
-  recovers_replica_more server at (out, (header, asked, inl (joined, replied, read, is, may))) = told_by _ is refl (same_on volume (old.made.acted.clients client))
-  recovers_replica_more server at (out, (header, asked, inr (inl (tried, mid, inl refused, replied, is)))) = told_by _ (is ∙ ap (λ (c : StoredCell). with_replica_side c at tried) refused.1) refl (same_on volume (old.made.acted.clients client))
-  recovers_replica_more server at (out, (header, asked, inr (inl (tried, mid, inr refused, replied, is)))) = told_by _ (is ∙ ap (λ (c : StoredCell). with_replica_side c at tried) refused.2) refl (same_on volume (old.made.acted.clients client))
-  recovers_replica_more server at (out, (header, asked, inr (inr (place, differs, replied, is)))) = told_by _ is refl (same_on volume (old.made.acted.clients client))
+  recover_replica_more : (o : Option Stand) (server : ℕ) → AtReplicaOf old o server (Recovers replica_payloads) reply outside new → NoMore
+  recover_replica_more None server does = absurd does
+  recover_replica_more (Some at) server (header, is, (ending, disk, told, mounts, from, says, out, next)) = as_in _ next (all_same volume old)
 
   up_more : (said : Line) → DoesUp old said reply outside new → NoMore
-  up_more (line.Volume at servers area) does = unless_more (no_volume old at (area_of area)) _ (λ free opens. opens_volume at (alone servers) (area_of area) opens) does
-  up_more (line.Client at blocks area) does = unless_more (no_client old at (area_of area)) _ (λ free opens. opens_client at blocks (area_of area) opens) does
-  up_more (line.CrashClient at choice) does = unless_more (first_missing (client_named (state_of old.made) at ∷ [])) (CrashesClient old at) (λ all did. told_by _ did.4 refl (crash_same (TheClient at))) does
-  up_more (line.CrashReplica server at choice) does = unless_more (first_missing (holder_named (state_of old.made) server at ∷ [])) (CrashesReplica old server at) (λ all did. told_by _ did.4 refl (same_on volume (old.made.acted.clients client))) does
-  up_more (line.RecoverClient at) does = unless_more (first_missing (client_named (state_of old.made) at ∷ [])) (RecoversClient old at) (λ all did. recovers_client_more at did) does
-  up_more (line.RecoverReplica server at) does = unless_more (first_missing (holder_named (state_of old.made) server at ∷ [])) (RecoversReplica old server at) (λ all did. recovers_replica_more server at did) does
-  up_more (line.ArmClient at passes) does = unless_more (first_missing (client_named (state_of old.made) at ∷ [])) (Stays old IsAccepted) (λ all did. same_more did.2) does
-  up_more (line.ArmReplica server at passes) does = unless_more (first_missing (holder_named (state_of old.made) server at ∷ [])) (Stays old IsAccepted) (λ all did. same_more did.2) does
+  up_more (line.Volume at servers area) does = unless_more (no_volume old at (area_of area)) (MakesVolume old at servers (area_of area))
+      (λ (endings, row, mounts, says, out, next). as_in _ next (row_same volume (is_others endings) old at servers (area_of area) row)) does
+  up_more (line.Client at blocks area) does = unless_more (no_client old at (area_of area)) (MakesClient old at (client_header at blocks (area_of area)))
+      (λ (ending, disk, told, mounts, says, out, next). as_in _ next (made_same volume (is_others (ending ∷ [])) old at (area_of area) (made_on false (client_header at blocks (area_of area)) (old.clients at) disk ending)
+      (mounted_same volume (client_header at blocks (area_of area)) (old.clients at).disk disk ending mounts))) does
+  up_more (line.CrashClient at choice) does = unless_more (first_missing (the_client old at).named) (Crashes client_payloads (old.clients at) (with_client old at))
+      (λ (header, is, (image, may, says, out, next)). as_in _ next (client_same volume old at _ (same_on volume (old.clients at).disk))) does
+  up_more (line.CrashReplica server at choice) does = unless_more (first_missing (the_replica old server at).named) (AtReplicaOf old (stand_of old at) server (Crashes replica_payloads)) (crash_replica_more (stand_of old at) server) does
+  up_more (line.RecoverClient at) does = unless_more (first_missing (the_client old at).named) (Recovers client_payloads (old.clients at) (with_client old at))
+      (λ (header, is, (ending, disk, told, mounts, from, says, out, next)). as_in _ next (client_same volume old at _ (mounted_same volume header (old.clients at).disk disk ending mounts))) does
+  up_more (line.RecoverReplica server at) does = unless_more (first_missing (the_replica old server at).named) (AtReplicaOf old (stand_of old at) server (Recovers replica_payloads)) (recover_replica_more (stand_of old at) server) does
+  up_more (line.ArmClient at passes) does = unless_more (first_missing (the_client old at).named) (Stays old IsAccepted) (λ did. as_in old did.2 (all_same volume old)) does
+  up_more (line.ArmReplica server at passes) does = unless_more (first_missing (the_replica old server at).named) (Stays old IsAccepted) (λ did. as_in old did.2 (all_same volume old)) does
   up_more said does = acts_more said does.1
 
   line_more : (said : Line) (b : Bool) → UnlessDown b old (DoesUp old said) reply outside new → NoMore
-  line_more said true does = same_more does.2
+  line_more said true does = as_in old does.2 (all_same volume old)
   line_more said false does = up_more said does
 
+-- a volume that isn't made behind a line wasn't made before it
+unmade : (old new : Cell) → ((volume : ℕ) (at : Stand) → stand_of old volume ≡ Some at → stand_of new volume ≡ Some at) → (volume : ℕ) → stand_of new volume ≡ None → stand_of old volume ≡ None
+unmade old new stay volume none = by (stand_of old volume) refl
+  where
+    by : (o : Option Stand) → stand_of old volume ≡ o → o ≡ None
+    by None e = refl
+    by (Some at) e = (let no : None ≡ Some at = sym none ∙ stay volume at e in cc)
+
 pub lines_act_on_made_volumes : LinesActOnMadeVolumes
-lines_act_on_made_volumes old new said reply outside does client volume none = line_more old reply outside new client volume said (is_down_for old said) does none
+lines_act_on_made_volumes old new said reply outside does client volume none =
+    let was = unmade old new (happens_stay old reply outside new said does).volumes volume none in
+    record { unmade = was; before = line_more old reply outside new volume was said (is_down_for (needs old said)) does client }
 
 -- ---- runs
 
--- a cell behind which a client did no more
-pub acted_then : (old new : StoredCell) → ((client volume : ℕ) → new.made.homes volume ≡ None → DidNoMore old new client volume) → ActedOnMadeVolumes old → ActedOnMadeVolumes new
-acted_then old new more acted joins client volume none =
-    let m = more client volume none in
-    let b = m.before (joins.clients client) in
-    b.1 ∙ acted (record { clients = λ c. b.0; replicas = λ s v. false }) client volume m.unmade
+gives_more : (old new : Cell) (bytes text : List ℕ) (outside : List (List ℕ)) → LineGives old bytes text outside new → (client volume : ℕ) → stand_of new volume ≡ None → DidNoMore old new client volume
+gives_more old new bytes text outside (inl silent) client volume none =
+    subst (λ (c : Cell). stand_of c volume ≡ None → DidNoMore old c client volume) (sym silent.3) (λ is. record { unmade = is; before = same_on volume (old.clients client).disk }) none
+gives_more old new bytes text outside (inr x) client volume none = lines_act_on_made_volumes old new x.said x.reply outside x.happens client volume none
 
-pub line_acts : (old new : StoredCell) (bytes text : List ℕ) (outside : List (List ℕ)) → ActedOnMadeVolumes old → LineGives old bytes text outside new → ActedOnMadeVolumes new
-line_acts old new bytes text outside acted (inl silent) = subst ActedOnMadeVolumes (sym silent.3) acted
-line_acts old new bytes text outside acted (inr x) = acted_then old new (lines_act_on_made_volumes old new x.said x.reply outside x.happens) acted
+runs_more : (old new : Cell) (ls : List (List ℕ)) (report : List ℕ) (outside : List (List ℕ)) → Runs LineGives old ls report outside new → (client volume : ℕ) → stand_of new volume ≡ None → DidNoMore old new client volume
+runs_more old new [] report outside run client volume none =
+    subst (λ (c : Cell). stand_of c volume ≡ None → DidNoMore old c client volume) (sym run.2) (λ is. record { unmade = is; before = same_on volume (old.clients client).disk }) none
+runs_more old new (l ∷ more) report outside run client volume none =
+    let rest = runs_more run.0 new more run.2 run.4 run.6 client volume none in
+    let first = gives_more old run.0 l run.1 run.3 run.5 client volume rest.unmade in
+    record { unmade = first.unmade; before = same_then volume (old.clients client).disk (run.0.clients client).disk (new.clients client).disk first.before rest.before }
 
-runs_act : (old new : StoredCell) (ls : List (List ℕ)) (report : List ℕ) (outside : List (List ℕ)) → ActedOnMadeVolumes old → Runs LineGives old ls report outside new → ActedOnMadeVolumes new
-runs_act old new [] report outside acted run = subst ActedOnMadeVolumes (sym run.2) acted
-runs_act old new (l ∷ more) report outside acted run = runs_act run.0 new more run.2 run.4 (line_acts old run.0 l run.1 run.3 acted run.5) run.6
-
-nothing_done : (joins : Bool) → found {E = ClientEntry} joins new_actor ≡ []
-nothing_done true = refl
-nothing_done false = refl
+nothing_done : (joins : Bool) (client : ℕ) → entries_on joins (blank_shelves.clients client) ≡ []
+nothing_done true client = refl
+nothing_done false client = refl
 
 pub scripts_act_on_made_volumes : ScriptsActOnMadeVolumes
-scripts_act_on_made_volumes ls report outside cell run = runs_act nothing_stored cell ls report outside (λ joins client volume none. ap (deeds_of volume) (nothing_done (joins.clients client))) run
+scripts_act_on_made_volumes = record {
+  runs = λ shelves cell ls report outside run client volume none. (runs_more (begun_on shelves) cell ls report outside run client volume none).before;
+  first = λ cell ls report outside run joins client volume none.
+      let b = (runs_more (begun_on blank_shelves) cell ls report outside run client volume none).before joins in b.1 ∙ ap (deeds_of volume) (nothing_done b.0 client);
+}

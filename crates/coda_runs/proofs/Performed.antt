@@ -27,7 +27,7 @@ use Rattle.coda_cell.specs.Looking.{then_find, held, step_from, resolve}
 use Rattle.coda_cell.specs.Accepting.{Sight, new_under, new_place, accept_creation, store_in, store_at, setattr_at, remove_in, remove_at, rmdir_of, rmdir_in, rmdir_at, spot, bound_at, place, replaced_by, move_to, rename_to, rename_root, accept_rename, accept_remove, accept_rmdir}
 use Rattle.coda_cell.proofs.Accepted.{MayMove, Relies, ok_is, found_then, not_at_root, new_under_is, new_fid_is, held_is, step_is, IsSpot, spot_is, root_stays, unless_below}
 use Rattle.coda_cell.proofs.AfterOperations.{newly_bound, bound_before, IsBoundBy}
-use Rattle.coda_runs.specs.Performed.{Leads, End, HasNoOther, IsNew, IsStored, IsSet, IsGone}
+use Rattle.coda_runs.specs.Performed.{Leads, End, HasNoOther, Stamp, IsVersionOf, IsNew, IsStored, IsSet, IsGone}
 
 -- ---- paths
 
@@ -82,10 +82,10 @@ creation_made s volume path (Some e) make op is h =
     }
 
 -- what it leaves
-pub made_new : (s : Sight) (volume client : ℕ) (path : List Name) (make : Fid → Name → Fid → Op) (rec : Record) (node : Node) (made : Made s volume path make rec.op) → Relies s volume rec.op → IsBoundBy rec.op made.end.dir made.end.last made.fid
+pub made_new : (by : Stamp) (s : Sight) (volume client : ℕ) (path : List Name) (make : Fid → Name → Fid → Op) (rec : Record) (node : Node) (made : Made s volume path make rec.op) → Relies s volume rec.op → IsBoundBy rec.op made.end.dir made.end.last made.fid
     → ((dir : Fid) (name : Name) → IsBoundBy rec.op dir name made.fid → (dir ≡ made.end.dir) × (name ≡ made.end.last))
-    → map.get (applied s.held.nodes client rec) made.fid ≡ Some node → IsNew s.held.nodes (applied s.held.nodes client rec) volume path node.kind node.mode node.owner made.fid
-made_new s volume client path make rec node made relies anew alone stands = record {
+    → map.get (applied s.held.nodes client rec) made.fid ≡ Some node → node.mtime ≡ by.time → IsVersionOf by node.sid → node.marked ≡ false → IsNew by s.held.nodes (applied s.held.nodes client rec) volume path node.kind node.mode node.owner made.fid
+made_new by s volume client path make rec node made relies anew alone stands time version unmarked = record {
   end = made.end;
   free = made.free;
   fresh = made.fresh;
@@ -96,6 +96,9 @@ made_new s volume client path make rec node made relies anew alone stands = reco
   kind_is = refl;
   mode_is = refl;
   owner_is = refl;
+  mtime_is = time;
+  version_is = version;
+  unmarked = unmarked;
 }
 
 -- ---- operations on an object
@@ -140,25 +143,30 @@ set_or_is : {A : Type 0} (o : Option A) (x : A) → set_or o x ≡ unwrap_or o x
 set_or_is None x = refl
 set_or_is (Some y) x = refl
 
-pub stored_so : (m : Nodes) (volume time : ℕ) (sid : Sid) (path : List Name) (content : List ℕ) (op : Op) (x : Stored m volume path content op) (n : Nodes) → n ≡ edited_all m (effects time sid (StoreOp x.fid x.node.sid content))
-    → HasNoOther m n x.fid → HasNoOther n m x.fid → IsStored m n volume path content x.fid
-stored_so m volume time sid path content op x n is only still = record {
+pub stored_so : (by : Stamp) (m : Nodes) (volume time : ℕ) (sid : Sid) (path : List Name) (content : List ℕ) (op : Op) (x : Stored m volume path content op) (n : Nodes) → n ≡ edited_all m (effects time sid (StoreOp x.fid x.node.sid content))
+    → HasNoOther m n x.fid → HasNoOther n m x.fid → time ≡ by.time → IsVersionOf by sid → IsStored by m n volume path content x.fid
+stored_so by m volume time sid path content op x n is only still when version = record {
   at = record { leads = x.leads; was = x.node; stood = x.there; node = written (content_patch content time) sid x.node; stands = ap (λ q. map.get q x.fid) is ∙ write_leaves m x.fid (content_patch content time) sid x.node x.there; only = only; still = still };
   old = x.old;
   file = x.file;
   content_is = ap (with_content (Some content)) x.file;
   mode_is = refl;
   owner_is = refl;
+  mtime_is = when;
+  version_is = version;
+  mark_is = refl;
 }
 
-pub changed_so : (m : Nodes) (volume time : ℕ) (sid : Sid) (path : List Name) (attrs : Attrs) (op : Op) (x : Changed m volume path attrs op) (n : Nodes) → n ≡ edited_all m (effects time sid (SetattrOp x.fid x.node.sid attrs))
-    → HasNoOther m n x.fid → HasNoOther n m x.fid → IsSet m n volume path attrs x.fid
-changed_so m volume time sid path attrs op x n is only still = record {
+pub changed_so : (by : Stamp) (m : Nodes) (volume time : ℕ) (sid : Sid) (path : List Name) (attrs : Attrs) (op : Op) (x : Changed m volume path attrs op) (n : Nodes) → n ≡ edited_all m (effects time sid (SetattrOp x.fid x.node.sid attrs))
+    → HasNoOther m n x.fid → HasNoOther n m x.fid → IsVersionOf by sid → IsSet by m n volume path attrs x.fid
+changed_so by m volume time sid path attrs op x n is only still version = record {
   at = record { leads = x.leads; was = x.node; stood = x.there; node = written (attrs_patch attrs) sid x.node; stands = ap (λ q. map.get q x.fid) is ∙ write_leaves m x.fid (attrs_patch attrs) sid x.node x.there; only = only; still = still };
   kind_is = refl;
   mode_is = set_or_is attrs.mode x.node.mode;
   owner_is = set_or_is attrs.owner x.node.owner;
   mtime_is = set_or_is attrs.mtime x.node.mtime;
+  version_is = version;
+  mark_is = refl;
 }
 
 -- ---- removals

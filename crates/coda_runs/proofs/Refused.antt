@@ -36,7 +36,6 @@ use Rattle.coda_cell.specs.Looking.{resolve, look_along, entries_of, is_fetched}
 use Rattle.coda_cell.specs.Accepting.{Accepted, sight_of, accept}
 use Rattle.coda_cell.specs.Refusing.{refusal}
 use Rattle.coda_cell.specs.State.{ClientVolume, ClientState, client_after_all, CellState, Event, after_all, at_client}
-use Rattle.coda_cell.specs.Made.{MadeCell, state_of, grown_all}
 use Rattle.coda_cell.specs.Steps.{Unless, first_missing, on_volume, offers_of, reply_to, ByClient, bytes_of, DoesTask}
 use Rattle.coda_cell.proofs.Events.{after_client}
 use Rattle.coda_cell.proofs.Families.{put_here}
@@ -113,27 +112,24 @@ at_named c v client volume P named p =
     let both : (c, v) ≡ (client, volume) = cc in
     subst (λ (x : ℕ × ℕ). P x.0 x.1) both p
 
-module _ (cell : MadeCell) (reply : Reply) (events : List Event) (left : state_of (grown_all cell events) ≡ after_all (state_of cell) events) where
-  abbrev pub s : CellState
-  s = state_of cell
-
+module _ (s : CellState) (reply : Reply) (events : List Event) where
   abbrev pub behind : ℕ → Option ClientState
-  behind = (state_of (grown_all cell events)).clients
+  behind = (after_all s events).clients
 
   -- the client behind what it added to its history
   client_behind : (client : ℕ) (c : ClientState) (entries : List ClientEntry) → s.clients client ≡ Some c → events ≡ map_list (at_client client) entries → behind client ≡ Some (client_after_all c entries)
   client_behind client c entries there happened =
-      ap (λ (q : CellState). q.clients client) (left ∙ ap (after_all s) happened ∙ after_client s client c entries there) ∙ put_here s.clients client (Some (client_after_all c entries))
+      ap (λ (q : CellState). q.clients client) (ap (after_all s) happened ∙ after_client s client c entries there) ∙ put_here s.clients client (Some (client_after_all c entries))
 
   operated : (client volume : ℕ) (ask : Asked) (CauseOf : ClientState → Refused → Type 0) → ((c : ClientState) (why : Refused) → accept (sight_of c volume) volume ask ≡ Err why → CauseOf c why) → ((c : ClientState) (why : Refused) → IsFull (c.volumes volume) why → CauseOf c why)
-      → ((c : ClientState) (length : ℕ) → too_big ask ≡ Some length → CauseOf c (refused.TooBig length)) → (o : Option Refused) → Unless o (ByClient s client volume (λ offers c. operate offers c cell.clock volume ask)) reply events → IsAnsweredBy CauseOf client o behind reply
+      → ((c : ClientState) (length : ℕ) → too_big ask ≡ Some length → CauseOf c (refused.TooBig length)) → (o : Option Refused) → Unless o (ByClient s client volume (λ offers c. operate offers c s.clock volume ask)) reply events → IsAnsweredBy CauseOf client o behind reply
   operated client volume ask CauseOf accepts fills is_big (Some why) isnt = inl (why, refl, isnt.0)
   operated client volume ask CauseOf accepts fills is_big None did =
       let offers = offers_of s client volume in
       let c = did.client in
-      let answer = operate offers c cell.clock volume ask in
+      let answer = operate offers c s.clock volume ask in
       let fetches = look_ups offers c.held volume ask in
-      elim (outcome offers c cell.clock volume ask) [
+      elim (outcome offers c s.clock volume ask) [
         | IsDone number object said ↦ inr (inl (number, object, did.answered ∙ ap reply_to said))
         | IsRefused why said entries cause ↦ inr (inr (inr (
           why,
@@ -213,7 +209,7 @@ module _ (cell : MadeCell) (reply : Reply) (events : List Event) (left : state_o
   never_big length e = cc
 
   created : (client volume : ℕ) (ask : Asked) (path : List Name) → too_big ask ≡ None → ((c : ClientState) (why : Refused) → accept (sight_of c volume) volume ask ≡ Err why → CreationCause (sight_of c volume) volume path why)
-      → Unless (first_missing (on_volume s client volume)) (ByClient s client volume (λ offers c. operate offers c cell.clock volume ask)) reply events
+      → Unless (first_missing (on_volume s client volume)) (ByClient s client volume (λ offers c. operate offers c s.clock volume ask)) reply events
       → IsAnsweredBy (λ c why. CreationCause (sight_of c volume) volume path why ⊎ IsFull (c.volumes volume) why) client (first_missing (on_volume s client volume)) behind reply
   created client volume ask path short cause does =
       operated client volume ask (λ c why. CreationCause (sight_of c volume) volume path why ⊎ IsFull (c.volumes volume) why) (λ c why h. inl (cause c why h)) (λ c why full. inr full)

@@ -1,10 +1,11 @@
 -- Each line that is built has a reply in every cell that is kept.
-use Rattle.std.proofs.Common.{◌≡◌, ℕ, Bool, true, false, List, [], ◌∷◌, ◌++◌, map, Option, Some, None, is_some, refl, ap, inl, inr, ◌⊎◌}
+use Rattle.std.proofs.Common.{◌≡◌, ℕ, Bool, true, false, List, [], ◌∷◌, ◌++◌, map, Option, Some, None, is_some, option_map, refl, sym, ap, ◌∙◌, subst, inl, inr, ◌⊎◌}
 use Rattle.std.specs.Bool.{if◌then◌else◌}
-use Rattle.std.specs.Option.{unwrap_or}
+use Rattle.std.specs.Prelude.{length, ◌==◌}
+use Rattle.std.specs.Option.{option_map_or, unwrap_or}
 use Rattle.std.specs.List.{AllByRecursion}
 use Rattle.std.specs.Str.Lines.{lines}
-use Rattle.std.proofs.lemmas.Bool.{false≢true}
+use Rattle.std.proofs.lemmas.Bool.{eqb-true, false≢true}
 use Rattle.coda_tree.specs.Volume.{Nodes}
 use Rattle.coda_engine.specs.Run.{Runs}
 use Rattle.coda_script.specs.declared.line.Task.{Task}
@@ -12,29 +13,30 @@ use Rattle.coda_script.specs.declared.line.Task.TheVariants as task
 use Rattle.coda_script.specs.declared.line.Line.{Line}
 use Rattle.coda_script.specs.declared.line.Line.TheVariants as line
 use Rattle.coda_script.specs.declared.reply.Reply.{Reply}
-use Rattle.coda_script.specs.declared.reply.Reply.TheVariants.{Opened, Accepted, Lost, ShowVolume, ShowLog}
+use Rattle.coda_script.specs.declared.reply.Reply.TheVariants.{Accepted, Lost, ShowVolume, ShowLog}
 use Rattle.coda_cell.specs.Refused.{Refused}
 use Rattle.coda_cell.specs.Refused.{NoSuchActor, NoMessage}
 use Rattle.coda_cell.specs.Refusing.{refusal}
-use Rattle.coda_cell.specs.State.{ClientState, CellState, Event, VolumeMade, ClientMade, Ticked, LinkSet, Entered, Posted, Lost as LetterLost, Used, Kept, Stale, at_client}
+use Rattle.coda_cell.specs.Made.{client_of, replica_of}
+use Rattle.coda_cell.specs.State.{put, ClientState, ReplicaState, CellState, Event, VolumeMade, ClientMade, Ticked, LinkSet, Entered, Posted, Lost as LetterLost, Used, Kept, Stale, at_client}
 use Rattle.coda_cell.specs.Asking.{Answer}
-use Rattle.coda_cell.specs.Steps.{Doing, Unless, Naming, Happens as HappensOne, ByClient, ByBoth, BySend, ByRuling, ByTaking, Comes, link_down, Delivers, Loses, Does, DoesTask, first_missing, client_named, volume_named, server_named, holder_named, on_volume, on_holder, offers_of, reply_to, alone, is_built_task}
+use Rattle.coda_cell.specs.Steps.{Doing, Unless, Naming, Happens as HappensOne, ByClient, ByBoth, BySend, ByRuling, ByTaking, Comes, link_down, Delivers, Loses, Does, DoesTask, first_missing, client_named, volume_named, server_named, holder_named, on_volume, on_holder, offers_of, reply_to, is_alone, alone, is_built_task}
 use Rattle.coda_letters.specs.Sent.{Sent, ChunkSent, AnswerSent, client_of as sender_of, server_of, sent_at}
 use Rattle.coda_cell.specs.Messages.{sends, chunk_comes, answer_comes}
 use Rattle.coda_cell.specs.Sending.{drain}
-use Rattle.coda_cell.specs.Made.{state_of}
 use Rattle.coda_journal.specs.declared.header.Header.{Header}
-use Rattle.coda_plain.specs.Moves.{Who, TheClient, TheReplica, Crashes}
-use Rattle.coda_stored.specs.Cells.{Side, StoredCell, client_header, replica_header, after, after_all, moved, failed}
-use Rattle.coda_stored.specs.Kept.{IsClientSide, IsReplicaSide, IsStoredKept}
-use Rattle.coda_stored.specs.Lines.{is_built, is_down_for, task_meets, meets, Stop, EndsBy, Acts, Becoming, Stays, Unless as StoredUnless, Opens, no_volume, no_client, with_volume, with_client, area_of, with_client_side, with_replica_side, RecoversClient, RecoversReplica, DoesUp, UnlessDown, Happens, refused_down, refused_fault, asking}
-use Rattle.coda_stored.specs.Room.{Fits}
-use Rattle.coda_stored.proofs.Disks.{client_size, holder_is}
-use Rattle.coda_runs.specs.Runs.{LineGives}
+use Rattle.coda_actors.specs.Plain.{PlainDisk, PlainActor, Down}
+use Rattle.coda_actors.specs.declared.slot.Mounting.TheVariants.{DiskFault}
+use Rattle.coda_shelves.specs.Shelves.{client_header, replica_header}
+use Rattle.coda_shelves.specs.Cells.{Cell, asked, Stand, stand_of, state_of, with_client, with_replica, after, after_all, failed}
+use Rattle.coda_shelves.specs.Lines.{is_built, needs, is_down_for, meets, Fits, Stop, EndsBy, Acts, Becoming, Stays, Unless as ShelvedUnless, the_client, the_replica, made_on, area_of, no_volume, no_client, with_row, MakesVolume, with_made, MakesClient, client_payloads, replica_payloads, Payloads, Recovers, AtReplicaOf, DoesUp, UnlessDown, Happens, refused_down, refused_fault}
+use Rattle.coda_shelves.specs.Placed.{ArePlaced}
+use Rattle.coda_shelves.specs.Running.{IsKept}
+use Rattle.coda_runs.specs.Shelved.{LineGives}
 use Rattle.coda_runs.specs.Texts.{text_of}
 use Rattle.coda_runs.specs.Complete.{CrashesNothing, IsTaken, ScriptsInGrammarAreClean}
-use Rattle.coda_runs.proofs.Running.{gives_kept}
-use Rattle.coda_runs.proofs.Unlettered.{AreNoEntries}
+use Rattle.coda_runs.proofs.Ended.{home_is}
+use Rattle.coda_runs.proofs.Shelved.{gives_kept, gives_placed}
 
 -- there is an answer
 abbrev Some_of : Doing → Type 0
@@ -118,8 +120,17 @@ loses_some message (Some sent) = happens_some (Lost message) (LetterLost message
 
 -- ---- how events may end
 
--- where no entry is among them, they all happen
-none_fits : (cell : StoredCell) (events : List Event) → AreNoEntries events → Fits cell events
+-- no entry is among them
+abbrev IsNoEntry : Event → Type 0
+IsNoEntry (Entered append) = ⊥
+IsNoEntry event = Unit {0}
+
+abbrev AreNoEntries : List Event → Type 0
+AreNoEntries [] = Unit {0}
+AreNoEntries (event ∷ events) = IsNoEntry event × AreNoEntries events
+
+-- then they all happen
+none_fits : (cell : Cell) (events : List Event) → AreNoEntries events → Fits cell events
 none_fits cell [] none = tt
 none_fits cell (VolumeMade volume server ∷ events) none = (tt, none_fits (after cell (VolumeMade volume server)) events none.1)
 none_fits cell (ClientMade client blocks ∷ events) none = (tt, none_fits (after cell (ClientMade client blocks)) events none.1)
@@ -155,7 +166,7 @@ first_entry (Kept client server fid ∷ events) = one_more (Kept client server f
 first_entry (Stale client fids ∷ events) = one_more (Stale client fids) events (tt, tt) (first_entry events)
 
 -- a line may be stopped by a fault of the disk at its first entry
-ends_some : (old : StoredCell) (events : List Event) (own : Reply) → FirstEntry events → (reply : Reply) × (new : StoredCell) × EndsBy old events own reply new
+ends_some : (old : Cell) (events : List Event) (own : Reply) → FirstEntry events → (reply : Reply) × (new : Cell) × EndsBy old events own reply new
 ends_some old events own (inl none) = (own, after_all old events, inl (none_fits old events none, refl, refl))
 ends_some old events own (inr (stop, none)) = (refused_fault, failed (after_all old stop.done) stop.next, inr (inr (stop, none_fits old stop.done none, refl, refl)))
 
@@ -163,15 +174,15 @@ ends_some old events own (inr (stop, none)) = (refused_fault, failed (after_all 
 
 -- there is a cell behind it
 abbrev Becomes_some : Becoming → Type 0
-Becomes_some becoming = (reply : Reply) × (outside : List (List ℕ)) × (new : StoredCell) × becoming reply outside new
+Becomes_some becoming = (reply : Reply) × (outside : List (List ℕ)) × (new : Cell) × becoming reply outside new
 
-acts_some : (old : StoredCell) (said : Line) → Some_of (Does (meets old said) said) → Becomes_some (λ reply outside new. (outside ≡ []) × Acts old said reply new)
+acts_some : (old : Cell) (said : Line) → Some_of (Does (meets old said) said) → Becomes_some (λ reply outside new. (outside ≡ []) × Acts old said reply new)
 acts_some old said does =
     let ends = ends_some old does.1 does.0 (first_entry does.1) in
     (ends.0, [], ends.1, (refl, record { own = does.0; events = does.1; does = does.2; ends = ends.2 }))
 
-module _ (old : StoredCell) where
-  unless_becomes : (o : Option Refused) (own : Becoming) → (o ≡ None → Becomes_some own) → Becomes_some (StoredUnless old o own)
+module _ (old : Cell) where
+  unless_becomes : (o : Option Refused) (own : Becoming) → (o ≡ None → Becomes_some own) → Becomes_some (ShelvedUnless old o own)
   unless_becomes (Some why) own has = (refusal why, [], old, (refl, refl, refl))
   unless_becomes None own has = has refl
 
@@ -179,98 +190,111 @@ module _ (old : StoredCell) where
   down_becomes true own has = (refused_down, [], old, (refl, refl, refl))
   down_becomes false own has = has
 
-  opens_some : (header : Header) (make : Side → StoredCell) (who : Who) → Becomes_some (Opens old header make who)
-  opens_some header make who = (Opened (0 ∷ []), [], make (asking header (Some header)), (refl, inl (refl, refl)))
-
   stays_some : (reply : Reply) → Becomes_some (Stays old reply)
   stays_some reply = (reply, [], old, (refl, refl, refl))
 
-  -- a call of the disk of an actor that was made may fail in its recovery
-  recovers_client_some : (client : ℕ) (header : Header) → (old.clients client).asked ≡ Some header → Becomes_some (RecoversClient old client)
-  recovers_client_some client header asked =
-      let mid = moved old (Crashes (TheClient client)) in
-      (refused_fault, [], with_client_side mid client (old.clients client), (refl, (header, asked, inr (inl (old.clients client, mid, inl (refl, refl), refl, refl)))))
+  -- a call of the disk may fail by which an actor is made, or recovered
+  makes_client_some : (client : ℕ) (header : Header) → Becomes_some (MakesClient old client header)
+  makes_client_some client header =
+      let actor = old.clients client in
+      (refused_fault, [], with_made false old client header.area (made_on false header actor actor.disk DiskFault), (DiskFault, actor.disk, tt, inl refl, refl, refl, refl))
 
-  recovers_replica_some : (server volume : ℕ) (header : Header) → (old.replicas volume).asked ≡ Some header → Becomes_some (RecoversReplica old server volume)
-  recovers_replica_some server volume header asked =
-      let mid = moved old (Crashes (TheReplica server volume)) in
-      (refused_fault, [], with_replica_side mid volume (old.replicas volume), (refl, (header, asked, inr (inl (old.replicas volume, mid, inl (refl, refl), refl, refl)))))
+  makes_volume_some : (volume : ℕ) (servers : List ℕ) (area : ℕ) → is_alone servers ≡ true → Becomes_some (MakesVolume old volume servers area)
+  makes_volume_some volume [] area is = cc
+  makes_volume_some volume (server ∷ []) area is =
+      let first = old.replicas (length old.rows) in
+      let row = put first server (made_on false (replica_header volume (server ∷ []) area server) (first server) (first server).disk DiskFault) in
+      (refused_fault, [], with_row false old volume (server ∷ []) area row, (DiskFault ∷ [], row, (tt, ((first server).disk, inl refl, (refl, refl))), refl, refl, refl))
+  makes_volume_some volume (server ∷ other ∷ servers) area is = cc
 
-  module _ (kept : IsStoredKept old) where
-    client_asked : (client : ℕ) → first_missing (client_named (state_of old.made) client ∷ []) ≡ None
-        → (header : Header) × ((old.clients client).asked ≡ Some header)
-    client_asked client all = by (old.made.sizes client) (client_size old client all) (kept.clients client)
-      where
-        by : (o : Option ℕ) → ((blocks : ℕ) × (o ≡ Some blocks)) → IsClientSide client o (old.made.acted.clients client) (old.clients client)
-            → (header : Header) × ((old.clients client).asked ≡ Some header)
-        by None size side = (let no = size.1 in cc)
-        by (Some blocks) size side = (client_header client blocks side.0, side.6)
+  recovers_some : {Entry : Type 0} (payloads : PlainDisk Entry → Payloads) (actor : PlainActor Entry) (goes : PlainActor Entry → Cell) (header : Header) → asked actor.life ≡ Some header → Becomes_some (Recovers payloads actor goes)
+  recovers_some payloads actor goes header is =
+      (refused_fault, [], goes (record { disk = actor.disk; life = Down header; left = actor.left }), (header, is, (DiskFault, actor.disk, tt, inl refl, tt, refl, refl, refl)))
 
-    replica_asked : (server volume : ℕ) → first_missing (holder_named (state_of old.made) server volume ∷ []) ≡ None
-        → (header : Header) × ((old.replicas volume).asked ≡ Some header)
-    replica_asked server volume all = by (old.made.homes volume) (holder_is old server volume all) (kept.replicas volume)
-      where
-        by : (o : Option ℕ) → o ≡ Some server → IsReplicaSide volume o (λ s. old.made.acted.replicas s volume) (old.replicas volume)
-            → (header : Header) × ((old.replicas volume).asked ≡ Some header)
-        by None home side = cc
-        by (Some at) home side = (replica_header volume at side.0, side.5)
+  client_asked : (client : ℕ) → first_missing (the_client old client).named ≡ None → (header : Header) × (asked (old.clients client).life ≡ Some header)
+  client_asked client all = by (asked (old.clients client).life) all
+    where
+      by : (o : Option Header) → (if is_some (option_map (λ (h : Header). client_of client (old.clients client).disk.history h.cache) o) then None else Some (NoSuchActor client)) ≡ None → (header : Header) × (o ≡ Some header)
+      by None e = cc
+      by (Some header) e = (header, refl)
+
+  -- the replica that a line names stands where its volume does
+  holder_stands : (server volume : ℕ) → first_missing (the_replica old server volume).named ≡ None → (at : Stand) × (stand_of old volume ≡ Some at) × (server ≡ alone at.servers)
+  holder_stands server volume all = by (stand_of old volume) refl all
+    where
+      by : (o : Option Stand) → stand_of old volume ≡ o
+          → (if option_map_or (λ (r : ReplicaState). r.server == server) (option_map (λ (b : Stand). replica_of (λ s. (old.replicas b.row s).disk.history) volume (alone b.servers)) o) false then None else Some (NoSuchActor server)) ≡ None
+          → (at : Stand) × (o ≡ Some at) × (server ≡ alone at.servers)
+      by None is e = cc
+      by (Some at) is e = (at, refl, sym (eqb-true r.server server (there (r.server == server) e)) ∙ home_is old volume at)
+        where
+          r : ReplicaState
+          r = replica_of (λ s. (old.replicas at.row s).disk.history) volume (alone at.servers)
+
+          there : (b : Bool) → (if b then None else Some (NoSuchActor server)) ≡ None → b ≡ true
+          there true e = refl
+          there false e = cc
+
+  recovers_replica_some : ArePlaced old → (server volume : ℕ) → first_missing (the_replica old server volume).named ≡ None → Becomes_some (AtReplicaOf old (stand_of old volume) server (Recovers replica_payloads))
+  recovers_replica_some placed server volume all =
+      let at = holder_stands server volume all in
+      let asks = placed.made volume at.0 at.1 in
+      subst (λ (o : Option Stand). Becomes_some (AtReplicaOf old o server (Recovers replica_payloads))) (sym at.1)
+      (recovers_some replica_payloads (old.replicas at.0.row server) (with_replica old at.0.row server) asks.0 (ap (λ s. asked (old.replicas at.0.row s).life) at.2 ∙ asks.1))
+
+  module _ (placed : ArePlaced old) where
+    abbrev s : CellState
+    s = state_of old
 
     up_some : (said : Line) → is_built said ≡ true → CrashesNothing said → Becomes_some (DoesUp old said)
-    up_some (line.Volume volume servers area) b c = unless_becomes (no_volume old volume (area_of area)) _
-        (λ room. opens_some (replica_header volume (alone servers) (area_of area)) (with_volume old volume (alone servers) (area_of area)) (TheReplica (alone servers) volume))
-    up_some (line.Client client blocks area) b c = unless_becomes (no_client old client (area_of area)) _
-        (λ room. opens_some (client_header client blocks (area_of area)) (with_client old client blocks (area_of area)) (TheClient client))
+    up_some (line.Volume volume servers area) b c = unless_becomes (no_volume old volume (area_of area)) _ (λ room. makes_volume_some volume servers (area_of area) b)
+    up_some (line.Client client blocks area) b c = unless_becomes (no_client old client (area_of area)) _ (λ room. makes_client_some client (client_header client blocks (area_of area)))
     up_some (line.CrashClient client choice) b c = absurd c
     up_some (line.CrashReplica server volume choice) b c = absurd c
-    up_some (line.RecoverClient client) b c =
-        unless_becomes (first_missing (client_named (state_of old.made) client ∷ [])) _
-        (λ all. let asked = client_asked client all in recovers_client_some client asked.0 asked.1)
-    up_some (line.RecoverReplica server volume) b c =
-        unless_becomes (first_missing (holder_named (state_of old.made) server volume ∷ [])) _
-        (λ all. let asked = replica_asked server volume all in recovers_replica_some server volume asked.0 asked.1)
-    up_some (line.ArmClient client passes) b c = unless_becomes (first_missing (client_named (state_of old.made) client ∷ [])) _ (λ all. stays_some Accepted)
-    up_some (line.ArmReplica server volume passes) b c =
-        unless_becomes (first_missing (holder_named (state_of old.made) server volume ∷ [])) _ (λ all. stays_some Accepted)
+    up_some (line.RecoverClient client) b c = unless_becomes (first_missing (the_client old client).named) _
+        (λ all. let asks = client_asked client all in recovers_some client_payloads (old.clients client) (with_client old client) asks.0 asks.1)
+    up_some (line.RecoverReplica server volume) b c = unless_becomes (first_missing (the_replica old server volume).named) _ (λ all. recovers_replica_some placed server volume all)
+    up_some (line.ArmClient client passes) b c = unless_becomes (first_missing (the_client old client).named) _ (λ all. stays_some Accepted)
+    up_some (line.ArmReplica server volume passes) b c = unless_becomes (first_missing (the_replica old server volume).named) _ (λ all. stays_some Accepted)
     up_some (line.Link client server strength) b c = acts_some old (line.Link client server strength)
-        (unless_some (first_missing (client_named (state_of old.made) client ∷ server_named (state_of old.made) server ∷ [])) _ (λ none. happens_some Accepted (LinkSet client server strength)))
+        (unless_some (first_missing (client_named s client ∷ server_named s server ∷ [])) _ (λ none. happens_some Accepted (LinkSet client server strength)))
     up_some (line.Tick seconds) b c = acts_some old (line.Tick seconds) (happens_some Accepted (Ticked seconds))
-    up_some (line.Task t) b c = acts_some old (line.Task t) (task_some (task_meets old t) t b)
+    up_some (line.Task t) b c = acts_some old (line.Task t) (task_some (meets old (line.Task t)) t b)
     up_some (line.ShowVolume server volume) b c = acts_some old (line.ShowVolume server volume)
-        (unless_some (first_missing (holder_named (state_of old.made) server volume ∷ [])) _ (λ none. (ShowVolume server volume, [], (refl, refl))))
+        (unless_some (first_missing (holder_named s server volume ∷ [])) _ (λ none. (ShowVolume server volume, [], (refl, refl))))
     up_some (line.ShowLog client volume) b c = acts_some old (line.ShowLog client volume)
-        (unless_some (first_missing (on_volume (state_of old.made) client volume)) _ (λ none. (ShowLog client volume, [], (refl, refl))))
-    up_some (line.Send client volume server window) b c =
-        acts_some old (line.Send client volume server window) (by_send (state_of old.made) client volume server (unwrap_or window 600))
-    up_some (line.Deliver message) b c = acts_some old (line.Deliver message) (delivers_some (state_of old.made) message (sent_at message old.made.waiting))
-    up_some (line.Lose message) b c = acts_some old (line.Lose message) (loses_some message (sent_at message old.made.waiting))
+        (unless_some (first_missing (on_volume s client volume)) _ (λ none. (ShowLog client volume, [], (refl, refl))))
+    up_some (line.Send client volume server window) b c = acts_some old (line.Send client volume server window) (by_send s client volume server (unwrap_or window 600))
+    up_some (line.Deliver message) b c = acts_some old (line.Deliver message) (delivers_some s message (sent_at message old.waiting))
+    up_some (line.Lose message) b c = acts_some old (line.Lose message) (loses_some message (sent_at message old.waiting))
     up_some _ b c = absurd (false≢true b)
 
--- each line that is built and crashes nothing may happen in a cell that is kept
-pub line_some : (old : StoredCell) (said : Line) → IsStoredKept old → is_built said ≡ true → CrashesNothing said → Becomes_some (Happens old said)
-line_some old said kept built crashes = down_becomes old (is_down_for old said) (DoesUp old said) (up_some old kept said built crashes)
+-- each line that is built and crashes nothing may happen in a cell whose volumes have their replicas
+pub line_some : (old : Cell) (said : Line) → ArePlaced old → is_built said ≡ true → CrashesNothing said → Becomes_some (Happens old said)
+line_some old said placed built crashes = down_becomes old (is_down_for (needs old said)) (DoesUp old said) (up_some old placed said built crashes)
 
 -- ---- scripts
 
 -- a line that is taken may run
-taken_gives : (old : StoredCell) (bytes : List ℕ) → IsStoredKept old → IsTaken bytes
-    → (text : List ℕ) × (outside : List (List ℕ)) × (next : StoredCell) × LineGives old bytes text outside next
-taken_gives old bytes kept (inl silent) = ([], [], old, inl (silent, refl, refl, refl))
-taken_gives old bytes kept (inr said) =
-    let happens = line_some old said.0 kept said.2 said.3 in
+taken_gives : (old : Cell) (bytes : List ℕ) → ArePlaced old → IsTaken bytes
+    → (text : List ℕ) × (outside : List (List ℕ)) × (next : Cell) × LineGives old bytes text outside next
+taken_gives old bytes placed (inl silent) = ([], [], old, inl (silent, refl, refl, refl))
+taken_gives old bytes placed (inr said) =
+    let happens = line_some old said.0 placed said.2 said.3 in
     let next = happens.2 in (
-      text_of (state_of next.made) happens.0,
+      text_of (state_of next) happens.0,
       happens.1,
       next,
       inr (record { said = said.0; reply = happens.0; spelled = said.1; built = said.2; happens = happens.3; printed = refl }),
     )
 
-taken_run : (old : StoredCell) (ls : List (List ℕ)) → IsStoredKept old → AllByRecursion IsTaken ls
-    → (report : List ℕ) × (outside : List (List ℕ)) × (state : StoredCell) × Runs LineGives old ls report outside state
-taken_run old [] kept taken = ([], [], old, (refl, refl, refl))
-taken_run old (l ∷ ls) kept taken =
-    let first = taken_gives old l kept taken.0 in
-    let rest = taken_run first.2 ls (gives_kept old first.2 l first.0 first.1 kept first.3) taken.1 in
+taken_run : (old : Cell) (ls : List (List ℕ)) → IsKept old → ArePlaced old → AllByRecursion IsTaken ls
+    → (report : List ℕ) × (outside : List (List ℕ)) × (state : Cell) × Runs LineGives old ls report outside state
+taken_run old [] kept placed taken = ([], [], old, (refl, refl, refl))
+taken_run old (l ∷ ls) kept placed taken =
+    let first = taken_gives old l placed taken.0 in
+    let rest = taken_run first.2 ls (gives_kept old first.2 l first.0 first.1 kept first.3) (gives_placed old first.2 l first.0 first.1 kept placed first.3) taken.1 in
     (first.0 ++ rest.0, first.1 ++ rest.1, rest.2, (first.2, first.0, rest.0, first.1, rest.1, first.3, rest.3, refl, refl))
 
 pub scripts_in_grammar_are_clean : ScriptsInGrammarAreClean
-scripts_in_grammar_are_clean cell script kept ok = (ok.within, taken_run cell (lines script) kept ok.taken)
+scripts_in_grammar_are_clean cell script kept placed ok = (ok.within, taken_run cell (lines script) kept placed ok.taken)

@@ -1,119 +1,106 @@
--- What lines give, and what runs of lines leave.
-use Rattle.std.proofs.Common.{◌≡◌, ◌⊎◌, ℕ, false, List, [], ◌∷◌, Some, Ok, refl, sym, ap, ◌∙◌, subst, inl, inr}
-use Rattle.coda_cancel.specs.Cancel.{fold}
-use Rattle.coda_engine.specs.declared.status.Kind.TheVariants.{Mode}
-use Rattle.coda_engine.specs.Run.{Runs}
-use Rattle.coda_script.specs.declared.line.Line.{Line}
-use Rattle.coda_script.specs.Lines.{line_of}
-use Rattle.coda_script.specs.Ranges.{InRange}
-use Rattle.coda_script.proofs.WholeLines.{is_found, is_in_range}
-use Rattle.coda_plain.specs.Deeds.{Settlement, settlements_of, pending_of}
-use Rattle.coda_plain.specs.Histories.{In}
-use Rattle.coda_plain.specs.Logs.{front_by}
-use Rattle.coda_plain.specs.Moves.{done_on}
-use Rattle.coda_plain.specs.Promises.{ArePromised}
-use Rattle.coda_plain.proofs.Soundness.{none_joins}
-use Rattle.coda_cell.specs.State.{ClientVolume, ClientState}
-use Rattle.coda_cell.specs.Made.{MadeCell, state_of}
-use Rattle.coda_cell.specs.Runs.{IsKept}
-use Rattle.coda_cell.proofs.Histories.{volumes_are, shown, runs_are, thawed_are}
-use Rattle.coda_cell.proofs.KeptCells.{lawful, client_there}
-use Rattle.coda_stored.specs.Cells.{StoredCell, nothing_stored}
-use Rattle.coda_stored.specs.Kept.{whole, IsStoredKept}
-use Rattle.coda_stored.specs.Lines.{is_built}
-use Rattle.coda_stored.proofs.Keeping.{stored_cells_are_kept, stored_cells_are_promised}
-use Rattle.coda_runs.proofs.Beginning.{runs_begin}
-use Rattle.coda_runs.specs.Runs.{LineGives, LineRefused}
-use Rattle.coda_runs.specs.Headline.{histories_of, IsOfPending, HasRun, ScriptsRun, ScriptsLearnOfTheirOwn, ChunksAreDecidedOnce, CertifiedChunksAreApplied, ConflictsNameASentRecord, OperationsAreKept, IsDecidedIn, SettlementsAreDecided, LogsArePending}
+-- What runs of lines leave.
+use Rattle.std.proofs.Common.{◌≡◌, ℕ, ◌==◌, ◌&&◌, true, cond, List, length, Option, Some, None, refl, sym, ap, ◌∙◌, subst, inl, inr}
+use Rattle.std.proofs.lemmas.Bool.{eq-eqb}
+use Rattle.coda_actors.specs.Plain.{PlainActor}
+use Rattle.coda_actors.specs.declared.slot.Mounting.TheVariants.{Entries, Foreign, DiskFault, Memory}
+use Rattle.coda_plain.specs.Decisions.{ReplicaEntry}
+use Rattle.coda_script.specs.declared.reply.Reply.{Reply}
+use Rattle.coda_script.specs.declared.reply.Reply.TheVariants.{Recovered}
+use Rattle.coda_cell.specs.Refusing.{refusal}
+use Rattle.coda_cell.specs.Refused.{Refused}
+use Rattle.coda_cell.specs.Steps.{first_missing}
+use Rattle.coda_cell.proofs.Families.{put_here}
+use Rattle.coda_shelves.specs.Kept.{Decides}
+use Rattle.coda_shelves.specs.Shelves.{blank_shelves, found_on}
+use Rattle.coda_shelves.specs.Cells.{Cell, begun_on, shelves_of, Stand, stand_of, with_client, with_replica}
+use Rattle.coda_shelves.specs.Lines.{Becoming, Unless, the_client, the_replica, client_payloads, replica_payloads, Recovers, AtReplicaOf}
+use Rattle.coda_shelves.proofs.Keeping.{shelves_are_kept}
+use Rattle.coda_shelves.proofs.Placed.{lines_keep_places}
+use Rattle.coda_runs.specs.Headline.{WhatRanIsKept, ScriptsRun, ChunksAreDecidedOnce, CertifiedChunksAreApplied, ConflictsNameASentRecord, OperationsAreKept, VolumesInOneRowAreDoneOnce, SettlementsAreDecided, LogsArePending, AcknowledgedEntriesStay, IsFoundAgain, ClientsComeBack, ReplicasComeBack}
+use Rattle.coda_runs.proofs.Shelved.{runs_kept, runs_placed, runs_stay, pending_in, runs_go_on, runs_from_blank_go_on}
 
--- ---- one line
-
--- the numbers that a line names are in their ranges
-pub read_in_range : (bytes : List ℕ) (said : Line) → line_of bytes ≡ Ok (Some said) → InRange said
-read_in_range bytes said spelled = is_in_range bytes (Ok (Some said)) (is_found bytes (Ok (Some said)) spelled)
-
--- a line that isn't built
-pub unbuilt_refused : (old : StoredCell) (bytes : List ℕ) (said : Line) → line_of bytes ≡ Ok (Some said) → is_built said ≡ false → LineRefused old bytes 1 Mode
-unbuilt_refused old bytes said spelled unbuilt = inr (record { said = said; spelled = spelled; unbuilt = unbuilt; first = refl; mode = refl })
-
--- each line keeps a cell
-pub gives_kept : (old new : StoredCell) (bytes text : List ℕ) (outside : List (List ℕ)) → IsStoredKept old → LineGives old bytes text outside new → IsStoredKept new
-gives_kept old new bytes text outside kept (inl silent) = subst IsStoredKept (sym silent.3) kept
-gives_kept old new bytes text outside kept (inr x) = stored_cells_are_kept.lines old new x.said x.reply outside kept (read_in_range bytes x.said x.spelled) x.happens
-
--- ---- runs
-
-pub runs_kept : (old new : StoredCell) (ls : List (List ℕ)) (report : List ℕ) (outside : List (List ℕ)) → IsStoredKept old
-    → Runs LineGives old ls report outside new → IsStoredKept new
-runs_kept old new [] report outside kept run = subst IsStoredKept (sym run.2) kept
-runs_kept old new (l ∷ more) report outside kept run = runs_kept run.0 new more run.2 run.4 (gives_kept old run.0 l run.1 run.3 kept run.5) run.6
-
--- whatever lines ran from the first cell, the cell is kept
-pub always_kept : (ls : List (List ℕ)) (report : List ℕ) (outside : List (List ℕ)) (cell : StoredCell) → Runs LineGives nothing_stored ls report outside cell
-    → IsStoredKept cell
-always_kept ls report outside cell run = runs_kept nothing_stored cell ls report outside stored_cells_are_kept.first run
-
--- ---- what runs leave
-
-pub of_pending : (cell : MadeCell) (client volume : ℕ) (c : ClientState) → IsKept cell → (state_of cell).clients client ≡ Some c → IsOfPending cell client volume c
-of_pending cell client volume c kept is =
-    let there = client_there cell kept client c is in
-    let deeds = done_on cell.acted client volume in
-    let volume_is = volumes_are client there.0 (cell.acted.clients client).history volume in
-    let law = lawful cell kept client volume in
-    let is = shown deeds law in
-    subst (IsOfPending cell client volume) there.2 (record {
-      chunk = ap fold (ap (λ (v : ClientVolume). v.front) volume_is ∙ is.front);
-      records = ap fold (ap (λ (v : ClientVolume). v.back) volume_is ∙ is.back);
-      pending = runs_are deeds law;
-      thawed = λ none. ap (λ o. front_by o (pending_of deeds)) (thawed_are deeds law (sym (ap (λ (v : ClientVolume). v.frozen) volume_is) ∙ none)).0;
-    })
-
--- the same of a cell on disks: what is pending by its histories is so by those that would be found
-stored_pending : (cell : StoredCell) (client volume : ℕ) (c : ClientState) → IsStoredKept cell → (state_of cell.made).clients client ≡ Some c
-    → IsOfPending cell.made client volume c
-stored_pending cell client volume c kept is =
-    let p = of_pending (whole cell.made none_joins) client volume c (kept.kept none_joins) is in record { chunk = p.chunk; records = p.records; pending = p.pending; thawed = p.thawed }
-
-pub has_run : (cell : StoredCell) → IsStoredKept cell → HasRun cell
-has_run cell kept = record { run = stored_cells_are_promised cell kept; logs = λ client volume c is. stored_pending cell client volume c kept is }
+pub what_ran_is_kept : WhatRanIsKept
+what_ran_is_kept shelves cell ls report outside kept run =
+    let begun = shelves_are_kept.begins shelves kept in
+    (runs_kept (begun_on shelves) cell ls report outside begun run, runs_placed (begun_on shelves) cell ls report outside begun (lines_keep_places.first shelves) run)
 
 pub scripts_run : ScriptsRun
-scripts_run ls report outside cell run = has_run cell (always_kept ls report outside cell run)
-
-promised : (ls : List (List ℕ)) (report : List ℕ) (outside : List (List ℕ)) (cell : StoredCell) → Runs LineGives nothing_stored ls report outside cell
-    → ArePromised (histories_of cell)
-promised ls report outside cell run = (scripts_run ls report outside cell run).run.promised none_joins
-
-pub chunks_are_decided_once : ChunksAreDecidedOnce
-chunks_are_decided_once ls report outside cell run volume = (promised ls report outside cell run).once volume
-
-pub certified_chunks_are_applied : CertifiedChunksAreApplied
-certified_chunks_are_applied ls report outside cell run server volume d nodes decides whole =
-    ((promised ls report outside cell run).just server volume d decides).certified nodes whole
-
-pub conflicts_name_a_sent_record : ConflictsNameASentRecord
-conflicts_name_a_sent_record ls report outside cell run server volume d refused why decides conflict =
-    ((promised ls report outside cell run).just server volume d decides).conflict refused why conflict
-
-pub scripts_learn_of_their_own : ScriptsLearnOfTheirOwn
-scripts_learn_of_their_own ls report outside cell run client volume = ap (λ (f : ℕ → ℕ → List Settlement). f client volume) (runs_begin nothing_stored cell ls report outside run).learned
-
-pub operations_are_kept : OperationsAreKept
-operations_are_kept ls report outside cell run client volume = (promised ls report outside cell run).kept client volume (scripts_learn_of_their_own ls report outside cell run client volume)
-
-settled_in : (cell : StoredCell) → IsStoredKept cell → (client volume : ℕ) (s : Settlement) → In s (settlements_of (done_on cell.made.acted client volume))
-    → IsDecidedIn cell client volume s ⊎ In s (cell.made.acted.learned client volume)
-settled_in cell kept client volume s i = ((kept.kept none_joins).sound.agree none_joins).settled client volume s i
-
-pub settlements_are_decided : SettlementsAreDecided
-settlements_are_decided = record {
-  first = λ ls report outside cell run client volume s i. elim (settled_in cell (always_kept ls report outside cell run) client volume s i) [
-    | inl decided ↦ decided
-    | inr told ↦ absurd (subst (In s) (scripts_learn_of_their_own ls report outside cell run client volume) told)
-  ];
-  each = settled_in;
+scripts_run = record {
+  has_run = λ cell ls report outside run. runs_go_on blank_shelves cell ls report outside shelves_are_kept.blank run;
+  promised = runs_from_blank_go_on;
 }
 
+pub chunks_are_decided_once : ChunksAreDecidedOnce
+chunks_are_decided_once cell kept joins = (shelves_are_kept.promised _ kept.shelves joins).once
+
+pub certified_chunks_are_applied : CertifiedChunksAreApplied
+certified_chunks_are_applied cell kept joins row server volume d nodes decides whole = ((shelves_are_kept.promised _ kept.shelves joins).just row server volume d decides).certified nodes whole
+
+pub conflicts_name_a_sent_record : ConflictsNameASentRecord
+conflicts_name_a_sent_record cell kept joins row server volume d refused why decides conflict = ((shelves_are_kept.promised _ kept.shelves joins).just row server volume d decides).conflict refused why conflict
+
+pub operations_are_kept : OperationsAreKept
+operations_are_kept cell kept joins client volume = (shelves_are_kept.promised _ kept.shelves joins).kept client volume
+
+pub volumes_in_one_row_are_done_once : VolumesInOneRowAreDoneOnce
+volumes_in_one_row_are_done_once = record {
+  applied = λ cell kept joins client volume home row server d alone decides own applied. elim ((operations_are_kept cell kept joins client volume).applied row server d decides own applied) [
+    | inl ended ↦ inl ended
+    | inr (inl under_way) ↦ inr under_way
+    | inr (inr other) ↦ absurd (other.differs (alone other.other other.server other.there.0 ∙ sym (alone row server decides.0)))
+  ];
+  once = λ cell kept joins volume home row server other at first second alone a b client number.
+      let same : row ≡ other = alone row server a.0 ∙ sym (alone other at b.0) in
+      (same, (chunks_are_decided_once cell kept joins).there volume row server at first second a (subst (λ r. Decides (found_on (shelves_of cell) joins) r at volume second) (sym same) b) client number);
+}
+
+pub settlements_are_decided : SettlementsAreDecided
+settlements_are_decided cell kept joins client volume s i = (shelves_are_kept.promised _ kept.shelves joins).settled client volume s i
+
 pub logs_are_pending : LogsArePending
-logs_are_pending ls report outside cell run client volume c is = (scripts_run ls report outside cell run).logs client volume c is
+logs_are_pending cell kept client volume c is = pending_in cell kept client volume c is
+
+pub acknowledged_entries_stay : AcknowledgedEntriesStay
+acknowledged_entries_stay cell later ls report outside run = runs_stay cell later ls report outside run
+
+-- ---- recoveries
+
+-- at its place, the other actor of a family of replicas
+pub place_is : {A : Type 0} (f : ℕ → ℕ → A) (row server : ℕ) (x : A) → cond ((row == row) && (server == server)) x (f row server) ≡ x
+place_is f row server x = ap (λ b. cond (b && (server == server)) x (f row server)) (eq-eqb row row refl) ∙ ap (λ b. cond (true && b) x (f row server)) (eq-eqb server server refl)
+
+module _ (count : ℕ) where
+  not_refused : (why : Refused) → (let r : Reply = Recovered count in r) ≡ refusal why → ⊥
+  not_refused why e = cc
+
+  unless_recovered : {A : Type 0} (old : Cell) (o : Option Refused) (own : Becoming) (outside : List (List ℕ)) (new : Cell) → (own (Recovered count) outside new → A) → Unless old o own (Recovered count) outside new → A
+  unless_recovered old (Some why) own outside new rest does = absurd (not_refused why does.0)
+  unless_recovered old None own outside new rest does = rest does
+
+  -- what a recovery leaves that is answered so
+  found_again : {E : Type 0} (payloads : _) (old : PlainActor E) (goes : PlainActor E → Cell) (outside : List (List ℕ)) (new : Cell) → Recovers payloads old goes (Recovered count) outside new
+      → (actor : PlainActor E) × IsFoundAgain old.disk actor.disk × (count ≡ length actor.disk.history) × (new ≡ goes actor)
+  found_again payloads old goes outside new (header, is, (Entries entries, disk, told, mounts, from, says, out, next)) =
+      (_, mounts.0.history, (let same : count ≡ entries = cc in same ∙ mounts.1), next)
+  found_again payloads old goes outside new (header, is, (Foreign at, disk, told, mounts, from, says, out, next)) = cc
+  found_again payloads old goes outside new (header, is, (DiskFault, disk, told, mounts, from, says, out, next)) = cc
+  found_again payloads old goes outside new (header, is, (Memory, disk, told, mounts, from, says, out, next)) = cc
+
+pub clients_come_back : ClientsComeBack
+clients_come_back cell client count outside new happens = unless_recovered count cell (first_missing (the_client cell client).named) (Recovers client_payloads (cell.clients client) (with_client cell client)) outside new (λ did.
+    let f = found_again count client_payloads (cell.clients client) (with_client cell client) outside new did in
+    let here : new.clients client ≡ f.0 = ap (λ (c : Cell). c.clients client) f.3 ∙ put_here cell.clients client f.0 in
+    subst (λ (a : PlainActor _). IsFoundAgain (cell.clients client).disk a.disk × (count ≡ length a.disk.history)) (sym here) (f.1, f.2)) happens
+
+pub replicas_come_back : ReplicasComeBack
+replicas_come_back cell server volume count outside new happens =
+    unless_recovered count cell (first_missing (the_replica cell server volume).named) (AtReplicaOf cell (stand_of cell volume) server (Recovers replica_payloads)) outside new (λ did. by (stand_of cell volume) refl did) happens
+  where
+    by : (o : Option Stand) → stand_of cell volume ≡ o → AtReplicaOf cell o server (Recovers replica_payloads) (Recovered count) outside new
+        → (at : Stand) × (stand_of cell volume ≡ Some at) × IsFoundAgain (cell.replicas at.row server).disk (new.replicas at.row server).disk × (count ≡ length (new.replicas at.row server).disk.history)
+    by None e did = absurd did
+    by (Some at) e did =
+        let f = found_again count replica_payloads (cell.replicas at.row server) (with_replica cell at.row server) outside new did in
+        let here : new.replicas at.row server ≡ f.0 = ap (λ (c : Cell). c.replicas at.row server) f.3 ∙ place_is cell.replicas at.row server f.0 in
+        let both = subst (λ (a : PlainActor ReplicaEntry). IsFoundAgain (cell.replicas at.row server).disk a.disk × (count ≡ length a.disk.history)) (sym here) (f.1, f.2) in
+        (at, e, both.0, both.1)

@@ -1,5 +1,5 @@
 -- Runs over whatever stands on disks go on.
-use Rattle.std.proofs.Common.{◌≡◌, ℕ, List, [], ◌∷◌, Option, Some, None, option_map, refl, sym, ap, ◌∙◌, subst, inl, inr}
+use Rattle.std.proofs.Common.{◌≡◌, ℕ, List, [], ◌∷◌, Option, Some, None, Ok, option_map, sym, ap, ◌∙◌, subst, inl, inr}
 use Rattle.coda_cancel.specs.Cancel.{fold}
 use Rattle.coda_engine.specs.Run.{Runs}
 use Rattle.coda_journal.specs.declared.header.Header.{Header}
@@ -10,17 +10,26 @@ use Rattle.coda_plain.proofs.Soundness.{none_joins}
 use Rattle.coda_cell.specs.Made.{client_of}
 use Rattle.coda_cell.specs.State.{ClientVolume, ClientState}
 use Rattle.coda_cell.proofs.Histories.{volumes_are, shown, runs_are, thawed_are}
-use Rattle.coda_runs.proofs.Running.{read_in_range}
+use Rattle.coda_script.specs.declared.line.Line.{Line}
+use Rattle.coda_script.specs.Lines.{line_of}
+use Rattle.coda_script.specs.Ranges.{InRange}
+use Rattle.coda_script.proofs.WholeLines.{is_found, is_in_range}
 use Rattle.coda_shelves.specs.Cells.{Cell, begun_on, shelves_of, asked, state_of}
 use Rattle.coda_shelves.specs.FromBlank.{IsFromBlank}
 use Rattle.coda_shelves.specs.Laws.{Stay}
+use Rattle.coda_shelves.specs.Placed.{ArePlaced}
 use Rattle.coda_shelves.specs.Running.{IsKept}
 use Rattle.coda_shelves.specs.Shelves.{blank_shelves}
 use Rattle.coda_shelves.proofs.FromBlank.{runs_from_blank}
 use Rattle.coda_shelves.proofs.Keeping.{shelves_are_kept, stay_same, stay_twice}
+use Rattle.coda_shelves.proofs.Placed.{lines_keep_places}
 use Rattle.coda_runs.specs.Shelved.{LineGives, IsOfPending, RunsGoOn, RunsFromBlankGoOn}
 
-gives_kept : (old new : Cell) (bytes text : List ℕ) (outside : List (List ℕ)) → IsKept old → LineGives old bytes text outside new → IsKept new
+-- the numbers that a line names are in their ranges
+pub read_in_range : (bytes : List ℕ) (said : Line) → line_of bytes ≡ Ok (Some said) → InRange said
+read_in_range bytes said spelled = is_in_range bytes (Ok (Some said)) (is_found bytes (Ok (Some said)) spelled)
+
+pub gives_kept : (old new : Cell) (bytes text : List ℕ) (outside : List (List ℕ)) → IsKept old → LineGives old bytes text outside new → IsKept new
 gives_kept old new bytes text outside kept (inl silent) = subst (λ (t : Cell). IsKept t) (sym silent.3) kept
 gives_kept old new bytes text outside kept (inr r) = shelves_are_kept.lines old new r.said r.reply outside kept (read_in_range bytes r.said r.spelled) r.happens
 
@@ -32,11 +41,21 @@ gives_blank : (old new : Cell) (bytes text : List ℕ) (outside : List (List ℕ
 gives_blank old new bytes text outside kept blank (inl silent) = subst (λ (t : Cell). IsFromBlank t) (sym silent.3) blank
 gives_blank old new bytes text outside kept blank (inr r) = runs_from_blank.lines old new r.said r.reply outside kept blank (read_in_range bytes r.said r.spelled) r.built r.happens
 
-runs_kept : (old new : Cell) (ls : List (List ℕ)) (report : List ℕ) (outside : List (List ℕ)) → IsKept old → Runs LineGives old ls report outside new → IsKept new
+-- and its volumes have their replicas
+pub gives_placed : (old new : Cell) (bytes text : List ℕ) (outside : List (List ℕ)) → IsKept old → ArePlaced old → LineGives old bytes text outside new → ArePlaced new
+gives_placed old new bytes text outside kept placed (inl silent) = subst (λ (t : Cell). ArePlaced t) (sym silent.3) placed
+gives_placed old new bytes text outside kept placed (inr r) = lines_keep_places.lines old new r.said r.reply outside kept placed (read_in_range bytes r.said r.spelled) r.built r.happens
+
+pub runs_placed : (old new : Cell) (ls : List (List ℕ)) (report : List ℕ) (outside : List (List ℕ)) → IsKept old → ArePlaced old → Runs LineGives old ls report outside new → ArePlaced new
+runs_placed old new [] report outside kept placed run = subst (λ (t : Cell). ArePlaced t) (sym run.2) placed
+runs_placed old new (l ∷ more) report outside kept placed run =
+    runs_placed run.0 new more run.2 run.4 (gives_kept old run.0 l run.1 run.3 kept run.5) (gives_placed old run.0 l run.1 run.3 kept placed run.5) run.6
+
+pub runs_kept : (old new : Cell) (ls : List (List ℕ)) (report : List ℕ) (outside : List (List ℕ)) → IsKept old → Runs LineGives old ls report outside new → IsKept new
 runs_kept old new [] report outside kept run = subst (λ (t : Cell). IsKept t) (sym run.2) kept
 runs_kept old new (l ∷ more) report outside kept run = runs_kept run.0 new more run.2 run.4 (gives_kept old run.0 l run.1 run.3 kept run.5) run.6
 
-runs_stay : (old new : Cell) (ls : List (List ℕ)) (report : List ℕ) (outside : List (List ℕ)) → Runs LineGives old ls report outside new → Stay (shelves_of old) (shelves_of new)
+pub runs_stay : (old new : Cell) (ls : List (List ℕ)) (report : List ℕ) (outside : List (List ℕ)) → Runs LineGives old ls report outside new → Stay (shelves_of old) (shelves_of new)
 runs_stay old new [] report outside run = subst (λ (t : Cell). Stay (shelves_of old) (shelves_of t)) (sym run.2) (stay_same (shelves_of old))
 runs_stay old new (l ∷ more) report outside run =
     stay_twice (shelves_of old) (shelves_of run.0) (shelves_of new) (gives_stay old run.0 l run.1 run.3 run.5) (runs_stay run.0 new more run.2 run.4 run.6)
@@ -53,7 +72,7 @@ client_is : (client : ℕ) (cell : Cell) (o : Option Header) (c : ClientState) �
 client_is client cell None c e = cc
 client_is client cell (Some header) c e = (header, cc)
 
-pending_in : (cell : Cell) → IsKept cell → (client volume : ℕ) (c : ClientState) → (state_of cell).clients client ≡ Some c → IsOfPending (deeds_of volume (cell.clients client).disk.history) c volume
+pub pending_in : (cell : Cell) → IsKept cell → (client volume : ℕ) (c : ClientState) → (state_of cell).clients client ≡ Some c → IsOfPending (deeds_of volume (cell.clients client).disk.history) c volume
 pending_in cell kept client volume c e =
     let there = client_is client cell (asked (cell.clients client).life) c e in
     let deeds = deeds_of volume (cell.clients client).disk.history in

@@ -28,21 +28,19 @@ use Rattle.coda_cell.specs.Held.{held_after_fetches, Fetch}
 use Rattle.coda_cell.specs.Looking.{resolve, look_along, entries_of, is_fetched}
 use Rattle.coda_cell.specs.Accepting.{Accepted, sight_of, accept}
 use Rattle.coda_cell.specs.State.{ClientVolume, ClientState, client_after_all, ReplicaState, CellState, Event, after_all}
-use Rattle.coda_cell.specs.Made.{MadeCell, state_of, grown_all}
 use Rattle.coda_cell.specs.Sending.{Freezing, freezing, Ruling, ruling, Taking, taking, answered_to, ruled_on, drained_of, drain}
 use Rattle.coda_cell.specs.Steps.{Doing, Unless, first_missing, on_volume, on_holder, offers_of, reply_to, ByClient, ByBoth, Operates, DoesTask, Does}
 use Rattle.coda_cell.proofs.Events.{after_client}
 use Rattle.coda_cell.proofs.Families.{put_here}
 use Rattle.coda_cell.proofs.Fetches.{client_after_fetches, keeps_along}
 use Rattle.coda_cell.proofs.Offered.{fetched_along_is_offered}
-use Rattle.coda_cell.proofs.KeptLines.{lines_keep_cells}
-use Rattle.coda_stored.specs.Cells.{StoredCell}
-use Rattle.coda_stored.specs.Kept.{IsStoredKept}
-use Rattle.coda_stored.specs.Lines.{refused_down, refused_full, refused_fault}
+use Rattle.coda_shelves.specs.Cells.{Cell, state_of}
+use Rattle.coda_shelves.specs.Lines.{is_cut, task_on, refused_down, refused_full, refused_fault}
+use Rattle.coda_runs.specs.Performed.{CanReach}
 use Rattle.coda_runs.specs.Shown.{Looks, shown_by, WasShown, WhatIsShownIsThere}
 use Rattle.coda_runs.proofs.Performed.{leads}
-use Rattle.coda_runs.proofs.Meeting.{met, met_kept, ShowsAs, clients_as, Ends, WasDown, DidAll, LackedRoom, HadFault, line_ends}
-use Rattle.coda_runs.proofs.Served.{Keeps, keeps_look, has_fetched, put_off}
+use Rattle.coda_runs.proofs.Meeting.{met, IsMet, ShowsAs, clients_as, Ends, WasDown, DidAll, LackedRoom, HadFault, line_ends}
+use Rattle.coda_runs.proofs.Served.{Keeps, keeps_look, has_fetched, put_off, reaches}
 
 abbrev IsShownBy : NodeKind → Said → Type 0
 IsShownBy kind said = shown_by (reply_to said) ≡ Some kind
@@ -81,17 +79,14 @@ of_shown show of fetches nodes (Ok fid) kind is = by (map.get nodes fid) refl is
 
 -- ---- a line
 
-module _ (cell : MadeCell) (reply : Reply) (kind : NodeKind) (is : shown_by reply ≡ Some kind) where
-  abbrev s : CellState
-  s = state_of cell
-
+module _ (s : CellState) (Reaches : ℕ → ℕ → ℕ → Type 0) (reply : Reply) (kind : NodeKind) (is : shown_by reply ≡ Some kind) where
   abbrev Was : Task → List Event → Type 0
-  Was t events = WasShown t (state_of cell).clients (state_of (grown_all cell events)).clients (state_of cell).replicas kind
+  Was t events = WasShown Reaches t s.clients (after_all s events).clients s.replicas kind
 
-  shown : (t : Task) (client volume : ℕ) (path : List Name) (show : Bool → NodeKind → Said) → ((fetched : Bool) (was k : NodeKind) → IsShownBy k (show fetched was) → was ≡ k) → (o : Option Refused) (events : List Event) → Looks t client volume path
-      → state_of (grown_all cell events) ≡ after_all s events → Unless o (ByClient s client volume (λ offers c. show_object show offers c.held volume path)) reply events → Was t events
-  shown t client volume path show of (Some why) events looks left isnt = absurd (nothing_shown why kind (ap shown_by (sym isnt.0) ∙ is))
-  shown t client volume path show of None events looks left did =
+  shown : (t : Task) (client volume : ℕ) (path : List Name) (show : Bool → NodeKind → Said) → ((fetched : Bool) (was k : NodeKind) → IsShownBy k (show fetched was) → was ≡ k) → (o : Option Refused) (events : List Event) → ((server : ℕ) → is_cut (s.links client server) ≡ false → Reaches client volume server) → Looks t client volume path
+      → Unless o (ByClient s client volume (λ offers c. show_object show offers c.held volume path)) reply events → Was t events
+  shown t client volume path show of (Some why) events reach looks isnt = absurd (nothing_shown why kind (ap shown_by (sym isnt.0) ∙ is))
+  shown t client volume path show of None events reach looks did =
       let offers = offers_of s client volume in
       let c = did.client in
       let fetches = look_along offers c.held (root_of volume) path in
@@ -106,10 +101,10 @@ module _ (cell : MadeCell) (reply : Reply) (kind : NodeKind) (is : shown_by repl
         old = c;
         new = record c { held = held };
         was = did.there;
-        is = ap (λ (q : CellState). q.clients client) (left ∙ ap (after_all s) did.happened ∙ after_client s client c entries did.there) ∙ put_here s.clients client (Some (client_after_all c entries)) ∙ ap Some (client_after_fetches c fetches);
-        others = λ other ne. ap (λ (q : CellState). q.clients other) (left ∙ ap (after_all s) did.happened ∙ after_client s client c entries did.there) ∙ put_off s.clients client other (Some (client_after_all c entries)) ne;
+        is = ap (λ (q : CellState). q.clients client) (ap (after_all s) did.happened ∙ after_client s client c entries did.there) ∙ put_here s.clients client (Some (client_after_all c entries)) ∙ ap Some (client_after_fetches c fetches);
+        others = λ other ne. ap (λ (q : CellState). q.clients other) (ap (after_all s) did.happened ∙ after_client s client c entries did.there) ∙ put_off s.clients client other (Some (client_after_all c entries)) ne;
         logs = refl;
-        fetched = has_fetched s client volume c.held fetches (keeps_along (Keeps c.held.nodes) offers (keeps_look c.held.nodes offers) c.held (root_of volume) path (λ fid node h. h)) (fetched_along_is_offered offers c.held (root_of volume) path);
+        fetched = has_fetched s client volume (Reaches client volume) reach c.held fetches (keeps_along (Keeps c.held.nodes) offers (keeps_look c.held.nodes offers) c.held (root_of volume) path (λ fid node h. h)) (fetched_along_is_offered offers c.held (root_of volume) path);
         object = there.object;
         leads = leads held.nodes (root_of volume) path there.object there.found;
         node = there.node;
@@ -168,47 +163,45 @@ module _ (cell : MadeCell) (reply : Reply) (kind : NodeKind) (is : shown_by repl
 
   -- ---- each line
 
-  task_was : (t : Task) (events : List Event) → state_of (grown_all cell events) ≡ after_all s events → DoesTask s t reply events → Was t events
-  task_was (task.Read client volume path) events left does = shown (task.Read client volume path) client volume path read_in of_read (first_missing (on_volume s client volume)) events (refl, refl, refl) left does
-  task_was (task.List client volume path) events left does = shown (task.List client volume path) client volume path list_in of_listed (first_missing (on_volume s client volume)) events (refl, refl, refl) left does
-  task_was (task.Create client volume path mode owner) events left does = absurd (no_operation client volume _ events does)
-  task_was (task.Mkdir client volume path mode owner) events left does = absurd (no_operation client volume _ events does)
-  task_was (task.Symlink client volume path target) events left does = absurd (no_operation client volume _ events does)
-  task_was (task.Store client volume path content) events left does = absurd (no_operation client volume _ events does)
-  task_was (task.Setattr client volume path attrs) events left does = absurd (no_operation client volume _ events does)
-  task_was (task.Remove client volume path) events left does = absurd (no_operation client volume _ events does)
-  task_was (task.Rmdir client volume path) events left does = absurd (no_operation client volume _ events does)
-  task_was (task.Rename client volume from to) events left does = absurd (no_operation client volume _ events does)
-  task_was (task.Drain client volume server window) events left does =
+  task_was : (t : Task) (events : List Event) → ((client volume server : ℕ) → task_on t ≡ Some (client, volume) → is_cut (s.links client server) ≡ false → Reaches client volume server) → DoesTask s t reply events → Was t events
+  task_was (task.Read client volume path) events reach does = shown (task.Read client volume path) client volume path read_in of_read (first_missing (on_volume s client volume)) events (λ server up. reach client volume server refl up) (refl, refl, refl) does
+  task_was (task.List client volume path) events reach does = shown (task.List client volume path) client volume path list_in of_listed (first_missing (on_volume s client volume)) events (λ server up. reach client volume server refl up) (refl, refl, refl) does
+  task_was (task.Create client volume path mode owner) events reach does = absurd (no_operation client volume _ events does)
+  task_was (task.Mkdir client volume path mode owner) events reach does = absurd (no_operation client volume _ events does)
+  task_was (task.Symlink client volume path target) events reach does = absurd (no_operation client volume _ events does)
+  task_was (task.Store client volume path content) events reach does = absurd (no_operation client volume _ events does)
+  task_was (task.Setattr client volume path attrs) events reach does = absurd (no_operation client volume _ events does)
+  task_was (task.Remove client volume path) events reach does = absurd (no_operation client volume _ events does)
+  task_was (task.Rmdir client volume path) events reach does = absurd (no_operation client volume _ events does)
+  task_was (task.Rename client volume from to) events reach does = absurd (no_operation client volume _ events does)
+  task_was (task.Drain client volume server window) events reach does =
       absurd (unless_never (first_missing (on_holder s client volume server)) (ByBoth s client volume (unwrap_or window 600)) events
       (λ did. not_drain (s.links client did.replica.server) s.clock (unwrap_or window 600) client volume (did.client.volumes volume) did.replica (ap shown_by (sym did.answered) ∙ is)) does)
-  task_was (task.Hardlink client volume from to) events left does = absurd does
-  task_was (task.Refresh client volume server) events left does = absurd does
-  task_was (task.Giveup client volume) events left does = absurd does
+  task_was (task.Hardlink client volume from to) events reach does = absurd does
+  task_was (task.Refresh client volume server) events reach does = absurd does
+  task_was (task.Giveup client volume) events reach does = absurd does
 
 -- ---- a cell on disks
 
-module _ (old new : StoredCell) (kept : IsStoredKept old) (t : Task) (kind : NodeKind) where
-  all_shown : (reply : Reply) (links : ℕ → ℕ → Strength) (events : List Event) → shown_by reply ≡ Some kind
-      → Does (state_of (met old links)) (line.Task t) reply events → ShowsAs (grown_all (met old links) events) new.made
-      → WasShown t (state_of old.made).clients (state_of new.made).clients (state_of old.made).replicas kind
-  all_shown reply links events is does shows =
-      let cell = met old links in
-      let found = met_kept old links kept in
-      subst (λ clients. WasShown t (state_of old.made).clients clients (state_of old.made).replicas kind) (clients_as (grown_all cell events) new.made shows)
-      (task_was cell reply kind is t events (lines_keep_cells cell (line.Task t) reply events found tt does).shown does)
+module _ (old new : Cell) (t : Task) (kind : NodeKind) where
+  all_shown : (reply : Reply) (at : IsMet old (line.Task t)) (events : List Event) → shown_by reply ≡ Some kind
+      → Does (met old at.links) (line.Task t) reply events → ShowsAs (after_all (met old at.links) events) new
+      → WasShown (CanReach old) t (state_of old).clients (state_of new).clients (state_of old).replicas kind
+  all_shown reply at events is does shows =
+      subst (λ clients. WasShown (CanReach old) t (state_of old).clients clients (state_of old).replicas kind) (clients_as (after_all (met old at.links) events) new shows)
+      (task_was (met old at.links) (CanReach old) reply kind is t events (reaches old t at) does)
 
   -- a refusal shows nothing
   never : {A : Type 0} (reply other : Reply) → shown_by reply ≡ Some kind → shown_by other ≡ None → reply ≡ other → A
   never reply other is none same = (let no : None ≡ Some kind = sym none ∙ ap shown_by (sym same) ∙ is in cc)
 
   ended : (reply : Reply) → shown_by reply ≡ Some kind → Ends old (line.Task t) reply new
-      → WasShown t (state_of old.made).clients (state_of new.made).clients (state_of old.made).replicas kind
+      → WasShown (CanReach old) t (state_of old).clients (state_of new).clients (state_of old).replicas kind
   ended reply is (WasDown down answered same) = never reply refused_down is refl answered
-  ended reply is (DidAll links events does shows) = all_shown reply links events is does shows
+  ended reply is (DidAll at events does shows) = all_shown reply at events is does shows
   ended reply is (LackedRoom at own events stop does shows answered lacks same) = never reply refused_full is refl answered
   ended reply is (HadFault at own events stop does shows answered same) = never reply refused_fault is refl answered
 
 pub what_is_shown_is_there : WhatIsShownIsThere
 what_is_shown_is_there cell kept t reply answered new kind happens is =
-    ended cell new kept t kind reply is (line_ends cell (line.Task t) reply answered new happens)
+    ended cell new t kind reply is (line_ends cell (line.Task t) reply answered new refl happens)

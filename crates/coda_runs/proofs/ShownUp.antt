@@ -29,7 +29,6 @@ use Rattle.coda_cell.specs.Ask.{Asked, too_big, object_of}
 use Rattle.coda_cell.specs.Asking.{Said, answers as answers_with, look_ups, behind_fetches, next_record, has_room, is_full, answer_to, operate_unless, operate, read, list, shown_at, shown_as, read_in, list_in}
 use Rattle.coda_cell.specs.Held.{Fetch}
 use Rattle.coda_cell.specs.Looking.{entries_of, is_fetched}
-use Rattle.coda_cell.specs.Made.{state_of}
 use Rattle.coda_cell.specs.Messages.{over, sends_of, ruled_in, reply_taken, taken_in}
 use Rattle.coda_cell.specs.Refusing.{refusal}
 use Rattle.coda_cell.specs.Sending.{Freezing, freezing, Ruling, ruling, Taking, taking, answered_to, ruled_on, drained_of, drain}
@@ -37,9 +36,9 @@ use Rattle.coda_cell.specs.State.{ClientVolume, ClientState, ReplicaState, CellS
 use Rattle.coda_cell.specs.Steps.{Doing, Unless, Says, Named, first_missing, on_volume, on_holder, client_named, volume_named, server_named, holder_named, no_volume, no_client, offers_of, reply_to, ByClient, ByBoth, BySend, ByRuling, ByTaking, Comes, link_down, Delivers, Loses, DoesTask, Does}
 use Rattle.coda_cell.specs.Refused.{Refused}
 use Rattle.coda_cell.specs.Refused as refused
-use Rattle.coda_stored.specs.Cells.{StoredCell}
-use Rattle.coda_stored.specs.Lines.{client_down, replica_down, is_down_for, EndsBy, UnlessDown, Happens, refused_down, refused_full, refused_fault}
-use Rattle.coda_stored.proofs.Stopping.{nothing_ends}
+use Rattle.coda_shelves.specs.Cells.{Cell, state_of}
+use Rattle.coda_shelves.specs.Lines.{client_down, replica_down, needs, is_down_for, EndsBy, UnlessDown, Happens, refused_down, refused_full, refused_fault}
+use Rattle.coda_shelves.proofs.Ending.{nothing_ends}
 use Rattle.coda_runs.specs.Shows.{CanShow}
 use Rattle.coda_runs.proofs.Coming.{ComesTo, Acted, Aside, line_comes}
 use Rattle.coda_runs.proofs.Meeting.{met, ActsUp, Ends, WasDown, DidAll, LackedRoom, HadFault}
@@ -203,18 +202,18 @@ module _ (s : CellState) (reply : Reply) (events : List Event) where
 
 -- ---- a cell on disks
 
-module _ (old new : StoredCell) (said : Line) (isnt : is_show said ≡ false) (reply : Reply) where
+module _ (old new : Cell) (said : Line) (isnt : is_show said ≡ false) (reply : Reply) where
   ended_whole : Ends old said reply new → IsWhole reply
   ended_whole (WasDown down is same) = subst IsWhole (sym is) tt
-  ended_whole (DidAll links events does shows) = does_whole (state_of (met old links)) reply events said isnt does
+  ended_whole (DidAll at events does shows) = does_whole (met old at.links) reply events said isnt does
   ended_whole (LackedRoom at own events stop does shows is lacks same) = subst IsWhole (sym is) tt
   ended_whole (HadFault at own events stop does shows is same) = subst IsWhole (sym is) tt
 
   came_whole : ComesTo old said reply new → IsWhole reply
-  came_whole (Acted ends) = ended_whole ends
+  came_whole (Acted acts ends) = ended_whole ends
   came_whole (Aside none whole leaves) = whole
 
-whole_can : (cell : StoredCell) (reply : Reply) → IsWhole reply → CanShow cell reply
+whole_can : (cell : Cell) (reply : Reply) → IsWhole reply → CanShow cell reply
 whole_can cell (ShowVolume server volume) whole = absurd whole
 whole_can cell (ShowLog client volume) whole = absurd whole
 whole_can cell _ whole = tt
@@ -238,7 +237,7 @@ not_down : (o : Option Refused) (down : Bool) → o ≡ None → (not (is_some o
 not_down None down all e = e
 not_down (Some why) down all e = cc
 
-module _ (old new : StoredCell) (reply : Reply) where
+module _ (old new : Cell) (reply : Reply) where
   -- a refusal shows nothing
   refused_can : (other : Reply) → IsWhole other → reply ≡ other → CanShow new reply
   refused_can other whole is = whole_can new reply (subst IsWhole (sym is) whole)
@@ -259,28 +258,28 @@ module _ (old new : StoredCell) (reply : Reply) where
   acted_can None shown own events can does ends = ended_can own events does.1 (subst (CanShow old) (sym does.0) (can refl)) ends
 
   shows_volume : (server volume : ℕ) (outside : List (List ℕ)) → Happens old (line.ShowVolume server volume) reply outside new → CanShow new reply
-  shows_volume server volume outside happens = by (is_down_for old (line.ShowVolume server volume)) refl happens
+  shows_volume server volume outside happens = by (is_down_for (needs old (line.ShowVolume server volume))) refl happens
     where
-      by : (b : Bool) → is_down_for old (line.ShowVolume server volume) ≡ b → UnlessDown b old (ActsUp old (line.ShowVolume server volume)) reply outside new
+      by : (b : Bool) → is_down_for (needs old (line.ShowVolume server volume)) ≡ b → UnlessDown b old (ActsUp old (line.ShowVolume server volume)) reply outside new
           → CanShow new reply
       by true down h = refused_can refused_down tt h.0
       by false up h =
-          let names = holder_named (state_of old.made) server volume ∷ [] in
-          acted_can (first_missing names) (ShowVolume server volume) h.1.own h.1.events (λ all. not_down (first_missing names) (replica_down old volume) all up) h.1.does h.1.ends
+          let names = holder_named (state_of old) server volume ∷ [] in
+          acted_can (first_missing names) (ShowVolume server volume) h.1.own h.1.events (λ all. not_down (first_missing names) (replica_down old server volume) all up) h.1.does h.1.ends
 
   shows_log : (client volume : ℕ) (outside : List (List ℕ)) → Happens old (line.ShowLog client volume) reply outside new → CanShow new reply
-  shows_log client volume outside happens = by (is_down_for old (line.ShowLog client volume)) refl happens
+  shows_log client volume outside happens = by (is_down_for (needs old (line.ShowLog client volume))) refl happens
     where
-      by : (b : Bool) → is_down_for old (line.ShowLog client volume) ≡ b → UnlessDown b old (ActsUp old (line.ShowLog client volume)) reply outside new
+      by : (b : Bool) → is_down_for (needs old (line.ShowLog client volume)) ≡ b → UnlessDown b old (ActsUp old (line.ShowLog client volume)) reply outside new
           → CanShow new reply
       by true down h = refused_can refused_down tt h.0
       by false up h =
-          let s = state_of old.made in
+          let s = state_of old in
           let names = on_volume s client volume in
           acted_can (first_missing names) (ShowLog client volume) h.1.own h.1.events
           (λ all. (not_down (first_missing names) (client_down old client) all up, some_there (s.clients client) (first_there (client_named s client) (volume_named s volume ∷ []) all))) h.1.does h.1.ends
 
-pub shows_what_is_up : (old new : StoredCell) (said : Line) (reply : Reply) (outside : List (List ℕ)) → Happens old said reply outside new
+pub shows_what_is_up : (old new : Cell) (said : Line) (reply : Reply) (outside : List (List ℕ)) → Happens old said reply outside new
     → CanShow new reply
 shows_what_is_up old new (line.ShowVolume server volume) reply outside happens = shows_volume old new reply server volume outside happens
 shows_what_is_up old new (line.ShowLog client volume) reply outside happens = shows_log old new reply client volume outside happens

@@ -16,17 +16,14 @@ use Rattle.coda_script.specs.declared.reply.Reply.{Reply}
 use Rattle.coda_script.specs.declared.reply.Reply.TheVariants.{Drained}
 use Rattle.coda_cell.specs.State.{ClientVolume, ClientState, ReplicaState, CellState, Event, after_all}
 use Rattle.coda_cell.specs.State.{with_volume}
-use Rattle.coda_cell.specs.Made.{state_of, grown_all}
 use Rattle.coda_cell.specs.Sending.{Freezing, freezing, Ruling, ruling, Taking, taken, taken_unless, taking, Outcome, reply_answer, answered_to, ruled_on, drained_of, drain}
 use Rattle.coda_cell.specs.Steps.{Unless, first_missing, on_holder, reply_to, ByBoth}
 use Rattle.coda_cell.specs.Refused.{Refused}
 use Rattle.coda_cell.proofs.Events.{drain_left}
 use Rattle.coda_cell.proofs.Families.{put_here}
-use Rattle.coda_cell.proofs.KeptLines.{lines_keep_cells}
-use Rattle.coda_stored.specs.Cells.{StoredCell}
-use Rattle.coda_stored.specs.Kept.{IsStoredKept}
+use Rattle.coda_shelves.specs.Cells.{Cell, state_of}
 use Rattle.coda_runs.specs.Thawed.{VerdictsThaw}
-use Rattle.coda_runs.proofs.Meeting.{met, met_kept, clients_as, Ends, WasDown, DidAll, LackedRoom, HadFault, line_ends}
+use Rattle.coda_runs.proofs.Meeting.{met, clients_as, Ends, WasDown, DidAll, LackedRoom, HadFault, line_ends}
 
 -- ---- what a drain comes to
 
@@ -78,21 +75,20 @@ module _ (client volume number : ℕ) (verdict : Verdict) where
 
 -- ---- a cell on disks
 
-module _ (old new : StoredCell) (kept : IsStoredKept old) (client volume server : ℕ) (window : Option ℕ) (number : ℕ) (verdict : Verdict) (c : ClientState) where
+module _ (old new : Cell) (client volume server : ℕ) (window : Option ℕ) (number : ℕ) (verdict : Verdict) (c : ClientState) where
   abbrev drains : Line
   drains = line.Task (task.Drain client volume server window)
 
-  ended : Ends old drains (Drained number (Decided verdict)) new → (state_of new.made).clients client ≡ Some c → (c.volumes volume).frozen ≡ None
+  ended : Ends old drains (Drained number (Decided verdict)) new → (state_of new).clients client ≡ Some c → (c.volumes volume).frozen ≡ None
   ended (WasDown down answered same) is = cc
-  ended (DidAll links events does shows) is =
-      let cell = met old links in
-      let left = lines_keep_cells cell drains (Drained number (Decided verdict)) events (met_kept old links kept) tt does in
-      let behind = ap (λ (s : CellState). s.clients client) (sym left.shown) ∙ ap (λ clients. clients client) (clients_as (grown_all cell events) new.made shows) ∙ is in
-      thaws client volume number verdict (state_of cell) (unwrap_or window 600) (first_missing (on_holder (state_of cell) client volume server)) events c does behind
+  ended (DidAll at events does shows) is =
+      let s = met old at.links in
+      let behind = ap (λ (clients : ℕ → Option ClientState). clients client) (clients_as (after_all s events) new shows) ∙ is in
+      thaws client volume number verdict s (unwrap_or window 600) (first_missing (on_holder s client volume server)) events c does behind
   ended (LackedRoom at own events stop does shows answered lacks same) is = cc
   ended (HadFault at own events stop does shows answered same) is = cc
 
 pub verdicts_thaw : VerdictsThaw
 verdicts_thaw cell kept client volume server window number verdict answered new c happens is =
-    ended cell new kept client volume server window number verdict c
-    (line_ends cell (line.Task (task.Drain client volume server window)) (Drained number (Decided verdict)) answered new happens) is
+    ended cell new client volume server window number verdict c
+    (line_ends cell (line.Task (task.Drain client volume server window)) (Drained number (Decided verdict)) answered new refl happens) is

@@ -103,6 +103,25 @@ were_renamed m from_dir from to_dir to fid (Some over) f node may is =
     let to_there = subst IsDirNode (sym (gone_else fids_total exact_fids m over.fid to_dir to_apart)) may.places.to_there in
     was_both m less f node (λ x there. was_itself m f x (was_taken m over.fid f x there)) (were_moved less from_dir from to_dir to fid f node from_there to_there is)
 
+-- what is moved is there as it was
+there_after : (m : Nodes) (from_dir : Fid) (from : Name) (to_dir : Fid) (to : Name) (fid : Fid) (over : Option Over) → MayMove m from_dir from to_dir to fid over → has m fid ≡ true
+    → has (edited_all m (rename_effects from_dir from to_dir to fid over)) fid ≡ true
+there_after m from_dir from to_dir to fid None may is = has_changed (unbound m from_dir from) to_dir (λ n. bind_in n to fid) fid ∙ has_changed m from_dir (λ n. unbind_in n from) fid ∙ is
+there_after m from_dir from to_dir to fid (Some over) may is =
+    let less = map.remove m over.fid in
+    has_changed (unbound less from_dir from) to_dir (λ n. bind_in n to fid) fid ∙ has_changed less from_dir (λ n. unbind_in n from) fid
+    ∙ ap is_some (gone_else fids_total exact_fids m over.fid fid (λ same. may.replaced.1 (sym same))) ∙ is
+
+pub moved_whole : (m : Nodes) (from_dir : Fid) (from : Name) (to_dir : Fid) (to : Name) (fid : Fid) (over : Option Over) → MayMove m from_dir from to_dir to fid over → (before : Node) → map.get m fid ≡ Some before
+    → (node : Node) × (map.get (edited_all m (rename_effects from_dir from to_dir to fid over)) fid ≡ Some node) × IsAsItWas before node
+moved_whole m from_dir from to_dir to fid over may before is = by (map.get (edited_all m (rename_effects from_dir from to_dir to fid over)) fid) refl (there_after m from_dir from to_dir to fid over may (ap is_some is))
+  where
+    by : (o : Option Node) → map.get (edited_all m (rename_effects from_dir from to_dir to fid over)) fid ≡ o → is_some o ≡ true → (node : Node) × (map.get (edited_all m (rename_effects from_dir from to_dir to fid over)) fid ≡ Some node) × IsAsItWas before node
+    by None e there = cc
+    by (Some node) e there =
+        let was = were_renamed m from_dir from to_dir to fid over fid node may e in
+        (node, e, subst (λ b. IsAsItWas b node) (some_node was.0 before (sym was.1 ∙ is)) was.2)
+
 were_written : (m : Nodes) (fid : Fid) (patch : Patch) (sid : Sid) (f : Fid) (node : Node) → f ≢ fid → map.get (changed m fid (written patch sid)) f ≡ Some node → WasSo m f node
 were_written m fid patch sid f node other is = was_itself m f node (sym (off_changed m fid (written patch sid) f other) ∙ is)
 

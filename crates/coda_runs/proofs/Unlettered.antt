@@ -1,12 +1,12 @@
--- Which events of a line are entries: of a task all are, and of any line they come first.
-use Rattle.std.proofs.Common.{◌≡◌, ℕ, List, [], ◌∷◌, ◌++◌, map, take, Option, Some, None, Result, Ok, Err, refl, sym, subst, ◌∙◌}
+-- Which events of a line that acts are entries: of a task all are, and of any line they come first; and none makes an actor.
+use Rattle.std.proofs.Common.{◌≡◌, ℕ, Bool, true, false, List, [], ◌∷◌, ◌++◌, map, take, Option, Some, None, Result, Ok, Err, refl, sym, subst}
 use Rattle.std.specs.Option.{unwrap_or}
 use Rattle.coda_record.specs.declared.answer.Answer.{Answer}
 use Rattle.coda_tree.specs.Volume.{Nodes}
 use Rattle.coda_letters.specs.Sent.{Sent, ChunkSent, AnswerSent, client_of, server_of, Waiting, sent_at, lost_by, number_of}
 use Rattle.coda_plain.specs.Cell.{ClientEntry, Did}
 use Rattle.coda_plain.specs.Decisions.{ReplicaEntry}
-use Rattle.coda_plain.specs.Moves.{Append}
+use Rattle.coda_plain.specs.Moves.{Append, AtClient, AtReplica}
 use Rattle.coda_script.specs.declared.line.Strength.{Strength}
 use Rattle.coda_script.specs.declared.line.Strength.TheVariants.{Strong, Weak, Down}
 use Rattle.coda_script.specs.declared.line.Task.{Task}
@@ -15,13 +15,12 @@ use Rattle.coda_script.specs.declared.line.Line.{Line}
 use Rattle.coda_script.specs.declared.line.Line.TheVariants as line
 use Rattle.coda_script.specs.declared.reply.Reply.{Reply}
 use Rattle.coda_cell.specs.Asking.{Answer as ClientAnswer}
-use Rattle.coda_cell.specs.State.{ClientVolume, ClientState, ReplicaState, CellState, Event, VolumeMade, ClientMade, Ticked, LinkSet, Entered, Posted, Lost, Used, Kept, Stale, at_client}
-use Rattle.coda_cell.specs.Made.{MadeCell, grown, grown_all}
+use Rattle.coda_cell.specs.State.{ClientVolume, ClientState, ReplicaState, CellState, Event, VolumeMade, ClientMade, Ticked, LinkSet, Entered, Posted, Lost, Used, Kept, Stale, at_client, after, after_all}
 use Rattle.coda_cell.specs.Messages.{over, posting, going_by, sends_of, ruled_in, taken_in}
 use Rattle.coda_cell.specs.Sending.{Freezing, freezing, Ruling, ruling, Taking, taking, deeds_at, entries_at, answered_to, ruled_on, drained_of, drain}
-use Rattle.coda_cell.specs.Steps.{Doing, Unless, first_missing, on_volume, on_holder, client_named, server_named, holder_named, no_volume, no_client, offers_of, ByClient, ByBoth, BySend, ByRuling, ByTaking, DoesTask, Comes, link_down, Delivers, Loses, Does}
+use Rattle.coda_cell.specs.Steps.{Doing, Unless, first_missing, on_volume, on_holder, client_named, server_named, holder_named, offers_of, ByClient, ByBoth, BySend, ByRuling, ByTaking, DoesTask, Comes, link_down, Delivers, Loses, Does}
 use Rattle.coda_cell.specs.Refused.{Refused}
-use Rattle.coda_stored.specs.Lines.{Stop}
+use Rattle.coda_shelves.specs.Lines.{Stop}
 
 -- ---- events
 
@@ -32,15 +31,40 @@ IsEntry (Kept client server fid) = Unit {0}
 IsEntry (Stale client fids) = Unit {0}
 IsEntry _ = ⊥
 
+-- it is no entry, and makes no actor
 abbrev IsNoEntry : Event → Type 0
 IsNoEntry (Entered append) = ⊥
+IsNoEntry (VolumeMade volume server) = ⊥
+IsNoEntry (ClientMade client blocks) = ⊥
 IsNoEntry _ = Unit {0}
+
+-- the lines that act
+abbrev pub is_acting : Line → Bool
+is_acting (line.Link client server strength) = true
+is_acting (line.Tick seconds) = true
+is_acting (line.Task t) = true
+is_acting (line.ShowVolume server volume) = true
+is_acting (line.ShowLog client volume) = true
+is_acting (line.Send client volume server window) = true
+is_acting (line.Deliver message) = true
+is_acting (line.Lose message) = true
+is_acting _ = false
+
+-- no event makes an actor
+abbrev pub MakesNone : Event → Type 0
+MakesNone (VolumeMade volume server) = ⊥
+MakesNone (ClientMade client blocks) = ⊥
+MakesNone _ = Unit {0}
+
+abbrev pub MakeNone : List Event → Type 0
+MakeNone [] = Unit {0}
+MakeNone (event ∷ events) = MakesNone event × MakeNone events
 
 abbrev pub AreEntries : List Event → Type 0
 AreEntries [] = Unit {0}
 AreEntries (event ∷ events) = IsEntry event × AreEntries events
 
-abbrev pub AreNoEntries : List Event → Type 0
+abbrev AreNoEntries : List Event → Type 0
 AreNoEntries [] = Unit {0}
 AreNoEntries (event ∷ events) = IsNoEntry event × AreNoEntries events
 
@@ -48,8 +72,8 @@ AreNoEntries (event ∷ events) = IsNoEntry event × AreNoEntries events
 abbrev pub ComeFirst : List Event → Type 0
 ComeFirst [] = Unit {0}
 ComeFirst (Entered append ∷ events) = ComeFirst events
-ComeFirst (VolumeMade volume server ∷ events) = AreNoEntries events
-ComeFirst (ClientMade client blocks ∷ events) = AreNoEntries events
+ComeFirst (VolumeMade volume server ∷ events) = ⊥
+ComeFirst (ClientMade client blocks ∷ events) = ⊥
 ComeFirst (Ticked seconds ∷ events) = AreNoEntries events
 ComeFirst (LinkSet client server strength ∷ events) = AreNoEntries events
 ComeFirst (Posted sent ∷ events) = AreNoEntries events
@@ -59,21 +83,59 @@ ComeFirst (Kept client server fid ∷ events) = ComeFirst events
 ComeFirst (Stale client fids ∷ events) = ComeFirst events
 
 -- what waits behind entries is what waited before them
-pub entries_stay : (cell : MadeCell) (events : List Event) → AreEntries events → (grown_all cell events).waiting ≡ cell.waiting
-entries_stay cell [] are = refl
-entries_stay cell (Entered append ∷ events) are = entries_stay (grown cell (Entered append)) events are.1 ∙ same append
-  where
-    same : (append : Append) → (grown cell (Entered append)).waiting ≡ cell.waiting
-    same append = refl
-entries_stay cell (VolumeMade volume server ∷ events) are = absurd are.0
-entries_stay cell (ClientMade client blocks ∷ events) are = absurd are.0
-entries_stay cell (Ticked seconds ∷ events) are = absurd are.0
-entries_stay cell (LinkSet client server strength ∷ events) are = absurd are.0
-entries_stay cell (Posted sent ∷ events) are = absurd are.0
-entries_stay cell (Lost message ∷ events) are = absurd are.0
-entries_stay cell (Used client fids ∷ events) are = entries_stay (grown cell (Used client fids)) events are.1
-entries_stay cell (Kept client server fid ∷ events) are = entries_stay (grown cell (Kept client server fid)) events are.1
-entries_stay cell (Stale client fids ∷ events) are = entries_stay (grown cell (Stale client fids)) events are.1
+pub entries_stay : (s : CellState) (events : List Event) → AreEntries events → (after_all s events).waiting ≡ s.waiting
+entries_stay s [] are = refl
+entries_stay s (Entered (AtClient client entry) ∷ events) are = entries_stay (after s (Entered (AtClient client entry))) events are.1
+entries_stay s (Entered (AtReplica server volume entry) ∷ events) are = entries_stay (after s (Entered (AtReplica server volume entry))) events are.1
+entries_stay s (VolumeMade volume server ∷ events) are = absurd are.0
+entries_stay s (ClientMade client blocks ∷ events) are = absurd are.0
+entries_stay s (Ticked seconds ∷ events) are = absurd are.0
+entries_stay s (LinkSet client server strength ∷ events) are = absurd are.0
+entries_stay s (Posted sent ∷ events) are = absurd are.0
+entries_stay s (Lost message ∷ events) are = absurd are.0
+entries_stay s (Used client fids ∷ events) are = entries_stay (after s (Used client fids)) events are.1
+entries_stay s (Kept client server fid ∷ events) are = entries_stay (after s (Kept client server fid)) events are.1
+entries_stay s (Stale client fids ∷ events) are = entries_stay (after s (Stale client fids)) events are.1
+
+-- entries make no actor, and nothing does of events of which entries come first
+pub entries_make_none : (events : List Event) → AreEntries events → MakeNone events
+entries_make_none [] are = tt
+entries_make_none (Entered append ∷ events) are = (tt, entries_make_none events are.1)
+entries_make_none (VolumeMade volume server ∷ events) are = absurd are.0
+entries_make_none (ClientMade client blocks ∷ events) are = absurd are.0
+entries_make_none (Ticked seconds ∷ events) are = absurd are.0
+entries_make_none (LinkSet client server strength ∷ events) are = absurd are.0
+entries_make_none (Posted sent ∷ events) are = absurd are.0
+entries_make_none (Lost message ∷ events) are = absurd are.0
+entries_make_none (Used client fids ∷ events) are = (tt, entries_make_none events are.1)
+entries_make_none (Kept client server fid ∷ events) are = (tt, entries_make_none events are.1)
+entries_make_none (Stale client fids ∷ events) are = (tt, entries_make_none events are.1)
+
+others_make_none : (events : List Event) → AreNoEntries events → MakeNone events
+others_make_none [] are = tt
+others_make_none (Entered append ∷ events) are = absurd are.0
+others_make_none (VolumeMade volume server ∷ events) are = absurd are.0
+others_make_none (ClientMade client blocks ∷ events) are = absurd are.0
+others_make_none (Ticked seconds ∷ events) are = (tt, others_make_none events are.1)
+others_make_none (LinkSet client server strength ∷ events) are = (tt, others_make_none events are.1)
+others_make_none (Posted sent ∷ events) are = (tt, others_make_none events are.1)
+others_make_none (Lost message ∷ events) are = (tt, others_make_none events are.1)
+others_make_none (Used client fids ∷ events) are = (tt, others_make_none events are.1)
+others_make_none (Kept client server fid ∷ events) are = (tt, others_make_none events are.1)
+others_make_none (Stale client fids ∷ events) are = (tt, others_make_none events are.1)
+
+pub make_none : (events : List Event) → ComeFirst events → MakeNone events
+make_none [] come = tt
+make_none (Entered append ∷ events) come = (tt, make_none events come)
+make_none (VolumeMade volume server ∷ events) come = absurd come
+make_none (ClientMade client blocks ∷ events) come = absurd come
+make_none (Ticked seconds ∷ events) come = (tt, others_make_none events come)
+make_none (LinkSet client server strength ∷ events) come = (tt, others_make_none events come)
+make_none (Posted sent ∷ events) come = (tt, others_make_none events come)
+make_none (Lost message ∷ events) come = (tt, others_make_none events come)
+make_none (Used client fids ∷ events) come = (tt, make_none events come)
+make_none (Kept client server fid ∷ events) come = (tt, make_none events come)
+make_none (Stale client fids ∷ events) come = (tt, make_none events come)
 
 both_entries : (first rest : List Event) → AreEntries first → AreEntries rest → AreEntries (first ++ rest)
 both_entries [] rest f r = r
@@ -82,8 +144,8 @@ both_entries (event ∷ first) rest f r = (f.0, both_entries first rest f.1 r)
 others_first : (events : List Event) → AreNoEntries events → ComeFirst events
 others_first [] are = tt
 others_first (Entered append ∷ events) are = absurd are.0
-others_first (VolumeMade volume server ∷ events) are = are.1
-others_first (ClientMade client blocks ∷ events) are = are.1
+others_first (VolumeMade volume server ∷ events) are = absurd are.0
+others_first (ClientMade client blocks ∷ events) are = absurd are.0
 others_first (Ticked seconds ∷ events) are = are.1
 others_first (LinkSet client server strength ∷ events) are = are.1
 others_first (Posted sent ∷ events) are = are.1
@@ -113,8 +175,8 @@ no_entry (event ∷ done) rest next are = no_entry done rest next are.1
 before_entry : (done rest : List Event) (next : Append) → ComeFirst (done ++ Entered next ∷ rest) → AreEntries done
 before_entry [] rest next come = tt
 before_entry (Entered append ∷ done) rest next come = (tt, before_entry done rest next come)
-before_entry (VolumeMade volume server ∷ done) rest next come = absurd (no_entry done rest next come)
-before_entry (ClientMade client blocks ∷ done) rest next come = absurd (no_entry done rest next come)
+before_entry (VolumeMade volume server ∷ done) rest next come = absurd come
+before_entry (ClientMade client blocks ∷ done) rest next come = absurd come
 before_entry (Ticked seconds ∷ done) rest next come = absurd (no_entry done rest next come)
 before_entry (LinkSet client server strength ∷ done) rest next come = absurd (no_entry done rest next come)
 before_entry (Posted sent ∷ done) rest next come = absurd (no_entry done rest next come)
@@ -129,11 +191,11 @@ stopped_entries events come stop = before_entry stop.done stop.rest stop.next (s
 
 -- ---- of clients and replicas
 
-client_entries : (client : ℕ) (entries : List ClientEntry) → AreEntries (map (at_client client) entries)
+pub client_entries : (client : ℕ) (entries : List ClientEntry) → AreEntries (map (at_client client) entries)
 client_entries client [] = tt
 client_entries client (entry ∷ entries) = (tt, client_entries client entries)
 
-replica_entries : (server volume : ℕ) (entries : List ReplicaEntry) → AreEntries (entries_at server volume entries)
+pub replica_entries : (server volume : ℕ) (entries : List ReplicaEntry) → AreEntries (entries_at server volume entries)
 replica_entries server volume [] = tt
 replica_entries server volume (entry ∷ entries) = (tt, replica_entries server volume entries)
 
@@ -262,18 +324,18 @@ module _ (s : CellState) where
     loses_first message None does = none_first does.1
     loses_first message (Some sent) does = subst ComeFirst (sym does.1) tt
 
-    pub line_first : (said : Line) → Does s said reply events → ComeFirst events
-    line_first (line.Volume volume servers area) does = unless_first (no_volume s volume) _ (λ did. subst ComeFirst (sym did.1) tt) does
-    line_first (line.Client client blocks area) does = unless_first (no_client s client) _ (λ did. subst ComeFirst (sym did.1) tt) does
-    line_first (line.Link client server strength) does =
+    pub line_first : (said : Line) → is_acting said ≡ true → Does s said reply events → ComeFirst events
+    line_first (line.Volume volume servers area) acts does = cc
+    line_first (line.Client client blocks area) acts does = cc
+    line_first (line.Link client server strength) acts does =
         unless_first (first_missing (client_named s client ∷ server_named s server ∷ [])) _ (λ did. subst ComeFirst (sym did.1) tt) does
-    line_first (line.Tick seconds) does = subst ComeFirst (sym does.1) tt
-    line_first (line.Task t) does = are_first events (task_entries s reply events t does)
-    line_first (line.ShowVolume server volume) does = unless_first (first_missing (holder_named s server volume ∷ [])) _ (λ did. none_first did.1) does
-    line_first (line.ShowLog client volume) does = unless_first (first_missing (on_volume s client volume)) _ (λ did. none_first did.1) does
-    line_first (line.Send client volume server window) does =
+    line_first (line.Tick seconds) acts does = subst ComeFirst (sym does.1) tt
+    line_first (line.Task t) acts does = are_first events (task_entries s reply events t does)
+    line_first (line.ShowVolume server volume) acts does = unless_first (first_missing (holder_named s server volume ∷ [])) _ (λ did. none_first did.1) does
+    line_first (line.ShowLog client volume) acts does = unless_first (first_missing (on_volume s client volume)) _ (λ did. none_first did.1) does
+    line_first (line.Send client volume server window) acts does =
         unless_first (first_missing (on_holder s client volume server)) (BySend s client volume server (unwrap_or window 600))
         (λ did. subst ComeFirst (sym did.happened) (sends_first client volume server (over (s.links client server) (freezing s.clock (unwrap_or window 600) server (did.client.volumes volume))))) does
-    line_first (line.Deliver message) does = delivers_first message (sent_at message s.waiting) does
-    line_first (line.Lose message) does = loses_first message (sent_at message s.waiting) does
-    line_first _ does = absurd does
+    line_first (line.Deliver message) acts does = delivers_first message (sent_at message s.waiting) does
+    line_first (line.Lose message) acts does = loses_first message (sent_at message s.waiting) does
+    line_first _ acts does = absurd does

@@ -19,16 +19,14 @@ use Rattle.coda_script.specs.declared.reply.Reply.TheVariants.{Done}
 use Rattle.coda_cell.specs.Accepting.{Sight, sight_of, next_fid}
 use Rattle.coda_cell.specs.Held.{is_below, some_below}
 use Rattle.coda_cell.specs.State.{ClientVolume, ClientState, Event}
-use Rattle.coda_cell.specs.Made.{state_of}
 use Rattle.coda_cell.specs.Refusing.{refusal}
 use Rattle.coda_cell.specs.Steps.{first_missing, on_volume, Does}
 use Rattle.coda_cell.specs.Refused.{Refused}
 use Rattle.coda_cell.specs.Refused as refused
 use Rattle.coda_plain.specs.Cell.{ClientEntry}
 use Rattle.coda_plain.specs.Moves.{AtClient}
-use Rattle.coda_stored.specs.Cells.{StoredCell, after_all}
-use Rattle.coda_stored.specs.Lines.{meets, Stop, Happens, client_down, refused_down, refused_full, refused_fault}
-use Rattle.coda_stored.specs.Room.{Lacks}
+use Rattle.coda_shelves.specs.Cells.{Cell, is_up, state_of, after_all}
+use Rattle.coda_shelves.specs.Lines.{meets, Lacks, Stop, Happens, client_down, refused_down, refused_full, refused_fault}
 use Rattle.coda_runs.specs.Headline.{InEachKept}
 use Rattle.coda_runs.specs.Performed.{Leads, End, content_of}
 use Rattle.coda_runs.specs.Shown.{shown_by}
@@ -230,7 +228,7 @@ IsAnswered t client volume missing clients reply =
 
 -- The entry is the next one of a task's client: of all that the task does where disks have room, what comes before the entry happened, and left
 -- this cell.
-pub record IsNextEntry (old mid : StoredCell) (t : Task) (client : ℕ) (entry : ClientEntry) : Type 0 where
+pub record IsNextEntry (old mid : Cell) (t : Task) (client : ℕ) (entry : ClientEntry) : Type 0 where
   pub own : Reply
   pub events : List Event
   pub does : Does (meets old (line.Task t)) (line.Task t) own events
@@ -240,15 +238,15 @@ pub record IsNextEntry (old mid : StoredCell) (t : Task) (client : ℕ) (entry :
 
 -- Why a line is refused for the disk of its client: the client is down, and stays as it was; or its journal has no room for the next entry; or the
 -- append of that failed, and the client is down from there on.
-pub data DiskCause (old new : StoredCell) (t : Task) (client : ℕ) (reply : Reply) : Type 0 where
+pub data DiskCause (old new : Cell) (t : Task) (client : ℕ) (reply : Reply) : Type 0 where
   IsDown : reply ≡ refused_down → client_down old client ≡ true → new ≡ old → DiskCause old new t client reply
   HasNoRoom : (entry : ClientEntry) → reply ≡ refused_full → IsNextEntry old new t client entry → Lacks new (AtClient client entry)
       → DiskCause old new t client reply
-  HasFailed : (entry : ClientEntry) (mid : StoredCell) → reply ≡ refused_fault → IsNextEntry old mid t client entry
-      → (new.made.acted.clients client).failed ≡ Some entry → (new.made.acted.clients client).up ≡ false → DiskCause old new t client reply
+  HasFailed : (entry : ClientEntry) (mid : Cell) → reply ≡ refused_fault → IsNextEntry old mid t client entry
+      → (new.clients client).disk.failed ≡ Some entry → is_up (new.clients client).life ≡ false → DiskCause old new t client reply
 
 -- In every cell that is kept, an operation, a read or a listing is refused only for a cause that holds.
 abbrev pub RefusalsHaveCauses : Type 0
 RefusalsHaveCauses =
-    InEachKept (λ cell. (t : Task) (reply : Reply) (outside : List (List ℕ)) (new : StoredCell) (client volume : ℕ) → Happens cell (line.Task t) reply outside new → named_by t ≡ Some (client, volume)
-    → IsAnswered t client volume (first_missing (on_volume (state_of cell.made) client volume)) (state_of new.made).clients reply ⊎ DiskCause cell new t client reply)
+    InEachKept (λ cell. (t : Task) (reply : Reply) (outside : List (List ℕ)) (new : Cell) (client volume : ℕ) → Happens cell (line.Task t) reply outside new → named_by t ≡ Some (client, volume)
+    → IsAnswered t client volume (first_missing (on_volume (state_of cell) client volume)) (state_of new).clients reply ⊎ DiskCause cell new t client reply)

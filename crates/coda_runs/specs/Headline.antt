@@ -1,126 +1,111 @@
--- What all runs of scripts have in common, in the words of a file system that replays logs, whatever crashes and whatever disks fail.
-use Rattle.std.specs.Prelude.{◌≡◌, ◌⊎◌, ℕ, Some, None, Ok, List, [], ◌++◌, length}
+-- What all runs of scripts have in common, in the words of a file system that replays logs: whatever stood on the disks where they began, whatever crashes, and
+-- whatever disks fail.
+use Rattle.std.specs.Prelude.{◌≡◌, ◌⊎◌, ℕ, Some, Ok, List, [], ◌∷◌, ◌++◌, length}
 use Rattle.coda_tree.specs.Volume.{Nodes}
+use Rattle.coda_actors.specs.Plain.{PlainDisk}
 use Rattle.coda_certify.specs.declared.reason.Reason.{Reason}
 use Rattle.coda_certify.specs.declared.verdict.Verdict.TheVariants.{Applied, Conflict}
 use Rattle.coda_certify.specs.Replay.{replay}
-use Rattle.coda_cancel.specs.Cancel.{fold}
 use Rattle.coda_engine.specs.Run.{Runs}
 use Rattle.coda_plain.specs.Histories.{In}
-use Rattle.coda_plain.specs.Sound.{IsDecided}
-use Rattle.coda_plain.specs.Deeds.{Settlement, settlements_of, pending_of}
-use Rattle.coda_plain.specs.Logs.{front_of, back_of}
+use Rattle.coda_plain.specs.Deeds.{InChunk, Settlement, settlements_of, ended_of}
 use Rattle.coda_plain.specs.Decisions.{Decision, verdict_on, nodes_by}
-use Rattle.coda_plain.specs.Cell.{Histories, empty_cell}
-use Rattle.coda_plain.specs.Moves.{done_on}
-use Rattle.coda_plain.specs.Laws.{IsRun, IsRecovered}
-use Rattle.coda_plain.specs.Promises.{Decides, AreDecidedOnce, IsRefused, AreKept}
+use Rattle.coda_plain.specs.Cell.{Joins, deeds_of}
+use Rattle.coda_plain.specs.Promises.{IsRefused, IsUnderWay}
 use Rattle.coda_script.specs.declared.line.Line.TheVariants as line
 use Rattle.coda_script.specs.declared.reply.Reply.TheVariants.{Recovered}
-use Rattle.coda_cell.specs.State.{log_of, ClientState}
-use Rattle.coda_cell.specs.Made.{MadeCell, state_of}
-use Rattle.coda_stored.specs.Cells.{StoredCell, nothing_stored}
-use Rattle.coda_stored.specs.Kept.{IsStoredKept}
-use Rattle.coda_stored.specs.Laws.{Begins}
-use Rattle.coda_stored.specs.Lines.{Happens}
-use Rattle.coda_runs.specs.Runs.{LineGives}
+use Rattle.coda_cell.specs.State.{ClientState}
+use Rattle.coda_shelves.specs.Shelves.{Shelves, blank_shelves, Found, found_on}
+use Rattle.coda_shelves.specs.Cells.{Cell, begun_on, shelves_of, Stand, stand_of, state_of}
+use Rattle.coda_shelves.specs.Kept.{deeds_in, Decides, IsDecided, AreKept}
+use Rattle.coda_shelves.specs.Laws.{Stay}
+use Rattle.coda_shelves.specs.Lines.{Happens}
+use Rattle.coda_shelves.specs.Placed.{ArePlaced}
+use Rattle.coda_shelves.specs.Promises.{AreDecidedOnce, AreOperationsKept}
+use Rattle.coda_shelves.specs.Running.{IsKept}
+use Rattle.coda_runs.specs.Shelved.{LineGives, IsOfPending, HasRun, RunsFromBlankGoOn}
 
--- the histories of a cell's actors
-abbrev pub histories_of : StoredCell → Histories
-histories_of cell = record {
-  clients = λ client. (cell.made.acted.clients client).history;
-  replicas = λ server volume. (cell.made.acted.replicas server volume).history;
-  learned = cell.made.acted.learned;
-}
+-- In every cell that is kept: in each that a run leaves over disks that are kept (`WhatRanIsKept`), as blank ones are, and those that such runs left.
+abbrev pub InEachKept : (Cell → Type 0) → Type 0
+InEachKept Holds = (cell : Cell) → IsKept cell → Holds cell
 
--- clients learned of none but the cell's own replicas
-abbrev pub LearnedOfItsOwn : StoredCell → Type 0
-LearnedOfItsOwn cell = (client volume : ℕ) → cell.made.acted.learned client volume ≡ []
+-- of what would be found on the disks of a cell, whichever of the entries join whose appends failed
+abbrev pub InFound : Cell → (Found → Type 0) → Type 0
+InFound cell Holds = (joins : Joins) → Holds (found_on (shelves_of cell) joins)
 
--- A client's log of a volume, of the operations that no chunk applied: the chunk that is on its way is what cancellation leaves of its own
--- operations, the first of them, and the other records are what it leaves of the rest. No chunk is on its way exactly where none is frozen.
-pub record IsOfPending (cell : MadeCell) (client volume : ℕ) (c : ClientState) : Type 0 where
-  pub chunk : (log_of (c.volumes volume)).chunk ≡ fold (front_of (done_on cell.acted client volume))
-  pub records : (log_of (c.volumes volume)).records ≡ fold (back_of (done_on cell.acted client volume))
-  pub pending : front_of (done_on cell.acted client volume) ++ back_of (done_on cell.acted client volume) ≡ pending_of (done_on cell.acted client volume)
-  pub thawed : (log_of (c.volumes volume)).frozen ≡ None → front_of (done_on cell.acted client volume) ≡ []
+abbrev pub InEachFound : (Found → Type 0) → Type 0
+InEachFound Holds = InEachKept (λ cell. InFound cell Holds)
 
--- What a run of lines leaves: the histories are a run from nothing, so they keep what is promised of runs, whichever of the entries join
--- whose appends failed; and each client's log is what is left of what is pending by its history.
-pub record HasRun (cell : StoredCell) : Type 0 where
-  pub run : IsRun empty_cell cell.made.acted
-  pub logs : (client volume : ℕ) (c : ClientState) → (state_of cell.made).clients client ≡ Some c → IsOfPending cell.made client volume c
-
--- whatever lines ran, from a cell in which nothing was made, on disks that hold nothing
-abbrev pub Always : (StoredCell → Type 0) → Type 0
-Always Holds = (ls : List (List ℕ)) (report : List ℕ) (outside : List (List ℕ)) (cell : StoredCell) → Runs LineGives nothing_stored ls report outside cell → Holds cell
-
--- In every cell that is kept: in each that a run from nothing leaves (`WhatRanIsKept`), and in each that a later run reaches which makes the actors of an earlier one again.
-abbrev pub InEachKept : (StoredCell → Type 0) → Type 0
-InEachKept Holds = (cell : StoredCell) → IsStoredKept cell → Holds cell
-
--- Whatever lines ran, the cell is kept.
+-- Whatever lines ran over disks that are kept, the cell is kept, and each volume that they made has its replica in its row.
 abbrev pub WhatRanIsKept : Type 0
-WhatRanIsKept = Always IsStoredKept
+WhatRanIsKept =
+    (shelves : Shelves) (cell : Cell) (ls : List (List ℕ)) (report : List ℕ) (outside : List (List ℕ)) → AreKept shelves → Runs LineGives (begun_on shelves) ls report outside cell → IsKept cell × ArePlaced cell
 
--- Whatever lines ran, the cell is a run from nothing.
-abbrev pub ScriptsRun : Type 0
-ScriptsRun = Always HasRun
+-- Whatever lines ran over blank disks, what they left has run; and all that `coda_plain` promises of a run from nothing is promised of it: of clients, and of the servers
+-- of volumes.
+pub record ScriptsRun : Type 0 where
+  pub has_run : (cell : Cell) (ls : List (List ℕ)) (report : List ℕ) (outside : List (List ℕ)) → Runs LineGives (begun_on blank_shelves) ls report outside cell → HasRun blank_shelves cell
+  pub promised : RunsFromBlankGoOn
 
--- Whatever lines ran, clients learned of none but the cell's own replicas.
-abbrev pub ScriptsLearnOfTheirOwn : Type 0
-ScriptsLearnOfTheirOwn = Always LearnedOfItsOwn
-
--- Each chunk of a client on a volume is decided at most once, over all replicas of the volume.
+-- Each chunk of a client on a volume is decided at most once on the disks of a row.
 abbrev pub ChunksAreDecidedOnce : Type 0
-ChunksAreDecidedOnce = Always (λ cell. (volume : ℕ) → AreDecidedOnce (histories_of cell) volume)
+ChunksAreDecidedOnce = InEachFound AreDecidedOnce
 
 -- Where the operations of a chunk certify in turn, as they were before cancellation, the chunk is applied, and leaves the volume that
 -- replaying them leaves.
 abbrev pub CertifiedChunksAreApplied : Type 0
 CertifiedChunksAreApplied =
-    Always (λ cell. (server volume : ℕ) (d : Decision) (nodes : Nodes) → Decides (histories_of cell) server volume d → replay d.before d.client d.span ≡ Ok nodes → (verdict_on d ≡ Applied) × (nodes_by d ≡ nodes))
+    InEachFound (λ f. (row server volume : ℕ) (d : Decision) (nodes : Nodes) → Decides f row server volume d → replay d.before d.client d.span ≡ Ok nodes → (verdict_on d ≡ Applied) × (nodes_by d ≡ nodes))
 
 -- A conflict names the first of the records sent that certification refuses; the operations of the chunk don't certify either, as they
 -- were before cancellation; and the volume is as it was.
 abbrev pub ConflictsNameASentRecord : Type 0
 ConflictsNameASentRecord =
-    Always (λ cell. (server volume : ℕ) (d : Decision) (refused : ℕ) (why : Reason) → Decides (histories_of cell) server volume d → verdict_on d ≡ Conflict refused why → IsRefused d refused why)
+    InEachFound (λ f. (row server volume : ℕ) (d : Decision) (refused : ℕ) (why : Reason) → Decides f row server volume d → verdict_on d ≡ Conflict refused why → IsRefused d refused why)
 
--- No operation that a client accepted is lost, and none is done twice: in order, each is in one chunk that was applied, or pending.
+-- No operation that a client accepted is lost, and none is done twice in a row: in order, each is in one chunk that was applied, or was given up, or is pending.
 abbrev pub OperationsAreKept : Type 0
-OperationsAreKept = Always (λ cell. (client volume : ℕ) → AreKept (histories_of cell) client volume)
+OperationsAreKept = InEachFound (λ f. (client volume : ℕ) → AreOperationsKept f client volume)
 
--- a server of the volume decided the chunk of a settlement, with its verdict
-abbrev pub IsDecidedIn : StoredCell → ℕ → ℕ → Settlement → Type 0
-IsDecidedIn cell client volume s = IsDecided (λ server w. (cell.made.acted.replicas server w).history) volume client s.number s.verdict
+-- this row alone has disks of the volume
+abbrev pub StandsInOneRow : Found → ℕ → ℕ → Type 0
+StandsInOneRow f volume home = (row server : ℕ) → f.volumes row server ≡ volume → row ≡ home
 
--- A client settles a chunk only by a verdict that a server of the volume decided on it, whatever letters were lost or came twice. In every cell that
--- is kept it does, or it learned of the verdict from a replica that is none of the cell's; of none such did it learn whatever lines ran from nothing.
-pub record SettlementsAreDecided : Type 0 where
-  pub first : Always (λ cell. (client volume : ℕ) (s : Settlement) → In s (settlements_of (done_on cell.made.acted client volume)) → IsDecidedIn cell client volume s)
-  pub each : InEachKept (λ cell. (client volume : ℕ) (s : Settlement) → In s (settlements_of (done_on cell.made.acted client volume)) → IsDecidedIn cell client volume s ⊎ In s (cell.made.acted.learned client volume))
+-- Where one row alone has disks of a volume, nothing is done twice there, without exception: what was applied ended in its chunk, or is under way; and two decisions of a
+-- chunk are on one disk.
+pub record VolumesInOneRowAreDoneOnce : Type 0 where
+  pub applied : InEachFound (λ f. (client volume home row server : ℕ) (d : Decision) → StandsInOneRow f volume home → Decides f row server volume d → d.client ≡ client → verdict_on d ≡ Applied
+      → In (InChunk d.number d.span) (ended_of (deeds_in f client volume)) ⊎ IsUnderWay (deeds_in f client volume) d.number d.span)
+  pub once : InEachFound (λ f. (volume home row server other at : ℕ) (first second : Decision) → StandsInOneRow f volume home → Decides f row server volume first → Decides f other at volume second
+      → first.client ≡ second.client → first.number ≡ second.number → (row ≡ other) × (server ≡ at))
 
--- A client's log of a volume is what cancellation leaves of its pending operations: of those of the chunk that is on its way, and of the
--- others.
+-- A client settles a chunk only by a verdict that is decided on it, on some disk of the volume, whatever letters were lost or came twice, and over however many runs.
+abbrev pub SettlementsAreDecided : Type 0
+SettlementsAreDecided = InEachFound (λ f. (client volume : ℕ) (s : Settlement) → In s (settlements_of (deeds_in f client volume)) → IsDecided f volume client s.number s.verdict)
+
+-- The log of a client that was made is what cancellation leaves of its pending operations: of those of the chunk that is on its way, and of the others.
 abbrev pub LogsArePending : Type 0
-LogsArePending = Always (λ cell. (client volume : ℕ) (c : ClientState) → (state_of cell.made).clients client ≡ Some c → IsOfPending cell.made client volume c)
+LogsArePending = InEachKept (λ cell. (client volume : ℕ) (c : ClientState) → (state_of cell).clients client ≡ Some c → IsOfPending (deeds_of volume (cell.clients client).disk.history) c volume)
 
--- Whatever lines follow, crashes and failing disks among them, no entry that was acknowledged is lost: each history of a client or of a server
--- begins with what it was.
+-- Whatever lines run in whatever cell, crashes and failing disks among them, no entry that was acknowledged is lost, also of disks of which no line makes an
+-- actor; and who has entries keeps the header.
 abbrev pub AcknowledgedEntriesStay : Type 0
 AcknowledgedEntriesStay =
-    Always (λ cell. (ls : List (List ℕ)) (report : List ℕ) (outside : List (List ℕ)) (later : StoredCell) → Runs LineGives cell ls report outside later → Begins later cell)
+    (cell later : Cell) (ls : List (List ℕ)) (report : List ℕ) (outside : List (List ℕ)) → Runs LineGives cell ls report outside later → Stay (shelves_of cell) (shelves_of later)
+
+-- a disk has the entries that it had, or those and the one whose append failed
+abbrev pub IsFoundAgain : {E : Type 0} → PlainDisk E → PlainDisk E → Type 0
+IsFoundAgain {E} old new = (new.history ≡ old.history) ⊎ ((entry : E) × (old.failed ≡ Some entry) × (new.history ≡ old.history ++ entry ∷ []))
 
 -- In whatever cell, a client that is recovered has the history from before, or that one with the one entry whose append failed, and the reply counts
 -- its entries.
 abbrev pub ClientsComeBack : Type 0
 ClientsComeBack =
-    (cell : StoredCell) (client count : ℕ) (outside : List (List ℕ)) (new : StoredCell) → Happens cell (line.RecoverClient client) (Recovered count) outside new
-    → IsRecovered (cell.made.acted.clients client) (new.made.acted.clients client).history × (count ≡ length (new.made.acted.clients client).history)
+    (cell : Cell) (client count : ℕ) (outside : List (List ℕ)) (new : Cell) → Happens cell (line.RecoverClient client) (Recovered count) outside new
+    → IsFoundAgain (cell.clients client).disk (new.clients client).disk × (count ≡ length (new.clients client).disk.history)
 
--- A server's replica of a volume likewise.
+-- A server's replica of a volume likewise, where the volume stands.
 abbrev pub ReplicasComeBack : Type 0
 ReplicasComeBack =
-    (cell : StoredCell) (server volume count : ℕ) (outside : List (List ℕ)) (new : StoredCell) → Happens cell (line.RecoverReplica server volume) (Recovered count) outside new
-    → IsRecovered (cell.made.acted.replicas server volume) (new.made.acted.replicas server volume).history × (count ≡ length (new.made.acted.replicas server volume).history)
+    (cell : Cell) (server volume count : ℕ) (outside : List (List ℕ)) (new : Cell) → Happens cell (line.RecoverReplica server volume) (Recovered count) outside new
+    → (at : Stand) × (stand_of cell volume ≡ Some at) × IsFoundAgain (cell.replicas at.row server).disk (new.replicas at.row server).disk × (count ≡ length (new.replicas at.row server).disk.history)

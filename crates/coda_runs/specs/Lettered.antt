@@ -9,8 +9,6 @@ use Rattle.coda_record.specs.declared.answer.Answer.TheVariants.{Applied, Confli
 use Rattle.coda_letters.specs.Sent.{Sent, ChunkSent, AnswerSent, client_of, server_of, Waiting, letter_of, sent_at, with_sent}
 use Rattle.coda_plain.specs.Deeds.{chunks_of}
 use Rattle.coda_plain.specs.Histories.{In}
-use Rattle.coda_plain.specs.Moves.{done_on}
-use Rattle.coda_plain.specs.Sound.{IsDecided}
 use Rattle.coda_script.specs.declared.line.Line.{Line}
 use Rattle.coda_script.specs.declared.line.Line.TheVariants as line
 use Rattle.coda_script.specs.declared.reply.Answer.{Answer as ReplyAnswer}
@@ -19,15 +17,13 @@ use Rattle.coda_script.specs.declared.reply.Undecided.{Undecided}
 use Rattle.coda_script.specs.declared.reply.Undecided.TheVariants as undecided
 use Rattle.coda_script.specs.declared.reply.Reply.{Reply}
 use Rattle.coda_script.specs.declared.reply.Reply.TheVariants.{Sent as ChunkWent, Delivered, Settled, StillFrozen, Lost}
-use Rattle.coda_cell.specs.Made.{MadeCell, state_of}
 use Rattle.coda_cell.specs.Steps.{first_missing, on_holder}
-use Rattle.coda_stored.specs.Cells.{StoredCell}
-use Rattle.coda_stored.specs.Lines.{Happens}
-use Rattle.coda_stored.specs.Resuming.{at_rest, Awaited}
-use Rattle.coda_runs.specs.Headline.{Always, InEachKept}
-use Rattle.coda_runs.specs.Later.{Goes, resumed, LaterGives}
-use Rattle.coda_runs.specs.Runs.{LineGives}
-use Rattle.coda_runs.specs.Shows.{Recorded}
+use Rattle.coda_shelves.specs.Shelves.{Shelves, Found}
+use Rattle.coda_shelves.specs.Cells.{Cell, begun_on, state_of}
+use Rattle.coda_shelves.specs.Kept.{deeds_in, IsDecided}
+use Rattle.coda_shelves.specs.Lines.{Happens}
+use Rattle.coda_runs.specs.Headline.{InEachKept, InFound}
+use Rattle.coda_runs.specs.Shelved.{LineGives}
 
 -- ---- what a reply tells
 
@@ -111,19 +107,20 @@ TellsLetters _ reply old new = new ≡ old
 
 -- In every cell that is kept, a reply that names a letter names one in which what it tells of waits.
 abbrev pub RepliesNameLetters : Type 0
-RepliesNameLetters = InEachKept (λ cell. (said : Line) (reply : Reply) (outside : List (List ℕ)) (new : StoredCell) → Happens cell said reply outside new → TellsLetters said reply cell.made.waiting new.made.waiting)
+RepliesNameLetters = InEachKept (λ cell. (said : Line) (reply : Reply) (outside : List (List ℕ)) (new : Cell) → Happens cell said reply outside new → TellsLetters said reply cell.waiting new.waiting)
 
 -- ---- what a letter says
 
 -- A chunk on its way is one that its client froze for this server, of the operations that it froze; and a verdict on its way back is that
--- of a decision.
-abbrev pub IsSo : MadeCell → Sent → Type 0
-IsSo cell (ChunkSent client server volume number span) = In (record { number = number; home = server; span = span }) (chunks_of (done_on cell.acted client volume))
-IsSo cell (AnswerSent server client volume number answer) = (verdict : Verdict) → answer ≡ answer_with verdict → IsDecided (λ s w. (cell.acted.replicas s w).history) volume client number verdict
+-- of a decision, which stands on a disk of the volume.
+abbrev pub IsSo : Found → Sent → Type 0
+IsSo f (ChunkSent client server volume number span) = In (record { number = number; home = server; span = span }) (chunks_of (deeds_in f client volume))
+IsSo f (AnswerSent server client volume number answer) = (verdict : Verdict) → answer ≡ answer_with verdict → IsDecided f volume client number verdict
 
--- In every cell that is kept, what a letter says that waits is so, however long it waited and whatever else was lost or came twice.
+-- In every cell that is kept, what a letter says that waits is so, however long it waited and whatever else was lost or came twice, also by what would be found on disks,
+-- whichever of the entries join whose appends failed.
 abbrev pub LettersSayWhatIsSo : Type 0
-LettersSayWhatIsSo = InEachKept (λ cell. (message : ℕ) (sent : Sent) → sent_at message cell.made.waiting ≡ Some sent → IsSo cell.made sent)
+LettersSayWhatIsSo = InEachKept (λ cell. (message : ℕ) (sent : Sent) → sent_at message cell.waiting ≡ Some sent → InFound cell (λ f. IsSo f sent))
 
 -- ---- the ends of a letter
 
@@ -133,13 +130,10 @@ volume_of (ChunkSent client server volume number span) = volume
 volume_of (AnswerSent server client volume number answer) = volume
 
 -- the client, the volume and the server of each letter that waits are there, so that none is refused for an actor that isn't
-abbrev pub AreAddressed : StoredCell → Type 0
-AreAddressed cell = (number : ℕ) (sent : Sent) → sent_at number cell.made.waiting ≡ Some sent → first_missing (on_holder (state_of cell.made) (client_of sent) (volume_of sent) (server_of sent)) ≡ None
+abbrev pub AreAddressed : Cell → Type 0
+AreAddressed cell = (number : ℕ) (sent : Sent) → sent_at number cell.waiting ≡ Some sent → first_missing (on_holder (state_of cell) (client_of sent) (volume_of sent) (server_of sent)) ≡ None
 
--- The ends of each letter that waits are there: whatever lines ran from nothing; whatever lines ran from a cell that is kept in which they are, as where
--- no letter waits; and whatever lines ran over the disks that an earlier run left, once all its actors were made again.
+-- The ends of each letter that waits are there: whatever lines ran, over whatever stood on disks; and whatever lines ran from a cell that is kept in which they are.
 pub record LettersHaveEnds : Type 0 where
-  pub first : Always AreAddressed
-  pub each : InEachKept (λ cell. AreAddressed cell → (ls : List (List ℕ)) (report : List ℕ) (outside : List (List ℕ)) (new : StoredCell) → Runs LineGives cell ls report outside new → AreAddressed new)
-  pub later : (past : StoredCell) (lines : List Awaited) (before : List (List ℕ)) (ls : List (List ℕ)) (report : List ℕ) (outside : List (List ℕ)) (at : Recorded)
-      → Runs LaterGives (resumed (at_rest past) lines before) ls report outside (Goes at) → AreAddressed at.cell
+  pub first : (shelves : Shelves) (cell : Cell) (ls : List (List ℕ)) (report : List ℕ) (outside : List (List ℕ)) → Runs LineGives (begun_on shelves) ls report outside cell → AreAddressed cell
+  pub each : InEachKept (λ cell. AreAddressed cell → (ls : List (List ℕ)) (report : List ℕ) (outside : List (List ℕ)) (new : Cell) → Runs LineGives cell ls report outside new → AreAddressed new)

@@ -1,5 +1,6 @@
 pub mod Texts
 pub mod Runs
+pub mod Shelved
 pub mod Headline
 pub mod Shows
 pub mod Complete
@@ -8,9 +9,7 @@ pub mod Thawed
 pub mod Performed
 pub mod Shown
 pub mod Causes
-pub mod Later
-pub mod NeverCame
-pub mod Held
 pub mod Volumes
 pub mod Standing
-pub mod Shelved
+pub mod Again
+pub mod Resumed

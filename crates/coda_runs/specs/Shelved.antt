@@ -2,7 +2,6 @@
 use Rattle.std.specs.Prelude.{◌≡◌, ℕ, true, ◌⊎◌, ◌++◌, List, [], Some, None, Ok}
 use Rattle.coda_cancel.specs.Cancel.{fold}
 use Rattle.coda_engine.specs.Run.{Runs}
-use Rattle.coda_engine.specs.declared.status.Kind.{Kind}
 use Rattle.coda_plain.specs.Cell.{Joins, deeds_of}
 use Rattle.coda_plain.specs.Deeds.{Deed, pending_of}
 use Rattle.coda_plain.specs.Logs.{front_of, back_of}
@@ -19,7 +18,6 @@ use Rattle.coda_shelves.specs.Lines.{is_built, Happens}
 use Rattle.coda_shelves.specs.Promises.{ArePromised}
 use Rattle.coda_shelves.specs.Running.{IsKept}
 use Rattle.coda_shelves.specs.Shelves.{Shelves, blank_shelves, found_on}
-use Rattle.coda_runs.specs.Runs.{IsUnbuilt}
 use Rattle.coda_runs.specs.Texts.{text_of}
 
 -- From old, the cell may run this line, with the text of its reply; the bay answers these images, and it is new then.

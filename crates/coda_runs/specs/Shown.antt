@@ -14,11 +14,10 @@ use Rattle.coda_script.specs.declared.reply.Readable.TheVariants.{File as FileOf
 use Rattle.coda_script.specs.declared.reply.Reply.{Reply}
 use Rattle.coda_script.specs.declared.reply.Reply.TheVariants.{Read, Listed}
 use Rattle.coda_cell.specs.State.{ClientState, ReplicaState}
-use Rattle.coda_cell.specs.Made.{state_of}
-use Rattle.coda_stored.specs.Cells.{StoredCell}
-use Rattle.coda_stored.specs.Lines.{Happens}
+use Rattle.coda_shelves.specs.Cells.{Cell, state_of}
+use Rattle.coda_shelves.specs.Lines.{Happens}
 use Rattle.coda_runs.specs.Headline.{InEachKept}
-use Rattle.coda_runs.specs.Performed.{Leads, HasFetched}
+use Rattle.coda_runs.specs.Performed.{Leads, CanReach, HasFetched}
 
 -- whose path a line shows
 abbrev pub Looks : Task → ℕ → ℕ → List Name → Type 0
@@ -34,7 +33,7 @@ shown_by (Listed fetched entries) = Some (Dir entries)
 shown_by _ = None
 
 -- the client's path leads, over what the client holds and fetched, to an object that is as it is shown; its logs and other clients stay
-pub record WasShown (t : Task) (clients behind : ℕ → Option ClientState) (replicas : ℕ → Option ReplicaState) (kind : NodeKind) : Type 0 where
+pub record WasShown (Reaches : ℕ → ℕ → ℕ → Type 0) (t : Task) (clients behind : ℕ → Option ClientState) (replicas : ℕ → Option ReplicaState) (kind : NodeKind) : Type 0 where
   pub client : ℕ
   pub volume : ℕ
   pub path : List Name
@@ -45,7 +44,7 @@ pub record WasShown (t : Task) (clients behind : ℕ → Option ClientState) (re
   pub is : behind client ≡ Some new
   pub others : (other : ℕ) → other ≢ client → behind other ≡ clients other
   pub logs : new.volumes ≡ old.volumes
-  pub fetched : HasFetched replicas volume old.held.nodes new.held.nodes
+  pub fetched : HasFetched (Reaches client volume) replicas volume old.held.nodes new.held.nodes
   pub object : Fid
   pub leads : Leads new.held.nodes (root_of volume) path object
   pub node : Node
@@ -55,5 +54,5 @@ pub record WasShown (t : Task) (clients behind : ℕ → Option ClientState) (re
 -- In every cell that is kept, what a reply shows of a file, a link or a directory is in the object that the line's path leads to.
 abbrev pub WhatIsShownIsThere : Type 0
 WhatIsShownIsThere =
-    InEachKept (λ cell. (t : Task) (reply : Reply) (outside : List (List ℕ)) (new : StoredCell) (kind : NodeKind) → Happens cell (line.Task t) reply outside new → shown_by reply ≡ Some kind
-    → WasShown t (state_of cell.made).clients (state_of new.made).clients (state_of cell.made).replicas kind)
+    InEachKept (λ cell. (t : Task) (reply : Reply) (outside : List (List ℕ)) (new : Cell) (kind : NodeKind) → Happens cell (line.Task t) reply outside new → shown_by reply ≡ Some kind
+    → WasShown (CanReach cell) t (state_of cell).clients (state_of new).clients (state_of cell).replicas kind)

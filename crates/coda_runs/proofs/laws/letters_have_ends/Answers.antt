@@ -1,4 +1,4 @@
-use Rattle.coda_runs.proofs.Addressed.{letters_have_ends}
+use Rattle.coda_runs.proofs.Ended.{letters_have_ends}
 use Rattle.coda_runs.proofs.laws.letters_have_ends.Goals as goal
 
 pub returns : goal.returns

@@ -1,4 +1,4 @@
-use Rattle.coda_runs.proofs.Found.{what_others_hold_is_kept}
+use Rattle.coda_runs.proofs.Mounted.{what_others_hold_is_kept}
 use Rattle.coda_runs.proofs.laws.what_others_hold_is_kept.Goals as goal
 
 pub returns : goal.returns

@@ -1,4 +1,4 @@
-use Rattle.coda_runs.proofs.Resumable.{what_ran_can_be_resumed}
+use Rattle.coda_runs.proofs.Resumed.{what_ran_can_be_resumed}
 use Rattle.coda_runs.proofs.laws.what_ran_can_be_resumed.Goals as goal
 
 pub returns : goal.returns
