@@ -441,6 +441,6 @@ own_number cell client c e = by (asked (cell.clients client).life) e
         ap (λ (x : ClientState). x.number) (sym same) ∙ number_stays (new_client client header.cache) (cell.clients client).disk.history
 
 pub operations_are_performed : OperationsArePerformed
-operations_are_performed cell kept t number object answered new happens =
+operations_are_performed cell t number object answered new happens =
     let was = ended cell new t number object (Done number object) refl (line_ends cell (line.Task t) (Done number object) answered new refl happens) in
     (was, own_number cell was.client was.old was.was)

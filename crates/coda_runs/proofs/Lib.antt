@@ -3,6 +3,7 @@ pub mod Shelved
 pub mod Running
 pub mod Unlettered
 pub mod Meeting
+pub mod Becoming
 pub mod Coming
 pub mod Staying
 pub mod Lettered
@@ -21,6 +22,9 @@ pub mod Replying
 pub mod ShownUp
 pub mod OnMade
 pub mod Mounted
+pub mod Owned
 pub mod Whose
 pub mod NeverCame
 pub mod Resumed
+pub mod Overwriting
+pub mod Going

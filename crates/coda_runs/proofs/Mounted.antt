@@ -9,6 +9,7 @@ use Rattle.coda_journal.specs.declared.header.Header.{Header}
 use Rattle.coda_plain.specs.Cell.{ClientEntry}
 use Rattle.coda_plain.specs.Decisions.{ReplicaEntry}
 use Rattle.coda_plain.specs.Histories.{In}
+use Rattle.coda_script.specs.declared.line.Line.TheVariants as line
 use Rattle.coda_script.specs.declared.reply.Reply.{Reply}
 use Rattle.coda_script.specs.declared.reply.Reply.TheVariants.{Opened}
 use Rattle.coda_cell.specs.Refusing.{refusal}
@@ -18,10 +19,10 @@ use Rattle.coda_cell.specs.Steps.{Named, first_missing, no_room}
 use Rattle.coda_cell.proofs.Families.{put_here}
 use Rattle.coda_shelves.specs.Shelves.{client_header, replica_header}
 use Rattle.coda_shelves.specs.Cells.{Cell, asked, Stand, stand_of, with_client, with_replica}
-use Rattle.coda_shelves.specs.Lines.{Becoming, Unless, the_client, the_replica, is_others, opening, made_on, MountsRow, area_of, no_volume, no_client, with_row, MakesVolume, with_made, MakesClient, Payloads, client_payloads, replica_payloads, Recovers, AtReplicaOf, refused_fault, refused_foreign}
+use Rattle.coda_shelves.specs.Lines.{Becoming, Unless, the_client, the_replica, is_others, opening, made_on, MountsRow, area_of, no_volume, no_client, with_row, MakesVolume, with_made, MakesClient, Payloads, client_payloads, replica_payloads, Recovers, AtReplicaOf, Happens, refused_fault, refused_foreign}
 use Rattle.coda_shelves.proofs.Keeping.{same_disk}
 use Rattle.coda_shelves.proofs.Mounting.{at_put}
-use Rattle.coda_runs.specs.Again.{OwnDisksAreNotForeign, IsHeldByAnother, WhatOthersHoldIsKept, IsCounted, WhatIsMadeAgainIsCounted, StandsOnOthers, RecoveriesFindTheirOwn}
+use Rattle.coda_runs.specs.Again.{OwnDisksAreNotForeign, IsHeldByAnother, WhatOthersHoldIsKept, IsCounted, WhatIsMadeAgainIsCounted, StandsOnOthers}
 use Rattle.coda_runs.proofs.Running.{place_is}
 
 -- ---- one disk
@@ -251,10 +252,11 @@ replica_on_others : (cell new : Cell) (server at : ℕ) (outside : List (List �
 replica_on_others cell new server at outside None does = absurd does
 replica_on_others cell new server at outside (Some place) does = (place, refl, stands_on_others replica_payloads (cell.replicas place.row server) (with_replica cell place.row server) at outside new does)
 
-pub recoveries_find_their_own : RecoveriesFindTheirOwn
-recoveries_find_their_own = record {
-  clients = λ cell new client at outside does.
-      named_foreign cell at _ (Recovers client_payloads (cell.clients client) (with_client cell client)) outside new (stands_on_others client_payloads (cell.clients client) (with_client cell client) at outside new) does;
-  replicas = λ cell new server volume at outside does.
-      named_foreign cell at _ (AtReplicaOf cell (stand_of cell volume) server (Recovers replica_payloads)) outside new (replica_on_others cell new server at outside (stand_of cell volume)) does;
-}
+pub clients_stand : (cell new : Cell) (client at : ℕ) (outside : List (List ℕ)) → Happens cell (line.RecoverClient client) (refused_foreign at) outside new → StandsOnOthers (cell.clients client)
+clients_stand cell new client at outside does =
+    named_foreign cell at _ (Recovers client_payloads (cell.clients client) (with_client cell client)) outside new (stands_on_others client_payloads (cell.clients client) (with_client cell client) at outside new) does
+
+pub replicas_stand : (cell new : Cell) (server volume at : ℕ) (outside : List (List ℕ)) → Happens cell (line.RecoverReplica server volume) (refused_foreign at) outside new
+    → (place : Stand) × (stand_of cell volume ≡ Some place) × StandsOnOthers (cell.replicas place.row server)
+replicas_stand cell new server volume at outside does =
+    named_foreign cell at _ (AtReplicaOf cell (stand_of cell volume) server (Recovers replica_payloads)) outside new (replica_on_others cell new server at outside (stand_of cell volume)) does

@@ -11,21 +11,19 @@ use Rattle.coda_plain.specs.Decisions.{ReplicaEntry}
 use Rattle.coda_plain.specs.Histories.{In}
 use Rattle.coda_plain.specs.Moves.{Append, AtClient, AtReplica}
 use Rattle.coda_script.specs.declared.line.Line.{Line}
-use Rattle.coda_script.specs.declared.line.Line.TheVariants as line
 use Rattle.coda_script.specs.declared.reply.Reply.{Reply}
-use Rattle.coda_script.specs.declared.reply.Reply.TheVariants.{Accepted}
 use Rattle.coda_cell.specs.Made.{client_of, replica_of}
-use Rattle.coda_cell.specs.Refused.{Refused}
 use Rattle.coda_cell.specs.State.{put, ReplicaState, Event, VolumeMade, ClientMade, Ticked, LinkSet, Entered, Posted, Lost, Used, Kept, Stale}
-use Rattle.coda_cell.specs.Steps.{alone, first_missing, client_named, holder_named, Does}
+use Rattle.coda_cell.specs.Steps.{alone, client_named, holder_named, Does}
 use Rattle.coda_cell.proofs.Families.{put_here}
-use Rattle.coda_shelves.specs.Shelves.{client_header, replica_header}
+use Rattle.coda_shelves.specs.Shelves.{replica_header}
 use Rattle.coda_shelves.specs.Cells.{Row, Cell, asked, Stand, stand_of, state_of, with_client, with_replica, with_volume, grown, failing, failed, after, after_all}
-use Rattle.coda_shelves.specs.Lines.{Becoming, Stays, Unless, UnlessDown, needs, is_down_for, EndsBy, Acts, the_client, the_replica, is_others, MountsRow, area_of, no_volume, no_client, with_row, MakesVolume, with_made, MakesClient, client_payloads, replica_payloads, Crashes, Recovers, AtReplicaOf, DoesUp}
+use Rattle.coda_shelves.specs.Lines.{UnlessDown, needs, is_down_for, EndsBy, Acts, is_others, MountsRow, area_of, with_row, with_made}
 use Rattle.coda_shelves.specs.Placed.{ArePlaced}
 use Rattle.coda_runs.specs.Again.{MountsClient, MountsPlace, WhoNeverCameIsAsItWas}
 use Rattle.coda_runs.proofs.Ended.{home_is}
-use Rattle.coda_runs.proofs.Meeting.{met, is_met}
+use Rattle.coda_runs.proofs.Becoming.{Becomes, Stayed, ClientMoved, ReplicaMoved, ClientComes, VolumeComes, HasActed, becomes}
+use Rattle.coda_runs.proofs.Meeting.{met, is_met, ActsUp}
 use Rattle.coda_runs.proofs.Served.{put_off}
 use Rattle.coda_runs.proofs.Unlettered.{is_acting}
 use Rattle.coda_runs.proofs.Whose.{IsOf, AreOf, IsThere, Holds, of_front, of_next, of_more, of_line}
@@ -55,7 +53,7 @@ event_rows cell (Stale client fids) = refl
 -- ---- whatever a line does that acts
 
 -- what P tells of all cells that events of these leave, and that a failed append of these leaves
-module _ (old : Cell) (C : ℕ → Type 0) (R : ℕ → ℕ → Type 0) (P : Cell → Type 0) (first : P old)
+module _ (old : Cell) (C : ℕ → Type 0) (R : ℕ → ℕ → Type 0) (P : Cell → Type 0)
     (events_so : (events : List Event) → AreOf C R events → P (after_all old events)) (failed_so : (events : List Event) (append : Append) → AreOf C R events → IsOf C R (Entered append) → P (failed (after_all old events) append)) where
   ends_so : (events : List Event) (own reply : Reply) (new : Cell) → AreOf C R events → EndsBy old events own reply new → P new
   ends_so events own reply new are (inl all) = subst P (sym all.2) (events_so events are)
@@ -71,10 +69,6 @@ module _ (old : Cell) (C : ℕ → Type 0) (R : ℕ → ℕ → Type 0) (P : Cel
       let s = met old m.links in
       ends_so acts.events acts.own reply new (of_more (IsThere s acts.own acts.events) C (Holds s acts.own acts.events) R f g acts.events
       (of_line s acts.own acts.events said acting (subst (λ t. Does t said acts.own acts.events) m.is acts.does))) acts.ends
-
-  pub unless_so : (o : Option Refused) (own : Becoming) (reply : Reply) (outside : List (List ℕ)) (new : Cell) → (own reply outside new → P new) → Unless old o own reply outside new → P new
-  unless_so (Some why) own reply outside new rest does = subst P (sym does.2) first
-  unless_so None own reply outside new rest does = rest does
 
 -- ---- a client
 
@@ -123,11 +117,8 @@ module _ (old : Cell) (client : ℕ) (unmade : (old.clients client).life ≡ Unm
   failed_off cell (AtClient n entry) off = put_off cell.clients n client _ off
   failed_off cell (AtReplica server volume entry) off = volume_off cell (stand_of cell volume) server (failing entry)
 
-  abbrev unless_is : (o : Option Refused) (own : Becoming) (reply : Reply) (outside : List (List ℕ)) (new : Cell) → (own reply outside new → IsSame new) → Unless old o own reply outside new → IsSame new
-  unless_is = unless_so old Off Any IsSame refl (events_off old) (λ events append are is. failed_off (after_all old events) append is ∙ events_off old events are)
-
   acts_is : (said : Line) → is_acting said ≡ true → (reply : Reply) (new : Cell) → Acts old said reply new → IsSame new
-  acts_is = acts_so old Off Any IsSame refl (events_off old) (λ events append are is. failed_off (after_all old events) append is ∙ events_off old events are) there_off (λ server volume is. tt)
+  acts_is = acts_so old Off Any IsSame (events_off old) (λ events append are is. failed_off (after_all old events) append is ∙ events_off old events are) there_off (λ server volume is. tt)
 
   with_off : (n : ℕ) (actor : PlainActor ClientEntry) (new : Cell) → Off n → new ≡ with_client old n actor → IsSame new
   with_off n actor new off is = ap (λ (c : Cell). c.clients client) is ∙ put_off old.clients n client actor off
@@ -140,48 +131,24 @@ module _ (old : Cell) (client : ℕ) (unmade : (old.clients client).life ≡ Unm
   made_off true n area actor off = refl
   made_off false n area actor off = put_off old.clients n client actor off
 
-  crash_at : (reply : Reply) (outside : List (List ℕ)) (new : Cell) (o : Option Stand) (server : ℕ) → AtReplicaOf old o server (Crashes replica_payloads) reply outside new → IsSame new
-  crash_at reply outside new None server does = absurd does
-  crash_at reply outside new (Some at) server (header, is, (image, may, says, out, next)) = ap (λ (c : Cell). c.clients client) next
-
-  recover_at : (reply : Reply) (outside : List (List ℕ)) (new : Cell) (o : Option Stand) (server : ℕ) → AtReplicaOf old o server (Recovers replica_payloads) reply outside new → IsSame new
-  recover_at reply outside new None server does = absurd does
-  recover_at reply outside new (Some at) server (header, is, (ending, disk, told, mounts, from, says, out, next)) = ap (λ (c : Cell). c.clients client) next
-
   abbrev Is : Line → Cell → Type 0
   Is said new = IsSame new ⊎ MountsClient said client
 
-  client_up : (said : Line) (reply : Reply) (outside : List (List ℕ)) (new : Cell) → DoesUp old said reply outside new → Is said new
-  client_up (line.Volume volume servers area) reply outside new does = inl (unless_is (no_volume old volume (area_of area)) (MakesVolume old volume servers (area_of area)) reply outside new
-      (λ (endings, row, mounts, says, out, next). ap (λ (c : Cell). c.clients client) next ∙ row_off (is_others endings) volume servers (area_of area) row) does)
-  client_up (line.Client n blocks area) reply outside new does = elim (cases_eq client n) [
-    | inl same ↦ inr same
-    | inr off ↦ inl (unless_is (no_client old n (area_of area)) (MakesClient old n (client_header n blocks (area_of area))) reply outside new
-        (λ (ending, disk, told, mounts, says, out, next). ap (λ (c : Cell). c.clients client) next ∙ made_off (is_others (ending ∷ [])) n (area_of area) _ off) does)
-  ]
-  client_up (line.CrashClient n choice) reply outside new does = inl (unless_is (first_missing (the_client old n).named) (Crashes client_payloads (old.clients n) (with_client old n)) reply outside new
-      (λ (header, is, (image, may, says, out, next)). with_off n _ new (asks_off n header is) next) does)
-  client_up (line.CrashReplica server volume choice) reply outside new does =
-      inl (unless_is (first_missing (the_replica old server volume).named) (AtReplicaOf old (stand_of old volume) server (Crashes replica_payloads)) reply outside new (crash_at reply outside new (stand_of old volume) server) does)
-  client_up (line.RecoverClient n) reply outside new does = inl (unless_is (first_missing (the_client old n).named) (Recovers client_payloads (old.clients n) (with_client old n)) reply outside new
-      (λ (header, is, (ending, disk, told, mounts, from, says, out, next)). with_off n _ new (asks_off n header is) next) does)
-  client_up (line.RecoverReplica server volume) reply outside new does =
-      inl (unless_is (first_missing (the_replica old server volume).named) (AtReplicaOf old (stand_of old volume) server (Recovers replica_payloads)) reply outside new (recover_at reply outside new (stand_of old volume) server) does)
-  client_up (line.ArmClient n passes) reply outside new does = inl (unless_is (first_missing (the_client old n).named) (Stays old Accepted) reply outside new (λ did. ap (λ (c : Cell). c.clients client) did.2) does)
-  client_up (line.ArmReplica server volume passes) reply outside new does = inl (unless_is (first_missing (the_replica old server volume).named) (Stays old Accepted) reply outside new (λ did. ap (λ (c : Cell). c.clients client) did.2) does)
-  client_up (line.Link n server strength) reply outside new does = inl (acts_is (line.Link n server strength) refl reply new does.1)
-  client_up (line.Tick seconds) reply outside new does = inl (acts_is (line.Tick seconds) refl reply new does.1)
-  client_up (line.Task t) reply outside new does = inl (acts_is (line.Task t) refl reply new does.1)
-  client_up (line.ShowVolume server volume) reply outside new does = inl (acts_is (line.ShowVolume server volume) refl reply new does.1)
-  client_up (line.ShowLog n volume) reply outside new does = inl (acts_is (line.ShowLog n volume) refl reply new does.1)
-  client_up (line.Send n volume server window) reply outside new does = inl (acts_is (line.Send n volume server window) refl reply new does.1)
-  client_up (line.Deliver message) reply outside new does = inl (acts_is (line.Deliver message) refl reply new does.1)
-  client_up (line.Lose message) reply outside new does = inl (acts_is (line.Lose message) refl reply new does.1)
-  client_up _ reply outside new does = absurd does.1.does
+  acted_is : (said : Line) → is_acting said ≡ true → (reply : Reply) (outside : List (List ℕ)) (new : Cell) (b : Bool) → UnlessDown b old (ActsUp old said) reply outside new → IsSame new
+  acted_is said acting reply outside new true does = ap (λ (c : Cell). c.clients client) does.2
+  acted_is said acting reply outside new false does = acts_is said acting reply new does.1
 
-  client_down : (said : Line) (reply : Reply) (outside : List (List ℕ)) (new : Cell) (b : Bool) → UnlessDown b old (DoesUp old said) reply outside new → Is said new
-  client_down said reply outside new true does = inl (ap (λ (c : Cell). c.clients client) does.2)
-  client_down said reply outside new false does = client_up said reply outside new does
+  client_left : (said : Line) (reply : Reply) (outside : List (List ℕ)) (new : Cell) → Becomes old said reply outside new → Is said new
+  client_left said reply outside new (Stayed quiet whole is) = inl (ap (λ (c : Cell). c.clients client) is)
+  client_left said reply outside new (ClientMoved n actor quiet whole moved is) = inl (with_off n actor new (asks_off n moved.header moved.asks) is)
+  client_left said reply outside new (ReplicaMoved row server actor quiet whole moved is) = inl (ap (λ (c : Cell). c.clients client) is)
+  client_left said reply outside new (ClientComes n blocks area says free (ending, disk, told, mounts, answered, out, is)) = elim (cases_eq client n) [
+    | inl same ↦ inr (subst (λ l. MountsClient l client) (sym says) same)
+    | inr off ↦ inl (ap (λ (c : Cell). c.clients client) is ∙ made_off (is_others (ending ∷ [])) n (area_of area) _ off)
+  ]
+  client_left said reply outside new (VolumeComes volume servers area says free (endings, row, mounts, answered, out, is)) =
+      inl (ap (λ (c : Cell). c.clients client) is ∙ row_off (is_others endings) volume servers (area_of area) row)
+  client_left said reply outside new (HasActed acting does) = inl (acted_is said acting reply outside new (is_down_for (needs old said)) does)
 
 -- ---- a replica
 
@@ -256,11 +223,8 @@ module _ (old : Cell) (placed : ArePlaced old) (row server : ℕ) (unmade : (old
   failed_is : (events : List Event) (append : Append) → AreOf AnyClient OffPlace events → IsOf AnyClient OffPlace (Entered append) → IsSamePlace (failed (after_all old events) append)
   failed_is events append are is = (let all = place_events_off old refl events are in place_failed_off (after_all old events) all.1 append is ∙ all.0)
 
-  abbrev place_unless_is : (o : Option Refused) (own : Becoming) (reply : Reply) (outside : List (List ℕ)) (new : Cell) → (own reply outside new → IsSamePlace new) → Unless old o own reply outside new → IsSamePlace new
-  place_unless_is = unless_so old AnyClient OffPlace IsSamePlace refl (λ events are. (place_events_off old refl events are).0) failed_is
-
   place_acts_is : (said : Line) → is_acting said ≡ true → (reply : Reply) (new : Cell) → Acts old said reply new → IsSamePlace new
-  place_acts_is = acts_so old AnyClient OffPlace IsSamePlace refl (λ events are. (place_events_off old refl events are).0) failed_is (λ client is. tt) holds_off
+  place_acts_is = acts_so old AnyClient OffPlace IsSamePlace (λ events are. (place_events_off old refl events are).0) failed_is (λ client is. tt) holds_off
 
   place_made_off : (others : Bool) (n area : ℕ) (actor : PlainActor ClientEntry) → IsSamePlace (with_made others old n area actor)
   place_made_off true n area actor = refl
@@ -280,59 +244,32 @@ module _ (old : Cell) (placed : ArePlaced old) (row server : ℕ) (unmade : (old
   place_asks_off : (r s : ℕ) (header : Header) → asked (old.replicas r s).life ≡ Some header → row ≡ r → server ≡ s → ⊥
   place_asks_off r s header asks row_is server_is = never_asks (old.replicas row server).life header unmade ((λ i. asked (old.replicas (row_is i) (server_is i)).life) ∙ asks)
 
-  place_crash_at : (reply : Reply) (outside : List (List ℕ)) (new : Cell) (o : Option Stand) (n : ℕ) → AtReplicaOf old o n (Crashes replica_payloads) reply outside new → IsSamePlace new
-  place_crash_at reply outside new None n does = absurd does
-  place_crash_at reply outside new (Some at) n (header, is, (image, may, says, out, next)) = ap (λ (c : Cell). c.replicas row server) next ∙ place_off old at.row n _ (place_asks_off at.row n header is)
-
-  place_recover_at : (reply : Reply) (outside : List (List ℕ)) (new : Cell) (o : Option Stand) (n : ℕ) → AtReplicaOf old o n (Recovers replica_payloads) reply outside new → IsSamePlace new
-  place_recover_at reply outside new None n does = absurd does
-  place_recover_at reply outside new (Some at) n (header, is, (ending, disk, told, mounts, from, says, out, next)) = ap (λ (c : Cell). c.replicas row server) next ∙ place_off old at.row n _ (place_asks_off at.row n header is)
-
   abbrev IsPlace : Line → Cell → Type 0
   IsPlace said new = IsSamePlace new ⊎ MountsPlace old said row server
 
-  makes_volume : (volume : ℕ) (servers : List ℕ) (area : ℕ) (reply : Reply) (outside : List (List ℕ)) (new : Cell) → MakesVolume old volume servers area reply outside new → IsSamePlace new ⊎ ((row ≡ length old.rows) × In server servers)
-  makes_volume volume servers area reply outside new (endings, actors, mounts, says, out, next) =
-      let left = λ (same : row ≡ length old.rows → actors server ≡ old.replicas (length old.rows) server). ap (λ (c : Cell). c.replicas row server) next ∙ place_row_off (is_others endings) volume servers area actors same in
+  place_acted_is : (said : Line) → is_acting said ≡ true → (reply : Reply) (outside : List (List ℕ)) (new : Cell) (b : Bool) → UnlessDown b old (ActsUp old said) reply outside new → IsSamePlace new
+  place_acted_is said acting reply outside new true does = ap (λ (c : Cell). c.replicas row server) does.2
+  place_acted_is said acting reply outside new false does = place_acts_is said acting reply new does.1
+
+  replica_left : (said : Line) (reply : Reply) (outside : List (List ℕ)) (new : Cell) → Becomes old said reply outside new → IsPlace said new
+  replica_left said reply outside new (Stayed quiet whole is) = inl (ap (λ (c : Cell). c.replicas row server) is)
+  replica_left said reply outside new (ClientMoved n actor quiet whole moved is) = inl (ap (λ (c : Cell). c.replicas row server) is)
+  replica_left said reply outside new (ReplicaMoved r s actor quiet whole moved is) = inl (ap (λ (c : Cell). c.replicas row server) is ∙ place_off old r s actor (place_asks_off r s moved.header moved.asks))
+  replica_left said reply outside new (ClientComes n blocks area says free (ending, disk, told, mounts, answered, out, is)) =
+      inl (ap (λ (c : Cell). c.replicas row server) is ∙ place_made_off (is_others (ending ∷ [])) n (area_of area) _)
+  replica_left said reply outside new (VolumeComes volume servers area says free (endings, actors, mounts, answered, out, is)) =
+      let left = λ (same : row ≡ length old.rows → actors server ≡ old.replicas (length old.rows) server). ap (λ (c : Cell). c.replicas row server) is ∙ place_row_off (is_others endings) volume servers (area_of area) actors same in
       elim (cases_eq row (length old.rows)) [
-        | inl here ↦ elim (row_else (is_others endings) (replica_header volume servers area) server servers endings (old.replicas (length old.rows)) actors mounts) [ inl same ↦ inl (left (λ e. same)) | inr there ↦ inr (here, there) ]
+        | inl here ↦ elim (row_else (is_others endings) (replica_header volume servers (area_of area)) server servers endings (old.replicas (length old.rows)) actors mounts) [
+          | inl same ↦ inl (left (λ e. same))
+          | inr there ↦ inr (subst (λ l. MountsPlace old l row server) (sym says) (here, there))
+        ]
         | inr off ↦ inl (left (λ e. absurd (off e)))
       ]
-
-  replica_up : (said : Line) (reply : Reply) (outside : List (List ℕ)) (new : Cell) → DoesUp old said reply outside new → IsPlace said new
-  replica_up (line.Volume volume servers area) reply outside new does = by (no_volume old volume (area_of area)) does
-    where
-      by : (o : Option Refused) → Unless old o (MakesVolume old volume servers (area_of area)) reply outside new → IsSamePlace new ⊎ ((row ≡ length old.rows) × In server servers)
-      by (Some why) does = inl (ap (λ (c : Cell). c.replicas row server) does.2)
-      by None does = makes_volume volume servers (area_of area) reply outside new does
-  replica_up (line.Client n blocks area) reply outside new does = inl (place_unless_is (no_client old n (area_of area)) (MakesClient old n (client_header n blocks (area_of area))) reply outside new
-      (λ (ending, disk, told, mounts, says, out, next). ap (λ (c : Cell). c.replicas row server) next ∙ place_made_off (is_others (ending ∷ [])) n (area_of area) _) does)
-  replica_up (line.CrashClient n choice) reply outside new does = inl (place_unless_is (first_missing (the_client old n).named) (Crashes client_payloads (old.clients n) (with_client old n)) reply outside new
-      (λ (header, is, (image, may, says, out, next)). ap (λ (c : Cell). c.replicas row server) next) does)
-  replica_up (line.CrashReplica n volume choice) reply outside new does =
-      inl (place_unless_is (first_missing (the_replica old n volume).named) (AtReplicaOf old (stand_of old volume) n (Crashes replica_payloads)) reply outside new (place_crash_at reply outside new (stand_of old volume) n) does)
-  replica_up (line.RecoverClient n) reply outside new does = inl (place_unless_is (first_missing (the_client old n).named) (Recovers client_payloads (old.clients n) (with_client old n)) reply outside new
-      (λ (header, is, (ending, disk, told, mounts, from, says, out, next)). ap (λ (c : Cell). c.replicas row server) next) does)
-  replica_up (line.RecoverReplica n volume) reply outside new does =
-      inl (place_unless_is (first_missing (the_replica old n volume).named) (AtReplicaOf old (stand_of old volume) n (Recovers replica_payloads)) reply outside new (place_recover_at reply outside new (stand_of old volume) n) does)
-  replica_up (line.ArmClient n passes) reply outside new does = inl (place_unless_is (first_missing (the_client old n).named) (Stays old Accepted) reply outside new (λ did. ap (λ (c : Cell). c.replicas row server) did.2) does)
-  replica_up (line.ArmReplica n volume passes) reply outside new does = inl (place_unless_is (first_missing (the_replica old n volume).named) (Stays old Accepted) reply outside new (λ did. ap (λ (c : Cell). c.replicas row server) did.2) does)
-  replica_up (line.Link n s strength) reply outside new does = inl (place_acts_is (line.Link n s strength) refl reply new does.1)
-  replica_up (line.Tick seconds) reply outside new does = inl (place_acts_is (line.Tick seconds) refl reply new does.1)
-  replica_up (line.Task t) reply outside new does = inl (place_acts_is (line.Task t) refl reply new does.1)
-  replica_up (line.ShowVolume s volume) reply outside new does = inl (place_acts_is (line.ShowVolume s volume) refl reply new does.1)
-  replica_up (line.ShowLog n volume) reply outside new does = inl (place_acts_is (line.ShowLog n volume) refl reply new does.1)
-  replica_up (line.Send n volume s window) reply outside new does = inl (place_acts_is (line.Send n volume s window) refl reply new does.1)
-  replica_up (line.Deliver message) reply outside new does = inl (place_acts_is (line.Deliver message) refl reply new does.1)
-  replica_up (line.Lose message) reply outside new does = inl (place_acts_is (line.Lose message) refl reply new does.1)
-  replica_up _ reply outside new does = absurd does.1.does
-
-  replica_down : (said : Line) (reply : Reply) (outside : List (List ℕ)) (new : Cell) (b : Bool) → UnlessDown b old (DoesUp old said) reply outside new → IsPlace said new
-  replica_down said reply outside new true does = inl (ap (λ (c : Cell). c.replicas row server) does.2)
-  replica_down said reply outside new false does = replica_up said reply outside new does
+  replica_left said reply outside new (HasActed acting does) = inl (place_acted_is said acting reply outside new (is_down_for (needs old said)) does)
 
 pub who_never_came_is_as_it_was : WhoNeverCameIsAsItWas
 who_never_came_is_as_it_was = record {
-  clients = λ cell new said reply outside client does unmade. client_down cell client unmade said reply outside new (is_down_for (needs cell said)) does;
-  replicas = λ cell new said reply outside row server placed does unmade. replica_down cell placed row server unmade said reply outside new (is_down_for (needs cell said)) does;
+  clients = λ cell new said reply outside client does unmade. client_left cell client unmade said reply outside new (becomes cell reply outside new said does);
+  replicas = λ cell new said reply outside row server placed does unmade. replica_left cell placed row server unmade said reply outside new (becomes cell reply outside new said does);
 }

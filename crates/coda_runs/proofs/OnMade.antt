@@ -39,12 +39,13 @@ use Rattle.coda_actors.specs.Plain.{PlainDisk, PlainActor, Mounts}
 use Rattle.coda_actors.specs.declared.slot.Mounting.{Mounting}
 use Rattle.coda_shelves.specs.Shelves.{blank_shelves, client_header, entries_on}
 use Rattle.coda_shelves.specs.Cells.{Cell, begun_on, Stand, stand_of, state_of, with_client, with_volume, grown, failing, failed, after, after_all}
-use Rattle.coda_shelves.specs.Lines.{needs, is_down_for, meets, Acts, Becoming, Unless as UnlessShelved, UnlessDown, the_client, the_replica, is_others, made_on, area_of, no_volume, no_client, with_row, MakesVolume, with_made, MakesClient, client_payloads, replica_payloads, Crashes, Recovers, AtReplicaOf, Stays, DoesUp}
+use Rattle.coda_shelves.specs.Lines.{needs, is_down_for, meets, Acts, UnlessDown, is_others, made_on, area_of, with_row, with_made}
 use Rattle.coda_shelves.proofs.Mounting.{at_put}
 use Rattle.coda_shelves.proofs.Taken.{mounted_taken}
 use Rattle.coda_runs.specs.Shelved.{LineGives}
 use Rattle.coda_runs.specs.Volumes.{IsSameOn, DidNoMore, LinesActOnMadeVolumes, ScriptsActOnMadeVolumes}
-use Rattle.coda_runs.proofs.Meeting.{is_met}
+use Rattle.coda_runs.proofs.Becoming.{Becomes, Stayed, ClientMoved, ReplicaMoved, ClientComes, VolumeComes, HasActed, becomes}
+use Rattle.coda_runs.proofs.Meeting.{is_met, ActsUp}
 use Rattle.coda_runs.proofs.Staying.{happens_stay}
 
 -- ---- whose deeds are on which volumes
@@ -358,37 +359,22 @@ module _ (old : Cell) (reply : Reply) (outside : List (List ℕ)) (new : Cell) (
             (failed_same V volume not (after_all old stop.done) stop.next (on_next V stop.done (Entered stop.next) stop.rest (subst (AreOn V) stop.is on))))
       ]
 
-  unless_more : (o : Option Refused) (own : Becoming) → (own reply outside new → NoMore) → UnlessShelved old o own reply outside new → NoMore
-  unless_more (Some why) own rest does = as_in old does.2 (all_same volume old)
-  unless_more None own rest does = rest does
+  acted_more : (said : Line) (b : Bool) → UnlessDown b old (ActsUp old said) reply outside new → NoMore
+  acted_more said true does = as_in old does.2 (all_same volume old)
+  acted_more said false does = acts_more said does.1
 
-  crash_replica_more : (o : Option Stand) (server : ℕ) → AtReplicaOf old o server (Crashes replica_payloads) reply outside new → NoMore
-  crash_replica_more None server does = absurd does
-  crash_replica_more (Some at) server (header, is, (image, may, says, out, next)) = as_in _ next (all_same volume old)
-
-  recover_replica_more : (o : Option Stand) (server : ℕ) → AtReplicaOf old o server (Recovers replica_payloads) reply outside new → NoMore
-  recover_replica_more None server does = absurd does
-  recover_replica_more (Some at) server (header, is, (ending, disk, told, mounts, from, says, out, next)) = as_in _ next (all_same volume old)
-
-  up_more : (said : Line) → DoesUp old said reply outside new → NoMore
-  up_more (line.Volume at servers area) does = unless_more (no_volume old at (area_of area)) (MakesVolume old at servers (area_of area))
-      (λ (endings, row, mounts, says, out, next). as_in _ next (row_same volume (is_others endings) old at servers (area_of area) row)) does
-  up_more (line.Client at blocks area) does = unless_more (no_client old at (area_of area)) (MakesClient old at (client_header at blocks (area_of area)))
-      (λ (ending, disk, told, mounts, says, out, next). as_in _ next (made_same volume (is_others (ending ∷ [])) old at (area_of area) (made_on false (client_header at blocks (area_of area)) (old.clients at) disk ending)
-      (mounted_same volume (client_header at blocks (area_of area)) (old.clients at).disk disk ending mounts))) does
-  up_more (line.CrashClient at choice) does = unless_more (first_missing (the_client old at).named) (Crashes client_payloads (old.clients at) (with_client old at))
-      (λ (header, is, (image, may, says, out, next)). as_in _ next (client_same volume old at _ (same_on volume (old.clients at).disk))) does
-  up_more (line.CrashReplica server at choice) does = unless_more (first_missing (the_replica old server at).named) (AtReplicaOf old (stand_of old at) server (Crashes replica_payloads)) (crash_replica_more (stand_of old at) server) does
-  up_more (line.RecoverClient at) does = unless_more (first_missing (the_client old at).named) (Recovers client_payloads (old.clients at) (with_client old at))
-      (λ (header, is, (ending, disk, told, mounts, from, says, out, next)). as_in _ next (client_same volume old at _ (mounted_same volume header (old.clients at).disk disk ending mounts))) does
-  up_more (line.RecoverReplica server at) does = unless_more (first_missing (the_replica old server at).named) (AtReplicaOf old (stand_of old at) server (Recovers replica_payloads)) (recover_replica_more (stand_of old at) server) does
-  up_more (line.ArmClient at passes) does = unless_more (first_missing (the_client old at).named) (Stays old IsAccepted) (λ did. as_in old did.2 (all_same volume old)) does
-  up_more (line.ArmReplica server at passes) does = unless_more (first_missing (the_replica old server at).named) (Stays old IsAccepted) (λ did. as_in old did.2 (all_same volume old)) does
-  up_more said does = acts_more said does.1
-
-  line_more : (said : Line) (b : Bool) → UnlessDown b old (DoesUp old said) reply outside new → NoMore
-  line_more said true does = as_in old does.2 (all_same volume old)
-  line_more said false does = up_more said does
+  becomes_more : (said : Line) → Becomes old said reply outside new → NoMore
+  becomes_more said (Stayed quiet whole is) = as_in old is (all_same volume old)
+  becomes_more said (ClientMoved client actor quiet whole moved is) = as_in _ is (client_same volume old client actor (elim moved.disk [
+    | inl same ↦ subst (λ d. IsSameOn volume d (old.clients client).disk) (sym same) (same_on volume (old.clients client).disk)
+    | inr (ending, mounts) ↦ mounted_same volume moved.header (old.clients client).disk actor.disk ending mounts
+  ]))
+  becomes_more said (ReplicaMoved row server actor quiet whole moved is) = as_in _ is (all_same volume old)
+  becomes_more said (ClientComes client blocks area says free (ending, disk, told, mounts, answered, out, is)) =
+      let header = client_header client blocks (area_of area) in
+      as_in _ is (made_same volume (is_others (ending ∷ [])) old client (area_of area) (made_on false header (old.clients client) disk ending) (mounted_same volume header (old.clients client).disk disk ending mounts))
+  becomes_more said (VolumeComes at servers area says free (endings, row, mounts, answered, out, is)) = as_in _ is (row_same volume (is_others endings) old at servers (area_of area) row)
+  becomes_more said (HasActed acting does) = acted_more said (is_down_for (needs old said)) does
 
 -- a volume that isn't made behind a line wasn't made before it
 unmade : (old new : Cell) → ((volume : ℕ) (at : Stand) → stand_of old volume ≡ Some at → stand_of new volume ≡ Some at) → (volume : ℕ) → stand_of new volume ≡ None → stand_of old volume ≡ None
@@ -401,7 +387,7 @@ unmade old new stay volume none = by (stand_of old volume) refl
 pub lines_act_on_made_volumes : LinesActOnMadeVolumes
 lines_act_on_made_volumes old new said reply outside does client volume none =
     let was = unmade old new (happens_stay old reply outside new said does).volumes volume none in
-    record { unmade = was; before = line_more old reply outside new volume was said (is_down_for (needs old said)) does client }
+    record { unmade = was; before = becomes_more old reply outside new volume was said (becomes old reply outside new said does) client }
 
 -- ---- runs
 

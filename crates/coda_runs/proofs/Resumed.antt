@@ -1,30 +1,28 @@
 -- What one run made can be made again: the lines that made it do so.
-use Rattle.std.proofs.Common.{◌≡◌, ℕ, ◌+◌, ◌==◌, ◌||◌, Bool, true, false, cond, List, [], ◌∷◌, ◌++◌, length, Option, Some, None, is_some, refl, sym, ap, ◌∙◌, subst, inl, inr, ◌⊎◌}
+use Rattle.std.proofs.Common.{◌≡◌, ◌&&◌, ℕ, ◌+◌, ◌==◌, ◌||◌, true, false, cond, List, [], ◌∷◌, ◌++◌, length, Option, Some, None, is_some, refl, sym, ap, ◌∙◌, subst, inl, inr, ◌⊎◌}
 use Rattle.std.specs.Prelude.{nat_le, nat_lt}
 use Rattle.std.specs.List.{AllByRecursion}
-use Rattle.coda_actors.specs.Plain.{PlainActor, Life, Unmade, Down, Up}
+use Rattle.coda_actors.specs.Plain.{PlainActor}
 use Rattle.coda_actors.specs.declared.slot.Mounting.{Mounting}
 use Rattle.coda_actors.specs.declared.slot.Mounting.TheVariants.{Entries, Foreign, DiskFault, Memory}
 use Rattle.coda_engine.specs.Run.{Runs}
 use Rattle.coda_journal.specs.declared.header.Header.{Header}
 use Rattle.coda_plain.specs.Cell.{ClientEntry}
 use Rattle.coda_plain.specs.Decisions.{ReplicaEntry}
-use Rattle.coda_plain.specs.Moves.{Append, AtClient, AtReplica}
 use Rattle.coda_script.specs.Ranges.{InRange}
 use Rattle.coda_script.specs.declared.line.Line.{Line}
 use Rattle.coda_script.specs.declared.line.Line.TheVariants as line
 use Rattle.coda_script.specs.declared.reply.Reply.{Reply}
-use Rattle.coda_script.specs.declared.reply.Reply.TheVariants.{Accepted}
 use Rattle.coda_cell.specs.Refused.{Refused, AlreadyThere}
-use Rattle.coda_cell.specs.State.{put, Event, VolumeMade, ClientMade, Ticked, LinkSet, Entered, Posted, Lost, Used, Kept, Stale}
-use Rattle.coda_cell.specs.Steps.{first_missing, no_room, is_alone, alone}
+use Rattle.coda_cell.specs.State.{put}
+use Rattle.coda_cell.specs.Steps.{no_room, is_alone, alone}
 use Rattle.coda_shelves.specs.Shelves.{client_header, replica_header}
-use Rattle.coda_shelves.specs.Cells.{Row, Cell, begun_on, asked, Stand, stand_from, stand_of, with_client, with_replica, with_volume, grown, fallen, failing, failed, after, after_all}
-use Rattle.coda_shelves.specs.Lines.{is_built, Becoming, Stays, Unless, UnlessDown, needs, is_down_for, EndsBy, Acts, the_client, the_replica, is_others, opening, made_on, MountsRow, area_of, no_volume, no_client, with_row, MakesVolume, with_made, MakesClient, client_payloads, replica_payloads, Crashes, Recovers, AtReplicaOf, DoesUp, Happens, refused_fault, refused_foreign}
-use Rattle.coda_shelves.proofs.FromBlank.{recovered_asks}
+use Rattle.coda_shelves.specs.Cells.{Row, Cell, begun_on, asked, stand_from}
+use Rattle.coda_shelves.specs.Lines.{is_built, Unless, needs, is_down_for, is_others, opening, made_on, MountsRow, area_of, with_row, MakesVolume, with_made, MakesClient, Happens, refused_fault, refused_foreign}
 use Rattle.coda_shelves.proofs.Mounting.{at_put, at_place}
 use Rattle.coda_runs.specs.Resumed.{Happen, NoneIsForeign, WhatRanCanBeResumed}
 use Rattle.coda_runs.specs.Shelved.{LineGives}
+use Rattle.coda_runs.proofs.Becoming.{Becomes, Stayed, ClientMoved, ReplicaMoved, ClientComes, VolumeComes, HasActed, becomes, Body, body, acts_so}
 use Rattle.coda_runs.proofs.Shelved.{read_in_range}
 
 -- ---- what is made in a cell
@@ -35,8 +33,11 @@ pub record Made : Type 0 where
   pub rows : List Row
   pub areas : ℕ
 
+abbrev made_in : Body → Made
+made_in b = record { clients = λ client. asked (b.clients client).life; replicas = λ row server. asked (b.replicas row server).life; rows = b.rows; areas = b.areas }
+
 abbrev made_of : Cell → Made
-made_of cell = record { clients = λ client. asked (cell.clients client).life; replicas = λ row server. asked (cell.replicas row server).life; rows = cell.rows; areas = cell.areas }
+made_of cell = made_in (body cell)
 
 abbrev nothing : Made
 nothing = record { clients = λ client. None; replicas = λ row server. None; rows = []; areas = 0 }
@@ -81,41 +82,12 @@ spelled made (said ∷ lines) can = ((can.0.0, can.0.1), spelled (with_line made
 
 -- ---- lines that make nothing
 
-client_as : (cell : Cell) (client : ℕ) (actor : PlainActor ClientEntry) → asked actor.life ≡ asked (cell.clients client).life → made_of (with_client cell client actor) ≡ made_of cell
-client_as cell client actor same = λ i. record (made_of cell) { clients = λ c. at_put (λ n a. asked a.life ≡ asked (cell.clients n).life) cell.clients client actor same (λ n. refl) c i }
+client_as : (b : Body) (client : ℕ) (actor : PlainActor ClientEntry) → asked actor.life ≡ asked (b.clients client).life → made_in (record b { clients = put b.clients client actor }) ≡ made_in b
+client_as b client actor same = λ i. record (made_in b) { clients = λ c. at_put (λ n a. asked a.life ≡ asked (b.clients n).life) b.clients client actor same (λ n. refl) c i }
 
-replica_as : (cell : Cell) (row server : ℕ) (actor : PlainActor ReplicaEntry) → asked actor.life ≡ asked (cell.replicas row server).life → made_of (with_replica cell row server actor) ≡ made_of cell
-replica_as cell row server actor same = λ i. record (made_of cell) { replicas = λ r s. at_place (λ m n a. asked a.life ≡ asked (cell.replicas m n).life) cell.replicas row server actor same (λ m n. refl) r s i }
-
-volume_as : (cell : Cell) (o : Option Stand) (server : ℕ) (f : PlainActor ReplicaEntry → PlainActor ReplicaEntry) → ((a : PlainActor ReplicaEntry) → asked (f a).life ≡ asked a.life) → made_of (with_volume cell o server f) ≡ made_of cell
-volume_as cell None server f same = refl
-volume_as cell (Some at) server f same = replica_as cell at.row server (f (cell.replicas at.row server)) (same (cell.replicas at.row server))
-
-event_as : (cell : Cell) (event : Event) → made_of (after cell event) ≡ made_of cell
-event_as cell (VolumeMade volume server) = refl
-event_as cell (ClientMade client blocks) = refl
-event_as cell (Ticked seconds) = refl
-event_as cell (LinkSet client server strength) = refl
-event_as cell (Entered (AtClient client entry)) = client_as cell client (grown entry (cell.clients client)) refl
-event_as cell (Entered (AtReplica server volume entry)) = volume_as cell (stand_of cell volume) server (grown entry) (λ a. refl)
-event_as cell (Posted sent) = refl
-event_as cell (Lost message) = refl
-event_as cell (Used client fids) = refl
-event_as cell (Kept client server fid) = refl
-event_as cell (Stale client fids) = refl
-
-events_as : (cell : Cell) (events : List Event) → made_of (after_all cell events) ≡ made_of cell
-events_as cell [] = refl
-events_as cell (event ∷ events) = events_as (after cell event) events ∙ event_as cell event
-
-fallen_as : (life : Life) → asked (fallen life) ≡ asked life
-fallen_as Unmade = refl
-fallen_as (Down header) = refl
-fallen_as (Up header) = refl
-
-failed_as : (cell : Cell) (append : Append) → made_of (failed cell append) ≡ made_of cell
-failed_as cell (AtClient client entry) = client_as cell client (failing entry (cell.clients client)) (fallen_as (cell.clients client).life)
-failed_as cell (AtReplica server volume entry) = volume_as cell (stand_of cell volume) server (failing entry) (λ a. fallen_as a.life)
+replica_as : (b : Body) (row server : ℕ) (actor : PlainActor ReplicaEntry) → asked actor.life ≡ asked (b.replicas row server).life
+    → made_in (record b { replicas = λ r s. cond ((r == row) && (s == server)) actor (b.replicas r s) }) ≡ made_in b
+replica_as b row server actor same = λ i. record (made_in b) { replicas = λ r s. at_place (λ m n a. asked a.life ≡ asked (b.replicas m n).life) b.replicas row server actor same (λ m n. refl) r s i }
 
 -- ---- lines that make an actor
 
@@ -189,57 +161,17 @@ module _ (old : Cell) (reply : Reply) (outside : List (List ℕ)) (new : Cell) w
   had_made said free (inl same) = inl same.0
   had_made said free (inr made) = inr (free, made)
 
-  stays_as : (said : Line) → new ≡ old → HasRoomFor said
-  stays_as said is = inl (ap made_of is)
-
-  unless_as : (said : Line) (o : Option Refused) (own : Becoming) → (o ≡ None → own reply outside new → HasRoomFor said) → Unless old o own reply outside new → HasRoomFor said
-  unless_as said (Some why) own rest does = stays_as said does.2
-  unless_as said None own rest does = rest refl does
-
-  crash_as : (o : Option Stand) (server : ℕ) → AtReplicaOf old o server (Crashes replica_payloads) reply outside new → made_of new ≡ made_of old
-  crash_as None server does = absurd does
-  crash_as (Some at) server (h, is, (image, may, says, out, next)) = ap made_of next ∙ replica_as old at.row server _ (sym is)
-
-  recover_as : (o : Option Stand) (server : ℕ) → AtReplicaOf old o server (Recovers replica_payloads) reply outside new → made_of new ≡ made_of old
-  recover_as None server does = absurd does
-  recover_as (Some at) server (h, is, (ending, disk, told, mounts, from, says, out, next)) = ap made_of next ∙ replica_as old at.row server _ (recovered_asks h ending ∙ sym is)
-
-  ends_as : (events : List Event) (own : Reply) → EndsBy old events own reply new → made_of new ≡ made_of old
-  ends_as events own (inl all) = ap made_of all.2 ∙ events_as old events
-  ends_as events own (inr (inl full)) = ap made_of full.4 ∙ events_as old full.0.done
-  ends_as events own (inr (inr fault)) = ap made_of fault.3 ∙ failed_as (after_all old fault.0.done) fault.0.next ∙ events_as old fault.0.done
-
-  acts_as : (said : Line) → (outside ≡ []) × Acts old said reply new → HasRoomFor said
-  acts_as said (out, acts) = inl (ends_as acts.events acts.own acts.ends)
-
-  up_as : (said : Line) → is_built said ≡ true → DoesUp old said reply outside new → HasRoomFor said
-  up_as (line.Volume volume servers area) built does = unless_as (line.Volume volume servers area) (no_volume old volume (area_of area)) (MakesVolume old volume servers (area_of area))
-      (λ free did. had_made (line.Volume volume servers area) free (volume_made volume servers area built did)) does
-  up_as (line.Client client blocks area) built does = unless_as (line.Client client blocks area) (no_client old client (area_of area)) (MakesClient old client (client_header client blocks (area_of area)))
-      (λ free did. had_made (line.Client client blocks area) free (client_made client blocks area did)) does
-  up_as (line.CrashClient client choice) built does = unless_as (line.CrashClient client choice) (first_missing (the_client old client).named) (Crashes client_payloads (old.clients client) (with_client old client))
-      (λ all (h, is, (image, may, says, out, next)). inl (ap made_of next ∙ client_as old client _ (sym is))) does
-  up_as (line.CrashReplica server volume choice) built does = unless_as (line.CrashReplica server volume choice) (first_missing (the_replica old server volume).named) (AtReplicaOf old (stand_of old volume) server (Crashes replica_payloads))
-      (λ all did. inl (crash_as (stand_of old volume) server did)) does
-  up_as (line.RecoverClient client) built does = unless_as (line.RecoverClient client) (first_missing (the_client old client).named) (Recovers client_payloads (old.clients client) (with_client old client))
-      (λ all (h, is, (ending, disk, told, mounts, from, says, out, next)). inl (ap made_of next ∙ client_as old client _ (recovered_asks h ending ∙ sym is))) does
-  up_as (line.RecoverReplica server volume) built does = unless_as (line.RecoverReplica server volume) (first_missing (the_replica old server volume).named) (AtReplicaOf old (stand_of old volume) server (Recovers replica_payloads))
-      (λ all did. inl (recover_as (stand_of old volume) server did)) does
-  up_as (line.ArmClient client passes) built does = unless_as (line.ArmClient client passes) (first_missing (the_client old client).named) (Stays old Accepted) (λ all did. stays_as (line.ArmClient client passes) did.2) does
-  up_as (line.ArmReplica server volume passes) built does = unless_as (line.ArmReplica server volume passes) (first_missing (the_replica old server volume).named) (Stays old Accepted) (λ all did. stays_as (line.ArmReplica server volume passes) did.2) does
-  up_as (line.Link client server strength) built does = acts_as (line.Link client server strength) does
-  up_as (line.Tick seconds) built does = acts_as (line.Tick seconds) does
-  up_as (line.Task t) built does = acts_as (line.Task t) does
-  up_as (line.ShowVolume server volume) built does = acts_as (line.ShowVolume server volume) does
-  up_as (line.ShowLog client volume) built does = acts_as (line.ShowLog client volume) does
-  up_as (line.Send client volume server window) built does = acts_as (line.Send client volume server window) does
-  up_as (line.Deliver message) built does = acts_as (line.Deliver message) does
-  up_as (line.Lose message) built does = acts_as (line.Lose message) does
-  up_as _ built does = cc
-
-  down_as : (said : Line) (b : Bool) → is_built said ≡ true → UnlessDown b old (DoesUp old said) reply outside new → HasRoomFor said
-  down_as said true built does = stays_as said does.2
-  down_as said false built does = up_as said built does
+  becomes_as : (said : Line) → is_built said ≡ true → Becomes old said reply outside new → HasRoomFor said
+  becomes_as said built (Stayed quiet whole is) = inl (ap made_of is)
+  becomes_as said built (ClientMoved client actor quiet whole moved is) = inl (ap made_of is ∙ client_as (body old) client actor (moved.still ∙ sym moved.asks))
+  becomes_as said built (ReplicaMoved row server actor quiet whole moved is) = inl (ap made_of is ∙ replica_as (body old) row server actor (moved.still ∙ sym moved.asks))
+  becomes_as said built (ClientComes client blocks area says free did) =
+      subst HasRoomFor (sym says) (had_made (line.Client client blocks area) free (client_made client blocks area did))
+  becomes_as said built (VolumeComes volume servers area says free did) =
+      subst HasRoomFor (sym says) (had_made (line.Volume volume servers area) free (volume_made volume servers area (sym (ap is_built says) ∙ built) did))
+  becomes_as said built (HasActed acting does) =
+      inl (acts_so (λ b. made_in b ≡ made_of old) (λ b client actor asks is. client_as b client actor asks.asks ∙ is) (λ b row server actor asks is. replica_as b row server actor asks.asks ∙ is)
+      old said reply outside new (is_down_for (needs old said)) does refl)
 
 -- ---- the lines that made it
 
@@ -247,7 +179,7 @@ abbrev IsMadeBy : Cell → List Line → Type 0
 IsMadeBy cell lines = CanMake nothing lines × (made_of cell ≡ with_lines nothing lines)
 
 one_more : (old new : Cell) (said : Line) (reply : Reply) (outside : List (List ℕ)) (lines : List Line) → InRange said → is_built said ≡ true → IsMadeBy old lines → Happens old said reply outside new → (more : List Line) × IsMadeBy new more
-one_more old new said reply outside lines range built by does = elim (down_as old reply outside new said (is_down_for (needs old said)) built does) [
+one_more old new said reply outside lines range built by does = elim (becomes_as old reply outside new said built (becomes old reply outside new said does)) [
   | inl same ↦ (lines, (by.0, same ∙ by.1))
   | inr (free, made) ↦ (
     lines ++ said ∷ [],

@@ -1,7 +1,9 @@
 -- What runs of lines leave.
 use Rattle.std.proofs.Common.{◌≡◌, ℕ, ◌==◌, ◌&&◌, true, cond, List, length, Option, Some, None, refl, sym, ap, ◌∙◌, subst, inl, inr}
 use Rattle.std.proofs.lemmas.Bool.{eq-eqb}
-use Rattle.coda_actors.specs.Plain.{PlainActor}
+use Rattle.std.specs.Prelude.{IfSome}
+use Rattle.coda_actors.specs.Plain.{PlainDisk, PlainActor}
+use Rattle.coda_journal.specs.Image.{ReadsAs}
 use Rattle.coda_actors.specs.declared.slot.Mounting.TheVariants.{Entries, Foreign, DiskFault, Memory}
 use Rattle.coda_plain.specs.Decisions.{ReplicaEntry}
 use Rattle.coda_script.specs.declared.reply.Reply.{Reply}
@@ -13,10 +15,10 @@ use Rattle.coda_cell.proofs.Families.{put_here}
 use Rattle.coda_shelves.specs.Kept.{Decides}
 use Rattle.coda_shelves.specs.Shelves.{blank_shelves, found_on}
 use Rattle.coda_shelves.specs.Cells.{Cell, begun_on, shelves_of, Stand, stand_of, with_client, with_replica}
-use Rattle.coda_shelves.specs.Lines.{Becoming, Unless, the_client, the_replica, client_payloads, replica_payloads, Recovers, AtReplicaOf}
+use Rattle.coda_shelves.specs.Lines.{Becoming, Unless, the_client, the_replica, Payloads, client_payloads, replica_payloads, Recovers, AtReplicaOf}
 use Rattle.coda_shelves.proofs.Keeping.{shelves_are_kept}
 use Rattle.coda_shelves.proofs.Placed.{lines_keep_places}
-use Rattle.coda_runs.specs.Headline.{WhatRanIsKept, ScriptsRun, ChunksAreDecidedOnce, CertifiedChunksAreApplied, ConflictsNameASentRecord, OperationsAreKept, VolumesInOneRowAreDoneOnce, SettlementsAreDecided, LogsArePending, AcknowledgedEntriesStay, IsFoundAgain, ClientsComeBack, ReplicasComeBack}
+use Rattle.coda_runs.specs.Headline.{WhatRanIsKept, ScriptsRun, ChunksAreDecidedOnce, CertifiedChunksAreApplied, ConflictsNameASentRecord, OperationsAreKept, VolumesInOneRowAreDoneOnce, SettlementsAreDecided, LogsArePending, AcknowledgedEntriesStay, IsFoundAgain, IsReadFromImage, ClientsComeBack, ReplicasComeBack}
 use Rattle.coda_runs.proofs.Shelved.{runs_kept, runs_placed, runs_stay, pending_in, runs_go_on, runs_from_blank_go_on}
 
 pub what_ran_is_kept : WhatRanIsKept
@@ -78,10 +80,10 @@ module _ (count : ℕ) where
   unless_recovered old None own outside new rest does = rest does
 
   -- what a recovery leaves that is answered so
-  found_again : {E : Type 0} (payloads : _) (old : PlainActor E) (goes : PlainActor E → Cell) (outside : List (List ℕ)) (new : Cell) → Recovers payloads old goes (Recovered count) outside new
-      → (actor : PlainActor E) × IsFoundAgain old.disk actor.disk × (count ≡ length actor.disk.history) × (new ≡ goes actor)
+  found_again : {E : Type 0} (payloads : PlainDisk E → Payloads) (old : PlainActor E) (goes : PlainActor E → Cell) (outside : List (List ℕ)) (new : Cell) → Recovers payloads old goes (Recovered count) outside new
+      → (actor : PlainActor E) × IsFoundAgain old.disk actor.disk × (count ≡ length actor.disk.history) × (new ≡ goes actor) × IsReadFromImage payloads old actor.disk
   found_again payloads old goes outside new (header, is, (Entries entries, disk, told, mounts, from, says, out, next)) =
-      (_, mounts.0.history, (let same : count ≡ entries = cc in same ∙ mounts.1), next)
+      (_, mounts.0.history, (let same : count ≡ entries = cc in same ∙ mounts.1), next, (header, is, λ image left. subst (λ (o : Option (List ℕ)). IfSome o (ReadsAs header (payloads disk).all)) left from))
   found_again payloads old goes outside new (header, is, (Foreign at, disk, told, mounts, from, says, out, next)) = cc
   found_again payloads old goes outside new (header, is, (DiskFault, disk, told, mounts, from, says, out, next)) = cc
   found_again payloads old goes outside new (header, is, (Memory, disk, told, mounts, from, says, out, next)) = cc
@@ -90,7 +92,7 @@ pub clients_come_back : ClientsComeBack
 clients_come_back cell client count outside new happens = unless_recovered count cell (first_missing (the_client cell client).named) (Recovers client_payloads (cell.clients client) (with_client cell client)) outside new (λ did.
     let f = found_again count client_payloads (cell.clients client) (with_client cell client) outside new did in
     let here : new.clients client ≡ f.0 = ap (λ (c : Cell). c.clients client) f.3 ∙ put_here cell.clients client f.0 in
-    subst (λ (a : PlainActor _). IsFoundAgain (cell.clients client).disk a.disk × (count ≡ length a.disk.history)) (sym here) (f.1, f.2)) happens
+    subst (λ (a : PlainActor _). IsFoundAgain (cell.clients client).disk a.disk × (count ≡ length a.disk.history) × IsReadFromImage client_payloads (cell.clients client) a.disk) (sym here) (f.1, f.2, f.4)) happens
 
 pub replicas_come_back : ReplicasComeBack
 replicas_come_back cell server volume count outside new happens =
@@ -98,9 +100,10 @@ replicas_come_back cell server volume count outside new happens =
   where
     by : (o : Option Stand) → stand_of cell volume ≡ o → AtReplicaOf cell o server (Recovers replica_payloads) (Recovered count) outside new
         → (at : Stand) × (stand_of cell volume ≡ Some at) × IsFoundAgain (cell.replicas at.row server).disk (new.replicas at.row server).disk × (count ≡ length (new.replicas at.row server).disk.history)
+        × IsReadFromImage replica_payloads (cell.replicas at.row server) (new.replicas at.row server).disk
     by None e did = absurd did
     by (Some at) e did =
         let f = found_again count replica_payloads (cell.replicas at.row server) (with_replica cell at.row server) outside new did in
         let here : new.replicas at.row server ≡ f.0 = ap (λ (c : Cell). c.replicas at.row server) f.3 ∙ place_is cell.replicas at.row server f.0 in
-        let both = subst (λ (a : PlainActor ReplicaEntry). IsFoundAgain (cell.replicas at.row server).disk a.disk × (count ≡ length a.disk.history)) (sym here) (f.1, f.2) in
-        (at, e, both.0, both.1)
+        let both = subst (λ (a : PlainActor ReplicaEntry). IsFoundAgain (cell.replicas at.row server).disk a.disk × (count ≡ length a.disk.history) × IsReadFromImage replica_payloads (cell.replicas at.row server) a.disk) (sym here) (f.1, f.2, f.4) in
+        (at, e, both.0, both.1, both.2)

@@ -19,7 +19,7 @@ use Rattle.coda_cell.specs.Looking.{offered, fetch_of, looked}
 use Rattle.coda_cell.specs.State.{put, ReplicaState, CellState}
 use Rattle.coda_cell.specs.Steps.{reached, offers_of}
 use Rattle.coda_shelves.specs.Cells.{Cell, state_of}
-use Rattle.coda_shelves.specs.Lines.{is_cut, task_on, links_to, replica_down, meets}
+use Rattle.coda_shelves.specs.Lines.{is_cut, task_on, links_to, replica_down}
 use Rattle.coda_runs.proofs.Meeting.{IsMet}
 use Rattle.coda_runs.specs.Performed.{CanReach, HasFetched}
 
@@ -103,5 +103,5 @@ can_reach cell client volume server up = by (replica_down cell server volume) re
 pub reaches : (cell : Cell) (t : Task) (at : IsMet cell (line.Task t)) (client volume server : ℕ) → task_on t ≡ Some (client, volume) → is_cut (at.links client server) ≡ false → CanReach cell client volume server
 reaches cell t at client volume server on up =
     let here : links_to cell volume ≡ at.links =
-        ap (λ (q : CellState). q.links) (sym (ap (λ (o : Option (ℕ × ℕ)). option_map_or (λ (p : ℕ × ℕ). record (state_of cell) { links = links_to cell p.1 }) o (state_of cell)) on) ∙ at.is) in
+    ap (λ (q : CellState). q.links) (sym (ap (λ (o : Option (ℕ × ℕ)). option_map_or (λ (p : ℕ × ℕ). record (state_of cell) { links = links_to cell p.1 }) o (state_of cell)) on) ∙ at.is) in
     can_reach cell client volume server (ap (λ (l : ℕ → ℕ → Strength). is_cut (l client server)) here ∙ up)

@@ -60,7 +60,7 @@ runs_stay old new [] report outside run = subst (λ (t : Cell). Stay (shelves_of
 runs_stay old new (l ∷ more) report outside run =
     stay_twice (shelves_of old) (shelves_of run.0) (shelves_of new) (gives_stay old run.0 l run.1 run.3 run.5) (runs_stay run.0 new more run.2 run.4 run.6)
 
-runs_blank : (old new : Cell) (ls : List (List ℕ)) (report : List ℕ) (outside : List (List ℕ)) → IsKept old → IsFromBlank old → Runs LineGives old ls report outside new → IsFromBlank new
+pub runs_blank : (old new : Cell) (ls : List (List ℕ)) (report : List ℕ) (outside : List (List ℕ)) → IsKept old → IsFromBlank old → Runs LineGives old ls report outside new → IsFromBlank new
 runs_blank old new [] report outside kept blank run = subst (λ (t : Cell). IsFromBlank t) (sym run.2) blank
 runs_blank old new (l ∷ more) report outside kept blank run =
     runs_blank run.0 new more run.2 run.4 (gives_kept old run.0 l run.1 run.3 kept run.5) (gives_blank old run.0 l run.1 run.3 kept blank run.5) run.6

@@ -203,5 +203,5 @@ module _ (old new : Cell) (t : Task) (kind : NodeKind) where
   ended reply is (HadFault at own events stop does shows answered same) = never reply refused_fault is refl answered
 
 pub what_is_shown_is_there : WhatIsShownIsThere
-what_is_shown_is_there cell kept t reply answered new kind happens is =
+what_is_shown_is_there cell t reply answered new kind happens is =
     ended cell new t kind reply is (line_ends cell (line.Task t) reply answered new refl happens)

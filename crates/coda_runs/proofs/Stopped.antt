@@ -162,5 +162,5 @@ module _ (old new : Cell) (t : Task) (client volume : â„•) (named : named_by t â
   ended reply (HadFault at own events stop does shows is same) = fault reply own at events stop does is same
 
 pub refusals_have_causes : RefusalsHaveCauses
-refusals_have_causes cell kept t reply answers new client volume happens named =
+refusals_have_causes cell t reply answers new client volume happens named =
     ended cell new t client volume named reply (line_ends cell (line.Task t) reply answers new refl happens)

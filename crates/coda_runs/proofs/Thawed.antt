@@ -89,6 +89,6 @@ module _ (old new : Cell) (client volume server : ℕ) (window : Option ℕ) (nu
   ended (HadFault at own events stop does shows answered same) is = cc
 
 pub verdicts_thaw : VerdictsThaw
-verdicts_thaw cell kept client volume server window number verdict answered new c happens is =
+verdicts_thaw cell client volume server window number verdict answered new c happens is =
     ended cell new client volume server window number verdict c
     (line_ends cell (line.Task (task.Drain client volume server window)) (Drained number (Decided verdict)) answered new refl happens) is

@@ -7,11 +7,13 @@ use Rattle.coda_script.specs.declared.line.Line.{Line}
 use Rattle.coda_script.specs.declared.line.Line.TheVariants as line
 use Rattle.coda_script.specs.declared.reply.Reply.{Reply}
 use Rattle.coda_script.specs.declared.reply.Reply.TheVariants.{Opened}
-use Rattle.coda_shelves.specs.Shelves.{client_header, replica_header}
-use Rattle.coda_shelves.specs.Cells.{Cell, asked, Stand, stand_of}
+use Rattle.coda_engine.specs.Run.{Runs}
+use Rattle.coda_shelves.specs.Shelves.{blank_shelves, client_header, replica_header}
+use Rattle.coda_shelves.specs.Cells.{Cell, begun_on, asked, Stand, stand_of}
 use Rattle.coda_shelves.specs.Lines.{area_of, refused_foreign, Happens}
 use Rattle.coda_shelves.specs.Placed.{ArePlaced}
 use Rattle.coda_runs.specs.Headline.{IsFoundAgain}
+use Rattle.coda_runs.specs.Shelved.{LineGives}
 
 -- ---- who never came
 
@@ -77,8 +79,10 @@ pub record WhatIsMadeAgainIsCounted : Type 0 where
 abbrev pub StandsOnOthers : {E : Type 0} → PlainActor E → Type 0
 StandsOnOthers actor = (header : Header) × (asked actor.life ≡ Some header) × ((other : Header) × (actor.disk.header ≡ Some other) × (other ≢ header))
 
--- Only who stands on the disk of another is refused as foreign by his recovery.
+-- Only who stands on the disk of another is refused as foreign by its recovery; and nobody is whatever lines ran over blank disks: each disk is its own.
 pub record RecoveriesFindTheirOwn : Type 0 where
+  pub first : (cell new : Cell) (ls : List (List ℕ)) (report : List ℕ) (outside answered : List (List ℕ)) (client server volume at : ℕ) → Runs LineGives (begun_on blank_shelves) ls report outside cell
+      → (Happens cell (line.RecoverClient client) (refused_foreign at) answered new → ⊥) × (Happens cell (line.RecoverReplica server volume) (refused_foreign at) answered new → ⊥)
   pub clients : (cell new : Cell) (client at : ℕ) (outside : List (List ℕ)) → Happens cell (line.RecoverClient client) (refused_foreign at) outside new → StandsOnOthers (cell.clients client)
   pub replicas : (cell new : Cell) (server volume at : ℕ) (outside : List (List ℕ)) → Happens cell (line.RecoverReplica server volume) (refused_foreign at) outside new
       → (place : Stand) × (stand_of cell volume ≡ Some place) × StandsOnOthers (cell.replicas place.row server)

@@ -27,7 +27,6 @@ use Rattle.coda_plain.specs.Cell.{ClientEntry}
 use Rattle.coda_plain.specs.Moves.{AtClient}
 use Rattle.coda_shelves.specs.Cells.{Cell, is_up, state_of, after_all}
 use Rattle.coda_shelves.specs.Lines.{meets, Lacks, Stop, Happens, client_down, refused_down, refused_full, refused_fault}
-use Rattle.coda_runs.specs.Headline.{InEachKept}
 use Rattle.coda_runs.specs.Performed.{Leads, End, content_of}
 use Rattle.coda_runs.specs.Shown.{shown_by}
 
@@ -245,8 +244,8 @@ pub data DiskCause (old new : Cell) (t : Task) (client : ℕ) (reply : Reply) : 
   HasFailed : (entry : ClientEntry) (mid : Cell) → reply ≡ refused_fault → IsNextEntry old mid t client entry
       → (new.clients client).disk.failed ≡ Some entry → is_up (new.clients client).life ≡ false → DiskCause old new t client reply
 
--- In every cell that is kept, an operation, a read or a listing is refused only for a cause that holds.
+-- In whatever cell, an operation, a read or a listing is refused only for a cause that holds.
 abbrev pub RefusalsHaveCauses : Type 0
 RefusalsHaveCauses =
-    InEachKept (λ cell. (t : Task) (reply : Reply) (outside : List (List ℕ)) (new : Cell) (client volume : ℕ) → Happens cell (line.Task t) reply outside new → named_by t ≡ Some (client, volume)
-    → IsAnswered t client volume (first_missing (on_volume (state_of cell) client volume)) (state_of new).clients reply ⊎ DiskCause cell new t client reply)
+    (cell : Cell) (t : Task) (reply : Reply) (outside : List (List ℕ)) (new : Cell) (client volume : ℕ) → Happens cell (line.Task t) reply outside new → named_by t ≡ Some (client, volume)
+    → IsAnswered t client volume (first_missing (on_volume (state_of cell) client volume)) (state_of new).clients reply ⊎ DiskCause cell new t client reply

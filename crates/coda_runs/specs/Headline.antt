@@ -2,7 +2,9 @@
 -- whatever disks fail.
 use Rattle.std.specs.Prelude.{◌≡◌, ◌⊎◌, ℕ, Some, Ok, List, [], ◌∷◌, ◌++◌, length}
 use Rattle.coda_tree.specs.Volume.{Nodes}
-use Rattle.coda_actors.specs.Plain.{PlainDisk}
+use Rattle.coda_actors.specs.Plain.{PlainDisk, PlainActor}
+use Rattle.coda_journal.specs.Image.{ReadsAs}
+use Rattle.coda_journal.specs.declared.header.Header.{Header}
 use Rattle.coda_certify.specs.declared.reason.Reason.{Reason}
 use Rattle.coda_certify.specs.declared.verdict.Verdict.TheVariants.{Applied, Conflict}
 use Rattle.coda_certify.specs.Replay.{replay}
@@ -16,10 +18,10 @@ use Rattle.coda_script.specs.declared.line.Line.TheVariants as line
 use Rattle.coda_script.specs.declared.reply.Reply.TheVariants.{Recovered}
 use Rattle.coda_cell.specs.State.{ClientState}
 use Rattle.coda_shelves.specs.Shelves.{Shelves, blank_shelves, Found, found_on}
-use Rattle.coda_shelves.specs.Cells.{Cell, begun_on, shelves_of, Stand, stand_of, state_of}
+use Rattle.coda_shelves.specs.Cells.{Cell, begun_on, shelves_of, asked, Stand, stand_of, state_of}
 use Rattle.coda_shelves.specs.Kept.{deeds_in, Decides, IsDecided, AreKept}
 use Rattle.coda_shelves.specs.Laws.{Stay}
-use Rattle.coda_shelves.specs.Lines.{Happens}
+use Rattle.coda_shelves.specs.Lines.{Payloads, client_payloads, replica_payloads, Happens}
 use Rattle.coda_shelves.specs.Placed.{ArePlaced}
 use Rattle.coda_shelves.specs.Promises.{AreDecidedOnce, AreOperationsKept}
 use Rattle.coda_shelves.specs.Running.{IsKept}
@@ -97,15 +99,20 @@ AcknowledgedEntriesStay =
 abbrev pub IsFoundAgain : {E : Type 0} → PlainDisk E → PlainDisk E → Type 0
 IsFoundAgain {E} old new = (new.history ≡ old.history) ⊎ ((entry : E) × (old.failed ≡ Some entry) × (new.history ≡ old.history ++ entry ∷ []))
 
+-- where the actor's last crash left an image, it reads as what the disk has now, under the header that the actor asks for
+abbrev pub IsReadFromImage : {E : Type 0} → (PlainDisk E → Payloads) → PlainActor E → PlainDisk E → Type 0
+IsReadFromImage payloads old disk = (header : Header) × (asked old.life ≡ Some header) × ((image : List ℕ) → old.left ≡ Some image → ReadsAs header (payloads disk).all image)
+
 -- In whatever cell, a client that is recovered has the history from before, or that one with the one entry whose append failed, and the reply counts
--- its entries.
+-- its entries. Where it crashed since its last recovery, the image that the bay answered then reads as these.
 abbrev pub ClientsComeBack : Type 0
 ClientsComeBack =
     (cell : Cell) (client count : ℕ) (outside : List (List ℕ)) (new : Cell) → Happens cell (line.RecoverClient client) (Recovered count) outside new
-    → IsFoundAgain (cell.clients client).disk (new.clients client).disk × (count ≡ length (new.clients client).disk.history)
+    → IsFoundAgain (cell.clients client).disk (new.clients client).disk × (count ≡ length (new.clients client).disk.history) × IsReadFromImage client_payloads (cell.clients client) (new.clients client).disk
 
 -- A server's replica of a volume likewise, where the volume stands.
 abbrev pub ReplicasComeBack : Type 0
 ReplicasComeBack =
     (cell : Cell) (server volume count : ℕ) (outside : List (List ℕ)) (new : Cell) → Happens cell (line.RecoverReplica server volume) (Recovered count) outside new
     → (at : Stand) × (stand_of cell volume ≡ Some at) × IsFoundAgain (cell.replicas at.row server).disk (new.replicas at.row server).disk × (count ≡ length (new.replicas at.row server).disk.history)
+    × IsReadFromImage replica_payloads (cell.replicas at.row server) (new.replicas at.row server).disk

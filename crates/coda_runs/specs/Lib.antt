@@ -13,3 +13,5 @@ pub mod Volumes
 pub mod Standing
 pub mod Again
 pub mod Resumed
+pub mod Overwriting
+pub mod Going

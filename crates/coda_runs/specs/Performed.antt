@@ -22,7 +22,6 @@ use Rattle.coda_script.specs.declared.reply.Reply.TheVariants.{Done}
 use Rattle.coda_cell.specs.State.{pending, ClientState, ReplicaState}
 use Rattle.coda_shelves.specs.Cells.{Cell, state_of}
 use Rattle.coda_shelves.specs.Lines.{is_cut, replica_down, Happens}
-use Rattle.coda_runs.specs.Headline.{InEachKept}
 
 -- ---- where paths lead
 
@@ -212,9 +211,9 @@ pub record WasPerformed (Reaches : ℕ → ℕ → ℕ → Type 0) (t : Task) (c
   pub others : (other : ℕ) → other ≢ client → behind other ≡ clients other
   pub performed : IsPerformed (Reaches client volume) replicas t old new client volume time number object
 
--- In every cell that is kept, an operation that is answered as done did what its line asked, left all else as it was, and is kept; and the versions that it gives are of its
--- line's client.
+-- In whatever cell, an operation that is answered as done did what its line asked, left all else as it was, and is kept; and the versions that it gives are of its line's
+-- client.
 abbrev pub OperationsArePerformed : Type 0
 OperationsArePerformed =
-    InEachKept (λ cell. (t : Task) (number : ℕ) (object : Fid) (outside : List (List ℕ)) (new : Cell) → Happens cell (line.Task t) (Done number object) outside new
-    → (p : WasPerformed (CanReach cell) t (state_of cell).clients (state_of new).clients (state_of cell).replicas cell.clock number object) × (p.old.number ≡ p.client))
+    (cell : Cell) (t : Task) (number : ℕ) (object : Fid) (outside : List (List ℕ)) (new : Cell) → Happens cell (line.Task t) (Done number object) outside new
+    → (p : WasPerformed (CanReach cell) t (state_of cell).clients (state_of new).clients (state_of cell).replicas cell.clock number object) × (p.old.number ≡ p.client)

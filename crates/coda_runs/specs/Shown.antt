@@ -16,7 +16,6 @@ use Rattle.coda_script.specs.declared.reply.Reply.TheVariants.{Read, Listed}
 use Rattle.coda_cell.specs.State.{ClientState, ReplicaState}
 use Rattle.coda_shelves.specs.Cells.{Cell, state_of}
 use Rattle.coda_shelves.specs.Lines.{Happens}
-use Rattle.coda_runs.specs.Headline.{InEachKept}
 use Rattle.coda_runs.specs.Performed.{Leads, CanReach, HasFetched}
 
 -- whose path a line shows
@@ -51,8 +50,8 @@ pub record WasShown (Reaches : ℕ → ℕ → ℕ → Type 0) (t : Task) (clien
   pub stands : map.get new.held.nodes object ≡ Some node
   pub kind_is : node.kind ≡ kind
 
--- In every cell that is kept, what a reply shows of a file, a link or a directory is in the object that the line's path leads to.
+-- In whatever cell, what a reply shows of a file, a link or a directory is in the object that the line's path leads to.
 abbrev pub WhatIsShownIsThere : Type 0
 WhatIsShownIsThere =
-    InEachKept (λ cell. (t : Task) (reply : Reply) (outside : List (List ℕ)) (new : Cell) (kind : NodeKind) → Happens cell (line.Task t) reply outside new → shown_by reply ≡ Some kind
-    → WasShown (CanReach cell) t (state_of cell).clients (state_of new).clients (state_of cell).replicas kind)
+    (cell : Cell) (t : Task) (reply : Reply) (outside : List (List ℕ)) (new : Cell) (kind : NodeKind) → Happens cell (line.Task t) reply outside new → shown_by reply ≡ Some kind
+    → WasShown (CanReach cell) t (state_of cell).clients (state_of new).clients (state_of cell).replicas kind

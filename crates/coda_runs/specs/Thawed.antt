@@ -8,11 +8,10 @@ use Rattle.coda_script.specs.declared.reply.Reply.TheVariants.{Drained}
 use Rattle.coda_cell.specs.State.{log_of, ClientState}
 use Rattle.coda_shelves.specs.Cells.{Cell, state_of}
 use Rattle.coda_shelves.specs.Lines.{Happens}
-use Rattle.coda_runs.specs.Headline.{InEachKept}
 
--- In every cell that is kept, a drain that is answered by a verdict leaves no chunk of the client's log frozen.
+-- In whatever cell, a drain that is answered by a verdict leaves no chunk of the client's log frozen.
 abbrev pub VerdictsThaw : Type 0
 VerdictsThaw =
-    InEachKept (λ cell. (client volume server : ℕ) (window : Option ℕ) (number : ℕ) (verdict : Verdict) (outside : List (List ℕ)) (new : Cell) (c : ClientState)
+    (cell : Cell) (client volume server : ℕ) (window : Option ℕ) (number : ℕ) (verdict : Verdict) (outside : List (List ℕ)) (new : Cell) (c : ClientState)
     → Happens cell (line.Task (task.Drain client volume server window)) (Drained number (Decided verdict)) outside new
-    → (state_of new).clients client ≡ Some c → (log_of (c.volumes volume)).frozen ≡ None)
+    → (state_of new).clients client ≡ Some c → (log_of (c.volumes volume)).frozen ≡ None

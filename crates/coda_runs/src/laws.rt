@@ -3,7 +3,9 @@ ghost use Rattle.coda_runs.specs.Again.{WhoNeverCameIsAsItWas, OwnDisksAreNotFor
 ghost use Rattle.coda_runs.specs.Causes.{RefusalsHaveCauses};
 ghost use Rattle.coda_runs.specs.Complete.{CleanScriptsEnd, ScriptsHaveOneStatus, ScriptsInGrammarAreClean};
 ghost use Rattle.coda_runs.specs.Headline.{WhatRanIsKept, ScriptsRun, ChunksAreDecidedOnce, CertifiedChunksAreApplied, ConflictsNameASentRecord, OperationsAreKept, VolumesInOneRowAreDoneOnce, SettlementsAreDecided, LogsArePending, AcknowledgedEntriesStay, ClientsComeBack, ReplicasComeBack};
+ghost use Rattle.coda_runs.specs.Going.{FrozenChunksGoAgain, VerdictsAreTold};
 ghost use Rattle.coda_runs.specs.Lettered.{RepliesNameLetters, LettersSayWhatIsSo, LettersHaveEnds};
+ghost use Rattle.coda_runs.specs.Overwriting.{ChunksOverwriteNobody};
 ghost use Rattle.coda_runs.specs.Performed.{OperationsArePerformed};
 ghost use Rattle.coda_runs.specs.Resumed.{WhatRanCanBeResumed};
 ghost use Rattle.coda_runs.specs.Shelved.{RunsGoOn};
@@ -152,13 +154,12 @@ pub fn chunks_stand_with_clients()
     ensures { ChunksStandWithClients }
 {}
 
-/// In every cell that is kept, a drain that is answered by a verdict leaves no chunk of the client's log of the volume
-/// frozen.
+/// In whatever cell, a drain that is answered by a verdict leaves no chunk of the client's log of the volume frozen.
 pub fn verdicts_thaw()
     ensures { VerdictsThaw }
 {}
 
-/// In every cell that is kept, an operation that is answered as done did what its line asked, over what its client held
+/// In whatever cell, an operation that is answered as done did what its line asked, over what its client held
 /// and fetched for it: the new object stands under the path's last name with the kind, mode and owner that were asked
 /// for, the file has the content, the object has the attributes, is gone with its name, or is bound under the new name
 /// alone. All other objects, and all their names, are as they were, but an object that a rename replaces, which is
@@ -168,13 +169,13 @@ pub fn operations_are_performed()
     ensures { OperationsArePerformed }
 {}
 
-/// In every cell that is kept, what a reply shows of a file, a link or a directory is in the object that the line's
+/// In whatever cell, what a reply shows of a file, a link or a directory is in the object that the line's
 /// path leads to, over what the client held and what it fetched, which is as the volume's server has it.
 pub fn what_is_shown_is_there()
     ensures { WhatIsShownIsThere }
 {}
 
-/// In every cell that is kept, an operation, a read or a listing is done, or it is refused for a cause that holds, over
+/// In whatever cell, an operation, a read or a listing is done, or it is refused for a cause that holds, over
 /// what the client held and fetched: names that lead nowhere, since a directory doesn't bind one, an object isn't a
 /// directory or isn't held; what stands at the path isn't what the operation needs; the name is taken; the log is
 /// full, or the client accepted as many operations as it may; an actor that it names isn't there; or the disk of its
@@ -227,7 +228,7 @@ pub fn what_is_made_again_is_counted()
 {}
 
 /// A recovery is refused for the disk of another actor only where its actor stands on one: it asks for another header
-/// than its disk has.
+/// than its disk has. Whatever lines ran over blank disks, none is: each disk is its own.
 pub fn recoveries_find_their_own()
     ensures { RecoveriesFindTheirOwn }
 {}
@@ -237,4 +238,24 @@ pub fn recoveries_find_their_own()
 /// over whatever stands on disks.
 pub fn what_ran_can_be_resumed()
     ensures { WhatRanCanBeResumed }
+{}
+
+/// Whatever ran, where a server applied a chunk, each object that one of the records sent stores, sets, removes or
+/// replaces had at that server the version that its client saw, or one that a record before it in the chunk gave it: no
+/// chunk overwrites what another client did meanwhile (Kistler and Satyanarayanan 1992).
+pub fn chunks_overwrite_nobody()
+    ensures { ChunksOverwriteNobody }
+{}
+
+/// In every cell that is kept, a chunk that is frozen is the one that a drain or a send names, whatever the window; and
+/// where client, replica and link are up and the replica knows the client's chunk before it, a drain is answered by a
+/// verdict on it, unless a journal is full or a disk fails. So a chunk whose letter was lost goes again.
+pub fn frozen_chunks_go_again()
+    ensures { FrozenChunksGoAgain }
+{}
+
+/// In every cell that is kept, where a drain is answered by a verdict, the client settled the chunk by it, and a replica
+/// of the volume decided it so.
+pub fn verdicts_are_told()
+    ensures { VerdictsAreTold }
 {}

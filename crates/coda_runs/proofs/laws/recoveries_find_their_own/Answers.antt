@@ -1,4 +1,4 @@
-use Rattle.coda_runs.proofs.Mounted.{recoveries_find_their_own}
+use Rattle.coda_runs.proofs.Owned.{recoveries_find_their_own}
 use Rattle.coda_runs.proofs.laws.recoveries_find_their_own.Goals as goal
 
 pub returns : goal.returns
