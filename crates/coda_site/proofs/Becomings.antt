@@ -16,9 +16,8 @@ use Rattle.coda_cell.specs.Steps.{Does, Named, Doing, Naming, Unless, first_miss
 use Rattle.coda_cell.specs.Refused.{Refused}
 use Rattle.coda_cell.specs.Refused as refused
 use Rattle.coda_matching.specs.Clients.{Cut, refused_as}
-use Rattle.coda_stored.specs.Cells.{StoredCell, after, after_all}
-use Rattle.coda_stored.specs.Room.{FitsOne, Fits as FitsEvents}
-use Rattle.coda_stored.specs.Lines.{refused_down, refused_full, refused_fault, all_there, Becoming, UnlessDown, meets, Acts, Stop, EndsBy}
+use Rattle.coda_shelves.specs.Cells.{Cell, after, after_all}
+use Rattle.coda_shelves.specs.Lines.{refused_down, refused_full, refused_fault, meets, FitsOne, Fits as FitsEvents, Stop, EndsBy, Acts, Becoming, UnlessDown}
 use Rattle.coda_site.specs.Sites.{IsSite}
 use Rattle.coda_site.specs.Steps.{Becomes}
 use Rattle.coda_site.specs.declared.site.Site.{Site}
@@ -43,8 +42,12 @@ missing_none result names is ensures = sym ensures ∙ ap (option_map refused.No
 
 -- ---- lines, by who is down
 
-module _ {D : Type 0} (told : D → Told) (out : ℕ → Bool) (has : ℕ → Told) (cell : StoredCell) (names : List Named) (down : Bool) (own : Becoming) (reply : Reply) (answered : List (List ℕ)) (site : Site D) where
-  down_so : (b : Bool) (outside : List (List ℕ)) (left : StoredCell) → (all_there names && down) ≡ b → UnlessDown b cell own reply outside left → UnlessDown (all_there names && down) cell own reply outside left
+-- all the actors are there that a line names
+abbrev pub all_there : List Named → Bool
+all_there names = not (is_some (first_missing names))
+
+module _ {D : Type 0} (told : D → Told) (out : ℕ → Bool) (has : ℕ → Told) (cell : Cell) (names : List Named) (down : Bool) (own : Becoming) (reply : Reply) (answered : List (List ℕ)) (site : Site D) where
+  down_so : (b : Bool) (outside : List (List ℕ)) (left : Cell) → (all_there names && down) ≡ b → UnlessDown b cell own reply outside left → UnlessDown (all_there names && down) cell own reply outside left
   down_so b outside left is happens = subst (λ (x : Bool). UnlessDown x cell own reply outside left) (sym is) happens
 
   -- it is refused, and nothing else happens
@@ -66,7 +69,7 @@ module _ {D : Type 0} (told : D → Told) (out : ℕ → Bool) (has : ℕ → To
     stands = is;
   }
 
-  pub up_becomes : first_missing names ≡ None → down ≡ false → (left : StoredCell) → own reply [] left → IsSite told out has left site → Becomes told out has (UnlessDown (all_there names && down) cell own) reply answered answered site
+  pub up_becomes : first_missing names ≡ None → down ≡ false → (left : Cell) → own reply [] left → IsSite told out has left site → Becomes told out has (UnlessDown (all_there names && down) cell own) reply answered answered site
   up_becomes there is_up left happens is = record {
     outside = [];
     left = left;
@@ -76,16 +79,16 @@ module _ {D : Type 0} (told : D → Told) (out : ℕ → Bool) (has : ℕ → To
   }
 
 -- a line that says this, and by which nothing happens
-pub says : (cell : StoredCell) (said : Line) (reply : Reply) → Does (meets cell said) said reply [] → Acts cell said reply cell
+pub says : (cell : Cell) (said : Line) (reply : Reply) → Does (meets cell said) said reply [] → Acts cell said reply cell
 says cell said reply does = record { own = reply; events = []; does = does; ends = inl (tt, refl, refl) }
 
 -- a line by which one thing happens that no disk keeps
-pub happens : (cell : StoredCell) (said : Line) (reply : Reply) (event : Event) → FitsOne cell event → Does (meets cell said) said reply (event ∷ []) → Acts cell said reply (after cell event)
+pub happens : (cell : Cell) (said : Line) (reply : Reply) (event : Event) → FitsOne cell event → Does (meets cell said) said reply (event ∷ []) → Acts cell said reply (after cell event)
 happens cell said reply event fits does = record { own = reply; events = event ∷ []; does = does; ends = inl ((fits, tt), refl, refl) }
 
 -- a line is what another one is
 pub becomes_as : {D : Type 0} (told : D → Told) (out : ℕ → Bool) (has : ℕ → Told) (one other : Becoming) (reply : Reply) (old new : List (List ℕ)) (site : Site D)
-    → ((outside : List (List ℕ)) (left : StoredCell) → one reply outside left → other reply outside left) → Becomes told out has one reply old new site → Becomes told out has other reply old new site
+    → ((outside : List (List ℕ)) (left : Cell) → one reply outside left → other reply outside left) → Becomes told out has one reply old new site → Becomes told out has other reply old new site
 becomes_as told out has one other reply old new site as_one b = record { outside = b.outside; left = b.left; happens = as_one b.outside b.left b.happens; answered = b.answered; stands = b.stands }
 
 -- ---- how a client's call ends
@@ -108,9 +111,9 @@ stop_of n entries cut = record {
   is = ap (map (at_client n)) cut.is ∙ map-append (at_client n) cut.done (cut.next ∷ cut.rest);
 }
 
-module _ {D B : Type 0} (told : D → Told) (out : ℕ → Bool) (has : ℕ → Told) (cell : StoredCell) (n : ℕ) (entries : List ClientEntry) (said : Result Reply Refused) (f : B → Reply) (site : Site D) where
+module _ {D B : Type 0} (told : D → Told) (out : ℕ → Bool) (has : ℕ → Told) (cell : Cell) (n : ℕ) (entries : List ClientEntry) (said : Result Reply Refused) (f : B → Reply) (site : Site D) where
   abbrev EndsSo : Reply → Type 0
-  EndsSo reply = (left : StoredCell) × EndsBy cell (map (at_client n) entries) (reply_to said) reply left × IsSite told out has left site
+  EndsSo reply = (left : Cell) × EndsBy cell (map (at_client n) entries) (reply_to said) reply left × IsSite told out has left site
 
   whole : (reply : Reply) → FitsEvents cell (map (at_client n) entries) → reply ≡ reply_to said → IsSite told out has (after_all cell (map (at_client n) entries)) site → EndsSo reply
   whole reply fits same is = (after_all cell (map (at_client n) entries), inl (fits, same, refl), is)

@@ -1,7 +1,7 @@
 -- A cell of the code in which nothing was made shows the run that begins over the shelves for which the disks of its bay stand.
-use Rattle.std.proofs.Common.{◌≡◌, ℕ, ◌-◌, ◌≤◌, suc, arith, Bool, [], Option, Some, None, option_map, refl, subst}
+use Rattle.std.proofs.Common.{◌≡◌, ℕ, zero, suc, ◌+◌, ◌*◌, ◌-◌, ◌≤◌, inl, inr, arith, Bool, [], Option, Some, None, option_map, refl, subst}
 use Rattle.std.specs.Prelude.{IfSome}
-use Rattle.std.proofs.lemmas.Bool.{leb-true}
+use Rattle.std.proofs.lemmas.Bool.{cases_eq, leb-true}
 use Rattle.coda_disk.specs.Told.{Told}
 use Rattle.coda_actors.specs.Clients.{client_form}
 use Rattle.coda_actors.specs.Replicas.{replica_form}
@@ -12,7 +12,7 @@ use Rattle.coda_record.specs.declared.entry.ReplicaEntry.{ReplicaEntry as KeptEn
 use Rattle.coda_venus.specs.History.{Payload}
 use Rattle.coda_cell.specs.Cells.{IsNetwork}
 use Rattle.coda_script.specs.Ranges.{IsServer}
-use Rattle.coda_site.specs.Sites.{is_client_disk, is_replica_disk, place_in}
+use Rattle.coda_site.specs.Sites.{as_journal, is_client_disk, is_replica_disk, place_in}
 use Rattle.coda_site.specs.declared.site.Place.{Place}
 use Rattle.coda_site.specs.declared.site.Site.{Site}
 use Rattle.coda_shelves.specs.Shelves.{Shelves, client_journal, replica_journal, disk_at}
@@ -20,10 +20,19 @@ use Rattle.coda_shelves.specs.Cells.{begun_on, lying}
 use Rattle.coda_shelves.specs.Kept.{AreKept}
 use Rattle.coda_shelves.proofs.Keeping.{shelves_are_kept}
 use Rattle.coda_shelves.proofs.Placed.{lines_keep_places}
-use Rattle.coda_site.specs.Shelves.{AreOnDisks}
-use Rattle.coda_site.specs.Shelves.{as_journal, Shows}
-use Rattle.coda_site.proofs.Entering.{place_of}
-use Rattle.coda_site.proofs.Leaving.{places_apart}
+use Rattle.coda_site.specs.Shelves.{AreOnDisks, Shows}
+use Rattle.coda_site.proofs.ReplicaSites.{places_apart}
+
+-- each number from 256 on is that of a place
+place_of : (n : ℕ) → (row : ℕ) × (server : ℕ) × (1 ≤ server) × (server ≤ 8) × (8 * row + server ≡ n + 1)
+place_of zero = (0, 1, omega arith, omega arith, omega arith)
+place_of (suc n) = by (place_of n)
+  where
+    by : (row : ℕ) × (server : ℕ) × (1 ≤ server) × (server ≤ 8) × (8 * row + server ≡ n + 1) → (row : ℕ) × (server : ℕ) × (1 ≤ server) × (server ≤ 8) × (8 * row + server ≡ suc n + 1)
+    by (row, server, one, few, is) = elim (cases_eq server 8) [
+      | inl full ↦ (row + 1, 1, omega arith, omega arith, omega (arith, is, full))
+      | inr less ↦ (row, server + 1, omega arith, omega (arith, few, less), omega (arith, is))
+    ]
 
 module _ {D : Type 0} (told : D → Told) (out : ℕ → Bool) (has : ℕ → Told) (shelves : Shelves) (on : AreOnDisks told has shelves) where
   abbrev clients_lie : ℕ → PlainActor Payload

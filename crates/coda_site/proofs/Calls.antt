@@ -15,19 +15,19 @@ use Rattle.coda_script.specs.declared.reply.Reply.{Reply}
 use Rattle.coda_venus.specs.declared.refused.Refused.{Refused as VenusRefused}
 use Rattle.coda_venus.specs.declared.refused.Refused.TheVariants as reason
 use Rattle.coda_venus.specs.declared.venus.Venus.{Venus}
-use Rattle.coda_cell.specs.Made.{client_of, state_of}
+use Rattle.coda_cell.specs.Made.{client_of}
 use Rattle.coda_cell.specs.Refusing.{refusal}
 use Rattle.coda_cell.specs.State.{at_client}
 use Rattle.coda_cell.specs.Steps.{ByClient, on_volume, first_missing, offers_of, reply_to}
 use Rattle.coda_cell.specs.Refused as refused
 use Rattle.coda_matching.specs.Clients.{refused_as, Ends}
 use Rattle.coda_serving.specs.Serving.{AreSpelledOffers}
-use Rattle.coda_stored.specs.Cells.{StoredCell}
-use Rattle.coda_stored.specs.Seen.{IsSeen}
-use Rattle.coda_stored.specs.Lines.{refused_down, refused_fault, client_down, met_by}
-use Rattle.coda_site.specs.Sites.{is_client_disk, place_in, IsSite, IsReady, client_at, volume_at}
+use Rattle.coda_shelves.specs.Cells.{Cell, state_of}
+use Rattle.coda_shelves.specs.Lines.{refused_down, refused_fault, client_down}
+use Rattle.coda_site.specs.Shelves.{Shows}
+use Rattle.coda_site.specs.Sites.{is_client_disk, place_in, IsReady, client_at, volume_at}
 use Rattle.coda_site.specs.Steps.{Becomes}
-use Rattle.coda_site.specs.Tasks.{Request, Answers, Asks, CallEnds, offered_at}
+use Rattle.coda_site.specs.Tasks.{met_by, Request, Answers, Asks, CallEnds, offered_at}
 use Rattle.coda_site.specs.declared.fault.CellFault.{CellFault}
 use Rattle.coda_site.specs.declared.fault.CellFault.TheVariants as fault
 use Rattle.coda_site.specs.declared.site.Site.{Site}
@@ -59,7 +59,7 @@ module _ {D B : Type 0} (told : D → Told) (out : ℕ → Bool) (site : Site D)
       let e = ends s.0 s.1 s.2 in
       still_ready told out site slots number s.0 s.1 e.0 s.2 others e.1 ready
 
-module _ {D B : Type 0} (told : D → Told) (out : ℕ → Bool) (has : ℕ → Told) (cell : StoredCell) (kept : IsSeen cell) (site : Site D) (is : IsSite told out has cell site)
+module _ {D B : Type 0} (told : D → Told) (out : ℕ → Bool) (has : ℕ → Told) (cell : Cell) (site : Site D) (shows : Shows told out has cell site)
     (client volume number : ℕ) (here : is_client_disk client ≡ true) (there : first_missing (client_at site client ∷ volume_at site volume ∷ []) ≡ None) (same : number ≡ client)
     (up : is_up (client_form told) (slot_at site.clients number) ≡ true) (slots : BTreeMap ℕ (Slot (Venus D) D)) (others : KeepsOtherSlots number site.clients slots)
     (offers : Option Nodes) (offers_are : offers ≡ offered_at site.net site.replicas client (place_in site volume)) (request : Request) (f : B → Reply) (result : Result B VenusRefused)
@@ -67,23 +67,23 @@ module _ {D B : Type 0} (told : D → Told) (out : ℕ → Bool) (has : ℕ → 
   -- a call that a client answered is what the cell says
   pub asked_becomes : (reply : Reply) (answered : List (List ℕ)) → RepliesTo f result reply → Becomes told out has (Asks cell client volume request) reply answered answered (with_clients site slots)
   asked_becomes reply answered replies =
-      let names = on_volume (state_of cell.made) client volume in
-      let all = ap first_missing (on_volume_at told out has cell kept site is client volume here) ∙ there in
-      let off = client_down_by told out has cell kept site is client number (volume_at site volume ∷ []) true here there same (sym up) in
+      let names = on_volume (state_of cell) client volume in
+      let all = ap first_missing (on_volume_at told out has cell site shows client volume here) ∙ there in
+      let off = client_down_by told out has cell site shows client number (volume_at site volume ∷ []) true here there same (sym up) in
       let up_here = subst (λ (m : ℕ). is_up (client_form told) (slot_at site.clients m) ≡ true) same up in
       let others_here = subst (λ (m : ℕ). KeepsOtherSlots m site.clients slots) same others in
-      let u = up_at told out has cell kept site client is here up_here in
+      let u = up_at told out has cell shows.kept site client shows.stands here up_here in
       let header = u.0 in
       let own = u.2 in
-      let history = (cell.made.acted.clients client).history in
+      let history = (cell.clients client).disk.history in
       let c = client_of header.number history header.cache in
       let e = subst (λ (m : ℕ). CallEnds told m offers request site.clients slots (λ (a : Reply) (b : B). a ≡ f b) result) same ends header u.1 own.slot in
       let left = e.0 in
-      let o = offered_is told out has cell kept site is client volume in
+      let o = offered_is told out has cell site shows client volume in
       let answer = request (offers_of (met_by cell volume) client volume) c in
       let ended = subst (λ (x : Option Nodes). Ends told header history (request x c).entries (request x c).said (λ (a : Reply) (b : B). a ≡ f b) left result) (offers_are ∙ o.0)
       (e.3 history own.up own.lawful (subst AreSpelledOffers (sym offers_are) o.1)) in
-      let leaves_so = leaves told out has cell site slots client header u.1 left is own others_here e.1 answer.entries answer.said (λ (a : Reply) (b : B). a ≡ f b) result e.2 ended in
+      let leaves_so = leaves told out has cell site slots client header u.1 left shows.stands own others_here e.1 answer.entries answer.said (λ (a : Reply) (b : B). a ≡ f b) result e.2 ended in
       let b = ends_by told out has cell client answer.entries answer.said f (with_clients site slots) result reply leaves_so replies in
       up_becomes told out has cell names (client_down cell client) (λ reply outside new. (outside ≡ []) × Answers cell client volume request reply new) reply answered (with_clients site slots) all off b.0 (
         refl,
@@ -103,13 +103,13 @@ refused_so f why (Ok said) own disk memory = refused_replies f why said (λ m. (
 refused_so f why (Err e) own disk memory = tt
 
 -- nobody is asked who is missing, or down
-module _ {D : Type 0} (told : D → Told) (out : ℕ → Bool) (has : ℕ → Told) (cell : StoredCell) (kept : IsSeen cell) (site : Site D) (is : IsSite told out has cell site)
+module _ {D : Type 0} (told : D → Told) (out : ℕ → Bool) (has : ℕ → Told) (cell : Cell) (site : Site D) (shows : Shows told out has cell site)
     (client volume : ℕ) (here : is_client_disk client ≡ true) (request : Request) (answered : List (List ℕ)) (reply : Reply) where
   pub missing_asked : (result : Option ℕ) (number : ℕ) → option_map refused.NoSuchActor result ≡ first_missing (client_at site client ∷ volume_at site volume ∷ []) → result ≡ Some number → reply ≡ refusal (refused.NoSuchActor number)
       → Becomes told out has (Asks cell client volume request) reply answered answered site
   missing_asked result number ensures found said =
-      let names = on_volume (state_of cell.made) client volume in
-      let missing : first_missing names ≡ Some (refused.NoSuchActor number) = ap first_missing (on_volume_at told out has cell kept site is client volume here) ∙ missing_some result (client_at site client ∷ volume_at site volume ∷ []) number found ensures in
+      let names = on_volume (state_of cell) client volume in
+      let missing : first_missing names ≡ Some (refused.NoSuchActor number) = ap first_missing (on_volume_at told out has cell site shows client volume here) ∙ missing_some result (client_at site client ∷ volume_at site volume ∷ []) number found ensures in
       missing_becomes told out has cell names (client_down cell client) (λ reply outside new. (outside ≡ []) × Answers cell client volume request reply new) reply answered site (refused.NoSuchActor number) missing (
         refl,
         record {
@@ -118,11 +118,11 @@ module _ {D : Type 0} (told : D → Told) (out : ℕ → Bool) (has : ℕ → To
           does = named_missing (on_volume (met_by cell volume) client volume) (refused.NoSuchActor number) (ByClient (met_by cell volume) client volume request) reply missing said;
           ends = inl (tt, refl, refl);
         },
-      ) is
+      ) shows.stands
 
   pub down_asked : (number : ℕ) (up : Bool) → first_missing (client_at site client ∷ volume_at site volume ∷ []) ≡ None → number ≡ client → up ≡ is_up (client_form told) (slot_at site.clients number) → up ≡ false → reply ≡ refused_down
       → Becomes told out has (Asks cell client volume request) reply answered answered site
   down_asked number up there same tells down said =
-      down_becomes told out has cell (on_volume (state_of cell.made) client volume) (client_down cell client) (λ reply outside new. (outside ≡ []) × Answers cell client volume request reply new) reply answered site
-      (ap first_missing (on_volume_at told out has cell kept site is client volume here) ∙ there)
-      (client_down_by told out has cell kept site is client number (volume_at site volume ∷ []) up here there same tells ∙ ap not down) said is
+      down_becomes told out has cell (on_volume (state_of cell) client volume) (client_down cell client) (λ reply outside new. (outside ≡ []) × Answers cell client volume request reply new) reply answered site
+      (ap first_missing (on_volume_at told out has cell site shows client volume here) ∙ there)
+      (client_down_by told out has cell site shows client number (volume_at site volume ∷ []) up here there same tells ∙ ap not down) said shows.stands

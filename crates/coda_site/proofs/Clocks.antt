@@ -5,11 +5,11 @@ use Rattle.coda_net.specs.Pool.{Pool}
 use Rattle.coda_script.specs.declared.line.Strength.{Strength}
 use Rattle.coda_cell.specs.Cells.{linked_in}
 use Rattle.coda_cell.specs.State.{later, linked, Ticked, LinkSet}
-use Rattle.coda_stored.specs.Cells.{StoredCell, after}
+use Rattle.coda_shelves.specs.Cells.{Cell, after}
 use Rattle.coda_site.specs.Sites.{IsSite}
 use Rattle.coda_site.specs.declared.site.Site.{Site}
 
-module _ {D : Type 0} (told : D → Told) (out : ℕ → Bool) (has : ℕ → Told) (cell : StoredCell) (site : Site D) (is : IsSite told out has cell site) where
+module _ {D : Type 0} (told : D → Told) (out : ℕ → Bool) (has : ℕ → Told) (cell : Cell) (site : Site D) (is : IsSite told out has cell site) where
   pub ticked : (seconds clock : ℕ) → clock ≡ later site.clock seconds → IsSite told out has (after cell (Ticked seconds)) (record site { clock = clock })
   ticked seconds clock same = record {
     clock = ap (λ (c : ℕ). later c seconds) is.clock ∙ sym same;
@@ -18,7 +18,7 @@ module _ {D : Type 0} (told : D → Told) (out : ℕ → Bool) (has : ℕ → To
     places = is.places;
     areas = is.areas;
     clients = is.clients;
-    replicas = (is.replicas.0, record { placed = is.replicas.1.placed; others = is.replicas.1.others }, is.replicas.2);
+    replicas = is.replicas;
     net = record { links_are = is.net.links_are; letters = is.net.letters; posted_are = is.net.posted_are };
   }
 
@@ -31,7 +31,7 @@ module _ {D : Type 0} (told : D → Told) (out : ℕ → Bool) (has : ℕ → To
     places = is.places;
     areas = is.areas;
     clients = is.clients;
-    replicas = (is.replicas.0, record { placed = is.replicas.1.placed; others = is.replicas.1.others }, is.replicas.2);
+    replicas = is.replicas;
     net = record {
       links_are = λ c s. ap (λ (l : Strength). cond ((c == client) && (s == server)) strength l) (is.net.links_are c s) ∙ sym (links c s);
       letters = record { letters = letters ∙ is.net.letters.letters; said = is.net.letters.said };

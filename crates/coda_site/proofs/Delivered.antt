@@ -1,5 +1,5 @@
 -- What letters that come, and letters that are lost, leave of a site.
-use Rattle.std.proofs.Common.{◌≡◌, ◌≢◌, ℕ, Bool, true, false, cond, ◌&&◌, not, List, [], ◌∷◌, ◌++◌, append-nil, map, Option, Some, None, option_map, Result, Ok, Err, refl, sym, ap, subst, ◌∙◌, inl, inr}
+use Rattle.std.proofs.Common.{◌≡◌, ◌≢◌, ℕ, Bool, true, false, cond, ◌&&◌, not, List, [], ◌∷◌, ◌++◌, append-nil, map, Option, Some, None, is_some, option_map, Result, Ok, Err, refl, sym, ap, subst, ◌∙◌, inl, inr}
 use Rattle.std.specs.Prelude.{⊤, nat_eq}
 use Rattle.std.specs.BTreeMap.{BTreeMap}
 use Rattle.coda_disk.specs.Told.{Told}
@@ -40,7 +40,7 @@ use Rattle.coda_venus.specs.declared.refused.Refused.{Refused as VenusRefused}
 use Rattle.coda_venus.specs.declared.venus.Venus.{Venus}
 use Rattle.coda_cell.specs.Cells.{strength_of}
 use Rattle.coda_cell.specs.Refusing.{letter_refused_as}
-use Rattle.coda_cell.specs.Made.{client_of, state_of}
+use Rattle.coda_cell.specs.Made.{client_of}
 use Rattle.coda_cell.specs.Messages.{Ending, posting, ruled_in, reply_taken, taken_in}
 use Rattle.coda_cell.specs.Refusing.{refusal}
 use Rattle.coda_cell.specs.Sending.{Ruling, ruling, Taking, taking, deeds_at, entries_at, reply_answer}
@@ -52,30 +52,29 @@ use Rattle.coda_cell.proofs.Delivering.{Came as LetterCame, came, chunk_of, answ
 use Rattle.coda_matching.specs.Clients.{journal_by}
 use Rattle.coda_matching.specs.Replicas.{RulingEnds}
 use Rattle.coda_sending.specs.Ending.{entries_on, deeds_by, nothing_said, TakingEnds}
-use Rattle.coda_stored.specs.Cells.{StoredCell, after, after_all}
-use Rattle.coda_stored.specs.Seen.{IsSeen}
-use Rattle.coda_stored.specs.Lines.{is_cut, refused_down, refused_full, client_down, replica_down, receiver_down, EndsBy, Becoming, UnlessDown, Acts, Happens}
-use Rattle.coda_stored.specs.Room.{Fits as FitsEvents}
+use Rattle.coda_shelves.specs.Cells.{Cell, state_of, after, after_all}
+use Rattle.coda_shelves.specs.Lines.{refused_down, refused_full, client_down, replica_down, is_cut, receiver, is_down_for, Fits as FitsEvents, EndsBy, Acts, Becoming, UnlessDown, Happens}
 use Rattle.coda_site.specs.Chunks.{volume_by, replica_by, ClientEnds, ReplicaEnds}
 use Rattle.coda_site.specs.Drains.{ActsBy, Came, taker_down, CameTo}
+use Rattle.coda_site.specs.Shelves.{Shows}
 use Rattle.coda_site.specs.Sites.{is_client_disk, place_in, IsSite}
 use Rattle.coda_site.specs.Steps.{Becomes}
 use Rattle.coda_site.specs.declared.site.Place.{Place}
 use Rattle.coda_site.specs.declared.site.Site.{Site}
 use Rattle.coda_site.proofs.Becomings.{RepliesTo, named_there, named_missing, missing_becomes, down_becomes, up_becomes, becomes_as}
 use Rattle.coda_site.proofs.ClientSites.{IsClientUp, up_at, with_clients, entered, entries_fit, leaves}
-use Rattle.coda_site.proofs.ReplicaSites.{IsReplicaThere, replica_is, there, home_is, apart_in, IsApart, with_decided, decided_left, with_replicas}
+use Rattle.coda_site.proofs.ReplicaSites.{StandsAt, stands_at, IsReplicaThere, replica_is, there, with_decided, decided_left, with_replicas}
 use Rattle.coda_site.proofs.Stages.{ends_behind, EndsAt, IsFirst, client_refused, IsRuledFirst, UnruledReply, ruled_fits, ruled_left, replica_refused}
 use Rattle.coda_site.proofs.Drained as exchange
 use Rattle.coda_site.proofs.Holders.{names_in, missing_named, client_down_by, replica_down_by}
 use Rattle.coda_site.proofs.Posted.{with_net, posted_site, posted_number, posting_fits, lost_site, unlost_site}
 
 -- what a replica that is up is
-pub shown_by : {D : Type 0} (told : D → Told) (out : ℕ → Bool) (has : ℕ → Told) (cell : StoredCell) (site : Site D) (is : IsSite told out has cell site) (volume : ℕ) (place : Place) (at : place_in site volume ≡ Some place) (header : Header) (replica : Replica D)
-    → IsReplicaThere told out has cell site is volume place at header replica → (state_of cell.made).replicas volume ≡ Some (replica_by header (cell.made.acted.replicas place.server volume).history)
+pub shown_by : {D : Type 0} (told : D → Told) (out : ℕ → Bool) (has : ℕ → Told) (cell : Cell) (site : Site D) (is : IsSite told out has cell site) (volume : ℕ) (place : Place) (at : StandsAt cell.rows volume place) (header : Header) (replica : Replica D)
+    → IsReplicaThere told out has cell site is volume place at header replica → (state_of cell).replicas volume ≡ Some (replica_by header (cell.replicas at.row place.server).disk.history)
 shown_by told out has cell site is volume place at header replica there =
     replica_is told out has cell site is volume place at
-    ∙ (λ i. Some (replica_after_all (new_replica (sym there.up.home i) (sym there.up.number i)) (cell.made.acted.replicas place.server volume).history))
+    ∙ (λ i. Some (replica_after_all (new_replica (sym there.up.home i) (sym there.up.number i)) (cell.replicas at.row place.server).disk.history))
 
 -- ---- messages by their parts
 
@@ -105,23 +104,26 @@ said_of number (l ∷ waiting) sent can e = by (nat_eq number l.0) e (said_of nu
 
 -- ---- a chunk comes to a replica
 
-module _ {D : Type 0} (told : D → Told) (out : ℕ → Bool) (has : ℕ → Told) (cell : StoredCell) (kept : IsSeen cell) (site : Site D) (is : IsSite told out has cell site) (client server volume disk number : ℕ) (replica_on : is_up (replica_form told) (slot_at site.replicas disk) ≡ true)
-    (place : Place) (at : place_in site volume ≡ Some place) (disk_is : place.disk ≡ disk) (home : place.server ≡ server) (named : first_missing (on_holder (state_of cell.made) client volume server) ≡ None)
+module _ {D : Type 0} (told : D → Told) (out : ℕ → Bool) (has : ℕ → Told) (cell : Cell) (site : Site D) (shows : Shows told out has cell site) (client server volume disk number : ℕ) (replica_on : is_up (replica_form told) (slot_at site.replicas disk) ≡ true)
+    (place : Place) (placed : place_in site volume ≡ Some place) (disk_is : place.disk ≡ disk) (home : place.server ≡ server) (named : first_missing (on_holder (state_of cell) client volume server) ≡ None)
     (recs : List Record) (span : List Record) (sent : recs ≡ sent_of span) where
-  r : (header : Header) × (replica : Replica D) × IsReplicaThere told out has cell site is volume place at header replica
-  r = there told out has cell site is volume place at kept (subst (λ (d : ℕ). is_up (replica_form told) (slot_at site.replicas d) ≡ true) (sym disk_is) replica_on)
+  abbrev is : IsSite told out has cell site
+  is = shows.stands
 
-  apart : IsApart cell volume
-  apart = apart_in cell volume place.server kept (home_is told out has cell site is volume place at)
+  at : StandsAt cell.rows volume place
+  at = stands_at told out has cell site shows volume place placed
+
+  r : (header : Header) × (replica : Replica D) × IsReplicaThere told out has cell site is volume place at header replica
+  r = there told out has cell site is volume place at shows.kept (subst (λ (d : ℕ). is_up (replica_form told) (slot_at site.replicas d) ≡ true) (sym disk_is) replica_on)
 
   abbrev g : List ReplicaEntry
-  g = (cell.made.acted.replicas place.server volume).history
+  g = (cell.replicas at.row place.server).disk.history
 
   abbrev state : ReplicaState
   state = replica_by r.0 g
 
   abbrev s : CellState
-  s = state_of cell.made
+  s = state_of cell
 
   abbrev wanted : Result Ruling Refused
   wanted = ruling client number span state
@@ -172,7 +174,7 @@ module _ {D : Type 0} (told : D → Told) (out : ℕ → Bool) (has : ℕ → To
     unruled_came why rules reply replied =
         let x = w (Err why) rules in
         ruled_by (with_replicas site replicas) reply
-        (replica_refused told out has cell site is volume place at apart replicas slots_there r.0 r.1 x.0 r.2.lent r.2.up x.1 client number span (outcome wanted).events (reply_to (outcome wanted).said) (rule_first wanted) why reply x.2 replied)
+        (replica_refused told out has cell site is volume place at replicas slots_there r.0 r.1 x.0 r.2.lent r.2.up x.1 client number span (outcome wanted).events (reply_to (outcome wanted).said) (rule_first wanted) why reply x.2 replied)
 
     -- it was done, and the answer goes out
     module _ (answer : Answer) (rules : ReplicaEnds told disk site.replicas replicas (AsRuled (Ok answer))) (net : Pool) (links : net.links ≡ site.net.links) (going : ℕ) (posts : (waiting : Waiting) → AreLetters waiting site.net → IsPosted waiting (AnswerSent server client volume number answer) site.net going net)
@@ -186,27 +188,27 @@ module _ {D : Type 0} (told : D → Told) (out : ℕ → Bool) (has : ℕ → To
       abbrev decided : List Event
       decided = entries_at place.server volume ruled.entries
 
-      abbrev cell1 : StoredCell
-      cell1 = with_decided cell place.server volume ruled.entries
+      abbrev cell1 : Cell
+      cell1 = with_decided cell at.row place.server ruled.entries
 
       abbrev site1 : Site D
       site1 = with_replicas site replicas
 
       is1 : IsSite told out has cell1 site1
-      is1 = subst (λ (c : StoredCell). IsSite told out has c site1) (decided_left cell place.server volume ruled.entries)
-          (ruled_left told out has cell site is volume place at apart replicas slots_there r.0 r.1 x.0 r.2.lent r.2.up x.1 client number span ruled x.2.1 x.2.3)
+      is1 = subst (λ (c : Cell). IsSite told out has c site1) (decided_left cell volume place at ruled.entries)
+          (ruled_left told out has cell site is volume place at replicas slots_there r.0 r.1 x.0 r.2.lent r.2.up x.1 client number span ruled x.2.1 x.2.3)
 
       fits1 : FitsEvents cell decided
-      fits1 = ruled_fits told out has cell site is volume place at apart replicas slots_there r.0 r.1 x.0 r.2.lent r.2.up x.1 client number span ruled x.2.1 x.2.3
+      fits1 = ruled_fits told out has cell site is volume place at replicas slots_there r.0 r.1 x.0 r.2.lent r.2.up x.1 client number span ruled x.2.1 x.2.3
 
       abbrev says : Sent
       says = AnswerSent server client volume number ruled.answer
 
-      posted : IsPosted cell.made.waiting says site.net going net
-      posted = subst (λ (a : Answer). IsPosted cell.made.waiting (AnswerSent server client volume number a) site.net going net) x.2.2 (posts cell.made.waiting is.net.letters)
+      posted : IsPosted cell.waiting says site.net going net
+      posted = subst (λ (a : Answer). IsPosted cell.waiting (AnswerSent server client volume number a) site.net going net) x.2.2 (posts cell.waiting is.net.letters)
 
       abbrev events : List Event
-      events = posting says cell.made.waiting
+      events = posting says cell.waiting
 
       abbrev delivered : Reply
       delivered = replies.Delivered number said going
@@ -220,20 +222,20 @@ module _ {D : Type 0} (told : D → Told) (out : ℕ → Bool) (has : ℕ → To
             subst (λ (o : Result Ruling Refused). EndsBy cell (outcome o).events (reply_to (outcome o).said) delivered left) (sym x.2.1)
                 (subst (λ (at_server : ℕ). EndsBy cell (entries_at at_server volume ruled.entries ++ events) (reply_to (outcome (Ok ruled)).said) delivered left) home
                 (ends_behind cell decided events (reply_to (outcome (Ok ruled)).said) delivered left fits1
-                (subst (λ (c : StoredCell). EndsBy c events (reply_to (outcome (Ok ruled)).said) delivered left) (sym (decided_left cell place.server volume ruled.entries))
+                (subst (λ (c : Cell). EndsBy c events (reply_to (outcome (Ok ruled)).said) delivered left) (sym (decided_left cell volume place at ruled.entries))
                 (inl (posting_fits told out has cell1 site1 is1 net says, own, refl))))),
             posted_site told out has cell1 site1 is1 net says going posted links,
           )
 
 -- ---- an answer comes to a client
 
-module _ {D : Type 0} (told : D → Told) (out : ℕ → Bool) (has : ℕ → Told) (seen : (d : D) → (told d).honest → (told d).may_leave (told d).seen) (cell : StoredCell) (kept : IsSeen cell) (site : Site D) (is : IsSite told out has cell site)
-    (client server volume number : ℕ) (here : is_client_disk client ≡ true) (on : is_up (client_form told) (slot_at site.clients client) ≡ true) (answer : Answer) (named : first_missing (on_holder (state_of cell.made) client volume server) ≡ None) where
+module _ {D : Type 0} (told : D → Told) (out : ℕ → Bool) (has : ℕ → Told) (seen : (d : D) → (told d).honest → (told d).may_leave (told d).seen) (cell : Cell) (site : Site D) (shows : Shows told out has cell site)
+    (client server volume number : ℕ) (here : is_client_disk client ≡ true) (on : is_up (client_form told) (slot_at site.clients client) ≡ true) (answer : Answer) (named : first_missing (on_holder (state_of cell) client volume server) ≡ None) where
   c : (header : Header) × (venus : Venus D) × IsClientUp told out cell site.clients client header venus
-  c = up_at told out has cell kept site client is here on
+  c = up_at told out has cell shows.kept site client shows.stands here on
 
   abbrev h : List ClientEntry
-  h = (cell.made.acted.clients client).history
+  h = (cell.clients client).disk.history
 
   abbrev wanted_taking : Result Taking Refused
   wanted_taking = taking number answer (volume_by c.0 h volume)
@@ -247,7 +249,7 @@ module _ {D : Type 0} (told : D → Told) (out : ℕ → Bool) (has : ℕ → To
     record {
       own = reply_to (ending wanted_taking).said;
       events = (ending wanted_taking).events;
-      does = named_there (on_holder (state_of cell.made) client volume server) (ByTaking (state_of cell.made) client volume number answer) (reply_to (ending wanted_taking).said) (ending wanted_taking).events named (record {
+      does = named_there (on_holder (state_of cell) client volume server) (ByTaking (state_of cell) client volume number answer) (reply_to (ending wanted_taking).said) (ending wanted_taking).events named (record {
         client = client_of c.0.number h c.0.cache;
         there = c.2.shown;
         answered = refl;
@@ -272,26 +274,26 @@ module _ {D : Type 0} (told : D → Told) (out : ℕ → Bool) (has : ℕ → To
         taken_by (with_clients site clients) reply
         (client_refused told out has cell client (entries_on volume (deeds_by wanted_taking)) (nothing_said wanted_taking) (λ (a b : ⊤). a ≡ b) (with_clients site clients) (ending wanted_taking).events (reply_to (ending wanted_taking).said)
         (take_first wanted_taking) (λ (u : ⊤). refused_full) why reply
-        (leaves told out has cell site clients client c.0 c.1 y.0 is c.2 others y.1 (entries_on volume (deeds_by wanted_taking)) (nothing_said wanted_taking) (λ (a b : ⊤). a ≡ b) (Err why) (seen y.0.journal.disk) (y.2 h c.2.up c.2.lawful)) replied)
+        (leaves told out has cell site clients client c.0 c.1 y.0 shows.stands c.2 others y.1 (entries_on volume (deeds_by wanted_taking)) (nothing_said wanted_taking) (λ (a b : ⊤). a ≡ b) (Err why) (seen y.0.journal.disk) (y.2 h c.2.up c.2.lawful)) replied)
 
     pub taken_came : (u : ⊤) → ClientEnds told client site.clients clients (AsTaken (Ok u)) → (reply : Reply) → reply ≡ reply_taken number answer → Came told out has cell (AnswerSent server client volume number answer) reply (with_clients site clients)
     taken_came u takes reply replied =
         let y = takes c.0 c.1 c.2.slot in
         let t = exchange.taken_as told c.0 h volume wanted_taking y.0 u (y.2 h c.2.up c.2.lawful) in
         let entries = entries_on volume t.took.deeds in
-        let fits = entries_fit told out has cell site clients client c.0 c.1 y.0 is c.2 others y.1 entries [] (subst (λ (e : List ClientEntry). IsUp told c.0 y.0 (journal_by (h ++ e))) (sym (append-nil entries)) t.runs) in
+        let fits = entries_fit told out has cell site clients client c.0 c.1 y.0 shows.stands c.2 others y.1 entries [] (subst (λ (e : List ClientEntry). IsUp told c.0 y.0 (journal_by (h ++ e))) (sym (append-nil entries)) t.runs) in
         let left = after_all cell (map (at_client client) entries) in
         taken_by (with_clients site clients) reply (
           left,
           subst (λ (o : Result Taking Refused). EndsBy cell (ending o).events (reply_to (ending o).said) reply left) (sym t.is) (inl (fits, replied, refl)),
-          entered told out has cell site clients client c.0 c.1 y.0 is c.2 others y.1 entries t.runs,
+          entered told out has cell site clients client c.0 c.1 y.0 shows.stands c.2 others y.1 entries t.runs,
         )
 
 -- ---- whom it comes to
 
-module _ {D : Type 0} (told : D → Told) (out : ℕ → Bool) (has : ℕ → Told) (cell : StoredCell) (kept : IsSeen cell) (site : Site D) (is : IsSite told out has cell site) (client volume server : ℕ) (here : is_client_disk client ≡ true) (answered : List (List ℕ)) where
+module _ {D : Type 0} (told : D → Told) (out : ℕ → Bool) (has : ℕ → Told) (cell : Cell) (site : Site D) (shows : Shows told out has cell site) (client volume server : ℕ) (here : is_client_disk client ≡ true) (answered : List (List ℕ)) where
   abbrev names : List Named
-  names = on_holder (state_of cell.made) client volume server
+  names = on_holder (state_of cell) client volume server
 
   module _ (sent : Sent) (by : Doing) where
     abbrev own : Becoming
@@ -302,43 +304,43 @@ module _ {D : Type 0} (told : D → Told) (out : ℕ → Bool) (has : ℕ → To
 
   module _ (number : ℕ) (span : List Record) where
     abbrev chunk_does : Becoming
-    chunk_does = own (ChunkSent client server volume number span) (ByRuling (state_of cell.made) client server volume number span)
+    chunk_does = own (ChunkSent client server volume number span) (ByRuling (state_of cell) client server volume number span)
 
     pub chunk_missing : (result : Option ℕ) (n : ℕ) → result ≡ Some n → option_map refused.NoSuchActor result ≡ first_missing (names_in site client volume server) → (reply : Reply) → reply ≡ refusal (refused.NoSuchActor n)
         → Becomes told out has (CameTo cell (ChunkSent client server volume number span)) reply answered answered site
     chunk_missing result n e missing reply replied =
-        let none = missing_named told out has cell kept site is client volume server here result n e missing in
-        missing_becomes told out has cell names (replica_down cell volume) chunk_does reply answered site (refused.NoSuchActor n) none
-        (own_missing (ChunkSent client server volume number span) (ByRuling (state_of cell.made) client server volume number span) (refused.NoSuchActor n) reply none replied) is
+        let none = missing_named told out has cell site shows client volume server here result n e missing in
+        missing_becomes told out has cell names (replica_down cell server volume) chunk_does reply answered site (refused.NoSuchActor n) none
+        (own_missing (ChunkSent client server volume number span) (ByRuling (state_of cell) client server volume number span) (refused.NoSuchActor n) reply none replied) shows.stands
 
     module _ (none : first_missing names ≡ None) (place : Place) (at : place_in site volume ≡ Some place) where
       pub chunk_down : (reply : Reply) → reply ≡ refused_down → is_up (replica_form told) (slot_at site.replicas place.disk) ≡ false → Becomes told out has (CameTo cell (ChunkSent client server volume number span)) reply answered answered site
-      chunk_down reply replied off = down_becomes told out has cell names (replica_down cell volume) chunk_does reply answered site none (replica_down_by told out has cell kept site is client volume server here none place false at off) replied is
+      chunk_down reply replied off = down_becomes told out has cell names (replica_down cell server volume) chunk_does reply answered site none (replica_down_by told out has cell site shows client volume server here none place false at off) replied shows.stands
 
       pub chunk_came : is_up (replica_form told) (slot_at site.replicas place.disk) ≡ true → (reply : Reply) (after : Site D) → Came told out has cell (ChunkSent client server volume number span) reply after
           → Becomes told out has (CameTo cell (ChunkSent client server volume number span)) reply answered answered after
       chunk_came on reply after (left, acts, stands) =
-          up_becomes told out has cell names (replica_down cell volume) chunk_does reply answered after none (replica_down_by told out has cell kept site is client volume server here none place true at on) left (refl, acts) stands
+          up_becomes told out has cell names (replica_down cell server volume) chunk_does reply answered after none (replica_down_by told out has cell site shows client volume server here none place true at on) left (refl, acts) stands
 
   module _ (number : ℕ) (answer : Answer) where
     abbrev answer_does : Becoming
-    answer_does = own (AnswerSent server client volume number answer) (ByTaking (state_of cell.made) client volume number answer)
+    answer_does = own (AnswerSent server client volume number answer) (ByTaking (state_of cell) client volume number answer)
 
     pub answer_missing : (result : Option ℕ) (n : ℕ) → result ≡ Some n → option_map refused.NoSuchActor result ≡ first_missing (names_in site client volume server) → (reply : Reply) → reply ≡ refusal (refused.NoSuchActor n)
         → Becomes told out has (CameTo cell (AnswerSent server client volume number answer)) reply answered answered site
     answer_missing result n e missing reply replied =
-        let none = missing_named told out has cell kept site is client volume server here result n e missing in
+        let none = missing_named told out has cell site shows client volume server here result n e missing in
         missing_becomes told out has cell names (client_down cell client) answer_does reply answered site (refused.NoSuchActor n) none
-        (own_missing (AnswerSent server client volume number answer) (ByTaking (state_of cell.made) client volume number answer) (refused.NoSuchActor n) reply none replied) is
+        (own_missing (AnswerSent server client volume number answer) (ByTaking (state_of cell) client volume number answer) (refused.NoSuchActor n) reply none replied) shows.stands
 
     module _ (none : first_missing names ≡ None) where
       pub answer_down : (reply : Reply) → reply ≡ refused_down → is_up (client_form told) (slot_at site.clients client) ≡ false → Becomes told out has (CameTo cell (AnswerSent server client volume number answer)) reply answered answered site
-      answer_down reply replied off = down_becomes told out has cell names (client_down cell client) answer_does reply answered site none (client_down_by told out has cell kept site is client volume server here none false off) replied is
+      answer_down reply replied off = down_becomes told out has cell names (client_down cell client) answer_does reply answered site none (client_down_by told out has cell site shows client volume server here none false off) replied shows.stands
 
       pub answer_came : is_up (client_form told) (slot_at site.clients client) ≡ true → (reply : Reply) (after : Site D) → Came told out has cell (AnswerSent server client volume number answer) reply after
           → Becomes told out has (CameTo cell (AnswerSent server client volume number answer)) reply answered answered after
       answer_came on reply after (left, acts, stands) =
-          up_becomes told out has cell names (client_down cell client) answer_does reply answered after none (client_down_by told out has cell kept site is client volume server here none true on) left (refl, acts) stands
+          up_becomes told out has cell names (client_down cell client) answer_does reply answered after none (client_down_by told out has cell site shows client volume server here none true on) left (refl, acts) stands
 
 -- ---- lines
 
@@ -352,35 +354,41 @@ down_link link.Strong e = cc
 down_link link.Weak e = cc
 down_link link.Down e = (refl, refl)
 
--- who is down that it needs, by its link
-by_link : (cell : StoredCell) (sent : Sent) → receiver_down cell (Some sent) ≡ (not (is_cut (cell.made.links (sent_client sent) (sent_server sent))) && taker_down cell sent)
-by_link cell (ChunkSent client server volume number span) = refl
-by_link cell (AnswerSent server client volume number answer) = refl
+between : (a b c : Bool) → (a && (b && c)) ≡ (b && (a && c))
+between true true c = refl
+between true false c = refl
+between false true c = refl
+between false false c = refl
 
-unless_as : (one other : Bool) (cell : StoredCell) (a b : Becoming) (reply : Reply) (outside : List (List ℕ)) (left : StoredCell) → one ≡ other → (a reply outside left → b reply outside left) → UnlessDown one cell a reply outside left → UnlessDown other cell b reply outside left
+-- who is down that it needs, by its link
+by_link : (cell : Cell) (sent : Sent) → is_down_for (receiver cell (Some sent)) ≡ (not (is_cut (cell.links (sent_client sent) (sent_server sent))) && taker_down cell sent)
+by_link cell (ChunkSent client server volume number span) = between (not (is_some (first_missing (on_holder (state_of cell) client volume server)))) (not (is_cut (cell.links client server))) (replica_down cell server volume)
+by_link cell (AnswerSent server client volume number answer) = between (not (is_some (first_missing (on_holder (state_of cell) client volume server)))) (not (is_cut (cell.links client server))) (client_down cell client)
+
+unless_as : (one other : Bool) (cell : Cell) (a b : Becoming) (reply : Reply) (outside : List (List ℕ)) (left : Cell) → one ≡ other → (a reply outside left → b reply outside left) → UnlessDown one cell a reply outside left → UnlessDown other cell b reply outside left
 unless_as true true cell a b reply outside left same goes is = is
 unless_as false false cell a b reply outside left same goes is = goes is
 unless_as true false cell a b reply outside left same goes is = (let no : true ≡ false = same in cc)
 unless_as false true cell a b reply outside left same goes is = (let no : false ≡ true = same in cc)
 
-module _ {D : Type 0} (told : D → Told) (out : ℕ → Bool) (has : ℕ → Told) (cell : StoredCell) (site : Site D) (is : IsSite told out has cell site) (number : ℕ) (answered : List (List ℕ)) where
+module _ {D : Type 0} (told : D → Told) (out : ℕ → Bool) (has : ℕ → Told) (cell : Cell) (site : Site D) (is : IsSite told out has cell site) (number : ℕ) (answered : List (List ℕ)) where
   abbrev at_first : CellState
-  at_first = state_of cell.made
+  at_first = state_of cell
 
   abbrev IsDelivered : Reply → Site D → Type 0
   IsDelivered reply after = Becomes told out has (Happens cell (line.Deliver number)) reply answered answered after
 
-  linked : (sent : Sent) → cell.made.links (sent_client sent) (sent_server sent) ≡ strength_of (link_of site.net (sent_client sent) (sent_server sent))
+  linked : (sent : Sent) → cell.links (sent_client sent) (sent_server sent) ≡ strength_of (link_of site.net (sent_client sent) (sent_server sent))
   linked sent = is.net.links_are (sent_client sent) (sent_server sent)
 
   -- a letter came to whom it was sent
-  came_to : (m : Message) (c : LetterCame cell.made.waiting site.net number m) (sent : Sent) → c.sent ≡ sent → (reply : Reply) (after : Site D) → Becomes told out has (CameTo cell sent) reply answered answered after → IsDelivered reply after
+  came_to : (m : Message) (c : LetterCame cell.waiting site.net number m) (sent : Sent) → c.sent ≡ sent → (reply : Reply) (after : Site D) → Becomes told out has (CameTo cell sent) reply answered answered after → IsDelivered reply after
   came_to m c sent same reply after b =
       let on = up_link (link_of site.net (sent_client sent) (sent_server sent)) (subst (λ (x : Sent). is_down (link_of site.net (sent_client x) (sent_server x)) ≡ false) same c.up) in
-      let waits : sent_at number cell.made.waiting ≡ Some sent = c.at ∙ ap Some same in
+      let waits : sent_at number cell.waiting ≡ Some sent = c.at ∙ ap Some same in
       becomes_as told out has (CameTo cell sent) (Happens cell (line.Deliver number)) reply answered answered after (λ outside left.
-      unless_as (taker_down cell sent) (receiver_down cell (sent_at number cell.made.waiting)) cell (λ reply outside new. (outside ≡ []) × ActsBy (Comes at_first sent) cell reply new) (λ reply outside new. (outside ≡ []) × Acts cell (line.Deliver number) reply new) reply outside left
-      (sym (ap (receiver_down cell) waits ∙ by_link cell sent ∙ ap (λ (x : Strength). not (is_cut x) && taker_down cell sent) (linked sent) ∙ ap (λ (x : Bool). not x && taker_down cell sent) on.1))
+      unless_as (taker_down cell sent) (is_down_for (receiver cell (sent_at number cell.waiting))) cell (λ reply outside new. (outside ≡ []) × ActsBy (Comes at_first sent) cell reply new) (λ reply outside new. (outside ≡ []) × Acts cell (line.Deliver number) reply new) reply outside left
+      (sym (ap (λ (o : Option Sent). is_down_for (receiver cell o)) waits ∙ by_link cell sent ∙ ap (λ (x : Strength). not (is_cut x) && taker_down cell sent) (linked sent) ∙ ap (λ (x : Bool). not x && taker_down cell sent) on.1))
       (λ does. (
         does.0,
         record {
@@ -393,40 +401,40 @@ module _ {D : Type 0} (told : D → Told) (out : ℕ → Bool) (has : ℕ → To
       ))) b
 
   -- a chunk came
-  pub chunk_delivered : (client server volume chunk : ℕ) (recs : List Record) → LettersDeliver cell.made.waiting site.net number (Ok (Chunk client server volume chunk recs)) → (reply : Reply) (after : Site D)
+  pub chunk_delivered : (client server volume chunk : ℕ) (recs : List Record) → LettersDeliver cell.waiting site.net number (Ok (Chunk client server volume chunk recs)) → (reply : Reply) (after : Site D)
       → ((span : List Record) → recs ≡ sent_of span → Becomes told out has (CameTo cell (ChunkSent client server volume chunk span)) reply answered answered after) → IsDelivered reply after
   chunk_delivered client server volume chunk recs delivers reply after comes =
-      let c = came cell.made.waiting site.net number (Chunk client server volume chunk recs) delivers in
+      let c = came cell.waiting site.net number (Chunk client server volume chunk recs) delivers in
       let x = chunk_of c.sent client server volume chunk recs c.says in
       came_to (Chunk client server volume chunk recs) c (ChunkSent client server volume chunk x.0) x.2 reply after (comes x.0 x.1)
 
   -- or an answer
-  pub answer_delivered : (server client volume chunk : ℕ) (answer : Answer) → LettersDeliver cell.made.waiting site.net number (Ok (Verdict server client volume chunk answer)) → (reply : Reply) (after : Site D)
+  pub answer_delivered : (server client volume chunk : ℕ) (answer : Answer) → LettersDeliver cell.waiting site.net number (Ok (Verdict server client volume chunk answer)) → (reply : Reply) (after : Site D)
       → Becomes told out has (CameTo cell (AnswerSent server client volume chunk answer)) reply answered answered after → IsDelivered reply after
   answer_delivered server client volume chunk answer delivers reply after comes =
-      let c = came cell.made.waiting site.net number (Verdict server client volume chunk answer) delivers in
+      let c = came cell.waiting site.net number (Verdict server client volume chunk answer) delivers in
       came_to (Verdict server client volume chunk answer) c (AnswerSent server client volume chunk answer) (answer_of c.sent server client volume chunk answer c.says) reply after comes
 
   -- nothing came
-  stays : (o : Option Sent) → sent_at number cell.made.waiting ≡ o → receiver_down cell o ≡ false → (reply : Reply) → Delivers at_first number o reply [] → IsDelivered reply site
+  stays : (o : Option Sent) → sent_at number cell.waiting ≡ o → is_down_for (receiver cell o) ≡ false → (reply : Reply) → Delivers at_first number o reply [] → IsDelivered reply site
   stays o at off reply does = record {
     outside = [];
     left = cell;
-    happens = subst (λ (b : Bool). UnlessDown b cell (λ reply outside new. (outside ≡ []) × Acts cell (line.Deliver number) reply new) reply [] cell) (sym (ap (receiver_down cell) at ∙ off))
+    happens = subst (λ (b : Bool). UnlessDown b cell (λ reply outside new. (outside ≡ []) × Acts cell (line.Deliver number) reply new) reply [] cell) (sym (ap (λ (x : Option Sent). is_down_for (receiver cell x)) at ∙ off))
         (refl, record { own = reply; events = []; does = subst (λ (x : Option Sent). Delivers at_first number x reply []) (sym at) does; ends = inl (tt, refl, refl) });
     answered = sym (append-nil answered);
     stands = is;
   }
 
-  pub not_delivered : (why : LetterFault) → LettersDeliver cell.made.waiting site.net number (Err why) → (reply : Reply) → (why ≢ letter.Memory) × (reply ≡ refusal (letter_refused_as why)) → IsDelivered reply site
+  pub not_delivered : (why : LetterFault) → LettersDeliver cell.waiting site.net number (Err why) → (reply : Reply) → (why ≢ letter.Memory) × (reply ≡ refusal (letter_refused_as why)) → IsDelivered reply site
   not_delivered why (inl memory) reply replied = (let same : why ≡ letter.Memory = cc in absurd (replied.0 same))
-  not_delivered why (inr to) reply replied = by (sent_at number cell.made.waiting) refl to
+  not_delivered why (inr to) reply replied = by (sent_at number cell.waiting) refl to
     where
       down : (sent : Sent) (b : Bool) → (let r : Result Message LetterFault = Err why in let x : Result Message LetterFault = cond b (Err letter.LinkDown) (Ok (message_of sent)) in r ≡ x) → (why ≡ letter.LinkDown) × (b ≡ true)
       down sent true e = ((let same : why ≡ letter.LinkDown = cc in same), refl)
       down sent false e = cc
 
-      by : (o : Option Sent) → sent_at number cell.made.waiting ≡ o → DeliversTo site.net number o (Err why) → IsDelivered reply site
+      by : (o : Option Sent) → sent_at number cell.waiting ≡ o → DeliversTo site.net number o (Err why) → IsDelivered reply site
       by None at e = (let same : why ≡ letter.NoMessage number = cc in stays None at refl reply (replied.1 ∙ ap (λ w. refusal (letter_refused_as w)) same, refl))
       by (Some sent) at e =
           let d = down sent (is_down (link_of site.net (sent_client sent) (sent_server sent))) e in
@@ -439,10 +447,10 @@ module _ {D : Type 0} (told : D → Told) (out : ℕ → Bool) (has : ℕ → To
   abbrev IsLost : Reply → Site D → Type 0
   IsLost reply after = Becomes told out has (Happens cell (line.Lose number)) reply answered answered after
 
-  pub letter_lost : (net : Pool) → net.posted ≡ site.net.posted → net.links ≡ site.net.links → LettersLose cell.made.waiting number (Ok tt) net → IsLost (replies.Lost number) (with_net site net)
-  letter_lost net posted links loses = by (sent_at number cell.made.waiting) refl loses
+  pub letter_lost : (net : Pool) → net.posted ≡ site.net.posted → net.links ≡ site.net.links → LettersLose cell.waiting number (Ok tt) net → IsLost (replies.Lost number) (with_net site net)
+  letter_lost net posted links loses = by (sent_at number cell.waiting) refl loses
     where
-      by : (o : Option Sent) → sent_at number cell.made.waiting ≡ o → LosesTo o cell.made.waiting number (Ok tt) net → IsLost (replies.Lost number) (with_net site net)
+      by : (o : Option Sent) → sent_at number cell.waiting ≡ o → LosesTo o cell.waiting number (Ok tt) net → IsLost (replies.Lost number) (with_net site net)
       by None at l = (let no = l.0 in cc)
       by (Some sent) at l = record {
         outside = [];
@@ -452,11 +460,11 @@ module _ {D : Type 0} (told : D → Told) (out : ℕ → Bool) (has : ℕ → To
         stands = lost_site told out has cell site is net number l.1 posted links;
       }
 
-  pub not_lost : (net : Pool) → net.posted ≡ site.net.posted → net.links ≡ site.net.links → (why : LetterFault) → LettersLose cell.made.waiting number (Err why) net → (reply : Reply) → (why ≢ letter.Memory) × (reply ≡ refusal (letter_refused_as why))
+  pub not_lost : (net : Pool) → net.posted ≡ site.net.posted → net.links ≡ site.net.links → (why : LetterFault) → LettersLose cell.waiting number (Err why) net → (reply : Reply) → (why ≢ letter.Memory) × (reply ≡ refusal (letter_refused_as why))
       → IsLost reply (with_net site net)
-  not_lost net posted links why loses reply replied = by (sent_at number cell.made.waiting) refl loses
+  not_lost net posted links why loses reply replied = by (sent_at number cell.waiting) refl loses
     where
-      by : (o : Option Sent) → sent_at number cell.made.waiting ≡ o → LosesTo o cell.made.waiting number (Err why) net → IsLost reply (with_net site net)
+      by : (o : Option Sent) → sent_at number cell.waiting ≡ o → LosesTo o cell.waiting number (Err why) net → IsLost reply (with_net site net)
       by (Some sent) at l = (let no = l.0 in cc)
       by None at l = (let e = l.0 in let same : why ≡ letter.NoMessage number = cc in record {
         outside = [];

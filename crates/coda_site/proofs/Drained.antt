@@ -7,7 +7,7 @@ use Rattle.std.proofs.lemmas.Bool.{false≢true, eq-eqb}
 use Rattle.coda_disk.specs.Told.{Told}
 use Rattle.coda_fid.specs.declared.op.Record.{Record}
 use Rattle.coda_journal.specs.declared.header.Header.{Header}
-use Rattle.coda_plain.specs.Cell.{ClientEntry, Actor}
+use Rattle.coda_plain.specs.Cell.{ClientEntry}
 use Rattle.coda_plain.specs.Decisions.{sent_of}
 use Rattle.coda_script.specs.declared.line.Line.TheVariants as line
 use Rattle.coda_script.specs.declared.line.Strength.{Strength}
@@ -15,6 +15,7 @@ use Rattle.coda_script.specs.declared.line.Strength.TheVariants.{Strong, Weak, D
 use Rattle.coda_script.specs.declared.line.Task.TheVariants as task
 use Rattle.coda_script.specs.declared.reply.Reply.{Reply}
 use Rattle.coda_script.specs.declared.reply.Reply.TheVariants.{Drained}
+use Rattle.coda_actors.specs.Plain.{PlainActor}
 use Rattle.coda_actors.specs.declared.slot.Slot.{Slot}
 use Rattle.coda_actors.specs.declared.slot.Slot.TheVariants.{Started}
 use Rattle.coda_crew.specs.Crews.{slot_at, KeepsOtherSlots}
@@ -25,7 +26,7 @@ use Rattle.coda_venus.specs.Standing.{IsUp}
 use Rattle.coda_venus.specs.declared.refused.Refused.{Refused as VenusRefused}
 use Rattle.coda_venus.specs.declared.venus.Venus.{Venus}
 use Rattle.coda_cell.specs.Cells.{linked_in}
-use Rattle.coda_cell.specs.Made.{client_of, state_of}
+use Rattle.coda_cell.specs.Made.{client_of}
 use Rattle.coda_cell.specs.Refusing.{refusal}
 use Rattle.coda_cell.specs.Sending.{Freezing, freezing, Ruling, ruling, Taking, taking, Outcome, deeds_at, entries_at, reply_answer, answered_to, ruled_on, drained_of, drained, drain, stays}
 use Rattle.coda_cell.specs.State.{ClientVolume, ReplicaState, Event, at_client, new_replica, replica_after_all}
@@ -38,17 +39,16 @@ use Rattle.coda_matching.specs.Clients.{journal_by, IsClientHistory}
 use Rattle.coda_matching.specs.Replicas.{journal_at, RulingEnds}
 use Rattle.coda_sending.specs.Ending.{entries_on, deeds_for, number_said, FreezingEnds, deeds_by, nothing_said, TakingEnds}
 use Rattle.coda_sending.proofs.Kept.{GoesOn, frozen_so}
-use Rattle.coda_stored.specs.Cells.{StoredCell, after_all}
-use Rattle.coda_stored.specs.Lines.{is_cut, refused_full, EndsBy}
-use Rattle.coda_stored.specs.Room.{Fits as FitsEvents}
+use Rattle.coda_shelves.specs.Cells.{Cell, state_of, after_all}
+use Rattle.coda_shelves.specs.Lines.{refused_full, is_cut, Fits as FitsEvents, EndsBy}
 use Rattle.coda_site.specs.Chunks.{volume_by, replica_by}
 use Rattle.coda_site.specs.Drains.{Acted}
-use Rattle.coda_site.specs.Sites.{place_in, IsSite}
+use Rattle.coda_site.specs.Sites.{IsSite}
 use Rattle.coda_site.specs.declared.site.Place.{Place}
 use Rattle.coda_site.specs.declared.site.Site.{Site}
 use Rattle.coda_site.proofs.Becomings.{RepliesTo, named_there}
 use Rattle.coda_site.proofs.ClientSites.{IsClientUp, entries_left, history_left, with_entries, with_clients, entered, entries_fit, leaves}
-use Rattle.coda_site.proofs.ReplicaSites.{IsReplicaThere, replica_is, IsApart, with_replicas}
+use Rattle.coda_site.proofs.ReplicaSites.{StandsAt, IsReplicaThere, replica_is, with_replicas}
 use Rattle.coda_site.proofs.Stages.{ends_behind, EndsAt, IsFirst, client_refused, up_on, up_beside, clients_still, IsRuledFirst, UnruledReply, ruled_fits, ruled_left, replica_refused}
 
 -- ---- who is there
@@ -138,43 +138,43 @@ over_link Strong now window client volume v r up = refl
 over_link Weak now window client volume v r up = refl
 over_link Down now window client volume v r up = absurd (false≢true up)
 
-module _ {D : Type 0} (told : D → Told) (out : ℕ → Bool) (has : ℕ → Told) (cell : StoredCell) (site : Site D) (is : IsSite told out has cell site) (client volume server : ℕ)
-    (place : Place) (at : place_in site volume ≡ Some place) (home : place.server ≡ server) (ch : Header) (venus : Venus D) (up : IsClientUp told out cell site.clients client ch venus) where
+module _ {D : Type 0} (told : D → Told) (out : ℕ → Bool) (has : ℕ → Told) (cell : Cell) (site : Site D) (is : IsSite told out has cell site) (client volume server : ℕ)
+    (place : Place) (at : StandsAt cell.rows volume place) (home : place.server ≡ server) (ch : Header) (venus : Venus D) (up : IsClientUp told out cell site.clients client ch venus) where
   -- what the client has, and what the replica is
   abbrev pub h : List ClientEntry
-  h = (cell.made.acted.clients client).history
+  h = (cell.clients client).disk.history
 
   abbrev pub v : ClientVolume
   v = volume_by ch h volume
 
   module _ (rh : Header) (replica : Replica D) (there : IsReplicaThere told out has cell site is volume place at rh replica) where
     abbrev pub r : ReplicaState
-    r = replica_by rh (cell.made.acted.replicas place.server volume).history
+    r = replica_by rh (cell.replicas at.row place.server).disk.history
 
-    pub shown_replica : (state_of cell.made).replicas volume ≡ Some r
+    pub shown_replica : (state_of cell).replicas volume ≡ Some r
     shown_replica = replica_is told out has cell site is volume place at
-        ∙ (λ i. Some (replica_after_all (new_replica (sym there.up.home i) (sym there.up.number i)) (cell.made.acted.replicas place.server volume).history))
+        ∙ (λ i. Some (replica_after_all (new_replica (sym there.up.home i) (sym there.up.number i)) (cell.replicas at.row place.server).disk.history))
 
     pub server_is : r.server ≡ server
-    server_is = server_stays (new_replica rh.server rh.number) (cell.made.acted.replicas place.server volume).history ∙ there.up.home ∙ home
+    server_is = server_stays (new_replica rh.server rh.number) (cell.replicas at.row place.server).disk.history ∙ there.up.home ∙ home
 
     -- all three are there
-    pub all_named : first_missing (on_holder (state_of cell.made) client volume server) ≡ None
-    all_named = there_all (client_named (state_of cell.made) client) (volume_named (state_of cell.made) volume) (holder_named (state_of cell.made) server volume)
+    pub all_named : first_missing (on_holder (state_of cell) client volume server) ≡ None
+    all_named = there_all (client_named (state_of cell) client) (volume_named (state_of cell) volume) (holder_named (state_of cell) server volume)
         (ap is_some up.shown) (ap is_some shown_replica)
         (ap (λ (o : Option ReplicaState). option_map_or (λ (x : ReplicaState). x.server == server) o false) shown_replica ∙ eq-eqb r.server server server_is)
 
     -- nothing is drained over a link that carries nothing
     pub cut_drains : (window : ℕ) (reply : Reply) → linked_in site.net client server ≡ Down → reply ≡ refusal refused.LinkDown → Acted told out has cell (line.Task (task.Drain client volume server (Some window))) reply site
     cut_drains window reply cut replied =
-        let whole : drain (cell.made.links client r.server) cell.made.clock window client volume v r ≡ stays refused.LinkDown v r =
-        ap (λ (s : ℕ). drain (cell.made.links client s) cell.made.clock window client volume v r) server_is
-        ∙ ap (λ (x : Strength). drain x cell.made.clock window client volume v r) (is.net.links_are client server ∙ cut) in (
+        let whole : drain (cell.links client r.server) cell.clock window client volume v r ≡ stays refused.LinkDown v r =
+        ap (λ (s : ℕ). drain (cell.links client s) cell.clock window client volume v r) server_is
+        ∙ ap (λ (x : Strength). drain x cell.clock window client volume v r) (is.net.links_are client server ∙ cut) in (
           cell,
           record {
             own = refusal refused.LinkDown;
             events = [];
-            does = named_there (on_holder (state_of cell.made) client volume server) (ByBoth (state_of cell.made) client volume window) (refusal refused.LinkDown) [] all_named (record {
+            does = named_there (on_holder (state_of cell) client volume server) (ByBoth (state_of cell) client volume window) (refusal refused.LinkDown) [] all_named (record {
               client = client_of ch.number h ch.cache;
               replica = r;
               client_there = up.shown;
@@ -200,16 +200,16 @@ module _ {D : Type 0} (told : D → Told) (out : ℕ → Bool) (has : ℕ → To
       pub drains : (link : not (is_cut (linked_in site.net client server)) ≡ true) (after : Site D) (reply : Reply) → EndsAt told out has cell outcome.events (reply_to outcome.said) reply after
           → Acted told out has cell (line.Task (task.Drain client volume server (Some window))) reply after
       drains link after reply (left, ends, stands) =
-          let whole : drain (cell.made.links client r.server) cell.made.clock window client volume v r ≡ outcome =
-          ap (λ (s : ℕ). drain (cell.made.links client s) cell.made.clock window client volume v r) server_is
-          ∙ ap (λ (x : Strength). drain x cell.made.clock window client volume v r) (is.net.links_are client server)
-          ∙ over_link (linked_in site.net client server) cell.made.clock window client volume v r link
+          let whole : drain (cell.links client r.server) cell.clock window client volume v r ≡ outcome =
+          ap (λ (s : ℕ). drain (cell.links client s) cell.clock window client volume v r) server_is
+          ∙ ap (λ (x : Strength). drain x cell.clock window client volume v r) (is.net.links_are client server)
+          ∙ over_link (linked_in site.net client server) cell.clock window client volume v r link
           ∙ (λ i. drained_of client volume v r (freezing (is.clock i) window (server_is i) v)) in (
             left,
             record {
               own = reply_to outcome.said;
               events = outcome.events;
-              does = named_there (on_holder (state_of cell.made) client volume server) (ByBoth (state_of cell.made) client volume window) (reply_to outcome.said) outcome.events all_named (record {
+              does = named_there (on_holder (state_of cell) client volume server) (ByBoth (state_of cell) client volume window) (reply_to outcome.said) outcome.events all_named (record {
                 client = client_of ch.number h ch.cache;
                 replica = r;
                 client_there = up.shown;
@@ -240,26 +240,26 @@ module _ {D : Type 0} (told : D → Told) (out : ℕ → Bool) (has : ℕ → To
           abbrev entries : List ClientEntry
           entries = entries_on volume f.deeds
 
-          abbrev cell1 : StoredCell
+          abbrev cell1 : Cell
           cell1 = with_entries cell client entries
 
           so : (GoesOn ch h volume f.deeds f.volume) × (f.volume.front ≡ f.span)
           so = let s = frozen_so ch h volume up.lawful site.clock window server f froze.is in (s.0 froze.runs.lawful, s.1)
 
           is1 : IsSite told out has cell1 (with_clients site clients)
-          is1 = subst (λ (c : StoredCell). IsSite told out has c (with_clients site clients)) (entries_left cell client entries) (entered told out has cell site clients client ch venus frozen is up others put entries froze.runs)
+          is1 = subst (λ (c : Cell). IsSite told out has c (with_clients site clients)) (entries_left cell client entries) (entered told out has cell site clients client ch venus frozen is up others put entries froze.runs)
 
           fits1 : FitsEvents cell (map (at_client client) entries)
           fits1 = entries_fit told out has cell site clients client ch venus frozen is up others put entries []
               (subst (λ (e : List ClientEntry). IsUp told ch frozen (journal_by (h ++ e))) (sym (append-nil entries)) froze.runs)
 
           up1 : IsClientUp told out cell1 clients client ch frozen
-          up1 = subst (λ (c : StoredCell). IsClientUp told out c clients client ch frozen) (entries_left cell client entries) (up_on told out cell client ch site.clients clients venus frozen entries up put froze.runs so.0.lawful)
+          up1 = subst (λ (c : Cell). IsClientUp told out c clients client ch frozen) (entries_left cell client entries) (up_on told out cell client ch site.clients clients venus frozen entries up put froze.runs so.0.lawful)
 
-          volume1 : volume_by ch (cell1.made.acted.clients client).history volume ≡ f.volume
+          volume1 : volume_by ch (cell1.clients client).disk.history volume ≡ f.volume
           volume1 =
-              ap (λ (c : StoredCell). volume_by ch (c.made.acted.clients client).history volume) (sym (entries_left cell client entries))
-              ∙ ap (λ (a : Actor ClientEntry). volume_by ch a.history volume) (history_left cell client entries) ∙ so.0.leaves
+              ap (λ (c : Cell). volume_by ch (c.clients client).disk.history volume) (sym (entries_left cell client entries))
+              ∙ ap (λ (a : PlainActor ClientEntry). volume_by ch a.disk.history volume) (history_left cell client entries) ∙ so.0.leaves
 
           -- what is sent are its operations
           pub sent_is : (recs : List Record) → (IsClientHistory ch (h ++ entries) → recs ≡ sent_of (volume_by ch (h ++ entries) volume).front) → recs ≡ sent_of f.span
@@ -276,13 +276,13 @@ module _ {D : Type 0} (told : D → Told) (out : ℕ → Bool) (has : ℕ → To
             subst (λ (o : Outcome). EndsBy cell o.events (reply_to o.said) reply left) (sym outcome_is)
                 (subst (λ (e : List Event). EndsBy cell e (reply_to (ruled_on client volume f r (ruling client f.number f.span r)).said) reply left) (sym (ruled_events client volume r f (ruling client f.number f.span r)).1)
                 (ends_behind cell (map (at_client client) entries) (behind_freeze client volume r f (ruling client f.number f.span r)) (reply_to (ruled_on client volume f r (ruling client f.number f.span r)).said) reply left fits1
-                (subst (λ (c : StoredCell). EndsBy c (behind_freeze client volume r f (ruling client f.number f.span r)) (reply_to (ruled_on client volume f r (ruling client f.number f.span r)).said) reply left) (sym (entries_left cell client entries)) ends))),
+                (subst (λ (c : Cell). EndsBy c (behind_freeze client volume r f (ruling client f.number f.span r)) (reply_to (ruled_on client volume f r (ruling client f.number f.span r)).said) reply left) (sym (entries_left cell client entries)) ends))),
             stands,
           )
 
           -- ---- the ruling
 
-          module _ (apart : IsApart cell volume) (replicas : BTreeMap ℕ (Slot (Replica D) D)) (kept_slots : KeepsOtherSlots place.disk site.replicas replicas) (ruler : Replica D) (put_ruler : slot_at replicas place.disk ≡ Started rh ruler) where
+          module _ (replicas : BTreeMap ℕ (Slot (Replica D) D)) (kept_slots : KeepsOtherSlots place.disk site.replicas replicas) (ruler : Replica D) (put_ruler : slot_at replicas place.disk ≡ Started rh ruler) where
             abbrev wanted_ruling : Result Ruling Refused
             wanted_ruling = ruling client f.number f.span r
 
@@ -290,34 +290,34 @@ module _ {D : Type 0} (told : D → Told) (out : ℕ → Bool) (has : ℕ → To
             home_of ruled e = (ruling_left client f.number f.span r ruled e).1 ∙ server_is ∙ sym home
 
             -- it was refused
-            pub unruled : (why : ReplicaFault) (reply : Reply) → RulingEnds told rh (cell.made.acted.replicas place.server volume).history wanted_ruling ruler (Err why) → UnruledReply why reply
+            pub unruled : (why : ReplicaFault) (reply : Reply) → RulingEnds told rh (cell.replicas at.row place.server).disk.history wanted_ruling ruler (Err why) → UnruledReply why reply
                 → EndsAt told out has cell outcome.events (reply_to outcome.said) reply (with_replicas (with_clients site clients) replicas)
             unruled why reply ends replied = behind (with_replicas (with_clients site clients) replicas) reply
-                (replica_refused told out has cell1 (with_clients site clients) is1 volume place at apart replicas kept_slots rh replica ruler there.lent there.up put_ruler client f.number f.span
+                (replica_refused told out has cell1 (with_clients site clients) is1 volume place at replicas kept_slots rh replica ruler there.lent there.up put_ruler client f.number f.span
                 (behind_freeze client volume r f wanted_ruling) (reply_to (ruled_on client volume f r wanted_ruling).said) (rule_first client volume r place.server f wanted_ruling home_of) why reply ends replied)
 
             -- it was done
-            module _ (ruled : Ruling) (ruled_is : wanted_ruling ≡ Ok ruled) (stands : IsRulerUp told rh ruler (journal_at rh.number ((cell.made.acted.replicas place.server volume).history ++ ruled.entries))) where
+            module _ (ruled : Ruling) (ruled_is : wanted_ruling ≡ Ok ruled) (stands : IsRulerUp told rh ruler (journal_at rh.number ((cell.replicas at.row place.server).disk.history ++ ruled.entries))) where
               abbrev decided : List Event
               decided = entries_at place.server volume ruled.entries
 
-              abbrev cell2 : StoredCell
+              abbrev cell2 : Cell
               cell2 = after_all cell1 decided
 
               is2 : IsSite told out has cell2 (with_replicas (with_clients site clients) replicas)
-              is2 = ruled_left told out has cell1 (with_clients site clients) is1 volume place at apart replicas kept_slots rh replica ruler there.lent there.up put_ruler client f.number f.span ruled ruled_is stands
+              is2 = ruled_left told out has cell1 (with_clients site clients) is1 volume place at replicas kept_slots rh replica ruler there.lent there.up put_ruler client f.number f.span ruled ruled_is stands
 
               fits2 : FitsEvents cell1 decided
-              fits2 = ruled_fits told out has cell1 (with_clients site clients) is1 volume place at apart replicas kept_slots rh replica ruler there.lent there.up put_ruler client f.number f.span ruled ruled_is stands
+              fits2 = ruled_fits told out has cell1 (with_clients site clients) is1 volume place at replicas kept_slots rh replica ruler there.lent there.up put_ruler client f.number f.span ruled ruled_is stands
 
               pub up2 : IsClientUp told out cell2 clients client ch frozen
-              up2 = up_beside told out cell1 client ch clients frozen place.server volume ruled.entries up1
+              up2 = up_beside told out cell1 client ch clients frozen volume place at ruled.entries up1
 
               abbrev pub h2 : List ClientEntry
-              h2 = (cell2.made.acted.clients client).history
+              h2 = (cell2.clients client).disk.history
 
               volume2 : volume_by ch h2 volume ≡ f.volume
-              volume2 = ap (λ (a : Actor ClientEntry). volume_by ch a.history volume) (clients_still cell1 place.server volume ruled.entries client) ∙ volume1
+              volume2 = ap (λ (a : PlainActor ClientEntry). volume_by ch a.disk.history volume) (clients_still cell1 volume place at ruled.entries client) ∙ volume1
 
               abbrev wanted_taking : Result Taking Refused
               wanted_taking = taking f.number ruled.answer f.volume

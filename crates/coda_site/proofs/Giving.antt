@@ -11,8 +11,8 @@ use Rattle.coda_record.specs.declared.entry.ReplicaEntry.{ReplicaEntry as KeptEn
 use Rattle.coda_script.specs.Ranges.{IsServer}
 use Rattle.coda_shelves.specs.Cells.{Cell, shelves_of}
 use Rattle.coda_shelves.specs.Shelves.{client_journal, replica_journal, disk_at}
-use Rattle.coda_site.specs.Shelves.{as_journal, AreOnDisks}
-use Rattle.coda_site.specs.Sites.{is_client_disk, is_replica_disk}
+use Rattle.coda_site.specs.Shelves.{AreOnDisks}
+use Rattle.coda_site.specs.Sites.{as_journal, is_client_disk, is_replica_disk}
 
 -- those that stand for the actors of a cell stand for its shelves
 pub disks_given : {D : Type 0} (told : D → Told) (has : ℕ → Told) (cell : Cell) → StandsAll (client_form told) is_client_disk has (λ client. as_journal client_journal (cell.clients client))

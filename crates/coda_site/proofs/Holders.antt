@@ -9,14 +9,13 @@ use Rattle.coda_actors.specs.Clients.{client_form}
 use Rattle.coda_actors.specs.Replicas.{replica_form}
 use Rattle.coda_actors.specs.Slots.{is_made, is_up}
 use Rattle.coda_crew.specs.Crews.{slot_at}
-use Rattle.coda_cell.specs.Made.{state_of}
 use Rattle.coda_cell.specs.Steps.{Named, on_holder, first_missing}
 use Rattle.coda_cell.specs.Refused as refused
 use Rattle.coda_cell.proofs.Events.{all_there}
-use Rattle.coda_stored.specs.Cells.{StoredCell}
-use Rattle.coda_stored.specs.Seen.{IsSeen}
-use Rattle.coda_stored.specs.Lines.{client_down, replica_down, is_cut}
-use Rattle.coda_site.specs.Sites.{is_client_disk, place_in, IsSite, client_at, volume_at, holder_at}
+use Rattle.coda_shelves.specs.Cells.{Cell, state_of}
+use Rattle.coda_shelves.specs.Lines.{client_down, replica_down, is_cut}
+use Rattle.coda_site.specs.Shelves.{Shows}
+use Rattle.coda_site.specs.Sites.{is_client_disk, place_in, client_at, volume_at, holder_at}
 use Rattle.coda_site.specs.declared.site.Place.{Place}
 use Rattle.coda_site.specs.declared.site.Site.{Site}
 use Rattle.coda_site.proofs.Becomings.{missing_some, missing_none}
@@ -40,20 +39,20 @@ both_up false b e = absurd (false≢true e)
 held_by : (server : ℕ) (o : Option Place) (place : Place) → o ≡ Some place → option_map_or (λ (p : Place). p.server == server) o false ≡ true → place.server ≡ server
 held_by server o place e holds = eqb-true place.server server (ap (λ (x : Option Place). option_map_or (λ (p : Place). p.server == server) x false) (sym e) ∙ holds)
 
-module _ {D : Type 0} (told : D → Told) (out : ℕ → Bool) (has : ℕ → Told) (cell : StoredCell) (kept : IsSeen cell) (site : Site D) (is : IsSite told out has cell site) (client volume server : ℕ) (here : is_client_disk client ≡ true) where
-  names_are : on_holder (state_of cell.made) client volume server ≡ names_in site client volume server
-  names_are = λ i. client_named_at told out has cell kept site is client here i ∷ volume_named_at told out has cell kept site is volume i ∷ holder_named_at told out has cell kept site is server volume i ∷ []
+module _ {D : Type 0} (told : D → Told) (out : ℕ → Bool) (has : ℕ → Told) (cell : Cell) (site : Site D) (shows : Shows told out has cell site) (client volume server : ℕ) (here : is_client_disk client ≡ true) where
+  names_are : on_holder (state_of cell) client volume server ≡ names_in site client volume server
+  names_are = λ i. client_named_at told out has cell site shows client here i ∷ volume_named_at told out has cell site shows volume i ∷ holder_named_at told out has cell site shows server volume i ∷ []
 
   -- one is missing
   pub missing_named : (result : Option ℕ) (number : ℕ) → result ≡ Some number → option_map refused.NoSuchActor result ≡ first_missing (names_in site client volume server)
-      → first_missing (on_holder (state_of cell.made) client volume server) ≡ Some (refused.NoSuchActor number)
+      → first_missing (on_holder (state_of cell) client volume server) ≡ Some (refused.NoSuchActor number)
   missing_named result number e missing = ap first_missing names_are ∙ missing_some result (names_in site client volume server) number e missing
 
   -- or none
-  pub none_named : (result : Option ℕ) → result ≡ None → option_map refused.NoSuchActor result ≡ first_missing (names_in site client volume server) → first_missing (on_holder (state_of cell.made) client volume server) ≡ None
+  pub none_named : (result : Option ℕ) → result ≡ None → option_map refused.NoSuchActor result ≡ first_missing (names_in site client volume server) → first_missing (on_holder (state_of cell) client volume server) ≡ None
   none_named result e missing = ap first_missing names_are ∙ missing_none result (names_in site client volume server) e missing
 
-  module _ (none : first_missing (on_holder (state_of cell.made) client volume server) ≡ None) where
+  module _ (none : first_missing (on_holder (state_of cell) client volume server) ≡ None) where
     all : first_missing (names_in site client volume server) ≡ None
     all = ap first_missing (sym names_are) ∙ none
 
@@ -65,19 +64,19 @@ module _ {D : Type 0} (told : D → Told) (out : ℕ → Bool) (has : ℕ → To
     server_at_place place at = held_by server (place_in site volume) place at (all_there (client_at site client) (volume_at site volume) (holder_at site server volume) all).2
 
     pub client_down_by : (b : Bool) → is_up (client_form told) (slot_at site.clients client) ≡ b → client_down cell client ≡ not b
-    client_down_by b e = client_down_at told out has cell kept site is client here made_here ∙ ap not e
+    client_down_by b e = client_down_at told out has cell site shows client here made_here ∙ ap not e
 
-    pub replica_down_by : (place : Place) (b : Bool) → place_in site volume ≡ Some place → is_up (replica_form told) (slot_at site.replicas place.disk) ≡ b → replica_down cell volume ≡ not b
-    replica_down_by place b at e = replica_down_at told out has cell kept site is volume place at ∙ ap not e
+    pub replica_down_by : (place : Place) (b : Bool) → place_in site volume ≡ Some place → is_up (replica_form told) (slot_at site.replicas place.disk) ≡ b → replica_down cell server volume ≡ not b
+    replica_down_by place b at e = replica_down_at told out has cell site shows server volume place at (server_at_place place at) ∙ ap not e
 
     -- one of both is down
-    pub some_down : (place : Place) → place_in site volume ≡ Some place → (is_up (client_form told) (slot_at site.clients client) && is_up (replica_form told) (slot_at site.replicas place.disk)) ≡ false → (client_down cell client || replica_down cell volume) ≡ true
+    pub some_down : (place : Place) → place_in site volume ≡ Some place → (is_up (client_form told) (slot_at site.clients client) && is_up (replica_form told) (slot_at site.replicas place.disk)) ≡ false → (client_down cell client || replica_down cell server volume) ≡ true
     some_down place at down =
         (λ i. client_down_by (is_up (client_form told) (slot_at site.clients client)) refl i || replica_down_by place (is_up (replica_form told) (slot_at site.replicas place.disk)) at refl i)
         ∙ both_down (is_up (client_form told) (slot_at site.clients client)) (is_up (replica_form told) (slot_at site.replicas place.disk)) down
 
     -- or both are up
-    pub none_down : (place : Place) → place_in site volume ≡ Some place → is_up (client_form told) (slot_at site.clients client) ≡ true → is_up (replica_form told) (slot_at site.replicas place.disk) ≡ true → (client_down cell client || replica_down cell volume) ≡ false
+    pub none_down : (place : Place) → place_in site volume ≡ Some place → is_up (client_form told) (slot_at site.clients client) ≡ true → is_up (replica_form told) (slot_at site.replicas place.disk) ≡ true → (client_down cell client || replica_down cell server volume) ≡ false
     none_down place at c r = λ i. client_down_by true c i || replica_down_by place true at r i
 
 -- a volume's place, where the three are there

@@ -1,5 +1,5 @@
 -- What lines that make actors leave of a site, whatever it stands for, and whether they are refused.
-use Rattle.std.proofs.Common.{◌≡◌, inl, inr, ℕ, ◌+◌, ◌*◌, ◌≤◌, ◌<◌, ◌==◌, arith, Bool, true, false, cond, List, [], ◌∷◌, ◌++◌, length, Option, Some, None, is_some, IfSome, refl, sym, ap, subst, ◌∙◌}
+use Rattle.std.proofs.Common.{◌≡◌, inl, inr, ℕ, ◌+◌, ◌*◌, ◌≤◌, ◌<◌, ◌==◌, arith, Bool, true, false, cond, List, [], ◌∷◌, ◌++◌, append-nil, length, Option, Some, None, is_some, IfSome, refl, sym, ap, subst, ◌∙◌}
 use Rattle.std.proofs.lemmas.Bool.{cases_eq, false≢true, le-leb}
 use Rattle.std.proofs.lemmas.Bool.Decides.{nat_tests}
 use Rattle.std.proofs.lemmas.List.{length-append}
@@ -19,42 +19,44 @@ use Rattle.coda_venus.specs.declared.venus.Venus.{Venus}
 use Rattle.coda_script.specs.declared.reply.Reply.{Reply}
 use Rattle.coda_script.specs.Ranges.{IsBetween, AreServers}
 use Rattle.coda_cell.specs.Refusing.{refusal}
-use Rattle.coda_cell.specs.Steps.{alone}
+use Rattle.coda_cell.specs.Steps.{alone, no_room}
 use Rattle.coda_cell.specs.Refused.{Refused}
 use Rattle.coda_cell.specs.Refused.{AlreadyThere, CellFull}
-use Rattle.coda_stored.specs.Cells.{StoredCell, disk_number}
-use Rattle.coda_stored.specs.Lines.{Becoming, Unless, no_client, no_volume}
-use Rattle.coda_site.specs.Sites.{is_client_disk, is_replica_disk, place_in, IsReady}
+use Rattle.coda_shelves.specs.Cells.{Cell}
+use Rattle.coda_shelves.specs.Lines.{Becoming, Unless}
+use Rattle.coda_shelves.specs.Shelves.{disk_at}
+use Rattle.coda_site.specs.Sites.{is_client_disk, is_replica_disk, place_in, IsSite, IsReady}
+use Rattle.coda_site.specs.Steps.{Becomes}
 use Rattle.coda_site.specs.declared.site.Place.{Place}
 use Rattle.coda_site.specs.declared.site.Site.{Site}
 use Rattle.coda_site.proofs.ClientSites.{with_clients}
 
 -- ---- refusals
 
-pub unless_none : (old : StoredCell) (o : Option Refused) (own : Becoming) (reply : Reply) (outside : List (List ℕ)) (new : StoredCell) → o ≡ None → own reply outside new → Unless old o own reply outside new
+pub unless_none : (old : Cell) (o : Option Refused) (own : Becoming) (reply : Reply) (outside : List (List ℕ)) (new : Cell) → o ≡ None → own reply outside new → Unless old o own reply outside new
 unless_none old o own reply outside new none is = subst (λ (w : Option Refused). Unless old w own reply outside new) (sym none) is
 
-pub unless_some : (old : StoredCell) (o : Option Refused) (why : Refused) (own : Becoming) (reply : Reply) → o ≡ Some why → reply ≡ refusal why → Unless old o own reply [] old
+pub unless_some : (old : Cell) (o : Option Refused) (why : Refused) (own : Becoming) (reply : Reply) → o ≡ Some why → reply ≡ refusal why → Unless old o own reply [] old
 unless_some old o why own reply some said = subst (λ (w : Option Refused). Unless old w own reply [] old) (sym some) (said, refl, refl)
 
-module _ (cell : StoredCell) (n area : ℕ) where
-  pub client_already : is_some (cell.made.sizes n) ≡ true → no_client cell n area ≡ Some AlreadyThere
-  client_already there = grind (arith, there)
+-- a line by which nothing changes
+pub stays_becomes : {D : Type 0} (told : D → Told) (out : ℕ → Bool) (has : ℕ → Told) (cell : Cell) (becoming : Becoming) (reply : Reply) (answered : List (List ℕ)) (site : Site D)
+    → becoming reply [] cell → IsSite told out has cell site → Becomes told out has becoming reply answered answered site
+stays_becomes told out has cell becoming reply answered site happens is = record { outside = []; left = cell; happens = happens; answered = sym (append-nil answered); stands = is }
 
-  pub client_full : is_some (cell.made.sizes n) ≡ false → nat_lt 512 (cell.areas + area) ≡ true → no_client cell n area ≡ Some CellFull
-  client_full there full = grind (arith, there, full)
+pub already_there : (there full : Bool) → there ≡ true → no_room there full ≡ Some AlreadyThere
+already_there true full e = refl
+already_there false full e = cc
 
-  pub client_fits : is_some (cell.made.sizes n) ≡ false → nat_lt 512 (cell.areas + area) ≡ false → no_client cell n area ≡ None
-  client_fits there full = grind (arith, there, full)
+pub cell_full : (there full : Bool) → there ≡ false → full ≡ true → no_room there full ≡ Some CellFull
+cell_full true full e f = cc
+cell_full false true e f = refl
+cell_full false false e f = cc
 
-  pub volume_already : is_some (cell.made.homes n) ≡ true → no_volume cell n area ≡ Some AlreadyThere
-  volume_already there = grind (arith, there)
-
-  pub volume_full : is_some (cell.made.homes n) ≡ false → (nat_le 64 (length cell.made.servers) || nat_lt 512 (cell.areas + area)) ≡ true → no_volume cell n area ≡ Some CellFull
-  volume_full there full = grind (arith, there, full)
-
-  pub volume_fits : is_some (cell.made.homes n) ≡ false → (nat_le 64 (length cell.made.servers) || nat_lt 512 (cell.areas + area)) ≡ false → no_volume cell n area ≡ None
-  volume_fits there full = grind (arith, there, full)
+pub fits_in : (there full : Bool) → there ≡ false → full ≡ false → no_room there full ≡ None
+fits_in true full e f = cc
+fits_in false true e f = cc
+fits_in false false e f = refl
 
 pub none_there : {A : Type 0} (o : Option A) → is_some o ≡ false → o ≡ None
 none_there None is = refl
@@ -77,8 +79,8 @@ full_of_areas false full is = is
 pub has_room : (count found : ℕ) (full : Bool) → count ≡ found → found < 64 → full ≡ false → (nat_le 64 count || full) ≡ false
 has_room count found full same less room = ap (λ (b : Bool). b || full) (let no_so : nat_le 64 count ≡ false = grind (arith, nat_tests, same, less) in no_so) ∙ room
 
-pub replica_number : (count server : ℕ) → is_replica_disk (disk_number count server) ≡ true
-replica_number count server = (let least : nat_le 256 (disk_number count server) ≡ true = le-leb 256 (disk_number count server) (omega arith) in least)
+pub replica_number : (count server : ℕ) → is_replica_disk (disk_at count server) ≡ true
+replica_number count server = (let least : nat_le 256 (disk_at count server) ≡ true = le-leb 256 (disk_at count server) (omega arith) in least)
 
 pub few_areas : (areas area from : ℕ) → from ≡ area → areas + from ≤ 512 → areas + area ≤ 512
 few_areas areas area from same less = subst (λ (a : ℕ). areas + a ≤ 512) same less
@@ -113,12 +115,12 @@ placed_later count None is = tt
 placed_later count (Some p) is = (is.0, (let d = p.disk in let b = is.1 in omega (arith, b)), is.2, is.3)
 
 module _ {D : Type 0} (told : D → Told) (out out1 : ℕ → Bool) (site : Site D) (ready : IsReady told out site) (slots : BTreeMap ℕ (Slot (Replica D) D)) (volume server : ℕ) (from : 1 ≤ server) (upto : server ≤ 8)
-    (outs : OutAll is_replica_disk out1 slots) (owns : OwnAll (replica_form told) slots) (others : OutAll is_client_disk out1 site.clients) (kept : KeepsOtherSlots (disk_number (length site.servers.items) server) site.replicas slots) where
+    (outs : OutAll is_replica_disk out1 slots) (owns : OwnAll (replica_form told) slots) (others : OutAll is_client_disk out1 site.clients) (kept : KeepsOtherSlots (disk_at (length site.servers.items) server) site.replicas slots) where
   abbrev count : ℕ
   count = length site.servers.items
 
   abbrev disk : ℕ
-  disk = disk_number count server
+  disk = disk_at count server
 
   -- the number of the disk is the next one
   next_disk : (256 ≤ disk) × (disk < 256 + 8 * (count + 1))
@@ -182,11 +184,11 @@ module _ {D : Type 0} (told : D → Told) (out out1 : ℕ → Bool) (site : Site
       ]
 
 -- no line made an actor on the disk of the volume that is made next
-pub next_unmade : {D : Type 0} (told : D → Told) (out : ℕ → Bool) (site : Site D) → IsReady told out site → (server : ℕ) → is_made (slot_at site.replicas (disk_number (length site.servers.items) server)) ≡ false
+pub next_unmade : {D : Type 0} (told : D → Told) (out : ℕ → Bool) (site : Site D) → IsReady told out site → (server : ℕ) → is_made (slot_at site.replicas (disk_at (length site.servers.items) server)) ≡ false
 next_unmade told out site ready server = by (is_made (slot_at site.replicas disk)) refl
   where
     disk : ℕ
-    disk = disk_number (length site.servers.items) server
+    disk = disk_at (length site.servers.items) server
 
     by : (made : Bool) → is_made (slot_at site.replicas disk) ≡ made → is_made (slot_at site.replicas disk) ≡ false
     by true e = (let below : disk < 256 + 8 * length site.servers.items = ready.made disk e in absurd (omega (arith, below)))

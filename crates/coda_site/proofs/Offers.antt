@@ -17,19 +17,19 @@ use Rattle.coda_cell.specs.Cells.{linked_in}
 use Rattle.coda_cell.specs.State.{replica_state}
 use Rattle.coda_cell.specs.Made.{replica_of}
 use Rattle.coda_cell.specs.State.{ReplicaState, new_replica, replica_after_all}
-use Rattle.coda_cell.specs.Steps.{reached, offers_of}
+use Rattle.coda_cell.specs.Steps.{alone, reached, offers_of}
 use Rattle.coda_cell.proofs.Histories.{server_stays}
 use Rattle.coda_matching.specs.Replicas.{journal_at}
 use Rattle.coda_matching.proofs.Replicas.{journals_leave_replicas}
 use Rattle.coda_serving.specs.Serving.{AreSpelledOffers}
-use Rattle.coda_stored.specs.Cells.{StoredCell}
-use Rattle.coda_stored.specs.Seen.{IsSeen}
-use Rattle.coda_stored.specs.Lines.{links_to, met_by}
-use Rattle.coda_site.specs.Sites.{place_in, IsSite}
-use Rattle.coda_site.specs.Tasks.{nodes_in, carried, offered_at}
+use Rattle.coda_shelves.specs.Cells.{Cell, Stand, stand_of}
+use Rattle.coda_shelves.specs.Lines.{links_to}
+use Rattle.coda_site.specs.Shelves.{Shows}
+use Rattle.coda_site.specs.Sites.{place_in}
+use Rattle.coda_site.specs.Tasks.{met_by, nodes_in, carried, offered_at}
 use Rattle.coda_site.specs.declared.site.Site.{Site}
 use Rattle.coda_site.specs.declared.site.Place.{Place}
-use Rattle.coda_site.proofs.ReplicaSites.{there, replica_is}
+use Rattle.coda_site.proofs.ReplicaSites.{StandsAt, stands_at, there, replica_is}
 use Rattle.coda_site.proofs.SpelledOffers.{replica_spelled}
 use Rattle.coda_site.proofs.Theres.{replica_down_at}
 
@@ -62,42 +62,45 @@ spelled_carried Down nodes are = λ fid node at. (let no : None ≡ Some node = 
 none_offered : AreSpelledOffers None
 none_offered fid node at = (let no : None ≡ Some node = at in cc)
 
-module _ {D : Type 0} (told : D → Told) (out : ℕ → Bool) (has : ℕ → Told) (cell : StoredCell) (kept : IsSeen cell) (site : Site D) (is : IsSite told out has cell site) (client volume : ℕ) where
+module _ {D : Type 0} (told : D → Told) (out : ℕ → Bool) (has : ℕ → Told) (cell : Cell) (site : Site D) (shows : Shows told out has cell site) (client volume : ℕ) where
   -- the replica of a volume that was made
   module _ (p : Place) (at : place_in site volume ≡ Some p) where
+    stands : StandsAt cell.rows volume p
+    stands = stands_at told out has cell site shows volume p at
+
     -- what the cell has of it
     abbrev r : ReplicaState
-    r = replica_after_all (new_replica p.server volume) (cell.made.acted.replicas p.server volume).history
+    r = replica_after_all (new_replica p.server volume) (cell.replicas stands.row p.server).disk.history
 
     reached_at : offers_of (met_by cell volume) client volume ≡ reached (links_to cell volume client p.server) r
     reached_at =
-        ap (option_and_then (λ (x : ReplicaState). reached (links_to cell volume client x.server) x)) (replica_is told out has cell site is volume p at)
-        ∙ ap (λ (s : ℕ). reached (links_to cell volume client s) r) (server_stays (new_replica p.server volume) (cell.made.acted.replicas p.server volume).history)
+        ap (option_and_then (λ (x : ReplicaState). reached (links_to cell volume client x.server) x)) (replica_is told out has cell site shows.stands volume p stands)
+        ∙ ap (λ (s : ℕ). reached (links_to cell volume client s) r) (server_stays (new_replica p.server volume) (cell.replicas stands.row p.server).disk.history)
 
-    linked_at : linked_in site.net client p.server ≡ cell.made.links client p.server
-    linked_at = sym (is.net.links_are client p.server)
+    linked_at : linked_in site.net client p.server ≡ cell.links client p.server
+    linked_at = sym (shows.stands.net.links_are client p.server)
 
     when_down : is_up (replica_form told) (slot_at site.replicas p.disk) ≡ false → carried (linked_in site.net client p.server) (nodes_in (slot_at site.replicas p.disk)) ≡ offers_of (met_by cell volume) client volume
     when_down down =
         ap (carried (linked_in site.net client p.server)) (none_in told (slot_at site.replicas p.disk) down) ∙ none_carried (linked_in site.net client p.server)
-        ∙ ap (λ (b : Bool). reached (cond b Down (cell.made.links client p.server)) r) (sym (replica_down_at told out has cell kept site is volume p at ∙ ap not down))
+        ∙ ap (λ (b : Bool). reached (cond b Down (cell.links client p.server)) r) (sym (replica_down_at told out has cell site shows p.server volume p at refl ∙ ap not down))
         ∙ sym reached_at
 
     when_up : is_up (replica_form told) (slot_at site.replicas p.disk) ≡ true
         → (carried (linked_in site.net client p.server) (nodes_in (slot_at site.replicas p.disk)) ≡ offers_of (met_by cell volume) client volume) × AreSpelledOffers (carried (linked_in site.net client p.server) (nodes_in (slot_at site.replicas p.disk)))
     when_up up =
-        let t = there told out has cell site is volume p at kept up in
+        let t = there told out has cell site shows.stands volume p stands shows.kept up in
         let header = t.0 in
         let replica = t.1 in
         let own = t.2.up in
-        let history = (cell.made.acted.replicas p.server volume).history in
+        let history = (cell.replicas stands.row p.server).disk.history in
         let held : nodes_in (slot_at site.replicas p.disk) ≡ Some replica.decider.tree.nodes = ap nodes_in t.2.slot ∙ ap (λ (b : Bool). cond b None (Some replica.decider.tree.nodes)) own.stands.up in
         let state : replica_state replica.decider ≡ r =
         ap replica_state own.stands.state ∙ journals_leave_replicas header history own.lawful ∙ (λ i. replica_after_all (new_replica (own.home i) (own.number i)) history) in
         let nodes : replica.decider.tree.nodes ≡ r.tree.nodes = ap (λ (x : ReplicaState). x.tree.nodes) state in
-        let off = replica_down_at told out has cell kept site is volume p at ∙ ap not up in (
+        let off = replica_down_at told out has cell site shows p.server volume p at refl ∙ ap not up in (
           ap (carried (linked_in site.net client p.server)) (held ∙ ap (λ (m : Nodes). Some m) nodes) ∙ carried_reached (linked_in site.net client p.server) r ∙ ap (λ (s : Strength). reached s r) linked_at
-              ∙ ap (λ (b : Bool). reached (cond b Down (cell.made.links client p.server)) r) (sym off) ∙ sym reached_at,
+              ∙ ap (λ (b : Bool). reached (cond b Down (cell.links client p.server)) r) (sym off) ∙ sym reached_at,
           spelled_carried (linked_in site.net client p.server) (nodes_in (slot_at site.replicas p.disk))
               (subst AreSpelledOffers (sym held) (replica_spelled told header replica (journal_at header.number history) own.stands)),
         )
@@ -112,9 +115,14 @@ module _ {D : Type 0} (told : D → Told) (out : ℕ → Bool) (has : ℕ → To
   pub offered_is : (offered_at site.net site.replicas client (place_in site volume) ≡ offers_of (met_by cell volume) client volume) × AreSpelledOffers (offered_at site.net site.replicas client (place_in site volume))
   offered_is = by (place_in site volume) refl
     where
+      none_mapped : (o : Option Stand) → option_map (λ (s : Stand). alone s.servers) o ≡ None → o ≡ None
+      none_mapped None e = refl
+      none_mapped (Some s) e = cc
+
       by : (o : Option Place) → place_in site volume ≡ o → (offered_at site.net site.replicas client o ≡ offers_of (met_by cell volume) client volume) × AreSpelledOffers (offered_at site.net site.replicas client o)
       by None at = (
-        sym (ap (option_and_then (λ (x : ReplicaState). reached (links_to cell volume client x.server) x)) (ap (option_map (replica_of (λ server. (cell.made.acted.replicas server volume).history) volume)) (is.homes volume ∙ ap (option_map (λ (q : Place). q.server)) at))),
+        sym (ap (option_and_then (λ (x : ReplicaState). reached (links_to cell volume client x.server) x))
+        (ap (option_map (λ (s : Stand). replica_of (λ server. (cell.replicas s.row server).disk.history) volume (alone s.servers))) (none_mapped (stand_of cell volume) (shows.stands.homes volume ∙ ap (option_map (λ (q : Place). q.server)) at)))),
         none_offered,
       )
       by (Some p) at = both p at

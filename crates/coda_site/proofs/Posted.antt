@@ -5,12 +5,11 @@ use Rattle.coda_net.specs.Pool.{Pool}
 use Rattle.coda_letters.specs.Sent.{Sent, Waiting, AreLetters, lost_by, number_of, without, with_sent}
 use Rattle.coda_letters.specs.Calls.{IsPosted, IsSent, IsSentAs}
 use Rattle.coda_cell.specs.Cells.{IsNetwork}
-use Rattle.coda_cell.specs.Made.{state_of}
 use Rattle.coda_cell.specs.Messages.{posting, going_by, going}
 use Rattle.coda_cell.specs.State.{Event, VolumeMade, ClientMade, Ticked, LinkSet, Entered, Posted, Lost, Used, Kept, Stale, CellState, after_all as state_after_all}
 use Rattle.coda_cell.proofs.CarriedLetters.{linked_same, network_posted, posting_after}
-use Rattle.coda_stored.specs.Cells.{StoredCell, after, after_all}
-use Rattle.coda_stored.specs.Room.{Fits as FitsEvents}
+use Rattle.coda_shelves.specs.Cells.{Cell, state_of, after, after_all}
+use Rattle.coda_shelves.specs.Lines.{Fits as FitsEvents}
 use Rattle.coda_site.specs.Sites.{IsSite, IsReady}
 use Rattle.coda_site.specs.declared.site.Site.{Site}
 
@@ -40,7 +39,7 @@ posting_mail : (sent : Sent) (waiting : Waiting) → AreMail (posting sent waiti
 posting_mail sent waiting = lost_mail (take (lost_by sent waiting) waiting) sent
 
 -- no disk keeps them
-mail_fits : (cell : StoredCell) (events : List Event) → AreMail events → FitsEvents cell events
+mail_fits : (cell : Cell) (events : List Event) → AreMail events → FitsEvents cell events
 mail_fits cell [] are = tt
 mail_fits cell (VolumeMade volume server ∷ events) are = absurd are
 mail_fits cell (ClientMade client blocks ∷ events) are = absurd are
@@ -54,11 +53,11 @@ mail_fits cell (Posted sent ∷ events) are = (tt, mail_fits (after cell (Posted
 mail_fits cell (Lost message ∷ events) are = (tt, mail_fits (after cell (Lost message)) events are)
 
 -- a cell with other letters
-abbrev with_mail : StoredCell → StoredCell → StoredCell
-with_mail cell new = record cell { made = record cell.made { waiting = new.made.waiting; acted = record cell.made.acted { pool = new.made.acted.pool; posted = new.made.acted.posted } } }
+abbrev with_mail : Cell → Cell → Cell
+with_mail cell new = record cell { waiting = new.waiting; posted = new.posted }
 
 -- they leave all else as it was
-mail_left : (cell : StoredCell) (events : List Event) → AreMail events → after_all cell events ≡ with_mail cell (after_all cell events)
+mail_left : (cell : Cell) (events : List Event) → AreMail events → after_all cell events ≡ with_mail cell (after_all cell events)
 mail_left cell [] are = refl
 mail_left cell (VolumeMade volume server ∷ events) are = absurd are
 mail_left cell (ClientMade client blocks ∷ events) are = absurd are
@@ -72,7 +71,7 @@ mail_left cell (Posted sent ∷ events) are = mail_left (after cell (Posted sent
 mail_left cell (Lost message ∷ events) are = mail_left (after cell (Lost message)) events are
 
 -- what waits then
-mail_shown : (cell : StoredCell) (events : List Event) → AreMail events → state_of (after_all cell events).made ≡ state_after_all (state_of cell.made) events
+mail_shown : (cell : Cell) (events : List Event) → AreMail events → state_of (after_all cell events) ≡ state_after_all (state_of cell) events
 mail_shown cell [] are = refl
 mail_shown cell (VolumeMade volume server ∷ events) are = absurd are
 mail_shown cell (ClientMade client blocks ∷ events) are = absurd are
@@ -85,54 +84,54 @@ mail_shown cell (Stale c fids ∷ events) are = absurd are
 mail_shown cell (Posted sent ∷ events) are = mail_shown (after cell (Posted sent)) events are
 mail_shown cell (Lost message ∷ events) are = mail_shown (after cell (Lost message)) events are
 
-module _ {D : Type 0} (told : D → Told) (out : ℕ → Bool) (has : ℕ → Told) (cell : StoredCell) (site : Site D) (is : IsSite told out has cell site) (net : Pool) where
+module _ {D : Type 0} (told : D → Told) (out : ℕ → Bool) (has : ℕ → Told) (cell : Cell) (site : Site D) (is : IsSite told out has cell site) (net : Pool) where
   -- the site with another network
-  mail_site : (events : List Event) → AreMail events → IsNetwork cell.made.links (after_all cell events).made.waiting (after_all cell events).made.acted.posted net → IsSite told out has (after_all cell events) (with_net site net)
-  mail_site events are network = subst (λ (c : StoredCell). IsSite told out has c (with_net site net)) (sym (mail_left cell events are)) (record {
+  mail_site : (events : List Event) → AreMail events → IsNetwork cell.links (after_all cell events).waiting (after_all cell events).posted net → IsSite told out has (after_all cell events) (with_net site net)
+  mail_site events are network = subst (λ (c : Cell). IsSite told out has c (with_net site net)) (sym (mail_left cell events are)) (record {
     clock = is.clock;
     servers = is.servers;
     homes = is.homes;
     places = is.places;
     areas = is.areas;
     clients = is.clients;
-    replicas = (is.replicas.0, record { placed = is.replicas.1.placed; others = is.replicas.1.others }, is.replicas.2);
+    replicas = is.replicas;
     net = network;
   })
 
   -- something is posted
-  module _ (sent : Sent) (number : ℕ) (posted : IsPosted cell.made.waiting sent site.net number net) (links : net.links ≡ site.net.links) where
+  module _ (sent : Sent) (number : ℕ) (posted : IsPosted cell.waiting sent site.net number net) (links : net.links ≡ site.net.links) where
     abbrev state : CellState
-    state = state_of cell.made
+    state = state_of cell
 
     posts : IsNetwork state.links (with_sent (state.posted + 1) sent state.waiting) (state.posted + 1) net × (number ≡ state.posted + 1)
     posts = network_posted state sent site.net net number is.net posted links
 
-    shown : state_of (after_all cell (posting sent cell.made.waiting)).made ≡ record state { waiting = with_sent (state.posted + 1) sent state.waiting; posted = state.posted + 1 }
-    shown = mail_shown cell (posting sent cell.made.waiting) (posting_mail sent cell.made.waiting) ∙ posting_after state sent
+    shown : state_of (after_all cell (posting sent cell.waiting)) ≡ record state { waiting = with_sent (state.posted + 1) sent state.waiting; posted = state.posted + 1 }
+    shown = mail_shown cell (posting sent cell.waiting) (posting_mail sent cell.waiting) ∙ posting_after state sent
 
-    pub posted_site : IsSite told out has (after_all cell (posting sent cell.made.waiting)) (with_net site net)
-    posted_site = mail_site (posting sent cell.made.waiting) (posting_mail sent cell.made.waiting)
-        (subst (λ (s : CellState). IsNetwork cell.made.links s.waiting s.posted net) (sym shown) posts.0)
+    pub posted_site : IsSite told out has (after_all cell (posting sent cell.waiting)) (with_net site net)
+    posted_site = mail_site (posting sent cell.waiting) (posting_mail sent cell.waiting)
+        (subst (λ (s : CellState). IsNetwork cell.links s.waiting s.posted net) (sym shown) posts.0)
 
-    pub posted_number : number ≡ cell.made.acted.posted + 1
+    pub posted_number : number ≡ cell.posted + 1
     posted_number = posts.1
 
-  pub posting_fits : (sent : Sent) → FitsEvents cell (posting sent cell.made.waiting)
-  posting_fits sent = mail_fits cell (posting sent cell.made.waiting) (posting_mail sent cell.made.waiting)
+  pub posting_fits : (sent : Sent) → FitsEvents cell (posting sent cell.waiting)
+  posting_fits sent = mail_fits cell (posting sent cell.waiting) (posting_mail sent cell.waiting)
 
   -- something is sent: it waits already, or is posted
   module _ (sent : Sent) (number : ℕ) (links : net.links ≡ site.net.links) where
-    sent_by : (o : Option ℕ) → IsSentAs o cell.made.waiting sent site.net number net → FitsEvents cell (going_by o sent (state_of cell.made)).events × IsSite told out has (after_all cell (going_by o sent (state_of cell.made)).events) (with_net site net)
-        × (number ≡ (going_by o sent (state_of cell.made)).message)
+    sent_by : (o : Option ℕ) → IsSentAs o cell.waiting sent site.net number net → FitsEvents cell (going_by o sent (state_of cell)).events × IsSite told out has (after_all cell (going_by o sent (state_of cell)).events) (with_net site net)
+        × (number ≡ (going_by o sent (state_of cell)).message)
     sent_by (Some first) went = (tt, subst (λ (n : Pool). IsSite told out has cell (with_net site n)) (sym went.1) is, went.0)
     sent_by None went = (posting_fits sent, posted_site sent number went links, posted_number sent number went links)
 
-    pub sent_site : IsSent cell.made.waiting sent site.net number net → FitsEvents cell (going sent (state_of cell.made)).events × IsSite told out has (after_all cell (going sent (state_of cell.made)).events) (with_net site net)
-        × (number ≡ (going sent (state_of cell.made)).message)
-    sent_site went = sent_by (number_of sent cell.made.waiting) went
+    pub sent_site : IsSent cell.waiting sent site.net number net → FitsEvents cell (going sent (state_of cell)).events × IsSite told out has (after_all cell (going sent (state_of cell)).events) (with_net site net)
+        × (number ≡ (going sent (state_of cell)).message)
+    sent_site went = sent_by (number_of sent cell.waiting) went
 
   -- a letter is lost
-  pub lost_site : (message : ℕ) → AreLetters (without message cell.made.waiting) net → net.posted ≡ site.net.posted → net.links ≡ site.net.links → IsSite told out has (after cell (Lost message)) (with_net site net)
+  pub lost_site : (message : ℕ) → AreLetters (without message cell.waiting) net → net.posted ≡ site.net.posted → net.links ≡ site.net.links → IsSite told out has (after cell (Lost message)) (with_net site net)
   lost_site message letters posted links = mail_site (Lost message ∷ []) tt (record {
     links_are = λ client server. is.net.links_are client server ∙ linked_same site.net net links client server;
     letters = letters;
@@ -140,7 +139,7 @@ module _ {D : Type 0} (told : D → Told) (out : ℕ → Bool) (has : ℕ → To
   })
 
   -- or none is
-  pub unlost_site : AreLetters cell.made.waiting net → net.posted ≡ site.net.posted → net.links ≡ site.net.links → IsSite told out has cell (with_net site net)
+  pub unlost_site : AreLetters cell.waiting net → net.posted ≡ site.net.posted → net.links ≡ site.net.links → IsSite told out has cell (with_net site net)
   unlost_site letters posted links = mail_site [] tt (record {
     links_are = λ client server. is.net.links_are client server ∙ linked_same site.net net links client server;
     letters = letters;

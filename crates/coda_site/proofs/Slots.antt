@@ -1,6 +1,6 @@
 -- Slots that stand for plain actors which are up.
-use Rattle.std.proofs.Common.{◌≡◌, ◌≢◌, ◌≤◌, ℕ, ◌+◌, List, ◌∷◌, ◌++◌, length, drop, arith, Bool, true, false, Option, Some, None, refl, sym, ap, ◌∙◌, inl, inr}
-use Rattle.std.specs.Prelude.{not, IsSome}
+use Rattle.std.proofs.Common.{◌≡◌, ◌≤◌, ℕ, ◌+◌, List, ◌∷◌, ◌++◌, length, drop, arith, Bool, true, false, Option, Some, None, refl, sym, ap, ◌∙◌, inl, inr}
+use Rattle.std.specs.Prelude.{not, is_some, IsSome}
 use Rattle.std.specs.Borrow.{MutBor}
 use Rattle.std.specs.Option.{option_copied_mut}
 use Rattle.std.specs.Int.{w32}
@@ -12,29 +12,13 @@ use Rattle.coda_journal.specs.Header.{area_bytes}
 use Rattle.coda_journal.specs.Image.{Reads, area_of, start_of}
 use Rattle.coda_journal.specs.declared.header.Header.{Header}
 use Rattle.coda_actors.specs.Form.{Form}
-use Rattle.coda_actors.specs.Plain.{PlainActor, Unmade, Down, Up}
+use Rattle.coda_actors.specs.Plain.{PlainActor}
 use Rattle.coda_actors.specs.Fits.{FitsUp, Fits}
-use Rattle.coda_actors.specs.Slots.{is_up}
+use Rattle.coda_actors.specs.Slots.{is_made, is_up}
 use Rattle.coda_actors.specs.declared.slot.Slot.{Slot}
 use Rattle.coda_actors.specs.declared.slot.Slot.TheVariants.{Vacant, Spare, Stopped, Started}
 use Rattle.coda_crew.specs.Crews.{slot_or_vacant}
-use Rattle.coda_stored.specs.Cells.{life_of}
-
--- a life by what was asked for, and whether the actor is up
-pub life_up : (asked : Option Header) (up : Bool) (header : Header) → life_of asked up ≡ Up header → (asked ≡ Some header) × (up ≡ true)
-life_up None up header e = cc
-life_up (Some given) true header e = ((let same : given ≡ header = cc in ap Some same), refl)
-life_up (Some given) false header e = cc
-
-pub life_down : (asked : Option Header) (up : Bool) (header : Header) → life_of asked up ≡ Down header → up ≡ false
-life_down None up header e = cc
-life_down (Some given) true header e = cc
-life_down (Some given) false header e = refl
-
-pub life_made : (asked : Option Header) (up : Bool) → life_of asked up ≡ Unmade → asked ≡ None
-life_made None up e = refl
-life_made (Some given) true e = cc
-life_made (Some given) false e = cc
+use Rattle.coda_shelves.specs.Cells.{asked, is_up as is_life_up}
 
 -- a slot whose actor is up
 pub record IsStarted {A D : Type 0} (form : Form A D) (out : Bool) (slot : Slot A D) (plain : PlainActor form.Entry) : Type 0 where
@@ -54,16 +38,20 @@ module _ {A D : Type 0} (form : Form A D) (told : D → Told) (out : Bool) (has 
     | inr down ↦ absurd (false≢true (sym (ap not down.0) ∙ up))
   ]
 
-  -- a slot whose actor isn't up stands for none that is
-  pub not_started : ((header : Header) (actor : A) (plain : PlainActor form.Entry) → FitsUp form header actor plain → form.is_down actor ≡ false)
-      → (slot : Slot A D) (plain : PlainActor form.Entry) → Fits form told out has slot plain → is_up form slot ≡ false → (header : Header) → plain.life ≢ Up header
-  not_started runs Vacant plain fits up header is = (let no : Unmade ≡ Up header = sym fits.1.life ∙ is in cc)
-  not_started runs (Spare disk) plain fits up header is = (let no : Unmade ≡ Up header = sym fits.1.life ∙ is in cc)
-  not_started runs (Stopped other disk) plain fits up header is = (let no : Down other ≡ Up header = sym fits.1.life ∙ is in cc)
-  not_started runs (Started other actor) plain fits up header is = elim fits.1 [
-    | inl on ↦ absurd (false≢true (sym up ∙ ap not (runs other actor plain on)))
-    | inr down ↦ (let no : Down other ≡ Up header = sym down.1.life ∙ is in cc)
-  ]
+module _ {A D : Type 0} (form : Form A D) (told : D → Told) (out : Bool) (has : Told) (plain : PlainActor form.Entry) where
+  -- it was made where the plain actor asks for a header
+  pub made_so : (slot : Slot A D) → Fits form told out has slot plain → is_made slot ≡ is_some (asked plain.life)
+  made_so Vacant fits = ap (λ l. is_some (asked l)) (sym fits.1.life)
+  made_so (Spare disk) fits = ap (λ l. is_some (asked l)) (sym fits.1.life)
+  made_so (Stopped header disk) fits = ap (λ l. is_some (asked l)) (sym fits.1.life)
+  made_so (Started header actor) fits = elim fits.1 [ inl up ↦ ap (λ l. is_some (asked l)) (sym up.life) | inr down ↦ ap (λ l. is_some (asked l)) (sym down.1.life) ]
+
+  -- and it is up where that one is
+  pub up_so : ((header : Header) (actor : A) → form.IsUp header actor plain.disk.history → form.is_down actor ≡ false) → (slot : Slot A D) → Fits form told out has slot plain → is_up form slot ≡ is_life_up plain.life
+  up_so runs Vacant fits = ap is_life_up (sym fits.1.life)
+  up_so runs (Spare disk) fits = ap is_life_up (sym fits.1.life)
+  up_so runs (Stopped header disk) fits = ap is_life_up (sym fits.1.life)
+  up_so runs (Started header actor) fits = elim fits.1 [ inl up ↦ ap not (runs header actor up.up) ∙ ap is_life_up (sym up.life) | inr down ↦ ap not down.0 ∙ ap is_life_up (sym down.1.life) ]
 
 -- what a disk reads as has room in its area, with a gate behind it
 pub reads_fit : (header : Header) (image : List ℕ) (payloads : List (List ℕ)) → Reads header image payloads → length (blocks w32 payloads) + 1 ≤ area_bytes header

@@ -7,13 +7,14 @@ use Rattle.std.proofs.lemmas.List.{append_assoc, map-append}
 use Rattle.coda_disk.specs.Told.{Told}
 use Rattle.coda_fid.specs.declared.op.Record.{Record}
 use Rattle.coda_journal.specs.declared.header.Header.{Header}
-use Rattle.coda_plain.specs.Cell.{ClientEntry, Actor}
+use Rattle.coda_plain.specs.Cell.{ClientEntry}
 use Rattle.coda_plain.specs.Decisions.{ReplicaEntry, Decided}
 use Rattle.coda_plain.specs.Moves.{AtClient, AtReplica}
 use Rattle.coda_script.specs.declared.reply.Reply.{Reply}
 use Rattle.coda_actors.specs.Clients.{client_form}
 use Rattle.coda_actors.specs.Fits.{AsksOwn}
 use Rattle.coda_actors.specs.Form.{Form}
+use Rattle.coda_actors.specs.Plain.{PlainActor, Up}
 use Rattle.coda_actors.specs.Replicas.{replica_form}
 use Rattle.coda_actors.specs.Slots.{is_made, is_up}
 use Rattle.coda_actors.specs.declared.slot.Slot.{Slot}
@@ -28,7 +29,6 @@ use Rattle.coda_venus.specs.Standing.{IsUp}
 use Rattle.coda_venus.specs.declared.refused.Refused.{Refused as VenusRefused}
 use Rattle.coda_venus.specs.declared.refused.Refused.TheVariants as reason
 use Rattle.coda_venus.specs.declared.venus.Venus.{Venus}
-use Rattle.coda_cell.specs.Made.{client_of}
 use Rattle.coda_cell.specs.Refusing.{refusal}
 use Rattle.coda_cell.specs.Sending.{Ruling, decides, ruling_of, ruling, entries_at}
 use Rattle.coda_cell.specs.State.{Event, ReplicaState, at_client}
@@ -37,28 +37,27 @@ use Rattle.coda_cell.specs.Refused as refused
 use Rattle.coda_matching.specs.Clients.{journal_by, IsClientHistory, Cut, refused_as}
 use Rattle.coda_matching.specs.Replicas.{journal_at, RulingEnds}
 use Rattle.coda_sending.proofs.Kept.{ruled_so}
-use Rattle.coda_stored.specs.Cells.{StoredCell, after_all, failed}
-use Rattle.coda_stored.specs.Lines.{refused_full, refused_fault, Stop, EndsBy}
-use Rattle.coda_stored.specs.Room.{Lacks, Fits as FitsEvents}
+use Rattle.coda_shelves.specs.Cells.{Cell, asked, failed, after_all}
+use Rattle.coda_shelves.specs.Lines.{refused_full, refused_fault, Lacks, Fits as FitsEvents, Stop, EndsBy}
 use Rattle.coda_site.specs.Chunks.{replica_by, ClientEnds, ReplicaEnds}
-use Rattle.coda_site.specs.Sites.{is_replica_disk, place_in, IsSite, IsReady}
+use Rattle.coda_site.specs.Sites.{is_replica_disk, IsSite, IsReady}
 use Rattle.coda_site.specs.declared.fault.CellFault.{CellFault}
 use Rattle.coda_site.specs.declared.fault.CellFault.TheVariants as cell_fault
 use Rattle.coda_site.specs.declared.site.Place.{Place}
 use Rattle.coda_site.specs.declared.site.Site.{Site}
 use Rattle.coda_site.proofs.Becomings.{RepliesTo, refused_replies}
-use Rattle.coda_site.proofs.ClientSites.{IsClientUp, Leaves, entries_left, history_left, after_both, fits_both, with_clients, still_ready}
-use Rattle.coda_site.proofs.ReplicaSites.{IsReplicaUp, IsApart, decided_left, with_replicas, ruled_site, still_site, stopped_site, lacks_there, fits_one}
+use Rattle.coda_site.proofs.ClientSites.{IsClientUp, client_shown, Leaves, longer, history_left, after_both, fits_both, with_clients, still_ready}
+use Rattle.coda_site.proofs.ReplicaSites.{StandsAt, IsReplicaUp, decided_left, with_replicas, ruled_site, still_site, stopped_site, lacks_there, fits_one}
 
 -- ---- one stage behind another
 
 -- what ends behind events that all happened
-pub ends_behind : (cell : StoredCell) (front events : List Event) (own reply : Reply) (new : StoredCell) → FitsEvents cell front → EndsBy (after_all cell front) events own reply new → EndsBy cell (front ++ events) own reply new
+pub ends_behind : (cell : Cell) (front events : List Event) (own reply : Reply) (new : Cell) → FitsEvents cell front → EndsBy (after_all cell front) events own reply new → EndsBy cell (front ++ events) own reply new
 ends_behind cell front events own reply new fits (inl (more, said, left)) = inl (fits_both cell front events fits more, said, left ∙ sym (after_both cell front events))
 ends_behind cell front events own reply new fits (inr (inl (stop, more, lacks, said, left))) = inr (inl (
   record { done = front ++ stop.done; next = stop.next; rest = stop.rest; is = ap (λ l. front ++ l) stop.is ∙ sym (append_assoc front stop.done _) },
   fits_both cell front stop.done fits more,
-  subst (λ (c : StoredCell). Lacks c stop.next) (sym (after_both cell front stop.done)) lacks,
+  subst (λ (c : Cell). Lacks c stop.next) (sym (after_both cell front stop.done)) lacks,
   said,
   left ∙ sym (after_both cell front stop.done),
 ))
@@ -66,12 +65,12 @@ ends_behind cell front events own reply new fits (inr (inr (stop, more, said, le
   record { done = front ++ stop.done; next = stop.next; rest = stop.rest; is = ap (λ l. front ++ l) stop.is ∙ sym (append_assoc front stop.done _) },
   fits_both cell front stop.done fits more,
   said,
-  left ∙ ap (λ (c : StoredCell). failed c stop.next) (sym (after_both cell front stop.done)),
+  left ∙ ap (λ (c : Cell). failed c stop.next) (sym (after_both cell front stop.done)),
 ))
 
 -- what ends by a cell, and the site that stands for it
-abbrev pub EndsAt : {D : Type 0} → (D → Told) → (ℕ → Bool) → (ℕ → Told) → StoredCell → List Event → Reply → Reply → Site D → Type 0
-EndsAt told out has cell events own reply site = (left : StoredCell) × EndsBy cell events own reply left × IsSite told out has left site
+abbrev pub EndsAt : {D : Type 0} → (D → Told) → (ℕ → Bool) → (ℕ → Told) → Cell → List Event → Reply → Reply → Site D → Type 0
+EndsAt told out has cell events own reply site = (left : Cell) × EndsBy cell events own reply left × IsSite told out has left site
 
 -- ---- a client's stage that is refused
 
@@ -81,7 +80,7 @@ pub record IsFirst (n : ℕ) (entries : List ClientEntry) {A : Type 0} (said : R
   pub is : events ≡ map (at_client n) entries ++ more
   pub stays : (why : Refused) → said ≡ Err why → (own ≡ refusal why) × (more ≡ [])
 
-module _ {D A B : Type 0} (told : D → Told) (out : ℕ → Bool) (has : ℕ → Told) (cell : StoredCell) (n : ℕ) (entries : List ClientEntry) (said : Result A Refused) (IsAs : A → B → Type 0) (site : Site D) (events : List Event) (own : Reply) (first : IsFirst n entries said events own) where
+module _ {D A B : Type 0} (told : D → Told) (out : ℕ → Bool) (has : ℕ → Told) (cell : Cell) (n : ℕ) (entries : List ClientEntry) (said : Result A Refused) (IsAs : A → B → Type 0) (site : Site D) (events : List Event) (own : Reply) (first : IsFirst n entries said events own) where
   abbrev stop : Cut entries → Stop events
   stop cut = record {
     done = map (at_client n) cut.done;
@@ -121,58 +120,54 @@ module _ {D A B : Type 0} (told : D → Told) (out : ℕ → Bool) (has : ℕ �
 
 -- ---- a client that is up, later
 
-module _ {D : Type 0} (told : D → Told) (out : ℕ → Bool) (cell : StoredCell) (n : ℕ) (header : Header) where
+module _ {D : Type 0} (told : D → Told) (out : ℕ → Bool) (cell : Cell) (n : ℕ) (header : Header) where
   -- behind entries of its own
   pub up_on : (slots later : BTreeMap ℕ (Slot (Venus D) D)) (venus new : Venus D) (entries : List ClientEntry) → IsClientUp told out cell slots n header venus → slot_at later n ≡ Started header new
-      → IsUp told header new (journal_by ((cell.made.acted.clients n).history ++ entries)) → IsClientHistory header ((cell.made.acted.clients n).history ++ entries)
+      → IsUp told header new (journal_by ((cell.clients n).disk.history ++ entries)) → IsClientHistory header ((cell.clients n).disk.history ++ entries)
       → IsClientUp told out (after_all cell (map (at_client n) entries)) later n header new
   up_on slots later venus new entries up slot runs lawful = record {
     slot = slot;
     lent = up.lent;
-    up = subst (λ (h : List ClientEntry). IsUp told header new (journal_by h)) (sym history_is) runs;
-    lawful = subst (IsClientHistory header) (sym history_is) lawful;
+    up = subst (λ (a : PlainActor ClientEntry). IsUp told header new (journal_by a.disk.history)) (sym actor_is) runs;
+    lawful = subst (λ (a : PlainActor ClientEntry). IsClientHistory header a.disk.history) (sym actor_is) lawful;
     number = up.number;
-    size = size_is;
-    shown = ap (option_map (client_of n (now.made.acted.clients n).history)) size_is ∙ ap (λ (m : ℕ). Some (client_of m (now.made.acted.clients n).history header.cache)) (sym up.number);
+    life = life_is;
+    shown = client_shown now n header (ap asked life_is) up.number;
     header_asked = up.header_asked;
-    asked = subst (λ (c : StoredCell). (c.clients n).asked ≡ Some header) (sym (entries_left cell n entries)) up.asked;
-    given = subst (λ (c : StoredCell). (c.clients n).given ≡ Some header) (sym (entries_left cell n entries)) up.given;
-    left = subst (λ (c : StoredCell). (c.clients n).left ≡ None) (sym (entries_left cell n entries)) up.left;
-    is_up = ap (λ (a : Actor ClientEntry). a.up) (history_left cell n entries) ∙ up.is_up;
-    none_failed = ap (λ (a : Actor ClientEntry). a.failed) (history_left cell n entries) ∙ up.none_failed;
+    given = ap (λ (a : PlainActor ClientEntry). a.disk.header) actor_is ∙ up.given;
+    left = ap (λ (a : PlainActor ClientEntry). a.left) actor_is ∙ up.left;
+    none_failed = ap (λ (a : PlainActor ClientEntry). a.disk.failed) actor_is ∙ up.none_failed;
   }
     where
-      now : StoredCell
+      now : Cell
       now = after_all cell (map (at_client n) entries)
 
-      history_is : (now.made.acted.clients n).history ≡ (cell.made.acted.clients n).history ++ entries
-      history_is = ap (λ (a : Actor ClientEntry). a.history) (history_left cell n entries)
+      actor_is : now.clients n ≡ longer entries (cell.clients n)
+      actor_is = history_left cell n entries
 
-      size_is : now.made.sizes n ≡ Some header.cache
-      size_is = subst (λ (c : StoredCell). c.made.sizes n ≡ Some header.cache) (sym (entries_left cell n entries)) up.size
+      life_is : (now.clients n).life ≡ Up header
+      life_is = ap (λ (a : PlainActor ClientEntry). a.life) actor_is ∙ up.life
 
   -- behind entries of a replica
-  pub up_beside : (slots : BTreeMap ℕ (Slot (Venus D) D)) (venus : Venus D) (server volume : ℕ) (entries : List ReplicaEntry) → IsClientUp told out cell slots n header venus
-      → IsClientUp told out (after_all cell (entries_at server volume entries)) slots n header venus
-  up_beside slots venus server volume entries up = subst (λ (c : StoredCell). IsClientUp told out c slots n header venus) (sym (decided_left cell server volume entries)) (record {
+  pub up_beside : (slots : BTreeMap ℕ (Slot (Venus D) D)) (venus : Venus D) (volume : ℕ) (place : Place) (at : StandsAt cell.rows volume place) (entries : List ReplicaEntry) → IsClientUp told out cell slots n header venus
+      → IsClientUp told out (after_all cell (entries_at place.server volume entries)) slots n header venus
+  up_beside slots venus volume place at entries up = subst (λ (c : Cell). IsClientUp told out c slots n header venus) (sym (decided_left cell volume place at entries)) (record {
     slot = up.slot;
     lent = up.lent;
     up = up.up;
     lawful = up.lawful;
     number = up.number;
-    size = up.size;
+    life = up.life;
     shown = up.shown;
     header_asked = up.header_asked;
-    asked = up.asked;
     given = up.given;
     left = up.left;
-    is_up = up.is_up;
     none_failed = up.none_failed;
   })
 
 -- what a replica's entries leave of the clients' histories
-pub clients_still : (cell : StoredCell) (server volume : ℕ) (entries : List ReplicaEntry) (n : ℕ) → (after_all cell (entries_at server volume entries)).made.acted.clients n ≡ cell.made.acted.clients n
-clients_still cell server volume entries n = ap (λ (c : StoredCell). c.made.acted.clients n) (decided_left cell server volume entries)
+pub clients_still : (cell : Cell) (volume : ℕ) (place : Place) (at : StandsAt cell.rows volume place) (entries : List ReplicaEntry) (n : ℕ) → (after_all cell (entries_at place.server volume entries)).clients n ≡ cell.clients n
+clients_still cell volume place at entries n = ap (λ (c : Cell). c.clients n) (decided_left cell volume place at entries)
 
 -- ---- a replica's stage
 
@@ -200,12 +195,12 @@ decided_once client number span r ruled e = by (is_next (r.lasts client) number)
         let same : tells ≡ ruled = cc in
         inl (ap (λ (x : Ruling). x.entries) (sym same))
 
-module _ {D : Type 0} (told : D → Told) (out : ℕ → Bool) (has : ℕ → Told) (cell : StoredCell) (site : Site D) (is : IsSite told out has cell site) (volume : ℕ) (place : Place) (at : place_in site volume ≡ Some place) (apart : IsApart cell volume)
+module _ {D : Type 0} (told : D → Told) (out : ℕ → Bool) (has : ℕ → Told) (cell : Cell) (site : Site D) (is : IsSite told out has cell site) (volume : ℕ) (place : Place) (at : StandsAt cell.rows volume place)
     (slots : BTreeMap ℕ (Slot (Replica D) D)) (kept_slots : KeepsOtherSlots place.disk site.replicas slots) (header : Header) (old new : Replica D) (lent : out place.disk ≡ true)
-    (up : IsReplicaUp told volume place.server (cell.replicas volume) (cell.made.acted.replicas place.server volume) header old) (put : slot_at slots place.disk ≡ Started header new)
+    (up : IsReplicaUp told volume place.server (cell.replicas at.row place.server) header old) (put : slot_at slots place.disk ≡ Started header new)
     (client number : ℕ) (span : List Record) where
   abbrev history : List ReplicaEntry
-  history = (cell.made.acted.replicas place.server volume).history
+  history = (cell.replicas at.row place.server).disk.history
 
   abbrev wanted : Result Ruling Refused
   wanted = ruling client number span (replica_by header history)
@@ -216,12 +211,12 @@ module _ {D : Type 0} (told : D → Told) (out : ℕ → Bool) (has : ℕ → To
     ruled_fits = elim (decided_once client number span (replica_by header history) ruled wanted_is) [
       | inl none ↦ subst (λ (l : List ReplicaEntry). FitsEvents cell (entries_at place.server volume l)) (sym none) tt
       | inr one ↦ subst (λ (l : List ReplicaEntry). FitsEvents cell (entries_at place.server volume l)) (sym one)
-          (fits_one cell volume place.server header up.number up.asked told new (Decided client number span) _ refl
+          (fits_one cell volume place at header up.number up.life told new (Decided client number span) _ refl
           (subst (λ (l : List ReplicaEntry). IsRulerUp told header new (journal_at header.number (history ++ l))) one stands))
     ]
 
     pub ruled_left : IsSite told out has (after_all cell (entries_at place.server volume ruled.entries)) (with_replicas site slots)
-    ruled_left = ruled_site told out has cell site is volume place at apart slots kept_slots header old new lent up put ruled.entries stands
+    ruled_left = ruled_site told out has cell site is volume place at slots kept_slots header old new lent up put ruled.entries stands
         (ruled_so header history up.lawful client number span ruled wanted_is stands.lawful).lawful
 
   -- it didn't
@@ -231,7 +226,7 @@ module _ {D : Type 0} (told : D → Told) (out : ℕ → Bool) (has : ℕ → To
       let stays = first.stays refused.JournalFull none in (
         cell,
         inl (subst (FitsEvents cell) (sym stays.1) tt, replied ∙ sym stays.0, ap (after_all cell) (sym stays.1)),
-        still_site told out has cell site is volume place at apart slots kept_slots header old new lent up put stands,
+        still_site told out has cell site is volume place at slots kept_slots header old new lent up put stands,
       )
   replica_refused events own first fault.JournalFull reply (inr (ruled, ruled_is, adds, lacks), stands) replied =
       let goes = first.goes ruled ruled_is in (
@@ -239,17 +234,17 @@ module _ {D : Type 0} (told : D → Told) (out : ℕ → Bool) (has : ℕ → To
         inr (inl (
           record { done = []; next = AtReplica place.server volume adds.entry; rest = goes.0; is = goes.1 ∙ ap (λ (l : List ReplicaEntry). entries_at place.server volume l ++ goes.0) adds.adds },
           tt,
-          lacks_there cell volume place.server header up.number up.asked adds.entry adds.kept adds.is lacks,
+          lacks_there cell volume place at header up.number up.life adds.entry adds.kept adds.is lacks,
           replied,
           refl,
         )),
-        still_site told out has cell site is volume place at apart slots kept_slots header old new lent up put stands,
+        still_site told out has cell site is volume place at slots kept_slots header old new lent up put stands,
       )
   replica_refused events own first fault.DiskFault reply (ruled, ruled_is, adds, down, stands) replied =
       let goes = first.goes ruled ruled_is in (
         failed cell (AtReplica place.server volume adds.entry),
         inr (inr (record { done = []; next = AtReplica place.server volume adds.entry; rest = goes.0; is = goes.1 ∙ ap (λ (l : List ReplicaEntry). entries_at place.server volume l ++ goes.0) adds.adds }, tt, replied, refl)),
-        stopped_site told out has cell site is volume place at apart slots kept_slots header old new lent up put adds.entry adds.kept adds.is down stands,
+        stopped_site told out has cell site is volume place at slots kept_slots header old new lent up put adds.entry adds.kept adds.is down stands,
       )
   replica_refused events own first fault.Memory reply ends replied = absurd replied
   replica_refused events own first fault.Down reply ends replied = absurd ends

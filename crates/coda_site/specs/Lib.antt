@@ -5,7 +5,5 @@ pub mod Tasks
 pub mod Chunks
 pub mod Drains
 pub mod Makings
-pub mod Awaiting
 pub mod Totals
-pub mod NewActors
 pub mod Shelves

@@ -6,7 +6,7 @@ use Rattle.coda_script.specs.declared.line.Line.{Line}
 use Rattle.coda_script.specs.declared.line.Line.TheVariants as line
 use Rattle.coda_script.specs.declared.reply.Reply.{Reply}
 use Rattle.coda_script.specs.declared.reply.Reply.TheVariants.{Opened, Recovered}
-use Rattle.coda_stored.specs.Lines.{refused_fault, refused_foreign}
+use Rattle.coda_shelves.specs.Lines.{refused_fault, refused_foreign}
 
 -- the actor is made, with so many entries on its disk; or its disk failed, or is that of another actor
 abbrev pub SaysOpened : Mounting → Reply → Type 0

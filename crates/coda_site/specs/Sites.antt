@@ -1,5 +1,5 @@
 -- What a site stands for.
-use Rattle.std.specs.Prelude.{◌≡◌, ◌≢◌, ◌<◌, ◌≤◌, ◌+◌, ◌*◌, ℕ, Bool, true, false, ◌==◌, nat_lt, nat_le, is_some, length, Option, Some, IfSome}
+use Rattle.std.specs.Prelude.{◌≡◌, ◌<◌, ◌≤◌, ◌+◌, ◌*◌, ℕ, Bool, true, false, ◌==◌, nat_lt, nat_le, is_some, length, map, Option, Some, IfSome}
 use Rattle.std.specs.Option.{option_map, option_map_or}
 use Rattle.std.specs.List.{list_any}
 use Rattle.std.specs.BTreeMap as tree
@@ -7,16 +7,18 @@ use Rattle.std.specs.BTreeMap.{BTreeMap}
 use Rattle.std.specs.Ordering.{nat_cmp}
 use Rattle.coda_disk.specs.Told.{Told}
 use Rattle.coda_actors.specs.Clients.{client_form}
-use Rattle.coda_actors.specs.Plain.{PlainActor}
+use Rattle.coda_actors.specs.Plain.{PlainDisk, PlainActor}
 use Rattle.coda_actors.specs.Replicas.{replica_form}
 use Rattle.coda_actors.specs.Slots.{is_made}
 use Rattle.coda_actors.specs.declared.slot.Slot.{Slot}
 use Rattle.coda_actors.specs.declared.slot.Slot.TheVariants.{Vacant}
 use Rattle.coda_crew.specs.Crews.{slot_at, FitsAll, OutAll, OwnAll, IsOutIfHeld}
 use Rattle.coda_record.specs.declared.entry.ReplicaEntry.{ReplicaEntry as KeptEntry}
+use Rattle.coda_script.specs.Ranges.{IsServer}
 use Rattle.coda_cell.specs.Cells.{IsNetwork}
-use Rattle.coda_cell.specs.Steps.{Named}
-use Rattle.coda_stored.specs.Cells.{StoredCell, plain_client, standing}
+use Rattle.coda_cell.specs.Steps.{Named, alone}
+use Rattle.coda_shelves.specs.Shelves.{client_journal, replica_journal, disk_at}
+use Rattle.coda_shelves.specs.Cells.{Row, Cell, Stand, stand_of}
 use Rattle.coda_site.specs.declared.site.Site.{Site}
 use Rattle.coda_site.specs.declared.site.Place.{Place}
 
@@ -35,22 +37,20 @@ place_in site volume = tree.get nat_cmp site.places volume
 
 -- ---- what a site stands for
 
--- The replicas of a cell by the numbers of their disks: each volume's at its place, be it on its own disk or on another's; and no line made any other, which is
--- what its disk holds.
-pub record AreReplicas (cell : StoredCell) (plain : ℕ → PlainActor KeptEntry) : Type 0 where
-  pub placed : (volume server : ℕ) → cell.made.homes volume ≡ Some server → plain (cell.places volume) ≡ standing cell server volume
-  pub others : (number : ℕ) → ((volume server : ℕ) → cell.made.homes volume ≡ Some server → cell.places volume ≢ number) → plain number ≡ cell.idle number
+-- an actor as its journal has it
+abbrev pub as_journal : {E F : Type 0} → (PlainDisk E → PlainDisk F) → PlainActor E → PlainActor F
+as_journal journal actor = record { disk = journal actor.disk; life = actor.life; left = actor.left }
 
 -- The site, with the disks that the bay has and those that are out, stands for the cell.
-pub record IsSite {D : Type 0} (told : D → Told) (out : ℕ → Bool) (has : ℕ → Told) (cell : StoredCell) (site : Site D) : Type 0 where
-  pub clock : cell.made.clock ≡ site.clock
-  pub servers : cell.made.servers ≡ site.servers.items
-  pub homes : (volume : ℕ) → cell.made.homes volume ≡ option_map (λ (p : Place). p.server) (place_in site volume)
-  pub places : (volume : ℕ) → IfSome (place_in site volume) (λ p. cell.places volume ≡ p.disk)
+pub record IsSite {D : Type 0} (told : D → Told) (out : ℕ → Bool) (has : ℕ → Told) (cell : Cell) (site : Site D) : Type 0 where
+  pub clock : cell.clock ≡ site.clock
+  pub servers : map (λ (r : Row). alone r.servers) cell.rows ≡ site.servers.items
+  pub homes : (volume : ℕ) → option_map (λ (at : Stand). alone at.servers) (stand_of cell volume) ≡ option_map (λ (p : Place). p.server) (place_in site volume)
+  pub places : (volume : ℕ) (at : Stand) → stand_of cell volume ≡ Some at → IfSome (place_in site volume) (λ p. disk_at at.row (alone at.servers) ≡ p.disk)
   pub areas : cell.areas ≡ site.areas
-  pub clients : FitsAll (client_form told) told is_client_disk out has site.clients (λ client. plain_client (cell.made.acted.clients client) (cell.clients client))
-  pub replicas : (plain : ℕ → PlainActor KeptEntry) × AreReplicas cell plain × FitsAll (replica_form told) told is_replica_disk out has site.replicas plain
-  pub net : IsNetwork cell.made.links cell.made.waiting cell.made.acted.posted site.net
+  pub clients : FitsAll (client_form told) told is_client_disk out has site.clients (λ client. as_journal client_journal (cell.clients client))
+  pub replicas : (plain : ℕ → PlainActor KeptEntry) × ((row server : ℕ) → IsServer server → plain (disk_at row server) ≡ as_journal replica_journal (cell.replicas row server)) × FitsAll (replica_form told) told is_replica_disk out has site.replicas plain
+  pub net : IsNetwork cell.links cell.waiting cell.posted site.net
 
 -- ---- what a site is, whatever it stands for
 

@@ -1,5 +1,5 @@
 -- What a client does that is asked for something on a volume.
-use Rattle.std.specs.Prelude.{◌≡◌, ℕ, Bool, true, false, ◌&&◌, if◌then◌else◌, List, [], Option, Some, None, Result}
+use Rattle.std.specs.Prelude.{◌≡◌, ℕ, Bool, true, false, if◌then◌else◌, List, [], Option, Some, None, Result}
 use Rattle.std.specs.BTreeMap.{BTreeMap}
 use Rattle.coda_disk.specs.Told.{Told}
 use Rattle.coda_journal.specs.declared.header.Header.{Header}
@@ -20,13 +20,13 @@ use Rattle.coda_venus.specs.declared.refused.Refused.{Refused as VenusRefused}
 use Rattle.coda_venus.specs.declared.venus.Venus.{Venus}
 use Rattle.coda_cell.specs.Asking.{Answer}
 use Rattle.coda_cell.specs.Cells.{linked_in}
-use Rattle.coda_cell.specs.Made.{client_of, state_of}
-use Rattle.coda_cell.specs.State.{ClientState, Event}
+use Rattle.coda_cell.specs.Made.{client_of}
+use Rattle.coda_cell.specs.State.{ClientState, CellState, Event}
 use Rattle.coda_cell.specs.Steps.{Naming, ByClient, on_volume}
 use Rattle.coda_matching.specs.Clients.{journal_by, IsClientHistory, Ends}
 use Rattle.coda_serving.specs.Serving.{AreSpelledOffers}
-use Rattle.coda_stored.specs.Cells.{StoredCell}
-use Rattle.coda_stored.specs.Lines.{all_there, client_down, met_by, EndsBy, Becoming, UnlessDown}
+use Rattle.coda_shelves.specs.Cells.{Cell, state_of}
+use Rattle.coda_shelves.specs.Lines.{the_volume, is_down_for, links_to, EndsBy, Becoming, UnlessDown}
 use Rattle.coda_site.specs.declared.site.Place.{Place}
 
 -- ---- kinds of tasks
@@ -52,17 +52,20 @@ is_changing _ = false
 abbrev pub Request : Type 0
 Request = Option Nodes → ClientState → Answer
 
+-- the cell as a client meets it that is asked for something on a volume: what a replica has that is down can't be fetched
+abbrev pub met_by : Cell → ℕ → CellState
+met_by cell volume = record (state_of cell) { links = links_to cell volume }
+
 -- A client on a volume, both of which may be missing, answers a request, up to an entry for which its disk has no room or at which it fails.
-pub record Answers (cell : StoredCell) (client volume : ℕ) (request : Request) (reply : Reply) (new : StoredCell) : Type 0 where
+pub record Answers (cell : Cell) (client volume : ℕ) (request : Request) (reply : Reply) (new : Cell) : Type 0 where
   pub own : Reply
   pub events : List Event
   pub does : Naming (on_volume (met_by cell volume) client volume) (ByClient (met_by cell volume) client volume request) own events
   pub ends : EndsBy cell events own reply new
 
 -- the same, unless the client is down
-abbrev pub Asks : StoredCell → ℕ → ℕ → Request → Becoming
-Asks cell client volume request =
-    UnlessDown (all_there (on_volume (state_of cell.made) client volume) && client_down cell client) cell (λ reply outside new. (outside ≡ []) × Answers cell client volume request reply new)
+abbrev pub Asks : Cell → ℕ → ℕ → Request → Becoming
+Asks cell client volume request = UnlessDown (is_down_for (the_volume cell client volume)) cell (λ reply outside new. (outside ≡ []) × Answers cell client volume request reply new)
 
 -- ---- what a client can fetch, by the site
 

@@ -14,7 +14,7 @@ use Rattle.coda_script.specs.declared.line.Line.{Line}
 use Rattle.coda_script.specs.declared.line.Line.TheVariants as line
 use Rattle.coda_script.specs.declared.reply.Reply.{Reply}
 use Rattle.coda_script.specs.declared.reply.Reply.TheVariants.{Accepted}
-use Rattle.coda_stored.specs.Lines.{refused_fault}
+use Rattle.coda_shelves.specs.Lines.{refused_fault}
 use Rattle.coda_site.specs.declared.fault.CellFault.{CellFault}
 use Rattle.coda_site.specs.declared.site.Site.{Site}
 

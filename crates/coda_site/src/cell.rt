@@ -4,26 +4,16 @@ ghost use Rattle.coda_io.specs.Faults.{Rose};
 ghost use Rattle.coda_script.specs.Ranges.{InRange};
 ghost use Rattle.coda_cell.specs.Steps.{alone};
 ghost use Rattle.coda_cell.specs.Cells.{volume_at};
-ghost use Rattle.coda_cell.specs.Made.{state_of};
 ghost use Rattle.coda_cell.specs.State.{ClientState, log_of, new_volume};
-ghost use Rattle.coda_stored.specs.Cells.{StoredCell, nothing_stored};
-ghost use Rattle.coda_stored.specs.Held.{IsHeld, begun_from};
-ghost use Rattle.coda_stored.specs.Kept.{IsStoredKept};
-ghost use Rattle.coda_stored.specs.Seen.{mounts_none, IsSeen};
-ghost use Rattle.coda_stored.specs.Lines.{is_built, Happens, client_down, replica_down};
-ghost use Rattle.coda_stored.specs.Mounted.{Shelf, HoldsShelf};
-ghost use Rattle.coda_stored.specs.Resuming.{at_rest, Awaited, is_awaited, AreAwaited, MakeAllAgain};
-ghost use Rattle.coda_shelves.specs.Cells.{Cell as PlainCell, begun_on, shelves_of};
+ghost use Rattle.coda_shelves.specs.Cells.{Cell as PlainCell, begun_on, shelves_of, state_of};
 ghost use Rattle.coda_shelves.specs.Kept.{AreKept};
+ghost use Rattle.coda_shelves.specs.Lines.{is_built, Happens, client_down, replica_down};
 ghost use Rattle.coda_shelves.specs.Shelves.{Shelves};
-ghost use Rattle.coda_site.specs.Shelves.{Shows, AreOnDisks as OnShelves};
-ghost use Rattle.coda_site.specs.Awaiting.{IsAwaiting, Resumes};
+ghost use Rattle.coda_site.specs.Shelves.{Shows, Leads, AreOnDisks};
 ghost use Rattle.coda_site.specs.Makings.{asks_bay};
-ghost use Rattle.coda_site.specs.Sites.{IsSite, IsReady, IsClosable};
-ghost use Rattle.coda_site.specs.Steps.{Admits, Becomes, Mounts, Finds};
+ghost use Rattle.coda_site.specs.Sites.{IsReady, IsClosable};
 ghost use Rattle.coda_site.specs.Totals.{IsCounted, IsFault, has_armed, total, totals};
 ghost use Rattle.coda_disk.specs.Bays.{plus};
-ghost use Rattle.coda_site.specs.Cells.{AreBlank, AreOnDisks};
 
 use crate::fault::CellFault;
 use crate::lines::{fail, set_link, show_log, show_volume, tick};
@@ -68,11 +58,7 @@ impl<B: Bay> Cell<B> {
         ensures closable { IsClosable (B.out result.bay) result.site }
         ensures posted { result.site.net.posted ≡ 0 }
         ensures empty { (result.site.servers.items ≡ []) × (result.site.areas ≡ 0) }
-        ensures stands { AreBlank (B.has result.bay) → IsSite B.D.told (B.out result.bay) (B.has result.bay) nothing_stored result.site }
-        ensures waits { (cell : StoredCell) (lines : List Awaited) → IsStoredKept cell → MakeAllAgain cell lines → AreOnDisks B.D.told (B.has result.bay) cell
-            → IsAwaiting B.D.told (B.out result.bay) (B.has result.bay) (at_rest cell) lines result.site }
-        ensures begins { (cell : StoredCell) (held : IsHeld cell) → AreOnDisks B.D.told (B.has result.bay) cell → IsSite B.D.told (B.out result.bay) (B.has result.bay) (begun_from cell held) result.site }
-        ensures shelves { (shelves : Shelves) → AreKept shelves → OnShelves B.D.told (B.has result.bay) shelves → Shows B.D.told (B.out result.bay) (B.has result.bay) (begun_on shelves) result.site }
+        ensures shelves { (shelves : Shelves) → AreKept shelves → AreOnDisks B.D.told (B.has result.bay) shelves → Shows B.D.told (B.out result.bay) (B.has result.bay) (begun_on shelves) result.site }
         ensures counts { totals B.D.told B.D.faults B.D.arms (B.disk_faults result.bay) (B.disk_arms result.bay) result.site ≡ record { faults = plus (B.disk_faults bay) 0; arms = plus (B.disk_arms bay) 0 } }
     {
         let clients = unmade(alloc, &bay);
@@ -104,15 +90,8 @@ impl<B: Bay> Cell<B> {
         requires few { self.old.site.net.posted < 2 ^ 63 }
         ensures ready { result ≢ Err CellFault.Bay → IsReady B.D.told (B.out self.new.bay) self.new.site }
         ensures closable { IsClosable (B.out self.new.bay) self.new.site }
-        ensures does { (cell : StoredCell) → Admits cell line.now → IsSite B.D.told (B.out self.old.bay) (B.has self.old.bay) cell self.old.site
-            → IfOk result (λ reply. Becomes B.D.told (B.out self.new.bay) (B.has self.new.bay) (Happens cell line.now) reply (B.answered self.old.bay) (B.answered self.new.bay) self.new.site) }
-        ensures again { (cell : StoredCell) (awaited : Awaited) (left : List Awaited) → is_awaited awaited line.now ≡ true → IsStoredKept cell
-            → AreAwaited cell (length self.old.site.servers.items) self.old.site.areas (awaited ∷ left) → IsAwaiting B.D.told (B.out self.old.bay) (B.has self.old.bay) cell (awaited ∷ left) self.old.site
-            → IfOk result (λ reply. Resumes B.D.told (B.out self.new.bay) (B.has self.new.bay) cell awaited left reply (B.answered self.old.bay) (B.answered self.new.bay) self.new.site) }
-        ensures mounts { (cell : StoredCell) → IsSeen cell → mounts_none cell line.now ≡ false → IsSite B.D.told (B.out self.old.bay) (B.has self.old.bay) cell self.old.site
-            → IfOk result (λ reply. Mounts B.D.told (B.out self.new.bay) (B.has self.new.bay) cell line.now reply (B.answered self.old.bay) (B.answered self.new.bay) self.new.site) }
-        ensures finds { (cell : StoredCell) (shelf : Shelf) → IsSeen cell → mounts_none cell line.now ≡ false → HoldsShelf cell line.now shelf → IsSite B.D.told (B.out self.old.bay) (B.has self.old.bay) cell self.old.site
-            → IfOk result (λ reply. Finds B.D.told (B.out self.new.bay) (B.has self.new.bay) cell shelf line.now reply (B.answered self.old.bay) (B.answered self.new.bay) self.new.site) }
+        ensures does { (plain : PlainCell) → Shows B.D.told (B.out self.old.bay) (B.has self.old.bay) plain self.old.site
+            → IfOk result (λ reply. Leads B.D.told (B.out self.new.bay) (B.has self.new.bay) (Happens plain line.now) reply (B.answered self.old.bay) (B.answered self.new.bay) self.new.site) }
         ensures posted { self.new.site.net.posted ≤ self.old.site.net.posted + 1 }
         ensures later { B.faults self.old.bay ≤ B.faults self.new.bay }
         ensures bay_cause { result ≡ Err CellFault.Bay → Rose (B.faults self.old.bay) (B.faults self.new.bay) }
@@ -167,10 +146,7 @@ impl<B: Bay> Cell<B> {
     pub fn close(self) -> B
         requires { IsClosable (B.out self.bay) self.site }
         ensures out { IsReady B.D.told (B.out self.bay) self.site → (number : ℕ) → B.out result number ≡ false }
-        ensures stands { (cell : StoredCell) → IsReady B.D.told (B.out self.bay) self.site → IsSite B.D.told (B.out self.bay) (B.has self.bay) cell self.site → AreOnDisks B.D.told (B.has result) cell }
-        ensures waits { (cell : StoredCell) (volumes areas : ℕ) (left : List Awaited) → IsReady B.D.told (B.out self.bay) self.site → IsStoredKept cell → AreAwaited cell volumes areas left
-            → IsAwaiting B.D.told (B.out self.bay) (B.has self.bay) cell left self.site → AreOnDisks B.D.told (B.has result) cell }
-        ensures shelves { (plain : PlainCell) → IsReady B.D.told (B.out self.bay) self.site → Shows B.D.told (B.out self.bay) (B.has self.bay) plain self.site → OnShelves B.D.told (B.has result) (shelves_of plain) }
+        ensures shelves { (plain : PlainCell) → IsReady B.D.told (B.out self.bay) self.site → Shows B.D.told (B.out self.bay) (B.has self.bay) plain self.site → AreOnDisks B.D.told (B.has result) (shelves_of plain) }
         ensures answered { B.answered result ≡ B.answered self.bay }
         ensures faults { B.faults result ≡ B.faults self.bay }
         ensures follows { B.follows self.bay result }
@@ -185,11 +161,11 @@ impl<B: Bay> Cell<B> {
 
     /// The volume that a server has; `None` where it has none of this number, or is down.
     pub fn volume(&self, server: u8, volume: u32) -> Option<&Volume>
-        ensures down { (cell : StoredCell) → IsSeen cell → IsSite B.D.told (B.out self.now.bay) (B.has self.now.bay) cell self.now.site
-            → replica_down cell volume ≡ true → result ≡ None }
-        ensures shown { (cell : StoredCell) → IsSeen cell → IsSite B.D.told (B.out self.now.bay) (B.has self.now.bay) cell self.now.site
-            → replica_down cell volume ≡ false
-            → MatchOption result (volume_at ((state_of cell.made).replicas volume) server ≡ None) (λ tree. volume_at ((state_of cell.made).replicas volume) server ≡ Some tree.now) }
+        ensures down { (cell : PlainCell) → Shows B.D.told (B.out self.now.bay) (B.has self.now.bay) cell self.now.site
+            → replica_down cell server volume ≡ true → result ≡ None }
+        ensures shown { (cell : PlainCell) → Shows B.D.told (B.out self.now.bay) (B.has self.now.bay) cell self.now.site
+            → replica_down cell server volume ≡ false
+            → MatchOption result (volume_at ((state_of cell).replicas volume) server ≡ None) (λ tree. volume_at ((state_of cell).replicas volume) server ≡ Some tree.now) }
     {
         let place = self.site.place(volume)?;
         if place.server != server {
@@ -203,10 +179,10 @@ impl<B: Bay> Cell<B> {
 
     /// A client's log of a volume; `None` where the client isn't there or is down, or never had a log of the volume.
     pub fn log(&self, client: u8, volume: u32) -> Option<&Log>
-        ensures down { (cell : StoredCell) → IsSeen cell → IsSite B.D.told (B.out self.now.bay) (B.has self.now.bay) cell self.now.site
+        ensures down { (cell : PlainCell) → Shows B.D.told (B.out self.now.bay) (B.has self.now.bay) cell self.now.site
             → client_down cell client ≡ true → result ≡ None }
-        ensures shown { (cell : StoredCell) → IsSeen cell → IsSite B.D.told (B.out self.now.bay) (B.has self.now.bay) cell self.now.site
-            → client_down cell client ≡ false → (c : ClientState) → (state_of cell.made).clients client ≡ Some c
+        ensures shown { (cell : PlainCell) → Shows B.D.told (B.out self.now.bay) (B.has self.now.bay) cell self.now.site
+            → client_down cell client ≡ false → (c : ClientState) → (state_of cell).clients client ≡ Some c
             → MatchOption result (log_of (c.volumes volume) ≡ log_of new_volume) (λ log. log.now ≡ log_of (c.volumes volume)) }
     {
         match get(&self.site.clients, u32::from(client)) {

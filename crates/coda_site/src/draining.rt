@@ -10,11 +10,11 @@ ghost use Rattle.coda_actors.specs.Replicas.{replica_form};
 ghost use Rattle.coda_actors.specs.Slots.{is_up};
 ghost use Rattle.coda_crew.specs.Crews.{slot_at};
 ghost use Rattle.coda_cell.specs.Cells.{linked_in};
-ghost use Rattle.coda_stored.specs.Cells.{StoredCell};
-ghost use Rattle.coda_stored.specs.Seen.{IsSeen};
-ghost use Rattle.coda_stored.specs.Lines.{Happens, is_cut};
+ghost use Rattle.coda_shelves.specs.Cells.{Cell};
+ghost use Rattle.coda_shelves.specs.Lines.{Happens, is_cut};
 ghost use Rattle.coda_site.specs.Drains.{Acted};
-ghost use Rattle.coda_site.specs.Sites.{IsSite, IsReady, place_in};
+ghost use Rattle.coda_site.specs.Shelves.{Shows};
+ghost use Rattle.coda_site.specs.Sites.{IsReady, place_in};
 ghost use Rattle.coda_site.specs.Steps.{Becomes};
 ghost use Rattle.coda_site.specs.Totals.{IsCounted, IsFault, totals};
 ghost use Rattle.coda_site.specs.declared.site.Place.{Place as APlace};
@@ -65,7 +65,7 @@ fn drain_up<B: Bay>(
     requires volume { HasSpelling a_volume volume }
     requires server { HasSpelling a_server server }
     ensures ready { IsReady B.D.told (B.out _bay.now) site.new }
-    ensures does { (cell : StoredCell) (place : APlace) → IsSeen cell → IsSite B.D.told (B.out _bay.now) (B.has _bay.now) cell site.old
+    ensures does { (cell : Cell) (place : APlace) → Shows B.D.told (B.out _bay.now) (B.has _bay.now) cell site.old
         → place_in site.old volume ≡ Some place → place.disk ≡ disk → place.server ≡ server → not (is_cut (linked_in site.old.net client server)) ≡ true
         → IfOk result (λ reply. Acted B.D.told (B.out _bay.now) (B.has _bay.now) cell (line.Task (task.Drain client volume server (Some window))) reply site.new) }
     ensures net { site.new.net ≡ site.old.net }
@@ -115,7 +115,7 @@ pub fn drain<B: Bay>(
     requires ready { IsReady B.D.told (B.out _bay.now) site.old }
     requires range { InRange (line.Task (task.Drain client volume server (Some window))) }
     ensures ready { IsReady B.D.told (B.out _bay.now) site.new }
-    ensures does { (cell : StoredCell) → IsSeen cell → IsSite B.D.told (B.out _bay.now) (B.has _bay.now) cell site.old
+    ensures does { (cell : Cell) → Shows B.D.told (B.out _bay.now) (B.has _bay.now) cell site.old
         → IfOk result (λ reply. Becomes B.D.told (B.out _bay.now) (B.has _bay.now) (Happens cell (line.Task (task.Drain client volume server (Some window))))
         reply (B.answered _bay.now) (B.answered _bay.now) site.new) }
     ensures net { site.new.net ≡ site.old.net }

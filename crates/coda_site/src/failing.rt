@@ -2,11 +2,11 @@
 ghost use Rattle.std.specs.Prelude.{◌≡◌, ◌≢◌, ◌≤◌, false, IfOk, OnErr, Err};
 ghost use Rattle.coda_io.specs.Faults.{Rose};
 ghost use Rattle.coda_script.specs.declared.line.Line.TheVariants as line;
-ghost use Rattle.coda_stored.specs.Cells.{StoredCell};
-ghost use Rattle.coda_stored.specs.Seen.{IsSeen};
-ghost use Rattle.coda_stored.specs.Lines.{Happens};
+ghost use Rattle.coda_shelves.specs.Cells.{Cell};
+ghost use Rattle.coda_shelves.specs.Lines.{Happens};
 ghost use Rattle.coda_site.specs.Makings.{SaysRecovered};
-ghost use Rattle.coda_site.specs.Sites.{IsSite, IsReady, IsClosable};
+ghost use Rattle.coda_site.specs.Shelves.{Shows};
+ghost use Rattle.coda_site.specs.Sites.{IsReady, IsClosable};
 ghost use Rattle.coda_site.specs.Steps.{Becomes};
 ghost use Rattle.coda_site.specs.Totals.{IsCounted, IsFault, is_ok, totals};
 
@@ -43,7 +43,7 @@ pub fn crash_client<B: Bay>(
     requires ready { IsReady B.D.told (B.out bay.old) site.old }
     ensures ready { result ≢ Err CellFault.Bay → IsReady B.D.told (B.out bay.new) site.new }
     ensures closable { IsClosable (B.out bay.new) site.new }
-    ensures does { (cell : StoredCell) → IsSeen cell → IsSite B.D.told (B.out bay.old) (B.has bay.old) cell site.old
+    ensures does { (cell : Cell) → Shows B.D.told (B.out bay.old) (B.has bay.old) cell site.old
         → IfOk result (λ reply. Becomes B.D.told (B.out bay.new) (B.has bay.new) (Happens cell (line.CrashClient client choice)) reply (B.answered bay.old) (B.answered bay.new) site.new) }
     ensures net { site.new.net ≡ site.old.net }
     ensures answered_err { OnErr result (B.answered bay.new ≡ B.answered bay.old) }
@@ -70,7 +70,7 @@ pub fn crash_replica<B: Bay>(
     requires ready { IsReady B.D.told (B.out bay.old) site.old }
     ensures ready { result ≢ Err CellFault.Bay → IsReady B.D.told (B.out bay.new) site.new }
     ensures closable { IsClosable (B.out bay.new) site.new }
-    ensures does { (cell : StoredCell) → IsSeen cell → IsSite B.D.told (B.out bay.old) (B.has bay.old) cell site.old
+    ensures does { (cell : Cell) → Shows B.D.told (B.out bay.old) (B.has bay.old) cell site.old
         → IfOk result (λ reply. Becomes B.D.told (B.out bay.new) (B.has bay.new) (Happens cell (line.CrashReplica server volume choice)) reply (B.answered bay.old) (B.answered bay.new) site.new) }
     ensures net { site.new.net ≡ site.old.net }
     ensures answered_err { OnErr result (B.answered bay.new ≡ B.answered bay.old) }
@@ -99,7 +99,7 @@ pub fn recover_client<B: Bay>(
 ) -> Result<Reply, CellFault>
     requires ready { IsReady B.D.told (B.out _bay.now) site.old }
     ensures ready { IsReady B.D.told (B.out _bay.now) site.new }
-    ensures does { (cell : StoredCell) → IsSeen cell → IsSite B.D.told (B.out _bay.now) (B.has _bay.now) cell site.old
+    ensures does { (cell : Cell) → Shows B.D.told (B.out _bay.now) (B.has _bay.now) cell site.old
         → IfOk result (λ reply. Becomes B.D.told (B.out _bay.now) (B.has _bay.now) (Happens cell (line.RecoverClient client)) reply (B.answered _bay.now) (B.answered _bay.now) site.new) }
     ensures net { site.new.net ≡ site.old.net }
     ensures only { result ≢ Err CellFault.Bay }
@@ -121,7 +121,7 @@ pub fn recover_replica<B: Bay>(
 ) -> Result<Reply, CellFault>
     requires ready { IsReady B.D.told (B.out _bay.now) site.old }
     ensures ready { IsReady B.D.told (B.out _bay.now) site.new }
-    ensures does { (cell : StoredCell) → IsSeen cell → IsSite B.D.told (B.out _bay.now) (B.has _bay.now) cell site.old
+    ensures does { (cell : Cell) → Shows B.D.told (B.out _bay.now) (B.has _bay.now) cell site.old
         → IfOk result (λ reply. Becomes B.D.told (B.out _bay.now) (B.has _bay.now) (Happens cell (line.RecoverReplica server volume)) reply (B.answered _bay.now) (B.answered _bay.now) site.new) }
     ensures net { site.new.net ≡ site.old.net }
     ensures only { result ≢ Err CellFault.Bay }
@@ -148,7 +148,7 @@ pub fn arm_client<B: Bay>(
 ) -> Result<Reply, CellFault>
     requires ready { IsReady B.D.told (B.out _bay.now) site.old }
     ensures ready { IsReady B.D.told (B.out _bay.now) site.new }
-    ensures does { (cell : StoredCell) → IsSeen cell → IsSite B.D.told (B.out _bay.now) (B.has _bay.now) cell site.old
+    ensures does { (cell : Cell) → Shows B.D.told (B.out _bay.now) (B.has _bay.now) cell site.old
         → IfOk result (λ reply. Becomes B.D.told (B.out _bay.now) (B.has _bay.now) (Happens cell (line.ArmClient client passes)) reply (B.answered _bay.now) (B.answered _bay.now) site.new) }
     ensures net { site.new.net ≡ site.old.net }
     ensures only { result ≢ Err CellFault.Bay }
@@ -174,7 +174,7 @@ pub fn arm_replica<B: Bay>(
 ) -> Result<Reply, CellFault>
     requires ready { IsReady B.D.told (B.out _bay.now) site.old }
     ensures ready { IsReady B.D.told (B.out _bay.now) site.new }
-    ensures does { (cell : StoredCell) → IsSeen cell → IsSite B.D.told (B.out _bay.now) (B.has _bay.now) cell site.old
+    ensures does { (cell : Cell) → Shows B.D.told (B.out _bay.now) (B.has _bay.now) cell site.old
         → IfOk result (λ reply. Becomes B.D.told (B.out _bay.now) (B.has _bay.now) (Happens cell (line.ArmReplica server volume passes)) reply (B.answered _bay.now) (B.answered _bay.now) site.new) }
     ensures net { site.new.net ≡ site.old.net }
     ensures only { result ≢ Err CellFault.Bay }

@@ -19,9 +19,7 @@ mod there;
 
 pub use cell::Cell;
 pub use fault::CellFault;
-pub use laws::{
-    blank_disks_stand, new_actors_are_made_again, new_clients_may_come, new_volumes_may_come,
-};
+pub use laws::blank_disks_stand;
 pub use lines::{asks_bay, fail, is_built, set_link, show_log, show_volume, tick};
 pub use messages::{deliver, lose, send};
 pub use site::{Place, Site};

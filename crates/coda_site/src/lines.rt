@@ -4,10 +4,10 @@ ghost use Rattle.coda_io.specs.Faults.{Rose};
 ghost use Rattle.coda_site.specs.Makings.{is_disk_line, asks_bay};
 ghost use Rattle.coda_script.specs.declared.line.Line.TheVariants as line;
 ghost use Rattle.coda_cell.specs.Steps.{is_built_task, is_plain};
-ghost use Rattle.coda_stored.specs.Cells.{StoredCell};
-ghost use Rattle.coda_stored.specs.Seen.{IsSeen};
-ghost use Rattle.coda_stored.specs.Lines.{is_built, Happens};
-ghost use Rattle.coda_site.specs.Sites.{IsSite, IsReady, IsClosable};
+ghost use Rattle.coda_shelves.specs.Cells.{Cell};
+ghost use Rattle.coda_shelves.specs.Lines.{is_built, Happens};
+ghost use Rattle.coda_site.specs.Shelves.{Shows};
+ghost use Rattle.coda_site.specs.Sites.{IsReady, IsClosable};
 ghost use Rattle.coda_site.specs.Steps.{Becomes};
 ghost use Rattle.coda_site.specs.Totals.{IsCounted, IsFault, has_armed, totals};
 
@@ -93,8 +93,8 @@ pub fn set_link<B: Bay>(
 ) -> Result<Reply, CellFault>
     requires ready { IsReady B.D.told (B.out _bay.now) site.old }
     ensures ready { IsReady B.D.told (B.out _bay.now) site.new }
-    ensures does { (cell : StoredCell) → IsSeen cell
-        → IsSite B.D.told (B.out _bay.now) (B.has _bay.now) cell site.old
+    ensures does { (cell : Cell)
+        → Shows B.D.told (B.out _bay.now) (B.has _bay.now) cell site.old
         → IfOk result (λ reply. Becomes B.D.told (B.out _bay.now) (B.has _bay.now)
         (Happens cell (line.Link client server strength))
         reply (B.answered _bay.now) (B.answered _bay.now) site.new) }
@@ -119,8 +119,8 @@ pub fn tick<B: Bay>(_bay: &B, site: &mut Site<B::D>, seconds: u32) -> Reply
     requires ready { IsReady B.D.told (B.out _bay.now) site.old }
     ensures ready { IsReady B.D.told (B.out _bay.now) site.new }
     ensures net { site.new.net ≡ site.old.net }
-    ensures does { (cell : StoredCell) → IsSeen cell
-        → IsSite B.D.told (B.out _bay.now) (B.has _bay.now) cell site.old
+    ensures does { (cell : Cell)
+        → Shows B.D.told (B.out _bay.now) (B.has _bay.now) cell site.old
         → Becomes B.D.told (B.out _bay.now) (B.has _bay.now) (Happens cell (line.Tick seconds))
         result (B.answered _bay.now) (B.answered _bay.now) site.new }
     ensures counts { IsCounted (IsFault (Ok result)) false (totals B.D.told B.D.faults B.D.arms (B.disk_faults _bay.now) (B.disk_arms _bay.now) site.old) (totals B.D.told B.D.faults B.D.arms (B.disk_faults _bay.now) (B.disk_arms _bay.now) site.new) }
@@ -137,8 +137,8 @@ pub fn show_volume<B: Bay>(
     volume: u32,
 ) -> Result<Reply, CellFault>
     requires ready { IsReady B.D.told (B.out _bay.now) site.now }
-    ensures does { (cell : StoredCell) → IsSeen cell
-        → IsSite B.D.told (B.out _bay.now) (B.has _bay.now) cell site.now
+    ensures does { (cell : Cell)
+        → Shows B.D.told (B.out _bay.now) (B.has _bay.now) cell site.now
         → IfOk result (λ reply. Becomes B.D.told (B.out _bay.now) (B.has _bay.now)
         (Happens cell (line.ShowVolume server volume))
         reply (B.answered _bay.now) (B.answered _bay.now) site.now) }
@@ -164,8 +164,8 @@ pub fn show_log<B: Bay>(
     volume: u32,
 ) -> Result<Reply, CellFault>
     requires ready { IsReady B.D.told (B.out _bay.now) site.now }
-    ensures does { (cell : StoredCell) → IsSeen cell
-        → IsSite B.D.told (B.out _bay.now) (B.has _bay.now) cell site.now
+    ensures does { (cell : Cell)
+        → Shows B.D.told (B.out _bay.now) (B.has _bay.now) cell site.now
         → IfOk result (λ reply. Becomes B.D.told (B.out _bay.now) (B.has _bay.now)
         (Happens cell (line.ShowLog client volume))
         reply (B.answered _bay.now) (B.answered _bay.now) site.now) }
@@ -191,7 +191,7 @@ pub fn fail<B: Bay>(bay: &mut B, site: &mut Site<B::D>, line: &Line) -> Result<R
     requires ready { IsReady B.D.told (B.out bay.old) site.old }
     ensures ready { result ≢ Err CellFault.Bay → IsReady B.D.told (B.out bay.new) site.new }
     ensures closable { IsClosable (B.out bay.new) site.new }
-    ensures does { (cell : StoredCell) → IsSeen cell → IsSite B.D.told (B.out bay.old) (B.has bay.old) cell site.old
+    ensures does { (cell : Cell) → Shows B.D.told (B.out bay.old) (B.has bay.old) cell site.old
         → IfOk result (λ reply. Becomes B.D.told (B.out bay.new) (B.has bay.new) (Happens cell line.now) reply (B.answered bay.old) (B.answered bay.new) site.new) }
     ensures net { site.new.net ≡ site.old.net }
     ensures answered_err { OnErr result (B.answered bay.new ≡ B.answered bay.old) }

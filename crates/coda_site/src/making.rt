@@ -1,21 +1,17 @@
 // Lines that make actors.
-ghost use Rattle.std.specs.Prelude.{◌≡◌, ◌≢◌, ◌≤◌, ◌<◌, ◌∷◌, ◌++◌, [], ℕ, List, ◌==◌, is_some, if◌then◌else◌, length, Some, None, IfOk, OnOk, OnErr, Err, false};
+ghost use Rattle.std.specs.Prelude.{◌≡◌, ◌≢◌, ◌≤◌, ◌<◌, ◌∷◌, ◌++◌, [], ℕ, List, ◌==◌, if◌then◌else◌, Some, None, IfOk, OnOk, OnErr, Err, false};
 ghost use Rattle.coda_io.specs.Faults.{Rose};
 ghost use Rattle.coda_crew.specs.declared.fault.CrewFault.TheVariants as crew_faults;
 ghost use Rattle.coda_script.specs.Ranges.{InRange};
-ghost use Rattle.coda_cell.specs.Steps.{alone};
 ghost use Rattle.coda_script.specs.declared.line.Line.TheVariants as line;
 ghost use Rattle.coda_script.specs.declared.reply.Reply.TheVariants as reply;
-ghost use Rattle.coda_stored.specs.Cells.{StoredCell, client_header, replica_header, disk_number};
-ghost use Rattle.coda_stored.specs.Kept.{IsStoredKept};
-ghost use Rattle.coda_stored.specs.Lines.{no_volume, no_client, Happens, MakesVolume};
-ghost use Rattle.coda_stored.specs.Mounted.{Shelf, IsShelved, ClientFinds, VolumeFinds};
-ghost use Rattle.coda_stored.specs.Seen.{IsSeen, mounts_none};
-ghost use Rattle.coda_stored.specs.Resuming.{Awaited, ClientAgain, VolumeAgain, AreAwaited};
-ghost use Rattle.coda_site.specs.Awaiting.{IsAwaiting, Resumes};
+ghost use Rattle.coda_shelves.specs.Shelves.{client_header, replica_header, disk_at};
+ghost use Rattle.coda_shelves.specs.Cells.{Cell};
+ghost use Rattle.coda_shelves.specs.Lines.{Happens};
 ghost use Rattle.coda_site.specs.Makings.{SaysOpened};
-ghost use Rattle.coda_site.specs.Sites.{IsSite, IsReady, place_in};
-ghost use Rattle.coda_site.specs.Steps.{Becomes, Mounts};
+ghost use Rattle.coda_site.specs.Shelves.{Shows};
+ghost use Rattle.coda_site.specs.Sites.{IsReady, place_in};
+ghost use Rattle.coda_site.specs.Steps.{Becomes};
 ghost use Rattle.coda_site.specs.Totals.{IsCounted, IsFault, totals};
 ghost use Rattle.coda_site.specs.declared.site.Place.{Place as APlace};
 
@@ -55,7 +51,7 @@ fn client_header(client: u8, blocks: u32, area: u8) -> Header
 // That of the replica of a volume, which is on this server alone.
 fn replica_header(volume: u32, server: u8, area: u8) -> Header
     requires { (1 ≤ server) × (server ≤ 8) }
-    ensures { result ≡ replica_header volume server area }
+    ensures { result ≡ replica_header volume (server ∷ []) area server }
 {
     Header {
         kind: Kind::Replica,
@@ -70,7 +66,7 @@ fn replica_header(volume: u32, server: u8, area: u8) -> Header
 // The number of the disk of a server's replica of the volume that is made after so many others.
 fn disk_number(before: usize, server: u8) -> u32
     requires { (before < 64) × (1 ≤ server) × (server ≤ 8) }
-    ensures { result ≡ disk_number before server }
+    ensures { result ≡ disk_at before server }
 {
     256 + 8 * before as u32 + u32::from(server - 1)
 }
@@ -122,15 +118,8 @@ pub fn make_client<B: Bay>(
     requires ready { IsReady B.D.told (B.out bay.old) site.old }
     requires range { InRange (line.Client client blocks (Some area)) }
     ensures ready { IsReady B.D.told (B.out bay.new) site.new }
-    ensures does { (cell : StoredCell) → IsSeen cell → (is_some (no_client cell client area) ≡ false → IsStoredKept cell) → IsSite B.D.told (B.out bay.old) (B.has bay.old) cell site.old
+    ensures does { (cell : Cell) → Shows B.D.told (B.out bay.old) (B.has bay.old) cell site.old
         → IfOk result (λ said. Becomes B.D.told (B.out bay.new) (B.has bay.new) (Happens cell (line.Client client blocks (Some area))) said (B.answered bay.old) (B.answered bay.new) site.new) }
-    ensures again { (cell : StoredCell) (left : List Awaited) → IsStoredKept cell → AreAwaited cell (length site.old.servers.items) site.old.areas (ClientAgain client blocks area ∷ left)
-        → IsAwaiting B.D.told (B.out bay.old) (B.has bay.old) cell (ClientAgain client blocks area ∷ left) site.old
-        → IfOk result (λ said. Resumes B.D.told (B.out bay.new) (B.has bay.new) cell (ClientAgain client blocks area) left said (B.answered bay.old) (B.answered bay.new) site.new) }
-    ensures mounts { (cell : StoredCell) → IsSeen cell → mounts_none cell (line.Client client blocks (Some area)) ≡ false → IsSite B.D.told (B.out bay.old) (B.has bay.old) cell site.old
-        → IfOk result (λ said. Mounts B.D.told (B.out bay.new) (B.has bay.new) cell (line.Client client blocks (Some area)) said (B.answered bay.old) (B.answered bay.new) site.new) }
-    ensures finds { (cell : StoredCell) → IsSeen cell → mounts_none cell (line.Client client blocks (Some area)) ≡ false → IsSite B.D.told (B.out bay.old) (B.has bay.old) cell site.old
-        → IfOk result (λ said. Becomes B.D.told (B.out bay.new) (B.has bay.new) (ClientFinds cell client blocks area) said (B.answered bay.old) (B.answered bay.new) site.new) }
     ensures net { site.new.net ≡ site.old.net }
     ensures answered { B.answered bay.new ≡ B.answered bay.old }
     ensures later { B.faults bay.old ≤ B.faults bay.new }
@@ -201,15 +190,8 @@ pub fn make_volume<B: Bay>(
     requires server { (1 ≤ server) × (server ≤ 8) }
     requires area { (1 ≤ area) × (area ≤ 64) }
     ensures ready { IsReady B.D.told (B.out bay.new) site.new }
-    ensures does { (cell : StoredCell) → IsSeen cell → (is_some (no_volume cell volume area) ≡ false → IsStoredKept cell) → IsSite B.D.told (B.out bay.old) (B.has bay.old) cell site.old
-        → IfOk result (λ said. Becomes B.D.told (B.out bay.new) (B.has bay.new) (MakesVolume cell volume server area) said (B.answered bay.old) (B.answered bay.new) site.new) }
-    ensures again { (cell : StoredCell) (left : List Awaited) → IsStoredKept cell → AreAwaited cell (length site.old.servers.items) site.old.areas (VolumeAgain volume server area ∷ left)
-        → IsAwaiting B.D.told (B.out bay.old) (B.has bay.old) cell (VolumeAgain volume server area ∷ left) site.old
-        → IfOk result (λ said. Resumes B.D.told (B.out bay.new) (B.has bay.new) cell (VolumeAgain volume server area) left said (B.answered bay.old) (B.answered bay.new) site.new) }
-    ensures mounts { (cell : StoredCell) (servers : List ℕ) → alone servers ≡ server → IsSeen cell → mounts_none cell (line.Volume volume servers (Some area)) ≡ false → IsSite B.D.told (B.out bay.old) (B.has bay.old) cell site.old
-        → IfOk result (λ said. Mounts B.D.told (B.out bay.new) (B.has bay.new) cell (line.Volume volume servers (Some area)) said (B.answered bay.old) (B.answered bay.new) site.new) }
-    ensures finds { (cell : StoredCell) (shelf : Shelf) → IsSeen cell → is_some (no_volume cell volume area) ≡ false → IsShelved cell server shelf → IsSite B.D.told (B.out bay.old) (B.has bay.old) cell site.old
-        → IfOk result (λ said. Becomes B.D.told (B.out bay.new) (B.has bay.new) (VolumeFinds cell shelf volume server area) said (B.answered bay.old) (B.answered bay.new) site.new) }
+    ensures does { (cell : Cell) → Shows B.D.told (B.out bay.old) (B.has bay.old) cell site.old
+        → IfOk result (λ said. Becomes B.D.told (B.out bay.new) (B.has bay.new) (Happens cell (line.Volume volume (server ∷ []) (Some area))) said (B.answered bay.old) (B.answered bay.new) site.new) }
     ensures net { site.new.net ≡ site.old.net }
     ensures answered { B.answered bay.new ≡ B.answered bay.old }
     ensures later { B.faults bay.old ≤ B.faults bay.new }

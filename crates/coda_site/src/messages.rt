@@ -18,14 +18,13 @@ ghost use Rattle.coda_actors.specs.Slots.{is_up};
 ghost use Rattle.coda_crew.specs.Crews.{slot_at};
 ghost use Rattle.coda_cell.specs.Cells.{linked_in};
 ghost use Rattle.coda_cell.specs.Refusing.{letter_refused_as};
-ghost use Rattle.coda_cell.specs.Made.{state_of};
 ghost use Rattle.coda_cell.specs.Refusing.{refusal};
 ghost use Rattle.coda_cell.specs.Steps.{first_missing, on_holder};
-ghost use Rattle.coda_stored.specs.Cells.{StoredCell};
-ghost use Rattle.coda_stored.specs.Seen.{IsSeen};
-ghost use Rattle.coda_stored.specs.Lines.{Happens, is_cut};
+ghost use Rattle.coda_shelves.specs.Cells.{Cell, state_of};
+ghost use Rattle.coda_shelves.specs.Lines.{Happens, is_cut};
 ghost use Rattle.coda_site.specs.Drains.{Acted, Came, CameTo, PostsChunk};
-ghost use Rattle.coda_site.specs.Sites.{IsSite, IsReady, place_in};
+ghost use Rattle.coda_site.specs.Shelves.{Shows};
+ghost use Rattle.coda_site.specs.Sites.{IsReady, place_in};
 ghost use Rattle.coda_site.specs.Steps.{Becomes};
 ghost use Rattle.coda_site.specs.Totals.{IsCounted, IsFault, totals};
 ghost use Rattle.coda_site.specs.declared.site.Place.{Place as APlace};
@@ -123,7 +122,7 @@ fn send_up<B: Bay>(
     requires server { HasSpelling a_server server }
     requires few { site.old.net.posted < 2 ^ 63 }
     ensures ready { IsReady B.D.told (B.out _bay.now) site.new }
-    ensures does { (cell : StoredCell) (place : APlace) → IsSeen cell → IsSite B.D.told (B.out _bay.now) (B.has _bay.now) cell site.old
+    ensures does { (cell : Cell) (place : APlace) → Shows B.D.told (B.out _bay.now) (B.has _bay.now) cell site.old
         → place_in site.old volume ≡ Some place → place.server ≡ server → not (is_cut (linked_in site.old.net client server)) ≡ true
         → IfOk result (λ reply. Acted B.D.told (B.out _bay.now) (B.has _bay.now) cell (line.Send client volume server (Some window)) reply site.new) }
     ensures posted { site.new.net.posted ≤ site.old.net.posted + 1 }
@@ -168,7 +167,7 @@ pub fn send<B: Bay>(
     requires range { InRange (line.Send client volume server (Some window)) }
     requires few { site.old.net.posted < 2 ^ 63 }
     ensures ready { IsReady B.D.told (B.out _bay.now) site.new }
-    ensures does { (cell : StoredCell) → IsSeen cell → IsSite B.D.told (B.out _bay.now) (B.has _bay.now) cell site.old
+    ensures does { (cell : Cell) → Shows B.D.told (B.out _bay.now) (B.has _bay.now) cell site.old
         → IfOk result (λ reply. Becomes B.D.told (B.out _bay.now) (B.has _bay.now) (Happens cell (line.Send client volume server (Some window)))
         reply (B.answered _bay.now) (B.answered _bay.now) site.new) }
     ensures posted { site.new.net.posted ≤ site.old.net.posted + 1 }
@@ -205,8 +204,8 @@ fn rule_up<B: Bay>(
     requires spelled { HasSpelling a_message (Chunk client server volume number recs.now) }
     requires few { site.old.net.posted < 2 ^ 63 }
     ensures ready { IsReady B.D.told (B.out _bay.now) site.new }
-    ensures does { (cell : StoredCell) (place : APlace) (span : List ARecord) → IsSeen cell → IsSite B.D.told (B.out _bay.now) (B.has _bay.now) cell site.old
-        → place_in site.old volume ≡ Some place → place.disk ≡ disk → place.server ≡ server → first_missing (on_holder (state_of cell.made) client volume server) ≡ None
+    ensures does { (cell : Cell) (place : APlace) (span : List ARecord) → Shows B.D.told (B.out _bay.now) (B.has _bay.now) cell site.old
+        → place_in site.old volume ≡ Some place → place.disk ≡ disk → place.server ≡ server → first_missing (on_holder (state_of cell) client volume server) ≡ None
         → recs.now ≡ sent_of span → IfOk result (λ reply. Came B.D.told (B.out _bay.now) (B.has _bay.now) cell (ChunkSent client server volume number span) reply site.new) }
     ensures posted { site.new.net.posted ≤ site.old.net.posted + 1 }
     ensures memory { IfErr result (λ why. why ≡ CellFault.Memory) }
@@ -253,7 +252,7 @@ fn chunk_comes<B: Bay>(
     requires spelled { HasSpelling a_message (Chunk client server volume number recs.now) }
     requires few { site.old.net.posted < 2 ^ 63 }
     ensures ready { IsReady B.D.told (B.out _bay.now) site.new }
-    ensures does { (cell : StoredCell) (span : List ARecord) → IsSeen cell → IsSite B.D.told (B.out _bay.now) (B.has _bay.now) cell site.old → recs.now ≡ sent_of span
+    ensures does { (cell : Cell) (span : List ARecord) → Shows B.D.told (B.out _bay.now) (B.has _bay.now) cell site.old → recs.now ≡ sent_of span
         → IfOk result (λ reply. Becomes B.D.told (B.out _bay.now) (B.has _bay.now) (CameTo cell (ChunkSent client server volume number span))
         reply (B.answered _bay.now) (B.answered _bay.now) site.new) }
     ensures posted { site.new.net.posted ≤ site.old.net.posted + 1 }
@@ -288,8 +287,8 @@ fn take_up<B: Bay>(
     requires up { is_up (client_form B.D.told) (slot_at site.old.clients client) ≡ true }
     requires spelled { HasSpelling a_message (Verdict server client volume number answer) }
     ensures ready { IsReady B.D.told (B.out _bay.now) site.new }
-    ensures does { (cell : StoredCell) → IsSeen cell → IsSite B.D.told (B.out _bay.now) (B.has _bay.now) cell site.old
-        → first_missing (on_holder (state_of cell.made) client volume server) ≡ None
+    ensures does { (cell : Cell) → Shows B.D.told (B.out _bay.now) (B.has _bay.now) cell site.old
+        → first_missing (on_holder (state_of cell) client volume server) ≡ None
         → IfOk result (λ reply. Came B.D.told (B.out _bay.now) (B.has _bay.now) cell (AnswerSent server client volume number answer) reply site.new) }
     ensures posted { site.new.net.posted ≤ site.old.net.posted + 1 }
     ensures memory { IfErr result (λ why. why ≡ CellFault.Memory) }
@@ -317,7 +316,7 @@ fn answer_comes<B: Bay>(
     requires ready { IsReady B.D.told (B.out _bay.now) site.old }
     requires spelled { HasSpelling a_message (Verdict server client volume number answer) }
     ensures ready { IsReady B.D.told (B.out _bay.now) site.new }
-    ensures does { (cell : StoredCell) → IsSeen cell → IsSite B.D.told (B.out _bay.now) (B.has _bay.now) cell site.old
+    ensures does { (cell : Cell) → Shows B.D.told (B.out _bay.now) (B.has _bay.now) cell site.old
         → IfOk result (λ reply. Becomes B.D.told (B.out _bay.now) (B.has _bay.now) (CameTo cell (AnswerSent server client volume number answer))
         reply (B.answered _bay.now) (B.answered _bay.now) site.new) }
     ensures posted { site.new.net.posted ≤ site.old.net.posted + 1 }
@@ -356,7 +355,7 @@ pub fn deliver<B: Bay>(bay: &B, site: &mut Site<B::D>, message: u64) -> Result<R
     requires ready { IsReady B.D.told (B.out bay.now) site.old }
     requires few { site.old.net.posted < 2 ^ 63 }
     ensures ready { IsReady B.D.told (B.out bay.now) site.new }
-    ensures does { (cell : StoredCell) → IsSeen cell → IsSite B.D.told (B.out bay.now) (B.has bay.now) cell site.old
+    ensures does { (cell : Cell) → Shows B.D.told (B.out bay.now) (B.has bay.now) cell site.old
         → IfOk result (λ reply. Becomes B.D.told (B.out bay.now) (B.has bay.now) (Happens cell (line.Deliver message))
         reply (B.answered bay.now) (B.answered bay.now) site.new) }
     ensures posted { site.new.net.posted ≤ site.old.net.posted + 1 }
@@ -394,7 +393,7 @@ pub fn deliver<B: Bay>(bay: &B, site: &mut Site<B::D>, message: u64) -> Result<R
 pub fn lose<B: Bay>(_bay: &B, site: &mut Site<B::D>, message: u64) -> Result<Reply, CellFault>
     requires ready { IsReady B.D.told (B.out _bay.now) site.old }
     ensures ready { IsReady B.D.told (B.out _bay.now) site.new }
-    ensures does { (cell : StoredCell) → IsSeen cell → IsSite B.D.told (B.out _bay.now) (B.has _bay.now) cell site.old
+    ensures does { (cell : Cell) → Shows B.D.told (B.out _bay.now) (B.has _bay.now) cell site.old
         → IfOk result (λ reply. Becomes B.D.told (B.out _bay.now) (B.has _bay.now) (Happens cell (line.Lose message))
         reply (B.answered _bay.now) (B.answered _bay.now) site.new) }
     ensures posted { site.new.net.posted ≡ site.old.net.posted }

@@ -5,7 +5,7 @@ ghost use Rattle.coda_cell.specs.Sending.{reply_answer};
 ghost use Rattle.coda_cell.specs.Messages.{reply_taken};
 ghost use Rattle.coda_cell.specs.Refused as refused;
 ghost use Rattle.coda_matching.specs.Clients.{refused_as};
-ghost use Rattle.coda_stored.specs.Lines.{refused_down, refused_full, refused_fault};
+ghost use Rattle.coda_shelves.specs.Lines.{refused_down, refused_full, refused_fault};
 ghost use Rattle.coda_site.specs.Totals.{IsFault};
 ghost use Rattle.coda_script.specs.declared.reply.Arg.{Arg as AnArg};
 ghost use Rattle.coda_script.specs.declared.reply.Reply.TheVariants as reply;

@@ -15,10 +15,10 @@ ghost use Rattle.coda_cell.specs.Ask.{Store};
 ghost use Rattle.coda_cell.specs.Asking.{operate as operate_answer};
 ghost use Rattle.coda_cell.specs.Steps.{is_built_task, bytes_of};
 ghost use Rattle.coda_serving.specs.Serving.{asked_as, show_answer, reply_of, IsDone, IsShown};
-ghost use Rattle.coda_stored.specs.Cells.{StoredCell};
-ghost use Rattle.coda_stored.specs.Seen.{IsSeen};
-ghost use Rattle.coda_stored.specs.Lines.{Happens};
-ghost use Rattle.coda_site.specs.Sites.{IsSite, IsReady};
+ghost use Rattle.coda_shelves.specs.Cells.{Cell};
+ghost use Rattle.coda_shelves.specs.Lines.{Happens};
+ghost use Rattle.coda_site.specs.Shelves.{Shows};
+ghost use Rattle.coda_site.specs.Sites.{IsReady};
 ghost use Rattle.coda_site.specs.Steps.{Becomes};
 ghost use Rattle.coda_site.specs.Totals.{IsCounted, IsFault, counts_in, counts_of, totals};
 ghost use Rattle.coda_site.specs.Tasks.{is_making, is_changing, Asks, SlotEnds, CallEnds, offered_at};
@@ -185,10 +185,10 @@ fn perform<B: Bay>(
     requires volume { HasSpelling a_volume volume }
     requires ask { IsAskSpelled (asked ask) }
     ensures ready { IsReady B.D.told (B.out _bay.now) site.new }
-    ensures does { (cell : StoredCell) → IsSeen cell
-        → IsSite B.D.told (B.out _bay.now) (B.has _bay.now) cell site.old
+    ensures does { (cell : Cell)
+        → Shows B.D.told (B.out _bay.now) (B.has _bay.now) cell site.old
         → IfOk result (λ reply. Becomes B.D.told (B.out _bay.now) (B.has _bay.now)
-        (Asks cell client volume (λ o c. operate_answer o c cell.made.clock volume (asked_as (asked ask.entry))))
+        (Asks cell client volume (λ o c. operate_answer o c cell.clock volume (asked_as (asked ask.entry))))
         reply (B.answered _bay.now) (B.answered _bay.now) site.new) }
     ensures net { site.new.net ≡ site.old.net }
     ensures memory { IfErr result (λ why. why ≡ CellFault.Memory) }
@@ -229,8 +229,8 @@ fn look<B: Bay>(
 ) -> Result<Reply, CellFault>
     requires ready { IsReady B.D.told (B.out _bay.now) site.old }
     ensures ready { IsReady B.D.told (B.out _bay.now) site.new }
-    ensures does { (cell : StoredCell) → IsSeen cell
-        → IsSite B.D.told (B.out _bay.now) (B.has _bay.now) cell site.old
+    ensures does { (cell : Cell)
+        → Shows B.D.told (B.out _bay.now) (B.has _bay.now) cell site.old
         → IfOk result (λ reply. Becomes B.D.told (B.out _bay.now) (B.has _bay.now)
         (Asks cell client volume (λ o c. show_answer what o c volume path.now))
         reply (B.answered _bay.now) (B.answered _bay.now) site.new) }
@@ -280,11 +280,11 @@ fn store<B: Bay>(
     requires ready { IsReady B.D.told (B.out bay.now) site.old }
     requires volume { HasSpelling a_volume volume }
     ensures ready { IsReady B.D.told (B.out bay.now) site.new }
-    ensures does { (cell : StoredCell) → IsSeen cell
-        → IsSite B.D.told (B.out bay.now) (B.has bay.now) cell site.old
+    ensures does { (cell : Cell)
+        → Shows B.D.told (B.out bay.now) (B.has bay.now) cell site.old
         → IfOk result (λ reply. Becomes B.D.told (B.out bay.now) (B.has bay.now)
         (Asks cell client volume
-        (λ o c. operate_answer o c cell.made.clock volume (Store path.now (bytes_of content.now))))
+        (λ o c. operate_answer o c cell.clock volume (Store path.now (bytes_of content.now))))
         reply (B.answered bay.now) (B.answered bay.now) site.new) }
     ensures net { site.new.net ≡ site.old.net }
     ensures memory { IfErr result (λ why. why ≡ CellFault.Memory) }
@@ -305,8 +305,8 @@ fn make<B: Bay>(bay: &B, site: &mut Site<B::D>, task: &Task) -> Result<Reply, Ce
     requires made { is_making task.now ≡ true }
     requires range { TaskInRange task.now }
     ensures ready { IsReady B.D.told (B.out bay.now) site.new }
-    ensures does { (cell : StoredCell) → IsSeen cell
-        → IsSite B.D.told (B.out bay.now) (B.has bay.now) cell site.old
+    ensures does { (cell : Cell)
+        → Shows B.D.told (B.out bay.now) (B.has bay.now) cell site.old
         → IfOk result (λ reply. Becomes B.D.told (B.out bay.now) (B.has bay.now) (Happens cell (line.Task task.now))
         reply (B.answered bay.now) (B.answered bay.now) site.new) }
     ensures net { site.new.net ≡ site.old.net }
@@ -362,8 +362,8 @@ fn change<B: Bay>(bay: &B, site: &mut Site<B::D>, task: &Task) -> Result<Reply, 
     requires changed { is_changing task.now ≡ true }
     requires range { TaskInRange task.now }
     ensures ready { IsReady B.D.told (B.out bay.now) site.new }
-    ensures does { (cell : StoredCell) → IsSeen cell
-        → IsSite B.D.told (B.out bay.now) (B.has bay.now) cell site.old
+    ensures does { (cell : Cell)
+        → Shows B.D.told (B.out bay.now) (B.has bay.now) cell site.old
         → IfOk result (λ reply. Becomes B.D.told (B.out bay.now) (B.has bay.now) (Happens cell (line.Task task.now))
         reply (B.answered bay.now) (B.answered bay.now) site.new) }
     ensures net { site.new.net ≡ site.old.net }
@@ -410,8 +410,8 @@ pub fn carry_out<B: Bay>(bay: &B, site: &mut Site<B::D>, task: &Task) -> Result<
     requires built { is_built_task task.now ≡ true }
     requires range { TaskInRange task.now }
     ensures ready { IsReady B.D.told (B.out bay.now) site.new }
-    ensures does { (cell : StoredCell) → IsSeen cell
-        → IsSite B.D.told (B.out bay.now) (B.has bay.now) cell site.old
+    ensures does { (cell : Cell)
+        → Shows B.D.told (B.out bay.now) (B.has bay.now) cell site.old
         → IfOk result (λ reply. Becomes B.D.told (B.out bay.now) (B.has bay.now) (Happens cell (line.Task task.now))
         reply (B.answered bay.now) (B.answered bay.now) site.new) }
     ensures net { site.new.net ≡ site.old.net }

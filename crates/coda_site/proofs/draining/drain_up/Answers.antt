@@ -1,5 +1,5 @@
 use Rattle.std.specs.Prelude.{ℕ, ⊤}
-use Rattle.coda_stored.specs.Lines.{refused_full}
+use Rattle.coda_shelves.specs.Lines.{refused_full}
 use Rattle.coda_site.proofs.ClientSites.{with_clients}
 use Rattle.coda_site.proofs.ReplicaSites.{with_replicas}
 use Rattle.coda_site.proofs.Theres.{client_disk}
@@ -14,8 +14,8 @@ returns-in-Err-clause-ready g c =
     client_ready g.B.D.Disk.told (g.B.Bay.out c.args._bay.now) c.args.site.now c.requires.ready c.freeze_at.new.clients c.args.client c.requires.client_up c.freeze_at.ensures.ends c.freeze_at.ensures.others
 
 pub returns-in-Err-clause-does : goal.returns-in-Err-clause-does
-returns-in-Err-clause-does g c = λ cell place kept is at disk home link. if_ok _ c.refused.result (λ reply e.
-    drain_unfrozen g.B.D.Disk.told (g.B.Bay.out c.args._bay.now) (g.B.Bay.has c.args._bay.now) c.freeze_at.ensures.seen cell kept c.args.site.now is c.args.client c.args.volume c.args.server c.args.disk c.args.window
+returns-in-Err-clause-does g c = λ cell place shows at disk home link. if_ok _ c.refused.result (λ reply e.
+    drain_unfrozen g.B.D.Disk.told (g.B.Bay.out c.args._bay.now) (g.B.Bay.has c.args._bay.now) c.freeze_at.ensures.seen cell c.args.site.now shows c.args.client c.args.volume c.args.server c.args.disk c.args.window
     (client_disk c.args.client c.ranges.client.fits) c.requires.client_up c.requires.replica_up place at disk home link c.freeze_at.new.clients c.freeze_at.ensures.others c.in-Err.why c.in-Err.ensures.ends reply
     (refused_reply {B = ℕ} (λ n. refused_full) c.refused.result c.in-Err.why reply e c.refused.ensures.own c.refused.ensures.fault c.refused.ensures.memory))
 
@@ -29,8 +29,8 @@ returns-in-Err-rule_at-clause-ready g c =
     two
 
 pub returns-in-Err-rule_at-clause-does : goal.returns-in-Err-rule_at-clause-does
-returns-in-Err-rule_at-clause-does g c = λ cell place kept is at disk home link. if_ok _ c.unruled.result (λ reply e.
-    drain_unruled g.B.D.Disk.told (g.B.Bay.out c.args._bay.now) (g.B.Bay.has c.args._bay.now) c.freeze_at.ensures.seen cell kept c.args.site.now is c.args.client c.args.volume c.args.server c.args.disk c.args.window
+returns-in-Err-rule_at-clause-does g c = λ cell place shows at disk home link. if_ok _ c.unruled.result (λ reply e.
+    drain_unruled g.B.D.Disk.told (g.B.Bay.out c.args._bay.now) (g.B.Bay.has c.args._bay.now) c.freeze_at.ensures.seen cell c.args.site.now shows c.args.client c.args.volume c.args.server c.args.disk c.args.window
     (client_disk c.args.client c.ranges.client.fits) c.requires.client_up c.requires.replica_up place at disk home link c.freeze_at.new.clients c.freeze_at.ensures.others c.in-Ok.chunk c.in-Ok.ensures.ends
     c.chunk_at-recs.result.now c.chunk_at-recs.ensures.records c.rule_at.new.replicas c.rule_at.ensures.others c.in-Err-rule_at.why c.in-Err-rule_at.ensures.ends reply
     (unruled_reply c.unruled.result c.in-Err-rule_at.why reply e c.unruled.ensures.full c.unruled.ensures.fault c.unruled.ensures.memory))
@@ -45,8 +45,8 @@ returns-in-Ok-take_at-clause-ready g c =
     client_ready told out (with_replicas (with_clients site c.freeze_at.new.clients) c.rule_at.new.replicas) two c.take_at.new.clients c.args.client c.in-Ok.ensures.up c.take_at.ensures.ends c.take_at.ensures.others
 
 pub returns-in-Ok-take_at-clause-does : goal.returns-in-Ok-take_at-clause-does
-returns-in-Ok-take_at-clause-does g c = λ cell place kept is at disk home link.
-    drain_taken g.B.D.Disk.told (g.B.Bay.out c.args._bay.now) (g.B.Bay.has c.args._bay.now) c.freeze_at.ensures.seen cell kept c.args.site.now is c.args.client c.args.volume c.args.server c.args.disk c.args.window
+returns-in-Ok-take_at-clause-does g c = λ cell place shows at disk home link.
+    drain_taken g.B.D.Disk.told (g.B.Bay.out c.args._bay.now) (g.B.Bay.has c.args._bay.now) c.freeze_at.ensures.seen cell c.args.site.now shows c.args.client c.args.volume c.args.server c.args.disk c.args.window
     (client_disk c.args.client c.ranges.client.fits) c.requires.client_up c.requires.replica_up place at disk home link c.freeze_at.new.clients c.freeze_at.ensures.others c.in-Ok.chunk c.in-Ok.ensures.ends
     c.chunk_at-recs.result.now c.chunk_at-recs.ensures.records c.rule_at.new.replicas c.rule_at.ensures.others c.in-Ok-rule_at.answer c.in-Ok-rule_at.ensures.ends c.take_at.new.clients c.take_at.ensures.others
     c.in-Ok-take_at.field-0 c.in-Ok-take_at.ensures.ends c.reply_answer.result c.reply_answer.ensures
@@ -61,8 +61,8 @@ returns-in-Err-take_at-clause-ready g c =
     client_ready told out (with_replicas (with_clients site c.freeze_at.new.clients) c.rule_at.new.replicas) two c.take_at.new.clients c.args.client c.in-Ok.ensures.up c.take_at.ensures.ends c.take_at.ensures.others
 
 pub returns-in-Err-take_at-clause-does : goal.returns-in-Err-take_at-clause-does
-returns-in-Err-take_at-clause-does g c = λ cell place kept is at disk home link. if_ok _ c.refused-in-Err-take_at.result (λ reply e.
-    drain_untaken g.B.D.Disk.told (g.B.Bay.out c.args._bay.now) (g.B.Bay.has c.args._bay.now) c.freeze_at.ensures.seen cell kept c.args.site.now is c.args.client c.args.volume c.args.server c.args.disk c.args.window
+returns-in-Err-take_at-clause-does g c = λ cell place shows at disk home link. if_ok _ c.refused-in-Err-take_at.result (λ reply e.
+    drain_untaken g.B.D.Disk.told (g.B.Bay.out c.args._bay.now) (g.B.Bay.has c.args._bay.now) c.freeze_at.ensures.seen cell c.args.site.now shows c.args.client c.args.volume c.args.server c.args.disk c.args.window
     (client_disk c.args.client c.ranges.client.fits) c.requires.client_up c.requires.replica_up place at disk home link c.freeze_at.new.clients c.freeze_at.ensures.others c.in-Ok.chunk c.in-Ok.ensures.ends
     c.chunk_at-recs.result.now c.chunk_at-recs.ensures.records c.rule_at.new.replicas c.rule_at.ensures.others c.in-Ok-rule_at.answer c.in-Ok-rule_at.ensures.ends c.take_at.new.clients c.take_at.ensures.others
     c.in-Err-take_at.why c.in-Err-take_at.ensures.ends reply

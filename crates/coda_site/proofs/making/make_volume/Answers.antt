@@ -1,4 +1,4 @@
-use Rattle.std.proofs.Common.{◌≡◌, ◌+◌, ◌≤◌, ◌<◌, ◌==◌, ℕ, List, true, false, cond, length, Some, None, sym, ap, subst, ◌∙◌, arith}
+use Rattle.std.proofs.Common.{◌≡◌, ◌+◌, ◌≤◌, ◌<◌, ◌==◌, ◌∷◌, [], ℕ, List, true, false, cond, length, Some, None, sym, ap, subst, ◌∙◌}
 use Rattle.std.proofs.lemmas.Bool.{false≢true}
 use Rattle.std.specs.Prelude.{nat_lt, nat_le, ◌||◌, is_some}
 use Rattle.coda_journal.specs.declared.header.Header.{Header}
@@ -7,59 +7,59 @@ use Rattle.coda_actors.specs.Replicas.{replica_form}
 use Rattle.coda_actors.specs.Slots.{is_made}
 use Rattle.coda_crew.specs.Crews.{slot_at, Takes, KeepsOtherSlots, FitsAll, OutAll, OwnAll}
 use Rattle.coda_crew.proofs.Lifts.{others_left}
-use Rattle.coda_plain.specs.Moves.{TheReplica}
 use Rattle.coda_script.specs.declared.line.Line.TheVariants as line
 use Rattle.coda_script.specs.declared.reply.Reply.{Reply}
 use Rattle.coda_cell.specs.Refused.{AlreadyThere, CellFull}
-use Rattle.coda_stored.specs.Cells.{replica_header, disk_number}
-use Rattle.coda_stored.specs.Lines.{MakesVolume, Opens, no_volume, with_volume}
-use Rattle.coda_stored.specs.Mounted.{VolumeFinds}
-use Rattle.coda_stored.specs.Resuming.{VolumeAgain}
-use Rattle.coda_site.specs.Awaiting.{Resumes}
+use Rattle.coda_shelves.specs.Shelves.{replica_header, disk_at}
+use Rattle.coda_shelves.specs.Cells.{stand_of}
+use Rattle.coda_shelves.specs.Lines.{no_volume, MakesVolume, Happens}
 use Rattle.coda_site.specs.Makings.{SaysOpened}
 use Rattle.coda_site.specs.Sites.{is_client_disk, is_replica_disk, place_in, IsReady}
-use Rattle.coda_site.specs.Steps.{Becomes, Mounts}
-use Rattle.coda_site.specs.declared.site.Place.{Place}
-use Rattle.coda_site.proofs.Becomings.{becomes_as}
-use Rattle.coda_site.proofs.ClientLines.{stays_becomes}
-use Rattle.coda_site.proofs.Closing.{replica_alone, out_over}
-use Rattle.coda_site.proofs.Finding.{volume_finds}
-use Rattle.coda_site.proofs.Foreigners.{IsAsBefore, place_back, volume_mounts}
-use Rattle.coda_site.proofs.Makes.{unless_none, unless_some, volume_already, volume_full, volume_fits, none_there, no_room_left, room_left, few_areas, many_volumes, full_of_areas, has_room, replica_number, volume_opened, volume_forgotten, forgotten_place, next_unmade}
-use Rattle.coda_site.proofs.ResumedVolumes.{volume_absent, resume_volume, replica_made_again}
-use Rattle.coda_site.proofs.Stages.{if_ok, said_ok}
-use Rattle.coda_site.proofs.NotedVolumes.{some_home, IsNoted}
-use Rattle.coda_site.proofs.VolumeLines.{opens_volume, replica_is_made}
-use Rattle.coda_site.proofs.making.make_volume.Goals.{then-is_made, else-is_made, then-len-ge-MOST_VOLUMES-via-then-len-ge-MOST_VOLUMES, then-len-ge-MOST_VOLUMES-via-else-len-ge-MOST_VOLUMES+then-site-from-gt-MOST_AREAS}
-use Rattle.coda_site.proofs.Counting.{replica_opened, same_slots}
+use Rattle.coda_site.specs.Steps.{Becomes}
 use Rattle.coda_site.specs.Totals.{Counts, IsCounted, IsFault, totals}
+use Rattle.coda_site.specs.declared.site.Place.{Place}
 use Rattle.coda_site.specs.declared.site.Site.{Site}
+use Rattle.coda_site.proofs.Closing.{replica_alone, out_over}
+use Rattle.coda_site.proofs.Counting.{replica_opened, same_slots}
+use Rattle.coda_site.proofs.MadeVolumes.{rows_counted, stands_there, IsNoted, IsAsBefore, place_back, makes_volume}
+use Rattle.coda_site.proofs.Makes.{stays_becomes, unless_some, already_there, cell_full, fits_in, none_there, no_room_left, room_left, few_areas, many_volumes, full_of_areas, has_room, replica_number, volume_opened, volume_forgotten, forgotten_place, next_unmade}
 use Rattle.coda_site.proofs.ReplicaSites.{with_replicas}
+use Rattle.coda_site.proofs.Stages.{if_ok, said_ok}
+use Rattle.coda_site.proofs.making.make_volume.Goals.{then-is_made, else-is_made, then-len-ge-MOST_VOLUMES-via-then-len-ge-MOST_VOLUMES, then-len-ge-MOST_VOLUMES-via-else-len-ge-MOST_VOLUMES+then-site-from-gt-MOST_AREAS}
 use Rattle.coda_site.proofs.making.make_volume.Goals as goal
 
 pub returns-then-contains_key-clause-does : goal.returns-then-contains_key-clause-does
-returns-then-contains_key-clause-does g c = λ cell seen may is.
+returns-then-contains_key-clause-does g c = λ cell shows.
+    let told = g.B.D.Disk.told in
+    let out = g.B.Bay.out c.args.bay.now in
+    let has = g.B.Bay.has c.args.bay.now in
+    let site = c.args.site.now in
     let volume = c.args.volume in
     let server = c.args.server in
     let area = c.args.area in
-    let there : is_some (cell.made.homes volume) ≡ true = ap is_some (is.homes volume) ∙ some_home (place_in c.args.site.now volume) ∙ sym c.if-contains_key.ensures in
-    stays_becomes g.B.D.Disk.told (g.B.Bay.out c.args.bay.now) (g.B.Bay.has c.args.bay.now) cell (MakesVolume cell volume server area) c.refuse.result (g.B.Bay.answered c.args.bay.now) c.args.site.now
-    (unless_some cell (no_volume cell volume area) AlreadyThere (Opens cell (replica_header volume server area) (with_volume cell volume server area) (TheReplica server volume)) c.refuse.result (volume_already cell volume area there) c.refuse.ensures) is
+    let there : is_some (stand_of cell volume) ≡ true = stands_there told out has cell site shows.stands volume ∙ sym c.if-contains_key.ensures in
+    stays_becomes told out has cell (Happens cell (line.Volume volume (server ∷ []) (Some area))) c.refuse.result (g.B.Bay.answered c.args.bay.now) site
+    (unless_some cell (no_volume cell volume area) AlreadyThere (MakesVolume cell volume (server ∷ []) area) c.refuse.result
+    (already_there (is_some (stand_of cell volume)) (nat_le 64 (length cell.rows) || nat_lt 512 (cell.areas + area)) there) c.refuse.ensures) shows.stands
 
 pub returns-then-len-ge-MOST_VOLUMES-clause-does : goal.returns-then-len-ge-MOST_VOLUMES-clause-does
-returns-then-len-ge-MOST_VOLUMES-clause-does g c = λ cell seen may is.
+returns-then-len-ge-MOST_VOLUMES-clause-does g c = λ cell shows.
+    let told = g.B.D.Disk.told in
+    let out = g.B.Bay.out c.args.bay.now in
+    let has = g.B.Bay.has c.args.bay.now in
+    let site = c.args.site.now in
     let volume = c.args.volume in
     let server = c.args.server in
     let area = c.args.area in
-    let site = c.args.site.now in
-    let absent : is_some (cell.made.homes volume) ≡ false = ap is_some (is.homes volume) ∙ some_home (place_in site volume) ∙ sym c.if-contains_key.ensures in
-    let many : length cell.made.servers ≡ c.len.result = ap length is.servers ∙ sym site.servers.ok.0 ∙ sym c.len.ensures in
-    let full : (nat_le 64 (length cell.made.servers) || nat_lt 512 (cell.areas + area)) ≡ true = elim c.then-len-ge-MOST_VOLUMES.branch [
-      | then-len-ge-MOST_VOLUMES-via-then-len-ge-MOST_VOLUMES w ↦ many_volumes (length cell.made.servers) c.len.result (nat_lt 512 (cell.areas + area)) many w.if-len-ge-MOST_VOLUMES.true
-      | then-len-ge-MOST_VOLUMES-via-else-len-ge-MOST_VOLUMES+then-site-from-gt-MOST_AREAS w ↦ full_of_areas (nat_le 64 (length cell.made.servers)) (nat_lt 512 (cell.areas + area)) (no_room_left site.areas cell.areas area w.from.result is.areas w.from.ensures w.if-site-from-gt-MOST_AREAS.true)
+    let absent : is_some (stand_of cell volume) ≡ false = stands_there told out has cell site shows.stands volume ∙ sym c.if-contains_key.ensures in
+    let many : length cell.rows ≡ c.len.result = rows_counted told out has cell site shows.stands ∙ sym site.servers.ok.0 ∙ sym c.len.ensures in
+    let full : (nat_le 64 (length cell.rows) || nat_lt 512 (cell.areas + area)) ≡ true = elim c.then-len-ge-MOST_VOLUMES.branch [
+      | then-len-ge-MOST_VOLUMES-via-then-len-ge-MOST_VOLUMES w ↦ many_volumes (length cell.rows) c.len.result (nat_lt 512 (cell.areas + area)) many w.if-len-ge-MOST_VOLUMES.true
+      | then-len-ge-MOST_VOLUMES-via-else-len-ge-MOST_VOLUMES+then-site-from-gt-MOST_AREAS w ↦ full_of_areas (nat_le 64 (length cell.rows)) (nat_lt 512 (cell.areas + area)) (no_room_left site.areas cell.areas area w.from.result shows.stands.areas w.from.ensures w.if-site-from-gt-MOST_AREAS.true)
     ] in
-    stays_becomes g.B.D.Disk.told (g.B.Bay.out c.args.bay.now) (g.B.Bay.has c.args.bay.now) cell (MakesVolume cell volume server area) c.refuse-then-len-ge-MOST_VOLUMES.result (g.B.Bay.answered c.args.bay.now) site
-    (unless_some cell (no_volume cell volume area) CellFull (Opens cell (replica_header volume server area) (with_volume cell volume server area) (TheReplica server volume)) c.refuse-then-len-ge-MOST_VOLUMES.result (volume_full cell volume area absent full) c.refuse-then-len-ge-MOST_VOLUMES.ensures) is
+    stays_becomes told out has cell (Happens cell (line.Volume volume (server ∷ []) (Some area))) c.refuse-then-len-ge-MOST_VOLUMES.result (g.B.Bay.answered c.args.bay.now) site
+    (unless_some cell (no_volume cell volume area) CellFull (MakesVolume cell volume (server ∷ []) area) c.refuse-then-len-ge-MOST_VOLUMES.result
+    (cell_full (is_some (stand_of cell volume)) (nat_le 64 (length cell.rows) || nat_lt 512 (cell.areas + area)) absent full) c.refuse-then-len-ge-MOST_VOLUMES.ensures) shows.stands
 
 pub returns-after-is_made-clause-ready : goal.returns-after-is_made-clause-ready
 returns-after-is_made-clause-ready g c =
@@ -75,7 +75,7 @@ returns-after-is_made-clause-ready g c =
     let number = c.disk_number-disk.result in
     let noted = c.note.new.site in
     let told_of = c.in_ok-note.ensures in
-    let number_is : number ≡ disk_number (length site.servers.items) server = c.disk_number-disk.ensures ∙ ap (λ (m : ℕ). disk_number m server) (c.len-2.ensures ∙ site.servers.ok.0) in
+    let number_is : number ≡ disk_at (length site.servers.items) server = c.disk_number-disk.ensures ∙ ap (λ (m : ℕ). disk_at m server) (c.len-2.ensures ∙ site.servers.ok.0) in
     let clients : noted.clients ≡ site.clients = ap (λ s. s.clients) told_of.others in
     let replicas : noted.replicas ≡ site.replicas = ap (λ s. s.replicas) told_of.others in
     let areas : noted.areas ≡ site.areas = ap (λ s. s.areas) told_of.others in
@@ -84,9 +84,9 @@ returns-after-is_made-clause-ready g c =
     let others = out_over is_client_disk out out1 has has1 site.clients be ready.clients in
     let outs = c.in-Ok.ensures.out is_replica_disk (subst (λ r. OutAll is_replica_disk out r) (sym replicas) ready.replicas) own in
     let owns = c.in-Ok.ensures.own (subst (λ r. OwnAll (replica_form told) r) (sym replicas) ready.replicas_own) in
-    let kept : KeepsOtherSlots (disk_number (length site.servers.items) server) site.replicas c.open.new.slots = subst (λ r. KeepsOtherSlots (disk_number (length site.servers.items) server) r c.open.new.slots) replicas
+    let kept : KeepsOtherSlots (disk_at (length site.servers.items) server) site.replicas c.open.new.slots = subst (λ r. KeepsOtherSlots (disk_at (length site.servers.items) server) r c.open.new.slots) replicas
     (subst (λ (m : ℕ). KeepsOtherSlots m noted.replicas c.open.new.slots) number_is c.in-Ok.ensures.slots) in
-    let places : (k : ℕ) → place_in noted k ≡ cond (k == volume) (Some (record { server = server; disk = disk_number (length site.servers.items) server })) (place_in site k) =
+    let places : (k : ℕ) → place_in noted k ≡ cond (k == volume) (Some (record { server = server; disk = disk_at (length site.servers.items) server })) (place_in site k) =
     (λ k. told_of.places k ∙ ap (λ (m : ℕ). cond (k == volume) (Some (record { server = server; disk = m })) (place_in site k)) number_is) in
     elim c.if-is_made.branch [
       | then-is_made w ↦ subst (IsReady told out1) (sym w.site-is)
@@ -99,12 +99,12 @@ returns-after-is_made-clause-ready g c =
           subst (IsReady told out1) (sym w.site-is)
           (volume_forgotten told out out1 site ready c.open.new.slots volume server c.requires.server.0 c.requires.server.1 outs owns others kept left
           (gone.servers site.servers.items server told_of.servers) (none_there (place_in site volume) (sym c.if-contains_key.ensures))
-          (λ k. gone.places k ∙ forgotten_place (k == volume) (Some (record { server = server; disk = disk_number (length site.servers.items) server })) (place_in site k) (place_in noted k) (places k))
+          (λ k. gone.places k ∙ forgotten_place (k == volume) (Some (record { server = server; disk = disk_at (length site.servers.items) server })) (place_in site k) (place_in noted k) (places k))
           (ap (λ s. s.clients) gone.others ∙ clients) (subst (λ (m : ℕ). is_made (slot_at c.open.new.slots m) ≡ false) number_is (sym c.is_made.ensures ∙ w.if-is_made.false)) (ap (λ s. s.replicas) gone.others) (subst (λ (a : ℕ). a ≤ 512) (sym (ap (λ s. s.areas) gone.others ∙ areas)) ready.areas)))
     ]
 
 pub returns-after-is_made-clause-does : goal.returns-after-is_made-clause-does
-returns-after-is_made-clause-does g c = λ cell seen may is.
+returns-after-is_made-clause-does g c = λ cell shows.
     let told = g.B.D.Disk.told in
     let out = g.B.Bay.out c.args.bay.now in
     let has = g.B.Bay.has c.args.bay.now in
@@ -116,20 +116,22 @@ returns-after-is_made-clause-does g c = λ cell seen may is.
     let area = c.args.area in
     let number = c.disk_number-disk.result in
     let mounting = c.in-Ok.mounting in
+    let before = g.B.Bay.answered c.args.bay.now in
     let noted = c.note.new.site in
     let told_of = c.in_ok-note.ensures in
-    let disk : ℕ = disk_number (length cell.made.servers) server in
-    let place : Place = record { server = server; disk = disk } in
-    let number_is : number ≡ disk = c.disk_number-disk.ensures ∙ ap (λ (m : ℕ). disk_number m server) (c.len-2.ensures ∙ site.servers.ok.0) ∙ ap (λ (l : List ℕ). disk_number (length l) server) (sym is.servers) in
-    let absent : is_some (cell.made.homes volume) ≡ false = ap is_some (is.homes volume) ∙ some_home (place_in site volume) ∙ sym c.if-contains_key.ensures in
-    let none = none_there (cell.made.homes volume) absent in
-    let many : length cell.made.servers ≡ c.len.result = ap length is.servers ∙ sym site.servers.ok.0 ∙ sym c.len.ensures in
-    let fits = has_room (length cell.made.servers) c.len.result (nat_lt 512 (cell.areas + area)) many c.if-len-ge-MOST_VOLUMES.false (room_left site.areas cell.areas area c.from.result is.areas c.from.ensures c.if-site-from-gt-MOST_AREAS.false) in
-    let kept = may (ap is_some (volume_fits cell volume area absent fits)) in
-    let own : is_replica_disk number ≡ true = subst (λ (m : ℕ). is_replica_disk m ≡ true) (sym number_is) (replica_number (length cell.made.servers) server) in
+    let rows = rows_counted told out has cell site shows.stands in
+    let disk : ℕ = disk_at (length cell.rows) server in
+    let number_is : number ≡ disk = c.disk_number-disk.ensures ∙ ap (λ (m : ℕ). disk_at m server) (c.len-2.ensures ∙ site.servers.ok.0 ∙ sym rows) in
+    let none = none_there (place_in site volume) (sym c.if-contains_key.ensures) in
+    let gone : is_some (stand_of cell volume) ≡ false = stands_there told out has cell site shows.stands volume ∙ sym c.if-contains_key.ensures in
+    let many : length cell.rows ≡ c.len.result = rows ∙ sym site.servers.ok.0 ∙ sym c.len.ensures in
+    let room = has_room (length cell.rows) c.len.result (nat_lt 512 (cell.areas + area)) many c.if-len-ge-MOST_VOLUMES.false (room_left site.areas cell.areas area c.from.result shows.stands.areas c.from.ensures c.if-site-from-gt-MOST_AREAS.false) in
+    let fits = fits_in (is_some (stand_of cell volume)) (nat_le 64 (length cell.rows) || nat_lt 512 (cell.areas + area)) gone room in
+    let own : is_replica_disk number ≡ true = subst (λ (m : ℕ). is_replica_disk m ≡ true) (sym number_is) (replica_number (length cell.rows) server) in
     let be = others_left is_client_disk out out1 has has1 number (replica_alone number own) c.in-Ok.ensures.others c.in-Ok.ensures.keeps in
     let replicas : noted.replicas ≡ site.replicas = ap (λ s. s.replicas) told_of.others in
-    let is_noted : IsNoted site volume place noted = record {
+    let noted_places : (k : ℕ) → place_in noted k ≡ cond (k == volume) (Some (record { server = server; disk = number })) (place_in site k) = told_of.places in
+    let is_noted : IsNoted site volume (record { server = server; disk = disk }) noted = record {
       servers = told_of.servers;
       places = λ k. told_of.places k ∙ ap (λ (m : ℕ). cond (k == volume) (Some (record { server = server; disk = m })) (place_in site k)) number_is;
       clock = ap (λ s. s.clock) told_of.others;
@@ -137,23 +139,33 @@ returns-after-is_made-clause-does g c = λ cell seen may is.
       clients = ap (λ s. s.clients) told_of.others;
       net = ap (λ s. s.net) told_of.others;
     } in
-    let plain = is.replicas.0 in
-    let took = c.in-Ok.ensures.step is_replica_disk plain (subst (λ r. FitsAll (replica_form told) told is_replica_disk out has r plain) (sym replicas) is.replicas.2) own in
-    let takes = subst (λ (m : ℕ). Takes (replica_form told) told is_replica_disk plain m (OpenDeed (replica_header volume server area) mounting) out1 has1 c.open.new.slots) number_is
+    let plain = shows.stands.replicas.0 in
+    let took = c.in-Ok.ensures.step is_replica_disk plain (subst (λ r. FitsAll (replica_form told) told is_replica_disk out has r plain) (sym replicas) shows.stands.replicas.2) own in
+    let takes = subst (λ (m : ℕ). Takes (replica_form told) told is_replica_disk plain m (OpenDeed (replica_header volume (server ∷ []) area server) mounting) out1 has1 c.open.new.slots) number_is
     (subst (λ (h : Header). Takes (replica_form told) told is_replica_disk plain number (OpenDeed h mounting) out1 has1 c.open.new.slots) c.replica_header-header.ensures took) in
-    let Leaves : Reply → Type 0 = λ reply. Becomes told out1 has1 (MakesVolume cell volume server area) reply (g.B.Bay.answered c.args.bay.now) (g.B.Bay.answered c.open.new.bay) c.if-is_made.site in
-    if_ok Leaves c.opened.result (λ reply e.
+    if_ok _ c.opened.result (λ reply e.
     let says = said_ok (λ (said : Reply). SaysOpened mounting said) c.opened.result reply e c.opened.ensures.says in
-    let made = replica_is_made told out out1 has has1 cell kept site is volume server area c.requires.server.0 c.requires.server.1 none c.open.new.slots be noted is_noted mounting reply (slot_at c.open.new.slots number) says takes c.in-Ok.ensures.opened in
-    let stood = opens_volume told out out1 has has1 cell kept site is volume server area c.requires.server.0 c.requires.server.1 none c.open.new.slots be noted is_noted mounting reply (g.B.Bay.answered c.args.bay.now) says takes in
-    elim c.if-is_made.branch [
-      | then-is_made w ↦ subst (Becomes told out1 has1 (MakesVolume cell volume server area) reply (g.B.Bay.answered c.args.bay.now) (g.B.Bay.answered c.open.new.bay)) (sym w.site-is)
-          (subst (λ (a : List (List ℕ)). Becomes told out1 has1 (MakesVolume cell volume server area) reply (g.B.Bay.answered c.args.bay.now) a (record noted { replicas = c.open.new.slots; areas = noted.areas + w.from-then-is_made.result })) (sym c.in-Ok.ensures.answered)
-          (subst (λ (a : ℕ). Becomes told out1 has1 (MakesVolume cell volume server area) reply (g.B.Bay.answered c.args.bay.now) (g.B.Bay.answered c.args.bay.now) (record noted { replicas = c.open.new.slots; areas = noted.areas + a })) (sym w.from-then-is_made.ensures)
-          (becomes_as told out1 has1 (Opens cell (replica_header volume server area) (with_volume cell volume server area) (TheReplica server volume)) (MakesVolume cell volume server area) reply (g.B.Bay.answered c.args.bay.now) (g.B.Bay.answered c.args.bay.now) (record noted { replicas = c.open.new.slots; areas = noted.areas + area })
-          (λ outside left opens. unless_none cell (no_volume cell volume area) (Opens cell (replica_header volume server area) (with_volume cell volume server area) (TheReplica server volume)) reply outside left (volume_fits cell volume area absent fits) opens) stood)))
+    subst (λ (a : List (List ℕ)). Becomes told out1 has1 (Happens cell (line.Volume volume (server ∷ []) (Some area))) reply before a c.if-is_made.site) (sym c.in-Ok.ensures.answered)
+    (makes_volume told out out1 has has1 cell site shows volume server area c.requires.server fits (none_there (stand_of cell volume) gone) c.open.new.slots be noted is_noted
+    mounting reply before (slot_at c.open.new.slots number) c.if-is_made.site says takes c.in-Ok.ensures.opened
+    (λ made. elim c.if-is_made.branch [
+      | then-is_made w ↦ w.site-is ∙ ap (λ (a : ℕ). record noted { replicas = c.open.new.slots; areas = noted.areas + a }) w.from-then-is_made.ensures
       | else-is_made w ↦ absurd (false≢true (sym w.if-is_made.false ∙ c.is_made.ensures ∙ made))
     ])
+    (λ unmade. elim c.if-is_made.branch [
+      | then-is_made w ↦ absurd (false≢true (sym unmade ∙ sym c.is_made.ensures ∙ w.if-is_made.true))
+      | else-is_made w ↦ (
+          let back = w.forget.ensures in
+          subst (IsAsBefore site c.open.new.slots) (sym w.site-is) (record {
+            servers = back.servers site.servers.items server told_of.servers;
+            places = λ k. back.places k ∙ forgotten_place (k == volume) (Some (record { server = server; disk = number })) (place_in site k) (place_in noted k) (noted_places k) ∙ place_back volume (place_in site) none k;
+            clock = ap (λ s. s.clock) back.others ∙ ap (λ s. s.clock) told_of.others;
+            areas = ap (λ s. s.areas) back.others ∙ ap (λ s. s.areas) told_of.others;
+            clients = ap (λ s. s.clients) back.others ∙ ap (λ s. s.clients) told_of.others;
+            replicas = ap (λ s. s.replicas) back.others;
+            net = ap (λ s. s.net) back.others ∙ ap (λ s. s.net) told_of.others;
+          }))
+    ])))
 
 pub returns-in-Err-clause-ready : goal.returns-in-Err-clause-ready
 returns-in-Err-clause-ready g c =
@@ -169,8 +181,8 @@ returns-in-Err-clause-ready g c =
     let number = c.disk_number-disk.result in
     let noted = c.note.new.site in
     let told_of = c.in_ok-note.ensures in
-    let disk : ℕ = disk_number (length site.servers.items) server in
-    let number_is : number ≡ disk = c.disk_number-disk.ensures ∙ ap (λ (m : ℕ). disk_number m server) (c.len-2.ensures ∙ site.servers.ok.0) in
+    let disk : ℕ = disk_at (length site.servers.items) server in
+    let number_is : number ≡ disk = c.disk_number-disk.ensures ∙ ap (λ (m : ℕ). disk_at m server) (c.len-2.ensures ∙ site.servers.ok.0) in
     let clients : noted.clients ≡ site.clients = ap (λ s. s.clients) told_of.others in
     let replicas : noted.replicas ≡ site.replicas = ap (λ s. s.replicas) told_of.others in
     let areas : noted.areas ≡ site.areas = ap (λ s. s.areas) told_of.others in
@@ -189,73 +201,6 @@ returns-in-Err-clause-ready g c =
     (gone.servers site.servers.items server told_of.servers) (none_there (place_in site volume) (sym c.if-contains_key.ensures))
     (λ k. gone.places k ∙ forgotten_place (k == volume) (Some (record { server = server; disk = disk })) (place_in site k) (place_in noted k) (places k))
     (ap (λ s. s.clients) gone.others ∙ clients) (ap is_made same ∙ next_unmade told out site ready server) (ap (λ s. s.replicas) gone.others) (subst (λ (a : ℕ). a ≤ 512) (sym (ap (λ s. s.areas) gone.others ∙ areas)) ready.areas)
-
-pub returns-then-contains_key-clause-again : goal.returns-then-contains_key-clause-again
-returns-then-contains_key-clause-again g c = λ cell left kept awaited is.
-    let out = g.B.Bay.out c.args.bay.now in
-    let has = g.B.Bay.has c.args.bay.now in
-    let none = volume_absent g.B.D.Disk.told out out has has cell kept c.args.site.now c.args.volume c.args.server c.args.area left is awaited.0 awaited.1 awaited.2 in
-    absurd (false≢true (sym (ap is_some none) ∙ sym c.if-contains_key.ensures))
-
-pub returns-then-len-ge-MOST_VOLUMES-clause-again : goal.returns-then-len-ge-MOST_VOLUMES-clause-again
-returns-then-len-ge-MOST_VOLUMES-clause-again g c = λ cell left kept awaited is.
-    let site = c.args.site.now in
-    let few : length site.servers.items < 64 = awaited.3 in
-    let room : site.areas + c.args.area ≤ 512 = awaited.4 in
-    let counted : c.len.result ≡ length site.servers.items = c.len.ensures ∙ site.servers.ok.0 in
-    elim c.then-len-ge-MOST_VOLUMES.branch [
-      | then-len-ge-MOST_VOLUMES-via-then-len-ge-MOST_VOLUMES w ↦ (let many : 64 ≤ c.len.result = w.if-len-ge-MOST_VOLUMES.true in absurd (omega (arith, many, counted, few)))
-      | then-len-ge-MOST_VOLUMES-via-else-len-ge-MOST_VOLUMES+then-site-from-gt-MOST_AREAS w ↦ (
-          let full : 512 < site.areas + w.from.result = w.if-site-from-gt-MOST_AREAS.true in
-          let same : w.from.result ≡ c.args.area = w.from.ensures in
-          absurd (omega (arith, full, same, room)))
-    ]
-
-pub returns-after-is_made-clause-again : goal.returns-after-is_made-clause-again
-returns-after-is_made-clause-again g c = λ cell left kept awaited is.
-    let told = g.B.D.Disk.told in
-    let out = g.B.Bay.out c.args.bay.now in
-    let has = g.B.Bay.has c.args.bay.now in
-    let out1 = g.B.Bay.out c.open.new.bay in
-    let has1 = g.B.Bay.has c.open.new.bay in
-    let site = c.args.site.now in
-    let volume = c.args.volume in
-    let server = c.args.server in
-    let area = c.args.area in
-    let number = c.disk_number-disk.result in
-    let mounting = c.in-Ok.mounting in
-    let before = g.B.Bay.answered c.args.bay.now in
-    let noted = c.note.new.site in
-    let told_of = c.in_ok-note.ensures in
-    let disk : ℕ = disk_number (length site.servers.items) server in
-    let place : Place = record { server = server; disk = disk } in
-    let number_is : number ≡ disk = c.disk_number-disk.ensures ∙ ap (λ (m : ℕ). disk_number m server) (c.len-2.ensures ∙ site.servers.ok.0) in
-    let own : is_replica_disk number ≡ true = subst (λ (m : ℕ). is_replica_disk m ≡ true) (sym number_is) (replica_number (length site.servers.items) server) in
-    let be = others_left is_client_disk out out1 has has1 number (replica_alone number own) c.in-Ok.ensures.others c.in-Ok.ensures.keeps in
-    let replicas : noted.replicas ≡ site.replicas = ap (λ s. s.replicas) told_of.others in
-    let is_noted : IsNoted site volume place noted = record {
-      servers = told_of.servers;
-      places = λ k. told_of.places k ∙ ap (λ (m : ℕ). cond (k == volume) (Some (record { server = server; disk = m })) (place_in site k)) number_is;
-      clock = ap (λ s. s.clock) told_of.others;
-      areas = ap (λ s. s.areas) told_of.others;
-      clients = ap (λ s. s.clients) told_of.others;
-      net = ap (λ s. s.net) told_of.others;
-    } in
-    let plain = is.replicas.0 in
-    let took = c.in-Ok.ensures.step is_replica_disk plain (subst (λ r. FitsAll (replica_form told) told is_replica_disk out has r plain) (sym replicas) is.replicas.2) own in
-    let takes = subst (λ (m : ℕ). Takes (replica_form told) told is_replica_disk plain m (OpenDeed (replica_header volume server area) mounting) out1 has1 c.open.new.slots) number_is
-    (subst (λ (h : Header). Takes (replica_form told) told is_replica_disk plain number (OpenDeed h mounting) out1 has1 c.open.new.slots) c.replica_header-header.ensures took) in
-    let Leaves : Reply → Type 0 = λ reply. Resumes told out1 has1 cell (VolumeAgain volume server area) left reply before (g.B.Bay.answered c.open.new.bay) c.if-is_made.site in
-    if_ok Leaves c.opened.result (λ reply e.
-    let says = said_ok (λ (said : Reply). SaysOpened mounting said) c.opened.result reply e c.opened.ensures.says in
-    let made = replica_made_again told out out1 has has1 cell kept site volume server area left is awaited.0 awaited.1 awaited.2 awaited.5 c.open.new.slots be noted is_noted mounting reply (slot_at c.open.new.slots number) says takes c.in-Ok.ensures.opened in
-    let resumed = resume_volume told out out1 has has1 cell kept site volume server area left is awaited.0 awaited.1 awaited.2 awaited.5 c.open.new.slots be noted is_noted mounting reply before says takes in
-    elim c.if-is_made.branch [
-      | then-is_made w ↦ subst (Resumes told out1 has1 cell (VolumeAgain volume server area) left reply before (g.B.Bay.answered c.open.new.bay)) (sym w.site-is)
-          (subst (λ (a : List (List ℕ)). Resumes told out1 has1 cell (VolumeAgain volume server area) left reply before a (record noted { replicas = c.open.new.slots; areas = noted.areas + w.from-then-is_made.result })) (sym c.in-Ok.ensures.answered)
-          (subst (λ (a : ℕ). Resumes told out1 has1 cell (VolumeAgain volume server area) left reply before before (record noted { replicas = c.open.new.slots; areas = noted.areas + a })) (sym w.from-then-is_made.ensures) resumed))
-      | else-is_made w ↦ absurd (false≢true (sym w.if-is_made.false ∙ c.is_made.ensures ∙ made))
-    ])
 
 pub returns-after-is_made-clause-counts : goal.returns-after-is_made-clause-counts
 returns-after-is_made-clause-counts g c =
@@ -279,147 +224,3 @@ returns-after-is_made-clause-counts g c =
       | else-is_made w ↦ subst (λ (s : Site _). IsCounted (IsFault c.opened.result) false old (totals told f a df1 da1 s)) (sym w.site-is)
           (subst (λ (x : Counts). IsCounted (IsFault c.opened.result) false old x) (sym (same_slots told f a df1 da1 w.forget.new.site left (ap (λ s. s.clients) w.forget.ensures.others) (ap (λ s. s.replicas) w.forget.ensures.others))) opened)
     ]
-
-pub returns-then-contains_key-clause-mounts : goal.returns-then-contains_key-clause-mounts
-returns-then-contains_key-clause-mounts g c = λ cell servers same seen mounts is.
-    let volume = c.args.volume in
-    let there : is_some (cell.made.homes volume) ≡ true = ap is_some (is.homes volume) ∙ some_home (place_in c.args.site.now volume) ∙ sym c.if-contains_key.ensures in
-    absurd (false≢true (sym mounts ∙ ap is_some (volume_already cell volume c.args.area there)))
-
-pub returns-then-len-ge-MOST_VOLUMES-clause-mounts : goal.returns-then-len-ge-MOST_VOLUMES-clause-mounts
-returns-then-len-ge-MOST_VOLUMES-clause-mounts g c = λ cell servers same seen mounts is.
-    let volume = c.args.volume in
-    let area = c.args.area in
-    let site = c.args.site.now in
-    let absent : is_some (cell.made.homes volume) ≡ false = ap is_some (is.homes volume) ∙ some_home (place_in site volume) ∙ sym c.if-contains_key.ensures in
-    let many : length cell.made.servers ≡ c.len.result = ap length is.servers ∙ sym site.servers.ok.0 ∙ sym c.len.ensures in
-    let full : (nat_le 64 (length cell.made.servers) || nat_lt 512 (cell.areas + area)) ≡ true = elim c.then-len-ge-MOST_VOLUMES.branch [
-      | then-len-ge-MOST_VOLUMES-via-then-len-ge-MOST_VOLUMES w ↦ many_volumes (length cell.made.servers) c.len.result (nat_lt 512 (cell.areas + area)) many w.if-len-ge-MOST_VOLUMES.true
-      | then-len-ge-MOST_VOLUMES-via-else-len-ge-MOST_VOLUMES+then-site-from-gt-MOST_AREAS w ↦ full_of_areas (nat_le 64 (length cell.made.servers)) (nat_lt 512 (cell.areas + area)) (no_room_left site.areas cell.areas area w.from.result is.areas w.from.ensures w.if-site-from-gt-MOST_AREAS.true)
-    ] in
-    absurd (false≢true (sym mounts ∙ ap is_some (volume_full cell volume area absent full)))
-
-pub returns-after-is_made-clause-mounts : goal.returns-after-is_made-clause-mounts
-returns-after-is_made-clause-mounts g c = λ cell servers same seen mounts is.
-    let told = g.B.D.Disk.told in
-    let out = g.B.Bay.out c.args.bay.now in
-    let has = g.B.Bay.has c.args.bay.now in
-    let out1 = g.B.Bay.out c.open.new.bay in
-    let has1 = g.B.Bay.has c.open.new.bay in
-    let site = c.args.site.now in
-    let volume = c.args.volume in
-    let server = c.args.server in
-    let area = c.args.area in
-    let number = c.disk_number-disk.result in
-    let mounting = c.in-Ok.mounting in
-    let before = g.B.Bay.answered c.args.bay.now in
-    let said = line.Volume volume servers (Some area) in
-    let noted = c.note.new.site in
-    let told_of = c.in_ok-note.ensures in
-    let disk : ℕ = disk_number (length cell.made.servers) server in
-    let number_is : number ≡ disk = c.disk_number-disk.ensures ∙ ap (λ (m : ℕ). disk_number m server) (c.len-2.ensures ∙ site.servers.ok.0) ∙ ap (λ (l : List ℕ). disk_number (length l) server) (sym is.servers) in
-    let own : is_replica_disk number ≡ true = subst (λ (m : ℕ). is_replica_disk m ≡ true) (sym number_is) (replica_number (length cell.made.servers) server) in
-    let be = others_left is_client_disk out out1 has has1 number (replica_alone number own) c.in-Ok.ensures.others c.in-Ok.ensures.keeps in
-    let replicas : noted.replicas ≡ site.replicas = ap (λ s. s.replicas) told_of.others in
-    let plain = is.replicas.0 in
-    let took = c.in-Ok.ensures.step is_replica_disk plain (subst (λ r. FitsAll (replica_form told) told is_replica_disk out has r plain) (sym replicas) is.replicas.2) own in
-    let takes = subst (λ (m : ℕ). Takes (replica_form told) told is_replica_disk plain m (OpenDeed (replica_header volume server area) mounting) out1 has1 c.open.new.slots) number_is
-    (subst (λ (h : Header). Takes (replica_form told) told is_replica_disk plain number (OpenDeed h mounting) out1 has1 c.open.new.slots) c.replica_header-header.ensures took) in
-    let none = none_there (place_in site volume) (sym c.if-contains_key.ensures) in
-    let noted_places : (k : ℕ) → place_in noted k ≡ cond (k == volume) (Some (record { server = server; disk = number })) (place_in site k) = told_of.places in
-    if_ok _ c.opened.result (λ reply e.
-    let says = said_ok (λ (said : Reply). SaysOpened mounting said) c.opened.result reply e c.opened.ensures.says in
-    subst (λ (a : List (List ℕ)). Mounts told out1 has1 cell said reply before a c.if-is_made.site) (sym c.in-Ok.ensures.answered)
-    (volume_mounts told out out1 has has1 cell seen site is c.requires.ready volume server area c.open.new.slots be servers same mounting reply before (slot_at c.open.new.slots number) c.if-is_made.site says takes c.in-Ok.ensures.opened
-    (λ unmade. elim c.if-is_made.branch [
-      | then-is_made w ↦ absurd (false≢true (sym unmade ∙ sym c.is_made.ensures ∙ w.if-is_made.true))
-      | else-is_made w ↦ (
-          let gone = w.forget.ensures in
-          subst (IsAsBefore site c.open.new.slots) (sym w.site-is) (record {
-            servers = gone.servers site.servers.items server told_of.servers;
-            places = λ k. gone.places k ∙ forgotten_place (k == volume) (Some (record { server = server; disk = number })) (place_in site k) (place_in noted k) (noted_places k) ∙ place_back site volume none k;
-            clock = ap (λ s. s.clock) gone.others ∙ ap (λ s. s.clock) told_of.others;
-            areas = ap (λ s. s.areas) gone.others ∙ ap (λ s. s.areas) told_of.others;
-            clients = ap (λ s. s.clients) gone.others ∙ ap (λ s. s.clients) told_of.others;
-            replicas = ap (λ s. s.replicas) gone.others;
-            net = ap (λ s. s.net) gone.others ∙ ap (λ s. s.net) told_of.others;
-          }))
-    ])))
-
-pub returns-then-contains_key-clause-finds : goal.returns-then-contains_key-clause-finds
-returns-then-contains_key-clause-finds g c = λ cell shelf seen mounts shelved is.
-    let volume = c.args.volume in
-    let there : is_some (cell.made.homes volume) ≡ true = ap is_some (is.homes volume) ∙ some_home (place_in c.args.site.now volume) ∙ sym c.if-contains_key.ensures in
-    absurd (false≢true (sym mounts ∙ ap is_some (volume_already cell volume c.args.area there)))
-
-pub returns-then-len-ge-MOST_VOLUMES-clause-finds : goal.returns-then-len-ge-MOST_VOLUMES-clause-finds
-returns-then-len-ge-MOST_VOLUMES-clause-finds g c = λ cell shelf seen mounts shelved is.
-    let volume = c.args.volume in
-    let area = c.args.area in
-    let site = c.args.site.now in
-    let absent : is_some (cell.made.homes volume) ≡ false = ap is_some (is.homes volume) ∙ some_home (place_in site volume) ∙ sym c.if-contains_key.ensures in
-    let many : length cell.made.servers ≡ c.len.result = ap length is.servers ∙ sym site.servers.ok.0 ∙ sym c.len.ensures in
-    let full : (nat_le 64 (length cell.made.servers) || nat_lt 512 (cell.areas + area)) ≡ true = elim c.then-len-ge-MOST_VOLUMES.branch [
-      | then-len-ge-MOST_VOLUMES-via-then-len-ge-MOST_VOLUMES w ↦ many_volumes (length cell.made.servers) c.len.result (nat_lt 512 (cell.areas + area)) many w.if-len-ge-MOST_VOLUMES.true
-      | then-len-ge-MOST_VOLUMES-via-else-len-ge-MOST_VOLUMES+then-site-from-gt-MOST_AREAS w ↦ full_of_areas (nat_le 64 (length cell.made.servers)) (nat_lt 512 (cell.areas + area)) (no_room_left site.areas cell.areas area w.from.result is.areas w.from.ensures w.if-site-from-gt-MOST_AREAS.true)
-    ] in
-    absurd (false≢true (sym mounts ∙ ap is_some (volume_full cell volume area absent full)))
-
-pub returns-after-is_made-clause-finds : goal.returns-after-is_made-clause-finds
-returns-after-is_made-clause-finds g c = λ cell shelf seen mounts shelved is.
-    let told = g.B.D.Disk.told in
-    let out = g.B.Bay.out c.args.bay.now in
-    let has = g.B.Bay.has c.args.bay.now in
-    let out1 = g.B.Bay.out c.open.new.bay in
-    let has1 = g.B.Bay.has c.open.new.bay in
-    let site = c.args.site.now in
-    let volume = c.args.volume in
-    let server = c.args.server in
-    let area = c.args.area in
-    let number = c.disk_number-disk.result in
-    let mounting = c.in-Ok.mounting in
-    let before = g.B.Bay.answered c.args.bay.now in
-    let noted = c.note.new.site in
-    let told_of = c.in_ok-note.ensures in
-    let disk : ℕ = disk_number (length cell.made.servers) server in
-    let number_is : number ≡ disk = c.disk_number-disk.ensures ∙ ap (λ (m : ℕ). disk_number m server) (c.len-2.ensures ∙ site.servers.ok.0) ∙ ap (λ (l : List ℕ). disk_number (length l) server) (sym is.servers) in
-    let own : is_replica_disk number ≡ true = subst (λ (m : ℕ). is_replica_disk m ≡ true) (sym number_is) (replica_number (length cell.made.servers) server) in
-    let be = others_left is_client_disk out out1 has has1 number (replica_alone number own) c.in-Ok.ensures.others c.in-Ok.ensures.keeps in
-    let replicas : noted.replicas ≡ site.replicas = ap (λ s. s.replicas) told_of.others in
-    let plain = is.replicas.0 in
-    let took = c.in-Ok.ensures.step is_replica_disk plain (subst (λ r. FitsAll (replica_form told) told is_replica_disk out has r plain) (sym replicas) is.replicas.2) own in
-    let takes = subst (λ (m : ℕ). Takes (replica_form told) told is_replica_disk plain m (OpenDeed (replica_header volume server area) mounting) out1 has1 c.open.new.slots) number_is
-    (subst (λ (h : Header). Takes (replica_form told) told is_replica_disk plain number (OpenDeed h mounting) out1 has1 c.open.new.slots) c.replica_header-header.ensures took) in
-    let none = none_there (place_in site volume) (sym c.if-contains_key.ensures) in
-    let absent : cell.made.homes volume ≡ None = none_there (cell.made.homes volume) (ap is_some (is.homes volume) ∙ some_home (place_in site volume) ∙ sym c.if-contains_key.ensures) in
-    let noted_places : (k : ℕ) → place_in noted k ≡ cond (k == volume) (Some (record { server = server; disk = number })) (place_in site k) = told_of.places in
-    let is_noted : IsNoted site volume (record { server = server; disk = disk }) noted = record {
-      servers = told_of.servers;
-      places = λ k. told_of.places k ∙ ap (λ (m : ℕ). cond (k == volume) (Some (record { server = server; disk = m })) (place_in site k)) number_is;
-      clock = ap (λ s. s.clock) told_of.others;
-      areas = ap (λ s. s.areas) told_of.others;
-      clients = ap (λ s. s.clients) told_of.others;
-      net = ap (λ s. s.net) told_of.others;
-    } in
-    if_ok _ c.opened.result (λ reply e.
-    let says = said_ok (λ (said : Reply). SaysOpened mounting said) c.opened.result reply e c.opened.ensures.says in
-    subst (λ (a : List (List ℕ)). Becomes told out1 has1 (VolumeFinds cell shelf volume server area) reply before a c.if-is_made.site) (sym c.in-Ok.ensures.answered)
-    (volume_finds told out out1 has has1 cell seen site is c.requires.ready volume server area absent shelf shelved c.open.new.slots be noted is_noted mounting reply before (slot_at c.open.new.slots number) c.if-is_made.site says takes c.in-Ok.ensures.opened
-    (λ made. elim c.if-is_made.branch [
-      | then-is_made w ↦ w.site-is ∙ ap (λ (a : ℕ). record noted { replicas = c.open.new.slots; areas = noted.areas + a }) w.from-then-is_made.ensures
-      | else-is_made w ↦ absurd (false≢true (sym w.if-is_made.false ∙ c.is_made.ensures ∙ made))
-    ])
-    (λ unmade. elim c.if-is_made.branch [
-      | then-is_made w ↦ absurd (false≢true (sym unmade ∙ sym c.is_made.ensures ∙ w.if-is_made.true))
-      | else-is_made w ↦ (
-          let gone = w.forget.ensures in
-          subst (IsAsBefore site c.open.new.slots) (sym w.site-is) (record {
-            servers = gone.servers site.servers.items server told_of.servers;
-            places = λ k. gone.places k ∙ forgotten_place (k == volume) (Some (record { server = server; disk = number })) (place_in site k) (place_in noted k) (noted_places k) ∙ place_back site volume none k;
-            clock = ap (λ s. s.clock) gone.others ∙ ap (λ s. s.clock) told_of.others;
-            areas = ap (λ s. s.areas) gone.others ∙ ap (λ s. s.areas) told_of.others;
-            clients = ap (λ s. s.clients) gone.others ∙ ap (λ s. s.clients) told_of.others;
-            replicas = ap (λ s. s.replicas) gone.others;
-            net = ap (λ s. s.net) gone.others ∙ ap (λ s. s.net) told_of.others;
-          }))
-    ])))

@@ -16,17 +16,17 @@ pub answer_comes-requires-clause-spelled : goal.answer_comes-requires-clause-spe
 answer_comes-requires-clause-spelled g c = subst (HasSpelling message) c.in-Ok-Verdict.field-0-is c.in-Ok-Verdict.ensures.spelled
 
 pub returns-in-Ok-Chunk-clause-does : goal.returns-in-Ok-Chunk-clause-does
-returns-in-Ok-Chunk-clause-does g c = λ cell kept is. if_ok _ c.chunk_comes.result (λ reply e.
-    chunk_delivered g.B.D.Disk.told (g.B.Bay.out c.args.bay.now) (g.B.Bay.has c.args.bay.now) cell c.args.site.now is c.args.message (g.B.Bay.answered c.args.bay.now) c.in-Ok-Chunk.client c.in-Ok-Chunk.server c.in-Ok-Chunk.volume c.in-Ok-Chunk.number c.in-Ok-Chunk.recs
-    (subst (λ m. Delivers cell.made.waiting c.args.site.now.net c.args.message (Ok m)) c.in-Ok-Chunk.field-0-is (c.in-Ok-Chunk.ensures.delivers cell.made.waiting is.net.letters)) reply c.chunk_comes.new.site
-    (λ span sent. said_ok _ c.chunk_comes.result reply e (c.chunk_comes.ensures.does cell span kept is (c.records.ensures ∙ sent))))
+returns-in-Ok-Chunk-clause-does g c = λ cell shows. if_ok _ c.chunk_comes.result (λ reply e.
+    chunk_delivered g.B.D.Disk.told (g.B.Bay.out c.args.bay.now) (g.B.Bay.has c.args.bay.now) cell c.args.site.now shows.stands c.args.message (g.B.Bay.answered c.args.bay.now) c.in-Ok-Chunk.client c.in-Ok-Chunk.server c.in-Ok-Chunk.volume c.in-Ok-Chunk.number c.in-Ok-Chunk.recs
+    (subst (λ m. Delivers cell.waiting c.args.site.now.net c.args.message (Ok m)) c.in-Ok-Chunk.field-0-is (c.in-Ok-Chunk.ensures.delivers cell.waiting shows.stands.net.letters)) reply c.chunk_comes.new.site
+    (λ span sent. said_ok _ c.chunk_comes.result reply e (c.chunk_comes.ensures.does cell span shows (c.records.ensures ∙ sent))))
 
 pub returns-in-Ok-Verdict-clause-does : goal.returns-in-Ok-Verdict-clause-does
-returns-in-Ok-Verdict-clause-does g c = λ cell kept is. if_ok _ c.answer_comes.result (λ reply e.
-    answer_delivered g.B.D.Disk.told (g.B.Bay.out c.args.bay.now) (g.B.Bay.has c.args.bay.now) cell c.args.site.now is c.args.message (g.B.Bay.answered c.args.bay.now) c.in-Ok-Verdict.server c.in-Ok-Verdict.client c.in-Ok-Verdict.volume c.in-Ok-Verdict.number
-    c.in-Ok-Verdict.answer (subst (λ m. Delivers cell.made.waiting c.args.site.now.net c.args.message (Ok m)) c.in-Ok-Verdict.field-0-is (c.in-Ok-Verdict.ensures.delivers cell.made.waiting is.net.letters)) reply c.answer_comes.new.site (said_ok _ c.answer_comes.result reply e (c.answer_comes.ensures.does cell kept is)))
+returns-in-Ok-Verdict-clause-does g c = λ cell shows. if_ok _ c.answer_comes.result (λ reply e.
+    answer_delivered g.B.D.Disk.told (g.B.Bay.out c.args.bay.now) (g.B.Bay.has c.args.bay.now) cell c.args.site.now shows.stands c.args.message (g.B.Bay.answered c.args.bay.now) c.in-Ok-Verdict.server c.in-Ok-Verdict.client c.in-Ok-Verdict.volume c.in-Ok-Verdict.number
+    c.in-Ok-Verdict.answer (subst (λ m. Delivers cell.waiting c.args.site.now.net c.args.message (Ok m)) c.in-Ok-Verdict.field-0-is (c.in-Ok-Verdict.ensures.delivers cell.waiting shows.stands.net.letters)) reply c.answer_comes.new.site (said_ok _ c.answer_comes.result reply e (c.answer_comes.ensures.does cell shows)))
 
 pub returns-in-Err-clause-does : goal.returns-in-Err-clause-does
-returns-in-Err-clause-does g c = λ cell kept is. if_ok _ c.undelivered.result (λ reply e.
-    not_delivered g.B.D.Disk.told (g.B.Bay.out c.args.bay.now) (g.B.Bay.has c.args.bay.now) cell c.args.site.now is c.args.message (g.B.Bay.answered c.args.bay.now) c.in-Err.why (c.in-Err.ensures.delivers cell.made.waiting is.net.letters) reply
+returns-in-Err-clause-does g c = λ cell shows. if_ok _ c.undelivered.result (λ reply e.
+    not_delivered g.B.D.Disk.told (g.B.Bay.out c.args.bay.now) (g.B.Bay.has c.args.bay.now) cell c.args.site.now shows.stands c.args.message (g.B.Bay.answered c.args.bay.now) c.in-Err.why (c.in-Err.ensures.delivers cell.waiting shows.stands.net.letters) reply
     (said_ok _ c.undelivered.result reply e c.undelivered.ensures.said))

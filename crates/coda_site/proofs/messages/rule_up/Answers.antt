@@ -12,8 +12,8 @@ pub rule_at-requires-clause-records : goal.rule_at-requires-clause-records
 rule_at-requires-clause-records g c = chunk_records c.args.client c.args.server c.args.volume c.args.number c.args.recs.now c.requires.spelled
 
 pub returns-in-Err-clause-does : goal.returns-in-Err-clause-does
-returns-in-Err-clause-does g c = λ cell place span kept is at disk home named sent. if_ok _ c.unruled.result (λ reply e.
-    unruled_came g.B.D.Disk.told (g.B.Bay.out c.args._bay.now) (g.B.Bay.has c.args._bay.now) cell kept c.args.site.now is c.args.client c.args.server c.args.volume c.args.disk c.args.number c.requires.up place at disk home named
+returns-in-Err-clause-does g c = λ cell place span shows at disk home named sent. if_ok _ c.unruled.result (λ reply e.
+    unruled_came g.B.D.Disk.told (g.B.Bay.out c.args._bay.now) (g.B.Bay.has c.args._bay.now) cell c.args.site.now shows c.args.client c.args.server c.args.volume c.args.disk c.args.number c.requires.up place at disk home named
     c.args.recs.now span sent c.rule_at.new.replicas c.rule_at.ensures.others c.in-Err.why c.in-Err.ensures.ends reply
     (unruled_reply c.unruled.result c.in-Err.why reply e c.unruled.ensures.full c.unruled.ensures.fault c.unruled.ensures.memory))
 
@@ -23,8 +23,8 @@ post_answer-requires-clause-spelled g c =
     c.can_be_posted.ensures.posts c.if-not-can_be_posted.false c.args.server c.args.client c.args.volume c.args.number parts.server_is parts.client_is parts.volume_is parts.number_is
 
 pub returns-in-Ok-post_answer-clause-does : goal.returns-in-Ok-post_answer-clause-does
-returns-in-Ok-post_answer-clause-does g c = λ cell place span kept is at disk home named sent.
-    ruled_came g.B.D.Disk.told (g.B.Bay.out c.args._bay.now) (g.B.Bay.has c.args._bay.now) cell kept c.args.site.now is c.args.client c.args.server c.args.volume c.args.disk c.args.number c.requires.up place at disk home named
+returns-in-Ok-post_answer-clause-does g c = λ cell place span shows at disk home named sent.
+    ruled_came g.B.D.Disk.told (g.B.Bay.out c.args._bay.now) (g.B.Bay.has c.args._bay.now) cell c.args.site.now shows c.args.client c.args.server c.args.volume c.args.disk c.args.number c.requires.up place at disk home named
     c.args.recs.now span sent c.rule_at.new.replicas c.rule_at.ensures.others c.in-Ok.answer c.in-Ok.ensures.ends c.post_answer.new.net c.post_answer.ensures.links c.in-Ok-post_answer.message c.in-Ok-post_answer.ensures.posted
     c.reply_answer.result c.reply_answer.ensures
 

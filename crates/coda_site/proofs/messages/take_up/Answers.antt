@@ -1,5 +1,5 @@
 use Rattle.std.specs.Prelude.{⊤}
-use Rattle.coda_stored.specs.Lines.{refused_full}
+use Rattle.coda_shelves.specs.Lines.{refused_full}
 use Rattle.coda_site.proofs.Theres.{client_disk}
 use Rattle.coda_site.proofs.Stages.{client_ready, if_ok, refused_reply}
 use Rattle.coda_site.proofs.Delivered.{verdict_volume, untaken_came, taken_came}
@@ -15,8 +15,8 @@ returns-in-Ok-clause-ready g c =
     client_ready g.B.D.Disk.told (g.B.Bay.out c.args._bay.now) c.args.site.now c.requires.ready c.take_at.new.clients c.args.client c.requires.up c.take_at.ensures.ends c.take_at.ensures.others
 
 pub returns-in-Ok-clause-does : goal.returns-in-Ok-clause-does
-returns-in-Ok-clause-does g c = λ cell kept is named.
-    taken_came g.B.D.Disk.told (g.B.Bay.out c.args._bay.now) (g.B.Bay.has c.args._bay.now) c.take_at.ensures.seen cell kept c.args.site.now is c.args.client c.args.server c.args.volume c.args.number (client_disk c.args.client c.ranges.client.fits)
+returns-in-Ok-clause-does g c = λ cell shows named.
+    taken_came g.B.D.Disk.told (g.B.Bay.out c.args._bay.now) (g.B.Bay.has c.args._bay.now) c.take_at.ensures.seen cell c.args.site.now shows c.args.client c.args.server c.args.volume c.args.number (client_disk c.args.client c.ranges.client.fits)
     c.requires.up c.args.answer named c.take_at.new.clients c.take_at.ensures.others c.in-Ok.field-0 c.in-Ok.ensures.ends c.reply_taken.result c.reply_taken.ensures
 
 pub returns-in-Err-clause-ready : goal.returns-in-Err-clause-ready
@@ -24,8 +24,8 @@ returns-in-Err-clause-ready g c =
     client_ready g.B.D.Disk.told (g.B.Bay.out c.args._bay.now) c.args.site.now c.requires.ready c.take_at.new.clients c.args.client c.requires.up c.take_at.ensures.ends c.take_at.ensures.others
 
 pub returns-in-Err-clause-does : goal.returns-in-Err-clause-does
-returns-in-Err-clause-does g c = λ cell kept is named. if_ok _ c.refused.result (λ reply e.
-    untaken_came g.B.D.Disk.told (g.B.Bay.out c.args._bay.now) (g.B.Bay.has c.args._bay.now) c.take_at.ensures.seen cell kept c.args.site.now is c.args.client c.args.server c.args.volume c.args.number (client_disk c.args.client c.ranges.client.fits)
+returns-in-Err-clause-does g c = λ cell shows named. if_ok _ c.refused.result (λ reply e.
+    untaken_came g.B.D.Disk.told (g.B.Bay.out c.args._bay.now) (g.B.Bay.has c.args._bay.now) c.take_at.ensures.seen cell c.args.site.now shows c.args.client c.args.server c.args.volume c.args.number (client_disk c.args.client c.ranges.client.fits)
     c.requires.up c.args.answer named c.take_at.new.clients c.take_at.ensures.others c.in-Err.why c.in-Err.ensures.ends reply
     (refused_reply {B = ⊤} (λ u. refused_full) c.refused.result c.in-Err.why reply e c.refused.ensures.own c.refused.ensures.fault c.refused.ensures.memory))
 

@@ -1,157 +1,132 @@
-use Rattle.std.proofs.Common.{rules, ◌≡◌, ℕ, false, Some, is_some, sym, ap, subst, ◌∙◌}
+use Rattle.std.proofs.Common.{rules, ◌≡◌, ◌∷◌, [], ℕ, List, Ok, Some, true, sym, ap, subst, ◌∙◌}
 use Rattle.std.proofs.lemmas.Result.{IfOk-weaker}
-use Rattle.coda_script.specs.declared.line.Line.{Line}
 use Rattle.coda_script.specs.declared.line.Line.TheVariants as line
 use Rattle.coda_script.specs.declared.reply.Reply.{Reply}
 use Rattle.coda_cell.specs.Steps.{alone}
-use Rattle.coda_actors.specs.Plain.{HasOther}
-use Rattle.coda_stored.specs.Cells.{client_header, replica_header}
-use Rattle.coda_stored.specs.Foreign.{next_disk, IsFree}
-use Rattle.coda_site.proofs.Foreigners.{mounts_as}
-use Rattle.coda_stored.specs.Lines.{area_of, no_volume, no_client, Happens, MakesVolume, MakesClient}
-use Rattle.coda_stored.specs.Mounted.{IsShelved, HoldsShelf, ClientFinds, VolumeFinds, LineFinds}
-use Rattle.coda_stored.specs.Seen.{mounts_none}
-use Rattle.coda_site.specs.Steps.{Becomes, Mounts, Finds}
+use Rattle.coda_shelves.specs.Shelves.{client_header}
+use Rattle.coda_shelves.specs.Lines.{is_built, no_client, no_volume, Unless, MakesClient, MakesVolume, Happens}
+use Rattle.coda_site.specs.Steps.{Becomes}
+use Rattle.coda_site.specs.declared.fault.CellFault.{CellFault}
 use Rattle.coda_site.proofs.Becomings.{becomes_as}
+use Rattle.coda_site.proofs.Leading.{leads, leads_as, alone_servers}
 use Rattle.coda_site.proofs.SentChunks.{windowed}
 use Rattle.coda_site.proofs.cell.Cell.step.Goals as goal
 
 pub returns-in-Client-clause-does : goal.returns-in-Client-clause-does
-returns-in-Client-clause-does g c = λ cell may is.
-    let told = g.B.D.Disk.told in
-    let out = g.B.Bay.out c.make_client.new.bay in
-    let has = g.B.Bay.has c.make_client.new.bay in
-    let old = g.B.Bay.answered c.args.self.now.bay in
-    let new = g.B.Bay.answered c.make_client.new.bay in
+returns-in-Client-clause-does g c = λ plain shows.
+    let old = c.args.self.now in
+    let bay = c.make_client.new.bay in
     let site = c.make_client.new.site in
+    let said = line.Client c.in-Client.client c.in-Client.blocks c.in-Client.area in
     let client = c.in-Client.client in
     let blocks = c.in-Client.blocks in
     let named = line.Client client blocks (Some c.unwrap_or-in-Client.result) in
-    let said = line.Client client blocks c.in-Client.area in
-    IfOk-weaker c.make_client.result (λ (reply : Reply). Becomes told out has (Happens cell named) reply old new site) (λ (reply : Reply). Becomes told out has (Happens cell c.args.line.now) reply old new site)
-    (λ reply becomes. subst (λ (l : Line). Becomes told out has (Happens cell l) reply old new site) (sym c.in-Client.is)
-    (becomes_as told out has (Happens cell named) (Happens cell said) reply old new site
-    (λ outside left made. subst (λ (area : ℕ). MakesClient cell client blocks area reply outside left) c.unwrap_or-in-Client.ensures made) becomes))
-    (c.make_client.ensures.does cell may.0 (λ fits. may.1 (ap (mounts_none cell) c.in-Client.is ∙ ap (λ (area : ℕ). is_some (no_client cell client area)) (sym c.unwrap_or-in-Client.ensures) ∙ fits)) is)
-
-pub returns-in-Send-clause-does : goal.returns-in-Send-clause-does
-returns-in-Send-clause-does g c = λ cell may is.
-    let told = g.B.D.Disk.told in
-    let out = g.B.Bay.out c.args.self.now.bay in
-    let has = g.B.Bay.has c.args.self.now.bay in
-    let answered = g.B.Bay.answered c.args.self.now.bay in
-    let site = c.send.new.site in
-    let client = c.in-Send.client in
-    let volume = c.in-Send.volume in
-    let server = c.in-Send.server in
-    let window = c.unwrap_or-window.result in
-    let named = line.Send client volume server (Some window) in
-    let said = line.Send client volume server c.in-Send.window in
-    IfOk-weaker c.send.result (λ (reply : Reply). Becomes told out has (Happens cell named) reply answered answered site) (λ (reply : Reply). Becomes told out has (Happens cell c.args.line.now) reply answered answered site)
-    (λ reply becomes. subst (λ (l : Line). Becomes told out has (Happens cell l) reply answered answered site) (sym c.in-Send.is)
-    (becomes_as told out has (Happens cell named) (Happens cell said) reply answered answered site
-    (λ outside left sent. windowed cell client volume server c.in-Send.window reply outside left window c.unwrap_or-window.ensures sent) becomes))
-    (c.send.ensures.does cell may.0 is)
+    leads_as g.B.D.Disk.told (g.B.Bay.out old.bay) (g.B.Bay.out bay) (g.B.Bay.has old.bay) (g.B.Bay.has bay) plain old.site site c.args.line.now said c.make_client.result (g.B.Bay.answered old.bay) (g.B.Bay.answered bay) shows c.requires.range c.requires.built c.in-Client.is
+    (IfOk-weaker c.make_client.result (λ (reply : Reply). Becomes g.B.D.Disk.told (g.B.Bay.out bay) (g.B.Bay.has bay) (Happens plain named) reply (g.B.Bay.answered old.bay) (g.B.Bay.answered bay) site)
+    (λ (reply : Reply). Becomes g.B.D.Disk.told (g.B.Bay.out bay) (g.B.Bay.has bay) (Happens plain said) reply (g.B.Bay.answered old.bay) (g.B.Bay.answered bay) site)
+    (λ reply. becomes_as g.B.D.Disk.told (g.B.Bay.out bay) (g.B.Bay.has bay) (Happens plain named) (Happens plain said) reply (g.B.Bay.answered old.bay) (g.B.Bay.answered bay) site
+    (λ outside left made. subst (λ (area : ℕ). Unless plain (no_client plain client area) (MakesClient plain client (client_header client blocks area)) reply outside left) c.unwrap_or-in-Client.ensures made))
+    (c.make_client.ensures.does plain shows))
 
 pub returns-in-Volume-clause-does : goal.returns-in-Volume-clause-does
-returns-in-Volume-clause-does g c = λ cell may is.
-    let told = g.B.D.Disk.told in
-    let out = g.B.Bay.out c.make_volume.new.bay in
-    let has = g.B.Bay.has c.make_volume.new.bay in
-    let old = g.B.Bay.answered c.args.self.now.bay in
-    let new = g.B.Bay.answered c.make_volume.new.bay in
+returns-in-Volume-clause-does g c = λ plain shows.
+    let old = c.args.self.now in
+    let bay = c.make_volume.new.bay in
     let site = c.make_volume.new.site in
+    let said = line.Volume c.in-Volume.volume c.in-Volume.servers c.in-Volume.area in
     let volume = c.in-Volume.volume in
     let servers = c.in-Volume.servers in
-    let said = line.Volume volume servers c.in-Volume.area in
     let server_is : c.alone.result ≡ alone servers = search rules in
-    let area_is : c.unwrap_or.result ≡ area_of c.in-Volume.area = c.unwrap_or.ensures in
-    let own = MakesVolume cell volume c.alone.result c.unwrap_or.result in
-    IfOk-weaker c.make_volume.result (λ (reply : Reply). Becomes told out has own reply old new site) (λ (reply : Reply). Becomes told out has (Happens cell c.args.line.now) reply old new site)
-    (λ reply becomes. subst (λ (l : Line). Becomes told out has (Happens cell l) reply old new site) (sym c.in-Volume.is)
-    (becomes_as told out has own (Happens cell said) reply old new site
-    (λ outside left made. subst (λ (area : ℕ). MakesVolume cell volume (alone servers) area reply outside left) area_is (subst (λ (server : ℕ). MakesVolume cell volume server c.unwrap_or.result reply outside left) server_is made)) becomes))
-    (c.make_volume.ensures.does cell may.0 (λ fits. may.1 (ap (mounts_none cell) c.in-Volume.is ∙ ap (λ (area : ℕ). is_some (no_volume cell volume area)) (sym area_is) ∙ fits)) is)
+    let servers_are : c.alone.result ∷ [] ≡ servers = alone_servers servers c.alone.result (subst (λ l. is_built l ≡ true) c.in-Volume.is c.requires.built) server_is in
+    let named = line.Volume volume (c.alone.result ∷ []) (Some c.unwrap_or.result) in
+    leads_as g.B.D.Disk.told (g.B.Bay.out old.bay) (g.B.Bay.out bay) (g.B.Bay.has old.bay) (g.B.Bay.has bay) plain old.site site c.args.line.now said c.make_volume.result (g.B.Bay.answered old.bay) (g.B.Bay.answered bay) shows c.requires.range c.requires.built c.in-Volume.is
+    (IfOk-weaker c.make_volume.result (λ (reply : Reply). Becomes g.B.D.Disk.told (g.B.Bay.out bay) (g.B.Bay.has bay) (Happens plain named) reply (g.B.Bay.answered old.bay) (g.B.Bay.answered bay) site)
+    (λ (reply : Reply). Becomes g.B.D.Disk.told (g.B.Bay.out bay) (g.B.Bay.has bay) (Happens plain said) reply (g.B.Bay.answered old.bay) (g.B.Bay.answered bay) site)
+    (λ reply. becomes_as g.B.D.Disk.told (g.B.Bay.out bay) (g.B.Bay.has bay) (Happens plain named) (Happens plain said) reply (g.B.Bay.answered old.bay) (g.B.Bay.answered bay) site
+    (λ outside left made. subst (λ (area : ℕ). Unless plain (no_volume plain volume area) (MakesVolume plain volume servers area) reply outside left) c.unwrap_or.ensures
+    (subst (λ (l : List ℕ). Unless plain (no_volume plain volume c.unwrap_or.result) (MakesVolume plain volume l c.unwrap_or.result) reply outside left) servers_are made)))
+    (c.make_volume.ensures.does plain shows))
 
-pub returns-in-Client-clause-mounts : goal.returns-in-Client-clause-mounts
-returns-in-Client-clause-mounts g c = λ cell seen mounts is.
-    let told = g.B.D.Disk.told in
-    let out = g.B.Bay.out c.make_client.new.bay in
-    let has = g.B.Bay.has c.make_client.new.bay in
-    let old = g.B.Bay.answered c.args.self.now.bay in
-    let new = g.B.Bay.answered c.make_client.new.bay in
-    let site = c.make_client.new.site in
-    let client = c.in-Client.client in
-    let blocks = c.in-Client.blocks in
-    let area_is : c.unwrap_or-in-Client.result ≡ area_of c.in-Client.area = c.unwrap_or-in-Client.ensures in
-    let none : mounts_none cell (line.Client client blocks (Some c.unwrap_or-in-Client.result)) ≡ false =
-    ap (λ (area : ℕ). is_some (no_client cell client area)) area_is ∙ ap (mounts_none cell) (sym c.in-Client.is) ∙ mounts in
-    IfOk-weaker c.make_client.result (λ (reply : Reply). Mounts told out has cell (line.Client client blocks (Some c.unwrap_or-in-Client.result)) reply old new site) (λ (reply : Reply). Mounts told out has cell c.args.line.now reply old new site)
-    (λ reply did. subst (λ (l : Line). Mounts told out has cell l reply old new site) (sym c.in-Client.is)
-    (mounts_as told out has cell (line.Client client blocks (Some c.unwrap_or-in-Client.result)) (line.Client client blocks c.in-Client.area) reply old new site
-    (λ at differs. subst (λ (area : ℕ). HasOther (client_header client blocks area) (cell.clients client).given at) area_is differs)
-    (λ count free. subst (λ (area : ℕ). IsFree (client_header client blocks area) (cell.clients client).given (cell.made.acted.clients client).history (cell.made.acted.clients client).failed count) area_is free) did))
-    (c.make_client.ensures.mounts cell seen none is)
+pub returns-in-Send-clause-does : goal.returns-in-Send-clause-does
+returns-in-Send-clause-does g c = λ plain shows.
+    let old = c.args.self.now in
+    let bay = old.bay in
+    let site = c.send.new.site in
+    let said = line.Send c.in-Send.client c.in-Send.volume c.in-Send.server c.in-Send.window in
+    let named = line.Send c.in-Send.client c.in-Send.volume c.in-Send.server (Some c.unwrap_or-window.result) in
+    leads_as g.B.D.Disk.told (g.B.Bay.out old.bay) (g.B.Bay.out bay) (g.B.Bay.has old.bay) (g.B.Bay.has bay) plain old.site site c.args.line.now said c.send.result (g.B.Bay.answered old.bay) (g.B.Bay.answered bay) shows c.requires.range c.requires.built c.in-Send.is
+    (IfOk-weaker c.send.result (λ (reply : Reply). Becomes g.B.D.Disk.told (g.B.Bay.out bay) (g.B.Bay.has bay) (Happens plain named) reply (g.B.Bay.answered old.bay) (g.B.Bay.answered bay) site)
+    (λ (reply : Reply). Becomes g.B.D.Disk.told (g.B.Bay.out bay) (g.B.Bay.has bay) (Happens plain said) reply (g.B.Bay.answered old.bay) (g.B.Bay.answered bay) site)
+    (λ reply. becomes_as g.B.D.Disk.told (g.B.Bay.out bay) (g.B.Bay.has bay) (Happens plain named) (Happens plain said) reply (g.B.Bay.answered old.bay) (g.B.Bay.answered bay) site
+    (λ outside left sent. windowed plain c.in-Send.client c.in-Send.volume c.in-Send.server c.in-Send.window reply outside left c.unwrap_or-window.result c.unwrap_or-window.ensures sent))
+    (c.send.ensures.does plain shows))
 
-pub returns-in-Volume-clause-mounts : goal.returns-in-Volume-clause-mounts
-returns-in-Volume-clause-mounts g c = λ cell seen mounts is.
-    let told = g.B.D.Disk.told in
-    let out = g.B.Bay.out c.make_volume.new.bay in
-    let has = g.B.Bay.has c.make_volume.new.bay in
-    let old = g.B.Bay.answered c.args.self.now.bay in
-    let new = g.B.Bay.answered c.make_volume.new.bay in
-    let site = c.make_volume.new.site in
-    let volume = c.in-Volume.volume in
-    let servers = c.in-Volume.servers in
-    let server_is : alone servers ≡ c.alone.result = sym (let e : c.alone.result ≡ alone servers = search rules in e) in
-    let area_is : c.unwrap_or.result ≡ area_of c.in-Volume.area = c.unwrap_or.ensures in
-    let none : mounts_none cell (line.Volume volume servers (Some c.unwrap_or.result)) ≡ false =
-    ap (λ (area : ℕ). is_some (no_volume cell volume area)) area_is ∙ ap (mounts_none cell) (sym c.in-Volume.is) ∙ mounts in
-    IfOk-weaker c.make_volume.result (λ (reply : Reply). Mounts told out has cell (line.Volume volume servers (Some c.unwrap_or.result)) reply old new site) (λ (reply : Reply). Mounts told out has cell c.args.line.now reply old new site)
-    (λ reply did. subst (λ (l : Line). Mounts told out has cell l reply old new site) (sym c.in-Volume.is)
-    (mounts_as told out has cell (line.Volume volume servers (Some c.unwrap_or.result)) (line.Volume volume servers c.in-Volume.area) reply old new site
-    (λ at differs. subst (λ (area : ℕ). HasOther (replica_header volume (alone servers) area) (next_disk cell (alone servers)).header at) area_is differs)
-    (λ count free. subst (λ (area : ℕ). IsFree (replica_header volume (alone servers) area) (next_disk cell (alone servers)).header (next_disk cell (alone servers)).history (next_disk cell (alone servers)).failed count) area_is free) did))
-    (c.make_volume.ensures.mounts cell servers server_is seen none is)
+pub returns-in-Link-clause-does : goal.returns-in-Link-clause-does
+returns-in-Link-clause-does g c = λ plain shows.
+    let old = c.args.self.now in
+    let bay = old.bay in
+    let site = c.set_link.new.site in
+    let said = line.Link c.in-Link.client c.in-Link.server c.in-Link.strength in
+    leads_as g.B.D.Disk.told (g.B.Bay.out old.bay) (g.B.Bay.out bay) (g.B.Bay.has old.bay) (g.B.Bay.has bay) plain old.site site c.args.line.now said c.set_link.result (g.B.Bay.answered old.bay) (g.B.Bay.answered bay) shows c.requires.range c.requires.built c.in-Link.is
+    (c.set_link.ensures.does plain shows)
 
-pub returns-in-Client-clause-finds : goal.returns-in-Client-clause-finds
-returns-in-Client-clause-finds g c = λ cell shelf seen mounts holds is.
-    let told = g.B.D.Disk.told in
-    let out = g.B.Bay.out c.make_client.new.bay in
-    let has = g.B.Bay.has c.make_client.new.bay in
-    let old = g.B.Bay.answered c.args.self.now.bay in
-    let new = g.B.Bay.answered c.make_client.new.bay in
-    let site = c.make_client.new.site in
-    let client = c.in-Client.client in
-    let blocks = c.in-Client.blocks in
-    let said = line.Client client blocks c.in-Client.area in
-    let area_is : c.unwrap_or-in-Client.result ≡ area_of c.in-Client.area = c.unwrap_or-in-Client.ensures in
-    let none : mounts_none cell (line.Client client blocks (Some c.unwrap_or-in-Client.result)) ≡ false =
-    ap (λ (area : ℕ). is_some (no_client cell client area)) area_is ∙ ap (mounts_none cell) (sym c.in-Client.is) ∙ mounts in
-    let own = ClientFinds cell client blocks c.unwrap_or-in-Client.result in
-    IfOk-weaker c.make_client.result (λ (reply : Reply). Becomes told out has own reply old new site) (λ (reply : Reply). Finds told out has cell shelf c.args.line.now reply old new site)
-    (λ reply found. subst (λ (l : Line). Finds told out has cell shelf l reply old new site) (sym c.in-Client.is)
-    (becomes_as told out has own (LineFinds cell shelf said) reply old new site (λ outside left finds. subst (λ (area : ℕ). ClientFinds cell client blocks area reply outside left) area_is finds) found))
-    (c.make_client.ensures.finds cell seen none is)
+pub returns-in-Tick-clause-does : goal.returns-in-Tick-clause-does
+returns-in-Tick-clause-does g c = λ plain shows.
+    let old = c.args.self.now in
+    let bay = old.bay in
+    let site = c.tick.new.site in
+    let said = line.Tick c.in-Tick.seconds in
+    leads_as {Fault = CellFault} g.B.D.Disk.told (g.B.Bay.out old.bay) (g.B.Bay.out bay) (g.B.Bay.has old.bay) (g.B.Bay.has bay) plain old.site site c.args.line.now said (Ok c.tick.result) (g.B.Bay.answered old.bay) (g.B.Bay.answered bay) shows c.requires.range c.requires.built c.in-Tick.is
+    (c.tick.ensures.does plain shows)
 
-pub returns-in-Volume-clause-finds : goal.returns-in-Volume-clause-finds
-returns-in-Volume-clause-finds g c = λ cell shelf seen mounts holds is.
-    let told = g.B.D.Disk.told in
-    let out = g.B.Bay.out c.make_volume.new.bay in
-    let has = g.B.Bay.has c.make_volume.new.bay in
-    let old = g.B.Bay.answered c.args.self.now.bay in
-    let new = g.B.Bay.answered c.make_volume.new.bay in
-    let site = c.make_volume.new.site in
-    let volume = c.in-Volume.volume in
-    let servers = c.in-Volume.servers in
-    let said = line.Volume volume servers c.in-Volume.area in
-    let server_is : c.alone.result ≡ alone servers = search rules in
-    let area_is : c.unwrap_or.result ≡ area_of c.in-Volume.area = c.unwrap_or.ensures in
-    let fits : is_some (no_volume cell volume c.unwrap_or.result) ≡ false = ap (λ (area : ℕ). is_some (no_volume cell volume area)) area_is ∙ ap (mounts_none cell) (sym c.in-Volume.is) ∙ mounts in
-    let shelved : IsShelved cell c.alone.result shelf = subst (λ (server : ℕ). IsShelved cell server shelf) (sym server_is) (subst (λ (l : Line). HoldsShelf cell l shelf) c.in-Volume.is holds) in
-    let own = VolumeFinds cell shelf volume c.alone.result c.unwrap_or.result in
-    IfOk-weaker c.make_volume.result (λ (reply : Reply). Becomes told out has own reply old new site) (λ (reply : Reply). Finds told out has cell shelf c.args.line.now reply old new site)
-    (λ reply found. subst (λ (l : Line). Finds told out has cell shelf l reply old new site) (sym c.in-Volume.is)
-    (becomes_as told out has own (LineFinds cell shelf said) reply old new site
-    (λ outside left finds. subst (λ (area : ℕ). VolumeFinds cell shelf volume (alone servers) area reply outside left) area_is (subst (λ (server : ℕ). VolumeFinds cell shelf volume server c.unwrap_or.result reply outside left) server_is finds)) found))
-    (c.make_volume.ensures.finds cell shelf seen fits shelved is)
+pub returns-in-Task-clause-does : goal.returns-in-Task-clause-does
+returns-in-Task-clause-does g c = λ plain shows.
+    let old = c.args.self.now in
+    let bay = old.bay in
+    let site = c.carry_out.new.site in
+    let said = line.Task c.in-Task.task in
+    leads_as g.B.D.Disk.told (g.B.Bay.out old.bay) (g.B.Bay.out bay) (g.B.Bay.has old.bay) (g.B.Bay.has bay) plain old.site site c.args.line.now said c.carry_out.result (g.B.Bay.answered old.bay) (g.B.Bay.answered bay) shows c.requires.range c.requires.built c.in-Task.is
+    (c.carry_out.ensures.does plain shows)
+
+pub returns-in-ShowVolume-clause-does : goal.returns-in-ShowVolume-clause-does
+returns-in-ShowVolume-clause-does g c = λ plain shows.
+    let old = c.args.self.now in
+    let bay = old.bay in
+    let site = old.site in
+    let said = line.ShowVolume c.in-ShowVolume.server c.in-ShowVolume.volume in
+    leads_as g.B.D.Disk.told (g.B.Bay.out old.bay) (g.B.Bay.out bay) (g.B.Bay.has old.bay) (g.B.Bay.has bay) plain old.site site c.args.line.now said c.show_volume.result (g.B.Bay.answered old.bay) (g.B.Bay.answered bay) shows c.requires.range c.requires.built c.in-ShowVolume.is
+    (c.show_volume.ensures.does plain shows)
+
+pub returns-in-ShowLog-clause-does : goal.returns-in-ShowLog-clause-does
+returns-in-ShowLog-clause-does g c = λ plain shows.
+    let old = c.args.self.now in
+    let bay = old.bay in
+    let site = old.site in
+    let said = line.ShowLog c.in-ShowLog.client c.in-ShowLog.volume in
+    leads_as g.B.D.Disk.told (g.B.Bay.out old.bay) (g.B.Bay.out bay) (g.B.Bay.has old.bay) (g.B.Bay.has bay) plain old.site site c.args.line.now said c.show_log.result (g.B.Bay.answered old.bay) (g.B.Bay.answered bay) shows c.requires.range c.requires.built c.in-ShowLog.is
+    (c.show_log.ensures.does plain shows)
+
+pub returns-in-Deliver-clause-does : goal.returns-in-Deliver-clause-does
+returns-in-Deliver-clause-does g c = λ plain shows.
+    let old = c.args.self.now in
+    let bay = old.bay in
+    let site = c.deliver.new.site in
+    let said = line.Deliver c.in-Deliver.message in
+    leads_as g.B.D.Disk.told (g.B.Bay.out old.bay) (g.B.Bay.out bay) (g.B.Bay.has old.bay) (g.B.Bay.has bay) plain old.site site c.args.line.now said c.deliver.result (g.B.Bay.answered old.bay) (g.B.Bay.answered bay) shows c.requires.range c.requires.built c.in-Deliver.is
+    (c.deliver.ensures.does plain shows)
+
+pub returns-in-Lose-clause-does : goal.returns-in-Lose-clause-does
+returns-in-Lose-clause-does g c = λ plain shows.
+    let old = c.args.self.now in
+    let bay = old.bay in
+    let site = c.lose.new.site in
+    let said = line.Lose c.in-Lose.message in
+    leads_as g.B.D.Disk.told (g.B.Bay.out old.bay) (g.B.Bay.out bay) (g.B.Bay.has old.bay) (g.B.Bay.has bay) plain old.site site c.args.line.now said c.lose.result (g.B.Bay.answered old.bay) (g.B.Bay.answered bay) shows c.requires.range c.requires.built c.in-Lose.is
+    (c.lose.ensures.does plain shows)
+
+pub returns-in_default-clause-does : goal.returns-in_default-clause-does
+returns-in_default-clause-does g c = λ plain shows.
+    let old = c.args.self.now in
+    let bay = c.fail.new.bay in
+    leads g.B.D.Disk.told (g.B.Bay.out old.bay) (g.B.Bay.out bay) (g.B.Bay.has old.bay) (g.B.Bay.has bay) plain old.site c.fail.new.site c.args.line.now c.fail.result (g.B.Bay.answered old.bay) (g.B.Bay.answered bay) shows c.requires.range c.requires.built
+    (c.fail.ensures.does plain shows)
