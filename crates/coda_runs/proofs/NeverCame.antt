@@ -26,7 +26,7 @@ use Rattle.coda_runs.proofs.Becoming.{Becomes, Stayed, ClientMoved, ReplicaMoved
 use Rattle.coda_runs.proofs.Meeting.{met, is_met, ActsUp}
 use Rattle.coda_runs.proofs.Served.{put_off}
 use Rattle.coda_runs.proofs.Unlettered.{is_acting}
-use Rattle.coda_runs.proofs.Whose.{IsOf, AreOf, IsThere, Holds, of_front, of_next, of_more, of_line}
+use Rattle.coda_runs.proofs.Whose.{IsOf, AreOf, Anywhere, IsThere, Holds, Stands, of_front, of_next, of_more, of_line}
 
 -- who isn't made asks for no header
 never_asks : (life : Life) (header : Header) → life ≡ Unmade → asked life ≡ Some header → ⊥
@@ -54,20 +54,20 @@ event_rows cell (Stale client fids) = refl
 
 -- what P tells of all cells that events of these leave, and that a failed append of these leaves
 module _ (old : Cell) (C : ℕ → Type 0) (R : ℕ → ℕ → Type 0) (P : Cell → Type 0)
-    (events_so : (events : List Event) → AreOf C R events → P (after_all old events)) (failed_so : (events : List Event) (append : Append) → AreOf C R events → IsOf C R (Entered append) → P (failed (after_all old events) append)) where
-  ends_so : (events : List Event) (own reply : Reply) (new : Cell) → AreOf C R events → EndsBy old events own reply new → P new
+    (events_so : (events : List Event) → AreOf C R Anywhere events → P (after_all old events)) (failed_so : (events : List Event) (append : Append) → AreOf C R Anywhere events → IsOf C R Anywhere (Entered append) → P (failed (after_all old events) append)) where
+  ends_so : (events : List Event) (own reply : Reply) (new : Cell) → AreOf C R Anywhere events → EndsBy old events own reply new → P new
   ends_so events own reply new are (inl all) = subst P (sym all.2) (events_so events are)
-  ends_so events own reply new are (inr (inl (stop, fits, lacks, says, is))) = subst P (sym is) (events_so stop.done (of_front C R stop.done (Entered stop.next ∷ stop.rest) (subst (AreOf C R) stop.is are)))
+  ends_so events own reply new are (inr (inl (stop, fits, lacks, says, is))) = subst P (sym is) (events_so stop.done (of_front C R Anywhere stop.done (Entered stop.next ∷ stop.rest) (subst (AreOf C R Anywhere) stop.is are)))
   ends_so events own reply new are (inr (inr (stop, fits, says, is))) =
-      let split = subst (AreOf C R) stop.is are in
-      subst P (sym is) (failed_so stop.done stop.next (of_front C R stop.done (Entered stop.next ∷ stop.rest) split) (of_next C R stop.done stop.rest (Entered stop.next) split))
+      let split = subst (AreOf C R Anywhere) stop.is are in
+      subst P (sym is) (failed_so stop.done stop.next (of_front C R Anywhere stop.done (Entered stop.next ∷ stop.rest) split) (of_next C R Anywhere stop.done stop.rest (Entered stop.next) split))
 
   pub acts_so : ((client : ℕ) → (client_named (state_of old) client).there ≡ true → C client) → ((server volume : ℕ) → (holder_named (state_of old) server volume).there ≡ true → R server volume)
       → (said : Line) → is_acting said ≡ true → (reply : Reply) (new : Cell) → Acts old said reply new → P new
   acts_so f g said acting reply new acts =
       let m = is_met old said in
       let s = met old m.links in
-      ends_so acts.events acts.own reply new (of_more (IsThere s acts.own acts.events) C (Holds s acts.own acts.events) R f g acts.events
+      ends_so acts.events acts.own reply new (of_more (IsThere s) C (Holds s) R (Stands s) Anywhere f g (λ volume is. tt) acts.events
       (of_line s acts.own acts.events said acting (subst (λ t. Does t said acts.own acts.events) m.is acts.does))) acts.ends
 
 -- ---- a client
@@ -96,8 +96,8 @@ module _ (old : Cell) (client : ℕ) (unmade : (old.clients client).life ≡ Unm
   volume_off cell None server f = refl
   volume_off cell (Some at) server f = refl
 
-  event_off : (cell : Cell) (event : Event) → IsOf Off Any event → (after cell event).clients client ≡ cell.clients client
-  event_off cell (Entered (AtClient n entry)) off = put_off cell.clients n client _ off
+  event_off : (cell : Cell) (event : Event) → IsOf Off Any Anywhere event → (after cell event).clients client ≡ cell.clients client
+  event_off cell (Entered (AtClient n entry)) off = put_off cell.clients n client _ off.0
   event_off cell (Entered (AtReplica server volume entry)) off = volume_off cell (stand_of cell volume) server (grown entry)
   event_off cell (VolumeMade volume server) off = refl
   event_off cell (ClientMade n blocks) off = refl
@@ -109,12 +109,12 @@ module _ (old : Cell) (client : ℕ) (unmade : (old.clients client).life ≡ Unm
   event_off cell (Kept n server fid) off = refl
   event_off cell (Stale n fids) off = refl
 
-  events_off : (cell : Cell) (events : List Event) → AreOf Off Any events → (after_all cell events).clients client ≡ cell.clients client
+  events_off : (cell : Cell) (events : List Event) → AreOf Off Any Anywhere events → (after_all cell events).clients client ≡ cell.clients client
   events_off cell [] are = refl
   events_off cell (event ∷ events) are = events_off (after cell event) events are.1 ∙ event_off cell event are.0
 
-  failed_off : (cell : Cell) (append : Append) → IsOf Off Any (Entered append) → (failed cell append).clients client ≡ cell.clients client
-  failed_off cell (AtClient n entry) off = put_off cell.clients n client _ off
+  failed_off : (cell : Cell) (append : Append) → IsOf Off Any Anywhere (Entered append) → (failed cell append).clients client ≡ cell.clients client
+  failed_off cell (AtClient n entry) off = put_off cell.clients n client _ off.0
   failed_off cell (AtReplica server volume entry) off = volume_off cell (stand_of cell volume) server (failing entry)
 
   acts_is : (said : Line) → is_acting said ≡ true → (reply : Reply) (new : Cell) → Acts old said reply new → IsSame new
@@ -199,7 +199,7 @@ module _ (old : Cell) (placed : ArePlaced old) (row server : ℕ) (unmade : (old
       by None e = refl
       by (Some at) e = place_off cell at.row n (f (cell.replicas at.row n)) (off at (ap (λ (rs : List Row). stand_of (record old { rows = rs }) volume) (sym rows) ∙ e))
 
-  place_event_off : (cell : Cell) → cell.rows ≡ old.rows → (event : Event) → IsOf AnyClient OffPlace event → (after cell event).replicas row server ≡ cell.replicas row server
+  place_event_off : (cell : Cell) → cell.rows ≡ old.rows → (event : Event) → IsOf AnyClient OffPlace Anywhere event → (after cell event).replicas row server ≡ cell.replicas row server
   place_event_off cell rows (Entered (AtClient n entry)) off = refl
   place_event_off cell rows (Entered (AtReplica n volume entry)) off = place_volume_off cell rows n volume (grown entry) off
   place_event_off cell rows (VolumeMade volume n) off = refl
@@ -212,15 +212,15 @@ module _ (old : Cell) (placed : ArePlaced old) (row server : ℕ) (unmade : (old
   place_event_off cell rows (Kept n s fid) off = refl
   place_event_off cell rows (Stale n fids) off = refl
 
-  place_events_off : (cell : Cell) → cell.rows ≡ old.rows → (events : List Event) → AreOf AnyClient OffPlace events → ((after_all cell events).replicas row server ≡ cell.replicas row server) × ((after_all cell events).rows ≡ old.rows)
+  place_events_off : (cell : Cell) → cell.rows ≡ old.rows → (events : List Event) → AreOf AnyClient OffPlace Anywhere events → ((after_all cell events).replicas row server ≡ cell.replicas row server) × ((after_all cell events).rows ≡ old.rows)
   place_events_off cell rows [] are = (refl, rows)
   place_events_off cell rows (event ∷ events) are = (let rest = place_events_off (after cell event) (event_rows cell event ∙ rows) events are.1 in (rest.0 ∙ place_event_off cell rows event are.0, rest.1))
 
-  place_failed_off : (cell : Cell) → cell.rows ≡ old.rows → (append : Append) → IsOf AnyClient OffPlace (Entered append) → (failed cell append).replicas row server ≡ cell.replicas row server
+  place_failed_off : (cell : Cell) → cell.rows ≡ old.rows → (append : Append) → IsOf AnyClient OffPlace Anywhere (Entered append) → (failed cell append).replicas row server ≡ cell.replicas row server
   place_failed_off cell rows (AtClient n entry) off = refl
   place_failed_off cell rows (AtReplica n volume entry) off = place_volume_off cell rows n volume (failing entry) off
 
-  failed_is : (events : List Event) (append : Append) → AreOf AnyClient OffPlace events → IsOf AnyClient OffPlace (Entered append) → IsSamePlace (failed (after_all old events) append)
+  failed_is : (events : List Event) (append : Append) → AreOf AnyClient OffPlace Anywhere events → IsOf AnyClient OffPlace Anywhere (Entered append) → IsSamePlace (failed (after_all old events) append)
   failed_is events append are is = (let all = place_events_off old refl events are in place_failed_off (after_all old events) all.1 append is ∙ all.0)
 
   place_acts_is : (said : Line) → is_acting said ≡ true → (reply : Reply) (new : Cell) → Acts old said reply new → IsSamePlace new

@@ -20,16 +20,16 @@ use Rattle.coda_shelves.specs.Lines.{meets, Lacks, Stop, needs, is_down_for, cli
 use Rattle.coda_runs.specs.Causes.{named_by, IsAnswered, IsNextEntry, DiskCause, IsDown, HasNoRoom, HasFailed, RefusalsHaveCauses}
 use Rattle.coda_runs.proofs.Meeting.{met, IsMet, ShowsAs, clients_as, Ends, WasDown, DidAll, LackedRoom, HadFault, line_ends}
 use Rattle.coda_runs.proofs.Refused.{at_named, task_is}
-use Rattle.coda_runs.proofs.Whose.{IsOf as IsOfThese, AreOf as AreOfThese, of_next, of_entries}
+use Rattle.coda_runs.proofs.Whose.{Anywhere, IsOf as IsOfThese, AreOf as AreOfThese, of_next, of_entries}
 
 -- ---- who enters what happens
 
 -- what happens is of this client alone
 abbrev IsOf : ℕ → Event → Type 0
-IsOf client = IsOfThese (λ c. c ≡ client) (λ server volume. ⊥)
+IsOf client = IsOfThese (λ c. c ≡ client) (λ server volume. ⊥) Anywhere
 
 abbrev AreOf : ℕ → List Event → Type 0
-AreOf client = AreOfThese (λ c. c ≡ client) (λ server volume. ⊥)
+AreOf client = AreOfThese (λ c. c ≡ client) (λ server volume. ⊥) Anywhere
 
 module _ (s : CellState) (reply : Reply) (events : List Event) where
   of_asked : (client volume : ℕ) (ask : Option Nodes → ClientState → Answer) (o : Option Refused) → Unless o (ByClient s client volume ask) reply events
@@ -96,7 +96,7 @@ module _ (old new mid : Cell) (t : Task) (client : ℕ) (reply : Reply) where
 
   no_room : (next : Append) → IsOf client (Entered next) → IsNextAppend mid next → Lacks mid next → reply ≡ refused_full → new ≡ mid
       → DiskCause old new t client reply
-  no_room (AtClient c entry) by n lacks is same = HasNoRoom entry is
+  no_room (AtClient c entry) (by, on) n lacks is same = HasNoRoom entry is
       (next_entry new entry (subst (λ cell. IsNextAppend cell (AtClient client entry)) (sym same) (subst (λ k. IsNextAppend mid (AtClient k entry)) by n)))
       (subst (λ cell. Lacks cell (AtClient client entry)) (sym same) (subst (λ k. Lacks mid (AtClient k entry)) by lacks))
   no_room (AtReplica server volume entry) by n lacks is same = absurd by
@@ -112,7 +112,7 @@ module _ (old new mid : Cell) (t : Task) (client : ℕ) (reply : Reply) where
 
   has_failed : (next : Append) → IsOf client (Entered next) → IsNextAppend mid next → reply ≡ refused_fault → new ≡ failed mid next
       → DiskCause old new t client reply
-  has_failed (AtClient c entry) by n is same =
+  has_failed (AtClient c entry) (by, on) n is same =
       let fell = failed_at entry (subst (λ k. new ≡ failed mid (AtClient k entry)) by same) in
       HasFailed entry mid is (next_entry mid entry (subst (λ k. IsNextAppend mid (AtClient k entry)) by n))
       (ap (λ (a : PlainActor ClientEntry). a.disk.failed) fell) (ap (λ (a : PlainActor ClientEntry). is_up a.life) fell ∙ fallen_down (mid.clients client).life)
@@ -120,7 +120,7 @@ module _ (old new mid : Cell) (t : Task) (client : ℕ) (reply : Reply) where
 
 -- the entry at which events stopped that are of a client
 stopped_of : (client : ℕ) (events : List Event) (stop : Stop events) → AreOf client events → IsOf client (Entered stop.next)
-stopped_of client events stop are = of_next (λ c. c ≡ client) (λ server volume. ⊥) stop.done stop.rest (Entered stop.next) (subst (AreOf client) stop.is are)
+stopped_of client events stop are = of_next (λ c. c ≡ client) (λ server volume. ⊥) Anywhere stop.done stop.rest (Entered stop.next) (subst (AreOf client) stop.is are)
 
 -- ---- lines
 

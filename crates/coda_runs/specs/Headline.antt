@@ -65,7 +65,7 @@ abbrev pub ConflictsNameASentRecord : Type 0
 ConflictsNameASentRecord =
     InEachFound (λ f. (row server volume : ℕ) (d : Decision) (refused : ℕ) (why : Reason) → Decides f row server volume d → verdict_on d ≡ Conflict refused why → IsRefused d refused why)
 
--- No operation that a client accepted is lost, and none is done twice in a row: in order, each is in one chunk that was applied, or was given up, or is pending.
+-- No operation that a client accepted is lost, and none is done twice by the disks of one row: in order, each is in one chunk that was applied, or was given up, or is pending.
 abbrev pub OperationsAreKept : Type 0
 OperationsAreKept = InEachFound (λ f. (client volume : ℕ) → AreOperationsKept f client volume)
 

@@ -72,9 +72,10 @@ pub fn conflicts_name_a_sent_record()
     ensures { ConflictsNameASentRecord }
 {}
 
-/// In every cell that is kept, no operation that a client accepted is lost, and none is done twice in a row: in order,
-/// each is in one chunk that a server applied, or was given up, or is pending; what ended in a chunk was applied, and
-/// stands on a disk; and what was applied ended in its chunk, or is under way, unless another row has a decision of it.
+/// In every cell that is kept, no operation that a client accepted is lost, and none is done twice by the disks of one
+/// row: in order, each is in one chunk that a server applied, or was given up, or is pending; what ended in a chunk was
+/// applied, and stands on a disk; and what was applied ended in its chunk, or is under way, unless another row has a
+/// decision of it.
 pub fn operations_are_kept()
     ensures { OperationsAreKept }
 {}
@@ -159,24 +160,24 @@ pub fn verdicts_thaw()
     ensures { VerdictsThaw }
 {}
 
-/// In whatever cell, an operation that is answered as done did what its line asked, over what its client held
-/// and fetched for it: the new object stands under the path's last name with the kind, mode and owner that were asked
-/// for, the file has the content, the object has the attributes, is gone with its name, or is bound under the new name
+/// In whatever cell, an operation that is answered as done did what its line asked, over what its client held and
+/// fetched for it: the new object stands under the path's last name with the kind, mode and owner that were asked for,
+/// the file has the content, the object has the attributes, is gone with its name, or is bound under the new name
 /// alone. All other objects, and all their names, are as they were, but an object that a rename replaces, which is
-/// gone. The operation is the last of those that no server applied, with the number that is answered. No other line
-/// is answered so.
+/// gone. The operation is the last of those that no server applied, with the number that is answered. No other line is
+/// answered so.
 pub fn operations_are_performed()
     ensures { OperationsArePerformed }
 {}
 
-/// In whatever cell, what a reply shows of a file, a link or a directory is in the object that the line's
-/// path leads to, over what the client held and what it fetched, which is as the volume's server has it.
+/// In whatever cell, what a reply shows of a file, a link or a directory is in the object that the line's path leads
+/// to, over what the client held and what it fetched, which is as the volume's server has it.
 pub fn what_is_shown_is_there()
     ensures { WhatIsShownIsThere }
 {}
 
-/// In whatever cell, an operation, a read or a listing is done, or it is refused for a cause that holds, over
-/// what the client held and fetched: names that lead nowhere, since a directory doesn't bind one, an object isn't a
+/// In whatever cell, an operation, a read or a listing is done, or it is refused for a cause that holds, over what the
+/// client held and fetched: names that lead nowhere, since a directory doesn't bind one, an object isn't a
 /// directory or isn't held; what stands at the path isn't what the operation needs; the name is taken; the log is
 /// full, or the client accepted as many operations as it may; an actor that it names isn't there; or the disk of its
 /// client is the cause, since the client is down, its journal has no room for the next entry, or the append of that
@@ -208,8 +209,8 @@ pub fn who_never_came_is_as_it_was()
     ensures { WhoNeverCameIsAsItWas }
 {}
 
-/// Nobody's own disk is another's: a line that makes an actor on a disk that has the header for which it asks isn't
-/// refused for the disk of another one.
+/// Nobody's own disk is another's: a line that makes a client on a disk that has the header for which it asks, or a
+/// volume on disks that all have theirs, isn't refused for the disk of another one.
 pub fn own_disks_are_not_foreign()
     ensures { OwnDisksAreNotForeign }
 {}
@@ -221,8 +222,8 @@ pub fn what_others_hold_is_kept()
     ensures { WhatOthersHoldIsKept }
 {}
 
-/// Where a line makes an actor, its reply counts the entries that were found on the actor's disk: those that stood
-/// there, or those and the one whose append failed; and the actor is up with them.
+/// Where a line makes a client, or a volume on one server, its reply counts the entries that were found on the disk:
+/// those that stood there, or those and the one whose append failed; and the actor is up with them.
 pub fn what_is_made_again_is_counted()
     ensures { WhatIsMadeAgainIsCounted }
 {}
