@@ -1,6 +1,5 @@
 -- A cell of the code in which nothing was made shows the run that begins over the shelves for which the disks of its bay stand.
-use Rattle.std.proofs.Common.{◌≡◌, ℕ, zero, suc, ◌+◌, ◌*◌, ◌-◌, ◌≤◌, inl, inr, arith, Bool, [], Option, Some, None, option_map, refl, subst}
-use Rattle.std.specs.Prelude.{IfSome}
+use Rattle.std.proofs.Common.{◌≡◌, ℕ, zero, suc, ◌+◌, ◌*◌, ◌-◌, ◌≤◌, inl, inr, arith, Bool, [], None, option_map, refl, subst}
 use Rattle.std.proofs.lemmas.Bool.{cases_eq, leb-true}
 use Rattle.coda_disk.specs.Told.{Told}
 use Rattle.coda_actors.specs.Clients.{client_form}
@@ -64,10 +63,6 @@ module _ {D : Type 0} (told : D → Told) (out : ℕ → Bool) (has : ℕ → To
       let is = p.4 in
       let same : disk_at p.0 p.1 ≡ k = omega (arith, high, one, few, is) in
       (refl, refl, subst (λ n. StandsFor (replica_form told) (has n) (replica_journal (shelves.replicas p.0 p.1))) same (on.replicas p.0 p.1 (p.2, p.3)))
-
-  none_placed : (o : Option Place) → None ≡ option_map (λ (p : Place). p.server) o → (row : ℕ) → IfSome o (λ p. row ≡ p.disk)
-  none_placed None e row = tt
-  none_placed (Some p) e row = cc
 
   -- The last premises are what `Cell::new` of coda_site makes: no clock, no volume, no actor in a slot, and an empty network.
   pub begun_shows : (site : Site D) → AreKept shelves → 0 ≡ site.clock → [] ≡ site.servers.items → ((volume : ℕ) → None ≡ option_map (λ (p : Place). p.server) (place_in site volume)) → 0 ≡ site.areas

@@ -1,5 +1,5 @@
 -- Lines that crash actors, recover them, or let their disks fail.
-use Rattle.std.proofs.Common.{◌≡◌, ◌≢◌, inl, inr, ℕ, ◌+◌, ◌*◌, ◌<◌, Bool, true, false, cond, List, [], ◌∷◌, ◌++◌, append-nil, length, Option, Some, None, IfOk, Result, Ok, Err, refl, sym, ap, subst, ◌∙◌}
+use Rattle.std.proofs.Common.{◌≡◌, inl, inr, ℕ, ◌+◌, ◌*◌, ◌<◌, Bool, true, false, cond, List, [], ◌∷◌, ◌++◌, append-nil, length, Option, Some, None, IfOk, Result, Ok, Err, refl, sym, ap, subst, ◌∙◌}
 use Rattle.std.proofs.lemmas.Bool.{cases_eq}
 use Rattle.std.specs.Prelude.{not}
 use Rattle.std.specs.BTreeMap.{BTreeMap}
@@ -22,7 +22,7 @@ use Rattle.coda_script.specs.declared.reply.Reply.{Reply}
 use Rattle.coda_script.specs.declared.reply.Reply.TheVariants.{Crashed}
 use Rattle.coda_venus.specs.History.{Payload}
 use Rattle.coda_venus.specs.declared.venus.Venus.{Venus}
-use Rattle.coda_cell.specs.Refused.{Refused, NoSuchActor}
+use Rattle.coda_cell.specs.Refused.{NoSuchActor}
 use Rattle.coda_cell.specs.Steps.{Named, first_missing}
 use Rattle.coda_shelves.specs.Shelves.{client_journal, replica_journal}
 use Rattle.coda_shelves.specs.Cells.{Cell, Stand, stand_of, with_client, with_replica}

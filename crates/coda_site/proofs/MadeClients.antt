@@ -1,5 +1,5 @@
 -- Lines that make clients.
-use Rattle.std.proofs.Common.{◌≡◌, ◌+◌, ℕ, Bool, true, false, List, [], ◌∷◌, append-nil, Some, None, refl, sym, ap, subst, ◌∙◌}
+use Rattle.std.proofs.Common.{◌≡◌, ◌+◌, ℕ, Bool, true, false, List, [], ◌∷◌, append-nil, Some, None, refl, sym, ap, subst}
 use Rattle.std.specs.BTreeMap.{BTreeMap}
 use Rattle.coda_disk.specs.Told.{Told}
 use Rattle.coda_journal.specs.declared.header.Header.{Header}

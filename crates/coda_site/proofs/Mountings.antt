@@ -1,11 +1,11 @@
 -- What becomes of an actor becomes of it as its journal has it, and the other way round.
-use Rattle.std.proofs.Common.{suc, ◌≡◌, ◌⊎◌, inl, inr, ℕ, Bool, true, false, List, [], ◌∷◌, ◌++◌, map, length, Option, Some, None, option_map, refl, sym, ap, subst, ◌∙◌}
+use Rattle.std.proofs.Common.{suc, ◌≡◌, ◌⊎◌, inl, inr, ℕ, true, false, List, [], ◌∷◌, ◌++◌, map, length, Option, Some, None, option_map, refl, sym, ap, subst, ◌∙◌}
 use Rattle.std.proofs.lemmas.List.{map-append, length-map}
 use Rattle.coda_disk.specs.Told.{Told}
 use Rattle.coda_journal.specs.declared.header.Header.{Header}
 use Rattle.coda_actors.specs.Clients.{client_form}
 use Rattle.coda_actors.specs.Form.{Form}
-use Rattle.coda_actors.specs.Plain.{PlainDisk, PlainActor, Life, Unmade, Down, Joins, Tries, Mounts, Asks, opened_as, recovered_as, left_after, Step}
+use Rattle.coda_actors.specs.Plain.{PlainDisk, PlainActor, Life, Unmade, Down, Joins, Tries, Mounts, Asks, recovered_as, left_after, Step}
 use Rattle.coda_actors.specs.Plain.{Opens as OpenDeed, Crashes as CrashDeed, Recovers as RecoverDeed, MayHave as MayHaveAs, IsReadFrom as IsReadAs}
 use Rattle.coda_actors.specs.Replicas.{replica_form}
 use Rattle.coda_actors.specs.declared.slot.Mounting.{Mounting}

@@ -122,7 +122,7 @@ module _ {D : Type 0} (told : D → Told) (out : ℕ → Bool) (has : ℕ → To
       by : (o : Option Place) → place_in site volume ≡ o → (offered_at site.net site.replicas client o ≡ offers_of (met_by cell volume) client volume) × AreSpelledOffers (offered_at site.net site.replicas client o)
       by None at = (
         sym (ap (option_and_then (λ (x : ReplicaState). reached (links_to cell volume client x.server) x))
-        (ap (option_map (λ (s : Stand). replica_of (λ server. (cell.replicas s.row server).disk.history) volume (alone s.servers))) (none_mapped (stand_of cell volume) (shows.stands.homes volume ∙ ap (option_map (λ (q : Place). q.server)) at)))),
+            (ap (option_map (λ (s : Stand). replica_of (λ server. (cell.replicas s.row server).disk.history) volume (alone s.servers))) (none_mapped (stand_of cell volume) (shows.stands.homes volume ∙ ap (option_map (λ (q : Place). q.server)) at)))),
         none_offered,
       )
       by (Some p) at = both p at

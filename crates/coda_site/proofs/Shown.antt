@@ -1,7 +1,6 @@
 -- What is shown of a site is what the cell has that it stands for.
-use Rattle.std.proofs.Common.{◌≡◌, ◌≢◌, ℕ, ◌==◌, Bor, Bool, true, false, cond, Option, Some, None, refl, sym, ap, ◌∙◌, subst}
+use Rattle.std.proofs.Common.{◌≡◌, ◌≢◌, ℕ, ◌==◌, Bor, Bool, true, false, cond, Option, Some, None, sym, ap, ◌∙◌, subst}
 use Rattle.std.specs.Prelude.{not, is_some, ◌&&◌, MatchOption}
-use Rattle.std.specs.Option.{option_map}
 use Rattle.std.proofs.lemmas.Bool.{false≢true, eq-eqb, ne_eqb}
 use Rattle.coda_disk.specs.Told.{Told}
 use Rattle.coda_actors.specs.Replicas.{replica_form}
@@ -20,11 +19,10 @@ use Rattle.coda_matching.proofs.Replicas.{journals_leave_replicas}
 use Rattle.coda_replica.specs.declared.replica.Replica.{Replica}
 use Rattle.coda_cell.specs.Cells.{volume_at}
 use Rattle.coda_cell.specs.State.{replica_state}
-use Rattle.coda_cell.specs.Made.{client_of, replica_of}
-use Rattle.coda_cell.specs.Steps.{alone}
+use Rattle.coda_cell.specs.Made.{client_of}
 use Rattle.coda_cell.specs.State.{ClientVolume, ClientState, ReplicaState, log_of, new_volume, replica_after_all, new_replica}
 use Rattle.coda_cell.proofs.Histories.{server_stays}
-use Rattle.coda_shelves.specs.Cells.{Cell, Stand, asked, is_up as is_life_up, stand_of, state_of}
+use Rattle.coda_shelves.specs.Cells.{Cell, asked, is_up as is_life_up, state_of}
 use Rattle.coda_shelves.specs.Lines.{client_down, replica_down}
 use Rattle.coda_site.specs.Shelves.{Shows}
 use Rattle.coda_site.specs.Sites.{is_client_disk, place_in}
@@ -35,16 +33,6 @@ use Rattle.coda_site.proofs.ReplicaSites.{StandsAt, stands_at, replica_is, there
 use Rattle.coda_site.proofs.Theres.{replica_down_at}
 
 module _ {D : Type 0} (told : D → Told) (out : ℕ → Bool) (has : ℕ → Told) (cell : Cell) (site : Site D) (shows : Shows told out has cell site) (volume : ℕ) where
-  none_mapped : (o : Option Stand) → option_map (λ (at : Stand). alone at.servers) o ≡ None → o ≡ None
-  none_mapped None e = refl
-  none_mapped (Some at) e = cc
-
-  -- no volume of this number was made
-  pub none_shown : (server : ℕ) → place_in site volume ≡ None → volume_at ((state_of cell).replicas volume) server ≡ None
-  none_shown server none =
-      ap (λ (o : Option Stand). volume_at (option_map (λ (at : Stand). replica_of (λ other. (cell.replicas at.row other).disk.history) volume (alone at.servers)) o) server)
-      (none_mapped (stand_of cell volume) (shows.stands.homes volume ∙ ap (option_map (λ (p : Place). p.server)) none))
-
   module _ (place : Place) (at : place_in site volume ≡ Some place) where
     stands : StandsAt cell.rows volume place
     stands = stands_at told out has cell site shows volume place at

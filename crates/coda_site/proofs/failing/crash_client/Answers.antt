@@ -1,4 +1,4 @@
-use Rattle.std.proofs.Common.{◌≡◌, true, [], ◌∷◌, sym, ap, subst, ◌∙◌}
+use Rattle.std.proofs.Common.{◌≡◌, true, sym, ap, subst, ◌∙◌}
 use Rattle.coda_script.specs.declared.line.Line.TheVariants as line
 use Rattle.coda_actors.specs.Clients.{client_form}
 use Rattle.coda_actors.specs.Plain.{Crashes as Deed}

@@ -1,4 +1,4 @@
-use Rattle.std.proofs.Common.{◌≡◌, ◌+◌, ◌≤◌, ◌<◌, ◌==◌, ◌∷◌, [], ℕ, List, true, false, cond, length, Some, None, sym, ap, subst, ◌∙◌}
+use Rattle.std.proofs.Common.{◌≡◌, ◌+◌, ◌≤◌, ◌<◌, ◌==◌, ◌∷◌, [], ℕ, List, true, false, cond, length, Some, sym, ap, subst, ◌∙◌}
 use Rattle.std.proofs.lemmas.Bool.{false≢true}
 use Rattle.std.specs.Prelude.{nat_lt, nat_le, ◌||◌, is_some}
 use Rattle.coda_journal.specs.declared.header.Header.{Header}
@@ -17,7 +17,6 @@ use Rattle.coda_site.specs.Makings.{SaysOpened}
 use Rattle.coda_site.specs.Sites.{is_client_disk, is_replica_disk, place_in, IsReady}
 use Rattle.coda_site.specs.Steps.{Becomes}
 use Rattle.coda_site.specs.Totals.{Counts, IsCounted, IsFault, totals}
-use Rattle.coda_site.specs.declared.site.Place.{Place}
 use Rattle.coda_site.specs.declared.site.Site.{Site}
 use Rattle.coda_site.proofs.Closing.{replica_alone, out_over}
 use Rattle.coda_site.proofs.Counting.{replica_opened, same_slots}
