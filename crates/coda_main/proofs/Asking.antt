@@ -5,13 +5,15 @@ use Rattle.coda_actors.specs.Plain.{PlainActor}
 use Rattle.coda_actors.specs.declared.slot.Mounting.{Mounting}
 use Rattle.coda_actors.specs.declared.slot.Mounting.TheVariants.{Entries, Foreign, DiskFault, Memory}
 use Rattle.coda_cell.specs.Refused.{Refused}
+use Rattle.coda_journal.specs.declared.header.Header.{Header}
 use Rattle.coda_plain.specs.Decisions.{ReplicaEntry}
 use Rattle.coda_script.specs.declared.line.Line.{Line}
 use Rattle.coda_script.specs.declared.line.Line.TheVariants as line
 use Rattle.coda_script.specs.declared.reply.Reply.{Reply}
 use Rattle.coda_script.specs.Lines.{line_of}
 use Rattle.coda_shelves.specs.Cells.{Cell, Stand, stand_of, with_client, with_replica}
-use Rattle.coda_shelves.specs.Lines.{Becoming, Unless, UnlessDown, opening, Payloads, Crashes, client_payloads, replica_payloads, AtReplicaOf, needs, is_down_for, DoesUp}
+use Rattle.coda_shelves.specs.Lines.{Becoming, Unless, UnlessDown, opening, Payloads, Crashes, client_payloads, replica_payloads, AtReplicaOf, needs, is_down_for, DoesUp, MakesVolume, MakesClient, area_of}
+use Rattle.coda_shelves.specs.Shelves.{client_header}
 use Rattle.coda_site.specs.Makings.{asks_bay}
 use Rattle.coda_runs.specs.Shelved.{Replies}
 use Rattle.coda_main.specs.Asking.{IsOfTheBay, WhatAsksTheBayIsOfIt}
@@ -50,10 +52,18 @@ client_crashes : (old : Cell) (client : ℕ) → IsOwn (Crashes client_payloads 
 unfolding IsOwn
 client_crashes old client reply outside new crash = subst IsOfTheBay (sym crash.2.2) tt
 
+makes_volume : (old : Cell) (volume : ℕ) (servers : List ℕ) (area : ℕ) → IsOwn (MakesVolume old volume servers area)
+unfolding IsOwn
+makes_volume old volume servers area reply outside new made = subst IsOfTheBay (sym made.3) (opening_is [] false made.0)
+
+makes_client : (old : Cell) (client : ℕ) (header : Header) → IsOwn (MakesClient old client header)
+unfolding IsOwn
+makes_client old client header reply outside new made = subst IsOfTheBay (sym made.4) (opening_is [] false (made.0 ∷ []))
+
 does_up : (old : Cell) (said : Line) → asks_bay said ≡ true → IsOwn (DoesUp old said)
 unfolding IsOwn
-does_up old (line.Volume volume servers area) asks = unless_refused old _ _ (λ reply outside new made. subst IsOfTheBay (sym made.3) (opening_is [] false made.0))
-does_up old (line.Client client blocks area) asks = unless_refused old _ _ (λ reply outside new made. subst IsOfTheBay (sym made.4) (opening_is [] false (made.0 ∷ [])))
+does_up old (line.Volume volume servers area) asks = unless_refused old _ _ (makes_volume old volume servers (area_of area))
+does_up old (line.Client client blocks area) asks = unless_refused old _ _ (makes_client old client (client_header client blocks (area_of area)))
 does_up old (line.CrashClient client choice) asks = unless_refused old _ _ (client_crashes old client)
 does_up old (line.CrashReplica server volume choice) asks = unless_refused old _ _ (replica_crashes old (stand_of old volume) server)
 does_up old _ asks = absurd (false≢true asks)
