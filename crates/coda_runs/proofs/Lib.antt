@@ -28,3 +28,8 @@ pub mod NeverCame
 pub mod Resumed
 pub mod Overwriting
 pub mod Going
+pub mod Reasons
+pub mod Because
+pub mod Adding
+pub mod Turning
+pub mod Untouched

@@ -15,3 +15,5 @@ pub mod Again
 pub mod Resumed
 pub mod Overwriting
 pub mod Going
+pub mod Because
+pub mod Untouched

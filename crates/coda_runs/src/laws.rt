@@ -1,5 +1,6 @@
 // What all runs of scripts have in common, whatever stands on the disks where they begin.
 ghost use Rattle.coda_runs.specs.Again.{WhoNeverCameIsAsItWas, OwnDisksAreNotForeign, WhatOthersHoldIsKept, WhatIsMadeAgainIsCounted, RecoveriesFindTheirOwn};
+ghost use Rattle.coda_runs.specs.Because.{EveryRefusalHasItsCause};
 ghost use Rattle.coda_runs.specs.Causes.{RefusalsHaveCauses};
 ghost use Rattle.coda_runs.specs.Complete.{CleanScriptsEnd, ScriptsHaveOneStatus, ScriptsInGrammarAreClean};
 ghost use Rattle.coda_runs.specs.Headline.{WhatRanIsKept, ScriptsRun, ChunksAreDecidedOnce, CertifiedChunksAreApplied, ConflictsNameASentRecord, OperationsAreKept, VolumesInOneRowAreDoneOnce, SettlementsAreDecided, LogsArePending, AcknowledgedEntriesStay, ClientsComeBack, ReplicasComeBack};
@@ -13,6 +14,7 @@ ghost use Rattle.coda_runs.specs.Shown.{WhatIsShownIsThere};
 ghost use Rattle.coda_runs.specs.Shows.{WhatIsShownIsUp};
 ghost use Rattle.coda_runs.specs.Standing.{VerdictsStandAtHome, ChunksStandWithClients};
 ghost use Rattle.coda_runs.specs.Thawed.{VerdictsThaw};
+ghost use Rattle.coda_runs.specs.Untouched.{RefusedLinesChangeLittle};
 ghost use Rattle.coda_runs.specs.Volumes.{LinesActOnMadeVolumes, ScriptsActOnMadeVolumes};
 
 /// A script that the cell can run from its first line to its last, within the limits, never ends as one with a bad
@@ -184,6 +186,25 @@ pub fn what_is_shown_is_there()
 /// failed.
 pub fn refusals_have_causes()
     ensures { RefusalsHaveCauses }
+{}
+
+/// In whatever cell, a line that is built and is no operation, read or listing is refused only for a cause that holds,
+/// in the cell that it met: it names a client or a volume that wasn't made, or a server that doesn't hold the volume;
+/// it would make what was made, or more than there may be; the client or the replica that it needs is down, or the
+/// link over which it goes; no letter waits under its number; the client's log has a chunk for another server, or
+/// cancellation left nothing of it, or its first operations are younger than the window; the client froze as many
+/// chunks as it may; an answer is of no chunk that is frozen; a journal has no room for the next entry of the line;
+/// the append of that, or the mounting of a disk, failed; or the disk that it mounts was given another header.
+pub fn every_refusal_has_its_cause()
+    ensures { EveryRefusalHasItsCause }
+{}
+
+/// In whatever cell, a line that is built and is refused leaves the cell as it was: volumes, links, letters, the clock
+/// and all disks, but for what the client of an operation, a read or a listing fetched, and for the one chunk that a
+/// drain froze and the one decision behind it; a disk whose append failed, and whose actor is down; and the one disk
+/// that the line mounts, which is as it was, or had no entries and was given its header, and whose actor is down.
+pub fn refused_lines_change_little()
+    ensures { RefusedLinesChangeLittle }
 {}
 
 /// Nothing is shown of a client or of a server's replica that is down.

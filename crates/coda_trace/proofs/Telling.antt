@@ -1,9 +1,8 @@
 -- A trace tells of a run, step by step, and of what recoveries found.
-use Rattle.std.proofs.Common.{◌≡◌, ℕ, ◌==◌, ◌&&◌, cond, Bool, List, [], ◌∷◌, ◌++◌, append_assoc, append-nil, length, Option, Some, None, refl, sym, ap, ◌∙◌, subst, inl, inr}
+use Rattle.std.proofs.Common.{◌≡◌, ℕ, ◌==◌, ◌&&◌, cond, Bool, List, [], ◌∷◌, ◌++◌, append_assoc, append-nil, Option, Some, None, refl, sym, ap, ◌∙◌, subst}
 use Rattle.std.proofs.lemmas.Bool.{eq-eqb}
 use Rattle.coda_disk.specs.Told.{Told}
 use Rattle.coda_actors.specs.Plain.{PlainDisk, PlainActor}
-use Rattle.coda_actors.specs.declared.slot.Mounting.{Mounting}
 use Rattle.coda_actors.specs.declared.slot.Mounting.TheVariants.{Entries, Foreign, DiskFault, Memory}
 use Rattle.coda_plain.specs.Decisions.{ReplicaEntry}
 use Rattle.coda_script.specs.Ranges.{InRange}
@@ -15,10 +14,10 @@ use Rattle.coda_cell.specs.Refused.{Refused}
 use Rattle.coda_cell.specs.Steps.{first_missing}
 use Rattle.coda_cell.proofs.Families.{put_here}
 use Rattle.coda_shelves.specs.Cells.{Cell, Stand, stand_of, with_client, with_replica}
-use Rattle.coda_shelves.specs.Lines.{Becoming, Unless, Payloads, Recovers, AtReplicaOf, recovery, client_payloads, replica_payloads, the_client, the_replica, Happens}
+use Rattle.coda_shelves.specs.Lines.{Becoming, Unless, Payloads, Recovers, AtReplicaOf, client_payloads, replica_payloads, the_client, the_replica, Happens}
 use Rattle.coda_shelves.specs.Running.{IsKept}
 use Rattle.coda_shelves.proofs.Keeping.{shelves_are_kept}
-use Rattle.coda_site.specs.Shelves.{Shows, Leads}
+use Rattle.coda_site.specs.Shelves.{Leads}
 use Rattle.coda_site.specs.Totals.{Counts}
 use Rattle.coda_site.specs.declared.site.Site.{Site}
 use Rattle.coda_trace.specs.Laws.{IsAmong, TracesAreRuns, AreFound, RecoveriesAreNoted}
