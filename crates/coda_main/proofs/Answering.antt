@@ -1,5 +1,5 @@
 -- What a line that ran says of the cells that are shown.
-use Rattle.std.proofs.Common.{◌≡◌, ℕ, List, [], ◌∷◌, ◌++◌, Ok, Some, refl, sym, ap, ◌∙◌, subst, inr}
+use Rattle.std.proofs.Common.{◌≡◌, ℕ, List, [], ◌∷◌, ◌++◌, Ok, Some, refl, sym, ap, ◌∙◌, subst, inr, true}
 use Rattle.std.specs.Prelude.{drop, length}
 use Rattle.coda_disk.specs.Told.{Told}
 use Rattle.coda_script.specs.declared.line.Line.{Line}
