@@ -6,20 +6,14 @@ ghost use Rattle.coda_vv.specs.declared.vector.Vv.{Vv};
 ghost use Rattle.coda_reslog.specs.declared.entry.ResEntry.{ResEntry};
 ghost use Rattle.coda_resolve.specs.Renewals.{Tells};
 
-use coda_fid::{Bytes, Fid, Name};
+use coda_fid::{Fid, Name};
+use coda_lanes::same_bytes;
 use coda_reslog::{Held, Lost, ResEntry, Ring};
 use coda_tree::{Entries, Node, NodeKind};
 use coda_vv::Vv;
 use std::cmp::Ordering;
 
 // ---- nodes
-
-// Whether two contents are the same.
-fn same_bytes(one: &Bytes, other: &Bytes) -> bool
-    ensures { Tells result one.now other.now }
-{
-    one.bytes() == other.bytes()
-}
 
 // Whether two names are the same.
 fn same_name(one: &Name, other: &Name) -> bool
@@ -75,13 +69,13 @@ fn same_kind(one: &NodeKind, other: &NodeKind) -> bool
 {
     match one {
         NodeKind::File(content) => match other {
-            NodeKind::File(other) => same_bytes(content, other),
+            NodeKind::File(other) => same_bytes(content.bytes(), other.bytes()),
             NodeKind::Link(_) => false,
             NodeKind::Dir(_) => false,
         },
         NodeKind::Link(target) => match other {
             NodeKind::File(_) => false,
-            NodeKind::Link(other) => same_bytes(target, other),
+            NodeKind::Link(other) => same_bytes(target.bytes(), other.bytes()),
             NodeKind::Dir(_) => false,
         },
         NodeKind::Dir(entries) => match other {
