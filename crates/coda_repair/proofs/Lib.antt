@@ -1,0 +1,11 @@
+mod Lookups
+mod Changed
+mod Stack
+mod Reaching
+mod Vectors
+mod Ways
+mod Filling
+mod Sparing
+mod Parts
+mod Repairs
+mod Laws

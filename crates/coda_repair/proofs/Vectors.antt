@@ -1,0 +1,61 @@
+-- How many updates of a server are in the merge of vectors.
+use Rattle.std.proofs.Common.{◌≡◌, ℕ, ◌+◌, ◌-◌, ◌<◌, ◌≤◌, zero, suc, List, [], ◌∷◌, length, slice_index_or, slice_set, refl, sym, ap, ◌∙◌, subst, arith, inl, inr, ⊎_elim, map, Option, Some, None}
+use Rattle.std.specs.Prelude.{max}
+use Rattle.std.specs.List.{fold, AllByRecursion}
+use Rattle.std.proofs.lemmas.List.{get_or-set_same}
+use Rattle.coda_vv.specs.Vector.{Counts, count, joined, no_updates, bumped}
+use Rattle.coda_reslog.specs.declared.change.Held.{Held}
+use Rattle.coda_resolve.specs.Copies.{Copies, vector_of}
+use Rattle.coda_resolve.specs.Merged.{updates_of}
+use Rattle.coda_resolve.specs.Placement.{IsIn}
+
+-- ---- the merge
+
+pub joined_at : (v w : Counts) (i : ℕ) → slice_index_or (joined v w) i 0 ≡ max (slice_index_or v i 0) (slice_index_or w i 0)
+joined_at [] w i = omega arith
+joined_at (x ∷ v) [] i = omega arith
+joined_at (x ∷ v) (y ∷ w) zero = refl
+joined_at (x ∷ v) (y ∷ w) (suc i) = joined_at v w i
+
+pub fold_more : (i : ℕ) (vs : List Counts) (v : Counts) → slice_index_or v i 0 ≤ slice_index_or (fold joined v vs) i 0
+fold_more i [] v = omega arith
+fold_more i (w ∷ vs) v = let a = joined_at v w i in let b = fold_more i vs (joined v w) in omega (arith, a, b)
+
+pub fold_has : (i : ℕ) (vs : List Counts) (v w : Counts) → IsIn w vs → slice_index_or w i 0 ≤ slice_index_or (fold joined v vs) i 0
+fold_has i [] v w s = absurd s
+fold_has i (u ∷ vs) v w (inl is) = let a = joined_at v u i in let b = fold_more i vs (joined v u) in subst (λ x. slice_index_or x i 0 ≤ slice_index_or (fold joined (joined v u) vs) i 0) is (omega (arith, a, b))
+fold_has i (u ∷ vs) v w (inr s) = fold_has i vs (joined v u) w s
+
+pub fold_less : (i n : ℕ) (vs : List Counts) (v : Counts) → slice_index_or v i 0 < n → AllByRecursion (λ w. slice_index_or w i 0 < n) vs → slice_index_or (fold joined v vs) i 0 < n
+fold_less i n [] v lt a = lt
+fold_less i n (w ∷ vs) v lt a = fold_less i n vs (joined v w) (let e = joined_at v w i in let b = a.0 in omega (arith, e, lt, b)) a.1
+
+in_vectors : (copies : Copies) (old : Held) → IsIn (Some old) copies → IsIn old.vector.0 (map vector_of copies)
+in_vectors [] old s = absurd s
+in_vectors (copy ∷ copies) old (inl is) = inl (ap vector_of is)
+in_vectors (copy ∷ copies) old (inr s) = inr (in_vectors copies old s)
+
+-- the merge of the updates of copies has those of each
+pub updates_has : (copies : Copies) (old : Held) (i : ℕ) → IsIn (Some old) copies → slice_index_or old.vector.0 i 0 ≤ slice_index_or (updates_of copies) i 0
+updates_has [] old i s = absurd s
+updates_has (copy ∷ copies) old i (inl is) = subst (λ (x : Counts). slice_index_or x i 0 ≤ slice_index_or (updates_of (copy ∷ copies)) i 0) (ap vector_of is) (fold_more i (map vector_of copies) (vector_of copy))
+updates_has (copy ∷ copies) old i (inr s) = fold_has i (map vector_of copies) (vector_of copy) old.vector.0 (in_vectors copies old s)
+
+-- ---- one update more
+
+pub bumped_more : (v : Counts) (j i : ℕ) → slice_index_or v i 0 ≤ slice_index_or (slice_set v j (slice_index_or v j 0 + 1)) i 0
+bumped_more [] j i = omega arith
+bumped_more (x ∷ v) zero zero = omega arith
+bumped_more (x ∷ v) zero (suc i) = omega arith
+bumped_more (x ∷ v) (suc j) zero = omega arith
+bumped_more (x ∷ v) (suc j) (suc i) = bumped_more v j i
+
+pub bumped_here : (v : Counts) (source : ℕ) → 1 ≤ source → source ≤ length v → count (bumped v source) source ≡ count v source + 1
+bumped_here v source one within = get_or-set_same v (source - 1) (count v source + 1) 0 (omega (arith, one, within))
+
+-- the repaired object has one update of the source more than each copy
+pub has_more : (copies : Copies) (old : Held) (source : ℕ) → 1 ≤ source → source ≤ 8 → length (updates_of copies) ≡ 8 → IsIn (Some old) copies → count old.vector.0 source < count (bumped (updates_of copies) source) source
+has_more copies old source one eight wide s =
+    let a = updates_has copies old (source - 1) s in
+    let b = bumped_here (updates_of copies) source one (omega (arith, eight, wide)) in
+    omega (arith, a, b)

@@ -1,0 +1,24 @@
+ghost use Rattle.coda_repair.specs.Laws.{RepairedAreEqual, LosersAreMarked, RepairsKeepTreesOfOneKind, RepairsAreLineages};
+
+/// A law of repair: behind one the object and all below it are the same node at all replicas, as the source had it,
+/// not marked, with an empty log, and with one vector that has all updates of any replica and one more of the source
+/// (Kumar and Satyanarayanan 1993).
+pub fn repaired_are_equal()
+    ensures { RepairedAreEqual }
+{}
+
+/// A law of repair: a directory that loses an object at a replica is marked there (Kumar and Satyanarayanan 1993).
+pub fn losers_are_marked()
+    ensures { LosersAreMarked }
+{}
+
+/// A law of repair: replicas that are trees of one kind stay so, whichever of them install their changes.
+pub fn repairs_keep_trees_of_one_kind()
+    ensures { RepairsKeepTreesOfOneKind }
+{}
+
+/// A law of repair: where the changes that `repair` answers are installed, at all of the replicas or at some, that is a
+/// repair in the life of the volume.
+pub fn repairs_are_lineages()
+    ensures { RepairsAreLineages }
+{}

@@ -1,0 +1,17 @@
+//! Repair: an object of a volume, and all below it, made at all replicas what one of them has.
+#![tactic(auto)]
+
+mod finding;
+mod law;
+mod lookup;
+mod part;
+mod reach;
+mod record;
+mod spare;
+mod updates;
+
+pub use finding::have_room;
+pub use law::{
+    losers_are_marked, repaired_are_equal, repairs_are_lineages, repairs_keep_trees_of_one_kind,
+};
+pub use record::{Changes, RepairFault, RepairRecord, repair};
