@@ -1,5 +1,5 @@
 -- What is put and what comes in place of what loses, object by object.
-use Rattle.std.proofs.Common.{◌≡◌, ◌<◌, ℕ, ◌+◌, Bool, true, false, cond, not, List, [], ◌∷◌, ◌++◌, Option, Some, None, take, length, get_or, map, refl, sym, ap, ◌∙◌, subst, ◌||◌, ◌&&◌, ◌⊎◌, inl, inr, ⊎_elim, arith}
+use Rattle.std.proofs.Common.{◌≡◌, ◌<◌, ℕ, suc, ◌+◌, Bool, true, false, cond, not, List, [], ◌∷◌, ◌++◌, Option, Some, None, take, length, get_or, map, refl, sym, ap, ◌∙◌, subst, ◌||◌, ◌&&◌, ◌⊎◌, inl, inr, ⊎_elim, arith}
 use Rattle.std.specs.Option.{option_map}
 use Rattle.std.specs.FinMap as finmap
 use Rattle.std.specs.FinMap.{is_sorted}

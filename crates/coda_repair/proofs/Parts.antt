@@ -19,7 +19,7 @@ use Rattle.coda_resolve.specs.Placement.{IsIn}
 use Rattle.coda_resolve.specs.Changes.{is_among, changed, IsChange}
 use Rattle.coda_resolve.specs.Views.{objects_in}
 use Rattle.coda_resolve.proofs.Lists.{some_none}
-use Rattle.coda_lineage.specs.Repairs.{repaired, spared_by, spared, IsRepairedAt}
+use Rattle.coda_lineage.specs.Repairs.{repaired, others_of, spared_by, spared, IsRepairedAt}
 use Rattle.coda_repair.specs.Making.{put_at, IsWide, kind_loses, loser, spare_of, spare_at, or_else}
 use Rattle.coda_repair.specs.Repaired.{IsReplicaRepair}
 use Rattle.coda_repair.proofs.Changed.{among_filter, in_among, filter_alike_in, keys_has, get_changed}
@@ -93,7 +93,7 @@ module _ (subtree below : Fid → Bool) (top : Fid) (source : ℕ) (copies : Fid
   spared_one held k true e = refl
   spared_one held (File content) false e = refl
   spared_one held (Link target) false e = refl
-  spared_one held (Dir entries) false e = ap (λ b. Some (cond b _ held)) (sym e)
+  spared_one held (Dir entries) false e = ap (λ b. Some (cond b (record held { node = record held.node { kind = Dir (others_of subtree top entries); marked = true } }) held)) (sym e)
 
   stays_there : (f : Fid) → below f ≡ false → finmap.get (changed view change) f ≡ spared subtree top (finmap.get view f)
   stays_there f b = by (finmap.get view f) refl

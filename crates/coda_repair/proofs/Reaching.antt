@@ -12,6 +12,7 @@ use Rattle.coda_resolve.specs.Copies.{bindings_of}
 use Rattle.coda_resolve.specs.Resolution.{Objects, child_in}
 use Rattle.coda_resolve.specs.Counted.{has_fid}
 use Rattle.coda_resolve.specs.Changes.{is_among}
+use Rattle.coda_repair.specs.Making.{AreSame}
 use Rattle.coda_resolve.specs.Reached.{IsReached, start, onward, IsSearch, AreReached}
 use Rattle.coda_resolve.proofs.MergedNames.{any_append}
 use Rattle.coda_repair.proofs.Stack.{value_at}
@@ -113,3 +114,35 @@ module _ (view : Objects) (starts : List Fid) where
       all_seen : (f : Fid) → IsReached view starts f → has_fid seen f ≡ true
       all_seen g (start f e) = done f (search.begun f e)
       all_seen g (onward d n f up bound) = done f (search.closed d n f (all_seen d up) bound)
+
+-- the list has what the set has
+module _ (seen new : BTreeSet Fid) (g : Fid) (fids : List Fid) (updates : Updates fid_cmp seen new g true) where
+  same_at : (f : Fid) → has_fid new f ≡ cond (same_fid g f) true (has_fid seen f)
+  same_at f = updates.0 f ∙ ap (λ b. cond b true (has_fid seen f)) (one_test g f)
+
+  pub same_again : not (has_fid seen g) ≡ false → AreSame seen fids → AreSame new fids
+  same_again not_new same f = same f ∙ by (same_fid g f) refl ∙ sym (same_at f)
+    where
+      known : (b : Bool) → not b ≡ false → b ≡ true
+      known true e = refl
+      known false e = absurd (true≢false e)
+
+      by : (b : Bool) → same_fid g f ≡ b → has_fid seen f ≡ cond (same_fid g f) true (has_fid seen f)
+      by true e = subst (λ x. has_fid seen x ≡ true) (same_fid_is g f e) (known (has_fid seen g) not_new) ∙ ap (λ b. cond b true (has_fid seen f)) (sym e)
+      by false e = ap (λ b. cond b true (has_fid seen f)) (sym e)
+
+  pub same_first : (more : List Fid) → more ≡ fids ++ g ∷ [] → AreSame seen fids → AreSame new more
+  same_first more is same f =
+      ap (λ fs. is_among fs f) is ∙ any_append (same_fid f) fids (g ∷ []) ∙ ap (λ b. b || (same_fid f g || false)) (same f)
+      ∙ by (same_fid g f) refl (same_fid f g) refl (has_fid seen f) ∙ sym (same_at f)
+    where
+      by : (s : Bool) → same_fid g f ≡ s → (t : Bool) → same_fid f g ≡ t → (b : Bool) → (b || (same_fid f g || false)) ≡ cond (same_fid g f) true b
+      by true e t h true = ap (λ s. cond s true true) (sym e)
+      by true e true h false = ap (λ t. t || false) h ∙ ap (λ s. cond s true false) (sym e)
+      by true e false h false = absurd (true≢false (sym (subst (λ x. same_fid x g ≡ true) (same_fid_is g f e) (same_fid_refl g)) ∙ h))
+      by false e t h true = ap (λ s. cond s true true) (sym e)
+      by false e true h false = absurd (true≢false (sym (subst (λ x. same_fid x f ≡ true) (same_fid_is f g h) (same_fid_refl f)) ∙ e))
+      by false e false h false = ap (λ t. t || false) h ∙ ap (λ s. cond s true false) (sym e)
+
+pub same_none : (set : BTreeSet Fid) (fids : List Fid) → set.keys ≡ [] → fids ≡ [] → AreSame set fids
+same_none set fids none empty f = ap (λ fs. is_among fs f) empty ∙ sym (ap (λ ks. list_any (is_at (fid_cmp f)) ks) none)

@@ -67,11 +67,11 @@ below_one view top set are f = (
 -- what a list of objects holds of a fid has what all of them have
 pub find_all : (P : Fid × Held → Type 0) (es : HeldPairs) (f : Fid) (held : Held) → AllByRecursion P es → find fid_cmp f es ≡ Some held → (g : Fid) × P (g, held)
 find_all P [] f held a e = absurd (some_none held (sym e))
-find_all P (x ∷ es) f held a e = by (is_eq (fid_cmp f x.0)) e
+find_all P (x ∷ es) f held a e = by (is_eq (fid_cmp f x.0)) e (find_all P es f held a.1)
   where
-    by : (b : Bool) → cond b (Some x.1) (find fid_cmp f es) ≡ Some held → (g : Fid) × P (g, held)
-    by true is = (x.0, let same : x.1 ≡ held = cc in subst (λ h. P (x.0, h)) same a.0)
-    by false is = find_all P es f held a.1 is
+    by : (b : Bool) → cond b (Some x.1) (find fid_cmp f es) ≡ Some held → (find fid_cmp f es ≡ Some held → (g : Fid) × P (g, held)) → (g : Fid) × P (g, held)
+    by true is rest = (x.0, let same : x.1 ≡ held = cc in subst (λ h. P (x.0, h)) same a.0)
+    by false is rest = rest is
 
 pub in_copies : (views : Replicas) (view : Objects) (f : Fid) (held : Held) → IsIn view views → finmap.get view f ≡ Some held → IsIn (Some held) (copies_at views f)
 in_copies [] view f held s e = absurd s

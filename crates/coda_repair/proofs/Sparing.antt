@@ -1,5 +1,5 @@
 -- What a directory keeps that binds repaired objects.
-use Rattle.std.proofs.Common.{◌≡◌, ℕ, ◌+◌, ◌≤◌, Bool, true, false, not, cond, ◌&&◌, ◌||◌, List, [], ◌∷◌, ◌++◌, Option, Some, None, is_some, slice_get, take, length, map, refl, sym, ap, ◌∙◌, subst, arith, inl, inr}
+use Rattle.std.proofs.Common.{◌≡◌, ℕ, zero, suc, ◌+◌, ◌≤◌, Bool, true, false, not, cond, ◌&&◌, ◌||◌, List, [], ◌∷◌, ◌++◌, Option, Some, None, is_some, slice_get, take, length, map, refl, sym, ap, ◌∙◌, subst, arith, inl, inr}
 use Rattle.std.specs.FinMap as finmap
 use Rattle.std.specs.List.{list_any}
 use Rattle.std.specs.Ordering.{eq_by_cmp}
@@ -35,11 +35,11 @@ module _ (subtree : Fid → Bool) (top : Fid) where
   binds_other : (m : Bindings) → binds_one subtree top m ≡ true → others_of subtree top m ≡ m → ⊥
   binds_other m one same =
       let k = any_in (λ n. is_taken subtree top (finmap.get m n)) (finmap.keys m) one in
-      by (finmap.get m k.0) refl k.1.1 (get_others m k.0)
+      by k.0 (finmap.get m k.0) refl k.1.1 (get_others m k.0)
     where
-      by : {n : Name} → (o : Option Fid) → finmap.get m n ≡ o → is_taken subtree top (finmap.get m n) ≡ true → finmap.get (others_of subtree top m) n ≡ cond (not (is_taken subtree top (finmap.get m n))) (finmap.get m n) None → ⊥
-      by None e taken is = true≢false (sym taken ∙ ap (is_taken subtree top) e)
-      by {n = n} (Some f) e taken is = some_none f (sym e ∙ ap (λ x. finmap.get x n) (sym same) ∙ is ∙ ap (λ b. cond (not b) (finmap.get m n) None) taken)
+      by : (n : Name) (o : Option Fid) → finmap.get m n ≡ o → is_taken subtree top (finmap.get m n) ≡ true → finmap.get (others_of subtree top m) n ≡ cond (not (is_taken subtree top (finmap.get m n))) (finmap.get m n) None → ⊥
+      by n None e taken is = true≢false (sym taken ∙ ap (is_taken subtree top) e)
+      by n (Some f) e taken is = some_none f (sym e ∙ ap (λ x. finmap.get x n) (sym same) ∙ is ∙ ap (λ b. cond (not b) (finmap.get m n) None) taken)
 
   pub loser_differs : (held : Held) (k : NodeKind) (b : Bool) → held.node.kind ≡ k → kind_loses subtree top k ≡ b → cond b (Some (spared_by subtree top held k)) None ≡ Some held → ⊥
   loser_differs held k false e is h = some_none held (sym h)
@@ -86,33 +86,33 @@ module _ (subtree : Fid → Bool) (top : Fid) where
   abbrev pub AreOut : Bindings → List (Name × Fid) → Bindings → Type 0
   AreOut m es others = (n : Name) → finmap.get others n ≡ cond (out_by es n) None (finmap.get m n)
 
-  out_more : (m : Bindings) (i : ℕ) (n : Name) (f : Fid) (k : Name) → Some (n, f) ≡ slice_get (finmap.entries m) i → out_by (take (i + 1) (finmap.entries m)) k ≡ (out_by (take i (finmap.entries m)) k || ((eq_by_cmp name_cmp k n && is_taken subtree top (Some f)) || false))
-  out_more m i n f k at = ap (λ es. out_by es k) (one_more (finmap.entries m) i (n, f) at) ∙ any_append (λ (e : Name × Fid). eq_by_cmp name_cmp k e.0 && is_taken subtree top (Some e.1)) (take i (finmap.entries m)) ((n, f) ∷ [])
+  one_out : (m : Bindings) (i : ℕ) (n : Name) (f : Fid) (k : Name) → Some (n, f) ≡ slice_get (finmap.entries m) i → out_by (take (i + 1) (finmap.entries m)) k ≡ (out_by (take i (finmap.entries m)) k || ((eq_by_cmp name_cmp k n && is_taken subtree top (Some f)) || false))
+  one_out m i n f k at = ap (λ es. out_by es k) (one_more (finmap.entries m) i (n, f) at) ∙ any_append (λ (e : Name × Fid). eq_by_cmp name_cmp k e.0 && is_taken subtree top (Some e.1)) (take i (finmap.entries m)) ((n, f) ∷ [])
 
-  pub out_taken : (m : Bindings) (i : ℕ) (n : Name) (f : Fid) (others new : Bindings) → Some (n, f) ≡ slice_get (finmap.entries m) i → is_taken subtree top (Some f) ≡ true → new ≡ finmap.remove others n → AreOut m (take i (finmap.entries m)) others → AreOut m (take (i + 1) (finmap.entries m)) new
-  out_taken m i n f others new at taken is out k =
+  pub out_more : (m : Bindings) (i : ℕ) (n : Name) (f : Fid) (others new : Bindings) → Some (n, f) ≡ slice_get (finmap.entries m) i → new ≡ cond (is_taken subtree top (Some f)) (finmap.remove others n) others → AreOut m (take i (finmap.entries m)) others → AreOut m (take (i + 1) (finmap.entries m)) new
+  out_more m i n f others new at is out k =
       ap (λ x. finmap.get x k) is
-      ∙ finmap.get-remove nat_list_cmp_total others n k
-      ∙ ap (λ o. cond (eq_by_cmp name_cmp k n) None o) (out k)
-      ∙ by (eq_by_cmp name_cmp k n) (out_by (take i (finmap.entries m)) k)
-      ∙ ap (λ b. cond b None (finmap.get m k)) (sym (out_more m i n f k at ∙ ap (λ t. out_by (take i (finmap.entries m)) k || ((eq_by_cmp name_cmp k n && t) || false)) taken))
+      ∙ by (is_taken subtree top (Some f))
+      ∙ ap (λ b. cond b None (finmap.get m k)) (sym (one_out m i n f k at))
     where
-      by : (e o : Bool) → cond e None (cond o None (finmap.get m k)) ≡ cond (o || ((e && true) || false)) None (finmap.get m k)
-      by true true = refl
-      by true false = refl
-      by false true = refl
-      by false false = refl
+      took : (e o : Bool) → cond e None (cond o None (finmap.get m k)) ≡ cond (o || ((e && true) || false)) None (finmap.get m k)
+      took true true = refl
+      took true false = refl
+      took false true = refl
+      took false false = refl
 
-  pub out_left : (m : Bindings) (i : ℕ) (n : Name) (f : Fid) (others : Bindings) → Some (n, f) ≡ slice_get (finmap.entries m) i → is_taken subtree top (Some f) ≡ false → AreOut m (take i (finmap.entries m)) others → AreOut m (take (i + 1) (finmap.entries m)) others
-  out_left m i n f others at free out k =
-      out k ∙ by (eq_by_cmp name_cmp k n) (out_by (take i (finmap.entries m)) k)
-      ∙ ap (λ b. cond b None (finmap.get m k)) (sym (out_more m i n f k at ∙ ap (λ t. out_by (take i (finmap.entries m)) k || ((eq_by_cmp name_cmp k n && t) || false)) free))
-    where
-      by : (e o : Bool) → cond o None (finmap.get m k) ≡ cond (o || ((e && false) || false)) None (finmap.get m k)
-      by true true = refl
-      by true false = refl
-      by false true = refl
-      by false false = refl
+      kept : (e o : Bool) → cond o None (finmap.get m k) ≡ cond (o || ((e && false) || false)) None (finmap.get m k)
+      kept true true = refl
+      kept true false = refl
+      kept false true = refl
+      kept false false = refl
+
+      by : (t : Bool) → finmap.get (cond t (finmap.remove others n) others) k ≡ cond (out_by (take i (finmap.entries m)) k || ((eq_by_cmp name_cmp k n && t) || false)) None (finmap.get m k)
+      by true = finmap.get-remove nat_list_cmp_total others n k ∙ ap (λ o. cond (eq_by_cmp name_cmp k n) None o) (out k) ∙ took (eq_by_cmp name_cmp k n) (out_by (take i (finmap.entries m)) k)
+      by false = out k ∙ kept (eq_by_cmp name_cmp k n) (out_by (take i (finmap.entries m)) k)
+
+  pub out_none : (m others : Bindings) → others ≡ m → AreOut m (take 0 (finmap.entries m)) others
+  out_none m others is k = ap (λ x. finmap.get x k) is
 
   -- a name is out just where what it binds is taken
   out_is : (m : Bindings) (n : Name) → out_by (finmap.entries m) n ≡ is_taken subtree top (finmap.get m n)

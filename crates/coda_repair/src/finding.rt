@@ -17,6 +17,10 @@ use crate::lookup::{child_in, held_in};
 use coda_fid::{Fid, Name};
 use coda_record::View;
 use coda_reslog::Held;
+use coda_vv::Vv;
+
+/// So many updates of a server are too many for one more.
+const MANY: u64 = 0x8000_0000_0000_0000;
 
 // The view of the server.
 pub(crate) fn view_of(views: &[View], from: u8) -> Option<&View>
@@ -142,6 +146,23 @@ fn are_ways(
     }
 }
 
+// Whether the names lead to the object, which the source has, and so they do at each replica.
+fn is_found(
+    views: &[View],
+    right: &View,
+    from: u8,
+    root: Fid,
+    names: &[Name],
+    top: Fid,
+) -> bool
+    requires order { AreInOrder views.now }
+    requires sorted { is_sorted fid_cmp right.now.held ≡ true }
+    requires source { view_of views.now from ≡ Some right.now }
+    ensures { IsTrue result ↔ IsFound views.now from root names.now top }
+{
+    has(right, top) && are_ways(right, from, root, names, top, views)
+}
+
 // The object that the names lead to, which the source has, if they lead to it alike at all replicas.
 pub(crate) fn found(
     views: &[View],
@@ -155,11 +176,24 @@ pub(crate) fn found(
     requires source { view_of views.now from ≡ Some right.now }
     ensures { (top : Fid) → (result ≡ Some top) ↔ IsFound views.now from root names.now top }
 {
-    let top = walked(right, root, names)?;
-    if has(right, top) && are_ways(right, from, root, names, top, views) {
+    let Some(top) = walked(right, root, names) else {
+        return None;
+    };
+    if is_found(views, right, from, root, names, top) {
         Some(top)
     } else {
         None
+    }
+}
+
+// How many updates of the server are in the version.
+fn count(vector: &Vv, server: u8) -> u64
+    requires { 1 ≤ server }
+    ensures { result ≡ count vector.now.0 server }
+{
+    match vector.0.get(usize::from(server) - 1) {
+        Some(count) => *count,
+        None => 0,
     }
 }
 
@@ -168,13 +202,8 @@ fn has_room(from: u8, objects: &[(Fid, Held)]) -> bool
     requires { 1 ≤ from }
     ensures { IsTrue result ↔ AllByRecursion (λ (o : Fid × Held). count o.1.vector.0 from < 2 ^ 63) objects.now }
 {
-    let place = usize::from(from) - 1;
     for (_, held) in objects {
-        let counted = match held.vector.0.get(place) {
-            Some(count) => *count,
-            None => 0,
-        };
-        if counted >= 1 << 63 {
+        if count(&held.vector, from) >= MANY {
             return false;
         }
     }

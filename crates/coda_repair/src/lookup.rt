@@ -47,7 +47,9 @@ pub(crate) fn child_in(view: &View, dir: Fid, name: &Name) -> Option<Fid>
     requires { is_sorted fid_cmp view.now.held ≡ true }
     ensures { result ≡ child_in (objects_of view.now) dir name.now }
 {
-    let held = held_in(view.held.objects(), dir)?;
+    let Some(held) = held_in(view.held.objects(), dir) else {
+        return None;
+    };
     match &held.node.kind {
         NodeKind::Dir(entries) => entries.find(name),
         NodeKind::File(_) => None,

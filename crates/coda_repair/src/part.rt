@@ -19,7 +19,7 @@ ghost use Rattle.coda_repair.specs.Making.{AreSame, ArePut, loser, spare_at, or_
 ghost use Rattle.coda_repair.specs.Repaired.{IsReplicaRepair, changes_of};
 
 use crate::lookup::held_in;
-use crate::reach::{Reach, reach};
+use crate::reach::{Reach, below};
 use crate::spare::loser;
 use crate::updates::repaired;
 use coda_fid::Fid;
@@ -170,7 +170,7 @@ fn change_of(
     requires same { AreSame subtree.now.set subtree.now.fids.items }
     ensures { IfOk result (λ change. IsIn (objects_of view.now) (replicas_of views.now) → IsReplicaRepair (has_fid subtree.now.set) top from (copies_at (replicas_of views.now)) (objects_of right.now) (objects_of view.now) change) }
 {
-    let below = reach(alloc, view, &subtree.fids)?;
+    let below = below(alloc, view, &subtree.fids)?;
     let mut held = put(alloc, views, right, from, &subtree.fids)?;
     spare(&mut held, view, &subtree.set, &below.set, top)?;
     let gone = gone(alloc, view, &subtree.set, &below.set)?;

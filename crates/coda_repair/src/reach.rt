@@ -84,11 +84,12 @@ fn visit(
         return Ok(stack);
     }
     seen.fids.push(fid)?;
-    push_bound(alloc, stack, held_in(view.held.objects(), fid))
+    let stack = push_bound(alloc, stack, held_in(view.held.objects(), fid))?;
+    Ok(stack)
 }
 
 // These objects, and all that the view binds below them.
-pub(crate) fn reach(alloc: Global, view: &View, starts: &[Fid]) -> Result<Reach, AllocError>
+pub(crate) fn below(alloc: Global, view: &View, starts: &[Fid]) -> Result<Reach, AllocError>
     requires { is_sorted fid_cmp view.now.held ≡ true }
     ensures reached { IfOk result (λ reach. AreReached (objects_of view.now) starts.now reach.set) }
     ensures same { IfOk result (λ reach. AreSame reach.set reach.fids.items) }

@@ -12,7 +12,7 @@ ghost use Rattle.coda_repair.specs.Repaired.{AreRepairs, changes_of};
 
 use crate::finding::{found, is_marked, view_of};
 use crate::part::changes_of;
-use crate::reach::reach;
+use crate::reach::below;
 use coda_fid::{Fid, Path};
 use coda_record::View;
 use coda_reslog::Change;
@@ -118,7 +118,7 @@ fn repairs(
     ensures servers { IfOk result (λ changes. map (λ (change : ℕ × Change). change.0) changes ≡ map (λ (view : View). view.server) views.now) }
     ensures changes { IfOk result (λ changes. AreRepairs (replicas_of views.now) from (objects_of right.now) top (changes_of changes)) }
 {
-    let subtree = reach(alloc, right, &[top])?;
+    let subtree = below(alloc, right, &[top])?;
     let items = changes_of(alloc, views, right, from, &subtree, top)?;
     Ok(Changes { items })
 }
@@ -130,10 +130,14 @@ fn target<'a>(views: &'a [View], from: u8, path: &Path) -> Option<(&'a View, Fid
     ensures source { IfSome result (λ p. held_by views.now from ≡ objects_of p.0.now) }
     ensures found { (top : Fid) → (option_map (λ p. p.1) result ≡ Some top) ↔ IsFound views.now from (root_of (volume_of views.now)) path.now top }
 {
-    let right = view_of(views, from)?;
+    let Some(right) = view_of(views, from) else {
+        return None;
+    };
     let root = Fid::root(volume_of(views));
-    let top = found(views, right, from, root, path.names())?;
-    Some((right, top))
+    match found(views, right, from, root, path.names()) {
+        Some(top) => Some((right, top)),
+        None => None,
+    }
 }
 
 /// Repairs an inconsistent object: it and all below it become at all replicas what one of them has (Kumar and

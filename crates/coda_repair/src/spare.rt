@@ -1,5 +1,5 @@
 // What a replica keeps of directories that bind repaired objects elsewhere.
-ghost use Rattle.std.specs.Prelude.{◌≡◌, ◌&&◌, true, not, IsTrue, IfOk, Some, option_copied};
+ghost use Rattle.std.specs.Prelude.{◌≡◌, ◌&&◌, true, not, cond, IsTrue, IfOk, Some, option_copied};
 ghost use Rattle.std.specs.FinMap as finmap;
 ghost use Rattle.std.specs.FinMap.{is_sorted};
 ghost use Rattle.coda_fid.specs.Fid.{fid_cmp, same_fid};
@@ -8,7 +8,7 @@ ghost use Rattle.coda_resolve.specs.Counted.{has_fid};
 ghost use Rattle.coda_lineage.specs.Repairs.{is_taken, others_of, binds_one};
 ghost use Rattle.coda_repair.specs.Making.{loser};
 
-use coda_fid::Fid;
+use coda_fid::{Fid, Name};
 use coda_reslog::{Held, Ring};
 use coda_tree::{Entries, Node, NodeKind};
 use std::alloc::AllocError;
@@ -36,6 +36,15 @@ fn binds_one(subtree: &BTreeSet<Fid>, top: Fid, entries: &Entries) -> bool
     false
 }
 
+// Unbinds the name, if what it is bound to is taken.
+fn leave_out(others: &mut Entries, subtree: &BTreeSet<Fid>, top: Fid, name: &Name, fid: Fid)
+    ensures { others.new ≡ cond (is_taken (has_fid subtree.now) top (Some fid)) (finmap.remove others.old name.now) others.old }
+{
+    if is_taken(subtree, top, fid) {
+        others.remove(name);
+    }
+}
+
 // What the directory binds but for these, in memory of its own.
 fn others_of(subtree: &BTreeSet<Fid>, top: Fid, entries: &Entries) -> Result<Entries, AllocError>
     ensures { IfOk result (λ others. others ≡ others_of (has_fid subtree.now) top entries.now) }
@@ -45,9 +54,7 @@ fn others_of(subtree: &BTreeSet<Fid>, top: Fid, entries: &Entries) -> Result<Ent
         let Some((name, fid)) = entries.at(index) else {
             unreachable!()
         };
-        if is_taken(subtree, top, fid) {
-            others.remove(name);
-        }
+        leave_out(&mut others, subtree, top, name, fid);
     }
     Ok(others)
 }
