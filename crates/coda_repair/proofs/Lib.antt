@@ -7,5 +7,6 @@ mod Ways
 mod Filling
 mod Sparing
 mod Parts
+mod Made
 mod Repairs
 mod Laws

@@ -9,6 +9,7 @@ use Rattle.std.specs.BTreeMap.{is_at}
 use Rattle.std.specs.FinMap as finmap
 use Rattle.std.specs.FinMap.Entries.{is_sorted, find, below_all}
 use Rattle.std.proofs.lemmas.Bool.{cases_lt}
+use Rattle.std.proofs.lemmas.Cmp.{tied_itself}
 use Rattle.std.proofs.lemmas.List.{get_or_default}
 use Rattle.coda_fid.specs.Fid.{fid_cmp}
 use Rattle.coda_fid.specs.declared.fid.Fid.{Fid}
@@ -112,3 +113,15 @@ entries_hold objects es f is s = ap (λ l. finmap.get (objects_in l) f) is ∙ f
 
 pub keys_in_order : (es : HeldPairs) → is_sorted fid_cmp es ≡ true → finmap.keys (objects_in es) ≡ map (λ e. e.0) es
 keys_in_order es up = ap (map (λ (e : Fid × Held). e.0)) (finmap.entries-from_sorted fid_cmp es (to_T _ up))
+
+-- the object at a place is what is held there
+pub object_at : (es : HeldPairs) (i : ℕ) (o : Fid × Held) → is_sorted fid_cmp es ≡ true → i < length es → o ≡ get_or es i o → finmap.get (objects_in es) o.0 ≡ Some o.1
+object_at es i o up lt is =
+    sym (held_there es o.0 i o up (record {
+      in_range = lt;
+      has_fid = λ d. ap (λ (p : Fid × Held). fid_cmp p.0 o.0) (get_or_default es i d o lt ∙ sym is) ∙ (eq_order o.0);
+    }))
+    ∙ ap (λ (p : Fid × Held). Some p.1) (sym is)
+  where
+    eq_order : (f : Fid) → fid_cmp f f ≡ Equal
+    eq_order f = tied_itself fids_total f

@@ -1,13 +1,23 @@
 -- How many updates of a server are in the merge of vectors.
-use Rattle.std.proofs.Common.{◌≡◌, ℕ, ◌+◌, ◌-◌, ◌<◌, ◌≤◌, zero, suc, List, [], ◌∷◌, length, slice_index_or, slice_set, refl, sym, ap, ◌∙◌, subst, arith, inl, inr, ⊎_elim, map, Option, Some, None}
+use Rattle.std.proofs.Common.{◌≡◌, ℕ, ◌+◌, ◌-◌, ◌<◌, ◌≤◌, ◌^◌, true, zero, suc, List, [], ◌∷◌, length, slice_index_or, slice_set, refl, sym, ap, ◌∙◌, subst, arith, inl, inr, ⊎_elim, map, Option, Some, None}
 use Rattle.std.specs.Prelude.{max}
+use Rattle.std.specs.FinMap as finmap
+use Rattle.std.specs.FinMap.{is_sorted}
 use Rattle.std.specs.List.{fold, AllByRecursion}
 use Rattle.std.proofs.lemmas.List.{get_or-set_same}
+use Rattle.coda_fid.specs.Fid.{fid_cmp}
+use Rattle.coda_fid.specs.declared.fid.Fid.{Fid}
+use Rattle.coda_tree.proofs.Booleans.{to_T}
 use Rattle.coda_vv.specs.Vector.{Counts, count, joined, no_updates, bumped}
 use Rattle.coda_reslog.specs.declared.change.Held.{Held}
+use Rattle.coda_record.specs.declared.view.View.{View}
 use Rattle.coda_resolve.specs.Copies.{Copies, vector_of}
 use Rattle.coda_resolve.specs.Merged.{updates_of}
 use Rattle.coda_resolve.specs.Placement.{IsIn}
+use Rattle.coda_resolve.specs.Resolution.{copies_at}
+use Rattle.coda_resolve.specs.Views.{objects_of, replicas_of, AreInOrder}
+use Rattle.coda_repair.specs.Finding.{HasRoom, HaveRoom}
+use Rattle.coda_repair.proofs.Repairs.{find_all}
 
 -- ---- the merge
 
@@ -59,3 +69,29 @@ has_more copies old source one eight wide s =
     let a = updates_has copies old (source - 1) s in
     let b = bumped_here (updates_of copies) source one (omega (arith, eight, wide)) in
     omega (arith, a, b)
+
+-- ---- room
+
+all_zero : (v : Counts) → AllByRecursion (λ x. x ≡ 0) v → (i : ℕ) → slice_index_or v i 0 ≡ 0
+all_zero [] a i = refl
+all_zero (x ∷ v) a zero = a.0
+all_zero (x ∷ v) a (suc i) = all_zero v a.1 i
+
+none_less : (i : ℕ) → slice_index_or no_updates i 0 < 2 ^ 63
+none_less i = let e = all_zero no_updates (refl, (refl, (refl, (refl, (refl, (refl, (refl, (refl, tt)))))))) i in omega (arith, e)
+
+copy_less : (view : View) (from : ℕ) (f : Fid) → is_sorted fid_cmp view.held ≡ true → HasRoom from view → slice_index_or (vector_of (finmap.get (objects_of view) f)) (from - 1) 0 < 2 ^ 63
+copy_less view from f up room = by (finmap.get (objects_of view) f) refl
+  where
+    by : (o : Option Held) → finmap.get (objects_of view) f ≡ o → slice_index_or (vector_of (finmap.get (objects_of view) f)) (from - 1) 0 < 2 ^ 63
+    by None e = subst (λ c. slice_index_or (vector_of c) (from - 1) 0 < 2 ^ 63) (sym e) (none_less (from - 1))
+    by (Some held) e = subst (λ c. slice_index_or (vector_of c) (from - 1) 0 < 2 ^ 63) (sym e) (find_all (λ (o : Fid × Held). count o.1.vector.0 from < 2 ^ 63) view.held f held room (sym (finmap.get-from_sorted fid_cmp view.held f (to_T _ up)) ∙ e)).1
+
+copies_less : (views : List View) (from : ℕ) (f : Fid) → AreInOrder views → HaveRoom from views → AllByRecursion (λ w. slice_index_or w (from - 1) 0 < 2 ^ 63) (map vector_of (copies_at (replicas_of views) f))
+copies_less [] from f up room = tt
+copies_less (view ∷ views) from f up room = (copy_less view from f up.0 room.0, copies_less views from f up.1 room.1)
+
+-- one update more has room
+pub updates_less : (views : List View) (from : ℕ) (f : Fid) → AreInOrder views → HaveRoom from views → count (updates_of (copies_at (replicas_of views) f)) from < 2 ^ 63
+updates_less [] from f up room = none_less (from - 1)
+updates_less (view ∷ views) from f up room = fold_less (from - 1) (2 ^ 63) (map vector_of (copies_at (replicas_of views) f)) (vector_of (finmap.get (objects_of view) f)) (copy_less view from f up.0 room.0) (copies_less views from f up.1 room.1)

@@ -27,25 +27,6 @@ pub walked_there : (a b : Objects) (d : Fid) (names : List Name) (f : Fid) → L
 walked_there a b d [] f w = ap Some (sym w)
 walked_there a b d (n ∷ names) f w = ap (λ o. walked a o names) w.1.0 ∙ walked_there a b w.0 names f w.1.1.1
 
-pub walked_none : (a : Objects) (names : List Name) → walked a None names ≡ None
-walked_none a names = refl
-
--- where a name leads elsewhere, or nowhere, names don't lead alike
-pub no_right : (a b : Objects) (d : Fid) (n : Name) (names : List Name) (f : Fid) → child_in a d n ≡ None → LeadsAlike a b d (n ∷ names) f → ⊥
-no_right a b d n names f e w = some_none w.0 (sym w.1.0 ∙ e)
-
-pub no_other : (a b : Objects) (d : Fid) (n : Name) (names : List Name) (f : Fid) → child_in b d n ≡ None → LeadsAlike a b d (n ∷ names) f → ⊥
-no_other a b d n names f e w = some_none w.0 (sym w.1.1.0 ∙ e)
-
-pub alike_from : (a b : Objects) (d : Fid) (n : Name) (names : List Name) (f g : Fid) → child_in a d n ≡ Some g → child_in b d n ≡ Some g → LeadsAlike a b g names f → LeadsAlike a b d (n ∷ names) f
-alike_from a b d n names f g x y w = (g, (x, (y, w)))
-
-pub alike_next : (a b : Objects) (d : Fid) (n : Name) (names : List Name) (f g h : Fid) → child_in a d n ≡ Some g → child_in b d n ≡ Some h → LeadsAlike a b d (n ∷ names) f → (g ≡ h) × LeadsAlike a b g names f
-alike_next a b d n names f g h x y w =
-    let one : w.0 ≡ g = some_same w.0 g (sym w.1.0 ∙ x) in
-    let two : w.0 ≡ h = some_same w.0 h (sym w.1.1.0 ∙ y) in
-    (sym one ∙ two, subst (λ q. LeadsAlike a b q names f) one w.1.1.1)
-
 -- ---- what is found
 
 -- in a copy that isn't there nothing is bound
@@ -79,12 +60,6 @@ found_from views from root names top right e there ways =
       ways = subst (λ o. AllByRecursion (IsWay o from root names top) views) same ways;
     }
 
-pub found_there : (views : List View) (from : ℕ) (root : Fid) (names : List Name) (top : Fid) (right : View) → view_of views from ≡ Some right → IsFound views from root names top → has_in (objects_of right) top ≡ true
-found_there views from root names top right e found = subst (λ o. has_in o top ≡ true) (ap objects_from e) found.there
-
-pub found_ways : (views : List View) (from : ℕ) (root : Fid) (names : List Name) (top : Fid) (right : View) → view_of views from ≡ Some right → IsFound views from root names top → AllByRecursion (IsWay (objects_of right) from root names top) views
-found_ways views from root names top right e found = subst (λ o. AllByRecursion (IsWay o from root names top) views) (ap objects_from e) found.ways
-
 -- ---- room
 
 all_both : {X : Type 0} (P : X → Type 0) (xs : List X) (x : X) → AllByRecursion P xs → P x → AllByRecursion P (xs ++ x ∷ [])
@@ -96,8 +71,3 @@ take_more xs i d lt = let next : i + 1 ≡ suc i = omega arith in ap (λ n. take
 
 pub all_more : {X : Type 0} (P : X → Type 0) (xs : List X) (i : ℕ) (d : X) → i < length xs → AllByRecursion P (take i xs) → P (get_or xs i d) → AllByRecursion P (take (i + 1) xs)
 all_more P xs i d lt a p = subst (AllByRecursion P) (sym (take_more xs i d lt)) (all_both P (take i xs) (get_or xs i d) a p)
-
-pub all_at : {X : Type 0} (P : X → Type 0) (xs : List X) (i : ℕ) (d : X) → i < length xs → AllByRecursion P xs → P (get_or xs i d)
-all_at P [] i d lt a = absurd (omega arith)
-all_at P (x ∷ xs) zero d lt a = a.0
-all_at P (x ∷ xs) (suc i) d lt a = all_at P xs i d (omega arith) a.1
