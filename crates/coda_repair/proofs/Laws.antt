@@ -26,7 +26,7 @@ use Rattle.coda_lineage.specs.Repairs.{LeadsAlike, repaired, is_taken, others_of
 use Rattle.coda_lineage.proofs.RepairedTrees.{RepairedAt, put, went, absent, kept, at, repaired_tree}
 use Rattle.coda_lineage.specs.Lineage.{Group, held_at, IsChangedOrNot, IsRepaired}
 use Rattle.coda_repair.specs.Repaired.{IsReplicaRepair, AreRepairs}
-use Rattle.coda_repair.specs.Laws.{HasMore, RepairedAreEqual, LosersAreMarked, RepairsKeepTreesOfOneKind, RepairsAreLineages}
+use Rattle.coda_repair.specs.Laws.{HasMore, RepairedAreEqual, LosersAreMarked, RepairsKeepTreesOfOneKind, RepairsBelongToTheLineage}
 use Rattle.coda_repair.proofs.Repairs.{in_copies}
 use Rattle.coda_repair.proofs.Sparing.{get_others}
 use Rattle.coda_repair.proofs.Vectors.{updates_has, bumped_more, bumped_here}
@@ -83,8 +83,8 @@ repaired_are_equal views source right top f was changes one eight wide repairs b
       (
         omega arith,
         let a = updates_has (copies_at views f) old (source - 1) s in
-        let b = bumped_here (updates_of (copies_at views f)) source one long in
-        omega (arith, a, b),
+            let b = bumped_here (updates_of (copies_at views f)) source one long in
+            omega (arith, a, b),
       ),
     )
 
@@ -210,8 +210,8 @@ module _ (before after : Group) (subtree : Fid â†’ Bool) (top : Fid) (source : â
       (subst (IsRepairedAt subtree top source copies right (before.holds t)) (sym e) a.0.repaired))
       z.0)
 
-pub repairs_are_lineages : RepairsAreLineages
-repairs_are_lineages root before after some source names top changes leads answers installed others made = record {
+pub repairs_belong_to_the_lineage : RepairsBelongToTheLineage
+repairs_belong_to_the_lineage root before after some source names top changes leads answers installed others made = record {
   top = top;
   leads = leads;
   subtree = answers.subtree;

@@ -41,10 +41,10 @@ pub change_is : (views : Replicas) (right : Objects) (items : HeldPairs) (source
 change_is views right items source top set below fids put spared change one eight up same reached are_put are_spared sorted held_is gone_is inview =
     part_is (has_fid set) (has_fid below) top source (copies_at views) right (objects_in items) change one eight sorted
     (λ f.
-      held_is f
-      ∙ are_spared f
-      ∙ ap (λ gs. or_else (spare_at (has_fid set) (has_fid below) top (objects_in items) gs f) (get fid_cmp put f)) (sym (keys_in_order items up))
-      ∙ ap (or_else (spare_at (has_fid set) (has_fid below) top (objects_in items) (finmap.keys (objects_in items)) f)) (are_put.put f ∙ ap (λ b. cond b (put_at source (copies_at views) right f) None) (same f)))
+    held_is f
+    ∙ are_spared f
+    ∙ ap (λ gs. or_else (spare_at (has_fid set) (has_fid below) top (objects_in items) gs f) (get fid_cmp put f)) (sym (keys_in_order items up))
+    ∙ ap (or_else (spare_at (has_fid set) (has_fid below) top (objects_in items) (finmap.keys (objects_in items)) f)) (are_put.put f ∙ ap (λ b. cond b (put_at source (copies_at views) right f) None) (same f)))
     (gone_is ∙ ap (filter (λ f. has_fid below f && not (has_fid set f))) (sym (keys_in_order items up)))
     (below_is (objects_in items) fids set below same reached)
     (λ f was s r. are_put.wide f was (same f ∙ s) r)
@@ -58,13 +58,13 @@ pub change_more : (P : Objects → Change → Type 0) (views : List View) (i : �
     → (map (λ (c : ℕ × Change). c.0) new ≡ map (λ (v : View). v.server) (take (i + 1) views)) × AllZip P (replicas_of (take (i + 1) views)) (changes_of new)
 change_more P views i view items new change lt is added sofar here = (
   ap (map (λ (c : ℕ × Change). c.0)) added
-  ∙ map-append (λ (c : ℕ × Change). c.0) items ((view.server, change) ∷ [])
-  ∙ ap (λ ss. ss ++ view.server ∷ []) sofar.0
-  ∙ sym (map-append (λ (v : View). v.server) (take i views) (view ∷ []))
-  ∙ ap (map (λ (v : View). v.server)) (sym front),
+      ∙ map-append (λ (c : ℕ × Change). c.0) items ((view.server, change) ∷ [])
+      ∙ ap (λ ss. ss ++ view.server ∷ []) sofar.0
+      ∙ sym (map-append (λ (v : View). v.server) (take i views) (view ∷ []))
+      ∙ ap (map (λ (v : View). v.server)) (sym front),
   subst (λ vs. AllZip P vs (changes_of new)) (sym (ap replicas_of front ∙ map-append objects_of (take i views) (view ∷ [])))
-  (subst (AllZip P (replicas_of (take i views) ++ objects_of view ∷ [])) (sym (ap changes_of added ∙ map-append (λ (c : ℕ × Change). c.1) items ((view.server, change) ∷ [])))
-  (zip_more P (replicas_of (take i views)) (changes_of items) (objects_of view) change sofar.1 here)),
+      (subst (AllZip P (replicas_of (take i views) ++ objects_of view ∷ [])) (sym (ap changes_of added ∙ map-append (λ (c : ℕ × Change). c.1) items ((view.server, change) ∷ [])))
+      (zip_more P (replicas_of (take i views)) (changes_of items) (objects_of view) change sofar.1 here)),
 )
   where
     front : take (i + 1) views ≡ take i views ++ view ∷ []

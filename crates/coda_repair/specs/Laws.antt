@@ -64,8 +64,8 @@ RepairsKeepTreesOfOneKind = (views later : Replicas) (root : Fid) (source : ℕ)
 
 -- Where changes that a repair answers for the replicas at some servers are installed at any of them, that is a repair of
 -- the volume's life.
-abbrev pub RepairsAreLineages : Type 0
-RepairsAreLineages = (root : Fid) (before after : Group) (some : List ℕ) (source : ℕ) (names : List Name) (top : Fid)
+abbrev pub RepairsBelongToTheLineage : Type 0
+RepairsBelongToTheLineage = (root : Fid) (before after : Group) (some : List ℕ) (source : ℕ) (names : List Name) (top : Fid)
     (changes : List Change)
     → ((s : ℕ) → IsIn s some → LeadsAlike (before.holds source) (before.holds s) root names top)
     → AreRepairs (held_at before some) source (before.holds source) top changes

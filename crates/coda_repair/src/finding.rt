@@ -125,14 +125,7 @@ fn is_way(right: &View, from: u8, root: Fid, names: &[Name], top: Fid, view: &Vi
 }
 
 // Whether it is so at each replica.
-fn are_ways(
-    right: &View,
-    from: u8,
-    root: Fid,
-    names: &[Name],
-    top: Fid,
-    views: &[View],
-) -> bool
+fn are_ways(right: &View, from: u8, root: Fid, names: &[Name], top: Fid, views: &[View]) -> bool
     requires right { is_sorted fid_cmp right.now.held ≡ true }
     requires order { AreInOrder views.now }
     ensures { IsTrue result ↔ AllByRecursion (IsWay (objects_of right.now) from root names.now top) views.now }
@@ -147,14 +140,7 @@ fn are_ways(
 }
 
 // Whether the names lead to the object, which the source has, and so they do at each replica.
-fn is_found(
-    views: &[View],
-    right: &View,
-    from: u8,
-    root: Fid,
-    names: &[Name],
-    top: Fid,
-) -> bool
+fn is_found(views: &[View], right: &View, from: u8, root: Fid, names: &[Name], top: Fid) -> bool
     requires order { AreInOrder views.now }
     requires sorted { is_sorted fid_cmp right.now.held ≡ true }
     requires source { view_of views.now from ≡ Some right.now }

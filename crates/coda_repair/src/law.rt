@@ -1,4 +1,4 @@
-ghost use Rattle.coda_repair.specs.Laws.{RepairedAreEqual, LosersAreMarked, RepairsKeepTreesOfOneKind, RepairsAreLineages};
+ghost use Rattle.coda_repair.specs.Laws.{RepairedAreEqual, LosersAreMarked, RepairsKeepTreesOfOneKind, RepairsBelongToTheLineage};
 
 /// A law of repair: behind one the object and all below it are the same node at all replicas, as the source had it,
 /// not marked, with an empty log, and with one vector that has all updates of any replica and one more of the source
@@ -19,6 +19,6 @@ pub fn repairs_keep_trees_of_one_kind()
 
 /// A law of repair: where the changes that `repair` answers are installed, at all of the replicas or at some, that is a
 /// repair in the life of the volume.
-pub fn repairs_are_lineages()
-    ensures { RepairsAreLineages }
+pub fn repairs_belong_to_the_lineage()
+    ensures { RepairsBelongToTheLineage }
 {}

@@ -12,6 +12,7 @@ mod updates;
 
 pub use finding::have_room;
 pub use law::{
-    losers_are_marked, repaired_are_equal, repairs_are_lineages, repairs_keep_trees_of_one_kind,
+    losers_are_marked, repaired_are_equal, repairs_belong_to_the_lineage,
+    repairs_keep_trees_of_one_kind,
 };
 pub use record::{Changes, RepairFault, RepairRecord, repair};

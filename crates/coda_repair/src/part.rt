@@ -111,8 +111,8 @@ fn spare(
 {
     let objects = view.held.objects();
     for place in 0..objects.len() {
-        let fid = objects[place].0;
-        spare_one(held, subtree, below, top, fid, &objects[place].1)?;
+        let object = &objects[place];
+        spare_one(held, subtree, below, top, object.0, &object.1)?;
     }
     Ok(())
 }

@@ -11,5 +11,5 @@ use Rattle.coda_repair.proofs.part.changes_of.Goals as goal
 pub loop-view-preserved : goal.loop-view-preserved
 loop-view-preserved c =
     let views = c.args.views.now in
-    change_more (IsReplicaRepair (has_fid c.args.subtree.now.set) c.args.top c.args.from (copies_at (replicas_of views)) (objects_of c.args.right.now)) views c.loop-view.view-index c.loop-view-item.result c.loop-view.changes.items c.push.new.self.items c.in_ok-change.change c.loop-view-test.true c.loop-view-item.is c.in_ok-push.ensures.items c.loop-view.invariant
-    (c.in_ok-change.ensures (subst (λ v. IsIn (objects_of v) (replicas_of views)) (sym c.loop-view-item.is) (in_replicas views c.loop-view.view-index c.loop-view-item.result c.loop-view-test.true)))
+    change_more (IsReplicaRepair (has_fid c.args.subtree.now.set) c.args.top c.args.from (copies_at (replicas_of views)) (objects_of c.args.right.now)) views c.loop-view.view-index c.view-item.result c.loop-view.changes.items c.push.new.self.items c.in_ok-change.change c.loop-view-test.true c.view-item.is c.in_ok-push.ensures.items c.loop-view.invariant
+    (c.in_ok-change.ensures (subst (λ v. IsIn (objects_of v) (replicas_of views)) (sym c.view-item.is) (in_replicas views c.loop-view.view-index c.view-item.result c.loop-view-test.true)))
