@@ -2,21 +2,19 @@
 use Rattle.std.proofs.Common.{◌≡◌, ◌<◌, ℕ, suc, ◌+◌, Bool, true, false, cond, not, List, [], ◌∷◌, ◌++◌, Option, Some, None, take, length, get_or, map, refl, sym, ap, ◌∙◌, subst, ◌||◌, ◌&&◌, ◌⊎◌, inl, inr, ⊎_elim, arith}
 use Rattle.std.specs.Option.{option_map}
 use Rattle.std.specs.FinMap as finmap
-use Rattle.std.specs.FinMap.{is_sorted}
 use Rattle.std.specs.BTreeMap.{BTreeMap, get, Updates, is_at}
 use Rattle.std.specs.Map.{lookup}
 use Rattle.std.proofs.Math.Seq.{take-suc}
 use Rattle.std.proofs.lemmas.Bool.{true≢false}
-use Rattle.std.proofs.lemmas.List.{map-append, take_all, length-map}
+use Rattle.std.proofs.lemmas.List.{map-append}
 use Rattle.coda_fid.specs.Fid.{fid_cmp, same_fid}
 use Rattle.coda_fid.specs.declared.fid.Fid.{Fid}
 use Rattle.coda_fid.proofs.Fids.{same_fid_is, same_fid_refl}
 use Rattle.coda_reslog.specs.declared.change.Held.{Held}
 use Rattle.coda_resolve.specs.Copies.{Copies}
-use Rattle.coda_resolve.specs.Merged.{updates_of}
 use Rattle.coda_resolve.specs.Resolution.{Objects}
 use Rattle.coda_resolve.specs.Changes.{is_among}
-use Rattle.coda_resolve.specs.Views.{HeldPairs, objects_in}
+use Rattle.coda_resolve.specs.Views.{HeldPairs}
 use Rattle.coda_resolve.proofs.MergedNames.{any_append}
 use Rattle.coda_lineage.specs.Repairs.{repaired}
 use Rattle.coda_repair.specs.Making.{IsWide, put_at, ArePut, loser, spare_of, spare_at, or_else}

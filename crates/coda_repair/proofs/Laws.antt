@@ -1,5 +1,5 @@
 -- What holds behind a repair.
-use Rattle.std.proofs.Common.{◌≡◌, ◌≢◌, ℕ, ◌+◌, ◌-◌, ◌<◌, ◌≤◌, Bool, true, false, not, cond, ◌&&◌, List, [], ◌∷◌, Option, Some, None, is_some, map, length, refl, sym, ap, ◌∙◌, subst, ◌⊎◌, inl, inr, ⊎_elim, ◌↔◌, arith}
+use Rattle.std.proofs.Common.{◌≡◌, ◌≢◌, ℕ, ◌-◌, ◌≤◌, Bool, true, false, not, cond, ◌&&◌, List, [], ◌∷◌, Option, Some, None, map, length, refl, sym, ap, ◌∙◌, subst, ◌⊎◌, inl, inr, ⊎_elim, arith}
 use Rattle.std.specs.FinMap as finmap
 use Rattle.std.specs.List.{AllZip, AllByRecursion, fold}
 use Rattle.std.proofs.lemmas.Bool.{true≢false, cases_eq}
@@ -10,22 +10,22 @@ use Rattle.coda_tree.specs.Tree.{IsBelow}
 use Rattle.coda_tree.specs.Volume.{bindings}
 use Rattle.coda_tree.specs.declared.node.NodeKind.{NodeKind}
 use Rattle.coda_tree.specs.declared.node.NodeKind.TheVariants.{File, Link, Dir}
-use Rattle.coda_vv.specs.Vector.{Counts, count, joined, no_updates, bumped, IsInVersion}
+use Rattle.coda_vv.specs.Vector.{Counts, joined, no_updates}
 use Rattle.coda_reslog.specs.declared.change.Held.{Held}
 use Rattle.coda_reslog.specs.declared.change.Change.{Change}
 use Rattle.coda_resolve.specs.Copies.{Copies, vector_of, bindings_of}
 use Rattle.coda_resolve.specs.Merged.{updates_of}
 use Rattle.coda_resolve.specs.Settled.{is_dir, IsEverywhere, HasKind}
-use Rattle.coda_resolve.specs.Resolution.{Objects, Replicas, copies_at, child_in, IsTreeView, AreTrees}
-use Rattle.coda_resolve.specs.Placement.{IsIn, AreTreesOfOneKind}
+use Rattle.coda_resolve.specs.Resolution.{Objects, Replicas, copies_at, child_in, IsTreeView}
+use Rattle.coda_resolve.specs.Placement.{IsIn}
 use Rattle.coda_resolve.specs.Changes.{changed, afterwards}
 use Rattle.coda_resolve.proofs.After.{all_trees, all_copies, each_copy}
 use Rattle.coda_resolve.proofs.Lists.{some_none}
 use Rattle.coda_resolve.proofs.There.{tree_of}
-use Rattle.coda_lineage.specs.Repairs.{LeadsAlike, repaired, is_taken, others_of, binds_one, spared_by, spared, IsRepairedAt}
+use Rattle.coda_lineage.specs.Repairs.{repaired, is_taken, others_of, binds_one, spared_by, spared, IsRepairedAt}
 use Rattle.coda_lineage.proofs.RepairedTrees.{RepairedAt, put, went, absent, kept, at, repaired_tree}
-use Rattle.coda_lineage.specs.Lineage.{Group, held_at, IsChangedOrNot, IsRepaired}
-use Rattle.coda_repair.specs.Repaired.{IsReplicaRepair, AreRepairs}
+use Rattle.coda_lineage.specs.Lineage.{Group, held_at, IsChangedOrNot}
+use Rattle.coda_repair.specs.Repaired.{IsReplicaRepair}
 use Rattle.coda_repair.specs.Laws.{HasMore, RepairedAreEqual, LosersAreMarked, RepairsKeepTreesOfOneKind, RepairsBelongToTheLineage}
 use Rattle.coda_repair.proofs.Repairs.{in_copies}
 use Rattle.coda_repair.proofs.Sparing.{get_others}

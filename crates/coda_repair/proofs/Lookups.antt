@@ -1,5 +1,5 @@
 -- Objects in the order of their fids: what a search finds.
-use Rattle.std.proofs.Common.{◌≡◌, ℕ, ◌-◌, zero, suc, ◌<◌, ◌≤◌, ◌+◌, Bool, true, false, cond, [], ◌∷◌, length, get_or, Some, None, Ordering, refl, sym, ap, ◌∙◌, subst, inl, inr, arith, map}
+use Rattle.std.proofs.Common.{◌≡◌, ℕ, zero, suc, ◌<◌, ◌≤◌, true, cond, [], ◌∷◌, length, get_or, Some, None, Ordering, refl, sym, ap, ◌∙◌, subst, inl, inr, arith, map}
 use Rattle.std.specs.declared.cmp.Ordering.TheVariants.{Less, Equal, Greater}
 use Rattle.std.specs.Ordering.{ordering_reverse, is_eq, is_lt}
 use Rattle.std.specs.List.{AllByRecursion}

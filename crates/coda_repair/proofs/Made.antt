@@ -1,5 +1,5 @@
 -- The change of a replica, as it is made.
-use Rattle.std.proofs.Common.{◌≡◌, ◌≤◌, ◌<◌, ℕ, ◌+◌, true, not, ◌&&◌, cond, List, [], ◌∷◌, ◌++◌, None, take, length, get_or, map, refl, sym, ap, ◌∙◌, subst}
+use Rattle.std.proofs.Common.{◌≡◌, ◌≤◌, ◌<◌, ℕ, ◌+◌, true, not, ◌&&◌, cond, List, [], ◌∷◌, ◌++◌, None, take, length, get_or, map, sym, ap, ◌∙◌, subst}
 use Rattle.std.specs.FinMap as finmap
 use Rattle.std.specs.FinMap.{is_sorted}
 use Rattle.std.specs.List.{filter, AllZip}

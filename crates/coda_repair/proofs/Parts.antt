@@ -1,5 +1,5 @@
 -- The change of a replica, from what is put, what comes in place of what loses, and what goes.
-use Rattle.std.proofs.Common.{◌≡◌, ◌≢◌, ℕ, ◌<◌, ◌≤◌, Bool, true, false, not, cond, ◌&&◌, List, [], ◌∷◌, Option, Some, None, is_some, refl, sym, ap, ◌∙◌, subst, ◌↔◌, arith}
+use Rattle.std.proofs.Common.{◌≡◌, ◌≢◌, ℕ, ◌<◌, ◌≤◌, Bool, true, false, not, cond, ◌&&◌, Option, Some, None, is_some, refl, sym, ap, ◌∙◌, subst, ◌↔◌, arith}
 use Rattle.std.specs.Option.{option_map}
 use Rattle.std.specs.FinMap as finmap
 use Rattle.std.specs.FinMap.{is_sorted}
@@ -16,7 +16,7 @@ use Rattle.coda_reslog.specs.declared.change.Change.{Change}
 use Rattle.coda_resolve.specs.Copies.{Copies}
 use Rattle.coda_resolve.specs.Resolution.{Objects, has_in, child_in}
 use Rattle.coda_resolve.specs.Placement.{IsIn}
-use Rattle.coda_resolve.specs.Changes.{is_among, changed, IsChange}
+use Rattle.coda_resolve.specs.Changes.{is_among, changed}
 use Rattle.coda_resolve.specs.Views.{objects_in}
 use Rattle.coda_resolve.proofs.Lists.{some_none}
 use Rattle.coda_lineage.specs.Repairs.{repaired, others_of, spared_by, spared, IsRepairedAt}

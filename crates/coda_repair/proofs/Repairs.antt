@@ -1,26 +1,22 @@
 -- What is below the repaired objects, and the changes of the replicas, one after the other.
-use Rattle.std.proofs.Common.{◌≡◌, ◌<◌, ◌≤◌, ◌^◌, ℕ, ◌+◌, zero, suc, Bool, true, false, List, [], ◌∷◌, ◌++◌, Option, Some, None, take, length, get_or, map, refl, sym, ap, ◌∙◌, subst, cond, ◌||◌, ◌↔◌, inl, inr, ⊎_elim, arith}
+use Rattle.std.proofs.Common.{◌≡◌, ◌<◌, ℕ, zero, suc, Bool, true, false, List, [], ◌∷◌, ◌++◌, Some, length, get_or, refl, sym, ap, ◌∙◌, subst, cond, ◌||◌, ◌↔◌, inl, inr, arith}
 use Rattle.std.specs.FinMap as finmap
-use Rattle.std.specs.FinMap.Entries.{find, is_sorted}
+use Rattle.std.specs.FinMap.Entries.{find}
 use Rattle.std.specs.List.{AllZip, AllByRecursion}
 use Rattle.std.specs.Ordering.{is_eq}
 use Rattle.std.specs.BTreeSet.{BTreeSet}
-use Rattle.std.proofs.lemmas.Bool.{true≢false}
 use Rattle.coda_fid.specs.Fid.{fid_cmp, same_fid}
 use Rattle.coda_fid.specs.declared.fid.Fid.{Fid}
 use Rattle.coda_fid.proofs.Fids.{same_fid_is, same_fid_refl}
-use Rattle.coda_tree.proofs.Booleans.{to_T}
 use Rattle.coda_tree.specs.Tree.{IsBelow, itself, under}
-use Rattle.coda_vv.specs.Vector.{count}
 use Rattle.coda_reslog.specs.declared.change.Held.{Held}
 use Rattle.coda_record.specs.declared.view.View.{View}
-use Rattle.coda_resolve.specs.Copies.{Copies}
 use Rattle.coda_resolve.specs.Resolution.{Objects, Replicas, copies_at, child_in}
 use Rattle.coda_resolve.specs.Placement.{IsIn}
 use Rattle.coda_resolve.specs.Changes.{is_among}
 use Rattle.coda_resolve.specs.Counted.{has_fid}
 use Rattle.coda_resolve.specs.Reached.{IsReached, start, onward, AreReached}
-use Rattle.coda_resolve.specs.Views.{HeldPairs, objects_in, objects_of, replicas_of}
+use Rattle.coda_resolve.specs.Views.{HeldPairs, objects_of, replicas_of}
 use Rattle.coda_resolve.proofs.Lists.{some_none}
 use Rattle.coda_repair.specs.Making.{AreSame}
 

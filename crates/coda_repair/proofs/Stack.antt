@@ -1,5 +1,5 @@
 -- Lists of fids: a stack whose top stands last, and what a directory binds.
-use Rattle.std.proofs.Common.{◌≡◌, ◌<◌, ◌≤◌, ◌+◌, ◌-◌, ℕ, zero, suc, List, [], ◌∷◌, ◌++◌, Bor, Option, Some, None, option_copied, refl, sym, ap, ◌∙◌, subst, inl, inr, arith, append_assoc, length, drop, take, get_or, reverse, map, slice_get}
+use Rattle.std.proofs.Common.{◌≡◌, ◌<◌, ◌≤◌, ◌+◌, ◌-◌, ℕ, zero, suc, List, [], ◌∷◌, ◌++◌, Bor, Option, Some, None, option_copied, refl, sym, ap, ◌∙◌, inl, inr, arith, length, drop, take, get_or, reverse, map, slice_get}
 use Rattle.std.specs.FinMap as finmap
 use Rattle.std.proofs.lemmas.List.{reverse-append, length-map, take_all}
 use Rattle.std.proofs.lemmas.Cmp.{nat_list_cmp_total}

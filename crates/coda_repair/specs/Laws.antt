@@ -1,16 +1,15 @@
 -- What holds behind a repair.
-use Rattle.std.specs.Prelude.{◌≡◌, ◌≢◌, ◌⊎◌, ℕ, ◌+◌, ◌≤◌, Bool, true, false, List, [], Option, Some, option_map, length}
+use Rattle.std.specs.Prelude.{◌≡◌, ◌≢◌, ◌⊎◌, ℕ, ◌+◌, ◌≤◌, true, false, List, [], Some, option_map, length}
 use Rattle.std.specs.FinMap as finmap
-use Rattle.std.specs.List.{AllByRecursion, AllZip}
+use Rattle.std.specs.List.{AllZip}
 use Rattle.coda_fid.specs.declared.fid.Fid.{Fid}
-use Rattle.coda_tree.specs.declared.node.Node.{Node}
 use Rattle.coda_tree.specs.Bindings.{Name}
 use Rattle.coda_tree.specs.Tree.{IsBelow}
-use Rattle.coda_vv.specs.Vector.{includes, count, IsInVersion}
+use Rattle.coda_vv.specs.Vector.{count, IsInVersion}
 use Rattle.coda_reslog.specs.declared.change.Held.{Held}
 use Rattle.coda_reslog.specs.declared.change.Change.{Change}
 use Rattle.coda_resolve.specs.Settled.{IsEverywhere}
-use Rattle.coda_resolve.specs.Resolution.{Objects, Replicas, copies_at, child_in, has_in}
+use Rattle.coda_resolve.specs.Resolution.{Objects, Replicas, copies_at, child_in}
 use Rattle.coda_resolve.specs.Placement.{IsIn, AreTreesOfOneKind}
 use Rattle.coda_resolve.specs.Changes.{changed, afterwards}
 use Rattle.coda_lineage.specs.Repairs.{LeadsAlike}

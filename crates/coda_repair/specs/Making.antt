@@ -4,14 +4,14 @@ use Rattle.std.specs.Option.{option_map}
 use Rattle.std.specs.FinMap as finmap
 use Rattle.std.specs.BTreeMap.{BTreeMap, get}
 use Rattle.std.specs.BTreeSet.{BTreeSet}
-use Rattle.coda_fid.specs.Fid.{fid_cmp, same_fid}
+use Rattle.coda_fid.specs.Fid.{fid_cmp}
 use Rattle.coda_fid.specs.declared.fid.Fid.{Fid}
 use Rattle.coda_tree.specs.declared.node.NodeKind.{NodeKind}
 use Rattle.coda_tree.specs.declared.node.NodeKind.TheVariants.{File, Link, Dir}
 use Rattle.coda_reslog.specs.declared.change.Held.{Held}
 use Rattle.coda_resolve.specs.Copies.{Copies}
 use Rattle.coda_resolve.specs.Merged.{updates_of}
-use Rattle.coda_resolve.specs.Resolution.{Objects, Replicas, copies_at}
+use Rattle.coda_resolve.specs.Resolution.{Objects}
 use Rattle.coda_resolve.specs.Changes.{is_among}
 use Rattle.coda_resolve.specs.Counted.{has_fid}
 use Rattle.coda_lineage.specs.Repairs.{repaired, binds_one, spared_by}

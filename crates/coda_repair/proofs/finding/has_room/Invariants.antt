@@ -1,4 +1,4 @@
-use Rattle.std.proofs.Common.{ℕ, ◌<◌, ◌^◌, take}
+use Rattle.std.proofs.Common.{◌<◌, ◌^◌, take}
 use Rattle.std.specs.List.{AllByRecursion}
 use Rattle.coda_fid.specs.declared.fid.Fid.{Fid}
 use Rattle.coda_vv.specs.Vector.{count}
