@@ -1,5 +1,5 @@
 -- What holds behind a repair.
-use Rattle.std.proofs.Common.{◌≡◌, ◌≢◌, ℕ, ◌-◌, ◌≤◌, Bool, true, false, not, cond, ◌&&◌, List, [], ◌∷◌, Option, Some, None, map, length, refl, sym, ap, ◌∙◌, subst, ◌⊎◌, inl, inr, ⊎_elim, arith}
+use Rattle.std.proofs.Common.{◌==◌, ◌≡◌, ◌≢◌, ℕ, ◌-◌, ◌≤◌, Bool, true, false, not, cond, ◌&&◌, List, [], ◌∷◌, Option, Some, None, map, length, refl, sym, ap, ◌∙◌, subst, ◌⊎◌, inl, inr, ⊎_elim, arith}
 use Rattle.std.specs.FinMap as finmap
 use Rattle.std.specs.List.{AllZip, AllByRecursion, fold}
 use Rattle.std.proofs.lemmas.Bool.{true≢false, cases_eq}
@@ -18,19 +18,51 @@ use Rattle.coda_resolve.specs.Merged.{updates_of}
 use Rattle.coda_resolve.specs.Settled.{is_dir, IsEverywhere, HasKind}
 use Rattle.coda_resolve.specs.Resolution.{Objects, Replicas, copies_at, child_in, IsTreeView}
 use Rattle.coda_resolve.specs.Placement.{IsIn}
+use Rattle.coda_record.specs.declared.view.View.{View}
+use Rattle.coda_resolve.specs.Views.{objects_of, replicas_of}
 use Rattle.coda_resolve.specs.Changes.{changed, afterwards}
 use Rattle.coda_resolve.proofs.After.{all_trees, all_copies, each_copy}
 use Rattle.coda_resolve.proofs.Lists.{some_none}
 use Rattle.coda_resolve.proofs.There.{tree_of}
-use Rattle.coda_lineage.specs.Repairs.{repaired, is_taken, others_of, binds_one, spared_by, spared, IsRepairedAt}
+use Rattle.coda_lineage.specs.Repairs.{LeadsAlike, repaired, is_taken, others_of, binds_one, spared_by, spared, IsRepairedAt}
 use Rattle.coda_lineage.proofs.RepairedTrees.{RepairedAt, put, went, absent, kept, at, repaired_tree}
 use Rattle.coda_lineage.specs.Lineage.{Group, held_at, IsChangedOrNot}
+use Rattle.coda_repair.specs.Finding.{view_of, objects_from, held_by, IsWay}
 use Rattle.coda_repair.specs.Repaired.{IsReplicaRepair}
-use Rattle.coda_repair.specs.Laws.{HasMore, RepairedAreEqual, LosersAreMarked, RepairsKeepTreesOfOneKind, RepairsBelongToTheLineage}
+use Rattle.coda_repair.specs.Laws.{HasMore, FoundLeadAlike, RepairedAreEqual, LosersAreMarked, RepairsKeepTreesOfOneKind, RepairsBelongToTheLineage}
 use Rattle.coda_repair.proofs.Repairs.{in_copies}
 use Rattle.coda_repair.proofs.Sparing.{get_others}
 use Rattle.coda_repair.proofs.Vectors.{updates_has, bumped_more, bumped_here}
-use Rattle.coda_repair.proofs.Ways.{some_same}
+use Rattle.coda_repair.proofs.Ways.{some_same, none_found}
+
+-- ---- the way
+
+view_in : (views : List View) (from : ℕ) (right : View) → view_of views from ≡ Some right
+    → IsIn (objects_of right) (replicas_of views)
+view_in [] from right e = absurd (some_none right (sym e))
+view_in (view ∷ views) from right e = by (view.server == from) e (view_in views from right)
+  where
+    by : (b : Bool) → cond b (Some view) (view_of views from) ≡ Some right
+        → (view_of views from ≡ Some right → IsIn (objects_of right) (replicas_of views))
+        → IsIn (objects_of right) (objects_of view ∷ replicas_of views)
+    by true is rest = inl (ap objects_of (some_same view right is))
+    by false is rest = inr (rest is)
+
+ways_lead : (right : Objects) (from : ℕ) (root : Fid) (names : List Name) (top : Fid) (views : List View)
+    → AllByRecursion (IsWay right from root names top) views → (view : Objects) → IsIn view (replicas_of views)
+    → LeadsAlike right view root names top
+ways_lead right from root names top [] a view s = absurd s
+ways_lead right from root names top (v ∷ views) a view (inl is) =
+    subst (λ x. LeadsAlike right x root names top) is a.0.leads
+ways_lead right from root names top (v ∷ views) a view (inr s) = ways_lead right from root names top views a.1 view s
+
+pub found_lead_alike : FoundLeadAlike
+found_lead_alike views from root names top found =
+    (by (view_of views from) refl, ways_lead (held_by views from) from root names top views found.ways)
+  where
+    by : (o : Option View) → view_of views from ≡ o → IsIn (held_by views from) (replicas_of views)
+    by None e = absurd (none_found views from root names top e found)
+    by (Some right) e = subst (λ x. IsIn x (replicas_of views)) (ap objects_from (sym e)) (view_in views from right e)
 
 -- ---- the same everywhere
 

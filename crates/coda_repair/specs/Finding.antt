@@ -1,9 +1,9 @@
 -- Which object is repaired: where names lead, alike at all replicas.
-use Rattle.std.specs.Prelude.{◌≡◌, ◌≢◌, ℕ, ◌<◌, ◌^◌, ◌==◌, true, false, cond, List, [], ◌∷◌, Option, Some, None}
+use Rattle.std.specs.Prelude.{◌≡◌, ◌≢◌, ℕ, ◌<◌, ◌^◌, ◌==◌, Bool, true, false, cond, List, [], ◌∷◌, Option, Some, None}
 use Rattle.std.specs.List.{AllByRecursion}
 use Rattle.std.specs.FinMap as finmap
 use Rattle.std.specs.FinMap.{is_sorted}
-use Rattle.coda_fid.specs.Fid.{fid_cmp}
+use Rattle.coda_fid.specs.Fid.{fid_cmp, root_of}
 use Rattle.coda_fid.specs.declared.fid.Fid.{Fid}
 use Rattle.coda_tree.specs.Bindings.{Name}
 use Rattle.coda_vv.specs.Vector.{count}
@@ -11,7 +11,7 @@ use Rattle.coda_reslog.specs.declared.change.Held.{Held}
 use Rattle.coda_record.specs.declared.view.View.{View}
 use Rattle.coda_resolve.specs.Copies.{is_marked}
 use Rattle.coda_resolve.specs.Resolution.{Objects, has_in, child_in}
-use Rattle.coda_resolve.specs.Views.{objects_of}
+use Rattle.coda_resolve.specs.Views.{objects_of, volume_of}
 use Rattle.coda_lineage.specs.Repairs.{LeadsAlike}
 
 -- ---- the source
@@ -67,3 +67,19 @@ pub record IsWay (right : Objects) (from : ℕ) (root : Fid) (names : List Name)
 pub record IsFound (views : List View) (from : ℕ) (root : Fid) (names : List Name) (top : Fid) : Type 0 where
   pub there : has_in (held_by views from) top ≡ true
   pub ways : AllByRecursion (IsWay (held_by views from) from root names top) views
+
+-- so they do from the volume's root
+abbrev pub LeadsTo : List View → ℕ → List Name → Fid → Type 0
+LeadsTo views from names top = IsFound views from (root_of (volume_of views)) names top
+
+-- they lead to no object so
+abbrev pub LeadsNowhere : List View → ℕ → List Name → Type 0
+LeadsNowhere views from names = (top : Fid) → LeadsTo views from names top → ⊥
+
+-- whether the source has the object marked
+abbrev pub is_marked_by : List View → ℕ → Fid → Bool
+is_marked_by views from top = is_marked (finmap.get (held_by views from) top)
+
+-- they lead to one that the source doesn't have marked
+abbrev pub LeadsToUnmarked : List View → ℕ → List Name → Type 0
+LeadsToUnmarked views from names = (top : Fid) × (LeadsTo views from names top × (is_marked_by views from top ≡ false))

@@ -8,13 +8,24 @@ use Rattle.coda_tree.specs.Tree.{IsBelow}
 use Rattle.coda_vv.specs.Vector.{count, IsInVersion}
 use Rattle.coda_reslog.specs.declared.change.Held.{Held}
 use Rattle.coda_reslog.specs.declared.change.Change.{Change}
+use Rattle.coda_record.specs.declared.view.View.{View}
 use Rattle.coda_resolve.specs.Settled.{IsEverywhere}
 use Rattle.coda_resolve.specs.Resolution.{Objects, Replicas, copies_at, child_in}
 use Rattle.coda_resolve.specs.Placement.{IsIn, AreTreesOfOneKind}
 use Rattle.coda_resolve.specs.Changes.{changed, afterwards}
+use Rattle.coda_resolve.specs.Views.{replicas_of}
 use Rattle.coda_lineage.specs.Repairs.{LeadsAlike}
 use Rattle.coda_lineage.specs.Lineage.{Group, held_at, IsChangedOrNot, IsRepaired}
+use Rattle.coda_repair.specs.Finding.{held_by, IsFound}
 use Rattle.coda_repair.specs.Repaired.{IsReplicaRepair, AreRepairs}
+
+-- Where a path leads to an object for a repair, the source is one of the replicas, and the names lead to that object at
+-- each of them through the same directories.
+abbrev pub FoundLeadAlike : Type 0
+FoundLeadAlike = (views : List View) (from : ℕ) (root : Fid) (names : List Name) (top : Fid)
+    → IsFound views from root names top
+    → IsIn (held_by views from) (replicas_of views)
+    × ((view : Objects) → IsIn view (replicas_of views) → LeadsAlike (held_by views from) view root names top)
 
 -- the source's node, not marked
 abbrev pub IsMended : Held → Held → Type 0
@@ -22,11 +33,13 @@ IsMended was held = held.node ≡ record was.node { marked = false }
 
 -- what is held has all updates that are in a copy, and one more of the server
 abbrev pub HasMore : ℕ → Held → Held → Type 0
-HasMore source held old = ((server number : ℕ) → IsInVersion old.vector.0 server number → IsInVersion held.vector.0 server number)
+HasMore source held old = ((server number : ℕ)
+    → IsInVersion old.vector.0 server number → IsInVersion held.vector.0 server number)
     × IsInVersion held.vector.0 source (count old.vector.0 source + 1)
 
--- Behind a repair the object and each one below it that the source has is the same at all replicas: the source's node, not
--- marked, with an empty log if it has one, and with all updates of what any replica held and one more of the source.
+-- Behind a repair the object and each one below it that the source has is the same at all replicas: the source's node,
+-- not marked, with an empty log if it has one, and with all updates of what any replica held and one more of the source.
+-- Each vector has a count for each of eight servers.
 abbrev pub RepairedAreEqual : Type 0
 RepairedAreEqual = (views : Replicas) (source : ℕ) (right : Objects) (top f : Fid) (was : Held) (changes : List Change)
     → 1 ≤ source → source ≤ 8
@@ -39,7 +52,8 @@ RepairedAreEqual = (views : Replicas) (source : ℕ) (right : Objects) (top f : 
     × ((held.ring ≡ option_map (λ log. []) was.ring)
     × ((view : Objects) (old : Held) → IsIn view views → finmap.get view f ≡ Some old → HasMore source held old))))
 
--- A directory that isn't repaired and stays, and that binds an object no more behind a repair, is marked.
+-- A directory that isn't repaired and stays, and that binds an object no more behind a repair, is marked, and what it
+-- lost is repaired.
 abbrev pub LosersAreMarked : Type 0
 LosersAreMarked = (views : Replicas) (source : ℕ) (right view : Objects) (top d f : Fid) (n : Name) (held : Held)
     (changes : List Change) (change : Change)
@@ -61,11 +75,11 @@ RepairsKeepTreesOfOneKind = (views later : Replicas) (root : Fid) (source : ℕ)
     → ((view : Objects) → IsIn view later → IsIn view views ⊎ IsIn view (afterwards views changes))
     → AreTreesOfOneKind later root
 
--- Where changes that a repair answers for the replicas at some servers are installed at any of them, that is a repair of
--- the volume's life.
+-- Where changes that a repair answers for the replicas at some servers are installed at any of them, that is a repair
+-- in the volume's life.
 abbrev pub RepairsBelongToTheLineage : Type 0
-RepairsBelongToTheLineage = (root : Fid) (before after : Group) (some : List ℕ) (source : ℕ) (names : List Name) (top : Fid)
-    (changes : List Change)
+RepairsBelongToTheLineage = (root : Fid) (before after : Group) (some : List ℕ) (source : ℕ) (names : List Name)
+    (top : Fid) (changes : List Change)
     → ((s : ℕ) → IsIn s some → LeadsAlike (before.holds source) (before.holds s) root names top)
     → AreRepairs (held_at before some) source (before.holds source) top changes
     → AllZip (IsChangedOrNot before after) some changes

@@ -196,8 +196,8 @@ fn has_room(from: u8, objects: &[(Fid, Held)]) -> bool
     true
 }
 
-/// Whether fewer than 2^63 updates of the server, one from 1 on, are in what each replica holds of each object: then one
-/// more has room.
+/// Whether fewer than 2^63 updates of the server, one from 1 on, are in what each replica holds of each object: then
+/// one more has room.
 pub fn have_room(from: u8, views: &[View]) -> bool
     requires { 1 ≤ from }
     ensures { IsTrue result ↔ HaveRoom from views.now }

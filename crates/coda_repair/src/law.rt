@@ -1,4 +1,11 @@
-ghost use Rattle.coda_repair.specs.Laws.{RepairedAreEqual, LosersAreMarked, RepairsKeepTreesOfOneKind, RepairsBelongToTheLineage};
+ghost use Rattle.coda_repair.specs.Laws.{FoundLeadAlike, RepairedAreEqual, LosersAreMarked};
+ghost use Rattle.coda_repair.specs.Laws.{RepairsKeepTreesOfOneKind, RepairsBelongToTheLineage};
+
+/// A law of repair: where a path leads to an object for it, the source is one of the replicas, and the names lead to
+/// that object at each of them through the same directories.
+pub fn found_lead_alike()
+    ensures { FoundLeadAlike }
+{}
 
 /// A law of repair: behind one the object and all below it are the same node at all replicas, as the source had it,
 /// not marked, with an empty log, and with one vector that has all updates of any replica and one more of the source

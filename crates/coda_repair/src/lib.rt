@@ -12,7 +12,10 @@ mod updates;
 
 pub use finding::have_room;
 pub use law::{
-    losers_are_marked, repaired_are_equal, repairs_belong_to_the_lineage,
+    found_lead_alike, losers_are_marked, repaired_are_equal, repairs_belong_to_the_lineage,
     repairs_keep_trees_of_one_kind,
 };
 pub use record::{Changes, RepairFault, RepairRecord, repair};
+
+#[cfg(test)]
+mod tests;

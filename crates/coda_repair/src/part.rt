@@ -15,8 +15,8 @@ ghost use Rattle.coda_resolve.specs.Reached.{AreReached};
 ghost use Rattle.coda_resolve.specs.Resolution.{copies_at};
 ghost use Rattle.coda_resolve.specs.Views.{objects_in, objects_of, replicas_of, AreInOrder};
 ghost use Rattle.coda_repair.specs.Finding.{HaveRoom};
-ghost use Rattle.coda_repair.specs.Making.{AreSame, ArePut, loser, spare_at, or_else};
-ghost use Rattle.coda_repair.specs.Repaired.{IsReplicaRepair, changes_of};
+ghost use Rattle.coda_repair.specs.Making.{AreSame, ArePutFrom, PutsOne, SparesOne, SparesAll, gone_of};
+ghost use Rattle.coda_repair.specs.Repaired.{changed_servers, servers_of, AreChangesOf, IsChangeOf};
 
 use crate::lookup::held_in;
 use crate::reach::{Reach, below};
@@ -44,7 +44,7 @@ fn put_one(
     requires from_one { 1 ≤ from }
     requires to_eight { from ≤ 8 }
     requires room { HaveRoom from views.now }
-    ensures { OnOk result ((fids : List Fid) → ArePut from (copies_at (replicas_of views.now)) (objects_of right.now) fids held.old → ArePut from (copies_at (replicas_of views.now)) (objects_of right.now) (fids ++ fid ∷ []) held.new) }
+    ensures { OnOk result (PutsOne from views.now right.now fid held.old held.new) }
 {
     let Some(was) = held_in(right.held.objects(), fid) else {
         return Ok(());
@@ -67,7 +67,7 @@ fn put(
     requires from_one { 1 ≤ from }
     requires to_eight { from ≤ 8 }
     requires room { HaveRoom from views.now }
-    ensures { IfOk result (λ held. ArePut from (copies_at (replicas_of views.now)) (objects_of right.now) fids.now held) }
+    ensures { IfOk result (λ held. ArePutFrom from views.now right.now fids.now held) }
 {
     let mut held = BTreeMap::new(alloc);
     for fid in fids {
@@ -87,7 +87,7 @@ fn spare_one(
     fid: Fid,
     own: &Held,
 ) -> Result<(), AllocError>
-    ensures { OnOk result ((f : Fid) → get fid_cmp held.new f ≡ or_else (cond (same_fid fid f && not (has_fid below.now fid)) (loser (has_fid subtree.now) top own.now) None) (get fid_cmp held.old f)) }
+    ensures { OnOk result (SparesOne (has_fid subtree.now) (has_fid below.now) top fid own.now held.old held.new) }
 {
     if below.contains(&fid) {
         return Ok(());
@@ -107,7 +107,7 @@ fn spare(
     top: Fid,
 ) -> Result<(), AllocError>
     requires { is_sorted fid_cmp view.now.held ≡ true }
-    ensures { OnOk result ((f : Fid) → get fid_cmp held.new f ≡ or_else (spare_at (has_fid subtree.now) (has_fid below.now) top (objects_of view.now) (map (λ (o : Fid × Held). o.0) view.now.held) f) (get fid_cmp held.old f)) }
+    ensures { OnOk result (SparesAll (has_fid subtree.now) (has_fid below.now) top view.now held.old held.new) }
 {
     let objects = view.held.objects();
     for place in 0..objects.len() {
@@ -126,7 +126,7 @@ fn gone(
     subtree: &BTreeSet<Fid>,
     below: &BTreeSet<Fid>,
 ) -> Result<Vec<Fid>, AllocError>
-    ensures { IfOk result (λ fids. fids.items ≡ filter (λ f. has_fid below.now f && not (has_fid subtree.now f)) (map (λ (o : Fid × Held). o.0) view.now.held)) }
+    ensures { IfOk result (λ fids. fids.items ≡ gone_of (has_fid subtree.now) (has_fid below.now) view.now) }
 {
     let objects = view.held.objects();
     let mut fids = Vec::new(alloc);
@@ -168,7 +168,7 @@ fn change_of(
     requires to_eight { from ≤ 8 }
     requires room { HaveRoom from views.now }
     requires same { AreSame subtree.now.set subtree.now.fids.items }
-    ensures { IfOk result (λ change. IsIn (objects_of view.now) (replicas_of views.now) → IsReplicaRepair (has_fid subtree.now.set) top from (copies_at (replicas_of views.now)) (objects_of right.now) (objects_of view.now) change) }
+    ensures { IfOk result (IsChangeOf views.now from right.now (has_fid subtree.now.set) top view.now) }
 {
     let below = below(alloc, view, &subtree.fids)?;
     let mut held = put(alloc, views, right, from, &subtree.fids)?;
@@ -196,8 +196,8 @@ pub(crate) fn changes_of(
     requires to_eight { from ≤ 8 }
     requires room { HaveRoom from views.now }
     requires same { AreSame subtree.now.set subtree.now.fids.items }
-    ensures servers { IfOk result (λ changes. map (λ (change : ℕ × Change). change.0) changes.items ≡ map (λ (view : View). view.server) views.now) }
-    ensures changes { IfOk result (λ changes. AllZip (IsReplicaRepair (has_fid subtree.now.set) top from (copies_at (replicas_of views.now)) (objects_of right.now)) (replicas_of views.now) (changes_of changes.items)) }
+    ensures servers { IfOk result (λ changes. changed_servers changes.items ≡ servers_of views.now) }
+    ensures changes { IfOk result (λ all. AreChangesOf views.now from right.now (has_fid subtree.now.set) top all.items) }
 {
     let mut changes = Vec::new(alloc);
     for view in views {

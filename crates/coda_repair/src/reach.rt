@@ -8,7 +8,7 @@ ghost use Rattle.coda_resolve.specs.Copies.{bindings_of};
 ghost use Rattle.coda_resolve.specs.Counted.{has_fid};
 ghost use Rattle.coda_resolve.specs.Reached.{IsSearch, AreReached};
 ghost use Rattle.coda_resolve.specs.Views.{objects_of};
-ghost use Rattle.coda_repair.specs.Making.{AreSame};
+ghost use Rattle.coda_repair.specs.Making.{AreSame, values_of, GoesOn};
 
 use crate::lookup::held_in;
 use coda_fid::Fid;
@@ -52,7 +52,7 @@ fn push_all(mut stack: Vec<Fid>, fids: &[Fid]) -> Result<Vec<Fid>, AllocError>
 
 // Puts what a copy binds on the stack, the first name on top.
 fn push_bound(alloc: Global, stack: Vec<Fid>, copy: Option<&Held>) -> Result<Vec<Fid>, AllocError>
-    ensures { IfOk result (λ all. reverse all.items ≡ finmap.values (bindings_of (option_copied copy.entry)) ++ reverse stack.items) }
+    ensures { IfOk result (λ all. reverse all.items ≡ values_of (option_copied copy.entry) ++ reverse stack.items) }
 {
     let Some(held) = copy else {
         return Ok(stack);
@@ -77,7 +77,7 @@ fn visit(
 ) -> Result<Vec<Fid>, AllocError>
     requires sorted { is_sorted fid_cmp view.now.held ≡ true }
     requires same { AreSame seen.old.set seen.old.fids.items }
-    ensures search { IfOk result (λ all. (starts : List Fid) → IsSearch (objects_of view.now) starts seen.old.set (fid ∷ reverse stack.items) → IsSearch (objects_of view.now) starts seen.new.set (reverse all.items)) }
+    ensures search { IfOk result (λ all. GoesOn view.now seen.old.set (fid ∷ reverse stack.items) seen.new.set (reverse all.items)) }
     ensures same { IfOk result (λ all. AreSame seen.new.set seen.new.fids.items) }
 {
     if !seen.set.insert(fid)? {

@@ -7,8 +7,8 @@ ghost use Rattle.coda_reslog.specs.declared.change.Change.{Change};
 ghost use Rattle.coda_record.specs.declared.view.View.{View};
 ghost use Rattle.coda_resolve.specs.Copies.{is_marked};
 ghost use Rattle.coda_resolve.specs.Views.{objects_of, replicas_of, volume_of, AreInOrder};
-ghost use Rattle.coda_repair.specs.Finding.{held_by, HaveRoom, IsFound};
-ghost use Rattle.coda_repair.specs.Repaired.{AreRepairs, changes_of};
+ghost use Rattle.coda_repair.specs.Finding.{held_by, is_marked_by, HaveRoom, LeadsTo, LeadsNowhere, LeadsToUnmarked};
+ghost use Rattle.coda_repair.specs.Repaired.{changed_servers, servers_of, AreRepairsOf};
 
 use crate::finding::{found, is_marked, view_of};
 use crate::part::changes_of;
@@ -115,8 +115,8 @@ fn repairs(
     requires from_one { 1 ≤ from }
     requires to_eight { from ≤ 8 }
     requires room { HaveRoom from views.now }
-    ensures servers { IfOk result (λ changes. map (λ (change : ℕ × Change). change.0) changes ≡ map (λ (view : View). view.server) views.now) }
-    ensures changes { IfOk result (λ changes. AreRepairs (replicas_of views.now) from (objects_of right.now) top (changes_of changes)) }
+    ensures servers { IfOk result (λ changes. changed_servers changes ≡ servers_of views.now) }
+    ensures changes { IfOk result (λ changes. AreRepairsOf views.now from (objects_of right.now) top changes) }
 {
     let subtree = below(alloc, right, &[top])?;
     let items = changes_of(alloc, views, right, from, &subtree, top)?;
@@ -128,7 +128,7 @@ fn target<'a>(views: &'a [View], from: u8, path: &Path) -> Option<(&'a View, Fid
     requires { AreInOrder views.now }
     ensures sorted { IfSome result (λ p. is_sorted fid_cmp p.0.now.held ≡ true) }
     ensures source { IfSome result (λ p. held_by views.now from ≡ objects_of p.0.now) }
-    ensures found { (top : Fid) → (option_map (λ p. p.1) result ≡ Some top) ↔ IsFound views.now from (root_of (volume_of views.now)) path.now top }
+    ensures found { (top : Fid) → (option_map (λ p. p.1) result ≡ Some top) ↔ LeadsTo views.now from path.now top }
 {
     let Some(right) = view_of(views, from) else {
         return None;
@@ -145,9 +145,9 @@ fn target<'a>(views: &'a [View], from: u8, path: &Path) -> Option<(&'a View, Fid
 ///
 /// The views are of one volume, in the order of servers, each with its objects in the order of fids, and the server is
 /// one from 1 to 8, that of a view, of which fewer than 2^63 updates are in what a replica holds of any object. At each
-/// replica the object and all below it are put as the server has them, not marked, with all updates that any replica has
-/// and one more of the server, and with empty logs. What a replica has besides below one of these objects goes; and a
-/// directory that binds one of them elsewhere binds it no more, and is marked. Each change names nothing else.
+/// replica the object and all below it are put as the server has them, not marked, with all updates that any replica
+/// has and one more of the server, and with empty logs. What a replica has besides below one of these objects goes; and
+/// a directory that binds one of them elsewhere binds it no more, and is marked. Each change names nothing else.
 ///
 /// # Errors
 ///
@@ -165,13 +165,13 @@ pub fn repair(
     requires from_one { 1 ≤ from }
     requires to_eight { from ≤ 8 }
     requires room { HaveRoom from views.now }
-    ensures found { IfOk result (λ r. IsFound views.now from (root_of (volume_of views.now)) path.now r.fid) }
-    ensures marked { IfOk result (λ r. is_marked (finmap.get (held_by views.now from) r.fid) ≡ true) }
+    ensures found { IfOk result (λ r. LeadsTo views.now from path.now r.fid) }
+    ensures marked { IfOk result (λ r. is_marked_by views.now from r.fid ≡ true) }
     ensures from { IfOk result (λ r. r.from ≡ from) }
-    ensures servers { IfOk result (λ r. map (λ (change : ℕ × Change). change.0) r.changes ≡ map (λ (view : View). view.server) views.now) }
-    ensures changes { IfOk result (λ r. AreRepairs (replicas_of views.now) from (held_by views.now from) r.fid (changes_of r.changes)) }
-    ensures not_found { (result ≡ Err RepairFault.NotFound) ↔ ((top : Fid) → IsFound views.now from (root_of (volume_of views.now)) path.now top → ⊥) }
-    ensures not_marked { (result ≡ Err RepairFault.NotMarked) ↔ ((top : Fid) × (IsFound views.now from (root_of (volume_of views.now)) path.now top × (is_marked (finmap.get (held_by views.now from) top) ≡ false))) }
+    ensures servers { IfOk result (λ r. changed_servers r.changes ≡ servers_of views.now) }
+    ensures changes { IfOk result (λ r. AreRepairsOf views.now from (held_by views.now from) r.fid r.changes) }
+    ensures not_found { (result ≡ Err RepairFault.NotFound) ↔ LeadsNowhere views.now from path.now }
+    ensures not_marked { (result ≡ Err RepairFault.NotMarked) ↔ LeadsToUnmarked views.now from path.now }
 {
     let Some((right, top)) = target(views, from, path) else {
         return Err(RepairFault::NotFound);

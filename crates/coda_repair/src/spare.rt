@@ -6,7 +6,7 @@ ghost use Rattle.coda_fid.specs.Fid.{fid_cmp, same_fid};
 ghost use Rattle.coda_tree.specs.declared.node.NodeKind.TheVariants.{Dir};
 ghost use Rattle.coda_resolve.specs.Counted.{has_fid};
 ghost use Rattle.coda_lineage.specs.Repairs.{is_taken, others_of, binds_one};
-ghost use Rattle.coda_repair.specs.Making.{loser};
+ghost use Rattle.coda_repair.specs.Making.{loser, left_out, with_bindings};
 
 use coda_fid::{Fid, Name};
 use coda_reslog::{Held, Ring};
@@ -38,7 +38,7 @@ fn binds_one(subtree: &BTreeSet<Fid>, top: Fid, entries: &Entries) -> bool
 
 // Unbinds the name, if what it is bound to is taken.
 fn leave_out(others: &mut Entries, subtree: &BTreeSet<Fid>, top: Fid, name: &Name, fid: Fid)
-    ensures { others.new ≡ cond (is_taken (has_fid subtree.now) top (Some fid)) (finmap.remove others.old name.now) others.old }
+    ensures { others.new ≡ left_out (has_fid subtree.now) top name.now fid others.old }
 {
     if is_taken(subtree, top, fid) {
         others.remove(name);
@@ -74,7 +74,7 @@ fn copy_ring(ring: &Option<Ring>) -> Result<Option<Ring>, AllocError>
 
 // The directory with these bindings, marked.
 fn with_entries(held: &Held, entries: Entries) -> Result<Held, AllocError>
-    ensures { IfOk result (λ copy. copy ≡ record held.now { node = record held.now.node { kind = Dir entries; marked = true } }) }
+    ensures { IfOk result (λ copy. copy ≡ with_bindings held.now entries) }
 {
     let ring = copy_ring(&held.ring)?;
     Ok(Held {
