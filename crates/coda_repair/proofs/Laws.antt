@@ -1,12 +1,13 @@
 -- What holds behind a repair.
-use Rattle.std.proofs.Common.{◌==◌, ◌≡◌, ◌≢◌, ℕ, ◌-◌, ◌≤◌, Bool, true, false, not, cond, ◌&&◌, List, [], ◌∷◌, Option, Some, None, map, length, refl, sym, ap, ◌∙◌, subst, ◌⊎◌, inl, inr, ⊎_elim, arith}
+use Rattle.std.proofs.Common.{◌==◌, ◌≡◌, ◌≢◌, ◌↔◌, ℕ, ◌-◌, ◌≤◌, Bool, true, false, not, cond, ◌&&◌, List, [], ◌∷◌, Option, Some, None, map, length, refl, sym, ap, ◌∙◌, subst, ◌⊎◌, inl, inr, ⊎_elim, arith}
 use Rattle.std.specs.FinMap as finmap
-use Rattle.std.specs.List.{AllZip, AllByRecursion, fold}
+use Rattle.std.specs.List.{AllZip, AllByRecursion, fold, zip}
 use Rattle.std.proofs.lemmas.Bool.{true≢false, cases_eq}
 use Rattle.coda_fid.specs.Fid.{same_fid}
 use Rattle.coda_fid.specs.declared.fid.Fid.{Fid}
 use Rattle.coda_tree.specs.Bindings.{Name}
-use Rattle.coda_tree.specs.Tree.{IsBelow}
+use Rattle.coda_tree.proofs.Trees.{below_below}
+use Rattle.coda_tree.specs.Tree.{IsBelow, itself, under}
 use Rattle.coda_tree.specs.Volume.{bindings}
 use Rattle.coda_tree.specs.declared.node.NodeKind.{NodeKind}
 use Rattle.coda_tree.specs.declared.node.NodeKind.TheVariants.{File, Link, Dir}
@@ -23,13 +24,15 @@ use Rattle.coda_resolve.specs.Views.{objects_of, replicas_of}
 use Rattle.coda_resolve.specs.Changes.{changed, afterwards}
 use Rattle.coda_resolve.proofs.After.{all_trees, all_copies, each_copy}
 use Rattle.coda_resolve.proofs.Lists.{some_none}
+use Rattle.coda_resolve.proofs.Logged.{any_in}
+use Rattle.coda_fid.proofs.Fids.{same_fid_refl}
 use Rattle.coda_resolve.proofs.There.{tree_of}
 use Rattle.coda_lineage.specs.Repairs.{LeadsAlike, repaired, is_taken, others_of, binds_one, spared_by, spared, IsRepairedAt}
 use Rattle.coda_lineage.proofs.RepairedTrees.{RepairedAt, put, went, absent, kept, at, repaired_tree}
 use Rattle.coda_lineage.specs.Lineage.{Group, held_at, IsChangedOrNot}
 use Rattle.coda_repair.specs.Finding.{view_of, objects_from, held_by, IsWay}
 use Rattle.coda_repair.specs.Repaired.{IsReplicaRepair}
-use Rattle.coda_repair.specs.Laws.{HasMore, FoundLeadAlike, RepairedAreEqual, LosersAreMarked, RepairsKeepTreesOfOneKind, RepairsBelongToTheLineage}
+use Rattle.coda_repair.specs.Laws.{HasMore, FoundLeadAlike, SourceKeepsTheRest, RepairedAreEqual, LosersAreMarked, RepairsKeepTreesOfOneKind, RepairsBelongToTheLineage}
 use Rattle.coda_repair.proofs.Repairs.{in_copies}
 use Rattle.coda_repair.proofs.Sparing.{get_others}
 use Rattle.coda_repair.proofs.Vectors.{updates_has, bumped_more, bumped_here}
@@ -120,6 +123,14 @@ repaired_are_equal views source right top f was changes one eight wide repairs b
       ),
     )
 
+-- ---- one of the changes
+
+zip_at : {A B : Type 0} (P : A → B → Type 0) (xs : List A) (ys : List B) (x : A) (y : B) → AllZip P xs ys → IsIn (x, y) (zip xs ys) → P x y
+zip_at P [] ys x y a s = absurd s
+zip_at P (z ∷ xs) [] x y a s = absurd a
+zip_at P (z ∷ xs) (w ∷ ys) x y a (inl is) = subst (λ p. P p.0 p.1) is a.0
+zip_at P (z ∷ xs) (w ∷ ys) x y a (inr s) = zip_at P xs ys x y a.1 s
+
 -- ---- what loses is marked
 
 module _ (subtree : Fid → Bool) (top : Fid) where
@@ -144,8 +155,11 @@ module _ (subtree : Fid → Bool) (top : Fid) where
       by false other = absurd (other had)
 
 pub losers_are_marked : LosersAreMarked
-losers_are_marked views source right view top d f n held changes change repairs part out had has no_more = by_below (part.repaired.below d) refl
+losers_are_marked views source right view top d f n held changes change repairs place out had has no_more = by_below (part.repaired.below d) refl
   where
+    part : IsReplicaRepair repairs.subtree top source (copies_at views) right view change
+    part = zip_at (IsReplicaRepair repairs.subtree top source (copies_at views) right) views changes view change repairs.each place
+
     subtree : Fid → Bool
     subtree = repairs.subtree
 
@@ -163,6 +177,53 @@ losers_are_marked views source right view top d f n held changes change repairs 
     by_below : (b : Bool) → part.repaired.below d ≡ b → (held.node.marked ≡ true) × IsBelow (child_in right) top f
     by_below true b = absurd (some_none held (sym has ∙ part.repaired.goes d (outside (subtree d) refl) b))
     by_below false b = by_view (finmap.get view d) refl (part.repaired.stays d b)
+
+-- ---- the source
+
+module _ (root : Fid) (right : Objects) (top : Fid) (subtree : Fid → Bool) (tree : IsTreeView root right) (below : (f : Fid) → (subtree f ≡ true) ↔ IsBelow (child_in right) top f) where
+  -- what binds one of the repaired objects, but for their top, is repaired
+  binder : (f g : Fid) (n : Name) → child_in right f n ≡ Some g → is_taken subtree top (Some g) ≡ true → IsBelow (child_in right) top f
+  binder f g n bound taken = by (parts (subtree g) (same_fid g top) taken)
+    where
+      parts : (a b : Bool) → (a && not b) ≡ true → (a ≡ true) × (b ≡ false)
+      parts true true e = absurd (true≢false (sym e))
+      parts true false e = (refl, refl)
+      parts false b e = absurd (true≢false (sym e))
+
+      up_from : (h : Fid) → h ≡ g → same_fid g top ≡ false → IsBelow (child_in right) top h → IsBelow (child_in right) top f
+      up_from h same other (itself x is) = absurd (true≢false (sym (subst (λ y. same_fid g y ≡ true) (sym same ∙ is) (same_fid_refl g)) ∙ other))
+      up_from h same other (under d m x b up) = subst (IsBelow (child_in right) top) (tree.once d m f n g (b ∙ ap Some same) bound).0 up
+
+      by : (subtree g ≡ true) × (same_fid g top ≡ false) → IsBelow (child_in right) top f
+      by p = up_from g refl p.1 ((below g).0 p.0)
+
+  keeps : (f : Fid) (held : Held) (k : NodeKind) → finmap.get right f ≡ Some held → held.node.kind ≡ k → (IsBelow (child_in right) top f → ⊥) → spared_by subtree top held k ≡ held
+  keeps f held (File content) at is out = refl
+  keeps f held (Link target) at is out = refl
+  keeps f held (Dir entries) at is out = by (binds_one subtree top entries) refl
+    where
+      found : (n : Name) (o : Option Fid) → finmap.get entries n ≡ o → is_taken subtree top o ≡ true → ⊥
+      found n None e t = true≢false (sym t)
+      found n (Some g) e t = out (binder f g n (ap (λ c. finmap.get (bindings_of c) n) at ∙ ap (λ x. finmap.get (bindings x) n) is ∙ e) t)
+
+      by : (b : Bool) → binds_one subtree top entries ≡ b → cond b (record held { node = record held.node { kind = Dir (others_of subtree top entries); marked = true } }) held ≡ held
+      by true e = let k = any_in (λ n. is_taken subtree top (finmap.get entries n)) (finmap.keys entries) e in absurd (found k.0 (finmap.get entries k.0) refl k.1.1)
+      by false e = refl
+
+pub source_keeps_the_rest : SourceKeepsTheRest
+source_keeps_the_rest views root source right top f changes change tree repairs place out =
+    part.repaired.stays f (by_below (part.repaired.below f) refl) ∙ same (finmap.get right f) refl
+  where
+    part : IsReplicaRepair repairs.subtree top source (copies_at views) right right change
+    part = zip_at (IsReplicaRepair repairs.subtree top source (copies_at views) right) views changes right change repairs.each place
+
+    by_below : (b : Bool) → part.repaired.below f ≡ b → part.repaired.below f ≡ false
+    by_below true e = let k = (part.repaired.is_below f).0 e in absurd (out (below_below f ((repairs.below k.0).0 k.1.0) k.1.1))
+    by_below false e = e
+
+    same : (o : Option Held) → finmap.get right f ≡ o → spared repairs.subtree top o ≡ o
+    same None e = refl
+    same (Some held) e = ap Some (keeps root right top repairs.subtree tree repairs.below f held held.node.kind e refl out)
 
 -- ---- trees of one kind
 

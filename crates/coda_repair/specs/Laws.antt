@@ -1,7 +1,7 @@
 -- What holds behind a repair.
 use Rattle.std.specs.Prelude.{◌≡◌, ◌≢◌, ◌⊎◌, ℕ, ◌+◌, ◌≤◌, true, false, List, [], Some, option_map, length}
 use Rattle.std.specs.FinMap as finmap
-use Rattle.std.specs.List.{AllZip}
+use Rattle.std.specs.List.{AllZip, zip}
 use Rattle.coda_fid.specs.declared.fid.Fid.{Fid}
 use Rattle.coda_tree.specs.Bindings.{Name}
 use Rattle.coda_tree.specs.Tree.{IsBelow}
@@ -10,14 +10,14 @@ use Rattle.coda_reslog.specs.declared.change.Held.{Held}
 use Rattle.coda_reslog.specs.declared.change.Change.{Change}
 use Rattle.coda_record.specs.declared.view.View.{View}
 use Rattle.coda_resolve.specs.Settled.{IsEverywhere}
-use Rattle.coda_resolve.specs.Resolution.{Objects, Replicas, copies_at, child_in}
+use Rattle.coda_resolve.specs.Resolution.{Objects, Replicas, copies_at, child_in, IsTreeView}
 use Rattle.coda_resolve.specs.Placement.{IsIn, AreTreesOfOneKind}
 use Rattle.coda_resolve.specs.Changes.{changed, afterwards}
 use Rattle.coda_resolve.specs.Views.{replicas_of}
 use Rattle.coda_lineage.specs.Repairs.{LeadsAlike}
 use Rattle.coda_lineage.specs.Lineage.{Group, held_at, IsChangedOrNot, IsRepaired}
 use Rattle.coda_repair.specs.Finding.{held_by, IsFound}
-use Rattle.coda_repair.specs.Repaired.{IsReplicaRepair, AreRepairs}
+use Rattle.coda_repair.specs.Repaired.{AreRepairs}
 
 -- Where a path leads to an object for a repair, the source is one of the replicas, and the names lead to that object at
 -- each of them through the same directories.
@@ -57,12 +57,19 @@ RepairedAreEqual = (views : Replicas) (source : ℕ) (right : Objects) (top f : 
 abbrev pub LosersAreMarked : Type 0
 LosersAreMarked = (views : Replicas) (source : ℕ) (right view : Objects) (top d f : Fid) (n : Name) (held : Held)
     (changes : List Change) (change : Change)
-    → (repairs : AreRepairs views source right top changes)
-    → IsReplicaRepair repairs.subtree top source (copies_at views) right view change
+    → AreRepairs views source right top changes → IsIn (view, change) (zip views changes)
     → (IsBelow (child_in right) top d → ⊥)
     → child_in view d n ≡ Some f → finmap.get (changed view change) d ≡ Some held
     → child_in (changed view change) d n ≢ Some f
     → (held.node.marked ≡ true) × (IsBelow (child_in right) top f)
+
+-- The source, which is a tree, keeps all but the object and what is below it as it was.
+abbrev pub SourceKeepsTheRest : Type 0
+SourceKeepsTheRest = (views : Replicas) (root : Fid) (source : ℕ) (right : Objects) (top f : Fid)
+    (changes : List Change) (change : Change)
+    → IsTreeView root right → AreRepairs views source right top changes → IsIn (right, change) (zip views changes)
+    → (IsBelow (child_in right) top f → ⊥)
+    → finmap.get (changed right change) f ≡ finmap.get right f
 
 -- Replicas that are trees of one kind stay so, whichever of them a repair is installed at.
 abbrev pub RepairsKeepTreesOfOneKind : Type 0

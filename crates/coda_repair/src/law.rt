@@ -1,4 +1,4 @@
-ghost use Rattle.coda_repair.specs.Laws.{FoundLeadAlike, RepairedAreEqual, LosersAreMarked};
+ghost use Rattle.coda_repair.specs.Laws.{FoundLeadAlike, RepairedAreEqual, LosersAreMarked, SourceKeepsTheRest};
 ghost use Rattle.coda_repair.specs.Laws.{RepairsKeepTreesOfOneKind, RepairsBelongToTheLineage};
 
 /// A law of repair: where a path leads to an object for it, the source is one of the replicas, and the names lead to
@@ -17,6 +17,11 @@ pub fn repaired_are_equal()
 /// A law of repair: a directory that loses an object at a replica is marked there (Kumar and Satyanarayanan 1993).
 pub fn losers_are_marked()
     ensures { LosersAreMarked }
+{}
+
+/// A law of repair: the source keeps all but the object and what is below it as it was.
+pub fn source_keeps_the_rest()
+    ensures { SourceKeepsTheRest }
 {}
 
 /// A law of repair: replicas that are trees of one kind stay so, whichever of them install their changes.

@@ -13,7 +13,7 @@ mod updates;
 pub use finding::have_room;
 pub use law::{
     found_lead_alike, losers_are_marked, repaired_are_equal, repairs_belong_to_the_lineage,
-    repairs_keep_trees_of_one_kind,
+    repairs_keep_trees_of_one_kind, source_keeps_the_rest,
 };
 pub use record::{Changes, RepairFault, RepairRecord, repair};
 
