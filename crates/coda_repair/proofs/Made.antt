@@ -17,7 +17,8 @@ use Rattle.coda_resolve.specs.Reached.{AreReached}
 use Rattle.coda_resolve.specs.Resolution.{Objects, Replicas, copies_at}
 use Rattle.coda_resolve.specs.Views.{HeldPairs, objects_in, objects_of, replicas_of}
 use Rattle.coda_repair.specs.Making.{AreSame, ArePut, put_at, spare_at, or_else}
-use Rattle.coda_repair.specs.Repaired.{IsReplicaRepair, changes_of}
+use Rattle.coda_resolve.specs.Renewals.{changes_of}
+use Rattle.coda_repair.specs.Repaired.{IsReplicaRepair}
 use Rattle.coda_repair.proofs.Lookups.{keys_in_order}
 use Rattle.coda_repair.proofs.Parts.{part_is}
 use Rattle.coda_repair.proofs.Repairs.{below_is, in_copies, zip_more}

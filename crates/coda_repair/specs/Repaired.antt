@@ -8,6 +8,7 @@ use Rattle.coda_record.specs.declared.view.View.{View}
 use Rattle.coda_resolve.specs.Copies.{Copies}
 use Rattle.coda_resolve.specs.Resolution.{Objects, Replicas, copies_at, child_in}
 use Rattle.coda_resolve.specs.Placement.{IsIn}
+use Rattle.coda_resolve.specs.Renewals.{changes_of}
 use Rattle.coda_resolve.specs.Views.{objects_of, replicas_of}
 use Rattle.coda_resolve.specs.Changes.{changed, IsChange}
 use Rattle.coda_lineage.specs.Repairs.{IsRepairedAt}
@@ -26,11 +27,7 @@ pub record AreRepairs (views : Replicas) (source : ℕ) (right : Objects) (top :
   pub below : (f : Fid) → (subtree f ≡ true) ↔ IsBelow (child_in right) top f
   pub each : AllZip (IsReplicaRepair subtree top source (copies_at views) right) views changes
 
--- the changes
-abbrev pub changes_of : List (ℕ × Change) → List Change
-changes_of changes = map (λ change. change.1) changes
-
--- their servers
+-- the servers of changes
 abbrev pub changed_servers : List (ℕ × Change) → List ℕ
 changed_servers changes = map (λ change. change.0) changes
 

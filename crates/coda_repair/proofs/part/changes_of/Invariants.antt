@@ -5,7 +5,8 @@ use Rattle.coda_record.specs.declared.view.View.{View}
 use Rattle.coda_resolve.specs.Counted.{has_fid}
 use Rattle.coda_resolve.specs.Resolution.{copies_at}
 use Rattle.coda_resolve.specs.Views.{objects_of, replicas_of}
-use Rattle.coda_repair.specs.Repaired.{IsReplicaRepair, changes_of}
+use Rattle.coda_resolve.specs.Renewals.{changes_of}
+use Rattle.coda_repair.specs.Repaired.{IsReplicaRepair}
 use Rattle.coda_repair.proofs.part.changes_of.Given as goal
 
 abbrev pub invariant-loop-view : goal.invariant-loop-view
