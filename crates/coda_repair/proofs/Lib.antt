@@ -1,0 +1,12 @@
+mod Lookups
+mod Changed
+mod Stack
+mod Reaching
+mod Vectors
+mod Ways
+mod Filling
+mod Sparing
+mod Parts
+mod Made
+mod Repairs
+mod Laws

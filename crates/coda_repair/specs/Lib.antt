@@ -1,0 +1,4 @@
+pub mod Finding
+pub mod Repaired
+pub mod Laws
+pub mod Making
