@@ -33,3 +33,4 @@ pub mod Because
 pub mod Adding
 pub mod Turning
 pub mod Untouched
+pub mod Sought

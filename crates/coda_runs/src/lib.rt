@@ -7,7 +7,7 @@ pub use laws::{
     acknowledged_entries_stay, certified_chunks_are_applied, chunks_are_decided_once,
     chunks_overwrite_nobody, chunks_stand_with_clients, clean_scripts_run, clients_come_back,
     conflicts_name_a_sent_record, every_refusal_has_its_cause, frozen_chunks_go_again,
-    letters_have_ends, letters_say_what_is_so, lines_act_on_made_volumes, logs_are_pending,
+    letters_have_ends, letters_say_what_is_so, lines_act_on_made_volumes, logs_are_pending, missed_objects_are_out_of_reach,
     one_status, operations_are_kept, operations_are_performed, own_disks_are_not_foreign,
     recoveries_find_their_own, refusals_have_causes, refused_lines_change_little,
     replicas_come_back, replies_name_letters, runs_go_on, scripts_act_on_made_volumes,
