@@ -34,3 +34,4 @@ pub mod Adding
 pub mod Turning
 pub mod Untouched
 pub mod Sought
+pub mod Misses

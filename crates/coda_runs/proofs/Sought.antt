@@ -92,7 +92,7 @@ module _ (offers : Option Nodes) where
       by (Some node) (Some new) e f = absurd (none-some node (sym none ∙ (look_more h fid).keeps fid node e))
       by None (Some new) e f =
           let fetched : held_after_fetches h (fetch_of (map.get h.nodes fid) (offered offers fid) (parent_of h.nodes fid) fid) ≡ held_after_fetches h (fetch_of None (Some new) (parent_of h.nodes fid) fid) =
-              λ i. held_after_fetches h (fetch_of (e i) (f i) (parent_of h.nodes fid) fid) in
+          λ i. held_after_fetches h (fetch_of (e i) (f i) (parent_of h.nodes fid) fid) in
           absurd (none-some new (sym none ∙ ap (λ (x : Held). map.get x.nodes fid) fetched ∙ get_here fids_total h.nodes fid new))
 
   -- look-ups along names
@@ -105,17 +105,18 @@ module _ (offers : Option Nodes) where
   looks_along h at (name ∷ names) =
       let h1 = looked offers h at in
       subst (λ (x : Held). LooksAlong h at (name ∷ names) x.nodes) (sym (held_after_both h (look offers h at) (look_on (step_from (map.get h1.nodes at) at name) (λ next. look_along offers h1 next names))))
-      (by (step_from (map.get h1.nodes at) at name) refl)
+      (by (step_from (map.get h1.nodes at) at name) refl (λ next. looks_along (looked offers h at) next names))
     where
       by : (r : Result Fid Refused) → step_from (map.get (looked offers h at).nodes at) at name ≡ r
+          → ((next : Fid) → LooksAlong (looked offers h at) next names (held_after_fetches (looked offers h at) (look_along offers (looked offers h at) next names)).nodes)
           → LooksAlong h at (name ∷ names) (held_after_fetches (looked offers h at) (look_on r (λ next. look_along offers (looked offers h at) next names))).nodes
-      by (Err why) e = record {
+      by (Err why) e on = record {
         more = look_more h at;
         sought = (look_sought h at, λ next is. (let no : Err why ≡ Ok next = sym e ∙ is in cc));
       }
-      by (Ok next) e =
+      by (Ok next) e on =
           let h1 = looked offers h at in
-          let rest = looks_along h1 next names in
+          let rest = on next in
           let n = (held_after_fetches h1 (look_along offers h1 next names)).nodes in
           let sought_at = still_sought h1.nodes n rest.more at [] (look_sought h at) in
           record {
