@@ -1,9 +1,7 @@
 -- A client misses only what it can't fetch, as it reads and lists.
 use Rattle.std.proofs.Common.{◌≡◌, ℕ, Bool, true, false, cond, List, [], ◌∷◌, Option, Some, None, Result, Ok, Err, refl, sym, ap, subst, ◌∙◌, inl, inr, ◌⊎◌}
 use Rattle.std.specs.FinMap as map
-use Rattle.std.specs.Option.{option_and_then, option_map_or}
-use Rattle.std.proofs.lemmas.Option.{none-some}
-use Rattle.std.proofs.lemmas.Bool.{false≢true}
+use Rattle.std.specs.Option.{option_and_then}
 use Rattle.coda_fid.specs.Fid.{root_of}
 use Rattle.coda_fid.specs.declared.fid.Fid.{Fid}
 use Rattle.coda_tree.specs.declared.node.Node.{Node}
@@ -26,7 +24,7 @@ use Rattle.coda_cell.specs.Refusing.{refusal}
 use Rattle.coda_cell.specs.State.{ReplicaState, CellState, Event}
 use Rattle.coda_cell.specs.Steps.{Named, Unless, first_missing, on_volume, reached, offers_of, reply_to, ByClient, Does}
 use Rattle.coda_shelves.specs.Cells.{Cell, state_of}
-use Rattle.coda_shelves.specs.Lines.{is_cut, links_to, replica_down, refused_down, refused_full, refused_fault}
+use Rattle.coda_shelves.specs.Lines.{is_cut, links_to, refused_down, refused_full, refused_fault}
 use Rattle.coda_runs.specs.Performed.{CanReach}
 use Rattle.coda_runs.specs.Misses.{MissesAreUnreachable}
 use Rattle.coda_runs.proofs.Meeting.{met, IsMet, Ends, WasDown, DidAll, LackedRoom, HadFault, line_ends}
