@@ -33,3 +33,5 @@ pub mod Because
 pub mod Adding
 pub mod Turning
 pub mod Untouched
+pub mod Sought
+pub mod Misses

@@ -51,7 +51,7 @@ IsFetch fetches fid node = (fetch : Fetch) × In fetch fetches × (fetch.fid ≡
 some_node : (x y : Node) → Some x ≡ Some y → x ≡ y
 some_node x y e = cc
 
-held_or_fetched : (h : Held) (fetches : List Fetch) (fid : Fid) (node : Node) → map.get (held_after_fetches h fetches).nodes fid ≡ Some node → (map.get h.nodes fid ≡ Some node) ⊎ IsFetch fetches fid node
+pub held_or_fetched : (h : Held) (fetches : List Fetch) (fid : Fid) (node : Node) → map.get (held_after_fetches h fetches).nodes fid ≡ Some node → (map.get h.nodes fid ≡ Some node) ⊎ IsFetch fetches fid node
 held_or_fetched h [] fid node is = inl is
 held_or_fetched h (fetch ∷ fetches) fid node is = elim (held_or_fetched (held_after_fetch h fetch.fid fetch.parent fetch.node) fetches fid node is) [
   | inl was ↦ elim (fid_cases fid fetch.fid) [

@@ -17,3 +17,4 @@ pub mod Overwriting
 pub mod Going
 pub mod Because
 pub mod Untouched
+pub mod Misses

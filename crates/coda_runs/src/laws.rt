@@ -6,6 +6,7 @@ ghost use Rattle.coda_runs.specs.Complete.{CleanScriptsEnd, ScriptsHaveOneStatus
 ghost use Rattle.coda_runs.specs.Headline.{WhatRanIsKept, ScriptsRun, ChunksAreDecidedOnce, CertifiedChunksAreApplied, ConflictsNameASentRecord, OperationsAreKept, VolumesInOneRowAreDoneOnce, SettlementsAreDecided, LogsArePending, AcknowledgedEntriesStay, ClientsComeBack, ReplicasComeBack};
 ghost use Rattle.coda_runs.specs.Going.{FrozenChunksGoAgain, VerdictsAreTold};
 ghost use Rattle.coda_runs.specs.Lettered.{RepliesNameLetters, LettersSayWhatIsSo, LettersHaveEnds};
+ghost use Rattle.coda_runs.specs.Misses.{MissesAreUnreachable};
 ghost use Rattle.coda_runs.specs.Overwriting.{ChunksOverwriteNobody};
 ghost use Rattle.coda_runs.specs.Performed.{OperationsArePerformed};
 ghost use Rattle.coda_runs.specs.Resumed.{WhatRanCanBeResumed};
@@ -280,4 +281,10 @@ pub fn frozen_chunks_go_again()
 /// of the volume decided it so.
 pub fn verdicts_are_told()
     ensures { VerdictsAreTold }
+{}
+
+/// A client misses only what it can't fetch, as it reads and lists: in whatever cell, where a read or a listing is
+/// refused since an object is missed, its client can't reach the volume's server, or that doesn't have the object.
+pub fn missed_objects_are_out_of_reach()
+    ensures { MissesAreUnreachable }
 {}
