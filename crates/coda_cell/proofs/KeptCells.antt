@@ -68,6 +68,7 @@ nothing_holding cell client blocks history none = subst (λ h. IsHolding cell (c
   bound = λ f p is. (let no : None ≡ Some p = sym (finite.get-empty fid_cmp f) ∙ is in cc);
   within = λ dir fid name is. (let no : None ≡ Some fid = ap (λ o. child_of o name) (sym (finite.get-empty fid_cmp dir)) ∙ is in cc);
   made = λ fid is. absurd (false≢true (sym (ap is_some (finite.get-empty fid_cmp fid)) ∙ is));
+  named = λ dir fid name is. (let no : None ≡ Some fid = ap (λ o. child_of o name) (sym (finite.get-empty fid_cmp dir)) ∙ is in cc);
   kept = λ volume dir kid is. absurd (false≢true is);
 })
 

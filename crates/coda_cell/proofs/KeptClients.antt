@@ -31,19 +31,25 @@ use Rattle.coda_cell.specs.Kept.{AreChildrenKept, IsHolding}
 use Rattle.coda_cell.specs.Made.{MadeCell, client_of, grown, grown_all, moves_of}
 use Rattle.coda_cell.specs.Runs.{AreUp, AreMade, IsKept, IsLeft}
 use Rattle.coda_cell.proofs.Accepted.{Relies, accepted_relies}
-use Rattle.coda_cell.proofs.AfterOperations.{bound_operation, has_operation}
+use Rattle.coda_cell.proofs.AfterOperations.{bound_before, bound_operation, has_operation}
 use Rattle.coda_cell.proofs.Fetches.{client_after_both, client_after_fetches}
 use Rattle.coda_cell.proofs.Histories.{IsOfCourse, client_push, volume_of, volumes_are, number_stays, shown}
 use Rattle.coda_cell.proofs.KeptCells.{lawful, pending_is}
 use Rattle.coda_cell.proofs.NamedObjects.{accepted_names, accepted_creates}
-use Rattle.coda_cell.proofs.Within.{within_operation}
+use Rattle.coda_cell.proofs.Within.{bound_is_named, within_operation}
 use Rattle.coda_cell.proofs.KeptChildren.{unbinds_mentions, kept_children_operation, kept_children_beside, removes_empty}
 use Rattle.coda_cell.proofs.LettersOn.{letters_on}
 use Rattle.coda_cell.proofs.Moving.{HasMore, has_more, shown_more, done_here, done_elsewhere, done_same, made_stays, up_all}
 
 -- what it holds stays in order while histories go on
 pub holding_on : (moves : List Move) (old new : PlainCell) (c : ClientState) → Moved old moves new → IsHolding old c → IsHolding new c
-holding_on moves old new c moved h = record { bound = h.bound; within = h.within; made = λ fid is. made_stays moves old new moved fid.vnode fid.volume fid (h.made fid is); kept = h.kept }
+holding_on moves old new c moved h = record {
+  bound = h.bound;
+  within = h.within;
+  made = λ fid is. made_stays moves old new moved fid.vnode fid.volume fid (h.made fid is);
+  named = λ dir fid name is. made_stays moves old new moved fid.vnode fid.volume fid (h.named dir fid name is);
+  kept = h.kept;
+}
 
 -- a replica that is up has the node
 pub record IsReplicated (cell : PlainCell) (fetch : Fetch) : Type 0 where
@@ -249,6 +255,10 @@ module _ (cell : MadeCell) (number blocks : ℕ) (kept : IsKept cell) (there : c
     bound = bound_operation sight volume client.number next_operation relies holds.bound;
     within = within_operation client.held.nodes volume client.number next_operation holds.within (λ fid mentions. (names fid mentions).0);
     made = λ fid is. elim (has_operation client.held.nodes client.number next_operation fid is) [ inl old ↦ made_before fid (holds.made fid old) | inr new ↦ made_now fid new ];
+    named = λ dir kid name is. elim (bound_before client.held.nodes client.number next_operation dir name kid is) [
+      | inl was ↦ made_before kid (holds.named dir kid name was)
+      | inr anew ↦ elim (names kid (bound_is_named op dir name kid anew).1).1 [ inl held ↦ made_before kid (holds.made kid held) | inr new ↦ made_now kid new.0 ]
+    ];
     kept = operation_kept;
   }
 

@@ -3,7 +3,8 @@ use Rattle.std.proofs.Common.{◌≡◌, ◌≢◌, ℕ, ◌+◌, ◌==◌, ◌&
 use Rattle.std.proofs.lemmas.Bool.{eqb-true, eq-eqb, false≢true, cases_Bool, and_parts}
 use Rattle.coda_fid.specs.declared.op.Record.{Record}
 use Rattle.coda_fid.specs.declared.fid.Fid.{Fid}
-use Rattle.coda_tree.specs.Volume.{has}
+use Rattle.coda_tree.specs.Bindings.{Name}
+use Rattle.coda_tree.specs.Volume.{has, child}
 use Rattle.coda_plain.specs.Deeds.{Deed, pending_of, span_of, IsMade, MayDo}
 use Rattle.coda_plain.specs.Decisions.{ReplicaEntry, Decided, last_of}
 use Rattle.coda_plain.specs.Cell.{ClientEntry, Did, Actor}
@@ -101,6 +102,7 @@ module _ (cell : MadeCell) (number blocks : ℕ) (kept : IsKept cell) (there : c
         bound = subst AreBound (sym held_left) before.bound;
         within = subst (λ (h : Held). AreWithin h.nodes) (sym held_left) before.within;
         made = subst (λ (h : Held). (fid : Fid) → has h.nodes fid ≡ true → IsMade fid.volume (done_on next.acted fid.vnode fid.volume) fid) (sym held_left) before.made;
+        named = subst (λ (h : Held). (dir fid : Fid) (name : Name) → child h.nodes dir name ≡ Some fid → IsMade fid.volume (done_on next.acted fid.vnode fid.volume) fid) (sym held_left) before.named;
         kept = λ w. subst (λ (h : Held). AreChildrenKept h.nodes (pending (left.volumes w))) (sym held_left) (subst (AreChildrenKept client.held.nodes) (sym (pending_left w)) (children_left w));
       }
 

@@ -8,7 +8,7 @@ use Rattle.coda_fid.specs.declared.fid.Fid.{Fid}
 use Rattle.coda_fid.specs.declared.op.Op.{Op}
 use Rattle.coda_fid.specs.declared.op.Record.{Record}
 use Rattle.coda_tree.specs.Bindings.{Name}
-use Rattle.coda_tree.specs.Volume.{Nodes, has}
+use Rattle.coda_tree.specs.Volume.{Nodes, has, child}
 use Rattle.coda_script.specs.declared.line.Strength.{Strength}
 use Rattle.coda_script.specs.declared.line.Strength.TheVariants.{Strong, Weak, Down}
 use Rattle.coda_script.specs.declared.line.Task.{Task}
@@ -49,7 +49,7 @@ use Rattle.coda_cell.proofs.KeptClients.{IsReplicated, the_client, fetches_left,
 use Rattle.coda_cell.proofs.KeptLetters.{IsWaiting, waits, lost_left, sends_left, chunk_comes_left, answer_comes_left}
 use Rattle.coda_cell.proofs.Moving.{has_more, AreLeft, are_left_one, are_left_both, kept_behind, front_left, all_left}
 use Rattle.coda_cell.proofs.Offered.{offered_look, held_look}
-use Rattle.coda_cell.proofs.Within.{within_look}
+use Rattle.coda_cell.proofs.Within.{within_look, binds_look}
 
 reached_is : (strength : Strength) (r : ReplicaState) (nodes : Nodes) → reached strength r ≡ Some nodes → r.tree.nodes ≡ nodes
 reached_is Strong r nodes e = cc
@@ -88,11 +88,18 @@ module _ (cell : MadeCell) (kept : IsKept cell) where
       let made = (kept.sound.agree none_joins).held r.server volume fid (subst (λ m. has m fid ≡ true) (sym r.are) is) in
       subst (λ v. IsMade v (done_on cell.acted fid.vnode v) fid) (sym made.0) made
 
+  offered_named : (number volume : ℕ) (nodes : Nodes) (dir kid : Fid) (name : Name) → offers_of (state_of cell) number volume ≡ Some nodes → child nodes dir name ≡ Some kid → IsMade kid.volume (done_on cell.acted kid.vnode kid.volume) kid
+  offered_named number volume nodes dir kid name e bound =
+      let r = offered_are cell number volume nodes e in
+      let tree = (volumes volume (cell.acted.replicas r.server volume).history ((kept.sound.agree none_joins).ruled r.server volume)).0.tree in
+      offered_made number volume nodes kid e (subst (λ m. has m kid ≡ true) r.are (tree.there dir name kid (subst (λ m. child m dir name ≡ Some kid) (sym r.are) bound)))
+
 -- what fetches keep that a look-up comes to
 record AreKeeping (offers : Option Nodes) (h : Held) (fetches : List Fetch) : Type 0 where
   pub bound : AreBound h → AreBound (held_after_fetches h fetches)
   pub within : ((nodes : Nodes) → offers ≡ Some nodes → AreWithin nodes) → AreWithin h.nodes → AreWithin (held_after_fetches h fetches).nodes
   pub had : (f : Fid) → has (held_after_fetches h fetches).nodes f ≡ true → (has h.nodes f ≡ true) ⊎ ((nodes : Nodes) × (offers ≡ Some nodes) × (has nodes f ≡ true))
+  pub binds : (dir kid : Fid) (name : Name) → child (held_after_fetches h fetches).nodes dir name ≡ Some kid → (child h.nodes dir name ≡ Some kid) ⊎ ((nodes : Nodes) × (offers ≡ Some nodes) × (child nodes dir name ≡ Some kid))
   pub children : (run : List Record) → AreChildrenKept h.nodes run → AreChildrenKept (held_after_fetches h fetches).nodes run
   pub offered : (fetch : Fetch) → In fetch fetches → (nodes : Nodes) × (offers ≡ Some nodes) × (finite.get nodes fetch.fid ≡ Some fetch.node)
 
@@ -101,6 +108,7 @@ keeping offers h fid = record {
   bound = bound_look offers h fid;
   within = λ o w. within_look offers o h fid w;
   had = λ f. held_look offers h f h fid (λ is. inl is);
+  binds = λ dir kid name. binds_look offers h fid dir kid name;
   children = λ run. kept_children_look offers run h fid;
   offered = offered_look offers h fid;
 }
@@ -122,6 +130,7 @@ module _ (cell : MadeCell) (number blocks : ℕ) (kept : IsKept cell) (there : c
     bound = are.bound holds.bound;
     within = are.within (offered_within cell kept number volume) holds.within;
     made = λ fid has_it. elim (are.had fid has_it) [ inl old ↦ holds.made fid old | inr new ↦ offered_made cell kept number volume new.0 fid new.1 new.2 ];
+    named = λ dir kid name is. elim (are.binds dir kid name is) [ inl old ↦ holds.named dir kid name old | inr new ↦ offered_named cell kept number volume new.0 dir kid name new.1 new.2 ];
     kept = λ w. are.children (pending (looker.volumes w)) (holds.kept w);
   })
     where

@@ -1,5 +1,5 @@
--- Directories bind objects of their own volume alone, after operations and after fetches.
-use Rattle.std.proofs.Common.{◌≡◌, ℕ, true, false, ◌||◌, Option, Some, None, refl, sym, ap, ◌∙◌, inl, inr}
+-- What directories bind after operations and after fetches: objects of their own volume alone.
+use Rattle.std.proofs.Common.{◌≡◌, ℕ, true, false, ◌||◌, Option, Some, None, refl, sym, ap, ◌∙◌, inl, inr, ◌⊎◌}
 use Rattle.std.specs.List.{list_any}
 use Rattle.std.specs.FinMap as map
 use Rattle.std.proofs.lemmas.Bool.{or_left, or_right}
@@ -67,3 +67,20 @@ within_look offers from h fid within = by (map.get h.nodes fid) (offered offers 
     by None (Some node) e = (
         let at = offered_is offers fid node e in
         within_fetch h.nodes fid node within (λ name kid is. from at.0 at.1 fid kid name (ap (λ o. child_of o name) at.2 ∙ is)))
+
+-- what a directory binds after a look-up it bound before, or what is offered binds it
+pub binds_look : (offers : Option Nodes) (h : Held) (fid dir kid : Fid) (name : Name) → child (looked offers h fid).nodes dir name ≡ Some kid
+    → (child h.nodes dir name ≡ Some kid) ⊎ ((nodes : Nodes) × (offers ≡ Some nodes) × (child nodes dir name ≡ Some kid))
+binds_look offers h fid dir kid name = by (map.get h.nodes fid) (offered offers fid) refl
+  where
+    by : (o offer : Option Node) → offered offers fid ≡ offer → child (held_after_fetches h (fetch_of o offer (parent_of h.nodes fid) fid)).nodes dir name ≡ Some kid
+        → (child h.nodes dir name ≡ Some kid) ⊎ ((nodes : Nodes) × (offers ≡ Some nodes) × (child nodes dir name ≡ Some kid))
+    by (Some node) offer e is = inl is
+    by None None e is = inl is
+    by None (Some node) e is = (
+        let at = offered_is offers fid node e in
+        elim (fid_cases dir fid) [
+          | inl here ↦ inr (at.0, at.1, ap (λ d. child at.0 d name) here ∙ ap (λ o. child_of o name) at.2
+              ∙ sym (ap (λ d. child (map.insert h.nodes fid node) d name) here ∙ ap (λ o. child_of o name) (get_here fids_total h.nodes fid node)) ∙ is)
+          | inr off ↦ inl (sym (ap (λ o. child_of o name) (get_else fids_total exact_fids h.nodes fid node dir off)) ∙ is)
+        ])

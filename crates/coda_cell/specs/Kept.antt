@@ -20,9 +20,11 @@ abbrev pub AreChildrenKept : Nodes → List Record → Type 0
 AreChildrenKept m run = (dir kid : Fid) → any_record (makes_in dir kid) run ≡ true → any_record (unbinds kid) run ≡ true ⊎ ((name : Name) × (child m dir name ≡ Some kid))
 
 -- What a client holds is in order: each object with a parent is bound there, a directory binds objects of its own volume alone, no
--- object is held that its client didn't create, and what is pending created nothing that isn't where it put it or taken from there.
+-- object is held, nor named by a directory that is, which its client didn't create, and what is pending created nothing that isn't where
+-- it put it or taken from there.
 pub record IsHolding (cell : PlainCell) (c : ClientState) : Type 0 where
   pub bound : AreBound c.held
   pub within : AreWithin c.held.nodes
   pub made : (fid : Fid) → has c.held.nodes fid ≡ true → IsMade fid.volume (done_on cell fid.vnode fid.volume) fid
+  pub named : (dir fid : Fid) (name : Name) → child c.held.nodes dir name ≡ Some fid → IsMade fid.volume (done_on cell fid.vnode fid.volume) fid
   pub kept : (volume : ℕ) → AreChildrenKept c.held.nodes (pending (c.volumes volume))

@@ -418,3 +418,14 @@ module _ (s : Sight) (volume : ℕ) (from to : List Name) (why : Refused) where
     | inl isnt ↦ NoOld (spot_cause places volume from e why is isnt)
     | inr a ↦ rename_to_cause a.0.0 e.1 a.0.1 (ending to) (spot_leads places volume from e a.0 is (spot_is places volume e a.0 a.1)) refl a.2
   ]
+
+  -- the first path of a rename that is refused leads nowhere, or it leads to an object
+  pub first_of_rename : (o : Ending) → ending from ≡ o → accept_rename s volume o (ending to) ≡ Err why → OnTheWay places top from why ⊎ ((fid : Fid) × Leads places top from fid)
+  first_of_rename None is h = elim (failed_then (held (map.get places top) top) (λ _. rename_root s volume (ending to)) why h) [
+    | inl isnt ↦ inl (subst (λ names. OnTheWay places top names why) (sym (no_names from is)) (held_cause places top [] why isnt))
+    | inr a ↦ inr (a.0, subst (λ names. Leads places top names a.0) (sym (no_names from is)) (leads places top [] a.0 a.1))
+  ]
+  first_of_rename (Some e) is h = elim (failed_then (spot places volume e) (λ at. rename_to s volume at.0 e.1 at.1 (ending to)) why h) [
+    | inl isnt ↦ inl (spot_cause places volume from e why is isnt)
+    | inr a ↦ inr (a.0.1, spot_leads places volume from e a.0 is (spot_is places volume e a.0 a.1))
+  ]

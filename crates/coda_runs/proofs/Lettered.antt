@@ -253,6 +253,7 @@ module _ (s : CellState) (numbered : AreNumbered 0 s.posted s.waiting) where
             let least = found.least in
             (none_stay s first even, omega (arith, same, least))
             );
+        stays = λ none. absurd (none message (found_at 0 s.posted s.waiting numbered client server volume number span message is).1);
       }
   went first client server volume number span None even is = record {
     span = span;
@@ -261,6 +262,7 @@ module _ (s : CellState) (numbered : AreNumbered 0 s.posted s.waiting) where
         let found = finds 0 s.posted s.waiting numbered client server volume number span before w in
         absurd (no_some (number_of (ChunkSent client server volume number span) s.waiting) found.message is found.is)
         );
+    stays = λ none. posted_stay s first (ChunkSent client server volume number span) even;
   }
 
   sends_tell : (client volume server : ℕ) (o : Result Freezing Refused) → SendTells client volume server (reply_to (sends_of s client volume server o).said) s.waiting (behind_of (sends_of s client volume server o).events)

@@ -34,4 +34,5 @@ pub mod Adding
 pub mod Turning
 pub mod Untouched
 pub mod Sought
+pub mod Missing
 pub mod Misses

@@ -1,7 +1,7 @@
--- A client misses only what it can't fetch, as it reads and lists.
-use Rattle.std.proofs.Common.{◌≡◌, ℕ, Bool, true, false, cond, List, [], ◌∷◌, Option, Some, None, Result, Ok, Err, refl, sym, ap, subst, ◌∙◌, inl, inr, ◌⊎◌}
+-- A client misses only what it can't fetch.
+use Rattle.std.proofs.Common.{◌≡◌, ℕ, Bool, true, false, cond, List, [], ◌∷◌, Option, Some, None, Result, Ok, Err, refl, sym, ap, subst, ◌∙◌, inl, inr}
 use Rattle.std.specs.FinMap as map
-use Rattle.std.specs.Option.{option_and_then}
+use Rattle.std.specs.Option.{option_and_then, unwrap_or}
 use Rattle.coda_fid.specs.Fid.{root_of}
 use Rattle.coda_fid.specs.declared.fid.Fid.{Fid}
 use Rattle.coda_tree.specs.declared.node.Node.{Node}
@@ -15,73 +15,28 @@ use Rattle.coda_script.specs.declared.line.Strength.TheVariants.{Strong, Weak, D
 use Rattle.coda_script.specs.declared.line.Task.{Task}
 use Rattle.coda_script.specs.declared.line.Task.TheVariants as task
 use Rattle.coda_script.specs.declared.reply.Reply.{Reply}
-use Rattle.coda_cell.specs.Asking.{Said, shown_as, shown_at, show_object, read_in, list_in}
+use Rattle.coda_script.specs.declared.reply.Reply.TheVariants.{Done}
+use Rattle.coda_cell.specs.Accepting.{sight_of}
+use Rattle.coda_cell.specs.Ask.{Asked, Create, Mkdir, Symlink, Store, Setattr, Remove, Rmdir, Rename}
+use Rattle.coda_cell.specs.Asking.{Said, look_ups, behind_fetches, operate, shown_as, shown_at, show_object, read_in, list_in}
 use Rattle.coda_cell.specs.Held.{Fetch, held_after_fetches}
-use Rattle.coda_cell.specs.Looking.{then_find, held, found, step_in, step_from, resolve, offered, look_along, is_fetched}
+use Rattle.coda_cell.specs.Looking.{resolve, offered, look_along, is_fetched}
 use Rattle.coda_cell.specs.Refused.{Refused}
 use Rattle.coda_cell.specs.Refused as refused
 use Rattle.coda_cell.specs.Refusing.{refusal}
-use Rattle.coda_cell.specs.State.{ReplicaState, CellState, Event}
-use Rattle.coda_cell.specs.Steps.{Named, Unless, first_missing, on_volume, reached, offers_of, reply_to, ByClient, Does}
+use Rattle.coda_cell.specs.State.{ClientVolume, ReplicaState, CellState, Event}
+use Rattle.coda_cell.specs.Steps.{Named, Unless, first_missing, on_volume, reached, offers_of, reply_to, ByClient, bytes_of, Does}
 use Rattle.coda_shelves.specs.Cells.{Cell, state_of}
 use Rattle.coda_shelves.specs.Lines.{is_cut, links_to, refused_down, refused_full, refused_fault}
 use Rattle.coda_runs.specs.Performed.{CanReach}
+use Rattle.coda_runs.specs.Causes.{named_by, IsFull, LogIsFull, JournalIsFull}
 use Rattle.coda_runs.specs.Misses.{MissesAreUnreachable}
+use Rattle.coda_runs.proofs.Causes.{way_cause, unheld_at}
 use Rattle.coda_runs.proofs.Meeting.{met, IsMet, Ends, WasDown, DidAll, LackedRoom, HadFault, line_ends}
-use Rattle.coda_runs.proofs.Sought.{IsSought, AreSought, looks_along}
-
-module _ (offers : Option Nodes) where
-  -- an object that is missed can't be fetched
-  abbrev pub MissesSo : {A : Type 0} → Result A Refused → Type 0
-  MissesSo {A} r = (fid : Fid) → r ≡ Err (refused.Miss fid) → offered offers fid ≡ None
-
-  then_so : {A B : Type 0} (r : Result A Refused) (next : A → Result B Refused) → MissesSo r → ((x : A) → r ≡ Ok x → MissesSo (next x)) → MissesSo (then_find r next)
-  then_so {A} {B} (Err why) next first rest fid is = first fid (let same : why ≡ refused.Miss fid = cc in ap (λ w. (let r : Result A Refused = Err w in r)) same)
-  then_so {A} {B} (Ok x) next first rest fid is = rest x refl fid is
-
-  ok_so : {A : Type 0} (x : A) → MissesSo (let r : Result A Refused = Ok x in r)
-  ok_so x fid is = cc
-
-  held_so : (m : Nodes) (fid : Fid) → IsSought offers m fid → MissesSo (held (map.get m fid) fid)
-  held_so m at sought fid is = by (map.get m at) refl is
-    where
-      by : (o : Option Node) → map.get m at ≡ o → held o at ≡ Err (refused.Miss fid) → offered offers fid ≡ None
-      by None e h = let same : at ≡ fid = cc in ap (offered offers) (sym same) ∙ sought e
-      by (Some node) e h = cc
-
-  step_so : (m : Nodes) (at : Fid) (name : Name) → IsSought offers m at → MissesSo (step_from (map.get m at) at name)
-  step_so m at name sought fid is = by (map.get m at) refl is
-    where
-      bound : (o : Option Fid) → found o ≡ Err (refused.Miss fid) → offered offers fid ≡ None
-      bound None h = cc
-      bound (Some next) h = cc
-
-      in_kind : (kind : NodeKind) → step_in kind name ≡ Err (refused.Miss fid) → offered offers fid ≡ None
-      in_kind (File content) h = cc
-      in_kind (Link target) h = cc
-      in_kind (Dir entries) h = bound (map.get entries name) h
-
-      by : (o : Option Node) → map.get m at ≡ o → step_from o at name ≡ Err (refused.Miss fid) → offered offers fid ≡ None
-      by None e h = let same : at ≡ fid = cc in ap (offered offers) (sym same) ∙ sought e
-      by (Some node) e h = in_kind node.kind h
-
-  pub resolve_so : (m : Nodes) (at : Fid) (names : List Name) → AreSought offers m at names → MissesSo (resolve m at names)
-  resolve_so m at [] sought = held_so m at sought
-  resolve_so m at (name ∷ names) sought =
-      then_so (step_from (map.get m at) at name) (λ next. resolve m next names) (step_so m at name sought.0) (λ next is. resolve_so m next names (sought.1 next is))
-
-  -- what names lead to is there
-  held_there : (o : Option Node) (at fid : Fid) → held o at ≡ Ok fid → (node : Node) × (at ≡ fid) × (o ≡ Some node)
-  held_there None at fid is = cc
-  held_there (Some node) at fid is = (node, (let same : at ≡ fid = cc in same), refl)
-
-  there : (m : Nodes) (at : Fid) (names : List Name) (fid : Fid) → resolve m at names ≡ Ok fid → (node : Node) × (map.get m fid ≡ Some node)
-  there m at [] fid is = let h = held_there (map.get m at) at fid is in (h.0, ap (map.get m) (sym h.1) ∙ h.2)
-  there m at (name ∷ names) fid is = by (step_from (map.get m at) at name) (λ next. there m next names fid) is
-    where
-      by : (r : Result Fid Refused) → ((next : Fid) → resolve m next names ≡ Ok fid → (node : Node) × (map.get m fid ≡ Some node)) → then_find r (λ next. resolve m next names) ≡ Ok fid → (node : Node) × (map.get m fid ≡ Some node)
-      by (Err why) on h = cc
-      by (Ok next) on h = on next h
+use Rattle.coda_runs.proofs.Missing.{way_so, asked_so, looks_for}
+use Rattle.coda_runs.proofs.Performed.{leads}
+use Rattle.coda_runs.proofs.Refused.{IsDone, IsRefused, IsTooBig, outcome, at_named}
+use Rattle.coda_runs.proofs.Sought.{AreSought, looks_along}
 
 -- ---- what is answered
 
@@ -140,14 +95,40 @@ module _ (s : CellState) (events : List Event) (fid : Fid) where
       let h = did.client.held in
       let fetches = look_along offers h (root_of volume) path in
       let m = (held_after_fetches h fetches).nodes in
-      by m fetches (resolve m (root_of volume) path) refl (resolve_so offers m (root_of volume) path (looks_along offers h (root_of volume) path).sought) did.answered
+      by m fetches (looks_along offers h (root_of volume) path).sought (resolve m (root_of volume) path) refl did.answered
     where
-      by_node : (m : Nodes) (fetched : Bool) (at : Fid) → (node : Node) × (map.get m at ≡ Some node) → refusal (refused.Miss fid) ≡ reply_to (shown_as show fetched (map.get m at) at) → offered (offers_of s client volume) fid ≡ None
-      by_node m fetched at node is = absurd (all fid fetched node.0.kind (is ∙ ap (λ o. reply_to (shown_as show fetched o at)) node.1))
+      by_node : (m : Nodes) (fetched : Bool) (at : Fid) → AreSought (offers_of s client volume) m (root_of volume) path → resolve m (root_of volume) path ≡ Ok at → (o : Option Node) → map.get m at ≡ o → refusal (refused.Miss fid) ≡ reply_to (shown_as show fetched o at)
+          → offered (offers_of s client volume) fid ≡ None
+      by_node m fetched at sought is None none answered =
+          way_so (offers_of s client volume) m (root_of volume) path fid (refused.Miss at) sought (unheld_at m (root_of volume) path at (refused.Miss at) (leads m (root_of volume) path at is) refl none) (is_miss_of fid (refused.Miss at) answered)
+      by_node m fetched at sought is (Some node) there answered = absurd (all fid fetched node.kind answered)
 
-      by : (m : Nodes) (fetches : List Fetch) (r : Result Fid Refused) → resolve m (root_of volume) path ≡ r → MissesSo (offers_of s client volume) (resolve m (root_of volume) path) → refusal (refused.Miss fid) ≡ reply_to (shown_at show fetches m r) → offered (offers_of s client volume) fid ≡ None
-      by m fetches (Err why) e so is = so fid (e ∙ ap (λ (w : Refused). Err w) (is_miss_of fid why is))
-      by m fetches (Ok at) e so is = by_node m (is_fetched fetches at) at (there (offers_of s client volume) m (root_of volume) path at e) is
+      by : (m : Nodes) (fetches : List Fetch) → AreSought (offers_of s client volume) m (root_of volume) path → (r : Result Fid Refused) → resolve m (root_of volume) path ≡ r → refusal (refused.Miss fid) ≡ reply_to (shown_at show fetches m r) → offered (offers_of s client volume) fid ≡ None
+      by m fetches sought (Err why) e is = way_so (offers_of s client volume) m (root_of volume) path fid why sought (way_cause m (root_of volume) path why e) (is_miss_of fid why is)
+      by m fetches sought (Ok at) e is = by_node m (is_fetched fetches at) at sought e (map.get m at) refl is
+
+  not_full : (v : ClientVolume) (why : Refused) → why ≡ refused.Miss fid → IsFull v why → ⊥
+  not_full v why miss (LogIsFull is full) = (let no : refused.LogFull ≡ refused.Miss fid = sym is ∙ miss in cc)
+  not_full v why miss (JournalIsFull is full) = (let no : refused.JournalFull ≡ refused.Miss fid = sym is ∙ miss in cc)
+
+  operated : (client volume : ℕ) (ask : Asked) (o : Option Refused) → first_missing (on_volume s client volume) ≡ o
+      → Unless o (ByClient s client volume (λ offers c. operate offers c s.clock volume ask)) (refusal (refused.Miss fid)) events → offered (offers_of s client volume) fid ≡ None
+  operated client volume ask (Some why) missing isnt = absurd (none_missing (on_volume s client volume) fid why missing (is_miss_of fid why isnt.0))
+  operated client volume ask None missing did =
+      let offers = offers_of s client volume in
+      let c = did.client in
+      let sight = sight_of (behind_fetches c (look_ups offers c.held volume ask)) volume in
+      elim (outcome offers c s.clock volume ask) [
+        | IsDone number object said ↦ (let no : refusal (refused.Miss fid) ≡ Done number object = did.answered ∙ ap reply_to said in cc)
+        | IsRefused why said entries cause ↦ (
+          let miss = is_miss_of fid why (did.answered ∙ ap reply_to said) in
+          elim cause [
+            | inl isnt ↦ asked_so offers sight volume fid why miss ask (looks_for offers c.held volume ask) isnt
+            | inr full ↦ absurd (not_full (c.volumes volume) why miss full)
+          ]
+        )
+        | IsTooBig length said entries big ↦ (let no : refused.TooBig length ≡ refused.Miss fid = is_miss_of fid (refused.TooBig length) (did.answered ∙ ap reply_to said) in cc)
+      ]
 
 served_by : (strengths : ℕ → Strength) (o : Option ReplicaState) (r : ReplicaState) → o ≡ Some r → is_cut (strengths r.server) ≡ false → option_and_then (λ (q : ReplicaState). reached (strengths q.server) q) o ≡ Some r.tree.nodes
 served_by strengths o r is up = ap (λ (x : Option ReplicaState). option_and_then (λ (q : ReplicaState). reached (strengths q.server) q) x) is ∙ by (strengths r.server) up
@@ -167,21 +148,40 @@ module _ (cell : Cell) (client volume : ℕ) (fid : Fid) (r : ReplicaState) (the
       let up : is_cut (links client r.server) ≡ false = ap (λ (l : ℕ → ℕ → Strength). is_cut (l client r.server)) (sym is) ∙ up_there cell client volume r.server can in
       sym (ap (λ (x : Option Nodes). offered x fid) (served_by (links client) ((state_of cell).replicas volume) r there_is up)) ∙ none
 
-  ended : (t : Task) (path : List Name) (reply : Reply) (new : Cell) → reply ≡ refusal (refused.Miss fid) → (t ≡ task.Read client volume path) ⊎ (t ≡ task.List client volume path) → Ends cell (line.Task t) reply new → map.get r.tree.nodes fid ≡ None
-  ended t path reply new miss which (WasDown down is same) = (let no : refusal (refused.Miss fid) ≡ refused_down = sym miss ∙ is in cc)
-  ended t path reply new miss which (LackedRoom at own events stop does shows is lacks same) = (let no : refusal (refused.Miss fid) ≡ refused_full = sym miss ∙ is in cc)
-  ended t path reply new miss which (HadFault at own events stop does shows is same) = (let no : refusal (refused.Miss fid) ≡ refused_fault = sym miss ∙ is in cc)
-  ended t path reply new miss (inl which) (DidAll at events does shows) =
-      did_read events (subst (λ (p : Task). (q : IsMet cell (line.Task p)) × Does (met cell q.links) (line.Task p) (refusal (refused.Miss fid)) events) which (at, subst (λ x. Does (met cell at.links) (line.Task t) x events) miss does))
-    where
-      did_read : (events : List Event) → (q : IsMet cell (line.Task (task.Read client volume path))) × Does (met cell q.links) (line.Task (task.Read client volume path)) (refusal (refused.Miss fid)) events → map.get r.tree.nodes fid ≡ None
-      did_read events d = isnt_there d.0.links (ap (λ (q : CellState). q.links) d.0.is) (shown (met cell d.0.links) events fid client volume path read_in reads_all (first_missing (on_volume (met cell d.0.links) client volume)) refl d.1)
-  ended t path reply new miss (inr which) (DidAll at events does shows) =
-      did_list events (subst (λ (p : Task). (q : IsMet cell (line.Task p)) × Does (met cell q.links) (line.Task p) (refusal (refused.Miss fid)) events) which (at, subst (λ x. Does (met cell at.links) (line.Task t) x events) miss does))
-    where
-      did_list : (events : List Event) → (q : IsMet cell (line.Task (task.List client volume path))) × Does (met cell q.links) (line.Task (task.List client volume path)) (refusal (refused.Miss fid)) events → map.get r.tree.nodes fid ≡ None
-      did_list events d = isnt_there d.0.links (ap (λ (q : CellState). q.links) d.0.is) (shown (met cell d.0.links) events fid client volume path list_in lists_all (first_missing (on_volume (met cell d.0.links) client volume)) refl d.1)
+  -- what a line does with a client and a volume, over these links
+  abbrev Did : (ℕ → ℕ → Strength) → List Event → (ℕ → ℕ → CellState → Reply → List Event → Type 0) → ℕ → ℕ → Type 0
+  Did links events Does c v = (links_to cell v ≡ links) × Does c v (met cell links) (refusal (refused.Miss fid)) events
+
+  operating : (links : ℕ → ℕ → Strength) (events : List Event) (ask : Asked)
+      → Did links events (λ c v s reply events. Unless (first_missing (on_volume s c v)) (ByClient s c v (λ offers k. operate offers k s.clock v ask)) reply events) client volume → map.get r.tree.nodes fid ≡ None
+  operating links events ask did = isnt_there links did.0 (operated (met cell links) events fid client volume ask (first_missing (on_volume (met cell links) client volume)) refl did.1)
+
+  showing : (links : ℕ → ℕ → Strength) (events : List Event) (path : List Name) (show : Bool → NodeKind → Said) → ShowsAll show
+      → Did links events (λ c v s reply events. Unless (first_missing (on_volume s c v)) (ByClient s c v (λ offers k. show_object show offers k.held v path)) reply events) client volume → map.get r.tree.nodes fid ≡ None
+  showing links events path show all did = isnt_there links did.0 (shown (met cell links) events fid client volume path show all (first_missing (on_volume (met cell links) client volume)) refl did.1)
+
+  task_so : (t : Task) (q : IsMet cell (line.Task t)) (events : List Event) → Does (met cell q.links) (line.Task t) (refusal (refused.Miss fid)) events → named_by t ≡ Some (client, volume) → map.get r.tree.nodes fid ≡ None
+  task_so (task.Create c v path mode owner) q events does named = operating q.links events (Create path (unwrap_or mode 420) (unwrap_or owner 0)) (at_named c v client volume (Did q.links events _) named (ap (λ (s : CellState). s.links) q.is, does))
+  task_so (task.Mkdir c v path mode owner) q events does named = operating q.links events (Mkdir path (unwrap_or mode 493) (unwrap_or owner 0)) (at_named c v client volume (Did q.links events _) named (ap (λ (s : CellState). s.links) q.is, does))
+  task_so (task.Symlink c v path target) q events does named = operating q.links events (Symlink path target) (at_named c v client volume (Did q.links events _) named (ap (λ (s : CellState). s.links) q.is, does))
+  task_so (task.Store c v path content) q events does named = operating q.links events (Store path (bytes_of content)) (at_named c v client volume (Did q.links events _) named (ap (λ (s : CellState). s.links) q.is, does))
+  task_so (task.Setattr c v path attrs) q events does named = operating q.links events (Setattr path attrs) (at_named c v client volume (Did q.links events _) named (ap (λ (s : CellState). s.links) q.is, does))
+  task_so (task.Remove c v path) q events does named = operating q.links events (Remove path) (at_named c v client volume (Did q.links events _) named (ap (λ (s : CellState). s.links) q.is, does))
+  task_so (task.Rmdir c v path) q events does named = operating q.links events (Rmdir path) (at_named c v client volume (Did q.links events _) named (ap (λ (s : CellState). s.links) q.is, does))
+  task_so (task.Rename c v from to) q events does named = operating q.links events (Rename from to) (at_named c v client volume (Did q.links events _) named (ap (λ (s : CellState). s.links) q.is, does))
+  task_so (task.Read c v path) q events does named = showing q.links events path read_in reads_all (at_named c v client volume (Did q.links events _) named (ap (λ (s : CellState). s.links) q.is, does))
+  task_so (task.List c v path) q events does named = showing q.links events path list_in lists_all (at_named c v client volume (Did q.links events _) named (ap (λ (s : CellState). s.links) q.is, does))
+  task_so (task.Drain c v server window) q events does named = cc
+  task_so (task.Hardlink c v from to) q events does named = cc
+  task_so (task.Refresh c v server) q events does named = cc
+  task_so (task.Giveup c v) q events does named = cc
+
+  ended : (t : Task) (reply : Reply) (new : Cell) → reply ≡ refusal (refused.Miss fid) → named_by t ≡ Some (client, volume) → Ends cell (line.Task t) reply new → map.get r.tree.nodes fid ≡ None
+  ended t reply new miss named (WasDown down is same) = (let no : refusal (refused.Miss fid) ≡ refused_down = sym miss ∙ is in cc)
+  ended t reply new miss named (LackedRoom at own events stop does shows is lacks same) = (let no : refusal (refused.Miss fid) ≡ refused_full = sym miss ∙ is in cc)
+  ended t reply new miss named (HadFault at own events stop does shows is same) = (let no : refusal (refused.Miss fid) ≡ refused_fault = sym miss ∙ is in cc)
+  ended t reply new miss named (DidAll at events does shows) = task_so t at events (subst (λ x. Does (met cell at.links) (line.Task t) x events) miss does) named
 
 pub missed_objects_are_out_of_reach : MissesAreUnreachable
-missed_objects_are_out_of_reach cell t client volume path fid outside new which happens r there_is can =
-    ended cell client volume fid r there_is can t path (refusal (refused.Miss fid)) new refl which (line_ends cell (line.Task t) (refusal (refused.Miss fid)) outside new refl happens)
+missed_objects_are_out_of_reach cell t client volume fid outside new named happens r there_is can =
+    ended cell client volume fid r there_is can t (refusal (refused.Miss fid)) new refl named (line_ends cell (line.Task t) (refusal (refused.Miss fid)) outside new refl happens)

@@ -50,11 +50,13 @@ pub record WaitsUnder (waiting : Waiting) (number : ℕ) (sent : Sent) : Type 0 
   pub same : letter_of waits ≡ letter_of sent
 
 -- A chunk of the client waits under the number that is named. Where a letter waited that is letter for letter this one, no letter is added
--- or lost, and none such has a smaller number.
+-- or lost, and none such has a smaller number; where none did, it is put behind those that wait, of which as few of the oldest are lost as
+-- make room for it.
 pub record WentAs (client volume server number message : ℕ) (old new : Waiting) : Type 0 where
   pub span : List Record
   pub goes : WaitsUnder new message (ChunkSent client server volume number span)
   pub once : (before : ℕ) → WaitsUnder old before (ChunkSent client server volume number span) → (new ≡ old) × (message ≤ before)
+  pub stays : ((before : ℕ) → WaitsUnder old before (ChunkSent client server volume number span) → ⊥) → new ≡ with_sent message (ChunkSent client server volume number span) old
 
 abbrev pub SendTells : ℕ → ℕ → ℕ → Reply → Waiting → Waiting → Type 0
 SendTells client volume server (ChunkWent message number) old new = WentAs client volume server number message old new

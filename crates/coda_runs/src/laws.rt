@@ -283,8 +283,8 @@ pub fn verdicts_are_told()
     ensures { VerdictsAreTold }
 {}
 
-/// A client misses only what it can't fetch, as it reads and lists: in whatever cell, where a read or a listing is
-/// refused since an object is missed, its client can't reach the volume's server, or that doesn't have the object.
+/// A client misses only what it can't fetch: in whatever cell, where an operation, a read or a listing is refused since
+/// an object is missed, its client can't reach the volume's server, or that doesn't have the object.
 pub fn missed_objects_are_out_of_reach()
     ensures { MissesAreUnreachable }
 {}
