@@ -9,7 +9,7 @@ use Rattle.coda_shelves.specs.Cells.{Cell, state_of}
 use Rattle.coda_shelves.specs.Lines.{is_built, Happens}
 use Rattle.coda_site.specs.Shelves.{Shows, Leads}
 use Rattle.coda_site.specs.Totals.{Counts, IsCounted, IsFault, has_armed}
-use Rattle.coda_runs.specs.Shows.{CanShow}
+use Rattle.coda_runs.specs.Shown.{CanShow}
 use Rattle.coda_runs.specs.Texts.{text_of}
 use Rattle.coda_runs.proofs.ShownUp.{shows_what_is_up}
 use Rattle.coda_main.specs.Reported.{Answered, LineRan}

@@ -16,8 +16,7 @@ use Rattle.coda_shelves.specs.Lines.{Becoming, Unless, UnlessDown, opening, Payl
 use Rattle.coda_shelves.specs.Shelves.{client_header}
 use Rattle.coda_site.specs.Makings.{asks_bay}
 use Rattle.coda_runs.specs.Shelved.{Replies}
-use Rattle.coda_main.specs.Asking.{IsOfTheBay, WhatAsksTheBayIsOfIt}
-use Rattle.coda_main.specs.Lines.{AsksBay}
+use Rattle.coda_main.specs.Lines.{IsOfTheBay, WhatAsksTheBayIsOfIt, AsksBay}
 use Rattle.coda_main.proofs.Telling.{said_once}
 
 -- what a line does of its own is replied so

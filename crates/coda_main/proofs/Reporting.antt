@@ -15,12 +15,10 @@ use Rattle.coda_shelves.specs.Kept.{AreKept}
 use Rattle.coda_shelves.specs.Shelves.{Shelves}
 use Rattle.coda_site.specs.Shelves.{Shows, AreOnDisks}
 use Rattle.coda_site.specs.Totals.{Counts}
-use Rattle.coda_runs.specs.Shelved.{LineGives}
+use Rattle.coda_runs.specs.Shelved.{LineGives, IsBadLine, LineRefused}
 use Rattle.coda_runs.proofs.Shelved.{runs_go_on}
-use Rattle.coda_main.specs.Counting.{BreaksOff}
-use Rattle.coda_main.specs.Lines.{IsBadLine}
-use Rattle.coda_main.specs.Reported.{ShowsAt, LineRan, TalliedCell, TalliedGives, TalliedRefuses, IsReport, IsReportOfLines}
-use Rattle.coda_main.specs.Shows.{Moment, MayGoOn}
+use Rattle.coda_main.specs.Shows.{BreaksOff, Moment, MayGoOn}
+use Rattle.coda_main.specs.Reported.{ShowsAt, LineRan, TalliedCell, TalliedGives, IsReport, IsReportOfLines}
 use Rattle.coda_main.specs.Tallies.{Tally, no_tally, tally_with}
 use Rattle.coda_main.proofs.Reaching.{reports_ran}
 use Rattle.coda_main.proofs.Showing.{Gave, cells_go_on, lines_good}
@@ -63,7 +61,7 @@ BothGive old bytes text outside new = TalliedGives old.at bytes text outside new
 abbrev pub BothRefuse : Refuses Both
 BothRefuse old bytes column kind = IsBadLine bytes column kind
 
-pub alone_shown : Simulates (λ (t : TalliedCell) (b : Both). t ≡ b.at) TalliedGives TalliedRefuses BothGive BothRefuse
+pub alone_shown : Simulates (λ (t : TalliedCell) (b : Both). t ≡ b.at) TalliedGives LineRefused BothGive BothRefuse
 alone_shown = record {
   step = λ t b b' line text outside is ran. (b'.at, subst (λ (x : TalliedCell). TalliedGives x line text outside b'.at) (sym is) ran.0, refl);
   refusal = λ t b line column kind is refuses. refuses;
@@ -73,7 +71,7 @@ abbrev pub CellRefuses : Refuses Cell
 CellRefuses old bytes column kind = IsBadLine bytes column kind
 
 -- the cell alone
-pub untallied : Simulates (λ (c : Cell) (t : TalliedCell). c ≡ t.cell) LineGives CellRefuses TalliedGives TalliedRefuses
+pub untallied : Simulates (λ (c : Cell) (t : TalliedCell). c ≡ t.cell) LineGives CellRefuses TalliedGives LineRefused
 untallied = record {
   step = λ c t t' line text outside is ran. (t'.cell, subst (λ (x : Cell). LineGives x line text outside t'.cell) (sym is) (go t t' line text outside ran), refl);
   refusal = λ c t line column kind is refuses. refuses;
@@ -139,7 +137,7 @@ module _ {D M : Type 0} (new old last : M) (told : D → Told) (at : M → Momen
       let both = reports_shown (both_shown told at counts sums) entry old last left_old left_new held_old held_new outside status (shows, begins) reports in
       let end : Both = both.0 in
       let alone = reports_shown alone_shown first entry end left_old left_new held_old held_new outside status refl both.1 in
-      let shown : Reports TalliedGives TalliedRefuses first end.at left_old left_new held_old held_new outside status = subst (λ (t : TalliedCell). Reports TalliedGives TalliedRefuses first t left_old left_new held_old held_new outside status) alone.2 alone.1 in
+      let shown : Reports TalliedGives LineRefused first end.at left_old left_new held_old held_new outside status = subst (λ (t : TalliedCell). Reports TalliedGives LineRefused first t left_old left_new held_old held_new outside status) alone.2 alone.1 in
       let cells = reports_shown untallied (begun_on shelves) first end.at left_old left_new held_old held_new outside status refl shown in
       let cell_run : Reports LineGives CellRefuses (begun_on shelves) end.at.cell left_old left_new held_old held_new outside status = subst (λ (c : Cell). Reports LineGives CellRefuses (begun_on shelves) c left_old left_new held_old held_new outside status) cells.2 cells.1 in
       let ran = reports_ran LineGives CellRefuses (begun_on shelves) end.at.cell left_old left_new held_old held_new outside status cell_run in

@@ -3,7 +3,8 @@ use Rattle.std.proofs.Common.{ℕ, List, inl, inr}
 use Rattle.coda_disk.specs.Told.{Told}
 use Rattle.coda_engine.proofs.Simulation.{Simulates}
 use Rattle.coda_site.specs.Totals.{Counts}
-use Rattle.coda_main.specs.Lines.{IsGoodLine, IsBadLine, AnyGives, AnyRefuses}
+use Rattle.coda_runs.specs.Shelved.{IsBadLine, LineRefused}
+use Rattle.coda_main.specs.Lines.{IsGoodLine, AnyGives}
 use Rattle.coda_main.specs.Reported.{LineRan, Ran}
 use Rattle.coda_main.specs.Shows.{Moment, MayGoOn}
 
@@ -21,7 +22,7 @@ module _ {D M : Type 0} (told : D → Told) (at : M → Moment D) (counts : M �
   good old new line text outside (inl silent) = inl (silent.0, silent.1)
   good old new line text outside (inr r) = inr (r.0.said, r.0.spelled, r.0.built)
 
-  pub lines_good : Simulates (λ (p : Unit {0}) (m : M). Unit {0}) AnyGives AnyRefuses Gave (λ m line column kind. IsBadLine line column kind)
+  pub lines_good : Simulates (λ (p : Unit {0}) (m : M). Unit {0}) AnyGives LineRefused Gave (λ m line column kind. IsBadLine line column kind)
   lines_good = record {
     step = λ p m m' line text outside shows ran. (p, good m m' line text outside ran.0, tt);
     refusal = λ p m line column kind shows refuses. refuses;

@@ -15,11 +15,10 @@ use Rattle.coda_script.specs.declared.reply.Reply.{Reply}
 use Rattle.coda_script.specs.declared.reply.Reply.TheVariants.{Refused}
 use Rattle.coda_shelves.specs.Lines.{refused_fault}
 use Rattle.coda_site.specs.Totals.{Counts, IsCounted, IsFault, has_armed}
-use Rattle.coda_main.specs.Lines.{IsBadLine}
-use Rattle.coda_main.specs.Counting.{BreaksOff}
+use Rattle.coda_runs.specs.Shelved.{IsBadLine, LineRefused}
+use Rattle.coda_main.specs.Shows.{BreaksOff, Moment}
 use Rattle.coda_main.specs.Reported.{LineRan}
-use Rattle.coda_main.specs.Shows.{Moment}
-use Rattle.coda_main.specs.Tallies.{tells_fault, Tally, no_tally, tally_with, TallyGives, TallyRefuses, IsReportOfDisks}
+use Rattle.coda_main.specs.Tallies.{tells_fault, Tally, no_tally, tally_with, TallyGives, IsReportOfDisks}
 use Rattle.coda_main.proofs.Showing.{Gave}
 
 -- the totals of a cell rose from the first ones as the tally says
@@ -68,7 +67,7 @@ tallied first said reply tally old new was c = record {
 -- ---- what is told whatever the disks hold
 
 module _ {D M : Type 0} (told : D → Told) (at : M → Moment D) (counts : M → Counts) where
-  tallies_shown : (first : Counts) → Simulates (λ (tally : Tally) (m : M). IsTallied first tally (counts m)) TallyGives TallyRefuses
+  tallies_shown : (first : Counts) → Simulates (λ (tally : Tally) (m : M). IsTallied first tally (counts m)) TallyGives LineRefused
       (Gave told at counts) (λ m line column kind. IsBadLine line column kind)
   tallies_shown first = record {
     step = λ tally m m' line text outside shows ran. go tally m m' line text outside shows ran.0;

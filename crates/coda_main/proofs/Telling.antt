@@ -7,7 +7,8 @@ use Rattle.coda_script.specs.declared.line.Line.{Line}
 use Rattle.coda_script.specs.Reading.{Fault}
 use Rattle.coda_script.specs.Lines.{line_of}
 use Rattle.coda_shelves.specs.Lines.{is_built}
-use Rattle.coda_main.specs.Lines.{IsGoodLine, IsBadLine, AnyGives, AnyRefuses}
+use Rattle.coda_runs.specs.Shelved.{IsBadLine, LineRefused}
+use Rattle.coda_main.specs.Lines.{IsGoodLine, AnyGives}
 
 pub said_once : (r : Result (Option Line) Fault) (a b : Line) → r ≡ Ok (Some a) → r ≡ Ok (Some b) → a ≡ b
 said_once r a b x y = let z : (let ok : Line → Result (Option Line) Fault = λ l. Ok (Some l) in ok a ≡ ok b) = sym x ∙ y in cc
@@ -33,7 +34,7 @@ single line column column' kind kind' (inl x) (inr u) = absurd (not_both (line_o
 single line column column' kind kind' (inr u) (inl y) = absurd (not_both (line_of line) (Some u.said) (column', kind') u.spelled y)
 single line column column' kind kind' (inr u) (inr v) = (u.first ∙ sym v.first, u.mode ∙ sym v.mode)
 
-pub lines_tell : TellsApart (λ (a b : Unit {0}). Unit {0}) AnyGives AnyRefuses
+pub lines_tell : TellsApart (λ (a b : Unit {0}). Unit {0}) AnyGives LineRefused
 lines_tell = record {
   itself = λ a. tt;
   kept = λ a b a' b' line text text' outside outside' alike x y. tt;

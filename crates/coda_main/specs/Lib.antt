@@ -1,8 +1,5 @@
-pub mod Words
 pub mod Lines
 pub mod Shows
 pub mod Reported
 pub mod Cached
 pub mod Tallies
-pub mod Counting
-pub mod Asking

@@ -14,9 +14,9 @@ use Rattle.coda_shelves.specs.Lines.{Happens}
 use Rattle.coda_shelves.specs.Shelves.{Shelves}
 use Rattle.coda_site.specs.Shelves.{Shows, AreOnDisks}
 use Rattle.coda_site.specs.Totals.{Counts, IsCounted, IsFault, has_armed}
-use Rattle.coda_runs.specs.Shelved.{Replies, HasRun}
+use Rattle.coda_runs.specs.Shelved.{Replies, HasRun, LineRefused}
 use Rattle.coda_runs.specs.Texts.{text_of}
-use Rattle.coda_main.specs.Lines.{IsBadLine, AnyGives, AnyRefuses}
+use Rattle.coda_main.specs.Lines.{AnyGives}
 use Rattle.coda_main.specs.Shows.{Moment, MayGoOn, answered_since}
 use Rattle.coda_main.specs.Tallies.{IsReplied, Tally, no_tally, tally_with}
 
@@ -58,7 +58,7 @@ Ran told old old_counts bytes text outside new new_counts = LineRan told old old
 -- Whatever the disks hold, what was read and written fits the status: each line that ran is a good one, and a line that ended the run is a bad one.
 abbrev pub IsReportOfLines : Option (List ℕ) → Option (List ℕ) → Option (List ℕ) → Option (List ℕ) → Status → Type 0
 IsReportOfLines left_old left_new held_old held_new status =
-    (outside : List (List ℕ)) × Reports AnyGives AnyRefuses tt tt left_old left_new held_old held_new outside status
+    (outside : List (List ℕ)) × Reports AnyGives LineRefused tt tt left_old left_new held_old held_new outside status
 
 -- a cell, and the tally of the lines that ran in it
 pub record TalliedCell : Type 0 where
@@ -72,9 +72,6 @@ TalliedGives old bytes text outside new =
     ((line_of bytes ≡ Ok None) × (text ≡ []) × (outside ≡ []) × (new ≡ old))
     ⊎ ((r : Replies old.cell bytes text outside new.cell) × (new.tally ≡ tally_with r.said r.reply old.tally))
 
-abbrev pub TalliedRefuses : TalliedCell → List ℕ → ℕ → Kind → Type 0
-TalliedRefuses old bytes column kind = IsBadLine bytes column kind
-
 -- What was read and written is the report of a run over these shelves, in which nothing is made at first; it keeps what is promised of runs, and loses nothing that
 -- stood there. Unless memory was wanting, the bay answered what the run had of it, its sum of the faults of disks rose by at least as many as the run has replies that
 -- a disk failed, and its sum of `arm` calls by as many as lines that arm a disk were answered `ok`, each up to the last value of a sum. And unless the bay was at
@@ -83,7 +80,7 @@ pub record IsReport {D : Type 0} (told : D → Told) (has : ℕ → Told) (answe
   pub cell : Cell
   pub outside : List (List ℕ)
   pub tally : Tally
-  pub reports : Reports TalliedGives TalliedRefuses (record { cell = begun_on shelves; tally = no_tally }) (record { cell = cell; tally = tally }) left_old left_new held_old held_new outside status
+  pub reports : Reports TalliedGives LineRefused (record { cell = begun_on shelves; tally = no_tally }) (record { cell = cell; tally = tally }) left_old left_new held_old held_new outside status
   pub has_run : HasRun shelves cell
   pub answered : status ≢ Memory → answered_new ≡ answered_old ++ outside
   pub faults : status ≢ Memory → plus faults_old tally.faults ≤ faults_new

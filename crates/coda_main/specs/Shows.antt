@@ -7,7 +7,8 @@ use Rattle.coda_script.specs.declared.fault.LineFault.{LineFault}
 use Rattle.coda_script.specs.declared.fault.LineFault.TheVariants.{BadLine, Memory}
 use Rattle.coda_site.specs.Sites.{IsReady, IsClosable}
 use Rattle.coda_site.specs.declared.site.Site.{Site}
-use Rattle.coda_main.specs.Lines.{IsBadLine}
+use Rattle.coda_runs.specs.Shelved.{IsBadLine}
+use Rattle.coda_site.specs.Totals.{Counts}
 
 -- What a cell of the code is between two lines: the numbers that are out of its bay, what the disks tell that the bay has, the images that its
 -- crashes left, and the site.
@@ -54,3 +55,9 @@ StopsWithin (Refused fault) = ⊥
 StopsWithin Unwritten = ⊥
 StopsWithin Bay = ⊤
 StopsWithin OutOfMemory = ⊤
+
+-- A line at which the bay was at fault armed no disk, no fault of a disk is forgotten, and the bay answered no image.
+pub record BreaksOff {D : Type 0} (old : Moment D) (old_counts : Counts) (new : Moment D) (new_counts : Counts) : Type 0 where
+  pub answered : new.answered ≡ old.answered
+  pub faults : old_counts.faults ≤ new_counts.faults
+  pub arms : new_counts.arms ≡ old_counts.arms

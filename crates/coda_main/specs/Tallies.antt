@@ -17,7 +17,7 @@ use Rattle.coda_script.specs.declared.reply.Reply.{Reply}
 use Rattle.coda_script.specs.declared.reply.Reply.TheVariants.{Refused, Accepted, ShowVolume, ShowLog}
 use Rattle.coda_shelves.specs.Lines.{is_built, refused_fault}
 use Rattle.coda_site.specs.Totals.{has_armed}
-use Rattle.coda_main.specs.Lines.{IsBadLine}
+use Rattle.coda_runs.specs.Shelved.{LineRefused}
 
 -- ---- lines and replies
 
@@ -68,15 +68,12 @@ tally_with said reply tally = record {
 abbrev pub TallyGives : Tally → List ℕ → List ℕ → List (List ℕ) → Tally → Type 0
 TallyGives old bytes text outside new = ((line_of bytes ≡ Ok None) × (text ≡ []) × (new ≡ old)) ⊎ ((r : IsReplied bytes text) × (new ≡ tally_with r.said r.reply old))
 
-abbrev pub TallyRefuses : Tally → List ℕ → ℕ → Kind → Type 0
-TallyRefuses old bytes column kind = IsBadLine bytes column kind
-
 -- What was read and written is the report of a run with this tally. Unless memory was wanting, the bay's sum of the faults of disks rose by as many
 -- at least as the run has replies that a disk failed, and its sum of `arm` calls by as many as lines that arm a disk were answered `ok`, each up to
 -- the last value of a sum: also where the bay was at fault at a line, which has no reply.
 pub record IsReportOfDisks (faults_old faults_new arms_old arms_new : ℕ) (left_old left_new held_old held_new : Option (List ℕ)) (status : Status) : Type 0 where
   pub tally : Tally
   pub outside : List (List ℕ)
-  pub reports : Reports TallyGives TallyRefuses no_tally tally left_old left_new held_old held_new outside status
+  pub reports : Reports TallyGives LineRefused no_tally tally left_old left_new held_old held_new outside status
   pub faults : status ≢ Memory → plus faults_old tally.faults ≤ faults_new
   pub arms : status ≢ Memory → plus arms_new 0 ≡ plus arms_old tally.arms

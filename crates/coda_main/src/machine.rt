@@ -9,9 +9,8 @@ ghost use Rattle.coda_shelves.specs.Lines.{is_built};
 ghost use Rattle.coda_site.specs.Makings.{asks_bay};
 ghost use Rattle.coda_site.specs.Shelves.{Shows};
 ghost use Rattle.coda_site.specs.Totals.{IsCounted, IsFault, has_armed, total, totals};
-ghost use Rattle.coda_main.specs.Counting.{BreaksOff};
 ghost use Rattle.coda_main.specs.Reported.{Answered};
-ghost use Rattle.coda_main.specs.Shows.{moment, MayGoOn, MayClose, StopsSo, StopsWithin, stop_at};
+ghost use Rattle.coda_main.specs.Shows.{BreaksOff, moment, MayGoOn, MayClose, StopsSo, StopsWithin, stop_at};
 ghost use Rattle.coda_main.specs.Tallies.{IsText};
 
 use crate::report::text_of;
@@ -113,10 +112,10 @@ fn answer<B: Bay>(alloc: Global, cell: &mut Cell<B>, said: &Line) -> Result<Vec<
 }
 
 impl<B: Bay> Machine for CellMachine<B> {
-    ghost use Rattle.coda_main.specs.Lines.{AsksBay, IsBadLine};
+    ghost use Rattle.coda_main.specs.Lines.{AsksBay};
     ghost use Rattle.coda_main.specs.Reported.{Ran};
-    ghost use Rattle.coda_main.specs.Shows.{MayRun};
-    ghost use Rattle.coda_main.specs.Counting.{BreaksOff};
+    ghost use Rattle.coda_main.specs.Shows.{BreaksOff, MayRun};
+    ghost use Rattle.coda_runs.specs.Shelved.{IsBadLine};
     ghost use Rattle.coda_site.specs.Totals.{total, totals};
     ghost use Rattle.std.proofs.Math.Nat.{le_refl, le_trans};
 

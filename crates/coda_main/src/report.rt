@@ -5,7 +5,7 @@ ghost use Rattle.coda_cell.specs.State.{ClientState};
 ghost use Rattle.coda_shelves.specs.Cells.{Cell as PlainCell, state_of};
 ghost use Rattle.coda_shelves.specs.Lines.{client_down, replica_down};
 ghost use Rattle.coda_site.specs.Shelves.{Shows};
-ghost use Rattle.coda_runs.specs.Shows.{CanShow};
+ghost use Rattle.coda_runs.specs.Shown.{CanShow};
 ghost use Rattle.coda_script.specs.declared.reply.Reply.TheVariants.{ShowVolume, ShowLog};
 ghost use Rattle.coda_main.specs.Tallies.{IsText};
 ghost use Rattle.coda_runs.specs.Texts.{shown_volume, shown_log, text_of};

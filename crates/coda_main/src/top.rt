@@ -8,7 +8,7 @@ ghost use Rattle.coda_site.specs.Shelves.{AreOnDisks};
 ghost use Rattle.coda_disk.specs.Bays.{plus};
 ghost use Rattle.coda_main.specs.Reported.{IsReport, IsReportOfLines};
 ghost use Rattle.coda_main.specs.Tallies.{IsReportOfDisks};
-ghost use Rattle.coda_main.specs.Words.{IsRun};
+ghost use Rattle.coda_main.specs.Lines.{IsRun};
 
 use crate::lent::LentBay;
 use crate::machine::CellMachine;

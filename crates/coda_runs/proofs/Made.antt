@@ -8,8 +8,7 @@ use Rattle.coda_script.specs.Reading.{Fault}
 use Rattle.coda_script.specs.Lines.{line_of}
 use Rattle.coda_shelves.specs.Cells.{Cell}
 use Rattle.coda_shelves.specs.Lines.{is_built}
-use Rattle.coda_runs.specs.Runs.{LineRefused}
-use Rattle.coda_runs.specs.Shelved.{LineGives}
+use Rattle.coda_runs.specs.Shelved.{LineRefused, LineGives}
 
 abbrev pub Alike : Cell → Cell → Type 0
 Alike a b = Unit {0}

@@ -29,8 +29,7 @@ use Rattle.coda_cell.specs.Steps.{Named, Unless, first_missing, on_volume, reach
 use Rattle.coda_shelves.specs.Cells.{Cell, state_of}
 use Rattle.coda_shelves.specs.Lines.{is_cut, links_to, refused_down, refused_full, refused_fault}
 use Rattle.coda_runs.specs.Performed.{CanReach}
-use Rattle.coda_runs.specs.Causes.{named_by, IsFull, LogIsFull, JournalIsFull}
-use Rattle.coda_runs.specs.Misses.{MissesAreUnreachable}
+use Rattle.coda_runs.specs.Causes.{named_by, IsFull, LogIsFull, JournalIsFull, MissesAreUnreachable}
 use Rattle.coda_runs.proofs.Causes.{way_cause, unheld_at}
 use Rattle.coda_runs.proofs.Meeting.{met, IsMet, Ends, WasDown, DidAll, LackedRoom, HadFault, line_ends}
 use Rattle.coda_runs.proofs.Missing.{way_so, asked_so, looks_for}

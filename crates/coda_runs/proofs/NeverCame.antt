@@ -19,7 +19,7 @@ use Rattle.coda_cell.proofs.Families.{put_here}
 use Rattle.coda_shelves.specs.Shelves.{replica_header}
 use Rattle.coda_shelves.specs.Cells.{Row, Cell, asked, Stand, stand_of, state_of, with_client, with_replica, with_volume, grown, failing, failed, after, after_all}
 use Rattle.coda_shelves.specs.Lines.{UnlessDown, needs, is_down_for, EndsBy, Acts, is_others, MountsRow, area_of, with_row, with_made}
-use Rattle.coda_shelves.specs.Placed.{ArePlaced}
+use Rattle.coda_shelves.specs.FromBlank.{ArePlaced}
 use Rattle.coda_runs.specs.Again.{MountsClient, MountsPlace, WhoNeverCameIsAsItWas}
 use Rattle.coda_runs.proofs.Ended.{home_is}
 use Rattle.coda_runs.proofs.Becoming.{Becomes, Stayed, ClientMoved, ReplicaMoved, ClientComes, VolumeComes, HasActed, becomes}

@@ -14,8 +14,7 @@ use Rattle.coda_script.specs.declared.line.Line.{Line}
 use Rattle.coda_script.specs.declared.line.Line.TheVariants as line
 use Rattle.coda_script.specs.declared.reply.Reply.{Reply}
 use Rattle.coda_script.specs.declared.reply.Reply.TheVariants.{Accepted, Lost, ShowVolume, ShowLog}
-use Rattle.coda_cell.specs.Refused.{Refused}
-use Rattle.coda_cell.specs.Refused.{NoSuchActor, NoMessage}
+use Rattle.coda_cell.specs.Refused.{Refused, NoSuchActor, NoMessage}
 use Rattle.coda_cell.specs.Refusing.{refusal}
 use Rattle.coda_cell.specs.Made.{client_of, replica_of}
 use Rattle.coda_cell.specs.State.{put, ClientState, ReplicaState, CellState, Event, VolumeMade, ClientMade, Ticked, LinkSet, Entered, Posted, Lost as LetterLost, Used, Kept, Stale, at_client}
@@ -30,7 +29,7 @@ use Rattle.coda_actors.specs.declared.slot.Mounting.TheVariants.{DiskFault}
 use Rattle.coda_shelves.specs.Shelves.{client_header, replica_header}
 use Rattle.coda_shelves.specs.Cells.{Cell, asked, Stand, stand_of, state_of, with_client, with_replica, after, after_all, failed}
 use Rattle.coda_shelves.specs.Lines.{is_built, needs, is_down_for, meets, Fits, Stop, EndsBy, Acts, Becoming, Stays, Unless as ShelvedUnless, the_client, the_replica, made_on, area_of, no_volume, no_client, with_row, MakesVolume, with_made, MakesClient, client_payloads, replica_payloads, Payloads, Recovers, AtReplicaOf, DoesUp, UnlessDown, Happens, refused_down, refused_fault}
-use Rattle.coda_shelves.specs.Placed.{ArePlaced}
+use Rattle.coda_shelves.specs.FromBlank.{ArePlaced}
 use Rattle.coda_shelves.specs.Running.{IsKept}
 use Rattle.coda_runs.specs.Shelved.{LineGives}
 use Rattle.coda_runs.specs.Texts.{text_of}

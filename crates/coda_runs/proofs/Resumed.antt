@@ -20,7 +20,7 @@ use Rattle.coda_shelves.specs.Shelves.{client_header, replica_header}
 use Rattle.coda_shelves.specs.Cells.{Row, Cell, begun_on, asked, stand_from}
 use Rattle.coda_shelves.specs.Lines.{is_built, Unless, needs, is_down_for, is_others, opening, made_on, MountsRow, area_of, with_row, MakesVolume, with_made, MakesClient, Happens, refused_fault, refused_foreign}
 use Rattle.coda_shelves.proofs.Mounting.{at_put, at_place}
-use Rattle.coda_runs.specs.Resumed.{Happen, NoneIsForeign, WhatRanCanBeResumed}
+use Rattle.coda_runs.specs.Again.{Happen, NoneIsForeign, WhatRanCanBeResumed}
 use Rattle.coda_runs.specs.Shelved.{LineGives}
 use Rattle.coda_runs.proofs.Becoming.{Becomes, Stayed, ClientMoved, ReplicaMoved, ClientComes, VolumeComes, HasActed, becomes, Body, body, acts_so}
 use Rattle.coda_runs.proofs.Shelved.{read_in_range}

@@ -15,9 +15,8 @@ use Rattle.coda_script.specs.Lines.{line_of}
 use Rattle.coda_script.specs.Ranges.{InRange}
 use Rattle.coda_script.proofs.WholeLines.{is_found, is_in_range}
 use Rattle.coda_shelves.specs.Cells.{Cell, begun_on, shelves_of, asked, state_of}
-use Rattle.coda_shelves.specs.FromBlank.{IsFromBlank}
+use Rattle.coda_shelves.specs.FromBlank.{IsFromBlank, ArePlaced}
 use Rattle.coda_shelves.specs.Laws.{Stay}
-use Rattle.coda_shelves.specs.Placed.{ArePlaced}
 use Rattle.coda_shelves.specs.Running.{IsKept}
 use Rattle.coda_shelves.specs.Shelves.{blank_shelves}
 use Rattle.coda_shelves.proofs.FromBlank.{runs_from_blank}

@@ -39,7 +39,7 @@ use Rattle.coda_cell.specs.Refused as refused
 use Rattle.coda_shelves.specs.Cells.{Cell, state_of}
 use Rattle.coda_shelves.specs.Lines.{client_down, replica_down, needs, is_down_for, EndsBy, UnlessDown, Happens, refused_down, refused_full, refused_fault}
 use Rattle.coda_shelves.proofs.Ending.{nothing_ends}
-use Rattle.coda_runs.specs.Shows.{CanShow}
+use Rattle.coda_runs.specs.Shown.{CanShow}
 use Rattle.coda_runs.proofs.Coming.{ComesTo, Acted, Aside, line_comes}
 use Rattle.coda_runs.proofs.Meeting.{met, ActsUp, Ends, WasDown, DidAll, LackedRoom, HadFault}
 

@@ -14,15 +14,14 @@ use Rattle.coda_script.specs.declared.line.Line.TheVariants as line
 use Rattle.coda_script.specs.declared.reply.Answer.TheVariants.{Decided}
 use Rattle.coda_script.specs.declared.reply.Reply.{Reply}
 use Rattle.coda_script.specs.declared.reply.Reply.TheVariants.{Drained}
-use Rattle.coda_cell.specs.State.{ClientVolume, ClientState, ReplicaState, CellState, Event, after_all}
-use Rattle.coda_cell.specs.State.{with_volume}
+use Rattle.coda_cell.specs.State.{ClientVolume, ClientState, ReplicaState, CellState, Event, after_all, with_volume}
 use Rattle.coda_cell.specs.Sending.{Freezing, freezing, Ruling, ruling, Taking, taken, taken_unless, taking, Outcome, reply_answer, answered_to, ruled_on, drained_of, drain}
 use Rattle.coda_cell.specs.Steps.{Unless, first_missing, on_holder, reply_to, ByBoth}
 use Rattle.coda_cell.specs.Refused.{Refused}
 use Rattle.coda_cell.proofs.Events.{drain_left}
 use Rattle.coda_cell.proofs.Families.{put_here}
 use Rattle.coda_shelves.specs.Cells.{Cell, state_of}
-use Rattle.coda_runs.specs.Thawed.{VerdictsThaw}
+use Rattle.coda_runs.specs.Going.{VerdictsThaw}
 use Rattle.coda_runs.proofs.Meeting.{met, clients_as, Ends, WasDown, DidAll, LackedRoom, HadFault, line_ends}
 
 -- ---- what a drain comes to

@@ -18,16 +18,16 @@ use Rattle.coda_script.specs.declared.reply.Reply.{Reply}
 use Rattle.coda_script.specs.declared.reply.Reply.TheVariants.{Done}
 use Rattle.coda_cell.specs.Accepting.{Sight, sight_of, next_fid}
 use Rattle.coda_cell.specs.Held.{is_below, some_below}
-use Rattle.coda_cell.specs.State.{ClientVolume, ClientState, Event}
+use Rattle.coda_cell.specs.State.{ClientVolume, ClientState, Event, ReplicaState}
 use Rattle.coda_cell.specs.Refusing.{refusal}
 use Rattle.coda_cell.specs.Steps.{first_missing, on_volume, Does}
-use Rattle.coda_cell.specs.Refused.{Refused}
+use Rattle.coda_cell.specs.Refused.{Refused, Miss}
 use Rattle.coda_cell.specs.Refused as refused
 use Rattle.coda_plain.specs.Cell.{ClientEntry}
 use Rattle.coda_plain.specs.Moves.{AtClient}
 use Rattle.coda_shelves.specs.Cells.{Cell, is_up, state_of, after_all}
 use Rattle.coda_shelves.specs.Lines.{meets, Lacks, Stop, Happens, client_down, refused_down, refused_full, refused_fault}
-use Rattle.coda_runs.specs.Performed.{Leads, End, content_of}
+use Rattle.coda_runs.specs.Performed.{Leads, End, content_of, CanReach}
 use Rattle.coda_runs.specs.Shown.{shown_by}
 
 -- ---- on the way
@@ -249,3 +249,12 @@ abbrev pub RefusalsHaveCauses : Type 0
 RefusalsHaveCauses =
     (cell : Cell) (t : Task) (reply : Reply) (outside : List (List ℕ)) (new : Cell) (client volume : ℕ) → Happens cell (line.Task t) reply outside new → named_by t ≡ Some (client, volume)
     → IsAnswered t client volume (first_missing (on_volume (state_of cell) client volume)) (state_of new).clients reply ⊎ DiskCause cell new t client reply
+
+-- ---- what is missed
+
+-- In whatever cell, where an operation, a read or a listing of a client is refused since it misses an object of a volume, the client can't reach the
+-- volume's server, or that doesn't have the object.
+abbrev pub MissesAreUnreachable : Type 0
+MissesAreUnreachable =
+    (cell : Cell) (t : Task) (client volume : ℕ) (fid : Fid) (outside : List (List ℕ)) (new : Cell) → named_by t ≡ Some (client, volume) → Happens cell (line.Task t) (refusal (Miss fid)) outside new
+    → (r : ReplicaState) → (state_of cell).replicas volume ≡ Some r → CanReach cell client volume r.server → map.get r.tree.nodes fid ≡ None

@@ -9,10 +9,9 @@ use Rattle.coda_script.specs.declared.line.Line.TheVariants as line
 use Rattle.coda_script.specs.Lines.{line_of}
 use Rattle.coda_shelves.specs.Cells.{Cell}
 use Rattle.coda_shelves.specs.Lines.{is_built}
-use Rattle.coda_shelves.specs.Placed.{ArePlaced}
+use Rattle.coda_shelves.specs.FromBlank.{ArePlaced}
 use Rattle.coda_shelves.specs.Running.{IsKept}
-use Rattle.coda_runs.specs.Runs.{LineRefused}
-use Rattle.coda_runs.specs.Shelved.{LineGives}
+use Rattle.coda_runs.specs.Shelved.{LineRefused, LineGives}
 
 -- a line that crashes nothing: what a crash leaves is the bay's to say
 abbrev pub CrashesNothing : Line → Type 0

@@ -1,5 +1,5 @@
 -- That a chunk which is frozen goes again, and that what a drain tells of one is so.
-use Rattle.std.specs.Prelude.{◌≡◌, ◌⊎◌, ◌+◌, ◌≤◌, ℕ, false, List, Option, Some}
+use Rattle.std.specs.Prelude.{◌≡◌, ◌⊎◌, ◌+◌, ◌≤◌, ℕ, false, List, Option, Some, None}
 use Rattle.coda_certify.specs.declared.verdict.Verdict.{Verdict}
 use Rattle.coda_cml.specs.declared.frozen.Frozen.{Frozen}
 use Rattle.coda_plain.specs.Cell.{Joins, deeds_of}
@@ -57,3 +57,10 @@ pub record VerdictsAreTold : Type 0 where
       → In (record { number = number; verdict = verdict }) (settlements_of (deeds_of volume (new.clients client).disk.history))
   pub decided : (cell new : Cell) → IsKept cell → IsKept new → (client volume server : ℕ) (window : Option ℕ) (number : ℕ) (verdict : Verdict) (outside : List (List ℕ)) → Happens cell (drains client volume server window) (Drained number (Decided verdict)) outside new
       → (joins : Joins) → IsDecided (found_on (shelves_of new) joins) volume client number verdict
+
+-- In whatever cell, a drain that is answered by a verdict leaves no chunk of the client's log frozen.
+abbrev pub VerdictsThaw : Type 0
+VerdictsThaw =
+    (cell : Cell) (client volume server : ℕ) (window : Option ℕ) (number : ℕ) (verdict : Verdict) (outside : List (List ℕ)) (new : Cell) (c : ClientState)
+    → Happens cell (line.Task (task.Drain client volume server window)) (Drained number (Decided verdict)) outside new
+    → (state_of new).clients client ≡ Some c → (log_of (c.volumes volume)).frozen ≡ None

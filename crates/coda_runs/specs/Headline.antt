@@ -11,7 +11,7 @@ use Rattle.coda_certify.specs.Replay.{replay}
 use Rattle.coda_engine.specs.Run.{Runs}
 use Rattle.coda_plain.specs.Histories.{In}
 use Rattle.coda_plain.specs.Deeds.{InChunk, Settlement, settlements_of, ended_of}
-use Rattle.coda_plain.specs.Decisions.{Decision, verdict_on, nodes_by}
+use Rattle.coda_plain.specs.Decisions.{Decision, verdict_on, nodes_by, sent_of}
 use Rattle.coda_plain.specs.Cell.{Joins, deeds_of}
 use Rattle.coda_plain.specs.Promises.{IsRefused, IsUnderWay}
 use Rattle.coda_script.specs.declared.line.Line.TheVariants as line
@@ -22,10 +22,14 @@ use Rattle.coda_shelves.specs.Cells.{Cell, begun_on, shelves_of, asked, Stand, s
 use Rattle.coda_shelves.specs.Kept.{deeds_in, Decides, IsDecided, AreKept}
 use Rattle.coda_shelves.specs.Laws.{Stay}
 use Rattle.coda_shelves.specs.Lines.{Payloads, client_payloads, replica_payloads, Happens}
-use Rattle.coda_shelves.specs.Placed.{ArePlaced}
+use Rattle.coda_shelves.specs.FromBlank.{ArePlaced}
 use Rattle.coda_shelves.specs.Promises.{AreDecidedOnce, AreOperationsKept}
 use Rattle.coda_shelves.specs.Running.{IsKept}
 use Rattle.coda_runs.specs.Shelved.{LineGives, IsOfPending, HasRun, RunsFromBlankGoOn}
+use Rattle.coda_fid.specs.Op.{carried}
+use Rattle.coda_fid.specs.declared.op.Over.{Over}
+use Rattle.coda_fid.specs.declared.op.Record.{Record}
+use Rattle.coda_versions.specs.Versions.{HasVersion, IsGivenBy}
 
 -- In every cell that is kept: in each that a run leaves over disks that are kept (`WhatRanIsKept`), as blank ones are, and those that such runs left.
 abbrev pub InEachKept : (Cell → Type 0) → Type 0
@@ -116,3 +120,10 @@ ReplicasComeBack =
     (cell : Cell) (server volume count : ℕ) (outside : List (List ℕ)) (new : Cell) → Happens cell (line.RecoverReplica server volume) (Recovered count) outside new
     → (at : Stand) × (stand_of cell volume ≡ Some at) × IsFoundAgain (cell.replicas at.row server).disk (new.replicas at.row server).disk × (count ≡ length (new.replicas at.row server).disk.history)
     × IsReadFromImage replica_payloads (cell.replicas at.row server) (new.replicas at.row server).disk
+
+-- In every cell that is kept, where a server applied a chunk, each object that one of the records sent stores, sets, removes or replaces had at that server the version
+-- that the client saw, or one that a record before it in the chunk gave it: so nothing was lost that another client did there meanwhile.
+abbrev pub ChunksOverwriteNobody : Type 0
+ChunksOverwriteNobody =
+    (cell : Cell) → IsKept cell → (joins : Joins) (row server volume : ℕ) (d : Decision) (front : List Record) (rec : Record) (back : List Record) (over : Over) → Decides (found_on (shelves_of cell) joins) row server volume d
+    → verdict_on d ≡ Applied → sent_of d.span ≡ front ++ rec ∷ back → carried rec.op ≡ Some over → HasVersion d.before over.fid over.pre ⊎ IsGivenBy d.client front over.fid over.pre

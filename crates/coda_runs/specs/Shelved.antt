@@ -1,5 +1,5 @@
 -- Runs of scripts over whatever stands on the disks of a bay: a cell is its disks.
-use Rattle.std.specs.Prelude.{◌≡◌, ℕ, true, ◌⊎◌, ◌++◌, List, [], Some, None, Ok}
+use Rattle.std.specs.Prelude.{◌≡◌, ℕ, true, ◌⊎◌, ◌++◌, List, [], Some, None, Ok, false, Err}
 use Rattle.coda_cancel.specs.Cancel.{fold}
 use Rattle.coda_engine.specs.Run.{Runs}
 use Rattle.coda_plain.specs.Cell.{Joins, deeds_of}
@@ -19,6 +19,8 @@ use Rattle.coda_shelves.specs.Promises.{ArePromised}
 use Rattle.coda_shelves.specs.Running.{IsKept}
 use Rattle.coda_shelves.specs.Shelves.{Shelves, blank_shelves, found_on}
 use Rattle.coda_runs.specs.Texts.{text_of}
+use Rattle.coda_engine.specs.declared.status.Kind.{Kind}
+use Rattle.coda_engine.specs.declared.status.Kind.TheVariants.{Mode}
 
 -- From old, the cell may run this line, with the text of its reply; the bay answers these images, and it is new then.
 pub record Replies (old : Cell) (bytes text : List ℕ) (outside : List (List ℕ)) (new : Cell) : Type 0 where
@@ -57,3 +59,22 @@ RunsGoOn = (shelves : Shelves) (end : Cell) (ls : List (List ℕ)) (report : Lis
 -- and each operation is done once.
 abbrev pub RunsFromBlankGoOn : Type 0
 RunsFromBlankGoOn = (end : Cell) (ls : List (List ℕ)) (report : List ℕ) (outside : List (List ℕ)) → Runs LineGives (begun_on blank_shelves) ls report outside end → (joins : Joins) → ArePromisedOfServers (histories_of end joins)
+
+-- ---- which lines are refused
+
+-- a line in the grammar that the command doesn't take, or that isn't built
+pub record IsUnbuilt (bytes : List ℕ) (column : ℕ) (kind : Kind) : Type 0 where
+  pub said : Line
+  pub spelled : line_of bytes ≡ Ok (Some said)
+  pub unbuilt : is_built said ≡ false
+  pub first : column ≡ 1
+  pub mode : kind ≡ Mode
+
+-- The bytes are refused as a line: they aren't in the grammar, and this is the first wrong column and what is wrong there; or they say one that
+-- isn't built.
+abbrev pub IsBadLine : List ℕ → ℕ → Kind → Type 0
+IsBadLine bytes column kind = (line_of bytes ≡ Err (column, kind)) ⊎ IsUnbuilt bytes column kind
+
+-- so it is in whatever cell, or whatever else is kept of a script
+abbrev pub LineRefused : {S : Type 0} → S → List ℕ → ℕ → Kind → Type 0
+LineRefused old bytes column kind = IsBadLine bytes column kind

@@ -1,5 +1,5 @@
 -- That what a line reads or lists is what stands at its path.
-use Rattle.std.specs.Prelude.{◌≡◌, ◌≢◌, ℕ, List, Option, Some, None}
+use Rattle.std.specs.Prelude.{◌≡◌, ◌≢◌, ℕ, List, Option, Some, None, false}
 use Rattle.std.specs.FinMap as map
 use Rattle.coda_fid.specs.Fid.{root_of}
 use Rattle.coda_fid.specs.declared.fid.Fid.{Fid}
@@ -12,11 +12,12 @@ use Rattle.coda_script.specs.declared.line.Task.{Task}
 use Rattle.coda_script.specs.declared.line.Task.TheVariants as task
 use Rattle.coda_script.specs.declared.reply.Readable.TheVariants.{File as FileOf, Link as LinkTo}
 use Rattle.coda_script.specs.declared.reply.Reply.{Reply}
-use Rattle.coda_script.specs.declared.reply.Reply.TheVariants.{Read, Listed}
+use Rattle.coda_script.specs.declared.reply.Reply.TheVariants.{Read, Listed, ShowVolume, ShowLog}
 use Rattle.coda_cell.specs.State.{ClientState, ReplicaState}
 use Rattle.coda_shelves.specs.Cells.{Cell, state_of}
-use Rattle.coda_shelves.specs.Lines.{Happens}
+use Rattle.coda_shelves.specs.Lines.{Happens, client_down, replica_down}
 use Rattle.coda_runs.specs.Performed.{Leads, CanReach, HasFetched}
+use Rattle.coda_script.specs.declared.line.Line.{Line}
 
 -- whose path a line shows
 abbrev pub Looks : Task → ℕ → ℕ → List Name → Type 0
@@ -55,3 +56,15 @@ abbrev pub WhatIsShownIsThere : Type 0
 WhatIsShownIsThere =
     (cell : Cell) (t : Task) (reply : Reply) (outside : List (List ℕ)) (new : Cell) (kind : NodeKind) → Happens cell (line.Task t) reply outside new → shown_by reply ≡ Some kind
     → WasShown (CanReach cell) t (state_of cell).clients (state_of new).clients (state_of cell).replicas kind
+
+-- ---- who is shown
+
+-- where the reply shows a volume or a log, its actor is up
+abbrev pub CanShow : Cell → Reply → Type 0
+CanShow cell (ShowVolume server volume) = replica_down cell server volume ≡ false
+CanShow cell (ShowLog client volume) = (client_down cell client ≡ false) × ((c : ClientState) × ((state_of cell).clients client ≡ Some c))
+CanShow cell reply = Unit {0}
+
+-- Nothing is shown of an actor that is down.
+abbrev pub WhatIsShownIsUp : Type 0
+WhatIsShownIsUp = (old new : Cell) (said : Line) (reply : Reply) (outside : List (List ℕ)) → Happens old said reply outside new → CanShow new reply

@@ -6,15 +6,15 @@ ghost use Rattle.coda_runs.specs.Complete.{CleanScriptsEnd, ScriptsHaveOneStatus
 ghost use Rattle.coda_runs.specs.Headline.{WhatRanIsKept, ScriptsRun, ChunksAreDecidedOnce, CertifiedChunksAreApplied, ConflictsNameASentRecord, OperationsAreKept, VolumesInOneRowAreDoneOnce, SettlementsAreDecided, LogsArePending, AcknowledgedEntriesStay, ClientsComeBack, ReplicasComeBack};
 ghost use Rattle.coda_runs.specs.Going.{FrozenChunksGoAgain, VerdictsAreTold};
 ghost use Rattle.coda_runs.specs.Lettered.{RepliesNameLetters, LettersSayWhatIsSo, LettersHaveEnds};
-ghost use Rattle.coda_runs.specs.Misses.{MissesAreUnreachable};
-ghost use Rattle.coda_runs.specs.Overwriting.{ChunksOverwriteNobody};
+ghost use Rattle.coda_runs.specs.Causes.{MissesAreUnreachable};
+ghost use Rattle.coda_runs.specs.Headline.{ChunksOverwriteNobody};
 ghost use Rattle.coda_runs.specs.Performed.{OperationsArePerformed};
-ghost use Rattle.coda_runs.specs.Resumed.{WhatRanCanBeResumed};
+ghost use Rattle.coda_runs.specs.Again.{WhatRanCanBeResumed};
 ghost use Rattle.coda_runs.specs.Shelved.{RunsGoOn};
 ghost use Rattle.coda_runs.specs.Shown.{WhatIsShownIsThere};
-ghost use Rattle.coda_runs.specs.Shows.{WhatIsShownIsUp};
+ghost use Rattle.coda_runs.specs.Shown.{WhatIsShownIsUp};
 ghost use Rattle.coda_runs.specs.Standing.{VerdictsStandAtHome, ChunksStandWithClients};
-ghost use Rattle.coda_runs.specs.Thawed.{VerdictsThaw};
+ghost use Rattle.coda_runs.specs.Going.{VerdictsThaw};
 ghost use Rattle.coda_runs.specs.Untouched.{RefusedLinesChangeLittle};
 ghost use Rattle.coda_runs.specs.Volumes.{LinesActOnMadeVolumes, ScriptsActOnMadeVolumes};
 

@@ -21,14 +21,13 @@ use Rattle.coda_cell.specs.Asking.{Answer, read}
 use Rattle.coda_cell.specs.Refused.{Refused}
 use Rattle.coda_cell.specs.Messages.{sends, chunk_comes, answer_comes}
 use Rattle.coda_cell.specs.Sending.{drain}
-use Rattle.coda_cell.specs.State.{ClientState, ReplicaState, CellState, Event, Entered, Ticked, Lost as LetterLost, at_client}
+use Rattle.coda_cell.specs.State.{ClientState, ReplicaState, CellState, Event, Entered, Ticked, Lost as LetterLost, at_client, put}
 use Rattle.coda_cell.specs.Steps.{Doing, Unless, Naming, reply_to, offers_of, first_missing, ByClient, ByBoth, BySend, ByRuling, ByTaking, Happens as HappensOne, Says, Comes, Delivers, Loses, link_down, on_volume, on_holder, DoesTask, Does, is_alone}
 use Rattle.coda_shelves.specs.Cells.{Cell, Stand, stand_of, asked, with_client, with_replica, after, after_all}
-use Rattle.coda_cell.specs.State.{put}
 use Rattle.coda_shelves.specs.Lines as plain
 use Rattle.coda_shelves.specs.Lines.{Becoming, refused_fault, refused_full, is_built, Stop, Fits, FitsOne, Lacks, EndsBy, Acts, meets, UnlessDown, needs, is_down_for, DoesUp, Happens, Payloads, Recovers, recovery, client_payloads, replica_payloads, AtReplicaOf, opening, is_others, made_on, MountsRow, MakesVolume, MakesClient, no_volume, no_client, area_of, the_client, the_replica}
 use Rattle.coda_shelves.specs.Shelves.{client_header, replica_header}
-use Rattle.coda_shelves.specs.Quiet.{QuietLinesHaveOneOutcome}
+use Rattle.coda_shelves.specs.Laws.{QuietLinesHaveOneOutcome}
 
 -- ---- what acts
 

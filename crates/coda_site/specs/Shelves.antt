@@ -12,7 +12,7 @@ use Rattle.coda_site.specs.declared.site.Site.{Site}
 use Rattle.coda_shelves.specs.Shelves.{Shelves, blank_shelves, client_journal, replica_journal, disk_at}
 use Rattle.coda_shelves.specs.Cells.{Cell}
 use Rattle.coda_shelves.specs.Lines.{Becoming}
-use Rattle.coda_shelves.specs.Placed.{ArePlaced}
+use Rattle.coda_shelves.specs.FromBlank.{ArePlaced}
 use Rattle.coda_shelves.specs.Running.{IsKept}
 
 -- the cell is kept, its replicas are at their places, and the site stands for it

@@ -4,7 +4,7 @@ use Rattle.std.proofs.lemmas.Result.{IfOk-weaker}
 use Rattle.coda_script.specs.declared.reply.Reply.{Reply}
 use Rattle.coda_script.specs.declared.reply.Reply.TheVariants.{ShowLog}
 use Rattle.coda_shelves.specs.Cells.{state_of}
-use Rattle.coda_runs.specs.Shows.{CanShow}
+use Rattle.coda_runs.specs.Shown.{CanShow}
 use Rattle.coda_runs.specs.Texts.{shown_log, text_of}
 use Rattle.coda_main.proofs.report.text_of.Goals as goal
 

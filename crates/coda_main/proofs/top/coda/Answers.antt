@@ -1,6 +1,6 @@
 use Rattle.std.proofs.Common.{◌≡◌, ◌<◌, ◌≤◌, List, [], ◌∷◌, length, get_or, map, sym, ap, ◌∙◌, arith, rules, codes}
 use Rattle.std.specs.String.{string_bytes}
-use Rattle.coda_main.specs.Words.{IsRun}
+use Rattle.coda_main.specs.Lines.{IsRun}
 use Rattle.coda_main.proofs.Reporting.{not_usage}
 use Rattle.coda_main.proofs.top.coda.Goals as goal
 
