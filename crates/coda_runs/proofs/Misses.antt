@@ -147,29 +147,36 @@ module _ (cell : Cell) (client volume : ℕ) (fid : Fid) (r : ReplicaState) (the
       let up : is_cut (links client r.server) ≡ false = ap (λ (l : ℕ → ℕ → Strength). is_cut (l client r.server)) (sym is) ∙ up_there cell client volume r.server can in
       sym (ap (λ (x : Option Nodes). offered x fid) (served_by (links client) ((state_of cell).replicas volume) r there_is up)) ∙ none
 
-  -- what a line does with a client and a volume, over these links
-  abbrev Did : (ℕ → ℕ → Strength) → List Event → (ℕ → ℕ → CellState → Reply → List Event → Type 0) → ℕ → ℕ → Type 0
-  Did links events Does c v = (links_to cell v ≡ links) × Does c v (met cell links) (refusal (refused.Miss fid)) events
+  -- over these links the client was asked to operate on the volume, or to show an object
+  abbrev DidOperate : (ℕ → ℕ → Strength) → List Event → Asked → ℕ → ℕ → Type 0
+  DidOperate links events ask c v =
+      (links_to cell v ≡ links) × Unless (first_missing (on_volume (met cell links) c v)) (ByClient (met cell links) c v (λ offers k. operate offers k (met cell links).clock v ask)) (refusal (refused.Miss fid)) events
 
-  operating : (links : ℕ → ℕ → Strength) (events : List Event) (ask : Asked)
-      → Did links events (λ c v s reply events. Unless (first_missing (on_volume s c v)) (ByClient s c v (λ offers k. operate offers k s.clock v ask)) reply events) client volume → map.get r.tree.nodes fid ≡ None
-  operating links events ask did = isnt_there links did.0 (operated (met cell links) events fid client volume ask (first_missing (on_volume (met cell links) client volume)) refl did.1)
+  abbrev DidShow : (ℕ → ℕ → Strength) → List Event → List Name → (Bool → NodeKind → Said) → ℕ → ℕ → Type 0
+  DidShow links events path show c v =
+      (links_to cell v ≡ links) × Unless (first_missing (on_volume (met cell links) c v)) (ByClient (met cell links) c v (λ offers k. show_object show offers k.held v path)) (refusal (refused.Miss fid)) events
 
-  showing : (links : ℕ → ℕ → Strength) (events : List Event) (path : List Name) (show : Bool → NodeKind → Said) → ShowsAll show
-      → Did links events (λ c v s reply events. Unless (first_missing (on_volume s c v)) (ByClient s c v (λ offers k. show_object show offers k.held v path)) reply events) client volume → map.get r.tree.nodes fid ≡ None
-  showing links events path show all did = isnt_there links did.0 (shown (met cell links) events fid client volume path show all (first_missing (on_volume (met cell links) client volume)) refl did.1)
+  operating : (c v : ℕ) (q : ℕ → ℕ → Strength) (events : List Event) (ask : Asked) → (let named : ℕ × ℕ = (c, v) in Some named ≡ Some (client, volume)) → DidOperate q events ask c v → map.get r.tree.nodes fid ≡ None
+  operating c v links events ask named does =
+      let did = at_named c v client volume (DidOperate links events ask) named does in
+      isnt_there links did.0 (operated (met cell links) events fid client volume ask (first_missing (on_volume (met cell links) client volume)) refl did.1)
+
+  showing : (c v : ℕ) (q : ℕ → ℕ → Strength) (events : List Event) (path : List Name) (show : Bool → NodeKind → Said) → ShowsAll show → (let named : ℕ × ℕ = (c, v) in Some named ≡ Some (client, volume)) → DidShow q events path show c v → map.get r.tree.nodes fid ≡ None
+  showing c v links events path show all named does =
+      let did = at_named c v client volume (DidShow links events path show) named does in
+      isnt_there links did.0 (shown (met cell links) events fid client volume path show all (first_missing (on_volume (met cell links) client volume)) refl did.1)
 
   task_so : (t : Task) (q : IsMet cell (line.Task t)) (events : List Event) → Does (met cell q.links) (line.Task t) (refusal (refused.Miss fid)) events → named_by t ≡ Some (client, volume) → map.get r.tree.nodes fid ≡ None
-  task_so (task.Create c v path mode owner) q events does named = operating q.links events (Create path (unwrap_or mode 420) (unwrap_or owner 0)) (at_named c v client volume (Did q.links events _) named (ap (λ (s : CellState). s.links) q.is, does))
-  task_so (task.Mkdir c v path mode owner) q events does named = operating q.links events (Mkdir path (unwrap_or mode 493) (unwrap_or owner 0)) (at_named c v client volume (Did q.links events _) named (ap (λ (s : CellState). s.links) q.is, does))
-  task_so (task.Symlink c v path target) q events does named = operating q.links events (Symlink path target) (at_named c v client volume (Did q.links events _) named (ap (λ (s : CellState). s.links) q.is, does))
-  task_so (task.Store c v path content) q events does named = operating q.links events (Store path (bytes_of content)) (at_named c v client volume (Did q.links events _) named (ap (λ (s : CellState). s.links) q.is, does))
-  task_so (task.Setattr c v path attrs) q events does named = operating q.links events (Setattr path attrs) (at_named c v client volume (Did q.links events _) named (ap (λ (s : CellState). s.links) q.is, does))
-  task_so (task.Remove c v path) q events does named = operating q.links events (Remove path) (at_named c v client volume (Did q.links events _) named (ap (λ (s : CellState). s.links) q.is, does))
-  task_so (task.Rmdir c v path) q events does named = operating q.links events (Rmdir path) (at_named c v client volume (Did q.links events _) named (ap (λ (s : CellState). s.links) q.is, does))
-  task_so (task.Rename c v from to) q events does named = operating q.links events (Rename from to) (at_named c v client volume (Did q.links events _) named (ap (λ (s : CellState). s.links) q.is, does))
-  task_so (task.Read c v path) q events does named = showing q.links events path read_in reads_all (at_named c v client volume (Did q.links events _) named (ap (λ (s : CellState). s.links) q.is, does))
-  task_so (task.List c v path) q events does named = showing q.links events path list_in lists_all (at_named c v client volume (Did q.links events _) named (ap (λ (s : CellState). s.links) q.is, does))
+  task_so (task.Create c v path mode owner) q events does named = operating c v q.links events (Create path (unwrap_or mode 420) (unwrap_or owner 0)) named (ap (λ (s : CellState). s.links) q.is, does)
+  task_so (task.Mkdir c v path mode owner) q events does named = operating c v q.links events (Mkdir path (unwrap_or mode 493) (unwrap_or owner 0)) named (ap (λ (s : CellState). s.links) q.is, does)
+  task_so (task.Symlink c v path target) q events does named = operating c v q.links events (Symlink path target) named (ap (λ (s : CellState). s.links) q.is, does)
+  task_so (task.Store c v path content) q events does named = operating c v q.links events (Store path (bytes_of content)) named (ap (λ (s : CellState). s.links) q.is, does)
+  task_so (task.Setattr c v path attrs) q events does named = operating c v q.links events (Setattr path attrs) named (ap (λ (s : CellState). s.links) q.is, does)
+  task_so (task.Remove c v path) q events does named = operating c v q.links events (Remove path) named (ap (λ (s : CellState). s.links) q.is, does)
+  task_so (task.Rmdir c v path) q events does named = operating c v q.links events (Rmdir path) named (ap (λ (s : CellState). s.links) q.is, does)
+  task_so (task.Rename c v from to) q events does named = operating c v q.links events (Rename from to) named (ap (λ (s : CellState). s.links) q.is, does)
+  task_so (task.Read c v path) q events does named = showing c v q.links events path read_in reads_all named (ap (λ (s : CellState). s.links) q.is, does)
+  task_so (task.List c v path) q events does named = showing c v q.links events path list_in lists_all named (ap (λ (s : CellState). s.links) q.is, does)
   task_so (task.Drain c v server window) q events does named = cc
   task_so (task.Hardlink c v from to) q events does named = cc
   task_so (task.Refresh c v server) q events does named = cc

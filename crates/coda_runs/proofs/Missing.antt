@@ -1,19 +1,21 @@
 -- What a client misses of what it was asked can't be fetched.
-use Rattle.std.proofs.Common.{◌≡◌, ℕ, true, List, [], ◌∷◌, ◌++◌, Option, Some, None, option_map, Result, Ok, Err, refl, sym, ap, subst, ◌∙◌, ◌⊎◌}
+use Rattle.std.proofs.Common.{◌≡◌, ℕ, true, List, [], ◌∷◌, ◌++◌, Option, Some, None, option_map, Result, Ok, Err, refl, sym, ap, subst, ◌∙◌, inl, inr}
 use Rattle.std.specs.FinMap as map
 use Rattle.std.specs.Prelude.{is_some}
+use Rattle.std.proofs.lemmas.Option.{none-some}
 use Rattle.coda_fid.specs.Fid.{root_of}
 use Rattle.coda_fid.specs.declared.fid.Fid.{Fid}
 use Rattle.coda_fid.specs.declared.op.Op.{Op}
 use Rattle.coda_tree.specs.declared.node.Node.{Node}
 use Rattle.coda_tree.specs.declared.node.NodeKind.{NodeKind}
 use Rattle.coda_tree.specs.declared.node.NodeKind.TheVariants.{File, Link, Dir}
+use Rattle.coda_fid.specs.Name.{name_cmp}
 use Rattle.coda_tree.specs.Bindings.{Name}
 use Rattle.coda_tree.specs.Volume.{Nodes, bindings, child, child_of}
 use Rattle.coda_cell.specs.Ask.{Asked, Create, Mkdir, Symlink, Store, Setattr, Remove, Rmdir, Rename, Ending, ending, front_of}
 use Rattle.coda_cell.specs.Asking.{look_ups, rename_look_ups}
 use Rattle.coda_cell.specs.Held.{Held, held_after_fetches}
-use Rattle.coda_cell.specs.Looking.{held, found, step_in, step_from, resolve, offered, look_on, look_along}
+use Rattle.coda_cell.specs.Looking.{then_find, held, found, step_in, step_from, resolve, offered, look_on, look_along}
 use Rattle.coda_cell.specs.Accepting.{Sight, accept}
 use Rattle.coda_cell.specs.Refused.{Refused}
 use Rattle.coda_cell.specs.Refused as refused
@@ -21,7 +23,7 @@ use Rattle.coda_cell.proofs.Fetches.{held_after_both}
 use Rattle.coda_runs.specs.Performed.{Leads}
 use Rattle.coda_runs.specs.Causes.{Reaches, MeetsUnheld, OnTheWay, NotBound, NoDirectory, NotHeld, BeforeLast, CreationCause, NoParent, ParentIsNoDir, RootIsThere, NameIsBound, ObjectIsHeld, NoneIsLeft, RootIsNotHeld, StoreCause, NoFile, FileIsDir, FileIsLink, RemoveCause, NoObject, ObjectIsRoot, ObjectIsDir, RmdirCause, NoDir, DirIsRoot, DirIsNone, DirIsInUse, PlaceCause, NoPlace, PlaceIsNoDir, OtherIsNotHeld, RenameCause, NoOld, NoNew, NewIsRoot, NewIsTaken, OldIsRoot, NewIsBelow}
 use Rattle.coda_runs.proofs.Causes.{creation_cause, store_cause, setattr_cause, remove_cause, rmdir_cause, rename_cause, first_of_rename}
-use Rattle.coda_runs.proofs.Sought.{IsSought, AreSought, HasMore, still_sought, has_more_itself, looks_along}
+use Rattle.coda_runs.proofs.Sought.{IsSought, AreSought, still_sought, looks_along}
 
 -- ---- where names lead
 
@@ -30,8 +32,8 @@ step_to : (m : Nodes) (at : Fid) (name : Name) (next : Fid) → child m at name 
 step_to m at name next bound = by (map.get m at) bound
   where
     in_kind : (kind : NodeKind) → map.get (bindings kind) name ≡ Some next → step_in kind name ≡ Ok next
-    in_kind (File content) h = cc
-    in_kind (Link target) h = cc
+    in_kind (File content) h = absurd (none-some next (sym (map.get-empty name_cmp name) ∙ h))
+    in_kind (Link target) h = absurd (none-some next (sym (map.get-empty name_cmp name) ∙ h))
     in_kind (Dir entries) h = ap found h
 
     by : (o : Option Node) → child_of o name ≡ Some next → step_from o at name ≡ Ok next
@@ -45,12 +47,7 @@ resolve_to m at [] fid leads_to = by (map.get m at) leads_to.1
     by : (o : Option Node) → is_some o ≡ true → held o at ≡ Ok fid
     by None h = cc
     by (Some node) h = ap (λ (f : Fid). Ok f) leads_to.0
-resolve_to m at (name ∷ names) fid leads_to =
-    ap (λ (r : Result Fid Refused). then_resolve r) (step_to m at name leads_to.0 leads_to.1) ∙ resolve_to m leads_to.0 names fid leads_to.2
-  where
-    abbrev then_resolve : Result Fid Refused → Result Fid Refused
-    then_resolve (Err why) = Err why
-    then_resolve (Ok next) = resolve m next names
+resolve_to m at (name ∷ names) fid leads_to = ap (λ r. then_find r (λ next. resolve m next names)) (step_to m at name leads_to.0 leads_to.1) ∙ resolve_to m leads_to.0 names fid leads_to.2
 
 -- a path's names before its last one
 front_is : (front : List Name) (last : Name) → front_of (ending (front ++ last ∷ [])) ≡ front
