@@ -120,12 +120,12 @@ module _ (s : CellState) (events : List Event) (fid : Fid) where
       elim (outcome offers c s.clock volume ask) [
         | IsDone number object said ↦ (let no : refusal (refused.Miss fid) ≡ Done number object = did.answered ∙ ap reply_to said in cc)
         | IsRefused why said entries cause ↦ (
-          let miss = is_miss_of fid why (did.answered ∙ ap reply_to said) in
-          elim cause [
-            | inl isnt ↦ asked_so offers sight volume fid why miss ask (looks_for offers c.held volume ask) isnt
-            | inr full ↦ absurd (not_full (c.volumes volume) why miss full)
-          ]
-        )
+            let miss = is_miss_of fid why (did.answered ∙ ap reply_to said) in
+            elim cause [
+              | inl isnt ↦ asked_so offers sight volume fid why miss ask (looks_for offers c.held volume ask) isnt
+              | inr full ↦ absurd (not_full (c.volumes volume) why miss full)
+            ]
+            )
         | IsTooBig length said entries big ↦ (let no : refused.TooBig length ≡ refused.Miss fid = is_miss_of fid (refused.TooBig length) (did.answered ∙ ap reply_to said) in cc)
       ]
 
