@@ -1,0 +1,288 @@
+-- The first column that is wrong of some lines, and of what they are behind one more word.
+use Rattle.std.proofs.Common.{◌≡◌, ℕ, ◌+◌, Bool, true, false, ◌⊎◌, inl, inr, List, [], ◌∷◌, ◌++◌, map, Option, Some, None, Result, Ok, Err, refl, sym, ap, subst, ◌∙◌, arith}
+use Rattle.std.specs.Prelude.{codes, ◌&&◌, ◌||◌, not, nat_le, if◌then◌else◌, is_some}
+use Rattle.std.specs.Fmt.{decimal}
+use Rattle.std.proofs.lemmas.Bool.{false≢true, leb-true}
+use Rattle.coda_engine.specs.declared.status.Kind.{Kind}
+use Rattle.coda_engine.specs.declared.status.Kind.TheVariants as kinds
+use Rattle.coda_text.specs.Numbers.{number_of, number_from}
+use Rattle.coda_text.specs.Texts.{decoded}
+use Rattle.coda_text.specs.Words.{Split, Word, rest_of}
+use Rattle.coda_text.proofs.Joining.{number_again}
+use Rattle.coda_script.specs.declared.line.Line.{Line}
+use Rattle.coda_script.specs.declared.line.Rights.{Rights}
+use Rattle.coda_script.specs.Slots.{NumberSlot, between, octal, TextSlot, number_in, path_in, name_in, rights_in, text_in, has_room, is_word, is_server}
+use Rattle.coda_script.specs.Form.{Form, ends, nothing, either, a_number, a_path, a_name, some_rights, a_text, perhaps, servers_above}
+use Rattle.coda_script.specs.Reading.{Fault, ◌>>=◌, slot_at, is_next, missing, servers_at, option_at, read}
+use Rattle.coda_script.specs.Spelling.{begins, SpellServers, Spells}
+use Rattle.coda_script.specs.FirstWrong.{column_of}
+use Rattle.coda_script.specs.FirstColumn.{BeginsOne, MayStand, NoneGoesOn, is_lettered, EndsAtLastServer, IsWanted}
+use Rattle.coda_script.proofs.Avoiding.{avoids, avoided, and_left, and_right}
+use Rattle.coda_script.proofs.Binding.{split, texts, chosen, first_is, is_itself, some_is}
+use Rattle.coda_script.proofs.Going.{Whole, least, holds_one, lives, least_held, alive, is_behind, counts, settled, full, Sure, Good, Goes}
+use Rattle.coda_script.proofs.Possible.{Holds, IsClear, number_text, number_again_in, servers_spelled}
+use Rattle.coda_script.proofs.WrongColumns.{faulty, head_is, tail_is, none_some, cases_option, SpellsSlot, not_word, cases_is, one_pair, one_more, no_servers, no_number, one_server, some_pair, option_taken}
+
+abbrev pub Lines : Type 1
+Lines = List (List ℕ) → Type 0
+
+-- ---- what is told of a column, and at the head of what
+
+-- what is missing, or no word, at the line's end
+abbrev pub end_kind : Option ℕ → Kind
+end_kind breaks = if is_some breaks then kinds.Text else kinds.Count
+
+-- what is told: at the head, something of the head's own
+abbrev pub Told : Lines → (Kind → Type 0) → List Word → List Word → Option ℕ → Kind → Type 0
+Told P H before [] breaks kind = kind ≡ end_kind breaks
+Told P H [] (w ∷ ws) breaks kind = H kind
+Told P H (b ∷ bs) (w ∷ ws) breaks kind = IsWanted P (texts (b ∷ bs)) kind
+
+-- the column is the first that is wrong, of these lines, with those exceptions
+pub record First (P X : Lines) (H : Kind → Type 0) (ws : List Word) (end : ℕ) (breaks : Option ℕ) (column : ℕ) (kind : Kind) : Type 0 where
+  pub before : List Word
+  pub after : List Word
+  pub parts : ws ≡ before ++ after
+  pub place : column ≡ column_of end after
+  pub starts : (before ≡ []) ⊎ (BeginsOne P (texts before) ⊎ X (texts before))
+  pub none : (after ≡ [] → breaks ≡ None) → NoneGoesOn P (texts before) after
+  pub told : Told P H before after breaks kind
+
+-- what may be told at the head of a form
+abbrev pub AtHead : Form → Kind → Type 0
+AtHead f kinds.Word = (settled f ≡ false) ⊎ IsWanted (Whole f) [] kinds.Word
+AtHead f kinds.Number = (full f ≡ false) ⊎ IsWanted (Whole f) [] kinds.Number
+AtHead f kinds.Text = IsWanted (Whole f) [] kinds.Text
+AtHead f kinds.Path = IsWanted (Whole f) [] kinds.Path
+AtHead f kinds.Count = counts f ≡ true
+AtHead f kinds.Mode = ⊥
+AtHead f kinds.Actors = ⊥
+
+-- ---- behind one more word
+
+may_behind : (P Q : Lines) (t : List ℕ) → ((ts : List (List ℕ)) → Q ts → P (t ∷ ts)) → (front : List (List ℕ)) (word : List ℕ) → MayStand Q front word → MayStand P (t ∷ front) word
+may_behind P Q t forth front word m = (m.0, forth (front ++ word ∷ m.0) m.1)
+
+pub wanted_behind : (P Q : Lines) (t : List ℕ) → ((ts : List (List ℕ)) → P (t ∷ ts) → Q ts) → ((ts : List (List ℕ)) → Q ts → P (t ∷ ts)) → (front : List (List ℕ)) (kind : Kind) → IsWanted Q front kind → IsWanted P (t ∷ front) kind
+wanted_behind P Q t back forth front kinds.Count i = (forth front i.0, λ word m. i.1 word (m.0, back (front ++ word ∷ m.0) m.1))
+wanted_behind P Q t back forth front kinds.Word i = (i.0, i.1, may_behind P Q t forth front i.0 i.2)
+wanted_behind P Q t back forth front kinds.Number (inl i) = inl (i.0, i.1, i.2, may_behind P Q t forth front i.0 i.3)
+wanted_behind P Q t back forth front kinds.Number (inr i) = inr (t ∷ i.0, i.1, ap (λ (x : List (List ℕ)). t ∷ x) i.2, i.3)
+wanted_behind P Q t back forth front kinds.Path (inl i) = inl (λ word e. may_behind P Q t forth front word (i word e))
+wanted_behind P Q t back forth front kinds.Path (inr i) = inr (λ word e. may_behind P Q t forth front word (i word e))
+wanted_behind P Q t back forth front kinds.Text i = (i.0, i.1, i.2, i.3, may_behind P Q t forth front i.0 i.4)
+wanted_behind P Q t back forth front kinds.Mode i = absurd i
+wanted_behind P Q t back forth front kinds.Actors i = absurd i
+
+told_behind : (P Q : Lines) (H K : Kind → Type 0) (w : Word) (breaks : Option ℕ) → ((ts : List (List ℕ)) → P (w.text ∷ ts) → Q ts) → ((ts : List (List ℕ)) → Q ts → P (w.text ∷ ts)) → ((kind : Kind) → K kind → IsWanted P (w.text ∷ []) kind)
+    → (before after : List Word) (kind : Kind) → Told Q K before after breaks kind → Told P H (w ∷ before) after breaks kind
+told_behind P Q H K w breaks back forth head before [] kind t = t
+told_behind P Q H K w breaks back forth head [] (v ∷ vs) kind t = head kind t
+told_behind P Q H K w breaks back forth head (b ∷ bs) (v ∷ vs) kind t = wanted_behind P Q w.text back forth (texts (b ∷ bs)) kind t
+
+none_behind : (P Q : Lines) (t : List ℕ) (front : List (List ℕ)) (after : List Word) → ((ts : List (List ℕ)) → P (t ∷ ts) → Q ts) → NoneGoesOn Q front after → NoneGoesOn P (t ∷ front) after
+none_behind P Q t front [] back n = λ p. n (back front p)
+none_behind P Q t front (w ∷ ws) back n = λ m. n (m.0, back (front ++ w.text ∷ m.0) m.1)
+
+starts_behind : (P Q X Y : Lines) (w : Word) → ((ts : List (List ℕ)) → Q ts → P (w.text ∷ ts)) → ((ts : List (List ℕ)) → Y ts → X (w.text ∷ ts)) → BeginsOne Q [] ⊎ X (w.text ∷ [])
+    → (before : List Word) → (before ≡ []) ⊎ (BeginsOne Q (texts before) ⊎ Y (texts before)) → BeginsOne P (w.text ∷ texts before) ⊎ X (w.text ∷ texts before)
+starts_behind P Q X Y w forth with head before (inr (inl s)) = inl (s.0, forth (texts before ++ s.0) s.1)
+starts_behind P Q X Y w forth with head before (inr (inr x)) = inr (with (texts before) x)
+starts_behind P Q X Y w forth with (inl s) [] (inl e) = inl (s.0, forth s.0 s.1)
+starts_behind P Q X Y w forth with (inr x) [] (inl e) = inr x
+starts_behind P Q X Y w forth with head (b ∷ bs) (inl e) = absurd cc
+
+pub behind : (P Q X Y : Lines) (H K : Kind → Type 0) (w : Word) (ws : List Word) (end : ℕ) (breaks : Option ℕ) (column : ℕ) (kind : Kind)
+    → ((ts : List (List ℕ)) → P (w.text ∷ ts) → Q ts) → ((ts : List (List ℕ)) → Q ts → P (w.text ∷ ts)) → ((ts : List (List ℕ)) → Y ts → X (w.text ∷ ts))
+    → BeginsOne Q [] ⊎ X (w.text ∷ []) → ((k : Kind) → K k → IsWanted P (w.text ∷ []) k)
+    → First Q Y K ws end breaks column kind → First P X H (w ∷ ws) end breaks column kind
+behind P Q X Y H K w ws end breaks column kind back forth with starts head r =
+    record {
+      before = w ∷ r.before;
+      after = r.after;
+      parts = ap (λ (x : List Word). w ∷ x) r.parts;
+      place = r.place;
+      starts = inr (starts_behind P Q X Y w forth with starts r.before r.starts);
+      none = λ whole. none_behind P Q w.text (texts r.before) r.after back (r.none whole);
+      told = told_behind P Q H K w breaks back forth head r.before r.after kind r.told;
+    }
+
+-- ---- where the next word isn't one of some
+
+next_stays : (test : List ℕ → Bool) (b : Word) (bs ws : List Word) (ts : List (List ℕ)) → is_next test ((b ∷ bs) ++ ws) ≡ false → begins test (texts (b ∷ bs) ++ ts) ≡ false
+next_stays test b bs ws ts e = e
+
+may_stay : (P Q : Lines) → ((ts : List (List ℕ)) → Q ts → P ts) → (front : List (List ℕ)) (word : List ℕ) → MayStand Q front word → MayStand P front word
+may_stay P Q forth front word m = (m.0, forth (front ++ word ∷ m.0) m.1)
+
+-- what isn't told as one too many
+abbrev pub NotCount : Kind → Type 0
+NotCount kinds.Word = Unit {0}
+NotCount kinds.Number = Unit {0}
+NotCount kinds.Text = Unit {0}
+NotCount kinds.Path = Unit {0}
+NotCount kinds.Count = ⊥
+NotCount kinds.Mode = Unit {0}
+NotCount kinds.Actors = Unit {0}
+
+pub wanted_stays : (P Q : Lines) → ((ts : List (List ℕ)) → Q ts → P ts) → (front : List (List ℕ)) (kind : Kind) → NotCount kind → IsWanted Q front kind → IsWanted P front kind
+wanted_stays P Q forth front kinds.Count other i = absurd other
+wanted_stays P Q forth front kinds.Word other i = (i.0, i.1, may_stay P Q forth front i.0 i.2)
+wanted_stays P Q forth front kinds.Number other (inl i) = inl (i.0, i.1, i.2, may_stay P Q forth front i.0 i.3)
+wanted_stays P Q forth front kinds.Number other (inr i) = inr i
+wanted_stays P Q forth front kinds.Path other (inl i) = inl (λ word e. may_stay P Q forth front word (i word e))
+wanted_stays P Q forth front kinds.Path other (inr i) = inr (λ word e. may_stay P Q forth front word (i word e))
+wanted_stays P Q forth front kinds.Text other i = (i.0, i.1, i.2, i.3, may_stay P Q forth front i.0 i.4)
+wanted_stays P Q forth front kinds.Mode other i = absurd i
+wanted_stays P Q forth front kinds.Actors other i = absurd i
+
+wanted_forth : (P Q : Lines) → ((ts : List (List ℕ)) → Q ts → P ts) → (front : List (List ℕ)) (kind : Kind) → ((word : List ℕ) (more : List (List ℕ)) → P (front ++ word ∷ more) → Q (front ++ word ∷ more)) → IsWanted Q front kind → IsWanted P front kind
+wanted_forth P Q forth front kinds.Count back i = (forth front i.0, λ word m. i.1 word (m.0, back word m.0 m.1))
+wanted_forth P Q forth front kinds.Word back i = wanted_stays P Q forth front kinds.Word tt i
+wanted_forth P Q forth front kinds.Number back i = wanted_stays P Q forth front kinds.Number tt i
+wanted_forth P Q forth front kinds.Path back i = wanted_stays P Q forth front kinds.Path tt i
+wanted_forth P Q forth front kinds.Text back i = wanted_stays P Q forth front kinds.Text tt i
+wanted_forth P Q forth front kinds.Mode back i = absurd i
+wanted_forth P Q forth front kinds.Actors back i = absurd i
+
+told_stays : (P Q : Lines) (H K : Kind → Type 0) (test : List ℕ → Bool) (breaks : Option ℕ) → ((ts : List (List ℕ)) → begins test ts ≡ false → P ts → Q ts) → ((ts : List (List ℕ)) → Q ts → P ts) → ((w : Word) → test w.text ≡ false → (kind : Kind) → K kind → H kind)
+    → (before after : List Word) (kind : Kind) → is_next test (before ++ after) ≡ false → Told Q K before after breaks kind → Told P H before after breaks kind
+told_stays P Q H K test breaks back forth head before [] kind e t = t
+told_stays P Q H K test breaks back forth head [] (v ∷ vs) kind e t = head v e kind t
+told_stays P Q H K test breaks back forth head (b ∷ bs) (v ∷ vs) kind e t =
+    wanted_forth P Q forth (texts (b ∷ bs)) kind (λ word more. back (texts (b ∷ bs) ++ word ∷ more) (next_stays test b bs (v ∷ vs) (word ∷ more) e)) t
+
+none_stays : (P Q : Lines) (test : List ℕ → Bool) → ((ts : List (List ℕ)) → begins test ts ≡ false → P ts → Q ts) → (before after : List Word) → is_next test (before ++ after) ≡ false → NoneGoesOn Q (texts before) after → NoneGoesOn P (texts before) after
+none_stays P Q test back [] [] e n = λ p. n (back [] refl p)
+none_stays P Q test back [] (w ∷ ws) e n = λ m. n (m.0, back (w.text ∷ m.0) e m.1)
+none_stays P Q test back (b ∷ bs) [] e n = λ p. n (back (texts (b ∷ bs)) e p)
+none_stays P Q test back (b ∷ bs) (w ∷ ws) e n = λ m. n (m.0, back (texts (b ∷ bs) ++ w.text ∷ m.0) e m.1)
+
+starts_stay : (P Q X Y : Lines) → ((ts : List (List ℕ)) → Q ts → P ts) → ((ts : List (List ℕ)) → Y ts → X ts) → (before : List Word)
+    → (before ≡ []) ⊎ (BeginsOne Q (texts before) ⊎ Y (texts before)) → (before ≡ []) ⊎ (BeginsOne P (texts before) ⊎ X (texts before))
+starts_stay P Q X Y forth with before (inl e) = inl e
+starts_stay P Q X Y forth with before (inr (inl s)) = inr (inl (s.0, forth (texts before ++ s.0) s.1))
+starts_stay P Q X Y forth with before (inr (inr x)) = inr (inr (with (texts before) x))
+
+pub stays : (P Q X Y : Lines) (H K : Kind → Type 0) (test : List ℕ → Bool) (ws : List Word) (end : ℕ) (breaks : Option ℕ) (column : ℕ) (kind : Kind)
+    → is_next test ws ≡ false → ((ts : List (List ℕ)) → begins test ts ≡ false → P ts → Q ts) → ((ts : List (List ℕ)) → Q ts → P ts) → ((ts : List (List ℕ)) → Y ts → X ts)
+    → ((w : Word) → test w.text ≡ false → (k : Kind) → K k → H k)
+    → First Q Y K ws end breaks column kind → First P X H ws end breaks column kind
+stays P Q X Y H K test ws end breaks column kind e back forth with head r =
+    let e' : is_next test (r.before ++ r.after) ≡ false = ap (is_next test) (sym r.parts) ∙ e in
+    record {
+      before = r.before;
+      after = r.after;
+      parts = r.parts;
+      place = r.place;
+      starts = starts_stay P Q X Y forth with r.before r.starts;
+      none = λ whole. none_stays P Q test back r.before r.after e' (r.none whole);
+      told = told_stays P Q H K test breaks back forth head r.before r.after kind e' r.told;
+    }
+
+-- ---- nothing stands before it
+
+-- the kind of a fault
+pub of_kind : {A : Type 0} (d : Fault) (column : ℕ) (kind : Kind) → (let r : Result A Fault = Err d in r) ≡ Err (column, kind) → d.1 ≡ kind
+of_kind d column kind e = cc
+
+pub at_end : (P X : Lines) (H : Kind → Type 0) (end : ℕ) (breaks : Option ℕ) (column : ℕ) (kind : Kind) → end + 1 ≡ column → end_kind breaks ≡ kind → (P [] → ⊥) → First P X H [] end breaks column kind
+at_end P X H end breaks column kind e k never = record { before = []; after = []; parts = refl; place = sym e; starts = inl refl; none = λ whole. never; told = sym k }
+
+pub at_word : (P X : Lines) (H : Kind → Type 0) (w : Word) (ws : List Word) (end : ℕ) (breaks : Option ℕ) (column : ℕ) (kind : Kind) → w.at + 1 ≡ column → H kind → (MayStand P [] w.text → ⊥) → First P X H (w ∷ ws) end breaks column kind
+at_word P X H w ws end breaks column kind e h never = record { before = []; after = w ∷ ws; parts = refl; place = sym e; starts = inl refl; none = λ whole. never; told = h }
+
+-- ---- what the head of a form tells, behind a word
+
+over : (f : Form) → counts f ≡ true → Whole f [] × ((word : List ℕ) → MayStand (Whole f) [] word → ⊥)
+over (ends kind said) e = ((said, (refl, refl)), λ word m. let n = m.1.1.0 in absurd cc)
+over nothing e = absurd cc
+over (either word so other) e = absurd cc
+over (a_number slot next) e = absurd cc
+over (a_path next) e = absurd cc
+over (a_name next) e = absurd cc
+over (some_rights next) e = absurd cc
+over (a_text slot next) e = absurd cc
+over (perhaps word slot next) e = absurd cc
+over (servers_above all last next) e = absurd cc
+
+pub resolved : (P : Lines) (f : Form) (t : List ℕ) → ((ts : List (List ℕ)) → P (t ∷ ts) → Whole f ts) → ((ts : List (List ℕ)) → Whole f ts → P (t ∷ ts)) → settled f ≡ true → (full f ≡ true) ⊎ (number_of t ≡ Some 8)
+    → (kind : Kind) → AtHead f kind → IsWanted P (t ∷ []) kind
+resolved P f t back forth set fits kinds.Word (inl un) = absurd (false≢true (sym un ∙ set))
+resolved P f t back forth set fits kinds.Word (inr i) = wanted_behind P (Whole f) t back forth [] kinds.Word i
+resolved P f t back forth set (inl fits) kinds.Number (inl un) = absurd (false≢true (sym un ∙ fits))
+resolved P f t back forth set (inr last) kinds.Number (inl un) = inr ([], t, refl, last)
+resolved P f t back forth set fits kinds.Number (inr i) = wanted_behind P (Whole f) t back forth [] kinds.Number i
+resolved P f t back forth set fits kinds.Text i = wanted_behind P (Whole f) t back forth [] kinds.Text i
+resolved P f t back forth set fits kinds.Path i = wanted_behind P (Whole f) t back forth [] kinds.Path i
+resolved P f t back forth set fits kinds.Count c = wanted_behind P (Whole f) t back forth [] kinds.Count (over f c)
+resolved P f t back forth set fits kinds.Mode h = absurd h
+resolved P f t back forth set fits kinds.Actors h = absurd h
+
+-- ---- a word with a value
+
+pub begun : (X : Lines) (w : List ℕ) (f : Form) → IsClear f → (lives f ≡ true) ⊎ X (w ∷ []) → BeginsOne (Whole f) [] ⊎ X (w ∷ [])
+begun X w f clear (inl e) = inl (alive f clear e)
+begun X w f clear (inr x) = inr x
+
+pub slot_first : {A : Type 0} (X : Lines) (f : Form) (kind : Kind) (value : List ℕ → Option A) (next : A → Form) (ws : List Word) (end : ℕ) (breaks : Option ℕ) (column : ℕ) (k : Kind)
+    → ((ts : List (List ℕ)) (line : Line) → Spells f ts line → SpellsSlot value next ts line) → ((ts : List (List ℕ)) (line : Line) → SpellsSlot value next ts line → Spells f ts line)
+    → AtHead f kind
+    → ((w : List ℕ) (x : A) → value w ≡ Some x → (BeginsOne (Whole (next x)) [] ⊎ X (w ∷ [])) × (settled (next x) ≡ true) × ((full (next x) ≡ true) ⊎ (number_of w ≡ Some 8)))
+    → (slot_at kind value (split ws end breaks) >>= (λ n. read (next n.0) n.1)) ≡ Err (column, k)
+    → ((w : List ℕ) (x : A) → value w ≡ Some x → (rest : List Word) → read (next x) (split rest end breaks) ≡ Err (column, k) → First (Whole (next x)) (λ ts. X (w ∷ ts)) (AtHead (next x)) rest end breaks column k)
+    → First (Whole f) X (AtHead f) ws end breaks column k
+unfolding slot_at
+slot_first X f kind value next [] end breaks column k same again head good e rec =
+    at_end (Whole f) X (AtHead f) end breaks column k (faulty (missing (split [] end breaks)) column k e) (of_kind (missing (split [] end breaks)) column k e) (λ p. let t = same [] p.0 p.1 in absurd (let n = t.2 in cc))
+slot_first {A} X f kind value next (w ∷ ws) end breaks column k same again head good e rec =
+    elim (cases_option (value w.text)) [
+      | inl none ↦
+          let e' : (let r : Result Line Fault = Err (w.at + 1, kind) in r) ≡ Err (column, k) = rw none at e in
+          at_word (Whole f) X (AtHead f) w ws end breaks column k (faulty (w.at + 1, kind) column k e') (subst (AtHead f) (of_kind (w.at + 1, kind) column k e') head) (λ m.
+          let t = same (w.text ∷ m.0) m.1.0 m.1.1 in
+          none_some t.3 (sym none ∙ ap value (head_is w.text t.0 m.0 t.1 t.2) ∙ t.4))
+      | inr some ↦
+          let x = some.0 in
+          let g = good w.text x some.1 in
+          let back : (ts : List (List ℕ)) → Whole f (w.text ∷ ts) → Whole (next x) ts = λ ts p.
+            let t = same (w.text ∷ ts) p.0 p.1 in
+            let y : t.3 ≡ x = some_is t.3 x (sym t.4 ∙ ap value (sym (head_is w.text t.0 ts t.1 t.2)) ∙ some.1) in
+            (p.0, subst (λ (z : A). Spells (next z) ts p.0) y (subst (λ (us : List (List ℕ)). Spells (next t.3) us p.0) (sym (tail_is w.text t.0 ts t.1 t.2)) t.5)) in
+          let forth : (ts : List (List ℕ)) → Whole (next x) ts → Whole f (w.text ∷ ts) = λ ts p. (p.0, again (w.text ∷ ts) p.0 (w.text, ts, refl, x, some.1, p.1)) in
+          behind (Whole f) (Whole (next x)) X (λ ts. X (w.text ∷ ts)) (AtHead f) (AtHead (next x)) w ws end breaks column k back forth (λ ts y. y) g.0 (resolved (Whole f) (next x) w.text back forth g.1 g.2) (rec w.text x some.1 ws (rw some.1 at e))
+    ]
+
+-- ---- what the head of a form tells
+
+pub is_given : {A : Type 0} (o : Option A) → is_some o ≡ true → (x : A) × (o ≡ Some x)
+is_given (Some x) e = (x, refl)
+is_given None e = absurd cc
+
+pub numeral : (slot : NumberSlot) → Holds slot (least slot) → (n : ℕ) × (number_of (number_text slot (least slot)) ≡ Some n)
+unfolding number_from
+numeral (between low high) h = (low, number_again low h.1)
+numeral octal h = (0, refl)
+
+pub number_head : (slot : NumberSlot) (next : ℕ → Form) → ((n : ℕ) → IsClear (next n)) → AtHead (a_number slot next) kinds.Number
+number_head slot next clear =
+    elim (cases_is (holds_one slot && lives (next (least slot)))) [
+      | inr none ↦ inl none
+      | inl one ↦
+          let n = least slot in
+          let held = least_held slot (and_left (holds_one slot) (lives (next n)) one) in
+          let a = alive (next n) (clear n) (and_right (holds_one slot) (lives (next n)) one) in
+          let k = numeral slot held in
+          inr (inl (number_text slot n, k.0, k.1, (a.0, (a.1.0, (number_text slot n, a.0, refl, n, number_again_in slot n held, a.1.1)))))
+    ]
+
+-- some form's words are those of another, but where one word begins them
+pub stays_head : (f g : Form) → ((ts : List (List ℕ)) → Whole g ts → Whole f ts) → IsWanted (Whole f) [] kinds.Word → full g ≡ true → counts g ≡ false → (kind : Kind) → AtHead g kind → AtHead f kind
+stays_head f g forth word fits uncounted kinds.Word h = inr word
+stays_head f g forth word fits uncounted kinds.Number (inl un) = absurd (false≢true (sym un ∙ fits))
+stays_head f g forth word fits uncounted kinds.Number (inr i) = inr (wanted_stays (Whole f) (Whole g) forth [] kinds.Number tt i)
+stays_head f g forth word fits uncounted kinds.Text i = wanted_stays (Whole f) (Whole g) forth [] kinds.Text tt i
+stays_head f g forth word fits uncounted kinds.Path i = wanted_stays (Whole f) (Whole g) forth [] kinds.Path tt i
+stays_head f g forth word fits uncounted kinds.Count c = absurd (false≢true (sym uncounted ∙ c))
+stays_head f g forth word fits uncounted kinds.Mode h = absurd h
+stays_head f g forth word fits uncounted kinds.Actors h = absurd h
