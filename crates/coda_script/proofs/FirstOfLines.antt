@@ -5,7 +5,8 @@ use Rattle.std.specs.Option.{option_map_or}
 use Rattle.std.proofs.lemmas.Bool.{false≢true}
 use Rattle.coda_engine.specs.declared.status.Kind.{Kind}
 use Rattle.coda_engine.specs.declared.status.Kind.TheVariants as kinds
-use Rattle.coda_text.specs.Numbers.{number_from}
+use Rattle.coda_text.specs.Numbers.{number_from, begins_with_digit}
+use Rattle.coda_text.specs.Texts.{is_quoted}
 use Rattle.coda_text.specs.Words.{Split, Word, split_of}
 use Rattle.coda_script.specs.declared.line.Line.{Line}
 use Rattle.coda_script.specs.declared.line.Line.TheVariants.{Task}
@@ -16,12 +17,13 @@ use Rattle.coda_script.specs.Table.{script, create_form}
 use Rattle.coda_script.specs.Lines.{is_silent, with_thread, turns_at, placed, read_words, line_of}
 use Rattle.coda_script.specs.Reading.{Fault, ◌>>=◌, is_next, missing, read}
 use Rattle.coda_script.specs.Spelling.{begins, Spells, SpellsLine, words_of}
-use Rattle.coda_script.specs.FirstColumn.{IsTabled, BehindThreads, IsFormed, IsAtLastServer, BeginsOne, MayStand, IsWanted, IsToldAs, IsFirstColumn, IsMisplaced}
+use Rattle.coda_script.specs.FirstColumn.{IsTabled, BehindThreads, IsFormed, IsAtLastServer, EndsAtLastServer, is_lettered, BeginsOne, MayStand, IsWanted, IsToldAs, IsFirstColumn, IsMisplaced}
 use Rattle.coda_script.proofs.AnyForm.{sound}
 use Rattle.coda_script.proofs.Avoiding.{script_avoids_at}
 use Rattle.coda_script.proofs.Binding.{split, texts, chosen, bind_ok, ok_is, is_itself, word_is}
 use Rattle.coda_script.proofs.Clear.{script_clear}
-use Rattle.coda_script.proofs.FirstSteps.{First, Told, AtHead, end_kind, behind, stays, wanted_behind, wanted_stays, of_kind}
+use Rattle.coda_script.proofs.FirstBytes.{number_begins, digit_unquoted, digit_unlettered, apart}
+use Rattle.coda_script.proofs.FirstSteps.{Nowhere, First, Told, AtHead, behind, stays, wanted_behind, may_stay, text_stays, path_stays, is_given, of_kind}
 use Rattle.coda_script.proofs.FirstColumns.{first}
 use Rattle.coda_script.proofs.Going.{Whole, alive, counts, settled, full}
 use Rattle.coda_script.proofs.TableGoes.{script_goes}
@@ -51,27 +53,39 @@ some_words = alive script script_clear refl
 some_line : BeginsOne IsFormed []
 some_line = (some_words.0, here IsTabled some_words.0 some_words.1)
 
+-- where the words of a line end at the last server
+abbrev AtLast : List (List ℕ) → Type 0
+AtLast ts = BehindThreads EndsAtLastServer ts
+
+-- a line whose first word passes a test that `at` doesn't is one of the table
+tabled_so : (test : List ℕ → Bool) → test (codes "at") ≡ false → (word : List ℕ) (more : List (List ℕ)) → test word ≡ true → IsFormed (word ∷ more) → Whole script (word ∷ more)
+tabled_so test n word more is p = tabled (word ∷ more) (apart test (codes "at") word n is) p
+
 -- what a first word is told as
-beginning : (kind : Kind) → AtHead script kind → IsWanted IsFormed [] kind
+beginning : (wrong : List ℕ) (kind : Kind) → AtHead script wrong kind → IsWanted IsFormed AtLast [] wrong kind
 unfolding script
-beginning kinds.Word (inl un) = absurd cc
-beginning kinds.Word (inr i) = wanted_stays IsFormed (Whole script) (here IsTabled) [] kinds.Word tt i
-beginning kinds.Number (inl un) = absurd cc
-beginning kinds.Number (inr i) = wanted_stays IsFormed (Whole script) (here IsTabled) [] kinds.Number tt i
-beginning kinds.Text i = wanted_stays IsFormed (Whole script) (here IsTabled) [] kinds.Text tt i
-beginning kinds.Path i = wanted_stays IsFormed (Whole script) (here IsTabled) [] kinds.Path tt i
-beginning kinds.Count c = absurd cc
-beginning kinds.Mode h = absurd h
-beginning kinds.Actors h = absurd h
+beginning wrong kinds.Word (inl un) = absurd cc
+beginning wrong kinds.Word (inr i) =
+    (
+      (i.0.0, i.0.1, may_stay IsFormed (Whole script) (here IsTabled) [] i.0.0 i.0.2),
+      λ word q m. i.1 word q (m.0, tabled_so is_quoted refl word m.0 q m.1),
+      λ d word b m. i.2 d word b (m.0, tabled_so begins_with_digit refl word m.0 b m.1),
+    )
+beginning wrong kinds.Number h = absurd (let n = h.0 in cc)
+beginning wrong kinds.Text i = text_stays IsFormed (Whole script) AtLast Nowhere (here IsTabled) [] wrong i
+beginning wrong kinds.Path i = path_stays IsFormed (Whole script) AtLast Nowhere (here IsTabled) [] wrong i
+beginning wrong kinds.Count c = absurd cc
+beginning wrong kinds.Mode h = absurd h
+beginning wrong kinds.Actors h = absurd h
 
 abbrev OfLine : List Word → ℕ → Option ℕ → ℕ → Kind → Type 0
-OfLine ws end breaks column kind = First IsFormed (BehindThreads IsAtLastServer) (IsWanted IsFormed []) ws end breaks column kind
+OfLine ws end breaks column kind = First IsFormed (BehindThreads IsAtLastServer) AtLast (λ wrong k. IsWanted IsFormed AtLast [] wrong k) ws end breaks column kind
 
 -- behind no thread
 plain : (ws : List Word) (end : ℕ) (breaks : Option ℕ) (column : ℕ) (kind : Kind) → is_next (is_word (codes "at")) ws ≡ false → read script (split ws end breaks) ≡ Err (column, kind) → OfLine ws end breaks column kind
 plain ws end breaks column kind n e =
-    stays IsFormed (Whole script) (BehindThreads IsAtLastServer) IsAtLastServer (IsWanted IsFormed []) (AtHead script) (is_word (codes "at")) ws end breaks column kind n tabled (here IsTabled) (here IsAtLastServer)
-      (λ w n'. beginning) (first IsAtLastServer script script_clear script_goes ws end breaks column kind e)
+    stays IsFormed (Whole script) (BehindThreads IsAtLastServer) IsAtLastServer AtLast EndsAtLastServer (λ wrong k. IsWanted IsFormed AtLast [] wrong k) (AtHead script) (is_word (codes "at")) ws end breaks column kind
+      n tabled (here IsTabled) (here IsAtLastServer) (here EndsAtLastServer) (λ wrong m. beginning wrong) (first IsAtLastServer EndsAtLastServer script script_clear script_goes ws end breaks column kind e)
 
 -- a thread that is named
 abbrev IsThread : List ℕ → List ℕ → Type 0
@@ -87,10 +101,14 @@ at_one : (at : List ℕ) → at ≡ codes "at" → MayStand IsFormed (at ∷ [])
 unfolding number_from
 at_one at is = (some_words.0, inr (is, refl, here IsTabled some_words.0 some_words.1))
 
--- a number is wanted
-a_thread : (at : List ℕ) → at ≡ codes "at" → IsWanted IsFormed (at ∷ []) kinds.Number
+-- the number of a thread is wanted
+a_thread : (at wrong : List ℕ) → at ≡ codes "at" → IsWanted IsFormed AtLast (at ∷ []) wrong kinds.Number
 unfolding number_from
-a_thread at is = inl (codes "1", 1, refl, at_one at is)
+a_thread at wrong is =
+    (inl (codes "1", 1, refl, at_one at is), λ word q m. digit_unquoted word (begun_so word m.0 m.1) q, λ d word l m. digit_unlettered word (begun_so word m.0 m.1) l)
+  where
+    begun_so : (word : List ℕ) (more : List (List ℕ)) → IsFormed (at ∷ word ∷ more) → begins_with_digit word ≡ true
+    begun_so word more p = let n = is_given (number_in (between 1 8) word) (behind_thread at word is more p).0 in number_begins (between 1 8) word n.0 n.1
 
 -- behind one more thread
 one_more_thread : (w v : Word) (ws : List Word) (end : ℕ) (breaks : Option ℕ) (column : ℕ) (kind : Kind) → IsThread w.text v.text → OfLine ws end breaks column kind → OfLine (w ∷ v ∷ ws) end breaks column kind
@@ -98,11 +116,13 @@ one_more_thread w v ws end breaks column kind is r =
     let one = at_one w.text is.0 in
     let Behind : List (List ℕ) → Type 0 = λ ts. IsFormed (w.text ∷ ts) in
     let Stuck : List (List ℕ) → Type 0 = λ ts. BehindThreads IsAtLastServer (w.text ∷ ts) in
+    let Last : List (List ℕ) → Type 0 = λ ts. AtLast (w.text ∷ ts) in
     let back : (ts : List (List ℕ)) → IsFormed (w.text ∷ v.text ∷ ts) → IsFormed ts = λ ts p. (behind_thread w.text v.text is.0 ts p).1 in
     let forth : (ts : List (List ℕ)) → IsFormed ts → IsFormed (w.text ∷ v.text ∷ ts) = λ ts p. inr (is.0, is.1, p) in
-    behind IsFormed Behind (BehindThreads IsAtLastServer) Stuck (IsWanted IsFormed []) (λ k. ⊥) w (v ∷ ws) end breaks column kind (λ ts p. p) (λ ts p. p) (λ ts p. p) (inl (codes "1" ∷ one.0, one.1)) (λ k h. absurd h) (
-    behind Behind IsFormed Stuck (BehindThreads IsAtLastServer) (λ k. ⊥) (IsWanted IsFormed []) v ws end breaks column kind back forth (λ ts p. inr (is.0, is.1, p)) (inl some_line)
-      (λ k i. wanted_behind Behind IsFormed v.text back forth [] k i) r)
+    behind IsFormed Behind (BehindThreads IsAtLastServer) Stuck AtLast Last (λ wrong k. IsWanted IsFormed AtLast [] wrong k) (λ wrong k. ⊥) w (v ∷ ws) end breaks column kind (λ ts p. p) (λ ts p. p) (λ ts p. p) (λ ts p. p)
+      (inl (codes "1" ∷ one.0, one.1)) (λ wrong k h. absurd h) (
+    behind Behind IsFormed Stuck (BehindThreads IsAtLastServer) Last AtLast (λ wrong k. ⊥) (λ wrong k. IsWanted IsFormed AtLast [] wrong k) v ws end breaks column kind back forth (λ ts p. inr (is.0, is.1, p)) (λ ts p. inr (is.0, is.1, p))
+      (inl some_line) (λ wrong k i. wanted_behind Behind IsFormed Last AtLast v.text back forth (λ ts p. inr (is.0, is.1, p)) [] wrong k i) r)
 
 -- ---- the words of a line
 
@@ -151,12 +171,12 @@ lines_first (w ∷ v ∷ ws) end breaks seen column kind e =
                   place = sym (faulty (v.at + 1, kinds.Number) column kind e');
                   starts = inr (inl (codes "1" ∷ one.0, one.1));
                   none = λ whole m. false≢true (sym (ap (λ (o : Option ℕ). is_some o) none) ∙ (behind_thread w.text v.text at m.0 m.1).0);
-                  told = subst (IsWanted IsFormed (w.text ∷ [])) (of_kind (v.at + 1, kinds.Number) column kind e') (a_thread w.text at);
+                  told = subst (IsWanted IsFormed AtLast (w.text ∷ []) v.text) (of_kind (v.at + 1, kinds.Number) column kind e') (a_thread w.text v.text at);
                 }
           ]
     ]
 
-told_again : (before after : List Word) (breaks : Option ℕ) (kind : Kind) → Told IsFormed (IsWanted IsFormed []) before after breaks kind → IsToldAs IsFormed (texts before) after breaks kind
+told_again : (before after : List Word) (breaks : Option ℕ) (kind : Kind) → Told IsFormed AtLast (λ wrong k. IsWanted IsFormed AtLast [] wrong k) before after breaks kind → IsToldAs IsFormed AtLast (texts before) after breaks kind
 told_again before [] breaks kind t = t
 told_again [] (w ∷ ws) breaks kind t = t
 told_again (b ∷ bs) (w ∷ ws) breaks kind t = t

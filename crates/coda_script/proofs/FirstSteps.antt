@@ -5,8 +5,8 @@ use Rattle.std.specs.Fmt.{decimal}
 use Rattle.std.proofs.lemmas.Bool.{false≢true, leb-true}
 use Rattle.coda_engine.specs.declared.status.Kind.{Kind}
 use Rattle.coda_engine.specs.declared.status.Kind.TheVariants as kinds
-use Rattle.coda_text.specs.Numbers.{number_of, number_from}
-use Rattle.coda_text.specs.Texts.{decoded}
+use Rattle.coda_text.specs.Numbers.{number_of, number_from, begins_with_digit}
+use Rattle.coda_text.specs.Texts.{is_quoted}
 use Rattle.coda_text.specs.Words.{Split, Word, rest_of}
 use Rattle.coda_text.proofs.Joining.{number_again}
 use Rattle.coda_script.specs.declared.line.Line.{Line}
@@ -16,15 +16,20 @@ use Rattle.coda_script.specs.Form.{Form, ends, nothing, either, a_number, a_path
 use Rattle.coda_script.specs.Reading.{Fault, ◌>>=◌, slot_at, is_next, missing, servers_at, option_at, read}
 use Rattle.coda_script.specs.Spelling.{begins, SpellServers, Spells}
 use Rattle.coda_script.specs.FirstWrong.{column_of}
-use Rattle.coda_script.specs.FirstColumn.{BeginsOne, MayStand, NoneGoesOn, is_lettered, EndsAtLastServer, IsWanted}
+use Rattle.coda_script.specs.FirstColumn.{BeginsOne, MayStand, NoneGoesOn, NoneStands, is_lettered, IsWanted}
 use Rattle.coda_script.proofs.Avoiding.{avoids, avoided, and_left, and_right}
 use Rattle.coda_script.proofs.Binding.{split, texts, chosen, first_is, is_itself, some_is}
-use Rattle.coda_script.proofs.Going.{Whole, least, holds_one, lives, least_held, alive, is_behind, counts, settled, full, Sure, Good, Goes}
+use Rattle.coda_script.proofs.Going.{Whole, least, holds_one, lives, least_held, alive, counts, settled, full, tells_number}
 use Rattle.coda_script.proofs.Possible.{Holds, IsClear, number_text, number_again_in, servers_spelled}
+use Rattle.coda_script.proofs.FirstBytes.{number_begins, digit_unquoted, digit_unlettered}
 use Rattle.coda_script.proofs.WrongColumns.{faulty, head_is, tail_is, none_some, cases_option, SpellsSlot, not_word, cases_is, one_pair, one_more, no_servers, no_number, one_server, some_pair, option_taken}
 
 abbrev pub Lines : Type 1
 Lines = List (List ℕ) → Type 0
+
+-- no words
+abbrev pub Nowhere : List (List ℕ) → Type 0
+Nowhere ts = ⊥
 
 -- ---- what is told of a column, and at the head of what
 
@@ -33,52 +38,63 @@ abbrev pub end_kind : Option ℕ → Kind
 end_kind breaks = if is_some breaks then kinds.Text else kinds.Count
 
 -- what is told: at the head, something of the head's own
-abbrev pub Told : Lines → (Kind → Type 0) → List Word → List Word → Option ℕ → Kind → Type 0
-Told P H before [] breaks kind = kind ≡ end_kind breaks
-Told P H [] (w ∷ ws) breaks kind = H kind
-Told P H (b ∷ bs) (w ∷ ws) breaks kind = IsWanted P (texts (b ∷ bs)) kind
+abbrev pub Told : (P Z : Lines) → (List ℕ → Kind → Type 0) → List Word → List Word → Option ℕ → Kind → Type 0
+Told P Z H before [] breaks kind = kind ≡ end_kind breaks
+Told P Z H [] (w ∷ ws) breaks kind = H w.text kind
+Told P Z H (b ∷ bs) (w ∷ ws) breaks kind = IsWanted P Z (texts (b ∷ bs)) w.text kind
 
 -- the column is the first that is wrong, of these lines, with those exceptions
-pub record First (P X : Lines) (H : Kind → Type 0) (ws : List Word) (end : ℕ) (breaks : Option ℕ) (column : ℕ) (kind : Kind) : Type 0 where
+pub record First (P X Z : Lines) (H : List ℕ → Kind → Type 0) (ws : List Word) (end : ℕ) (breaks : Option ℕ) (column : ℕ) (kind : Kind) : Type 0 where
   pub before : List Word
   pub after : List Word
   pub parts : ws ≡ before ++ after
   pub place : column ≡ column_of end after
   pub starts : (before ≡ []) ⊎ (BeginsOne P (texts before) ⊎ X (texts before))
   pub none : (after ≡ [] → breaks ≡ None) → NoneGoesOn P (texts before) after
-  pub told : Told P H before after breaks kind
+  pub told : Told P Z H before after breaks kind
 
 -- what may be told at the head of a form
-abbrev pub AtHead : Form → Kind → Type 0
-AtHead f kinds.Word = (settled f ≡ false) ⊎ IsWanted (Whole f) [] kinds.Word
-AtHead f kinds.Number = (full f ≡ false) ⊎ IsWanted (Whole f) [] kinds.Number
-AtHead f kinds.Text = IsWanted (Whole f) [] kinds.Text
-AtHead f kinds.Path = IsWanted (Whole f) [] kinds.Path
-AtHead f kinds.Count = counts f ≡ true
-AtHead f kinds.Mode = ⊥
-AtHead f kinds.Actors = ⊥
+abbrev pub AtHead : Form → List ℕ → Kind → Type 0
+AtHead f wrong kinds.Word = (settled f ≡ false) ⊎ IsWanted (Whole f) Nowhere [] wrong kinds.Word
+AtHead f wrong kinds.Number =
+    (tells_number f ≡ true)
+    × ((full f ≡ false) ⊎ ((word : List ℕ) × (n : ℕ) × (number_of word ≡ Some n) × MayStand (Whole f) [] word))
+    × NoneStands (Whole f) is_quoted []
+    × (begins_with_digit wrong ≡ false → NoneStands (Whole f) is_lettered [])
+AtHead f wrong kinds.Text = IsWanted (Whole f) Nowhere [] wrong kinds.Text
+AtHead f wrong kinds.Path = IsWanted (Whole f) Nowhere [] wrong kinds.Path
+AtHead f wrong kinds.Count = counts f ≡ true
+AtHead f wrong kinds.Mode = ⊥
+AtHead f wrong kinds.Actors = ⊥
 
 -- ---- behind one more word
 
 may_behind : (P Q : Lines) (t : List ℕ) → ((ts : List (List ℕ)) → Q ts → P (t ∷ ts)) → (front : List (List ℕ)) (word : List ℕ) → MayStand Q front word → MayStand P (t ∷ front) word
 may_behind P Q t forth front word m = (m.0, forth (front ++ word ∷ m.0) m.1)
 
-pub wanted_behind : (P Q : Lines) (t : List ℕ) → ((ts : List (List ℕ)) → P (t ∷ ts) → Q ts) → ((ts : List (List ℕ)) → Q ts → P (t ∷ ts)) → (front : List (List ℕ)) (kind : Kind) → IsWanted Q front kind → IsWanted P (t ∷ front) kind
-wanted_behind P Q t back forth front kinds.Count i = (forth front i.0, λ word m. i.1 word (m.0, back (front ++ word ∷ m.0) m.1))
-wanted_behind P Q t back forth front kinds.Word i = (i.0, i.1, may_behind P Q t forth front i.0 i.2)
-wanted_behind P Q t back forth front kinds.Number (inl i) = inl (i.0, i.1, i.2, may_behind P Q t forth front i.0 i.3)
-wanted_behind P Q t back forth front kinds.Number (inr i) = inr (t ∷ i.0, i.1, ap (λ (x : List (List ℕ)). t ∷ x) i.2, i.3)
-wanted_behind P Q t back forth front kinds.Path (inl i) = inl (λ word e. may_behind P Q t forth front word (i word e))
-wanted_behind P Q t back forth front kinds.Path (inr i) = inr (λ word e. may_behind P Q t forth front word (i word e))
-wanted_behind P Q t back forth front kinds.Text i = (i.0, i.1, i.2, i.3, may_behind P Q t forth front i.0 i.4)
-wanted_behind P Q t back forth front kinds.Mode i = absurd i
-wanted_behind P Q t back forth front kinds.Actors i = absurd i
+none_stands_behind : (P Q : Lines) (test : List ℕ → Bool) (t : List ℕ) → ((ts : List (List ℕ)) → P (t ∷ ts) → Q ts) → (front : List (List ℕ)) → NoneStands Q test front → NoneStands P test (t ∷ front)
+none_stands_behind P Q test t back front n = λ word is m. n word is (m.0, back (front ++ word ∷ m.0) m.1)
 
-told_behind : (P Q : Lines) (H K : Kind → Type 0) (w : Word) (breaks : Option ℕ) → ((ts : List (List ℕ)) → P (w.text ∷ ts) → Q ts) → ((ts : List (List ℕ)) → Q ts → P (w.text ∷ ts)) → ((kind : Kind) → K kind → IsWanted P (w.text ∷ []) kind)
-    → (before after : List Word) (kind : Kind) → Told Q K before after breaks kind → Told P H (w ∷ before) after breaks kind
-told_behind P Q H K w breaks back forth head before [] kind t = t
-told_behind P Q H K w breaks back forth head [] (v ∷ vs) kind t = head kind t
-told_behind P Q H K w breaks back forth head (b ∷ bs) (v ∷ vs) kind t = wanted_behind P Q w.text back forth (texts (b ∷ bs)) kind t
+pub wanted_behind : (P Q Z W : Lines) (t : List ℕ) → ((ts : List (List ℕ)) → P (t ∷ ts) → Q ts) → ((ts : List (List ℕ)) → Q ts → P (t ∷ ts)) → ((ts : List (List ℕ)) → W ts → Z (t ∷ ts))
+    → (front : List (List ℕ)) (wrong : List ℕ) (kind : Kind) → IsWanted Q W front wrong kind → IsWanted P Z (t ∷ front) wrong kind
+wanted_behind P Q Z W t back forth last front wrong kinds.Count i = (forth front i.0, λ word m. i.1 word (m.0, back (front ++ word ∷ m.0) m.1))
+wanted_behind P Q Z W t back forth last front wrong kinds.Word i =
+    ((i.0.0, i.0.1, may_behind P Q t forth front i.0.0 i.0.2), none_stands_behind P Q is_quoted t back front i.1, λ d. none_stands_behind P Q begins_with_digit t back front (i.2 d))
+wanted_behind P Q Z W t back forth last front wrong kinds.Number (inl i, q, d) =
+    (inl (i.0, i.1, i.2, may_behind P Q t forth front i.0 i.3), none_stands_behind P Q is_quoted t back front q, λ e. none_stands_behind P Q is_lettered t back front (d e))
+wanted_behind P Q Z W t back forth last front wrong kinds.Number (inr i, q, d) =
+    (inr (last front i), none_stands_behind P Q is_quoted t back front q, λ e. none_stands_behind P Q is_lettered t back front (d e))
+wanted_behind P Q Z W t back forth last front wrong kinds.Path (inl i) = inl (λ word e. may_behind P Q t forth front word (i word e))
+wanted_behind P Q Z W t back forth last front wrong kinds.Path (inr i) = inr (λ word e. may_behind P Q t forth front word (i word e))
+wanted_behind P Q Z W t back forth last front wrong kinds.Text i = (i.0, i.1, i.2, i.3, may_behind P Q t forth front i.0 i.4)
+wanted_behind P Q Z W t back forth last front wrong kinds.Mode i = absurd i
+wanted_behind P Q Z W t back forth last front wrong kinds.Actors i = absurd i
+
+told_behind : (P Q Z W : Lines) (H K : List ℕ → Kind → Type 0) (w : Word) (breaks : Option ℕ) → ((ts : List (List ℕ)) → P (w.text ∷ ts) → Q ts) → ((ts : List (List ℕ)) → Q ts → P (w.text ∷ ts)) → ((ts : List (List ℕ)) → W ts → Z (w.text ∷ ts))
+    → ((wrong : List ℕ) (kind : Kind) → K wrong kind → IsWanted P Z (w.text ∷ []) wrong kind) → (before after : List Word) (kind : Kind) → Told Q W K before after breaks kind → Told P Z H (w ∷ before) after breaks kind
+told_behind P Q Z W H K w breaks back forth last head before [] kind t = t
+told_behind P Q Z W H K w breaks back forth last head [] (v ∷ vs) kind t = head v.text kind t
+told_behind P Q Z W H K w breaks back forth last head (b ∷ bs) (v ∷ vs) kind t = wanted_behind P Q Z W w.text back forth last (texts (b ∷ bs)) v.text kind t
 
 none_behind : (P Q : Lines) (t : List ℕ) (front : List (List ℕ)) (after : List Word) → ((ts : List (List ℕ)) → P (t ∷ ts) → Q ts) → NoneGoesOn Q front after → NoneGoesOn P (t ∷ front) after
 none_behind P Q t front [] back n = λ p. n (back front p)
@@ -92,11 +108,11 @@ starts_behind P Q X Y w forth with (inl s) [] (inl e) = inl (s.0, forth s.0 s.1)
 starts_behind P Q X Y w forth with (inr x) [] (inl e) = inr x
 starts_behind P Q X Y w forth with head (b ∷ bs) (inl e) = absurd cc
 
-pub behind : (P Q X Y : Lines) (H K : Kind → Type 0) (w : Word) (ws : List Word) (end : ℕ) (breaks : Option ℕ) (column : ℕ) (kind : Kind)
-    → ((ts : List (List ℕ)) → P (w.text ∷ ts) → Q ts) → ((ts : List (List ℕ)) → Q ts → P (w.text ∷ ts)) → ((ts : List (List ℕ)) → Y ts → X (w.text ∷ ts))
-    → BeginsOne Q [] ⊎ X (w.text ∷ []) → ((k : Kind) → K k → IsWanted P (w.text ∷ []) k)
-    → First Q Y K ws end breaks column kind → First P X H (w ∷ ws) end breaks column kind
-behind P Q X Y H K w ws end breaks column kind back forth with starts head r =
+pub behind : (P Q X Y Z W : Lines) (H K : List ℕ → Kind → Type 0) (w : Word) (ws : List Word) (end : ℕ) (breaks : Option ℕ) (column : ℕ) (kind : Kind)
+    → ((ts : List (List ℕ)) → P (w.text ∷ ts) → Q ts) → ((ts : List (List ℕ)) → Q ts → P (w.text ∷ ts)) → ((ts : List (List ℕ)) → Y ts → X (w.text ∷ ts)) → ((ts : List (List ℕ)) → W ts → Z (w.text ∷ ts))
+    → BeginsOne Q [] ⊎ X (w.text ∷ []) → ((wrong : List ℕ) (k : Kind) → K wrong k → IsWanted P Z (w.text ∷ []) wrong k)
+    → First Q Y W K ws end breaks column kind → First P X Z H (w ∷ ws) end breaks column kind
+behind P Q X Y Z W H K w ws end breaks column kind back forth with last starts head r =
     record {
       before = w ∷ r.before;
       after = r.after;
@@ -104,7 +120,7 @@ behind P Q X Y H K w ws end breaks column kind back forth with starts head r =
       place = r.place;
       starts = inr (starts_behind P Q X Y w forth with starts r.before r.starts);
       none = λ whole. none_behind P Q w.text (texts r.before) r.after back (r.none whole);
-      told = told_behind P Q H K w breaks back forth head r.before r.after kind r.told;
+      told = told_behind P Q Z W H K w breaks back forth last head r.before r.after kind r.told;
     }
 
 -- ---- where the next word isn't one of some
@@ -112,45 +128,39 @@ behind P Q X Y H K w ws end breaks column kind back forth with starts head r =
 next_stays : (test : List ℕ → Bool) (b : Word) (bs ws : List Word) (ts : List (List ℕ)) → is_next test ((b ∷ bs) ++ ws) ≡ false → begins test (texts (b ∷ bs) ++ ts) ≡ false
 next_stays test b bs ws ts e = e
 
-may_stay : (P Q : Lines) → ((ts : List (List ℕ)) → Q ts → P ts) → (front : List (List ℕ)) (word : List ℕ) → MayStand Q front word → MayStand P front word
+pub may_stay : (P Q : Lines) → ((ts : List (List ℕ)) → Q ts → P ts) → (front : List (List ℕ)) (word : List ℕ) → MayStand Q front word → MayStand P front word
 may_stay P Q forth front word m = (m.0, forth (front ++ word ∷ m.0) m.1)
 
--- what isn't told as one too many
-abbrev pub NotCount : Kind → Type 0
-NotCount kinds.Word = Unit {0}
-NotCount kinds.Number = Unit {0}
-NotCount kinds.Text = Unit {0}
-NotCount kinds.Path = Unit {0}
-NotCount kinds.Count = ⊥
-NotCount kinds.Mode = Unit {0}
-NotCount kinds.Actors = Unit {0}
+pub text_stays : (P Q Z W : Lines) → ((ts : List (List ℕ)) → Q ts → P ts) → (front : List (List ℕ)) (wrong : List ℕ) → IsWanted Q W front wrong kinds.Text → IsWanted P Z front wrong kinds.Text
+text_stays P Q Z W forth front wrong i = (i.0, i.1, i.2, i.3, may_stay P Q forth front i.0 i.4)
 
-pub wanted_stays : (P Q : Lines) → ((ts : List (List ℕ)) → Q ts → P ts) → (front : List (List ℕ)) (kind : Kind) → NotCount kind → IsWanted Q front kind → IsWanted P front kind
-wanted_stays P Q forth front kinds.Count other i = absurd other
-wanted_stays P Q forth front kinds.Word other i = (i.0, i.1, may_stay P Q forth front i.0 i.2)
-wanted_stays P Q forth front kinds.Number other (inl i) = inl (i.0, i.1, i.2, may_stay P Q forth front i.0 i.3)
-wanted_stays P Q forth front kinds.Number other (inr i) = inr i
-wanted_stays P Q forth front kinds.Path other (inl i) = inl (λ word e. may_stay P Q forth front word (i word e))
-wanted_stays P Q forth front kinds.Path other (inr i) = inr (λ word e. may_stay P Q forth front word (i word e))
-wanted_stays P Q forth front kinds.Text other i = (i.0, i.1, i.2, i.3, may_stay P Q forth front i.0 i.4)
-wanted_stays P Q forth front kinds.Mode other i = absurd i
-wanted_stays P Q forth front kinds.Actors other i = absurd i
+pub path_stays : (P Q Z W : Lines) → ((ts : List (List ℕ)) → Q ts → P ts) → (front : List (List ℕ)) (wrong : List ℕ) → IsWanted Q W front wrong kinds.Path → IsWanted P Z front wrong kinds.Path
+path_stays P Q Z W forth front wrong (inl i) = inl (λ word e. may_stay P Q forth front word (i word e))
+path_stays P Q Z W forth front wrong (inr i) = inr (λ word e. may_stay P Q forth front word (i word e))
 
-wanted_forth : (P Q : Lines) → ((ts : List (List ℕ)) → Q ts → P ts) → (front : List (List ℕ)) (kind : Kind) → ((word : List ℕ) (more : List (List ℕ)) → P (front ++ word ∷ more) → Q (front ++ word ∷ more)) → IsWanted Q front kind → IsWanted P front kind
-wanted_forth P Q forth front kinds.Count back i = (forth front i.0, λ word m. i.1 word (m.0, back word m.0 m.1))
-wanted_forth P Q forth front kinds.Word back i = wanted_stays P Q forth front kinds.Word tt i
-wanted_forth P Q forth front kinds.Number back i = wanted_stays P Q forth front kinds.Number tt i
-wanted_forth P Q forth front kinds.Path back i = wanted_stays P Q forth front kinds.Path tt i
-wanted_forth P Q forth front kinds.Text back i = wanted_stays P Q forth front kinds.Text tt i
-wanted_forth P Q forth front kinds.Mode back i = absurd i
-wanted_forth P Q forth front kinds.Actors back i = absurd i
+none_stands_stay : (P Q : Lines) (test : List ℕ → Bool) (front : List (List ℕ)) → ((word : List ℕ) (more : List (List ℕ)) → P (front ++ word ∷ more) → Q (front ++ word ∷ more)) → NoneStands Q test front → NoneStands P test front
+none_stands_stay P Q test front back n = λ word is m. n word is (m.0, back word m.0 m.1)
 
-told_stays : (P Q : Lines) (H K : Kind → Type 0) (test : List ℕ → Bool) (breaks : Option ℕ) → ((ts : List (List ℕ)) → begins test ts ≡ false → P ts → Q ts) → ((ts : List (List ℕ)) → Q ts → P ts) → ((w : Word) → test w.text ≡ false → (kind : Kind) → K kind → H kind)
-    → (before after : List Word) (kind : Kind) → is_next test (before ++ after) ≡ false → Told Q K before after breaks kind → Told P H before after breaks kind
-told_stays P Q H K test breaks back forth head before [] kind e t = t
-told_stays P Q H K test breaks back forth head [] (v ∷ vs) kind e t = head v e kind t
-told_stays P Q H K test breaks back forth head (b ∷ bs) (v ∷ vs) kind e t =
-    wanted_forth P Q forth (texts (b ∷ bs)) kind (λ word more. back (texts (b ∷ bs) ++ word ∷ more) (next_stays test b bs (v ∷ vs) (word ∷ more) e)) t
+wanted_stays : (P Q Z W : Lines) → ((ts : List (List ℕ)) → Q ts → P ts) → ((ts : List (List ℕ)) → W ts → Z ts) → (front : List (List ℕ)) (wrong : List ℕ) (kind : Kind)
+    → ((word : List ℕ) (more : List (List ℕ)) → P (front ++ word ∷ more) → Q (front ++ word ∷ more)) → IsWanted Q W front wrong kind → IsWanted P Z front wrong kind
+wanted_stays P Q Z W forth last front wrong kinds.Count back i = (forth front i.0, λ word m. i.1 word (m.0, back word m.0 m.1))
+wanted_stays P Q Z W forth last front wrong kinds.Word back i =
+    ((i.0.0, i.0.1, may_stay P Q forth front i.0.0 i.0.2), none_stands_stay P Q is_quoted front back i.1, λ d. none_stands_stay P Q begins_with_digit front back (i.2 d))
+wanted_stays P Q Z W forth last front wrong kinds.Number back (inl i, q, d) =
+    (inl (i.0, i.1, i.2, may_stay P Q forth front i.0 i.3), none_stands_stay P Q is_quoted front back q, λ e. none_stands_stay P Q is_lettered front back (d e))
+wanted_stays P Q Z W forth last front wrong kinds.Number back (inr i, q, d) =
+    (inr (last front i), none_stands_stay P Q is_quoted front back q, λ e. none_stands_stay P Q is_lettered front back (d e))
+wanted_stays P Q Z W forth last front wrong kinds.Path back i = path_stays P Q Z W forth front wrong i
+wanted_stays P Q Z W forth last front wrong kinds.Text back i = text_stays P Q Z W forth front wrong i
+wanted_stays P Q Z W forth last front wrong kinds.Mode back i = absurd i
+wanted_stays P Q Z W forth last front wrong kinds.Actors back i = absurd i
+
+told_stays : (P Q Z W : Lines) (H K : List ℕ → Kind → Type 0) (test : List ℕ → Bool) (breaks : Option ℕ) → ((ts : List (List ℕ)) → begins test ts ≡ false → P ts → Q ts) → ((ts : List (List ℕ)) → Q ts → P ts) → ((ts : List (List ℕ)) → W ts → Z ts)
+    → ((wrong : List ℕ) → test wrong ≡ false → (kind : Kind) → K wrong kind → H wrong kind) → (before after : List Word) (kind : Kind) → is_next test (before ++ after) ≡ false → Told Q W K before after breaks kind → Told P Z H before after breaks kind
+told_stays P Q Z W H K test breaks back forth last head before [] kind e t = t
+told_stays P Q Z W H K test breaks back forth last head [] (v ∷ vs) kind e t = head v.text e kind t
+told_stays P Q Z W H K test breaks back forth last head (b ∷ bs) (v ∷ vs) kind e t =
+    wanted_stays P Q Z W forth last (texts (b ∷ bs)) v.text kind (λ word more. back (texts (b ∷ bs) ++ word ∷ more) (next_stays test b bs (v ∷ vs) (word ∷ more) e)) t
 
 none_stays : (P Q : Lines) (test : List ℕ → Bool) → ((ts : List (List ℕ)) → begins test ts ≡ false → P ts → Q ts) → (before after : List Word) → is_next test (before ++ after) ≡ false → NoneGoesOn Q (texts before) after → NoneGoesOn P (texts before) after
 none_stays P Q test back [] [] e n = λ p. n (back [] refl p)
@@ -164,11 +174,11 @@ starts_stay P Q X Y forth with before (inl e) = inl e
 starts_stay P Q X Y forth with before (inr (inl s)) = inr (inl (s.0, forth (texts before ++ s.0) s.1))
 starts_stay P Q X Y forth with before (inr (inr x)) = inr (inr (with (texts before) x))
 
-pub stays : (P Q X Y : Lines) (H K : Kind → Type 0) (test : List ℕ → Bool) (ws : List Word) (end : ℕ) (breaks : Option ℕ) (column : ℕ) (kind : Kind)
-    → is_next test ws ≡ false → ((ts : List (List ℕ)) → begins test ts ≡ false → P ts → Q ts) → ((ts : List (List ℕ)) → Q ts → P ts) → ((ts : List (List ℕ)) → Y ts → X ts)
-    → ((w : Word) → test w.text ≡ false → (k : Kind) → K k → H k)
-    → First Q Y K ws end breaks column kind → First P X H ws end breaks column kind
-stays P Q X Y H K test ws end breaks column kind e back forth with head r =
+pub stays : (P Q X Y Z W : Lines) (H K : List ℕ → Kind → Type 0) (test : List ℕ → Bool) (ws : List Word) (end : ℕ) (breaks : Option ℕ) (column : ℕ) (kind : Kind)
+    → is_next test ws ≡ false → ((ts : List (List ℕ)) → begins test ts ≡ false → P ts → Q ts) → ((ts : List (List ℕ)) → Q ts → P ts) → ((ts : List (List ℕ)) → Y ts → X ts) → ((ts : List (List ℕ)) → W ts → Z ts)
+    → ((wrong : List ℕ) → test wrong ≡ false → (k : Kind) → K wrong k → H wrong k)
+    → First Q Y W K ws end breaks column kind → First P X Z H ws end breaks column kind
+stays P Q X Y Z W H K test ws end breaks column kind e back forth with last head r =
     let e' : is_next test (r.before ++ r.after) ≡ false = ap (is_next test) (sym r.parts) ∙ e in
     record {
       before = r.before;
@@ -177,7 +187,7 @@ stays P Q X Y H K test ws end breaks column kind e back forth with head r =
       place = r.place;
       starts = starts_stay P Q X Y forth with r.before r.starts;
       none = λ whole. none_stays P Q test back r.before r.after e' (r.none whole);
-      told = told_stays P Q H K test breaks back forth head r.before r.after kind e' r.told;
+      told = told_stays P Q Z W H K test breaks back forth last head r.before r.after kind e' r.told;
     }
 
 -- ---- nothing stands before it
@@ -186,11 +196,11 @@ stays P Q X Y H K test ws end breaks column kind e back forth with head r =
 pub of_kind : {A : Type 0} (d : Fault) (column : ℕ) (kind : Kind) → (let r : Result A Fault = Err d in r) ≡ Err (column, kind) → d.1 ≡ kind
 of_kind d column kind e = cc
 
-pub at_end : (P X : Lines) (H : Kind → Type 0) (end : ℕ) (breaks : Option ℕ) (column : ℕ) (kind : Kind) → end + 1 ≡ column → end_kind breaks ≡ kind → (P [] → ⊥) → First P X H [] end breaks column kind
-at_end P X H end breaks column kind e k never = record { before = []; after = []; parts = refl; place = sym e; starts = inl refl; none = λ whole. never; told = sym k }
+pub at_end : (P X Z : Lines) (H : List ℕ → Kind → Type 0) (end : ℕ) (breaks : Option ℕ) (column : ℕ) (kind : Kind) → end + 1 ≡ column → end_kind breaks ≡ kind → (P [] → ⊥) → First P X Z H [] end breaks column kind
+at_end P X Z H end breaks column kind e k never = record { before = []; after = []; parts = refl; place = sym e; starts = inl refl; none = λ whole. never; told = sym k }
 
-pub at_word : (P X : Lines) (H : Kind → Type 0) (w : Word) (ws : List Word) (end : ℕ) (breaks : Option ℕ) (column : ℕ) (kind : Kind) → w.at + 1 ≡ column → H kind → (MayStand P [] w.text → ⊥) → First P X H (w ∷ ws) end breaks column kind
-at_word P X H w ws end breaks column kind e h never = record { before = []; after = w ∷ ws; parts = refl; place = sym e; starts = inl refl; none = λ whole. never; told = h }
+pub at_word : (P X Z : Lines) (H : List ℕ → Kind → Type 0) (w : Word) (ws : List Word) (end : ℕ) (breaks : Option ℕ) (column : ℕ) (kind : Kind) → w.at + 1 ≡ column → H w.text kind → (MayStand P [] w.text → ⊥) → First P X Z H (w ∷ ws) end breaks column kind
+at_word P X Z H w ws end breaks column kind e h never = record { before = []; after = w ∷ ws; parts = refl; place = sym e; starts = inl refl; none = λ whole. never; told = h }
 
 -- ---- what the head of a form tells, behind a word
 
@@ -206,18 +216,29 @@ over (a_text slot next) e = absurd cc
 over (perhaps word slot next) e = absurd cc
 over (servers_above all last next) e = absurd cc
 
-pub resolved : (P : Lines) (f : Form) (t : List ℕ) → ((ts : List (List ℕ)) → P (t ∷ ts) → Whole f ts) → ((ts : List (List ℕ)) → Whole f ts → P (t ∷ ts)) → settled f ≡ true → (full f ≡ true) ⊎ (number_of t ≡ Some 8)
-    → (kind : Kind) → AtHead f kind → IsWanted P (t ∷ []) kind
-resolved P f t back forth set fits kinds.Word (inl un) = absurd (false≢true (sym un ∙ set))
-resolved P f t back forth set fits kinds.Word (inr i) = wanted_behind P (Whole f) t back forth [] kinds.Word i
-resolved P f t back forth set (inl fits) kinds.Number (inl un) = absurd (false≢true (sym un ∙ fits))
-resolved P f t back forth set (inr last) kinds.Number (inl un) = inr ([], t, refl, last)
-resolved P f t back forth set fits kinds.Number (inr i) = wanted_behind P (Whole f) t back forth [] kinds.Number i
-resolved P f t back forth set fits kinds.Text i = wanted_behind P (Whole f) t back forth [] kinds.Text i
-resolved P f t back forth set fits kinds.Path i = wanted_behind P (Whole f) t back forth [] kinds.Path i
-resolved P f t back forth set fits kinds.Count c = wanted_behind P (Whole f) t back forth [] kinds.Count (over f c)
-resolved P f t back forth set fits kinds.Mode h = absurd h
-resolved P f t back forth set fits kinds.Actors h = absurd h
+-- a number may stand there, or the last is behind it
+number_or_last : (Z : Lines) (f : Form) (t : List ℕ) → (full f ≡ true) ⊎ Z (t ∷ []) → (full f ≡ false) ⊎ ((word : List ℕ) × (n : ℕ) × (number_of word ≡ Some n) × MayStand (Whole f) [] word)
+    → ((word : List ℕ) × (n : ℕ) × (number_of word ≡ Some n) × MayStand (Whole f) [] word) ⊎ Z (t ∷ [])
+number_or_last Z f t (inl fits) (inl un) = absurd (false≢true (sym un ∙ fits))
+number_or_last Z f t (inr last) (inl un) = inr last
+number_or_last Z f t fits (inr i) = inl i
+
+number_behind : (P Z : Lines) (f : Form) (t : List ℕ) → ((ts : List (List ℕ)) → Whole f ts → P (t ∷ ts)) → ((word : List ℕ) × (n : ℕ) × (number_of word ≡ Some n) × MayStand (Whole f) [] word) ⊎ Z (t ∷ [])
+    → ((word : List ℕ) × (n : ℕ) × (number_of word ≡ Some n) × MayStand P (t ∷ []) word) ⊎ Z (t ∷ [])
+number_behind P Z f t forth (inl i) = inl (i.0, i.1, i.2, may_behind P (Whole f) t forth [] i.0 i.3)
+number_behind P Z f t forth (inr last) = inr last
+
+pub resolved : (P Z : Lines) (f : Form) (t : List ℕ) → ((ts : List (List ℕ)) → P (t ∷ ts) → Whole f ts) → ((ts : List (List ℕ)) → Whole f ts → P (t ∷ ts)) → settled f ≡ true → (full f ≡ true) ⊎ Z (t ∷ [])
+    → (wrong : List ℕ) (kind : Kind) → AtHead f wrong kind → IsWanted P Z (t ∷ []) wrong kind
+resolved P Z f t back forth set fits wrong kinds.Word (inl un) = absurd (false≢true (sym un ∙ set))
+resolved P Z f t back forth set fits wrong kinds.Word (inr i) = wanted_behind P (Whole f) Z Nowhere t back forth (λ ts n. absurd n) [] wrong kinds.Word i
+resolved P Z f t back forth set fits wrong kinds.Number (tells, number, q, d) =
+    (number_behind P Z f t forth (number_or_last Z f t fits number), none_stands_behind P (Whole f) is_quoted t back [] q, λ e. none_stands_behind P (Whole f) is_lettered t back [] (d e))
+resolved P Z f t back forth set fits wrong kinds.Text i = wanted_behind P (Whole f) Z Nowhere t back forth (λ ts n. absurd n) [] wrong kinds.Text i
+resolved P Z f t back forth set fits wrong kinds.Path i = wanted_behind P (Whole f) Z Nowhere t back forth (λ ts n. absurd n) [] wrong kinds.Path i
+resolved P Z f t back forth set fits wrong kinds.Count c = wanted_behind P (Whole f) Z Nowhere t back forth (λ ts n. absurd n) [] wrong kinds.Count (over f c)
+resolved P Z f t back forth set fits wrong kinds.Mode h = absurd h
+resolved P Z f t back forth set fits wrong kinds.Actors h = absurd h
 
 -- ---- a word with a value
 
@@ -225,21 +246,21 @@ pub begun : (X : Lines) (w : List ℕ) (f : Form) → IsClear f → (lives f ≡
 begun X w f clear (inl e) = inl (alive f clear e)
 begun X w f clear (inr x) = inr x
 
-pub slot_first : {A : Type 0} (X : Lines) (f : Form) (kind : Kind) (value : List ℕ → Option A) (next : A → Form) (ws : List Word) (end : ℕ) (breaks : Option ℕ) (column : ℕ) (k : Kind)
+pub slot_first : {A : Type 0} (X Z : Lines) (f : Form) (kind : Kind) (value : List ℕ → Option A) (next : A → Form) (ws : List Word) (end : ℕ) (breaks : Option ℕ) (column : ℕ) (k : Kind)
     → ((ts : List (List ℕ)) (line : Line) → Spells f ts line → SpellsSlot value next ts line) → ((ts : List (List ℕ)) (line : Line) → SpellsSlot value next ts line → Spells f ts line)
-    → AtHead f kind
-    → ((w : List ℕ) (x : A) → value w ≡ Some x → (BeginsOne (Whole (next x)) [] ⊎ X (w ∷ [])) × (settled (next x) ≡ true) × ((full (next x) ≡ true) ⊎ (number_of w ≡ Some 8)))
+    → ((wrong : List ℕ) → AtHead f wrong kind)
+    → ((w : List ℕ) (x : A) → value w ≡ Some x → (BeginsOne (Whole (next x)) [] ⊎ X (w ∷ [])) × (settled (next x) ≡ true) × ((full (next x) ≡ true) ⊎ Z (w ∷ [])))
     → (slot_at kind value (split ws end breaks) >>= (λ n. read (next n.0) n.1)) ≡ Err (column, k)
-    → ((w : List ℕ) (x : A) → value w ≡ Some x → (rest : List Word) → read (next x) (split rest end breaks) ≡ Err (column, k) → First (Whole (next x)) (λ ts. X (w ∷ ts)) (AtHead (next x)) rest end breaks column k)
-    → First (Whole f) X (AtHead f) ws end breaks column k
+    → ((w : List ℕ) (x : A) → value w ≡ Some x → (rest : List Word) → read (next x) (split rest end breaks) ≡ Err (column, k) → First (Whole (next x)) (λ ts. X (w ∷ ts)) (λ ts. Z (w ∷ ts)) (AtHead (next x)) rest end breaks column k)
+    → First (Whole f) X Z (AtHead f) ws end breaks column k
 unfolding slot_at
-slot_first X f kind value next [] end breaks column k same again head good e rec =
-    at_end (Whole f) X (AtHead f) end breaks column k (faulty (missing (split [] end breaks)) column k e) (of_kind (missing (split [] end breaks)) column k e) (λ p. let t = same [] p.0 p.1 in absurd (let n = t.2 in cc))
-slot_first {A} X f kind value next (w ∷ ws) end breaks column k same again head good e rec =
+slot_first X Z f kind value next [] end breaks column k same again head good e rec =
+    at_end (Whole f) X Z (AtHead f) end breaks column k (faulty (missing (split [] end breaks)) column k e) (of_kind (missing (split [] end breaks)) column k e) (λ p. let t = same [] p.0 p.1 in absurd (let n = t.2 in cc))
+slot_first {A} X Z f kind value next (w ∷ ws) end breaks column k same again head good e rec =
     elim (cases_option (value w.text)) [
       | inl none ↦
           let e' : (let r : Result Line Fault = Err (w.at + 1, kind) in r) ≡ Err (column, k) = rw none at e in
-          at_word (Whole f) X (AtHead f) w ws end breaks column k (faulty (w.at + 1, kind) column k e') (subst (AtHead f) (of_kind (w.at + 1, kind) column k e') head) (λ m.
+          at_word (Whole f) X Z (AtHead f) w ws end breaks column k (faulty (w.at + 1, kind) column k e') (subst (AtHead f w.text) (of_kind (w.at + 1, kind) column k e') (head w.text)) (λ m.
           let t = same (w.text ∷ m.0) m.1.0 m.1.1 in
           none_some t.3 (sym none ∙ ap value (head_is w.text t.0 m.0 t.1 t.2) ∙ t.4))
       | inr some ↦
@@ -250,7 +271,8 @@ slot_first {A} X f kind value next (w ∷ ws) end breaks column k same again hea
             let y : t.3 ≡ x = some_is t.3 x (sym t.4 ∙ ap value (sym (head_is w.text t.0 ts t.1 t.2)) ∙ some.1) in
             (p.0, subst (λ (z : A). Spells (next z) ts p.0) y (subst (λ (us : List (List ℕ)). Spells (next t.3) us p.0) (sym (tail_is w.text t.0 ts t.1 t.2)) t.5)) in
           let forth : (ts : List (List ℕ)) → Whole (next x) ts → Whole f (w.text ∷ ts) = λ ts p. (p.0, again (w.text ∷ ts) p.0 (w.text, ts, refl, x, some.1, p.1)) in
-          behind (Whole f) (Whole (next x)) X (λ ts. X (w.text ∷ ts)) (AtHead f) (AtHead (next x)) w ws end breaks column k back forth (λ ts y. y) g.0 (resolved (Whole f) (next x) w.text back forth g.1 g.2) (rec w.text x some.1 ws (rw some.1 at e))
+          behind (Whole f) (Whole (next x)) X (λ ts. X (w.text ∷ ts)) Z (λ ts. Z (w.text ∷ ts)) (AtHead f) (AtHead (next x)) w ws end breaks column k back forth (λ ts y. y) (λ ts y. y) g.0
+            (resolved (Whole f) Z (next x) w.text back forth g.1 g.2) (rec w.text x some.1 ws (rw some.1 at e))
     ]
 
 -- ---- what the head of a form tells
@@ -259,30 +281,42 @@ pub is_given : {A : Type 0} (o : Option A) → is_some o ≡ true → (x : A) ×
 is_given (Some x) e = (x, refl)
 is_given None e = absurd cc
 
-pub numeral : (slot : NumberSlot) → Holds slot (least slot) → (n : ℕ) × (number_of (number_text slot (least slot)) ≡ Some n)
+numeral : (slot : NumberSlot) → Holds slot (least slot) → (n : ℕ) × (number_of (number_text slot (least slot)) ≡ Some n)
 unfolding number_from
 numeral (between low high) h = (low, number_again low h.1)
 numeral octal h = (0, refl)
 
-pub number_head : (slot : NumberSlot) (next : ℕ → Form) → ((n : ℕ) → IsClear (next n)) → AtHead (a_number slot next) kinds.Number
-number_head slot next clear =
-    elim (cases_is (holds_one slot && lives (next (least slot)))) [
-      | inr none ↦ inl none
-      | inl one ↦
-          let n = least slot in
-          let held = least_held slot (and_left (holds_one slot) (lives (next n)) one) in
-          let a = alive (next n) (clear n) (and_right (holds_one slot) (lives (next n)) one) in
-          let k = numeral slot held in
-          inr (inl (number_text slot n, k.0, k.1, (a.0, (a.1.0, (number_text slot n, a.0, refl, n, number_again_in slot n held, a.1.1)))))
-    ]
+-- a number or a mode that is wanted
+pub number_head : (slot : NumberSlot) (next : ℕ → Form) → ((n : ℕ) → IsClear (next n)) → (wrong : List ℕ) → AtHead (a_number slot next) wrong kinds.Number
+number_head slot next clear wrong =
+    (refl, some, λ word q m. digit_unquoted word (begun_so word m.0 m.1.0 m.1.1) q, λ d word l m. digit_unlettered word (begun_so word m.0 m.1.0 m.1.1) l)
+  where
+    begun_so : (word : List ℕ) (more : List (List ℕ)) (line : Line) → Spells (a_number slot next) (word ∷ more) line → begins_with_digit word ≡ true
+    begun_so word more line s = number_begins slot word s.3 (ap (number_in slot) (head_is word s.0 more s.1 s.2) ∙ s.4)
+
+    some : (full (a_number slot next) ≡ false) ⊎ ((word : List ℕ) × (n : ℕ) × (number_of word ≡ Some n) × MayStand (Whole (a_number slot next)) [] word)
+    some =
+        elim (cases_is (holds_one slot && lives (next (least slot)))) [
+          | inr none ↦ inl none
+          | inl one ↦
+              let n = least slot in
+              let held = least_held slot (and_left (holds_one slot) (lives (next n)) one) in
+              let a = alive (next n) (clear n) (and_right (holds_one slot) (lives (next n)) one) in
+              let k = numeral slot held in
+              inr (number_text slot n, k.0, k.1, (a.0, (a.1.0, (number_text slot n, a.0, refl, n, number_again_in slot n held, a.1.1))))
+        ]
+
+-- no word that begins a form so may stand there
+pub none_avoided : (f : Form) (test : List ℕ → Bool) → avoids test f ≡ true → NoneStands (Whole f) test []
+none_avoided f test a = λ word is m. false≢true (sym (avoided f test (word ∷ m.0) m.1.0 a m.1.1) ∙ is)
 
 -- some form's words are those of another, but where one word begins them
-pub stays_head : (f g : Form) → ((ts : List (List ℕ)) → Whole g ts → Whole f ts) → IsWanted (Whole f) [] kinds.Word → full g ≡ true → counts g ≡ false → (kind : Kind) → AtHead g kind → AtHead f kind
-stays_head f g forth word fits uncounted kinds.Word h = inr word
-stays_head f g forth word fits uncounted kinds.Number (inl un) = absurd (false≢true (sym un ∙ fits))
-stays_head f g forth word fits uncounted kinds.Number (inr i) = inr (wanted_stays (Whole f) (Whole g) forth [] kinds.Number tt i)
-stays_head f g forth word fits uncounted kinds.Text i = wanted_stays (Whole f) (Whole g) forth [] kinds.Text tt i
-stays_head f g forth word fits uncounted kinds.Path i = wanted_stays (Whole f) (Whole g) forth [] kinds.Path tt i
-stays_head f g forth word fits uncounted kinds.Count c = absurd (false≢true (sym uncounted ∙ c))
-stays_head f g forth word fits uncounted kinds.Mode h = absurd h
-stays_head f g forth word fits uncounted kinds.Actors h = absurd h
+pub stays_head : (f g : Form) → ((ts : List (List ℕ)) → Whole g ts → Whole f ts) → ((wrong : List ℕ) → IsWanted (Whole f) Nowhere [] wrong kinds.Word) → tells_number g ≡ false → counts g ≡ false
+    → (wrong : List ℕ) (kind : Kind) → AtHead g wrong kind → AtHead f wrong kind
+stays_head f g forth word untold uncounted wrong kinds.Word h = inr (word wrong)
+stays_head f g forth word untold uncounted wrong kinds.Number h = absurd (false≢true (sym untold ∙ h.0))
+stays_head f g forth word untold uncounted wrong kinds.Text i = text_stays (Whole f) (Whole g) Nowhere Nowhere forth [] wrong i
+stays_head f g forth word untold uncounted wrong kinds.Path i = path_stays (Whole f) (Whole g) Nowhere Nowhere forth [] wrong i
+stays_head f g forth word untold uncounted wrong kinds.Count c = absurd (false≢true (sym uncounted ∙ c))
+stays_head f g forth word untold uncounted wrong kinds.Mode h = absurd h
+stays_head f g forth word untold uncounted wrong kinds.Actors h = absurd h

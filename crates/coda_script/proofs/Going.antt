@@ -4,14 +4,15 @@ use Rattle.std.specs.Prelude.{codes, ◌&&◌, ◌||◌, not, nat_le}
 use Rattle.std.proofs.lemmas.Bool.{leb-true, le-leb, cases_lt}
 use Rattle.coda_engine.specs.declared.status.Kind.{Kind}
 use Rattle.coda_engine.specs.declared.status.Kind.TheVariants.{Word, Number, Text, Path, Count, Mode, Actors}
-use Rattle.coda_text.specs.Numbers.{number_of}
+use Rattle.coda_text.specs.Numbers.{number_of, begins_with_digit}
+use Rattle.coda_text.specs.Texts.{is_quoted}
 use Rattle.coda_script.specs.declared.line.Line.{Line}
 use Rattle.coda_script.specs.declared.line.Rights.{Rights}
 use Rattle.coda_script.specs.Slots.{NumberSlot, between, octal, TextSlot, any, sized, within, number_in, path_in, name_in, rights_in, text_in, has_room, no_rights}
 use Rattle.coda_script.specs.Form.{Form, ends, nothing, either, a_number, a_path, a_name, some_rights, a_text, perhaps, servers_above}
 use Rattle.coda_script.specs.Spelling.{SpellServers, Spells}
 use Rattle.coda_script.specs.FirstColumn.{is_lettered}
-use Rattle.coda_script.proofs.Avoiding.{and_left, and_right}
+use Rattle.coda_script.proofs.Avoiding.{avoids, and_left, and_right}
 use Rattle.coda_script.proofs.InRanges.{if_some, and_then, within_is, path_is}
 use Rattle.coda_script.proofs.Possible.{Holds, HasRoom, Has, IsClear, spelled}
 
@@ -137,6 +138,23 @@ full (a_text slot next) = true
 full (perhaps word slot next) = true
 full (servers_above all last next) = nat_le (last + 1) 8 && lives (next ((last + 1) ∷ []))
 
+-- a number or servers stand there
+abbrev pub tells_number : Form → Bool
+tells_number (ends kind said) = false
+tells_number nothing = false
+tells_number (either word so other) = false
+tells_number (a_number slot next) = true
+tells_number (a_path next) = false
+tells_number (a_name next) = false
+tells_number (some_rights next) = false
+tells_number (a_text slot next) = false
+tells_number (perhaps word slot next) = false
+tells_number (servers_above all last next) = true
+
+-- no word that is quoted stands there, nor one that begins with a digit
+abbrev pub wordy : Form → Bool
+wordy f = avoids is_quoted f && avoids begins_with_digit f
+
 -- ---- what holds of each place of a form
 
 -- behind a word
@@ -144,28 +162,37 @@ abbrev pub Sure : Form → Type 0
 Sure f = (lives f ≡ true) × (settled f ≡ true) × (full f ≡ true)
 
 -- behind a word that may be the last server's
-abbrev pub Good : (List (List ℕ) → Type 0) → List ℕ → Form → Type 0
-Good X w f = ((lives f ≡ true) ⊎ X (w ∷ [])) × (settled f ≡ true) × ((full f ≡ true) ⊎ (number_of w ≡ Some 8))
+abbrev pub Good : (X Z : List (List ℕ) → Type 0) → List ℕ → Form → Type 0
+Good X Z w f = ((lives f ≡ true) ⊎ X (w ∷ [])) × (settled f ≡ true) × ((full f ≡ true) ⊎ Z (w ∷ []))
 
--- the words up to each place begin a line of the form, but for those excepted
-abbrev pub Goes : (List (List ℕ) → Type 0) → Form → Type 0
-Goes X (ends kind said) = is_behind kind ≡ true
-Goes X nothing = Unit {0}
-Goes X (either word so other) =
-    (is_lettered word ≡ true) × Sure so × (full other ≡ true) × (counts other ≡ false) × Goes (λ ws. X (word ∷ ws)) so × Goes X other
-Goes X (a_number slot next) = (w : List ℕ) (n : ℕ) → number_in slot w ≡ Some n → Good X w (next n) × Goes (λ ws. X (w ∷ ws)) (next n)
-Goes X (a_path next) = (w : List ℕ) (p : List (List ℕ)) → path_in w ≡ Some p → Sure (next p) × Goes (λ ws. X (w ∷ ws)) (next p)
-Goes X (a_name next) = (w n : List ℕ) → name_in w ≡ Some n → Sure (next n) × Goes (λ ws. X (w ∷ ws)) (next n)
-Goes X (some_rights next) = (w : List ℕ) (r : Rights) → rights_in w ≡ Some r → Sure (next r) × Goes (λ ws. X (w ∷ ws)) (next r)
-Goes X (a_text slot next) =
-    (has_room slot 2 ≡ true) × ((w t : List ℕ) → text_in slot w ≡ Some t → Sure (next t) × Goes (λ ws. X (w ∷ ws)) (next t))
-Goes X (perhaps word slot next) =
-    (is_lettered word ≡ true) × (holds_one slot ≡ true) × (full (next None) ≡ true) × (counts (next None) ≡ false)
-    × ((w : List ℕ) (n : ℕ) → number_in slot w ≡ Some n → Sure (next (Some n)) × Goes (λ ws. X (word ∷ w ∷ ws)) (next (Some n)))
-    × Goes X (next None)
-Goes X (servers_above all last next) =
+-- the words up to each place begin a line of the form, but for those excepted; and a number may stand where one is wanted,
+-- but behind those that are excepted
+abbrev pub Goes : (X Z : List (List ℕ) → Type 0) → Form → Type 0
+Goes X Z (ends kind said) = is_behind kind ≡ true
+Goes X Z nothing = Unit {0}
+Goes X Z (either word so other) =
+    (is_lettered word ≡ true) × Sure so × (tells_number other ≡ false) × (counts other ≡ false) × (wordy (either word so other) ≡ true)
+    × Goes (λ ws. X (word ∷ ws)) (λ ws. Z (word ∷ ws)) so × Goes X Z other
+Goes X Z (a_number slot next) =
+    (w : List ℕ) (n : ℕ) → number_in slot w ≡ Some n → Good X Z w (next n) × Goes (λ ws. X (w ∷ ws)) (λ ws. Z (w ∷ ws)) (next n)
+Goes X Z (a_path next) =
+    (w : List ℕ) (p : List (List ℕ)) → path_in w ≡ Some p → Sure (next p) × Goes (λ ws. X (w ∷ ws)) (λ ws. Z (w ∷ ws)) (next p)
+Goes X Z (a_name next) = (w n : List ℕ) → name_in w ≡ Some n → Sure (next n) × Goes (λ ws. X (w ∷ ws)) (λ ws. Z (w ∷ ws)) (next n)
+Goes X Z (some_rights next) =
+    (w : List ℕ) (r : Rights) → rights_in w ≡ Some r → Sure (next r) × Goes (λ ws. X (w ∷ ws)) (λ ws. Z (w ∷ ws)) (next r)
+Goes X Z (a_text slot next) =
+    (has_room slot 2 ≡ true)
+    × ((w t : List ℕ) → text_in slot w ≡ Some t → Sure (next t) × Goes (λ ws. X (w ∷ ws)) (λ ws. Z (w ∷ ws)) (next t))
+Goes X Z (perhaps word slot next) =
+    (is_lettered word ≡ true) × (holds_one slot ≡ true) × (tells_number (next None) ≡ false) × (counts (next None) ≡ false)
+    × (wordy (perhaps word slot next) ≡ true)
+    × ((w : List ℕ) (n : ℕ) → number_in slot w ≡ Some n → Sure (next (Some n)) × Goes (λ ws. X (word ∷ w ∷ ws)) (λ ws. Z (word ∷ w ∷ ws)) (next (Some n)))
+    × Goes X Z (next None)
+Goes X Z (servers_above all last next) =
     (ws : List (List ℕ)) (ss : List ℕ) → SpellServers all last ws ss
-    → Sure (next ss) × ((all || not (counts (next ss))) ≡ true) × Goes (λ more. X (ws ++ more)) (next ss)
+    → Sure (next ss) × (tells_number (next ss) ≡ false) × ((all || not (counts (next ss))) ≡ true) × (wordy (next ss) ≡ true)
+    × ((w : List ℕ) → number_of w ≡ Some 8 → Z (ws ++ w ∷ []))
+    × Goes (λ more. X (ws ++ more)) (λ more. Z (ws ++ more)) (next ss)
 
 -- ---- servers
 

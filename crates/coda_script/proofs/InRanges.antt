@@ -43,7 +43,7 @@ pub if_some : {A : Type 0} (b : Bool) (x y : A) → (if b then (let r : Option A
 if_some true x y e = (refl, cc)
 if_some false x y e = absurd cc
 
-if_then : {A : Type 0} (b : Bool) (o : Option A) (y : A) → (if b then o else None) ≡ Some y → o ≡ Some y
+pub if_then : {A : Type 0} (b : Bool) (o : Option A) (y : A) → (if b then o else None) ≡ Some y → o ≡ Some y
 if_then true o y e = e
 if_then false o y e = absurd cc
 

@@ -15,6 +15,7 @@ pub mod EveryLine
 pub mod WrongColumns
 pub mod Going
 pub mod TableGoes
+pub mod FirstBytes
 pub mod FirstSteps
 pub mod FirstColumns
 pub mod FirstOfLines

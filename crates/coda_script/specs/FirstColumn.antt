@@ -1,10 +1,10 @@
 -- The first wrong column of a line and what is wrong there, by what lines there are: some line begins with the words
 -- before it, and none goes on as this one does.
-use Rattle.std.specs.Prelude.{◌≡◌, codes, ℕ, ◌⊎◌, Bool, true, ◌&&◌, nat_le, List, [], ◌∷◌, ◌++◌, map, if◌then◌else◌, Option, Some, None, Result, Err, is_some}
+use Rattle.std.specs.Prelude.{◌≡◌, codes, ℕ, ◌⊎◌, Bool, true, false, ◌&&◌, nat_le, List, [], ◌∷◌, ◌++◌, map, if◌then◌else◌, Option, Some, None, Result, Err, is_some}
 use Rattle.std.specs.List.{list_all}
 use Rattle.coda_engine.specs.declared.status.Kind.{Kind}
 use Rattle.coda_engine.specs.declared.status.Kind.TheVariants.{Word, Number, Text, Path, Count, Mode, Actors}
-use Rattle.coda_text.specs.Numbers.{number_of}
+use Rattle.coda_text.specs.Numbers.{number_of, begins_with_digit}
 use Rattle.coda_text.specs.Texts.{is_quoted}
 use Rattle.coda_text.specs.Words.{Split, Word as AWord, split_of}
 use Rattle.coda_script.specs.declared.line.Line.{Line}
@@ -37,6 +37,12 @@ IsAtLastServer ws =
     (v : List ℕ) × (s : List ℕ) × (ws ≡ codes "resolve" ∷ v ∷ s ∷ [])
     × (is_some (number_in (between 1 4294967295) v) ≡ true) × (number_in (between 1 8) s ≡ Some 8)
 
+-- the servers of a `volume` or a `resolve` line, up to the last that there is
+abbrev pub EndsAtLastServer : List (List ℕ) → Type 0
+EndsAtLastServer ws =
+    (v : List ℕ) × (front : List (List ℕ)) × (s : List ℕ) × (number_of s ≡ Some 8)
+    × ((ws ≡ codes "volume" ∷ v ∷ codes "on" ∷ (front ++ s ∷ [])) ⊎ (ws ≡ codes "resolve" ∷ v ∷ (front ++ s ∷ [])))
+
 -- ---- of any lines, what begins one
 
 -- one of the lines begins with the words
@@ -52,39 +58,45 @@ abbrev pub NoneGoesOn : (List (List ℕ) → Type 0) → List (List ℕ) → Lis
 NoneGoesOn Lines front [] = Lines front → ⊥
 NoneGoesOn Lines front (w ∷ ws) = MayStand Lines front w.text → ⊥
 
+-- no word that the test holds of may stand behind the words
+abbrev pub NoneStands : (List (List ℕ) → Type 0) → (List ℕ → Bool) → List (List ℕ) → Type 0
+NoneStands Lines test front = (word : List ℕ) → test word ≡ true → MayStand Lines front word → ⊥
+
 -- ---- what is wrong
 
 -- a word of lower-case letters, as each fixed word is
 abbrev pub is_lettered : List ℕ → Bool
 is_lettered word = list_all (λ b. nat_le 97 b && nat_le b 122) word
 
--- the last of the words is the number of the last server
-abbrev pub EndsAtLastServer : List (List ℕ) → Type 0
-EndsAtLastServer ws = (front : List (List ℕ)) × (s : List ℕ) × (ws ≡ front ++ s ∷ []) × (number_of s ≡ Some 8)
-
--- what was wanted behind the words, in place of a word that is wrong there
-abbrev pub IsWanted : (List (List ℕ) → Type 0) → List (List ℕ) → Kind → Type 0
--- nothing: they are a line, and no line begins with them and one more
-IsWanted Lines front Count = Lines front × ((word : List ℕ) → MayStand Lines front word → ⊥)
--- some word of letters, as is each fixed word
-IsWanted Lines front Word = (word : List ℕ) × (is_lettered word ≡ true) × MayStand Lines front word
--- some number, but behind the last server, above which there is none
-IsWanted Lines front Number =
-    ((word : List ℕ) × (n : ℕ) × (number_of word ≡ Some n) × MayStand Lines front word) ⊎ EndsAtLastServer front
+-- What was wanted behind the words, in place of the one that is wrong there. Of the lines, and of what ends at a last
+-- number, above which there is none.
+abbrev pub IsWanted : (Lines Last : List (List ℕ) → Type 0) → List (List ℕ) → List ℕ → Kind → Type 0
+-- nothing: the words before it are a line, and no line begins with them and one more
+IsWanted Lines Last front wrong Count = Lines front × ((word : List ℕ) → MayStand Lines front word → ⊥)
+-- a fixed word: some word of letters may stand there, and none that is quoted, or a number where it looks like one
+IsWanted Lines Last front wrong Word =
+    ((word : List ℕ) × (is_lettered word ≡ true) × MayStand Lines front word)
+    × NoneStands Lines is_quoted front
+    × (begins_with_digit wrong ≡ true → NoneStands Lines begins_with_digit front)
+-- a number: some may stand there, and no word that is quoted, or of letters where it doesn't look like a number
+IsWanted Lines Last front wrong Number =
+    (((word : List ℕ) × (n : ℕ) × (number_of word ≡ Some n) × MayStand Lines front word) ⊎ Last front)
+    × NoneStands Lines is_quoted front
+    × (begins_with_digit wrong ≡ false → NoneStands Lines is_lettered front)
 -- any path, or any name
-IsWanted Lines front Path =
+IsWanted Lines Last front wrong Path =
     ((word : List ℕ) → is_some (path_in word) ≡ true → MayStand Lines front word)
     ⊎ ((word : List ℕ) → is_some (name_in word) ≡ true → MayStand Lines front word)
 -- some quoted text that is neither
-IsWanted Lines front Text =
+IsWanted Lines Last front wrong Text =
     (word : List ℕ) × (is_quoted word ≡ true) × (path_in word ≡ None) × (name_in word ≡ None) × MayStand Lines front word
-IsWanted Lines front Mode = ⊥
-IsWanted Lines front Actors = ⊥
+IsWanted Lines Last front wrong Mode = ⊥
+IsWanted Lines Last front wrong Actors = ⊥
 
 -- the kind is what is wrong behind the words: where no word is left, one is missing, or what begins there is none
-abbrev pub IsToldAs : (List (List ℕ) → Type 0) → List (List ℕ) → List AWord → Option ℕ → Kind → Type 0
-IsToldAs Lines front [] breaks kind = kind ≡ (if is_some breaks then Text else Count)
-IsToldAs Lines front (w ∷ ws) breaks kind = IsWanted Lines front kind
+abbrev pub IsToldAs : (Lines Last : List (List ℕ) → Type 0) → List (List ℕ) → List AWord → Option ℕ → Kind → Type 0
+IsToldAs Lines Last front [] breaks kind = kind ≡ (if is_some breaks then Text else Count)
+IsToldAs Lines Last front (w ∷ ws) breaks kind = IsWanted Lines Last front w.text kind
 
 -- ---- the law
 
@@ -97,7 +109,7 @@ pub record IsFirstColumn (split : Split) (column : ℕ) (kind : Kind) : Type 0 w
   pub place : column ≡ column_of split.end after
   pub starts : BeginsOne IsFormed (map (λ w. w.text) before) ⊎ BehindThreads IsAtLastServer (map (λ w. w.text) before)
   pub none : (after ≡ [] → split.breaks ≡ None) → NoneGoesOn IsFormed (map (λ w. w.text) before) after
-  pub told : IsToldAs IsFormed (map (λ w. w.text) before) after split.breaks kind
+  pub told : IsToldAs IsFormed (BehindThreads EndsAtLastServer) (map (λ w. w.text) before) after split.breaks kind
 
 -- The words are a line which may not stand there: behind several threads, or in a thread without being what a client does.
 pub record IsMisplaced (line : List ℕ) (column : ℕ) (kind : Kind) : Type 0 where
