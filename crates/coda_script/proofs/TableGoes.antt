@@ -1,11 +1,14 @@
 -- Each place of the table can be completed to a line, but for `resolve V 8`.
-use Rattle.std.proofs.Common.{◌≡◌, ℕ, ◌+◌, true, leb, ◌⊎◌, inl, inr, List, [], ◌∷◌, ◌++◌, Option, Some, refl, ap, arith}
+use Rattle.std.proofs.Common.{◌≡◌, ℕ, ◌+◌, Bool, true, false, leb, ◌⊎◌, inl, inr, List, [], ◌∷◌, ◌++◌, Option, Some, refl, ap, arith}
 use Rattle.std.specs.Prelude.{codes, ◌&&◌, nat_le, is_some}
+use Rattle.std.specs.List.{list_all}
 use Rattle.std.proofs.lemmas.Bool.{leb-true, le-leb}
-use Rattle.coda_text.specs.Numbers.{number_of}
+use Rattle.coda_text.specs.Numbers.{number_of, begins_with_digit}
 use Rattle.coda_script.specs.Slots.{between, number_in}
 use Rattle.coda_script.specs.Table.{create_form, mkdir_form, symlink_form, store_form, setattr_form, remove_form, rmdir_form, rename_form, read_form, list_form, drain_form, refresh_form, giveup_form, volume_form, client_form, link_form, tick_form, hoard_add_form, hoard_form, walk_form, send_form, deliver_form, lose_form, breaks_form, crash_form, recover_form, arm_form, resolve_form, repair_form, show_form, trim_form, hardlink_form, acl_form, clone_form, peek_form, unclone_form, asr_form, heal_form, script, setup_forms, actor_forms, last_forms, extra_forms}
 use Rattle.coda_script.specs.FirstColumn.{IsAtLastServer, EndsAtLastServer}
+use Rattle.coda_script.specs.Spelling.{SpellServers}
+use Rattle.coda_script.proofs.FirstBytes.{number_begins}
 use Rattle.coda_script.proofs.Going.{Sure, Goes, server_is}
 
 abbrev Words : Type 1
@@ -23,11 +26,20 @@ above Z low s w e last = elim (server_is low s w e) [
   ]
 
 -- the last server of a `volume` line, and of a `resolve` line
-volume_ends : (v : List ℕ) (front : List (List ℕ)) (s : List ℕ) → number_of s ≡ Some 8 → EndsAtLastServer (codes "volume" ∷ v ∷ codes "on" ∷ (front ++ s ∷ []))
-volume_ends v front s e = (v, front, s, e, inl refl)
+volume_ends : (v : List ℕ) (front : List (List ℕ)) (s : List ℕ) → list_all begins_with_digit front ≡ true → number_of s ≡ Some 8 → EndsAtLastServer (codes "volume" ∷ v ∷ codes "on" ∷ (front ++ s ∷ []))
+volume_ends v front s d e = (v, front, s, inl refl, d, e)
 
-resolve_ends : (v : List ℕ) (front : List (List ℕ)) (s : List ℕ) → number_of s ≡ Some 8 → EndsAtLastServer (codes "resolve" ∷ v ∷ (front ++ s ∷ []))
-resolve_ends v front s e = (v, front, s, e, inr refl)
+resolve_ends : (v : List ℕ) (front : List (List ℕ)) (s : List ℕ) → list_all begins_with_digit front ≡ true → number_of s ≡ Some 8 → EndsAtLastServer (codes "resolve" ∷ v ∷ (front ++ s ∷ []))
+resolve_ends v front s d e = (v, front, s, inr refl, d, e)
+
+digits_of : (all : Bool) (last : ℕ) (ws : List (List ℕ)) (ss : List ℕ) → SpellServers all last ws ss → list_all begins_with_digit ws ≡ true
+digits_of all last [] [] m = refl
+digits_of all last [] (s ∷ ss) m = absurd m
+digits_of all last (w ∷ ws) [] m = absurd m
+digits_of all last (w ∷ ws) (s ∷ ss) m = rw (number_begins (between (last + 1) 8) w s m.1) (digits_of all s ws ss m.2)
+
+first_digits : (w : List ℕ) (ws : List (List ℕ)) → begins_with_digit w ≡ true → list_all begins_with_digit ws ≡ true → list_all begins_with_digit (w ∷ ws) ≡ true
+first_digits w ws d ds = rw d ds
 
 second : (s : ℕ) (w : List ℕ) → number_in (between 1 8) w ≡ Some s → ((nat_le (s + 1) 8 && nat_le (s + 1) 18446744073709551615 && true) ≡ true) ⊎ (number_of w ≡ Some 8)
 second s w e = elim (server_is 1 s w e) [
@@ -45,7 +57,7 @@ first v s wv ws ev es = elim (second s ws es) [
 full_first : (s : ℕ) (wv ws : List ℕ) → number_in (between 1 8) ws ≡ Some s → ((nat_le (s + 1) 8 && nat_le (s + 1) 18446744073709551615 && true) ≡ true) ⊎ EndsAtLastServer (codes "resolve" ∷ wv ∷ ws ∷ [])
 full_first s wv ws es = elim (second s ws es) [
     | inl less ↦ inl less
-    | inr last ↦ inr (resolve_ends wv [] ws last)
+    | inr last ↦ inr (resolve_ends wv [] ws refl last)
   ]
 
 -- ---- the forms
@@ -160,7 +172,7 @@ volume_sure = (refl, refl, refl)
 
 volume_goes : (X : Words) → Goes X (λ ws. EndsAtLastServer (codes "volume" ∷ ws)) volume_form
 unfolding volume_form
-volume_goes X = λ wv v e. ((inl refl, refl, inl refl), (refl, (refl, refl, refl), refl, refl, refl, λ ws s es. ((inl refl, refl, above (λ ts. EndsAtLastServer (codes "volume" ∷ wv ∷ codes "on" ∷ ts)) 1 s ws es (volume_ends wv [] ws)), λ ms ss h. ((refl, refl, refl), refl, refl, refl, λ m. volume_ends wv (ws ∷ ms) m, (refl, refl, refl, refl, refl, λ w n e. ((refl, refl, refl), refl), refl))), tt))
+volume_goes X = λ wv v e. ((inl refl, refl, inl refl), (refl, (refl, refl, refl), refl, refl, refl, λ ws s es. ((inl refl, refl, above (λ ts. EndsAtLastServer (codes "volume" ∷ wv ∷ codes "on" ∷ ts)) 1 s ws es (volume_ends wv [] ws refl)), λ ms ss h. ((refl, refl, refl), refl, refl, refl, λ m. volume_ends wv (ws ∷ ms) m (first_digits ws ms (number_begins (between 1 8) ws s es) (digits_of false s ms ss h)), (refl, refl, refl, refl, refl, λ w n e. ((refl, refl, refl), refl), refl))), tt))
 
 client_sure : Sure client_form
 unfolding client_form
@@ -272,7 +284,7 @@ resolve_sure = (refl, refl, refl)
 
 resolve_goes : Goes (λ ws. IsAtLastServer (codes "resolve" ∷ ws)) (λ ws. EndsAtLastServer (codes "resolve" ∷ ws)) resolve_form
 unfolding resolve_form
-resolve_goes = λ wv v ev. ((inl refl, refl, inl refl), λ ws s es. ((first v s wv ws ev es, refl, full_first s wv ws es), λ w t e. ((inl refl, refl, above (λ ts. EndsAtLastServer (codes "resolve" ∷ wv ∷ ws ∷ ts)) (s + 1) t w e (resolve_ends wv (ws ∷ []) w)), λ ms ss h. ((refl, refl, refl), refl, refl, refl, λ m. resolve_ends wv (ws ∷ w ∷ ms) m, refl))))
+resolve_goes = λ wv v ev. ((inl refl, refl, inl refl), λ ws s es. ((first v s wv ws ev es, refl, full_first s wv ws es), λ w t e. ((inl refl, refl, above (λ ts. EndsAtLastServer (codes "resolve" ∷ wv ∷ ws ∷ ts)) (s + 1) t w e (resolve_ends wv (ws ∷ []) w (first_digits ws [] (number_begins (between 1 8) ws s es) refl))), λ ms ss h. ((refl, refl, refl), refl, refl, refl, λ m. resolve_ends wv (ws ∷ w ∷ ms) m (first_digits ws (w ∷ ms) (number_begins (between 1 8) ws s es) (first_digits w ms (number_begins (between (s + 1) 8) w t e) (digits_of true t ms ss h))), refl))))
 
 repair_sure : Sure repair_form
 unfolding repair_form

@@ -37,11 +37,12 @@ IsAtLastServer ws =
     (v : List ℕ) × (s : List ℕ) × (ws ≡ codes "resolve" ∷ v ∷ s ∷ [])
     × (is_some (number_in (between 1 4294967295) v) ≡ true) × (number_in (between 1 8) s ≡ Some 8)
 
--- the servers of a `volume` or a `resolve` line, up to the last that there is
+-- a `volume` or a `resolve` line up to the last server, above which there is none
 abbrev pub EndsAtLastServer : List (List ℕ) → Type 0
 EndsAtLastServer ws =
-    (v : List ℕ) × (front : List (List ℕ)) × (s : List ℕ) × (number_of s ≡ Some 8)
-    × ((ws ≡ codes "volume" ∷ v ∷ codes "on" ∷ (front ++ s ∷ [])) ⊎ (ws ≡ codes "resolve" ∷ v ∷ (front ++ s ∷ [])))
+    (v : List ℕ) × (servers : List (List ℕ)) × (last : List ℕ)
+    × ((ws ≡ codes "volume" ∷ v ∷ codes "on" ∷ (servers ++ last ∷ [])) ⊎ (ws ≡ codes "resolve" ∷ v ∷ (servers ++ last ∷ [])))
+    × (list_all begins_with_digit servers ≡ true) × (number_of last ≡ Some 8)
 
 -- ---- of any lines, what begins one
 
