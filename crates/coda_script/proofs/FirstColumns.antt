@@ -1,28 +1,28 @@
 -- A wrong column is the first that is wrong in a form: `first`, by recursion on the form.
-use Rattle.std.proofs.Common.{◌≡◌, ℕ, ◌+◌, ◌<◌, ◌^◌, Bool, true, false, ◌⊎◌, inl, inr, List, [], ◌∷◌, ◌++◌, map, Option, Some, None, Result, Ok, Err, refl, sym, ap, subst, ◌∙◌, arith}
-use Rattle.std.specs.Prelude.{codes, ◌&&◌, ◌||◌, not, nat_le, is_some}
+use Rattle.std.proofs.Common.{◌≡◌, ℕ, ◌+◌, Bool, true, false, ◌⊎◌, inl, inr, List, [], ◌∷◌, ◌++◌, Option, Some, None, Result, Err, refl, sym, ap, subst, ◌∙◌, arith}
+use Rattle.std.specs.Prelude.{codes, ◌&&◌, ◌||◌, not, nat_le}
 use Rattle.std.specs.Fmt.{decimal}
 use Rattle.std.proofs.lemmas.Bool.{false≢true, leb-true}
 use Rattle.coda_engine.specs.declared.status.Kind.{Kind}
 use Rattle.coda_engine.specs.declared.status.Kind.TheVariants as kinds
 use Rattle.coda_text.specs.Numbers.{number_of, begins_with_digit}
 use Rattle.coda_text.specs.Texts.{decoded, is_quoted}
-use Rattle.coda_text.specs.Words.{Split, Word, rest_of}
+use Rattle.coda_text.specs.Words.{Word, rest_of}
 use Rattle.coda_text.proofs.Joining.{number_again}
 use Rattle.coda_script.specs.declared.line.Line.{Line}
 use Rattle.coda_script.specs.declared.line.Rights.{Rights}
-use Rattle.coda_script.specs.Slots.{NumberSlot, between, TextSlot, number_in, path_in, name_in, rights_in, text_in, has_room, is_word, is_server}
+use Rattle.coda_script.specs.Slots.{NumberSlot, between, TextSlot, number_in, path_in, name_in, rights_in, text_in, is_word, is_server}
 use Rattle.coda_script.specs.Form.{Form, ends, nothing, either, a_number, a_path, a_name, some_rights, a_text, perhaps, servers_above}
 use Rattle.coda_script.specs.Reading.{Fault, ◌>>=◌, slot_at, is_next, missing, servers_at, option_at, read}
 use Rattle.coda_script.specs.Spelling.{begins, SpellServers, Spells}
-use Rattle.coda_script.specs.FirstColumn.{BeginsOne, MayStand, NoneStands, is_lettered, IsWanted}
+use Rattle.coda_script.specs.FirstColumn.{MayStand, NoneStands, is_lettered, IsWanted}
 use Rattle.coda_script.proofs.Avoiding.{avoids, avoided, and_left, and_right}
-use Rattle.coda_script.proofs.Binding.{split, texts, chosen, first_is, is_itself}
+use Rattle.coda_script.proofs.Binding.{split, chosen, first_is}
 use Rattle.coda_script.proofs.FirstBytes.{number_begins, digit_unquoted, digit_unlettered, rights_apart}
 use Rattle.coda_script.proofs.FirstSteps.{Lines, Nowhere, First, AtHead, behind, stays, may_stay, text_stays, path_stays, none_avoided, of_kind, at_end, at_word, resolved, begun, slot_first, is_given, number_head, stays_head}
-use Rattle.coda_script.proofs.Going.{Whole, least, holds_one, lives, least_held, alive, is_behind, counts, settled, full, wordy, Goes, server_is}
+use Rattle.coda_script.proofs.Going.{Whole, least, lives, least_held, alive, is_behind, counts, full, wordy, Goes, server_is}
 use Rattle.coda_script.proofs.Possible.{IsClear, number_text, number_again_in, servers_spelled}
-use Rattle.coda_script.proofs.WrongColumns.{faulty, head_is, cases_option, cases_is, one_pair, one_more, no_servers, no_number, one_server, some_pair, option_taken, either_so, either_other, taken, perhaps_so, perhaps_none}
+use Rattle.coda_script.proofs.WrongColumns.{faulty, head_is, cases_option, cases_is, one_more, no_servers, no_number, one_server, option_taken, either_so, either_other, taken, perhaps_so, perhaps_none}
 
 wordy_unquoted : (f : Form) → wordy f ≡ true → avoids is_quoted f ≡ true
 wordy_unquoted f w = and_left (avoids is_quoted f) (avoids begins_with_digit f) w

@@ -1,7 +1,6 @@
 -- A wrong column of a whole line is its first, behind any number of threads.
-use Rattle.std.proofs.Common.{◌≡◌, ℕ, ◌+◌, Bool, true, false, ◌⊎◌, inl, inr, List, [], ◌∷◌, ◌++◌, map, Option, Some, None, Result, Ok, Err, refl, sym, ap, subst, ◌∙◌}
+use Rattle.std.proofs.Common.{◌≡◌, ℕ, ◌+◌, Bool, true, false, ◌⊎◌, inl, inr, List, [], ◌∷◌, Option, Some, None, Result, Ok, Err, refl, sym, ap, subst, ◌∙◌}
 use Rattle.std.specs.Prelude.{codes, is_some}
-use Rattle.std.specs.Option.{option_map_or}
 use Rattle.std.proofs.lemmas.Bool.{false≢true}
 use Rattle.coda_engine.specs.declared.status.Kind.{Kind}
 use Rattle.coda_engine.specs.declared.status.Kind.TheVariants as kinds
@@ -16,16 +15,16 @@ use Rattle.coda_script.specs.Slots.{between, number_in, is_word}
 use Rattle.coda_script.specs.Table.{script, create_form}
 use Rattle.coda_script.specs.Lines.{is_silent, with_thread, turns_at, placed, read_words, line_of}
 use Rattle.coda_script.specs.Reading.{Fault, ◌>>=◌, is_next, missing, read}
-use Rattle.coda_script.specs.Spelling.{begins, Spells, SpellsLine, words_of}
-use Rattle.coda_script.specs.FirstColumn.{IsTabled, BehindThreads, IsFormed, IsAtLastServer, EndsAtLastServer, is_lettered, BeginsOne, MayStand, IsWanted, IsToldAs, IsFirstColumn, IsMisplaced}
+use Rattle.coda_script.specs.Spelling.{begins}
+use Rattle.coda_script.specs.FirstColumn.{IsTabled, BehindThreads, IsFormed, IsAtLastServer, EndsAtLastServer, BeginsOne, MayStand, IsWanted, IsToldAs, IsFirstColumn, IsMisplaced}
 use Rattle.coda_script.proofs.AnyForm.{sound}
 use Rattle.coda_script.proofs.Avoiding.{script_avoids_at}
-use Rattle.coda_script.proofs.Binding.{split, texts, chosen, bind_ok, ok_is, is_itself, word_is}
+use Rattle.coda_script.proofs.Binding.{split, texts, chosen, ok_is, is_itself, word_is}
 use Rattle.coda_script.proofs.Clear.{script_clear}
 use Rattle.coda_script.proofs.FirstBytes.{number_begins, digit_unquoted, digit_unlettered, apart}
 use Rattle.coda_script.proofs.FirstSteps.{Nowhere, First, Told, AtHead, behind, stays, wanted_behind, may_stay, text_stays, path_stays, is_given, of_kind}
 use Rattle.coda_script.proofs.FirstColumns.{first}
-use Rattle.coda_script.proofs.Going.{Whole, alive, counts, settled, full}
+use Rattle.coda_script.proofs.Going.{Whole, alive}
 use Rattle.coda_script.proofs.TableGoes.{script_goes}
 use Rattle.coda_script.proofs.TurnSteps.{turns_stop}
 use Rattle.coda_script.proofs.WholeLines.{is_only}

@@ -1,28 +1,26 @@
 -- The first column that is wrong of some lines, and of what they are behind one more word.
-use Rattle.std.proofs.Common.{◌≡◌, ℕ, ◌+◌, Bool, true, false, ◌⊎◌, inl, inr, List, [], ◌∷◌, ◌++◌, map, Option, Some, None, Result, Ok, Err, refl, sym, ap, subst, ◌∙◌, arith}
-use Rattle.std.specs.Prelude.{codes, ◌&&◌, ◌||◌, not, nat_le, if◌then◌else◌, is_some}
-use Rattle.std.specs.Fmt.{decimal}
-use Rattle.std.proofs.lemmas.Bool.{false≢true, leb-true}
+use Rattle.std.proofs.Common.{◌≡◌, ℕ, ◌+◌, Bool, true, false, ◌⊎◌, inl, inr, List, [], ◌∷◌, ◌++◌, Option, Some, None, Result, Err, refl, sym, ap, subst, ◌∙◌}
+use Rattle.std.specs.Prelude.{◌&&◌, if◌then◌else◌, is_some}
+use Rattle.std.proofs.lemmas.Bool.{false≢true}
 use Rattle.coda_engine.specs.declared.status.Kind.{Kind}
 use Rattle.coda_engine.specs.declared.status.Kind.TheVariants as kinds
 use Rattle.coda_text.specs.Numbers.{number_of, number_from, begins_with_digit}
 use Rattle.coda_text.specs.Texts.{is_quoted}
-use Rattle.coda_text.specs.Words.{Split, Word, rest_of}
+use Rattle.coda_text.specs.Words.{Word}
 use Rattle.coda_text.proofs.Joining.{number_again}
 use Rattle.coda_script.specs.declared.line.Line.{Line}
-use Rattle.coda_script.specs.declared.line.Rights.{Rights}
-use Rattle.coda_script.specs.Slots.{NumberSlot, between, octal, TextSlot, number_in, path_in, name_in, rights_in, text_in, has_room, is_word, is_server}
+use Rattle.coda_script.specs.Slots.{NumberSlot, between, octal, number_in}
 use Rattle.coda_script.specs.Form.{Form, ends, nothing, either, a_number, a_path, a_name, some_rights, a_text, perhaps, servers_above}
-use Rattle.coda_script.specs.Reading.{Fault, ◌>>=◌, slot_at, is_next, missing, servers_at, option_at, read}
-use Rattle.coda_script.specs.Spelling.{begins, SpellServers, Spells}
+use Rattle.coda_script.specs.Reading.{Fault, ◌>>=◌, slot_at, is_next, missing, read}
+use Rattle.coda_script.specs.Spelling.{begins, Spells}
 use Rattle.coda_script.specs.FirstWrong.{column_of}
 use Rattle.coda_script.specs.FirstColumn.{BeginsOne, MayStand, NoneGoesOn, NoneStands, is_lettered, IsWanted}
 use Rattle.coda_script.proofs.Avoiding.{avoids, avoided, and_left, and_right}
-use Rattle.coda_script.proofs.Binding.{split, texts, chosen, first_is, is_itself, some_is}
+use Rattle.coda_script.proofs.Binding.{split, texts, some_is}
 use Rattle.coda_script.proofs.Going.{Whole, least, holds_one, lives, least_held, alive, counts, settled, full, tells_number}
-use Rattle.coda_script.proofs.Possible.{Holds, IsClear, number_text, number_again_in, servers_spelled}
+use Rattle.coda_script.proofs.Possible.{Holds, IsClear, number_text, number_again_in}
 use Rattle.coda_script.proofs.FirstBytes.{number_begins, digit_unquoted, digit_unlettered}
-use Rattle.coda_script.proofs.WrongColumns.{faulty, head_is, tail_is, none_some, cases_option, SpellsSlot, not_word, cases_is, one_pair, one_more, no_servers, no_number, one_server, some_pair, option_taken}
+use Rattle.coda_script.proofs.WrongColumns.{faulty, head_is, tail_is, none_some, cases_option, SpellsSlot, cases_is}
 
 abbrev pub Lines : Type 1
 Lines = List (List ℕ) → Type 0

@@ -1,10 +1,10 @@
 -- The lines of a form, with their values in the ranges of its slots; and how each is spelled.
-use Rattle.std.proofs.Common.{◌≡◌, ℕ, ◌+◌, ◌^◌, ◌<◌, ◌≤◌, Bool, true, false, leb, ◌⊎◌, inl, inr, List, [], ◌∷◌, ◌++◌, length, map, Option, Some, None, refl, ap, arith}
+use Rattle.std.proofs.Common.{◌≡◌, ℕ, ◌+◌, ◌^◌, ◌<◌, ◌≤◌, Bool, true, false, ◌⊎◌, inl, inr, List, [], ◌∷◌, ◌++◌, length, map, Option, Some, None, refl, ap, arith}
 use Rattle.std.specs.Prelude.{IfSome}
 use Rattle.std.specs.Fmt.{decimal}
 use Rattle.std.proofs.lemmas.Bool.{le-leb}
 use Rattle.coda_fid.specs.Name.{is_name}
-use Rattle.coda_fid.specs.Path.{path_text, is_path, names_in, ArePathNames}
+use Rattle.coda_fid.specs.Path.{path_text, is_path, ArePathNames}
 use Rattle.coda_fid.proofs.Paths.{names_in-path_text, test_from_path}
 use Rattle.coda_text.specs.Texts.{printed, quoted, value_of}
 use Rattle.coda_text.specs.Printed.{AreBytes}
@@ -14,7 +14,7 @@ use Rattle.coda_script.specs.declared.line.Line.{Line}
 use Rattle.coda_script.specs.declared.line.Rights.{Rights}
 use Rattle.coda_script.specs.Slots.{NumberSlot, between, octal, TextSlot, any, sized, number_in, path_in, name_in, text_in, has_room, is_word, is_server}
 use Rattle.coda_script.specs.Form.{Form, ends, nothing, either, a_number, a_path, a_name, some_rights, a_text, perhaps, servers_above}
-use Rattle.coda_script.specs.Spelling.{begins, SpellServers, Spells}
+use Rattle.coda_script.specs.Spelling.{SpellServers, Spells}
 use Rattle.coda_script.specs.Ranges.{IsBetween, AreServersAbove}
 use Rattle.coda_script.proofs.Avoiding.{avoids, avoided}
 use Rattle.coda_script.proofs.Lettered.{rights_again}

@@ -1,6 +1,6 @@
 -- The first wrong column of a line and what is wrong there, by what lines there are: some line begins with the words
 -- before it, and none goes on as this one does.
-use Rattle.std.specs.Prelude.{◌≡◌, codes, ℕ, ◌⊎◌, Bool, true, false, ◌&&◌, nat_le, List, [], ◌∷◌, ◌++◌, map, if◌then◌else◌, Option, Some, None, Result, Err, is_some}
+use Rattle.std.specs.Prelude.{◌≡◌, codes, ℕ, ◌⊎◌, Bool, true, false, ◌&&◌, nat_le, List, [], ◌∷◌, ◌++◌, map, if◌then◌else◌, Option, Some, None, Err, is_some}
 use Rattle.std.specs.List.{list_all}
 use Rattle.coda_engine.specs.declared.status.Kind.{Kind}
 use Rattle.coda_engine.specs.declared.status.Kind.TheVariants.{Word, Number, Text, Path, Count, Mode, Actors}
