@@ -19,7 +19,7 @@ mapped (Some x) f y e = (x, refl, e)
 mapped None f y e = absurd cc
 
 -- a number begins with a digit
-decimal_begins_so : (w : List ℕ) (n : ℕ) → number_of w ≡ Some n → begins_with_digit w ≡ true
+pub decimal_begins_so : (w : List ℕ) (n : ℕ) → number_of w ≡ Some n → begins_with_digit w ≡ true
 unfolding number_from
 decimal_begins_so [] n e = absurd cc
 decimal_begins_so (d ∷ ds) n e =

@@ -19,8 +19,8 @@ use Rattle.coda_script.specs.FirstColumn.{MayStand, NoneStands, is_lettered, IsW
 use Rattle.coda_script.proofs.Avoiding.{avoids, avoided, and_left, and_right}
 use Rattle.coda_script.proofs.Binding.{split, chosen, first_is}
 use Rattle.coda_script.proofs.FirstBytes.{number_begins, digit_unquoted, digit_unlettered, rights_apart}
-use Rattle.coda_script.proofs.FirstSteps.{Lines, Nowhere, First, AtHead, behind, stays, may_stay, text_stays, path_stays, none_avoided, of_kind, at_end, at_word, resolved, begun, slot_first, is_given, number_head, stays_head}
-use Rattle.coda_script.proofs.Going.{Whole, least, lives, least_held, alive, is_behind, counts, full, wordy, Goes, server_is}
+use Rattle.coda_script.proofs.FirstSteps.{Lines, Nowhere, First, WordAtHead, AtHead, behind, stays, may_stay, text_stays, path_stays, none_avoided, of_kind, at_end, at_word, resolved, begun, slot_first, is_given, number_head, stays_head}
+use Rattle.coda_script.proofs.Going.{Whole, least, lives, least_held, alive, is_behind, counts, full, tells_number, wordy, Goes, server_is}
 use Rattle.coda_script.proofs.Possible.{IsClear, number_text, number_again_in, servers_spelled}
 use Rattle.coda_script.proofs.WrongColumns.{faulty, head_is, cases_option, cases_is, one_more, no_servers, no_number, one_server, option_taken, either_so, either_other, taken, perhaps_so, perhaps_none}
 
@@ -49,6 +49,7 @@ rights_head X Z next clear goes wrong =
       (codes "r", refl, (a.0, (a.1.0, (codes "r", a.0, refl, r, refl, a.1.1)))),
       λ word q m. (apart_so word m.0 m.1.0 m.1.1).0 q,
       λ d word q m. (apart_so word m.0 m.1.0 m.1.1).1 q,
+      λ n. absurd cc,
     )
   where
     apart_so : (word : List ℕ) (more : List (List ℕ)) (line : Line) → Spells (some_rights next) (word ∷ more) line → (is_quoted word ≡ true → ⊥) × (begins_with_digit word ≡ true → ⊥)
@@ -152,6 +153,7 @@ done_head X Z all last next clear goes forth wrong other kinds.Word (inr i) =
       (i.0.0, i.0.1, may_stay (Whole (servers_above all last next)) (Whole (next [])) forth [] i.0.0 i.0.2),
       servers_unquoted all last next (wordy_unquoted (next []) (goes [] [] tt).3),
       λ d. absurd (false≢true (sym (not_digit all wrong other) ∙ d)),
+      λ n. not_digit all wrong other,
     )
 done_head X Z all last next clear goes forth wrong other kinds.Number h = absurd (false≢true (sym (goes [] [] tt).1 ∙ h.0))
 done_head X Z all last next clear goes forth wrong other kinds.Text i = text_stays (Whole (servers_above all last next)) (Whole (next [])) Nowhere Nowhere forth [] wrong i
@@ -186,13 +188,13 @@ servers_first : (X Z : Lines) (all : Bool) (ws : List Word) (last : ℕ) (next :
 unfolding servers_at
 servers_first X Z all [] last next end breaks column k clear goes e rec =
     let f = servers_above all last next in
-    stays (Whole f) (Whole (next [])) X X Z Z (AtHead f) (AtHead (next [])) (is_server all) [] end breaks column k refl (done_back all last next) (done_forth all last next clear) (λ ts x. x) (λ ts x. x)
+    stays (Whole f) (Whole (next [])) X X Z Z (AtHead f) (AtHead (next [])) (is_server all) [] end breaks column k refl (done_back all last next) (done_forth all last next clear) (λ ts x. x) (λ ts x. x) (λ ts n x. x)
       (done_head X Z all last next clear goes (done_forth all last next clear)) (rec [] [] tt [] e)
 servers_first X Z all (w ∷ ws) last next end breaks column k clear goes e rec =
     let f = servers_above all last next in
     elim (cases_is (is_server all w.text)) [
       | inr other ↦
-          stays (Whole f) (Whole (next [])) X X Z Z (AtHead f) (AtHead (next [])) (is_server all) (w ∷ ws) end breaks column k other (done_back all last next) (done_forth all last next clear) (λ ts x. x) (λ ts x. x)
+          stays (Whole f) (Whole (next [])) X X Z Z (AtHead f) (AtHead (next [])) (is_server all) (w ∷ ws) end breaks column k other (done_back all last next) (done_forth all last next clear) (λ ts x. x) (λ ts x. x) (λ ts n x. x)
             (done_head X Z all last next clear goes (done_forth all last next clear)) (rec [] [] tt (w ∷ ws) (rw other at e))
       | inl server ↦ elim (cases_option (number_in (between (last + 1) 8) w.text)) [
         | inl none ↦
@@ -209,8 +211,8 @@ servers_first X Z all (w ∷ ws) last next end breaks column k clear goes e rec 
             let back : (ts : List (List ℕ)) → Whole f (w.text ∷ ts) → Whole g ts = λ ts p. (p.0, one_server all last s next w.text server some.1 ts p.0 p.1) in
             let forth : (ts : List (List ℕ)) → Whole g ts → Whole f (w.text ∷ ts) = λ ts p. (p.0, more_servers all last s next w.text server some.1 ts p.0 p.1) in
             let e' = one_more s next (servers_at all s (split ws end breaks) ws) column k (rw (server, some.1) at e) in
-            behind (Whole f) (Whole g) X (λ ts. X (w.text ∷ ts)) Z (λ ts. Z (w.text ∷ ts)) (AtHead f) (AtHead g) w ws end breaks column k back forth (λ ts x. x) (λ ts x. x)
-              (inl (alive g clear' sure.0)) (resolved (Whole f) Z g w.text back forth sure.1 (another X Z all last s next w.text clear goes server some.1))
+            behind (Whole f) (Whole g) X (λ ts. X (w.text ∷ ts)) Z (λ ts. Z (w.text ∷ ts)) (AtHead f) (AtHead g) w ws end breaks column k back forth (λ ts x. x) (λ ts x. x) (λ ts x. x)
+              (inl (alive g clear' sure.0)) (resolved (Whole f) Z g w.text back forth sure.1 (another X Z all last s next w.text clear goes server some.1) (λ z. refl))
               (servers_first (λ ts. X (w.text ∷ ts)) (λ ts. Z (w.text ∷ ts)) all ws s then end breaks column k clear' goes' e' (λ mine ss m. rec (w.text ∷ mine) (s ∷ ss) (server, some.1, m)))
       ]
     ]
@@ -218,8 +220,9 @@ servers_first X Z all (w ∷ ws) last next end breaks column k clear goes e rec 
 -- ---- any form
 
 -- a fixed word is wanted
-fixed_word : (f : Form) → wordy f ≡ true → (wrong word : List ℕ) → is_lettered word ≡ true → MayStand (Whole f) [] word → IsWanted (Whole f) Nowhere [] wrong kinds.Word
-fixed_word f w wrong word l m = ((word, l, m), none_avoided f is_quoted (wordy_unquoted f w), λ d. none_avoided f begins_with_digit (and_right (avoids is_quoted f) (avoids begins_with_digit f) w))
+fixed_word : (f : Form) → wordy f ≡ true → tells_number f ≡ false → (wrong word : List ℕ) → is_lettered word ≡ true → MayStand (Whole f) [] word → WordAtHead f wrong
+fixed_word f w untold wrong word l m =
+    ((word, l, m), none_avoided f is_quoted (wordy_unquoted f w), λ d. none_avoided f begins_with_digit (and_right (avoids is_quoted f) (avoids begins_with_digit f) w), λ n. absurd (false≢true (sym untold ∙ n)))
 
 perhaps_taken : (word : List ℕ) (slot : NumberSlot) (next : Option ℕ → Form) (t : List ℕ) → t ≡ word → (ts : List (List ℕ)) (line : Line) → Spells (a_number slot (λ n. next (Some n))) ts line → Spells (perhaps word slot next) (t ∷ ts) line
 perhaps_taken word slot next t is ts line s = inl (s.0, s.1, ap (λ (x : List ℕ). x ∷ ts) is ∙ ap (λ (x : List (List ℕ)). word ∷ x) s.2, s.3, s.4, s.5)
@@ -259,39 +262,39 @@ first X Z (either word so other) clear goes ws end breaks column kind e =
           let back : (ts : List (List ℕ)) → Whole f (v.0.text ∷ ts) → Whole so ts = λ ts p. (p.0, either_so word so other v.0.text v.3 ts p.0 p.1) in
           let forth : (ts : List (List ℕ)) → Whole so ts → Whole f (v.0.text ∷ ts) = λ ts p. (p.0, inl (ts, ap (λ (t : List ℕ). t ∷ ts) v.3, p.1)) in
           subst (λ (x : List Word). First (Whole f) X Z (AtHead f) x end breaks column kind) (sym v.2) (
-          behind (Whole f) (Whole so) X (λ ts. X (word ∷ ts)) Z (λ ts. Z (word ∷ ts)) (AtHead f) (AtHead so) v.0 v.1 end breaks column kind back forth (λ ts x. subst (λ (t : List ℕ). X (t ∷ ts)) (sym v.3) x) (λ ts x. subst (λ (t : List ℕ). Z (t ∷ ts)) (sym v.3) x)
-            (inl a) (resolved (Whole f) Z so v.0.text back forth goes.1.1 (inl goes.1.2)) (first (λ ts. X (word ∷ ts)) (λ ts. Z (word ∷ ts)) so clear.2 goes.5 v.1 end breaks column kind e'))
+          behind (Whole f) (Whole so) X (λ ts. X (word ∷ ts)) Z (λ ts. Z (word ∷ ts)) (AtHead f) (AtHead so) v.0 v.1 end breaks column kind back forth (λ ts x. subst (λ (t : List ℕ). X (t ∷ ts)) (sym v.3) x) (λ ts x. subst (λ (t : List ℕ). Z (t ∷ ts)) (sym v.3) x) (λ ts x. subst (λ (t : List ℕ). Z (t ∷ ts)) v.3 x)
+            (inl a) (resolved (Whole f) Z so v.0.text back forth goes.1.1 (inl goes.1.2) (λ z. absurd (goes.2 (subst (λ (t : List ℕ). Z (t ∷ [])) v.3 z)))) (first (λ ts. X (word ∷ ts)) (λ ts. Z (word ∷ ts)) so clear.2 goes.6 v.1 end breaks column kind e'))
       | inr t ↦
           let back : (ts : List (List ℕ)) → begins (is_word word) ts ≡ false → Whole f ts → Whole other ts = λ ts n p. (p.0, either_other word so other ts p.0 n p.1) in
           let forth : (ts : List (List ℕ)) → Whole other ts → Whole f ts = λ ts p. (p.0, inr (avoided other (is_word word) ts p.0 clear.1 p.1, p.1)) in
-          let wanted : (wrong : List ℕ) → IsWanted (Whole f) Nowhere [] wrong kinds.Word = λ wrong. fixed_word f goes.4 wrong word goes.0 (a.0, (a.1.0, inl (a.0, refl, a.1.1))) in
-          stays (Whole f) (Whole other) X X Z Z (AtHead f) (AtHead other) (is_word word) ws end breaks column kind t.0 back forth (λ ts x. x) (λ ts x. x)
-            (λ wrong n. stays_head f other forth wanted goes.2 goes.3 wrong) (first X Z other clear.3 goes.6 ws end breaks column kind t.1)
+          let wanted : (wrong : List ℕ) → WordAtHead f wrong = λ wrong. fixed_word f goes.5 refl wrong word goes.0 (a.0, (a.1.0, inl (a.0, refl, a.1.1))) in
+          stays (Whole f) (Whole other) X X Z Z (AtHead f) (AtHead other) (is_word word) ws end breaks column kind t.0 back forth (λ ts x. x) (λ ts x. x) (λ ts n x. x)
+            (λ wrong n. stays_head f other forth wanted goes.3 goes.4 wrong) (first X Z other clear.3 goes.7 ws end breaks column kind t.1)
     ]
 first X Z (a_number slot next) clear goes ws end breaks column kind e =
     slot_first X Z (a_number slot next) kinds.Number (number_in slot) next ws end breaks column kind (λ ts line s. s) (λ ts line s. s) (number_head slot next clear)
-      (λ w n is. let g = goes w n is in (begun X w (next n) (clear n) g.0.0, g.0.1, g.0.2)) e
+      (λ w n is. let g = goes w n is in (begun X w (next n) (clear n) g.0.0, g.0.1, g.0.2, g.0.3)) e
       (λ w n is rest r. first (λ ts. X (w ∷ ts)) (λ ts. Z (w ∷ ts)) (next n) (clear n) (goes w n is).1 rest end breaks column kind r)
 first X Z (a_path next) clear goes ws end breaks column kind e =
     slot_first X Z (a_path next) kinds.Path path_in next ws end breaks column kind (λ ts line s. s) (λ ts line s. s) (path_head X Z next clear goes)
-      (λ w p is. let g = goes w p is in (inl (alive (next p) (clear p) g.0.0), g.0.1, inl g.0.2)) e
-      (λ w p is rest r. first (λ ts. X (w ∷ ts)) (λ ts. Z (w ∷ ts)) (next p) (clear p) (goes w p is).1 rest end breaks column kind r)
+      (λ w p is. let g = goes w p is in (inl (alive (next p) (clear p) g.0.0), g.0.1, inl g.0.2, λ z. absurd (g.1 z))) e
+      (λ w p is rest r. first (λ ts. X (w ∷ ts)) (λ ts. Z (w ∷ ts)) (next p) (clear p) (goes w p is).2 rest end breaks column kind r)
 first X Z (a_name next) clear goes ws end breaks column kind e =
     slot_first X Z (a_name next) kinds.Path name_in next ws end breaks column kind (λ ts line s. s) (λ ts line s. s) (name_head X Z next clear goes)
-      (λ w n is. let g = goes w n is in (inl (alive (next n) (clear n) g.0.0), g.0.1, inl g.0.2)) e
-      (λ w n is rest r. first (λ ts. X (w ∷ ts)) (λ ts. Z (w ∷ ts)) (next n) (clear n) (goes w n is).1 rest end breaks column kind r)
+      (λ w n is. let g = goes w n is in (inl (alive (next n) (clear n) g.0.0), g.0.1, inl g.0.2, λ z. absurd (g.1 z))) e
+      (λ w n is rest r. first (λ ts. X (w ∷ ts)) (λ ts. Z (w ∷ ts)) (next n) (clear n) (goes w n is).2 rest end breaks column kind r)
 first X Z (some_rights next) clear goes ws end breaks column kind e =
     slot_first X Z (some_rights next) kinds.Word rights_in next ws end breaks column kind (λ ts line s. s) (λ ts line s. s) (rights_head X Z next clear goes)
-      (λ w r is. let g = goes w r is in (inl (alive (next r) (clear r) g.0.0), g.0.1, inl g.0.2)) e
-      (λ w n is rest r. first (λ ts. X (w ∷ ts)) (λ ts. Z (w ∷ ts)) (next n) (clear n) (goes w n is).1 rest end breaks column kind r)
+      (λ w r is. let g = goes w r is in (inl (alive (next r) (clear r) g.0.0), g.0.1, inl g.0.2, λ z. absurd (g.1 z))) e
+      (λ w n is rest r. first (λ ts. X (w ∷ ts)) (λ ts. Z (w ∷ ts)) (next n) (clear n) (goes w n is).2 rest end breaks column kind r)
 first X Z (a_text slot next) clear goes ws end breaks column kind e =
     slot_first X Z (a_text slot next) kinds.Text (text_in slot) next ws end breaks column kind (λ ts line s. s) (λ ts line s. s) (text_head X Z slot next clear goes)
-      (λ w t is. let g = goes.1 w t is in (inl (alive (next t) (clear t) g.0.0), g.0.1, inl g.0.2)) e
-      (λ w t is rest r. first (λ ts. X (w ∷ ts)) (λ ts. Z (w ∷ ts)) (next t) (clear t) (goes.1 w t is).1 rest end breaks column kind r)
+      (λ w t is. let g = goes.1 w t is in (inl (alive (next t) (clear t) g.0.0), g.0.1, inl g.0.2, λ z. absurd (g.1 z))) e
+      (λ w t is rest r. first (λ ts. X (w ∷ ts)) (λ ts. Z (w ∷ ts)) (next t) (clear t) (goes.1 w t is).2 rest end breaks column kind r)
 first X Z (perhaps word slot next) clear goes ws end breaks column kind e =
     let f = perhaps word slot next in
     let g = a_number slot (λ n. next (Some n)) in
-    let lives_then : lives g ≡ true = rw (goes.1, (goes.5 (number_text slot (least slot)) (least slot) (number_again_in slot (least slot) (least_held slot goes.1))).0.0) refl in
+    let lives_then : lives g ≡ true = rw (goes.1, (goes.6 (number_text slot (least slot)) (least slot) (number_again_in slot (least slot) (least_held slot goes.1))).0.0) refl in
     let a = alive g (λ n. clear.2 (Some n)) lives_then in
     elim (cases_is (is_next (is_word word) ws)) [
       | inl there ↦
@@ -300,17 +303,17 @@ first X Z (perhaps word slot next) clear goes ws end breaks column kind e =
           let back : (ts : List (List ℕ)) → Whole f (v.0.text ∷ ts) → Whole g ts = λ ts p. (p.0, perhaps_so word slot next v.0.text v.3 ts p.0 p.1) in
           let forth : (ts : List (List ℕ)) → Whole g ts → Whole f (v.0.text ∷ ts) = λ ts p. (p.0, perhaps_taken word slot next v.0.text v.3 ts p.0 p.1) in
           subst (λ (x : List Word). First (Whole f) X Z (AtHead f) x end breaks column kind) (sym v.2) (
-          behind (Whole f) (Whole g) X (λ ts. X (word ∷ ts)) Z (λ ts. Z (word ∷ ts)) (AtHead f) (AtHead g) v.0 v.1 end breaks column kind back forth (λ ts x. subst (λ (t : List ℕ). X (t ∷ ts)) (sym v.3) x) (λ ts x. subst (λ (t : List ℕ). Z (t ∷ ts)) (sym v.3) x)
-            (inl a) (resolved (Whole f) Z g v.0.text back forth refl (inl lives_then)) (
+          behind (Whole f) (Whole g) X (λ ts. X (word ∷ ts)) Z (λ ts. Z (word ∷ ts)) (AtHead f) (AtHead g) v.0 v.1 end breaks column kind back forth (λ ts x. subst (λ (t : List ℕ). X (t ∷ ts)) (sym v.3) x) (λ ts x. subst (λ (t : List ℕ). Z (t ∷ ts)) (sym v.3) x) (λ ts x. subst (λ (t : List ℕ). Z (t ∷ ts)) v.3 x)
+            (inl a) (resolved (Whole f) Z g v.0.text back forth refl (inl lives_then) (λ z. refl)) (
           slot_first (λ ts. X (word ∷ ts)) (λ ts. Z (word ∷ ts)) g kinds.Number (number_in slot) (λ n. next (Some n)) v.1 end breaks column kind (λ ts line s. s) (λ ts line s. s) (number_head slot (λ n. next (Some n)) (λ n. clear.2 (Some n)))
-            (λ w n is. let s = goes.5 w n is in (inl (alive (next (Some n)) (clear.2 (Some n)) s.0.0), s.0.1, inl s.0.2)) e'
-            (λ w n is rest r. first (λ ts. X (word ∷ w ∷ ts)) (λ ts. Z (word ∷ w ∷ ts)) (next (Some n)) (clear.2 (Some n)) (goes.5 w n is).1 rest end breaks column kind r)))
+            (λ w n is. let s = goes.6 w n is in (inl (alive (next (Some n)) (clear.2 (Some n)) s.0.0), s.0.1, inl s.0.2, λ z. absurd (s.1 z))) e'
+            (λ w n is rest r. first (λ ts. X (word ∷ w ∷ ts)) (λ ts. Z (word ∷ w ∷ ts)) (next (Some n)) (clear.2 (Some n)) (goes.6 w n is).2 rest end breaks column kind r)))
       | inr other ↦
           let back : (ts : List (List ℕ)) → begins (is_word word) ts ≡ false → Whole f ts → Whole (next None) ts = λ ts n p. (p.0, perhaps_none word slot next ts p.0 n p.1) in
           let forth : (ts : List (List ℕ)) → Whole (next None) ts → Whole f ts = λ ts p. (p.0, inr (avoided (next None) (is_word word) ts p.0 clear.1 p.1, p.1)) in
-          let wanted : (wrong : List ℕ) → IsWanted (Whole f) Nowhere [] wrong kinds.Word = λ wrong. fixed_word f goes.4 wrong word goes.0 (a.0, (a.1.0, perhaps_taken word slot next word refl a.0 a.1.0 a.1.1)) in
-          stays (Whole f) (Whole (next None)) X X Z Z (AtHead f) (AtHead (next None)) (is_word word) ws end breaks column kind other back forth (λ ts x. x) (λ ts x. x)
-            (λ wrong n. stays_head f (next None) forth wanted goes.2 goes.3 wrong) (first X Z (next None) (clear.2 None) goes.6 ws end breaks column kind (not_taken word slot next ws end breaks column kind other e))
+          let wanted : (wrong : List ℕ) → WordAtHead f wrong = λ wrong. fixed_word f goes.5 refl wrong word goes.0 (a.0, (a.1.0, perhaps_taken word slot next word refl a.0 a.1.0 a.1.1)) in
+          stays (Whole f) (Whole (next None)) X X Z Z (AtHead f) (AtHead (next None)) (is_word word) ws end breaks column kind other back forth (λ ts x. x) (λ ts x. x) (λ ts n x. x)
+            (λ wrong n. stays_head f (next None) forth wanted goes.3 goes.4 wrong) (first X Z (next None) (clear.2 None) goes.7 ws end breaks column kind (not_taken word slot next ws end breaks column kind other e))
     ]
 first X Z (servers_above all last next) clear goes ws end breaks column kind e =
     servers_first X Z all ws last next end breaks column kind clear goes e (λ mine ss m rest r. first (λ ts. X (mine ++ ts)) (λ ts. Z (mine ++ ts)) (next ss) (clear ss).1 (goes mine ss m).5 rest end breaks column kind r)

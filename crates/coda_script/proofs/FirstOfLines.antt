@@ -1,5 +1,5 @@
 -- A wrong column of a whole line is its first, behind any number of threads.
-use Rattle.std.proofs.Common.{◌≡◌, ℕ, ◌+◌, Bool, true, false, ◌⊎◌, inl, inr, List, [], ◌∷◌, Option, Some, None, Result, Ok, Err, refl, sym, ap, subst, ◌∙◌}
+use Rattle.std.proofs.Common.{◌≡◌, ℕ, ◌+◌, Bool, true, false, ◌⊎◌, inl, inr, List, [], ◌∷◌, ◌++◌, Option, Some, None, Result, Ok, Err, refl, sym, ap, subst, ◌∙◌}
 use Rattle.std.specs.Prelude.{codes, is_some}
 use Rattle.std.proofs.lemmas.Bool.{false≢true}
 use Rattle.coda_engine.specs.declared.status.Kind.{Kind}
@@ -28,7 +28,7 @@ use Rattle.coda_script.proofs.Going.{Whole, alive}
 use Rattle.coda_script.proofs.TableGoes.{script_goes}
 use Rattle.coda_script.proofs.TurnSteps.{turns_stop}
 use Rattle.coda_script.proofs.WholeLines.{is_only}
-use Rattle.coda_script.proofs.WrongColumns.{faulty, cases_option, cases_is}
+use Rattle.coda_script.proofs.WrongColumns.{head_is, faulty, cases_option, cases_is}
 
 -- ---- lines of the table, and lines behind a thread
 
@@ -60,6 +60,25 @@ AtLast ts = BehindThreads EndsAtLastServer ts
 tabled_so : (test : List ℕ → Bool) → test (codes "at") ≡ false → (word : List ℕ) (more : List (List ℕ)) → test word ≡ true → IsFormed (word ∷ more) → Whole script (word ∷ more)
 tabled_so test n word more is p = tabled (word ∷ more) (apart test (codes "at") word n is) p
 
+nothing_last : AtLast [] → ⊥
+nothing_last (v, servers, last, inl e, d, is) = absurd cc
+nothing_last (v, servers, last, inr e, d, is) = absurd cc
+
+-- a thread ends at no server
+thread_last : (t : List ℕ) (ts : List (List ℕ)) → t ≡ codes "at" → EndsAtLastServer (t ∷ ts) → ⊥
+thread_last t ts is (v, servers, last, inl e, d, n) = absurd (let x = sym is ∙ head_is t (codes "volume") ts (v ∷ codes "on" ∷ (servers ++ last ∷ [])) e in cc)
+thread_last t ts is (v, servers, last, inr e, d, n) = absurd (let x = sym is ∙ head_is t (codes "resolve") ts (v ∷ (servers ++ last ∷ [])) e in cc)
+
+last_tabled : (ts : List (List ℕ)) → begins (is_word (codes "at")) ts ≡ false → AtLast ts → EndsAtLastServer ts
+last_tabled [] n z = z
+last_tabled (w ∷ []) n z = z
+last_tabled (w ∷ v ∷ ts) n (inl z) = z
+last_tabled (w ∷ v ∷ ts) n (inr z) = absurd (false≢true (sym n ∙ ap (is_word (codes "at")) z.0 ∙ is_itself (codes "at")))
+
+last_behind : (w v : List ℕ) (ts : List (List ℕ)) → w ≡ codes "at" → AtLast (w ∷ v ∷ ts) → AtLast ts
+last_behind w v ts is (inl z) = absurd (thread_last w (v ∷ ts) is z)
+last_behind w v ts is (inr z) = z.2
+
 -- what a first word is told as
 beginning : (wrong : List ℕ) (kind : Kind) → AtHead script wrong kind → IsWanted IsFormed AtLast [] wrong kind
 unfolding script
@@ -68,7 +87,7 @@ beginning wrong kinds.Word (inr i) =
     (
       (i.0.0, i.0.1, may_stay IsFormed (Whole script) (here IsTabled) [] i.0.0 i.0.2),
       λ word q m. i.1 word q (m.0, tabled_so is_quoted refl word m.0 q m.1),
-      λ d word b m. i.2 d word b (m.0, tabled_so begins_with_digit refl word m.0 b m.1),
+      λ d. (λ word b m. i.2 d word b (m.0, tabled_so begins_with_digit refl word m.0 b m.1), nothing_last),
     )
 beginning wrong kinds.Number h = absurd (let n = h.0 in cc)
 beginning wrong kinds.Text i = text_stays IsFormed (Whole script) AtLast Nowhere (here IsTabled) [] wrong i
@@ -84,7 +103,7 @@ OfLine ws end breaks column kind = First IsFormed (BehindThreads IsAtLastServer)
 plain : (ws : List Word) (end : ℕ) (breaks : Option ℕ) (column : ℕ) (kind : Kind) → is_next (is_word (codes "at")) ws ≡ false → read script (split ws end breaks) ≡ Err (column, kind) → OfLine ws end breaks column kind
 plain ws end breaks column kind n e =
     stays IsFormed (Whole script) (BehindThreads IsAtLastServer) IsAtLastServer AtLast EndsAtLastServer (λ wrong k. IsWanted IsFormed AtLast [] wrong k) (AtHead script) (is_word (codes "at")) ws end breaks column kind
-      n tabled (here IsTabled) (here IsAtLastServer) (here EndsAtLastServer) (λ wrong m. beginning wrong) (first IsAtLastServer EndsAtLastServer script script_clear script_goes ws end breaks column kind e)
+      n tabled (here IsTabled) (here IsAtLastServer) (here EndsAtLastServer) last_tabled (λ wrong m. beginning wrong) (first IsAtLastServer EndsAtLastServer script script_clear script_goes ws end breaks column kind e)
 
 -- a thread that is named
 abbrev IsThread : List ℕ → List ℕ → Type 0
@@ -118,10 +137,10 @@ one_more_thread w v ws end breaks column kind is r =
     let Last : List (List ℕ) → Type 0 = λ ts. AtLast (w.text ∷ ts) in
     let back : (ts : List (List ℕ)) → IsFormed (w.text ∷ v.text ∷ ts) → IsFormed ts = λ ts p. (behind_thread w.text v.text is.0 ts p).1 in
     let forth : (ts : List (List ℕ)) → IsFormed ts → IsFormed (w.text ∷ v.text ∷ ts) = λ ts p. inr (is.0, is.1, p) in
-    behind IsFormed Behind (BehindThreads IsAtLastServer) Stuck AtLast Last (λ wrong k. IsWanted IsFormed AtLast [] wrong k) (λ wrong k. ⊥) w (v ∷ ws) end breaks column kind (λ ts p. p) (λ ts p. p) (λ ts p. p) (λ ts p. p)
+    behind IsFormed Behind (BehindThreads IsAtLastServer) Stuck AtLast Last (λ wrong k. IsWanted IsFormed AtLast [] wrong k) (λ wrong k. ⊥) w (v ∷ ws) end breaks column kind (λ ts p. p) (λ ts p. p) (λ ts p. p) (λ ts p. p) (λ ts p. p)
       (inl (codes "1" ∷ one.0, one.1)) (λ wrong k h. absurd h) (
-    behind Behind IsFormed Stuck (BehindThreads IsAtLastServer) Last AtLast (λ wrong k. ⊥) (λ wrong k. IsWanted IsFormed AtLast [] wrong k) v ws end breaks column kind back forth (λ ts p. inr (is.0, is.1, p)) (λ ts p. inr (is.0, is.1, p))
-      (inl some_line) (λ wrong k i. wanted_behind Behind IsFormed Last AtLast v.text back forth (λ ts p. inr (is.0, is.1, p)) [] wrong k i) r)
+    behind Behind IsFormed Stuck (BehindThreads IsAtLastServer) Last AtLast (λ wrong k. ⊥) (λ wrong k. IsWanted IsFormed AtLast [] wrong k) v ws end breaks column kind back forth (λ ts p. inr (is.0, is.1, p)) (λ ts p. inr (is.0, is.1, p)) (λ ts p. last_behind w.text v.text ts is.0 p)
+      (inl some_line) (λ wrong k i. wanted_behind Behind IsFormed Last AtLast v.text back forth (λ ts p. inr (is.0, is.1, p)) (λ ts p. last_behind w.text v.text ts is.0 p) [] wrong k i) r)
 
 -- ---- the words of a line
 

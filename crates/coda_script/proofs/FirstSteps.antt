@@ -51,9 +51,17 @@ pub record First (P X Z : Lines) (H : List ℕ → Kind → Type 0) (ws : List W
   pub none : (after ≡ [] → breaks ≡ None) → NoneGoesOn P (texts before) after
   pub told : Told P Z H before after breaks kind
 
+-- what a word is told as at the head of a form where a fixed word is wanted
+abbrev pub WordAtHead : Form → List ℕ → Type 0
+WordAtHead f wrong =
+    ((word : List ℕ) × (is_lettered word ≡ true) × MayStand (Whole f) [] word)
+    × NoneStands (Whole f) is_quoted []
+    × (begins_with_digit wrong ≡ true → NoneStands (Whole f) begins_with_digit [])
+    × (tells_number f ≡ true → begins_with_digit wrong ≡ false)
+
 -- what may be told at the head of a form
 abbrev pub AtHead : Form → List ℕ → Kind → Type 0
-AtHead f wrong kinds.Word = (settled f ≡ false) ⊎ IsWanted (Whole f) Nowhere [] wrong kinds.Word
+AtHead f wrong kinds.Word = (settled f ≡ false) ⊎ WordAtHead f wrong
 AtHead f wrong kinds.Number =
     (tells_number f ≡ true)
     × ((full f ≡ false) ⊎ ((word : List ℕ) × (n : ℕ) × (number_of word ≡ Some n) × MayStand (Whole f) [] word))
@@ -73,26 +81,32 @@ may_behind P Q t forth front word m = (m.0, forth (front ++ word ∷ m.0) m.1)
 none_stands_behind : (P Q : Lines) (test : List ℕ → Bool) (t : List ℕ) → ((ts : List (List ℕ)) → P (t ∷ ts) → Q ts) → (front : List (List ℕ)) → NoneStands Q test front → NoneStands P test (t ∷ front)
 none_stands_behind P Q test t back front n = λ word is m. n word is (m.0, back (front ++ word ∷ m.0) m.1)
 
-pub wanted_behind : (P Q Z W : Lines) (t : List ℕ) → ((ts : List (List ℕ)) → P (t ∷ ts) → Q ts) → ((ts : List (List ℕ)) → Q ts → P (t ∷ ts)) → ((ts : List (List ℕ)) → W ts → Z (t ∷ ts))
-    → (front : List (List ℕ)) (wrong : List ℕ) (kind : Kind) → IsWanted Q W front wrong kind → IsWanted P Z (t ∷ front) wrong kind
-wanted_behind P Q Z W t back forth last front wrong kinds.Count i = (forth front i.0, λ word m. i.1 word (m.0, back (front ++ word ∷ m.0) m.1))
-wanted_behind P Q Z W t back forth last front wrong kinds.Word i =
-    ((i.0.0, i.0.1, may_behind P Q t forth front i.0.0 i.0.2), none_stands_behind P Q is_quoted t back front i.1, λ d. none_stands_behind P Q begins_with_digit t back front (i.2 d))
-wanted_behind P Q Z W t back forth last front wrong kinds.Number (inl i, q, d) =
-    (inl (i.0, i.1, i.2, may_behind P Q t forth front i.0 i.3), none_stands_behind P Q is_quoted t back front q, λ e. none_stands_behind P Q is_lettered t back front (d e))
-wanted_behind P Q Z W t back forth last front wrong kinds.Number (inr i, q, d) =
-    (inr (last front i), none_stands_behind P Q is_quoted t back front q, λ e. none_stands_behind P Q is_lettered t back front (d e))
-wanted_behind P Q Z W t back forth last front wrong kinds.Path (inl i) = inl (λ word e. may_behind P Q t forth front word (i word e))
-wanted_behind P Q Z W t back forth last front wrong kinds.Path (inr i) = inr (λ word e. may_behind P Q t forth front word (i word e))
-wanted_behind P Q Z W t back forth last front wrong kinds.Text i = (i.0, i.1, i.2, i.3, may_behind P Q t forth front i.0 i.4)
-wanted_behind P Q Z W t back forth last front wrong kinds.Mode i = absurd i
-wanted_behind P Q Z W t back forth last front wrong kinds.Actors i = absurd i
+text_behind : (P Q Z W : Lines) (t : List ℕ) → ((ts : List (List ℕ)) → Q ts → P (t ∷ ts)) → (front : List (List ℕ)) (wrong : List ℕ) → IsWanted Q W front wrong kinds.Text → IsWanted P Z (t ∷ front) wrong kinds.Text
+text_behind P Q Z W t forth front wrong i = (i.0, i.1, i.2, i.3, may_behind P Q t forth front i.0 i.4)
 
-told_behind : (P Q Z W : Lines) (H K : List ℕ → Kind → Type 0) (w : Word) (breaks : Option ℕ) → ((ts : List (List ℕ)) → P (w.text ∷ ts) → Q ts) → ((ts : List (List ℕ)) → Q ts → P (w.text ∷ ts)) → ((ts : List (List ℕ)) → W ts → Z (w.text ∷ ts))
+path_behind : (P Q Z W : Lines) (t : List ℕ) → ((ts : List (List ℕ)) → Q ts → P (t ∷ ts)) → (front : List (List ℕ)) (wrong : List ℕ) → IsWanted Q W front wrong kinds.Path → IsWanted P Z (t ∷ front) wrong kinds.Path
+path_behind P Q Z W t forth front wrong (inl i) = inl (λ word e. may_behind P Q t forth front word (i word e))
+path_behind P Q Z W t forth front wrong (inr i) = inr (λ word e. may_behind P Q t forth front word (i word e))
+
+pub wanted_behind : (P Q Z W : Lines) (t : List ℕ) → ((ts : List (List ℕ)) → P (t ∷ ts) → Q ts) → ((ts : List (List ℕ)) → Q ts → P (t ∷ ts)) → ((ts : List (List ℕ)) → W ts → Z (t ∷ ts)) → ((ts : List (List ℕ)) → Z (t ∷ ts) → W ts)
+    → (front : List (List ℕ)) (wrong : List ℕ) (kind : Kind) → IsWanted Q W front wrong kind → IsWanted P Z (t ∷ front) wrong kind
+wanted_behind P Q Z W t back forth last unlast front wrong kinds.Count i = (forth front i.0, λ word m. i.1 word (m.0, back (front ++ word ∷ m.0) m.1), λ z. i.2 (unlast front z))
+wanted_behind P Q Z W t back forth last unlast front wrong kinds.Word i =
+    ((i.0.0, i.0.1, may_behind P Q t forth front i.0.0 i.0.2), none_stands_behind P Q is_quoted t back front i.1, λ d. (none_stands_behind P Q begins_with_digit t back front (i.2 d).0, λ z. (i.2 d).1 (unlast front z)))
+wanted_behind P Q Z W t back forth last unlast front wrong kinds.Number (inl i, q, d) =
+    (inl (i.0, i.1, i.2, may_behind P Q t forth front i.0 i.3), none_stands_behind P Q is_quoted t back front q, λ e. none_stands_behind P Q is_lettered t back front (d e))
+wanted_behind P Q Z W t back forth last unlast front wrong kinds.Number (inr i, q, d) =
+    (inr (last front i), none_stands_behind P Q is_quoted t back front q, λ e. none_stands_behind P Q is_lettered t back front (d e))
+wanted_behind P Q Z W t back forth last unlast front wrong kinds.Path i = path_behind P Q Z W t forth front wrong i
+wanted_behind P Q Z W t back forth last unlast front wrong kinds.Text i = text_behind P Q Z W t forth front wrong i
+wanted_behind P Q Z W t back forth last unlast front wrong kinds.Mode i = absurd i
+wanted_behind P Q Z W t back forth last unlast front wrong kinds.Actors i = absurd i
+
+told_behind : (P Q Z W : Lines) (H K : List ℕ → Kind → Type 0) (w : Word) (breaks : Option ℕ) → ((ts : List (List ℕ)) → P (w.text ∷ ts) → Q ts) → ((ts : List (List ℕ)) → Q ts → P (w.text ∷ ts)) → ((ts : List (List ℕ)) → W ts → Z (w.text ∷ ts)) → ((ts : List (List ℕ)) → Z (w.text ∷ ts) → W ts)
     → ((wrong : List ℕ) (kind : Kind) → K wrong kind → IsWanted P Z (w.text ∷ []) wrong kind) → (before after : List Word) (kind : Kind) → Told Q W K before after breaks kind → Told P Z H (w ∷ before) after breaks kind
-told_behind P Q Z W H K w breaks back forth last head before [] kind t = t
-told_behind P Q Z W H K w breaks back forth last head [] (v ∷ vs) kind t = head v.text kind t
-told_behind P Q Z W H K w breaks back forth last head (b ∷ bs) (v ∷ vs) kind t = wanted_behind P Q Z W w.text back forth last (texts (b ∷ bs)) v.text kind t
+told_behind P Q Z W H K w breaks back forth last unlast head before [] kind t = t
+told_behind P Q Z W H K w breaks back forth last unlast head [] (v ∷ vs) kind t = head v.text kind t
+told_behind P Q Z W H K w breaks back forth last unlast head (b ∷ bs) (v ∷ vs) kind t = wanted_behind P Q Z W w.text back forth last unlast (texts (b ∷ bs)) v.text kind t
 
 none_behind : (P Q : Lines) (t : List ℕ) (front : List (List ℕ)) (after : List Word) → ((ts : List (List ℕ)) → P (t ∷ ts) → Q ts) → NoneGoesOn Q front after → NoneGoesOn P (t ∷ front) after
 none_behind P Q t front [] back n = λ p. n (back front p)
@@ -107,10 +121,10 @@ starts_behind P Q X Y w forth with (inr x) [] (inl e) = inr x
 starts_behind P Q X Y w forth with head (b ∷ bs) (inl e) = absurd cc
 
 pub behind : (P Q X Y Z W : Lines) (H K : List ℕ → Kind → Type 0) (w : Word) (ws : List Word) (end : ℕ) (breaks : Option ℕ) (column : ℕ) (kind : Kind)
-    → ((ts : List (List ℕ)) → P (w.text ∷ ts) → Q ts) → ((ts : List (List ℕ)) → Q ts → P (w.text ∷ ts)) → ((ts : List (List ℕ)) → Y ts → X (w.text ∷ ts)) → ((ts : List (List ℕ)) → W ts → Z (w.text ∷ ts))
+    → ((ts : List (List ℕ)) → P (w.text ∷ ts) → Q ts) → ((ts : List (List ℕ)) → Q ts → P (w.text ∷ ts)) → ((ts : List (List ℕ)) → Y ts → X (w.text ∷ ts)) → ((ts : List (List ℕ)) → W ts → Z (w.text ∷ ts)) → ((ts : List (List ℕ)) → Z (w.text ∷ ts) → W ts)
     → BeginsOne Q [] ⊎ X (w.text ∷ []) → ((wrong : List ℕ) (k : Kind) → K wrong k → IsWanted P Z (w.text ∷ []) wrong k)
     → First Q Y W K ws end breaks column kind → First P X Z H (w ∷ ws) end breaks column kind
-behind P Q X Y Z W H K w ws end breaks column kind back forth with last starts head r =
+behind P Q X Y Z W H K w ws end breaks column kind back forth with last unlast starts head r =
     record {
       before = w ∷ r.before;
       after = r.after;
@@ -118,7 +132,7 @@ behind P Q X Y Z W H K w ws end breaks column kind back forth with last starts h
       place = r.place;
       starts = inr (starts_behind P Q X Y w forth with starts r.before r.starts);
       none = λ whole. none_behind P Q w.text (texts r.before) r.after back (r.none whole);
-      told = told_behind P Q Z W H K w breaks back forth last head r.before r.after kind r.told;
+      told = told_behind P Q Z W H K w breaks back forth last unlast head r.before r.after kind r.told;
     }
 
 -- ---- where the next word isn't one of some
@@ -139,26 +153,26 @@ path_stays P Q Z W forth front wrong (inr i) = inr (λ word e. may_stay P Q fort
 none_stands_stay : (P Q : Lines) (test : List ℕ → Bool) (front : List (List ℕ)) → ((word : List ℕ) (more : List (List ℕ)) → P (front ++ word ∷ more) → Q (front ++ word ∷ more)) → NoneStands Q test front → NoneStands P test front
 none_stands_stay P Q test front back n = λ word is m. n word is (m.0, back word m.0 m.1)
 
-wanted_stays : (P Q Z W : Lines) → ((ts : List (List ℕ)) → Q ts → P ts) → ((ts : List (List ℕ)) → W ts → Z ts) → (front : List (List ℕ)) (wrong : List ℕ) (kind : Kind)
+wanted_stays : (P Q Z W : Lines) → ((ts : List (List ℕ)) → Q ts → P ts) → ((ts : List (List ℕ)) → W ts → Z ts) → (front : List (List ℕ)) (wrong : List ℕ) (kind : Kind) → (Z front → W front)
     → ((word : List ℕ) (more : List (List ℕ)) → P (front ++ word ∷ more) → Q (front ++ word ∷ more)) → IsWanted Q W front wrong kind → IsWanted P Z front wrong kind
-wanted_stays P Q Z W forth last front wrong kinds.Count back i = (forth front i.0, λ word m. i.1 word (m.0, back word m.0 m.1))
-wanted_stays P Q Z W forth last front wrong kinds.Word back i =
-    ((i.0.0, i.0.1, may_stay P Q forth front i.0.0 i.0.2), none_stands_stay P Q is_quoted front back i.1, λ d. none_stands_stay P Q begins_with_digit front back (i.2 d))
-wanted_stays P Q Z W forth last front wrong kinds.Number back (inl i, q, d) =
+wanted_stays P Q Z W forth last front wrong kinds.Count unlast back i = (forth front i.0, λ word m. i.1 word (m.0, back word m.0 m.1), λ z. i.2 (unlast z))
+wanted_stays P Q Z W forth last front wrong kinds.Word unlast back i =
+    ((i.0.0, i.0.1, may_stay P Q forth front i.0.0 i.0.2), none_stands_stay P Q is_quoted front back i.1, λ d. (none_stands_stay P Q begins_with_digit front back (i.2 d).0, λ z. (i.2 d).1 (unlast z)))
+wanted_stays P Q Z W forth last front wrong kinds.Number unlast back (inl i, q, d) =
     (inl (i.0, i.1, i.2, may_stay P Q forth front i.0 i.3), none_stands_stay P Q is_quoted front back q, λ e. none_stands_stay P Q is_lettered front back (d e))
-wanted_stays P Q Z W forth last front wrong kinds.Number back (inr i, q, d) =
+wanted_stays P Q Z W forth last front wrong kinds.Number unlast back (inr i, q, d) =
     (inr (last front i), none_stands_stay P Q is_quoted front back q, λ e. none_stands_stay P Q is_lettered front back (d e))
-wanted_stays P Q Z W forth last front wrong kinds.Path back i = path_stays P Q Z W forth front wrong i
-wanted_stays P Q Z W forth last front wrong kinds.Text back i = text_stays P Q Z W forth front wrong i
-wanted_stays P Q Z W forth last front wrong kinds.Mode back i = absurd i
-wanted_stays P Q Z W forth last front wrong kinds.Actors back i = absurd i
+wanted_stays P Q Z W forth last front wrong kinds.Path unlast back i = path_stays P Q Z W forth front wrong i
+wanted_stays P Q Z W forth last front wrong kinds.Text unlast back i = text_stays P Q Z W forth front wrong i
+wanted_stays P Q Z W forth last front wrong kinds.Mode unlast back i = absurd i
+wanted_stays P Q Z W forth last front wrong kinds.Actors unlast back i = absurd i
 
-told_stays : (P Q Z W : Lines) (H K : List ℕ → Kind → Type 0) (test : List ℕ → Bool) (breaks : Option ℕ) → ((ts : List (List ℕ)) → begins test ts ≡ false → P ts → Q ts) → ((ts : List (List ℕ)) → Q ts → P ts) → ((ts : List (List ℕ)) → W ts → Z ts)
+told_stays : (P Q Z W : Lines) (H K : List ℕ → Kind → Type 0) (test : List ℕ → Bool) (breaks : Option ℕ) → ((ts : List (List ℕ)) → begins test ts ≡ false → P ts → Q ts) → ((ts : List (List ℕ)) → Q ts → P ts) → ((ts : List (List ℕ)) → W ts → Z ts) → ((ts : List (List ℕ)) → begins test ts ≡ false → Z ts → W ts)
     → ((wrong : List ℕ) → test wrong ≡ false → (kind : Kind) → K wrong kind → H wrong kind) → (before after : List Word) (kind : Kind) → is_next test (before ++ after) ≡ false → Told Q W K before after breaks kind → Told P Z H before after breaks kind
-told_stays P Q Z W H K test breaks back forth last head before [] kind e t = t
-told_stays P Q Z W H K test breaks back forth last head [] (v ∷ vs) kind e t = head v.text e kind t
-told_stays P Q Z W H K test breaks back forth last head (b ∷ bs) (v ∷ vs) kind e t =
-    wanted_stays P Q Z W forth last (texts (b ∷ bs)) v.text kind (λ word more. back (texts (b ∷ bs) ++ word ∷ more) (next_stays test b bs (v ∷ vs) (word ∷ more) e)) t
+told_stays P Q Z W H K test breaks back forth last unlast head before [] kind e t = t
+told_stays P Q Z W H K test breaks back forth last unlast head [] (v ∷ vs) kind e t = head v.text e kind t
+told_stays P Q Z W H K test breaks back forth last unlast head (b ∷ bs) (v ∷ vs) kind e t =
+    wanted_stays P Q Z W forth last (texts (b ∷ bs)) v.text kind (unlast (texts (b ∷ bs)) e) (λ word more. back (texts (b ∷ bs) ++ word ∷ more) (next_stays test b bs (v ∷ vs) (word ∷ more) e)) t
 
 none_stays : (P Q : Lines) (test : List ℕ → Bool) → ((ts : List (List ℕ)) → begins test ts ≡ false → P ts → Q ts) → (before after : List Word) → is_next test (before ++ after) ≡ false → NoneGoesOn Q (texts before) after → NoneGoesOn P (texts before) after
 none_stays P Q test back [] [] e n = λ p. n (back [] refl p)
@@ -173,10 +187,10 @@ starts_stay P Q X Y forth with before (inr (inl s)) = inr (inl (s.0, forth (text
 starts_stay P Q X Y forth with before (inr (inr x)) = inr (inr (with (texts before) x))
 
 pub stays : (P Q X Y Z W : Lines) (H K : List ℕ → Kind → Type 0) (test : List ℕ → Bool) (ws : List Word) (end : ℕ) (breaks : Option ℕ) (column : ℕ) (kind : Kind)
-    → is_next test ws ≡ false → ((ts : List (List ℕ)) → begins test ts ≡ false → P ts → Q ts) → ((ts : List (List ℕ)) → Q ts → P ts) → ((ts : List (List ℕ)) → Y ts → X ts) → ((ts : List (List ℕ)) → W ts → Z ts)
+    → is_next test ws ≡ false → ((ts : List (List ℕ)) → begins test ts ≡ false → P ts → Q ts) → ((ts : List (List ℕ)) → Q ts → P ts) → ((ts : List (List ℕ)) → Y ts → X ts) → ((ts : List (List ℕ)) → W ts → Z ts) → ((ts : List (List ℕ)) → begins test ts ≡ false → Z ts → W ts)
     → ((wrong : List ℕ) → test wrong ≡ false → (k : Kind) → K wrong k → H wrong k)
     → First Q Y W K ws end breaks column kind → First P X Z H ws end breaks column kind
-stays P Q X Y Z W H K test ws end breaks column kind e back forth with last head r =
+stays P Q X Y Z W H K test ws end breaks column kind e back forth with last unlast head r =
     let e' : is_next test (r.before ++ r.after) ≡ false = ap (is_next test) (sym r.parts) ∙ e in
     record {
       before = r.before;
@@ -185,7 +199,7 @@ stays P Q X Y Z W H K test ws end breaks column kind e back forth with last head
       place = r.place;
       starts = starts_stay P Q X Y forth with r.before r.starts;
       none = λ whole. none_stays P Q test back r.before r.after e' (r.none whole);
-      told = told_stays P Q Z W H K test breaks back forth last head r.before r.after kind e' r.told;
+      told = told_stays P Q Z W H K test breaks back forth last unlast head r.before r.after kind e' r.told;
     }
 
 -- ---- nothing stands before it
@@ -226,17 +240,32 @@ number_behind : (P Z : Lines) (f : Form) (t : List ℕ) → ((ts : List (List �
 number_behind P Z f t forth (inl i) = inl (i.0, i.1, i.2, may_behind P (Whole f) t forth [] i.0 i.3)
 number_behind P Z f t forth (inr last) = inr last
 
+counts_no_number : (f : Form) → counts f ≡ true → tells_number f ≡ true → ⊥
+counts_no_number (ends kind said) c n = absurd cc
+counts_no_number nothing c n = absurd cc
+counts_no_number (either word so other) c n = absurd cc
+counts_no_number (a_number slot next) c n = absurd cc
+counts_no_number (a_path next) c n = absurd cc
+counts_no_number (a_name next) c n = absurd cc
+counts_no_number (some_rights next) c n = absurd cc
+counts_no_number (a_text slot next) c n = absurd cc
+counts_no_number (perhaps word slot next) c n = absurd cc
+counts_no_number (servers_above all last next) c n = absurd cc
+
 pub resolved : (P Z : Lines) (f : Form) (t : List ℕ) → ((ts : List (List ℕ)) → P (t ∷ ts) → Whole f ts) → ((ts : List (List ℕ)) → Whole f ts → P (t ∷ ts)) → settled f ≡ true → (full f ≡ true) ⊎ Z (t ∷ [])
-    → (wrong : List ℕ) (kind : Kind) → AtHead f wrong kind → IsWanted P Z (t ∷ []) wrong kind
-resolved P Z f t back forth set fits wrong kinds.Word (inl un) = absurd (false≢true (sym un ∙ set))
-resolved P Z f t back forth set fits wrong kinds.Word (inr i) = wanted_behind P (Whole f) Z Nowhere t back forth (λ ts n. absurd n) [] wrong kinds.Word i
-resolved P Z f t back forth set fits wrong kinds.Number (tells, number, q, d) =
+    → (Z (t ∷ []) → tells_number f ≡ true) → (wrong : List ℕ) (kind : Kind) → AtHead f wrong kind → IsWanted P Z (t ∷ []) wrong kind
+resolved P Z f t back forth set fits tells wrong kinds.Word (inl un) = absurd (false≢true (sym un ∙ set))
+resolved P Z f t back forth set fits tells wrong kinds.Word (inr (i, q, d, n)) =
+    ((i.0, i.1, may_behind P (Whole f) t forth [] i.0 i.2), none_stands_behind P (Whole f) is_quoted t back [] q, λ e. (none_stands_behind P (Whole f) begins_with_digit t back [] (d e), λ z. false≢true (sym (n (tells z)) ∙ e)))
+resolved P Z f t back forth set fits tells wrong kinds.Number (told, number, q, d) =
     (number_behind P Z f t forth (number_or_last Z f t fits number), none_stands_behind P (Whole f) is_quoted t back [] q, λ e. none_stands_behind P (Whole f) is_lettered t back [] (d e))
-resolved P Z f t back forth set fits wrong kinds.Text i = wanted_behind P (Whole f) Z Nowhere t back forth (λ ts n. absurd n) [] wrong kinds.Text i
-resolved P Z f t back forth set fits wrong kinds.Path i = wanted_behind P (Whole f) Z Nowhere t back forth (λ ts n. absurd n) [] wrong kinds.Path i
-resolved P Z f t back forth set fits wrong kinds.Count c = wanted_behind P (Whole f) Z Nowhere t back forth (λ ts n. absurd n) [] wrong kinds.Count (over f c)
-resolved P Z f t back forth set fits wrong kinds.Mode h = absurd h
-resolved P Z f t back forth set fits wrong kinds.Actors h = absurd h
+resolved P Z f t back forth set fits tells wrong kinds.Text i = text_behind P (Whole f) Z Nowhere t forth [] wrong i
+resolved P Z f t back forth set fits tells wrong kinds.Path i = path_behind P (Whole f) Z Nowhere t forth [] wrong i
+resolved P Z f t back forth set fits tells wrong kinds.Count c =
+    let o = over f c in
+    (forth [] o.0, λ word m. o.1 word (m.0, back (word ∷ m.0) m.1), λ z. counts_no_number f c (tells z))
+resolved P Z f t back forth set fits tells wrong kinds.Mode h = absurd h
+resolved P Z f t back forth set fits tells wrong kinds.Actors h = absurd h
 
 -- ---- a word with a value
 
@@ -247,7 +276,7 @@ begun X w f clear (inr x) = inr x
 pub slot_first : {A : Type 0} (X Z : Lines) (f : Form) (kind : Kind) (value : List ℕ → Option A) (next : A → Form) (ws : List Word) (end : ℕ) (breaks : Option ℕ) (column : ℕ) (k : Kind)
     → ((ts : List (List ℕ)) (line : Line) → Spells f ts line → SpellsSlot value next ts line) → ((ts : List (List ℕ)) (line : Line) → SpellsSlot value next ts line → Spells f ts line)
     → ((wrong : List ℕ) → AtHead f wrong kind)
-    → ((w : List ℕ) (x : A) → value w ≡ Some x → (BeginsOne (Whole (next x)) [] ⊎ X (w ∷ [])) × (settled (next x) ≡ true) × ((full (next x) ≡ true) ⊎ Z (w ∷ [])))
+    → ((w : List ℕ) (x : A) → value w ≡ Some x → (BeginsOne (Whole (next x)) [] ⊎ X (w ∷ [])) × (settled (next x) ≡ true) × ((full (next x) ≡ true) ⊎ Z (w ∷ [])) × (Z (w ∷ []) → tells_number (next x) ≡ true))
     → (slot_at kind value (split ws end breaks) >>= (λ n. read (next n.0) n.1)) ≡ Err (column, k)
     → ((w : List ℕ) (x : A) → value w ≡ Some x → (rest : List Word) → read (next x) (split rest end breaks) ≡ Err (column, k) → First (Whole (next x)) (λ ts. X (w ∷ ts)) (λ ts. Z (w ∷ ts)) (AtHead (next x)) rest end breaks column k)
     → First (Whole f) X Z (AtHead f) ws end breaks column k
@@ -269,8 +298,8 @@ slot_first {A} X Z f kind value next (w ∷ ws) end breaks column k same again h
             let y : t.3 ≡ x = some_is t.3 x (sym t.4 ∙ ap value (sym (head_is w.text t.0 ts t.1 t.2)) ∙ some.1) in
             (p.0, subst (λ (z : A). Spells (next z) ts p.0) y (subst (λ (us : List (List ℕ)). Spells (next t.3) us p.0) (sym (tail_is w.text t.0 ts t.1 t.2)) t.5)) in
           let forth : (ts : List (List ℕ)) → Whole (next x) ts → Whole f (w.text ∷ ts) = λ ts p. (p.0, again (w.text ∷ ts) p.0 (w.text, ts, refl, x, some.1, p.1)) in
-          behind (Whole f) (Whole (next x)) X (λ ts. X (w.text ∷ ts)) Z (λ ts. Z (w.text ∷ ts)) (AtHead f) (AtHead (next x)) w ws end breaks column k back forth (λ ts y. y) (λ ts y. y) g.0
-            (resolved (Whole f) Z (next x) w.text back forth g.1 g.2) (rec w.text x some.1 ws (rw some.1 at e))
+          behind (Whole f) (Whole (next x)) X (λ ts. X (w.text ∷ ts)) Z (λ ts. Z (w.text ∷ ts)) (AtHead f) (AtHead (next x)) w ws end breaks column k back forth (λ ts y. y) (λ ts y. y) (λ ts y. y) g.0
+            (resolved (Whole f) Z (next x) w.text back forth g.1 g.2 g.3) (rec w.text x some.1 ws (rw some.1 at e))
     ]
 
 -- ---- what the head of a form tells
@@ -309,7 +338,7 @@ pub none_avoided : (f : Form) (test : List ℕ → Bool) → avoids test f ≡ t
 none_avoided f test a = λ word is m. false≢true (sym (avoided f test (word ∷ m.0) m.1.0 a m.1.1) ∙ is)
 
 -- some form's words are those of another, but where one word begins them
-pub stays_head : (f g : Form) → ((ts : List (List ℕ)) → Whole g ts → Whole f ts) → ((wrong : List ℕ) → IsWanted (Whole f) Nowhere [] wrong kinds.Word) → tells_number g ≡ false → counts g ≡ false
+pub stays_head : (f g : Form) → ((ts : List (List ℕ)) → Whole g ts → Whole f ts) → ((wrong : List ℕ) → WordAtHead f wrong) → tells_number g ≡ false → counts g ≡ false
     → (wrong : List ℕ) (kind : Kind) → AtHead g wrong kind → AtHead f wrong kind
 stays_head f g forth word untold uncounted wrong kinds.Word h = inr (word wrong)
 stays_head f g forth word untold uncounted wrong kinds.Number h = absurd (false≢true (sym untold ∙ h.0))

@@ -73,12 +73,12 @@ is_lettered word = list_all (λ b. nat_le 97 b && nat_le b 122) word
 -- number, above which there is none.
 abbrev pub IsWanted : (Lines Last : List (List ℕ) → Type 0) → List (List ℕ) → List ℕ → Kind → Type 0
 -- nothing: the words before it are a line, and no line begins with them and one more
-IsWanted Lines Last front wrong Count = Lines front × ((word : List ℕ) → MayStand Lines front word → ⊥)
+IsWanted Lines Last front wrong Count = Lines front × ((word : List ℕ) → MayStand Lines front word → ⊥) × (Last front → ⊥)
 -- a fixed word: some word of letters may stand there, and none that is quoted, or a number where it looks like one
 IsWanted Lines Last front wrong Word =
     ((word : List ℕ) × (is_lettered word ≡ true) × MayStand Lines front word)
     × NoneStands Lines is_quoted front
-    × (begins_with_digit wrong ≡ true → NoneStands Lines begins_with_digit front)
+    × (begins_with_digit wrong ≡ true → NoneStands Lines begins_with_digit front × (Last front → ⊥))
 -- a number: some may stand there, and no word that is quoted, or of letters where it doesn't look like a number
 IsWanted Lines Last front wrong Number =
     (((word : List ℕ) × (n : ℕ) × (number_of word ≡ Some n) × MayStand Lines front word) ⊎ Last front)
