@@ -15,7 +15,7 @@ use Rattle.coda_script.specs.Slots.{NumberSlot, between, TextSlot, number_in, pa
 use Rattle.coda_script.specs.Form.{Form, ends, nothing, either, a_number, a_path, a_name, some_rights, a_text, perhaps, servers_above}
 use Rattle.coda_script.specs.Reading.{Fault, ◌>>=◌, slot_at, is_next, missing, servers_at, option_at, read}
 use Rattle.coda_script.specs.Spelling.{begins, SpellServers, Spells}
-use Rattle.coda_script.specs.FirstColumn.{MayStand, NoneStands, is_lettered, IsWanted}
+use Rattle.coda_script.specs.FirstColumn.{MayStand, NoneStands, is_lettered}
 use Rattle.coda_script.proofs.Avoiding.{avoids, avoided, and_left, and_right}
 use Rattle.coda_script.proofs.Binding.{split, chosen, first_is}
 use Rattle.coda_script.proofs.FirstBytes.{number_begins, digit_unquoted, digit_unlettered, rights_apart}
@@ -93,17 +93,17 @@ server_or_next all last next word more line (w ∷ mine, rest, e, x ∷ ss, m, d
 
 servers_unquoted : (all : Bool) (last : ℕ) (next : List ℕ → Form) → avoids is_quoted (next []) ≡ true → NoneStands (Whole (servers_above all last next)) is_quoted []
 servers_unquoted all last next a = λ word q m. elim (server_or_next all last next word m.0 m.1.0 m.1.1) [
-    | inl digit ↦ digit_unquoted word digit q
-    | inr other ↦ none_avoided (next []) is_quoted a word q (m.0, (m.1.0, other.1))
-  ]
+  | inl digit ↦ digit_unquoted word digit q
+  | inr other ↦ none_avoided (next []) is_quoted a word q (m.0, (m.1.0, other.1))
+]
 
 -- where each word is a server, none is of letters
 servers_unlettered : (all : Bool) (last : ℕ) (next : List ℕ → Form) (wrong : List ℕ) → is_server all wrong ≡ true → begins_with_digit wrong ≡ false → NoneStands (Whole (servers_above all last next)) is_lettered []
 servers_unlettered false last next wrong is n = absurd (false≢true (sym n ∙ is))
 servers_unlettered true last next wrong is n = λ word l m. elim (server_or_next true last next word m.0 m.1.0 m.1.1) [
-    | inl digit ↦ digit_unlettered word digit l
-    | inr other ↦ absurd (false≢true (sym other.0))
-  ]
+  | inl digit ↦ digit_unlettered word digit l
+  | inr other ↦ absurd (false≢true (sym other.0))
+]
 
 -- a server could stand there, or none is above the last
 servers_head : (X Z : Lines) (all : Bool) (last : ℕ) (next : List ℕ → Form) → IsClear (servers_above all last next) → Goes X Z (servers_above all last next) → (wrong : List ℕ) → is_server all wrong ≡ true → AtHead (servers_above all last next) wrong kinds.Number
@@ -189,18 +189,18 @@ unfolding servers_at
 servers_first X Z all [] last next end breaks column k clear goes e rec =
     let f = servers_above all last next in
     stays (Whole f) (Whole (next [])) X X Z Z (AtHead f) (AtHead (next [])) (is_server all) [] end breaks column k refl (done_back all last next) (done_forth all last next clear) (λ ts x. x) (λ ts x. x) (λ ts n x. x)
-      (done_head X Z all last next clear goes (done_forth all last next clear)) (rec [] [] tt [] e)
+    (done_head X Z all last next clear goes (done_forth all last next clear)) (rec [] [] tt [] e)
 servers_first X Z all (w ∷ ws) last next end breaks column k clear goes e rec =
     let f = servers_above all last next in
     elim (cases_is (is_server all w.text)) [
       | inr other ↦
           stays (Whole f) (Whole (next [])) X X Z Z (AtHead f) (AtHead (next [])) (is_server all) (w ∷ ws) end breaks column k other (done_back all last next) (done_forth all last next clear) (λ ts x. x) (λ ts x. x) (λ ts n x. x)
-            (done_head X Z all last next clear goes (done_forth all last next clear)) (rec [] [] tt (w ∷ ws) (rw other at e))
+          (done_head X Z all last next clear goes (done_forth all last next clear)) (rec [] [] tt (w ∷ ws) (rw other at e))
       | inl server ↦ elim (cases_option (number_in (between (last + 1) 8) w.text)) [
         | inl none ↦
             let e' : (let r : Result Line Fault = Err (w.at + 1, kinds.Number) in r) ≡ Err (column, k) = rw (server, none) at e in
             at_word (Whole f) X Z (AtHead f) w ws end breaks column k (faulty (w.at + 1, kinds.Number) column k e') (subst (AtHead f w.text) (of_kind (w.at + 1, kinds.Number) column k e') (servers_head X Z all last next clear goes w.text server))
-              (λ m. no_number all last next w.text server none m.0 m.1.0 m.1.1)
+            (λ m. no_number all last next w.text server none m.0 m.1.0 m.1.1)
         | inr some ↦
             let s = some.0 in
             let then : List ℕ → Form = λ ss. next (s ∷ ss) in
@@ -212,8 +212,8 @@ servers_first X Z all (w ∷ ws) last next end breaks column k clear goes e rec 
             let forth : (ts : List (List ℕ)) → Whole g ts → Whole f (w.text ∷ ts) = λ ts p. (p.0, more_servers all last s next w.text server some.1 ts p.0 p.1) in
             let e' = one_more s next (servers_at all s (split ws end breaks) ws) column k (rw (server, some.1) at e) in
             behind (Whole f) (Whole g) X (λ ts. X (w.text ∷ ts)) Z (λ ts. Z (w.text ∷ ts)) (AtHead f) (AtHead g) w ws end breaks column k back forth (λ ts x. x) (λ ts x. x) (λ ts x. x)
-              (inl (alive g clear' sure.0)) (resolved (Whole f) Z g w.text back forth sure.1 (another X Z all last s next w.text clear goes server some.1) (λ z. refl))
-              (servers_first (λ ts. X (w.text ∷ ts)) (λ ts. Z (w.text ∷ ts)) all ws s then end breaks column k clear' goes' e' (λ mine ss m. rec (w.text ∷ mine) (s ∷ ss) (server, some.1, m)))
+            (inl (alive g clear' sure.0)) (resolved (Whole f) Z g w.text back forth sure.1 (another X Z all last s next w.text clear goes server some.1) (λ z. refl))
+            (servers_first (λ ts. X (w.text ∷ ts)) (λ ts. Z (w.text ∷ ts)) all ws s then end breaks column k clear' goes' e' (λ mine ss m. rec (w.text ∷ mine) (s ∷ ss) (server, some.1, m)))
       ]
     ]
 
@@ -247,7 +247,7 @@ first X Z (ends k l) clear goes [] end (Some b) column kind e =
     }
 first X Z (ends k l) clear goes (w ∷ ws) end breaks column kind e =
     at_word (Whole (ends k l)) X Z (AtHead (ends k l)) w ws end breaks column kind (faulty (w.at + 1, k) column kind e) (subst (AtHead (ends k l) w.text) (of_kind (w.at + 1, k) column kind e) (ends_head k l goes w.text))
-      (λ m. let n = m.1.1.0 in absurd cc)
+    (λ m. let n = m.1.1.0 in absurd cc)
 first X Z nothing clear goes [] end breaks column kind e =
     at_end (Whole nothing) X Z (AtHead nothing) end breaks column kind (faulty (missing (split [] end breaks)) column kind e) (of_kind (missing (split [] end breaks)) column kind e) (λ p. p.1)
 first X Z nothing clear goes (w ∷ ws) end breaks column kind e =
@@ -263,34 +263,34 @@ first X Z (either word so other) clear goes ws end breaks column kind e =
           let forth : (ts : List (List ℕ)) → Whole so ts → Whole f (v.0.text ∷ ts) = λ ts p. (p.0, inl (ts, ap (λ (t : List ℕ). t ∷ ts) v.3, p.1)) in
           subst (λ (x : List Word). First (Whole f) X Z (AtHead f) x end breaks column kind) (sym v.2) (
           behind (Whole f) (Whole so) X (λ ts. X (word ∷ ts)) Z (λ ts. Z (word ∷ ts)) (AtHead f) (AtHead so) v.0 v.1 end breaks column kind back forth (λ ts x. subst (λ (t : List ℕ). X (t ∷ ts)) (sym v.3) x) (λ ts x. subst (λ (t : List ℕ). Z (t ∷ ts)) (sym v.3) x) (λ ts x. subst (λ (t : List ℕ). Z (t ∷ ts)) v.3 x)
-            (inl a) (resolved (Whole f) Z so v.0.text back forth goes.1.1 (inl goes.1.2) (λ z. absurd (goes.2 (subst (λ (t : List ℕ). Z (t ∷ [])) v.3 z)))) (first (λ ts. X (word ∷ ts)) (λ ts. Z (word ∷ ts)) so clear.2 goes.6 v.1 end breaks column kind e'))
+          (inl a) (resolved (Whole f) Z so v.0.text back forth goes.1.1 (inl goes.1.2) (λ z. absurd (goes.2 (subst (λ (t : List ℕ). Z (t ∷ [])) v.3 z)))) (first (λ ts. X (word ∷ ts)) (λ ts. Z (word ∷ ts)) so clear.2 goes.6 v.1 end breaks column kind e'))
       | inr t ↦
           let back : (ts : List (List ℕ)) → begins (is_word word) ts ≡ false → Whole f ts → Whole other ts = λ ts n p. (p.0, either_other word so other ts p.0 n p.1) in
           let forth : (ts : List (List ℕ)) → Whole other ts → Whole f ts = λ ts p. (p.0, inr (avoided other (is_word word) ts p.0 clear.1 p.1, p.1)) in
           let wanted : (wrong : List ℕ) → WordAtHead f wrong = λ wrong. fixed_word f goes.5 refl wrong word goes.0 (a.0, (a.1.0, inl (a.0, refl, a.1.1))) in
           stays (Whole f) (Whole other) X X Z Z (AtHead f) (AtHead other) (is_word word) ws end breaks column kind t.0 back forth (λ ts x. x) (λ ts x. x) (λ ts n x. x)
-            (λ wrong n. stays_head f other forth wanted goes.3 goes.4 wrong) (first X Z other clear.3 goes.7 ws end breaks column kind t.1)
+          (λ wrong n. stays_head f other forth wanted goes.3 goes.4 wrong) (first X Z other clear.3 goes.7 ws end breaks column kind t.1)
     ]
 first X Z (a_number slot next) clear goes ws end breaks column kind e =
     slot_first X Z (a_number slot next) kinds.Number (number_in slot) next ws end breaks column kind (λ ts line s. s) (λ ts line s. s) (number_head slot next clear)
-      (λ w n is. let g = goes w n is in (begun X w (next n) (clear n) g.0.0, g.0.1, g.0.2, g.0.3)) e
-      (λ w n is rest r. first (λ ts. X (w ∷ ts)) (λ ts. Z (w ∷ ts)) (next n) (clear n) (goes w n is).1 rest end breaks column kind r)
+    (λ w n is. let g = goes w n is in (begun X w (next n) (clear n) g.0.0, g.0.1, g.0.2, g.0.3)) e
+    (λ w n is rest r. first (λ ts. X (w ∷ ts)) (λ ts. Z (w ∷ ts)) (next n) (clear n) (goes w n is).1 rest end breaks column kind r)
 first X Z (a_path next) clear goes ws end breaks column kind e =
     slot_first X Z (a_path next) kinds.Path path_in next ws end breaks column kind (λ ts line s. s) (λ ts line s. s) (path_head X Z next clear goes)
-      (λ w p is. let g = goes w p is in (inl (alive (next p) (clear p) g.0.0), g.0.1, inl g.0.2, λ z. absurd (g.1 z))) e
-      (λ w p is rest r. first (λ ts. X (w ∷ ts)) (λ ts. Z (w ∷ ts)) (next p) (clear p) (goes w p is).2 rest end breaks column kind r)
+    (λ w p is. let g = goes w p is in (inl (alive (next p) (clear p) g.0.0), g.0.1, inl g.0.2, λ z. absurd (g.1 z))) e
+    (λ w p is rest r. first (λ ts. X (w ∷ ts)) (λ ts. Z (w ∷ ts)) (next p) (clear p) (goes w p is).2 rest end breaks column kind r)
 first X Z (a_name next) clear goes ws end breaks column kind e =
     slot_first X Z (a_name next) kinds.Path name_in next ws end breaks column kind (λ ts line s. s) (λ ts line s. s) (name_head X Z next clear goes)
-      (λ w n is. let g = goes w n is in (inl (alive (next n) (clear n) g.0.0), g.0.1, inl g.0.2, λ z. absurd (g.1 z))) e
-      (λ w n is rest r. first (λ ts. X (w ∷ ts)) (λ ts. Z (w ∷ ts)) (next n) (clear n) (goes w n is).2 rest end breaks column kind r)
+    (λ w n is. let g = goes w n is in (inl (alive (next n) (clear n) g.0.0), g.0.1, inl g.0.2, λ z. absurd (g.1 z))) e
+    (λ w n is rest r. first (λ ts. X (w ∷ ts)) (λ ts. Z (w ∷ ts)) (next n) (clear n) (goes w n is).2 rest end breaks column kind r)
 first X Z (some_rights next) clear goes ws end breaks column kind e =
     slot_first X Z (some_rights next) kinds.Word rights_in next ws end breaks column kind (λ ts line s. s) (λ ts line s. s) (rights_head X Z next clear goes)
-      (λ w r is. let g = goes w r is in (inl (alive (next r) (clear r) g.0.0), g.0.1, inl g.0.2, λ z. absurd (g.1 z))) e
-      (λ w n is rest r. first (λ ts. X (w ∷ ts)) (λ ts. Z (w ∷ ts)) (next n) (clear n) (goes w n is).2 rest end breaks column kind r)
+    (λ w r is. let g = goes w r is in (inl (alive (next r) (clear r) g.0.0), g.0.1, inl g.0.2, λ z. absurd (g.1 z))) e
+    (λ w n is rest r. first (λ ts. X (w ∷ ts)) (λ ts. Z (w ∷ ts)) (next n) (clear n) (goes w n is).2 rest end breaks column kind r)
 first X Z (a_text slot next) clear goes ws end breaks column kind e =
     slot_first X Z (a_text slot next) kinds.Text (text_in slot) next ws end breaks column kind (λ ts line s. s) (λ ts line s. s) (text_head X Z slot next clear goes)
-      (λ w t is. let g = goes.1 w t is in (inl (alive (next t) (clear t) g.0.0), g.0.1, inl g.0.2, λ z. absurd (g.1 z))) e
-      (λ w t is rest r. first (λ ts. X (w ∷ ts)) (λ ts. Z (w ∷ ts)) (next t) (clear t) (goes.1 w t is).2 rest end breaks column kind r)
+    (λ w t is. let g = goes.1 w t is in (inl (alive (next t) (clear t) g.0.0), g.0.1, inl g.0.2, λ z. absurd (g.1 z))) e
+    (λ w t is rest r. first (λ ts. X (w ∷ ts)) (λ ts. Z (w ∷ ts)) (next t) (clear t) (goes.1 w t is).2 rest end breaks column kind r)
 first X Z (perhaps word slot next) clear goes ws end breaks column kind e =
     let f = perhaps word slot next in
     let g = a_number slot (λ n. next (Some n)) in
@@ -304,16 +304,16 @@ first X Z (perhaps word slot next) clear goes ws end breaks column kind e =
           let forth : (ts : List (List ℕ)) → Whole g ts → Whole f (v.0.text ∷ ts) = λ ts p. (p.0, perhaps_taken word slot next v.0.text v.3 ts p.0 p.1) in
           subst (λ (x : List Word). First (Whole f) X Z (AtHead f) x end breaks column kind) (sym v.2) (
           behind (Whole f) (Whole g) X (λ ts. X (word ∷ ts)) Z (λ ts. Z (word ∷ ts)) (AtHead f) (AtHead g) v.0 v.1 end breaks column kind back forth (λ ts x. subst (λ (t : List ℕ). X (t ∷ ts)) (sym v.3) x) (λ ts x. subst (λ (t : List ℕ). Z (t ∷ ts)) (sym v.3) x) (λ ts x. subst (λ (t : List ℕ). Z (t ∷ ts)) v.3 x)
-            (inl a) (resolved (Whole f) Z g v.0.text back forth refl (inl lives_then) (λ z. refl)) (
+          (inl a) (resolved (Whole f) Z g v.0.text back forth refl (inl lives_then) (λ z. refl)) (
           slot_first (λ ts. X (word ∷ ts)) (λ ts. Z (word ∷ ts)) g kinds.Number (number_in slot) (λ n. next (Some n)) v.1 end breaks column kind (λ ts line s. s) (λ ts line s. s) (number_head slot (λ n. next (Some n)) (λ n. clear.2 (Some n)))
-            (λ w n is. let s = goes.6 w n is in (inl (alive (next (Some n)) (clear.2 (Some n)) s.0.0), s.0.1, inl s.0.2, λ z. absurd (s.1 z))) e'
-            (λ w n is rest r. first (λ ts. X (word ∷ w ∷ ts)) (λ ts. Z (word ∷ w ∷ ts)) (next (Some n)) (clear.2 (Some n)) (goes.6 w n is).2 rest end breaks column kind r)))
+          (λ w n is. let s = goes.6 w n is in (inl (alive (next (Some n)) (clear.2 (Some n)) s.0.0), s.0.1, inl s.0.2, λ z. absurd (s.1 z))) e'
+          (λ w n is rest r. first (λ ts. X (word ∷ w ∷ ts)) (λ ts. Z (word ∷ w ∷ ts)) (next (Some n)) (clear.2 (Some n)) (goes.6 w n is).2 rest end breaks column kind r)))
       | inr other ↦
           let back : (ts : List (List ℕ)) → begins (is_word word) ts ≡ false → Whole f ts → Whole (next None) ts = λ ts n p. (p.0, perhaps_none word slot next ts p.0 n p.1) in
           let forth : (ts : List (List ℕ)) → Whole (next None) ts → Whole f ts = λ ts p. (p.0, inr (avoided (next None) (is_word word) ts p.0 clear.1 p.1, p.1)) in
           let wanted : (wrong : List ℕ) → WordAtHead f wrong = λ wrong. fixed_word f goes.5 refl wrong word goes.0 (a.0, (a.1.0, perhaps_taken word slot next word refl a.0 a.1.0 a.1.1)) in
           stays (Whole f) (Whole (next None)) X X Z Z (AtHead f) (AtHead (next None)) (is_word word) ws end breaks column kind other back forth (λ ts x. x) (λ ts x. x) (λ ts n x. x)
-            (λ wrong n. stays_head f (next None) forth wanted goes.3 goes.4 wrong) (first X Z (next None) (clear.2 None) goes.7 ws end breaks column kind (not_taken word slot next ws end breaks column kind other e))
+          (λ wrong n. stays_head f (next None) forth wanted goes.3 goes.4 wrong) (first X Z (next None) (clear.2 None) goes.7 ws end breaks column kind (not_taken word slot next ws end breaks column kind other e))
     ]
 first X Z (servers_above all last next) clear goes ws end breaks column kind e =
     servers_first X Z all ws last next end breaks column kind clear goes e (λ mine ss m rest r. first (λ ts. X (mine ++ ts)) (λ ts. Z (mine ++ ts)) (next ss) (clear ss).1 (goes mine ss m).5 rest end breaks column kind r)

@@ -83,12 +83,11 @@ last_behind w v ts is (inr z) = z.2
 beginning : (wrong : List ℕ) (kind : Kind) → AtHead script wrong kind → IsWanted IsFormed AtLast [] wrong kind
 unfolding script
 beginning wrong kinds.Word (inl un) = absurd cc
-beginning wrong kinds.Word (inr i) =
-    (
-      (i.0.0, i.0.1, may_stay IsFormed (Whole script) (here IsTabled) [] i.0.0 i.0.2),
-      λ word q m. i.1 word q (m.0, tabled_so is_quoted refl word m.0 q m.1),
-      λ d. (λ word b m. i.2 d word b (m.0, tabled_so begins_with_digit refl word m.0 b m.1), nothing_last),
-    )
+beginning wrong kinds.Word (inr i) = (
+  (i.0.0, i.0.1, may_stay IsFormed (Whole script) (here IsTabled) [] i.0.0 i.0.2),
+  λ word q m. i.1 word q (m.0, tabled_so is_quoted refl word m.0 q m.1),
+  λ d. (λ word b m. i.2 d word b (m.0, tabled_so begins_with_digit refl word m.0 b m.1), nothing_last),
+)
 beginning wrong kinds.Number h = absurd (let n = h.0 in cc)
 beginning wrong kinds.Text i = text_stays IsFormed (Whole script) AtLast Nowhere (here IsTabled) [] wrong i
 beginning wrong kinds.Path i = path_stays IsFormed (Whole script) AtLast Nowhere (here IsTabled) [] wrong i
@@ -103,7 +102,7 @@ OfLine ws end breaks column kind = First IsFormed (BehindThreads IsAtLastServer)
 plain : (ws : List Word) (end : ℕ) (breaks : Option ℕ) (column : ℕ) (kind : Kind) → is_next (is_word (codes "at")) ws ≡ false → read script (split ws end breaks) ≡ Err (column, kind) → OfLine ws end breaks column kind
 plain ws end breaks column kind n e =
     stays IsFormed (Whole script) (BehindThreads IsAtLastServer) IsAtLastServer AtLast EndsAtLastServer (λ wrong k. IsWanted IsFormed AtLast [] wrong k) (AtHead script) (is_word (codes "at")) ws end breaks column kind
-      n tabled (here IsTabled) (here IsAtLastServer) (here EndsAtLastServer) last_tabled (λ wrong m. beginning wrong) (first IsAtLastServer EndsAtLastServer script script_clear script_goes ws end breaks column kind e)
+    n tabled (here IsTabled) (here IsAtLastServer) (here EndsAtLastServer) last_tabled (λ wrong m. beginning wrong) (first IsAtLastServer EndsAtLastServer script script_clear script_goes ws end breaks column kind e)
 
 -- a thread that is named
 abbrev IsThread : List ℕ → List ℕ → Type 0
@@ -138,9 +137,9 @@ one_more_thread w v ws end breaks column kind is r =
     let back : (ts : List (List ℕ)) → IsFormed (w.text ∷ v.text ∷ ts) → IsFormed ts = λ ts p. (behind_thread w.text v.text is.0 ts p).1 in
     let forth : (ts : List (List ℕ)) → IsFormed ts → IsFormed (w.text ∷ v.text ∷ ts) = λ ts p. inr (is.0, is.1, p) in
     behind IsFormed Behind (BehindThreads IsAtLastServer) Stuck AtLast Last (λ wrong k. IsWanted IsFormed AtLast [] wrong k) (λ wrong k. ⊥) w (v ∷ ws) end breaks column kind (λ ts p. p) (λ ts p. p) (λ ts p. p) (λ ts p. p) (λ ts p. p)
-      (inl (codes "1" ∷ one.0, one.1)) (λ wrong k h. absurd h) (
+    (inl (codes "1" ∷ one.0, one.1)) (λ wrong k h. absurd h) (
     behind Behind IsFormed Stuck (BehindThreads IsAtLastServer) Last AtLast (λ wrong k. ⊥) (λ wrong k. IsWanted IsFormed AtLast [] wrong k) v ws end breaks column kind back forth (λ ts p. inr (is.0, is.1, p)) (λ ts p. inr (is.0, is.1, p)) (λ ts p. last_behind w.text v.text ts is.0 p)
-      (inl some_line) (λ wrong k i. wanted_behind Behind IsFormed Last AtLast v.text back forth (λ ts p. inr (is.0, is.1, p)) (λ ts p. last_behind w.text v.text ts is.0 p) [] wrong k i) r)
+    (inl some_line) (λ wrong k i. wanted_behind Behind IsFormed Last AtLast v.text back forth (λ ts p. inr (is.0, is.1, p)) (λ ts p. last_behind w.text v.text ts is.0 p) [] wrong k i) r)
 
 -- ---- the words of a line
 

@@ -294,12 +294,12 @@ slot_first {A} X Z f kind value next (w ∷ ws) end breaks column k same again h
           let x = some.0 in
           let g = good w.text x some.1 in
           let back : (ts : List (List ℕ)) → Whole f (w.text ∷ ts) → Whole (next x) ts = λ ts p.
-            let t = same (w.text ∷ ts) p.0 p.1 in
-            let y : t.3 ≡ x = some_is t.3 x (sym t.4 ∙ ap value (sym (head_is w.text t.0 ts t.1 t.2)) ∙ some.1) in
-            (p.0, subst (λ (z : A). Spells (next z) ts p.0) y (subst (λ (us : List (List ℕ)). Spells (next t.3) us p.0) (sym (tail_is w.text t.0 ts t.1 t.2)) t.5)) in
+          let t = same (w.text ∷ ts) p.0 p.1 in
+          let y : t.3 ≡ x = some_is t.3 x (sym t.4 ∙ ap value (sym (head_is w.text t.0 ts t.1 t.2)) ∙ some.1) in
+          (p.0, subst (λ (z : A). Spells (next z) ts p.0) y (subst (λ (us : List (List ℕ)). Spells (next t.3) us p.0) (sym (tail_is w.text t.0 ts t.1 t.2)) t.5)) in
           let forth : (ts : List (List ℕ)) → Whole (next x) ts → Whole f (w.text ∷ ts) = λ ts p. (p.0, again (w.text ∷ ts) p.0 (w.text, ts, refl, x, some.1, p.1)) in
           behind (Whole f) (Whole (next x)) X (λ ts. X (w.text ∷ ts)) Z (λ ts. Z (w.text ∷ ts)) (AtHead f) (AtHead (next x)) w ws end breaks column k back forth (λ ts y. y) (λ ts y. y) (λ ts y. y) g.0
-            (resolved (Whole f) Z (next x) w.text back forth g.1 g.2 g.3) (rec w.text x some.1 ws (rw some.1 at e))
+          (resolved (Whole f) Z (next x) w.text back forth g.1 g.2 g.3) (rec w.text x some.1 ws (rw some.1 at e))
     ]
 
 -- ---- what the head of a form tells

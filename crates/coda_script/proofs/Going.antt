@@ -198,9 +198,9 @@ Goes X Z (servers_above all last next) =
 
 at_most : (s : ℕ) → s ≤ 8 → (nat_le (s + 1) 8 ≡ true) ⊎ (s ≡ 8)
 at_most s le = elim (cases_lt s 8) [
-    | inl lt ↦ inl (le-leb (s + 1) 8 (omega (arith, lt)))
-    | inr ge ↦ inr (omega (arith, ge, le))
-  ]
+  | inl lt ↦ inl (le-leb (s + 1) 8 (omega (arith, lt)))
+  | inr ge ↦ inr (omega (arith, ge, le))
+]
 
 within_same : (low m s : ℕ) → within low 8 m ≡ Some s → m ≡ s
 within_same low m s e = (if_some (leb low m && leb m 8) m s e).1

@@ -1,5 +1,5 @@
 -- Each place of the table can be completed to a line, but for `resolve V 8`.
-use Rattle.std.proofs.Common.{◌≡◌, ℕ, ◌+◌, Bool, true, false, leb, ◌⊎◌, inl, inr, List, [], ◌∷◌, ◌++◌, Option, Some, refl, sym, ap, ◌∙◌, arith}
+use Rattle.std.proofs.Common.{◌≡◌, ℕ, ◌+◌, Bool, true, false, ◌⊎◌, inl, inr, List, [], ◌∷◌, ◌++◌, Option, Some, refl, sym, ap, ◌∙◌, arith}
 use Rattle.std.specs.Prelude.{codes, ◌&&◌, nat_le, is_some}
 use Rattle.std.specs.List.{list_all}
 use Rattle.std.proofs.lemmas.Bool.{leb-true, le-leb}
@@ -25,9 +25,9 @@ fits_too s e = le-leb (s + 1) 18446744073709551615 (omega (arith, leb-true (s + 
 
 above : (Z : Words) (low s : ℕ) (w : List ℕ) → number_in (between low 8) w ≡ Some s → (number_of w ≡ Some 8 → Z (w ∷ [])) → ((nat_le (s + 1) 8 && true) ≡ true) ⊎ Z (w ∷ [])
 above Z low s w e last = elim (server_is low s w e) [
-    | inl less ↦ inl (rw less refl)
-    | inr eight ↦ inr (last eight)
-  ]
+  | inl less ↦ inl (rw less refl)
+  | inr eight ↦ inr (last eight)
+]
 
 -- the last server of a `volume` line, and of a `resolve` line
 volume_ends : (v : List ℕ) (front : List (List ℕ)) (s : List ℕ) → list_all begins_with_digit front ≡ true → number_of s ≡ Some 8 → EndsAtLastServer (codes "volume" ∷ v ∷ codes "on" ∷ (front ++ s ∷ []))
@@ -88,22 +88,22 @@ no_area v s ms rest (u, servers, last, inl e, d, is) =
 
 second : (s : ℕ) (w : List ℕ) → number_in (between 1 8) w ≡ Some s → ((nat_le (s + 1) 8 && nat_le (s + 1) 18446744073709551615 && true) ≡ true) ⊎ (number_of w ≡ Some 8)
 second s w e = elim (server_is 1 s w e) [
-    | inl less ↦ inl (rw (less, fits_too s less) refl)
-    | inr last ↦ inr last
-  ]
+  | inl less ↦ inl (rw (less, fits_too s less) refl)
+  | inr last ↦ inr last
+]
 
 first : (v s : ℕ) (wv ws : List ℕ) → number_in (between 1 4294967295) wv ≡ Some v → number_in (between 1 8) ws ≡ Some s
     → ((nat_le (s + 1) 8 && nat_le (s + 1) 18446744073709551615 && true) ≡ true) ⊎ IsAtLastServer (codes "resolve" ∷ wv ∷ ws ∷ [])
 first v s wv ws ev es = elim (second s ws es) [
-    | inl less ↦ inl less
-    | inr last ↦ inr (wv, ws, refl, ap (λ (o : Option ℕ). is_some o) ev, rw last refl)
-  ]
+  | inl less ↦ inl less
+  | inr last ↦ inr (wv, ws, refl, ap (λ (o : Option ℕ). is_some o) ev, rw last refl)
+]
 
 full_first : (s : ℕ) (wv ws : List ℕ) → number_in (between 1 8) ws ≡ Some s → ((nat_le (s + 1) 8 && nat_le (s + 1) 18446744073709551615 && true) ≡ true) ⊎ EndsAtLastServer (codes "resolve" ∷ wv ∷ ws ∷ [])
 full_first s wv ws es = elim (second s ws es) [
-    | inl less ↦ inl less
-    | inr last ↦ inr (resolve_ends wv [] ws refl last)
-  ]
+  | inl less ↦ inl less
+  | inr last ↦ inr (resolve_ends wv [] ws refl last)
+]
 
 -- ---- the forms
 

@@ -40,9 +40,9 @@ IsAtLastServer ws =
 -- a `volume` or a `resolve` line up to the last server, above which there is none
 abbrev pub EndsAtLastServer : List (List ℕ) → Type 0
 EndsAtLastServer ws =
-    (v : List ℕ) × (servers : List (List ℕ)) × (last : List ℕ)
-    × ((ws ≡ codes "volume" ∷ v ∷ codes "on" ∷ (servers ++ last ∷ [])) ⊎ (ws ≡ codes "resolve" ∷ v ∷ (servers ++ last ∷ [])))
-    × (list_all begins_with_digit servers ≡ true) × (number_of last ≡ Some 8)
+    (v : List ℕ) × (servers : List (List ℕ)) × (s : List ℕ)
+    × ((ws ≡ codes "volume" ∷ v ∷ codes "on" ∷ (servers ++ s ∷ [])) ⊎ (ws ≡ codes "resolve" ∷ v ∷ (servers ++ s ∷ [])))
+    × (list_all begins_with_digit servers ≡ true) × (number_of s ≡ Some 8)
 
 -- ---- of any lines, what begins one
 
@@ -69,17 +69,18 @@ NoneStands Lines test front = (word : List ℕ) → test word ≡ true → MaySt
 abbrev pub is_lettered : List ℕ → Bool
 is_lettered word = list_all (λ b. nat_le 97 b && nat_le b 122) word
 
--- What was wanted behind the words, in place of the one that is wrong there. Of the lines, and of what ends at a last
--- number, above which there is none.
+-- What was wanted behind the words, in place of one that is wrong there, of these lines. Words that are `Last` end at a
+-- number above which there is none.
 abbrev pub IsWanted : (Lines Last : List (List ℕ) → Type 0) → List (List ℕ) → List ℕ → Kind → Type 0
 -- nothing: the words before it are a line, and no line begins with them and one more
-IsWanted Lines Last front wrong Count = Lines front × ((word : List ℕ) → MayStand Lines front word → ⊥) × (Last front → ⊥)
--- a fixed word: some word of letters may stand there, and none that is quoted, or a number where it looks like one
+IsWanted Lines Last front wrong Count =
+    Lines front × ((word : List ℕ) → MayStand Lines front word → ⊥) × (Last front → ⊥)
+-- a fixed word: some word of letters may stand there and no quoted one, nor one that begins with a digit as this does
 IsWanted Lines Last front wrong Word =
     ((word : List ℕ) × (is_lettered word ≡ true) × MayStand Lines front word)
     × NoneStands Lines is_quoted front
     × (begins_with_digit wrong ≡ true → NoneStands Lines begins_with_digit front × (Last front → ⊥))
--- a number: some may stand there, and no word that is quoted, or of letters where it doesn't look like a number
+-- a number: some may stand there and no quoted word, nor one of letters but where this begins with a digit
 IsWanted Lines Last front wrong Number =
     (((word : List ℕ) × (n : ℕ) × (number_of word ≡ Some n) × MayStand Lines front word) ⊎ Last front)
     × NoneStands Lines is_quoted front
@@ -88,9 +89,10 @@ IsWanted Lines Last front wrong Number =
 IsWanted Lines Last front wrong Path =
     ((word : List ℕ) → is_some (path_in word) ≡ true → MayStand Lines front word)
     ⊎ ((word : List ℕ) → is_some (name_in word) ≡ true → MayStand Lines front word)
--- some quoted text that is neither
+-- a text: some quoted word that is neither
 IsWanted Lines Last front wrong Text =
-    (word : List ℕ) × (is_quoted word ≡ true) × (path_in word ≡ None) × (name_in word ≡ None) × MayStand Lines front word
+    (word : List ℕ) × (is_quoted word ≡ true) × (path_in word ≡ None) × (name_in word ≡ None)
+    × MayStand Lines front word
 IsWanted Lines Last front wrong Mode = ⊥
 IsWanted Lines Last front wrong Actors = ⊥
 
@@ -102,7 +104,8 @@ IsToldAs Lines Last front (w ∷ ws) breaks kind = IsWanted Lines Last front w.t
 -- ---- the law
 
 -- The column is that of a word, or the one behind the line, or that of what is no word. Some line begins with the words
--- before it, but for `resolve V 8`; none begins with those and the word at it, and where the line ends there they are none.
+-- before it, but for `resolve V 8`. None begins with those and the word at it, and where the line ends there they are
+-- none.
 pub record IsFirstColumn (split : Split) (column : ℕ) (kind : Kind) : Type 0 where
   pub before : List AWord
   pub after : List AWord
@@ -112,7 +115,8 @@ pub record IsFirstColumn (split : Split) (column : ℕ) (kind : Kind) : Type 0 w
   pub none : (after ≡ [] → split.breaks ≡ None) → NoneGoesOn IsFormed (map (λ w. w.text) before) after
   pub told : IsToldAs IsFormed (BehindThreads EndsAtLastServer) (map (λ w. w.text) before) after split.breaks kind
 
--- The words are a line which may not stand there: behind several threads, or in a thread without being what a client does.
+-- The words are a line which may not stand there: behind several threads, or in a thread without being what a client
+-- does.
 pub record IsMisplaced (line : List ℕ) (column : ℕ) (kind : Kind) : Type 0 where
   pub place : column ≡ 1
   pub told : kind ≡ Mode
@@ -120,7 +124,7 @@ pub record IsMisplaced (line : List ℕ) (column : ℕ) (kind : Kind) : Type 0 w
   pub formed : IsFormed (words_of line)
   pub none : (said : Line) → SpellsLine (words_of line) said → ⊥
 
--- Where a line is wrong at a column, that is its first one which is wrong.
+-- Where a line is wrong at a column, that is the first that is wrong; or it is a line and may not stand there.
 abbrev pub WrongColumnsAreFirst : Type 0
 WrongColumnsAreFirst =
     (line : List ℕ) (column : ℕ) (kind : Kind) → line_of line ≡ Err (column, kind)
