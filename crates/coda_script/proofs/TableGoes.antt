@@ -2,19 +2,19 @@
 use Rattle.std.proofs.Common.{◌≡◌, ℕ, ◌+◌, Bool, true, false, ◌⊎◌, inl, inr, List, [], ◌∷◌, ◌++◌, Option, Some, refl, sym, ap, ◌∙◌, arith}
 use Rattle.std.specs.Prelude.{codes, ◌&&◌, nat_le, is_some}
 use Rattle.std.specs.List.{list_all}
-use Rattle.std.proofs.lemmas.Bool.{leb-true, le-leb}
+use Rattle.std.proofs.lemmas.Bool.{false≢true, leb-true, le-leb}
 use Rattle.coda_text.specs.Numbers.{number_of, begins_with_digit}
 use Rattle.coda_script.specs.Slots.{between, number_in, is_word}
 use Rattle.coda_script.specs.Table.{create_form, mkdir_form, symlink_form, store_form, setattr_form, remove_form, rmdir_form, rename_form, read_form, list_form, drain_form, refresh_form, giveup_form, volume_form, client_form, link_form, tick_form, hoard_add_form, hoard_form, walk_form, send_form, deliver_form, lose_form, breaks_form, crash_form, recover_form, arm_form, resolve_form, repair_form, show_form, trim_form, hardlink_form, acl_form, clone_form, peek_form, unclone_form, asr_form, heal_form, script, setup_forms, actor_forms, last_forms, extra_forms}
-use Rattle.coda_script.specs.FirstColumn.{IsAtLastServer, EndsAtLastServer}
 use Rattle.coda_script.specs.Spelling.{SpellServers}
-use Rattle.coda_script.proofs.FirstBytes.{number_begins, decimal_begins_so}
-use Rattle.coda_script.proofs.WrongColumns.{head_is, tail_is}
+use Rattle.coda_script.specs.FirstColumn.{IsAtLastServer, EndsAtLastServer}
 use Rattle.coda_script.proofs.Avoiding.{and_left, and_right}
 use Rattle.coda_script.proofs.Binding.{is_itself}
-use Rattle.std.proofs.lemmas.Bool.{false≢true}
+use Rattle.coda_script.proofs.FirstBytes.{number_begins, decimal_begins_so}
 use Rattle.coda_script.proofs.Going.{Sure, Goes, server_is}
+use Rattle.coda_script.proofs.WrongColumns.{head_is, tail_is}
 
+-- some lists of words
 abbrev Words : Type 1
 Words = List (List ℕ) → Type 0
 
@@ -23,6 +23,7 @@ Words = List (List ℕ) → Type 0
 fits_too : (s : ℕ) → nat_le (s + 1) 8 ≡ true → nat_le (s + 1) 18446744073709551615 ≡ true
 fits_too s e = le-leb (s + 1) 18446744073709551615 (omega (arith, leb-true (s + 1) 8 e))
 
+-- another server is above one, or none is above it
 above : (Z : Words) (low s : ℕ) (w : List ℕ) → number_in (between low 8) w ≡ Some s → (number_of w ≡ Some 8 → Z (w ∷ [])) → ((nat_le (s + 1) 8 && true) ≡ true) ⊎ Z (w ∷ [])
 above Z low s w e last = elim (server_is low s w e) [
   | inl less ↦ inl (rw less refl)
@@ -36,6 +37,7 @@ volume_ends v front s d e = (v, front, s, inl refl, d, e)
 resolve_ends : (v : List ℕ) (front : List (List ℕ)) (s : List ℕ) → list_all begins_with_digit front ≡ true → number_of s ≡ Some 8 → EndsAtLastServer (codes "resolve" ∷ v ∷ (front ++ s ∷ []))
 resolve_ends v front s d e = (v, front, s, inr refl, d, e)
 
+-- servers begin with digits, and `area` doesn't
 digits_of : (all : Bool) (last : ℕ) (ws : List (List ℕ)) (ss : List ℕ) → SpellServers all last ws ss → list_all begins_with_digit ws ≡ true
 digits_of all last [] [] m = refl
 digits_of all last [] (s ∷ ss) m = absurd m
@@ -86,6 +88,7 @@ no_area v s ms rest (u, servers, last, inl e, d, is) =
     let t : ts ≡ us = tail_is (codes "on") (codes "on") ts us (tail_is v u (codes "on" ∷ ts) (codes "on" ∷ us) (tail_is (codes "volume") (codes "volume") (v ∷ codes "on" ∷ ts) (u ∷ codes "on" ∷ us) e)) in
     no_digits (s ∷ ms) rest (ap (list_all begins_with_digit) t ∙ all_digits servers last d is)
 
+-- a second server of `resolve` is above the first, or that is 8
 second : (s : ℕ) (w : List ℕ) → number_in (between 1 8) w ≡ Some s → ((nat_le (s + 1) 8 && nat_le (s + 1) 18446744073709551615 && true) ≡ true) ⊎ (number_of w ≡ Some 8)
 second s w e = elim (server_is 1 s w e) [
   | inl less ↦ inl (rw (less, fits_too s less) refl)
