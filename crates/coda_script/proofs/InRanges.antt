@@ -1,5 +1,5 @@
 -- What is spelled is in its ranges.
-use Rattle.std.proofs.Common.{◌≡◌, ℕ, ◌+◌, ◌≤◌, Bool, true, false, leb, inl, inr, List, [], ◌∷◌, length, Option, Some, None, refl, sym, ap, subst, arith}
+use Rattle.std.proofs.Common.{◌≡◌, ℕ, ◌+◌, ◌≤◌, Bool, true, false, leb, inl, inr, List, [], ◌∷◌, length, Option, Some, None, refl, sym, subst, arith}
 use Rattle.std.specs.Prelude.{◌-◌, ◌*◌, ◌&&◌, if◌then◌else◌, IfSome, option_and_then}
 use Rattle.std.specs.Option.{option_map_or}
 use Rattle.std.proofs.lemmas.Bool.{leb-true, and_parts}
@@ -39,19 +39,19 @@ Lets P (a_text slot next) = (t : List ℕ) → HasRoom slot (length t) → Lets 
 Lets P (perhaps word slot next) = (o : Option ℕ) → IfSome o (InSlot slot) → Lets P (next o)
 Lets P (servers_above all last next) = (ss : List ℕ) → AreServersAbove last ss → Lets P (next ss)
 
-if_some : {A : Type 0} (b : Bool) (x y : A) → (if b then (let r : Option A = Some x in r) else None) ≡ Some y → (b ≡ true) × (x ≡ y)
+pub if_some : {A : Type 0} (b : Bool) (x y : A) → (if b then (let r : Option A = Some x in r) else None) ≡ Some y → (b ≡ true) × (x ≡ y)
 if_some true x y e = (refl, cc)
 if_some false x y e = absurd cc
 
-if_then : {A : Type 0} (b : Bool) (o : Option A) (y : A) → (if b then o else None) ≡ Some y → o ≡ Some y
+pub if_then : {A : Type 0} (b : Bool) (o : Option A) (y : A) → (if b then o else None) ≡ Some y → o ≡ Some y
 if_then true o y e = e
 if_then false o y e = absurd cc
 
-and_then : {A B : Type 0} (o : Option A) (f : A → Option B) (y : B) → option_and_then f o ≡ Some y → (x : A) × (o ≡ Some x) × (f x ≡ Some y)
+pub and_then : {A B : Type 0} (o : Option A) (f : A → Option B) (y : B) → option_and_then f o ≡ Some y → (x : A) × (o ≡ Some x) × (f x ≡ Some y)
 and_then (Some x) f y e = (x, refl, e)
 and_then None f y e = absurd cc
 
-within_is : (low high m n : ℕ) → within low high m ≡ Some n → IsBetween low high n
+pub within_is : (low high m n : ℕ) → within low high m ≡ Some n → IsBetween low high n
 within_is low high m n e =
     let i = if_some (leb low m && leb m high) m n e in
     let p = and_parts (leb low m) (leb m high) i.0 in
@@ -73,11 +73,11 @@ octal_small (d ∷ ds) m n le e =
         let i = if_some (leb 48 d && leb d 55 && leb (m * 8 + (d - 48)) 4095) (m * 8 + (d - 48)) k e in
         subst (λ k. k ≤ 4095) i.1 (leb-true (m * 8 + (d - 48)) 4095 (and_parts (leb 48 d && leb d 55) (leb (m * 8 + (d - 48)) 4095) i.0).1)
 
-number_is : (slot : NumberSlot) (w : List ℕ) (n : ℕ) → number_in slot w ≡ Some n → InSlot slot n
+pub number_is : (slot : NumberSlot) (w : List ℕ) (n : ℕ) → number_in slot w ≡ Some n → InSlot slot n
 number_is (between low high) w n e = let o = and_then (number_of w) (within low high) n e in within_is low high o.0 n o.2
 number_is octal w n e = octal_small w 0 n (omega arith) (if_then (leb 1 (length w) && leb (length w) 5) (octal_from 0 w) n e)
 
-path_is : (w : List ℕ) (p : List (List ℕ)) → path_in w ≡ Some p → ArePathNames p
+pub path_is : (w : List ℕ) (p : List (List ℕ)) → path_in w ≡ Some p → ArePathNames p
 path_is w p e =
     let i = if_some (is_path (value_of w)) (names_in (value_of w)) p e in
     subst ArePathNames i.1 (path_names_in (value_of w) i.0)

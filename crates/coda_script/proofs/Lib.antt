@@ -13,3 +13,9 @@ pub mod InRanges
 pub mod WholeLines
 pub mod EveryLine
 pub mod WrongColumns
+pub mod FirstBytes
+pub mod Going
+pub mod TableGoes
+pub mod FirstSteps
+pub mod FirstColumns
+pub mod FirstOfLines

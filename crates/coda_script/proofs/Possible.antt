@@ -1,10 +1,10 @@
 -- The lines of a form, with their values in the ranges of its slots; and how each is spelled.
-use Rattle.std.proofs.Common.{◌≡◌, ℕ, ◌+◌, ◌^◌, ◌<◌, ◌≤◌, Bool, true, false, leb, ◌⊎◌, inl, inr, List, [], ◌∷◌, ◌++◌, length, map, Option, Some, None, refl, ap, arith}
+use Rattle.std.proofs.Common.{◌≡◌, ℕ, ◌+◌, ◌^◌, ◌<◌, ◌≤◌, Bool, true, false, ◌⊎◌, inl, inr, List, [], ◌∷◌, ◌++◌, length, map, Option, Some, None, refl, ap, arith}
 use Rattle.std.specs.Prelude.{IfSome}
 use Rattle.std.specs.Fmt.{decimal}
 use Rattle.std.proofs.lemmas.Bool.{le-leb}
 use Rattle.coda_fid.specs.Name.{is_name}
-use Rattle.coda_fid.specs.Path.{path_text, is_path, names_in, ArePathNames}
+use Rattle.coda_fid.specs.Path.{path_text, is_path, ArePathNames}
 use Rattle.coda_fid.proofs.Paths.{names_in-path_text, test_from_path}
 use Rattle.coda_text.specs.Texts.{printed, quoted, value_of}
 use Rattle.coda_text.specs.Printed.{AreBytes}
@@ -14,7 +14,7 @@ use Rattle.coda_script.specs.declared.line.Line.{Line}
 use Rattle.coda_script.specs.declared.line.Rights.{Rights}
 use Rattle.coda_script.specs.Slots.{NumberSlot, between, octal, TextSlot, any, sized, number_in, path_in, name_in, text_in, has_room, is_word, is_server}
 use Rattle.coda_script.specs.Form.{Form, ends, nothing, either, a_number, a_path, a_name, some_rights, a_text, perhaps, servers_above}
-use Rattle.coda_script.specs.Spelling.{begins, SpellServers, Spells}
+use Rattle.coda_script.specs.Spelling.{SpellServers, Spells}
 use Rattle.coda_script.specs.Ranges.{IsBetween, AreServersAbove}
 use Rattle.coda_script.proofs.Avoiding.{avoids, avoided}
 use Rattle.coda_script.proofs.Lettered.{rights_again}
@@ -60,15 +60,15 @@ IsClear (servers_above all last next) = (ss : List ℕ) → (avoids (is_server a
 -- ---- the spelling of one value
 
 -- how a number is written in a slot
-abbrev number_text : NumberSlot → ℕ → List ℕ
+abbrev pub number_text : NumberSlot → ℕ → List ℕ
 number_text (between low high) n = decimal n
 number_text octal n = octal_text n
 
-number_again_in : (slot : NumberSlot) (n : ℕ) → Holds slot n → number_in slot (number_text slot n) ≡ Some n
+pub number_again_in : (slot : NumberSlot) (n : ℕ) → Holds slot n → number_in slot (number_text slot n) ≡ Some n
 number_again_in (between low high) n h = rw (number_again n h.1, le-leb low n h.0.0, le-leb n high h.0.1) refl
 number_again_in octal n h = octal_again n h
 
-number_word_in : (slot : NumberSlot) (n : ℕ) → Holds slot n → IsOneWord (number_text slot n)
+pub number_word_in : (slot : NumberSlot) (n : ℕ) → Holds slot n → IsOneWord (number_text slot n)
 number_word_in (between low high) n h = decimal_word n h.1
 number_word_in octal n h = octal_word n
 
@@ -94,7 +94,7 @@ server_begins : (all : Bool) (s : ℕ) → s < 2 ^ 64 → is_server all (decimal
 server_begins true s lt = refl
 server_begins false s lt = decimal_begins s lt
 
-servers_spelled : (all : Bool) (last : ℕ) (ss : List ℕ) → AreServersAbove last ss → SpellServers all last (map decimal ss) ss × AreWords (map decimal ss)
+pub servers_spelled : (all : Bool) (last : ℕ) (ss : List ℕ) → AreServersAbove last ss → SpellServers all last (map decimal ss) ss × AreWords (map decimal ss)
 servers_spelled all last [] h = (tt, tt)
 servers_spelled all last (s ∷ ss) h =
     let lt : s < 2 ^ 64 = omega (arith, h.0.1) in

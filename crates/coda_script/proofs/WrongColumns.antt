@@ -18,19 +18,19 @@ abbrev Wrong : Form → List Word → ℕ → Option ℕ → ℕ → Type 0
 Wrong f ws end breaks column = IsWrongColumn f (split ws end breaks) column
 
 -- the column of a fault
-faulty : {A : Type 0} (d : Fault) (column : ℕ) (kind : Kind) → (let r : Result A Fault = Err d in r) ≡ Err (column, kind) → d.0 ≡ column
+pub faulty : {A : Type 0} (d : Fault) (column : ℕ) (kind : Kind) → (let r : Result A Fault = Err d in r) ≡ Err (column, kind) → d.0 ≡ column
 faulty d column kind e = cc
 
-head_is : (t u : List ℕ) (ts us : List (List ℕ)) → t ∷ ts ≡ u ∷ us → t ≡ u
+pub head_is : (t u : List ℕ) (ts us : List (List ℕ)) → t ∷ ts ≡ u ∷ us → t ≡ u
 head_is t u ts us e = cc
 
-tail_is : (t u : List ℕ) (ts us : List (List ℕ)) → t ∷ ts ≡ u ∷ us → ts ≡ us
+pub tail_is : (t u : List ℕ) (ts us : List (List ℕ)) → t ∷ ts ≡ u ∷ us → ts ≡ us
 tail_is t u ts us e = cc
 
-none_some : {A : Type 0} (x : A) → (let r : Option A = None in r) ≡ Some x → ⊥
+pub none_some : {A : Type 0} (x : A) → (let r : Option A = None in r) ≡ Some x → ⊥
 none_some x e = absurd cc
 
-cases_option : {A : Type 0} (o : Option A) → (o ≡ None) ⊎ ((x : A) × (o ≡ Some x))
+pub cases_option : {A : Type 0} (o : Option A) → (o ≡ None) ⊎ ((x : A) × (o ≡ Some x))
 cases_option None = inl refl
 cases_option (Some x) = inr (x, refl)
 
@@ -69,7 +69,7 @@ at_word f w ws end breaks column e no_line = record { before = []; after = w ∷
 
 -- ---- a word with a value
 
-abbrev SpellsSlot : {A : Type 0} → (List ℕ → Option A) → (A → Form) → List (List ℕ) → Line → Type 0
+abbrev pub SpellsSlot : {A : Type 0} → (List ℕ → Option A) → (A → Form) → List (List ℕ) → Line → Type 0
 SpellsSlot {A} value next ws line = (w : List ℕ) × (rest : List (List ℕ)) × (ws ≡ w ∷ rest) × (x : A) × (value w ≡ Some x) × Spells (next x) rest line
 
 slot_wrong : {A : Type 0} (f : Form) (kind : Kind) (value : List ℕ → Option A) (next : A → Form) (ws : List Word) (end : ℕ) (breaks : Option ℕ) (column : ℕ) (k : Kind)
@@ -93,34 +93,34 @@ slot_wrong {A} f kind value next (w ∷ ws) end breaks column k same e rec =
     ]
 
 -- a word that isn't there begins nothing
-not_word : (word : List ℕ) (ts rest : List (List ℕ)) → begins (is_word word) ts ≡ false → ts ≡ word ∷ rest → ⊥
+pub not_word : (word : List ℕ) (ts rest : List (List ℕ)) → begins (is_word word) ts ≡ false → ts ≡ word ∷ rest → ⊥
 not_word word ts rest n e = false≢true (sym n ∙ ap (begins (is_word word)) e ∙ is_itself word)
 
 -- ---- servers
 
-cases_is : (b : Bool) → (b ≡ true) ⊎ (b ≡ false)
+pub cases_is : (b : Bool) → (b ≡ true) ⊎ (b ≡ false)
 cases_is true = inl refl
 cases_is false = inr refl
 
-abbrev one_pair : ℕ → List ℕ × Split → Result (List ℕ × Split) Fault
+abbrev pub one_pair : ℕ → List ℕ × Split → Result (List ℕ × Split) Fault
 one_pair s more = Ok (s ∷ more.0, more.1)
 
-one_more : (s : ℕ) (next : List ℕ → Form) (r : Result (List ℕ × Split) Fault) (column : ℕ) (k : Kind) → ((r >>= one_pair s) >>= (λ (n : List ℕ × Split). read (next n.0) n.1)) ≡ Err (column, k) → (r >>= (λ n. read (next (s ∷ n.0)) n.1)) ≡ Err (column, k)
+pub one_more : (s : ℕ) (next : List ℕ → Form) (r : Result (List ℕ × Split) Fault) (column : ℕ) (k : Kind) → ((r >>= one_pair s) >>= (λ (n : List ℕ × Split). read (next n.0) n.1)) ≡ Err (column, k) → (r >>= (λ n. read (next (s ∷ n.0)) n.1)) ≡ Err (column, k)
 one_more s next (Ok x) column k e = e
 one_more s next (Err d) column k e = cc
 
-no_servers : (all : Bool) (last : ℕ) (next : List ℕ → Form) (ts : List (List ℕ)) (line : Line) → begins (is_server all) ts ≡ false → Spells (servers_above all last next) ts line → Spells (next []) ts line
+pub no_servers : (all : Bool) (last : ℕ) (next : List ℕ → Form) (ts : List (List ℕ)) (line : Line) → begins (is_server all) ts ≡ false → Spells (servers_above all last next) ts line → Spells (next []) ts line
 no_servers all last next ts line n ([], rest, e, [], s, d, r) = subst (λ (us : List (List ℕ)). Spells (next []) us line) (sym e) r
 no_servers all last next ts line n ([], rest, e, x ∷ ss, s, d, r) = absurd s
 no_servers all last next ts line n (m ∷ mine, rest, e, [], s, d, r) = absurd s
 no_servers all last next ts line n (m ∷ mine, rest, e, x ∷ ss, s, d, r) = absurd (false≢true (sym n ∙ ap (begins (is_server all)) e ∙ s.0))
 
-no_number : (all : Bool) (last : ℕ) (next : List ℕ → Form) (t : List ℕ) → is_server all t ≡ true → number_in (between (last + 1) 8) t ≡ None → (more : List (List ℕ)) (line : Line) → Spells (servers_above all last next) (t ∷ more) line → ⊥
+pub no_number : (all : Bool) (last : ℕ) (next : List ℕ → Form) (t : List ℕ) → is_server all t ≡ true → number_in (between (last + 1) 8) t ≡ None → (more : List (List ℕ)) (line : Line) → Spells (servers_above all last next) (t ∷ more) line → ⊥
 no_number all last next t server none more line ([], rest, e, ss, s, d, r) = false≢true (sym d ∙ ap (begins (is_server all)) (sym e) ∙ server)
 no_number all last next t server none more line (m ∷ mine, rest, e, [], s, d, r) = s
 no_number all last next t server none more line (m ∷ mine, rest, e, x ∷ ss, s, d, r) = none_some x (sym none ∙ ap (number_in (between (last + 1) 8)) (head_is t m more (mine ++ rest) e) ∙ s.1)
 
-one_server : (all : Bool) (last first : ℕ) (next : List ℕ → Form) (t : List ℕ) → is_server all t ≡ true → number_in (between (last + 1) 8) t ≡ Some first → (ts : List (List ℕ)) (line : Line) → Spells (servers_above all last next) (t ∷ ts) line
+pub one_server : (all : Bool) (last first : ℕ) (next : List ℕ → Form) (t : List ℕ) → is_server all t ≡ true → number_in (between (last + 1) 8) t ≡ Some first → (ts : List (List ℕ)) (line : Line) → Spells (servers_above all last next) (t ∷ ts) line
     → Spells (servers_above all first (λ ss. next (first ∷ ss))) ts line
 one_server all last first next t server some ts line ([], rest, e, ss, s, d, r) = absurd (false≢true (sym d ∙ ap (begins (is_server all)) (sym e) ∙ server))
 one_server all last first next t server some ts line (m ∷ mine, rest, e, [], s, d, r) = absurd s
@@ -147,12 +147,33 @@ servers_wrong all (w ∷ ws) last next end breaks column k e rec =
 
 -- ---- any form
 
-abbrev some_pair : ℕ × Split → Result (Option ℕ × Split) Fault
+abbrev pub some_pair : ℕ × Split → Result (Option ℕ × Split) Fault
 some_pair n = Ok (Some n.0, n.1)
 
-option_taken : (slot : NumberSlot) (next : Option ℕ → Form) (r : Result (ℕ × Split) Fault) (column : ℕ) (k : Kind) → ((r >>= some_pair) >>= (λ (n : Option ℕ × Split). read (next n.0) n.1)) ≡ Err (column, k) → (r >>= (λ n. read (next (Some n.0)) n.1)) ≡ Err (column, k)
+pub option_taken : (slot : NumberSlot) (next : Option ℕ → Form) (r : Result (ℕ × Split) Fault) (column : ℕ) (k : Kind) → ((r >>= some_pair) >>= (λ (n : Option ℕ × Split). read (next n.0) n.1)) ≡ Err (column, k) → (r >>= (λ n. read (next (Some n.0)) n.1)) ≡ Err (column, k)
 option_taken slot next (Ok x) column k e = e
 option_taken slot next (Err d) column k e = cc
+
+pub either_so : (word : List ℕ) (so other : Form) (t : List ℕ) → t ≡ word → (ts : List (List ℕ)) (line : Line) → Spells (either word so other) (t ∷ ts) line → Spells so ts line
+either_so word so other t is ts line (inl s) = subst (λ (us : List (List ℕ)). Spells so us line) (sym (tail_is t word ts s.0 s.1)) s.2
+either_so word so other t is ts line (inr s) = absurd (not_word word (t ∷ ts) ts s.0 (ap (λ (x : List ℕ). x ∷ ts) is))
+
+pub either_other : (word : List ℕ) (so other : Form) (ts : List (List ℕ)) (line : Line) → begins (is_word word) ts ≡ false → Spells (either word so other) ts line → Spells other ts line
+either_other word so other ts line n (inl s) = absurd (not_word word ts s.0 n s.1)
+either_other word so other ts line n (inr s) = s.1
+
+pub taken : (word : List ℕ) (slot : NumberSlot) (next : Option ℕ → Form) (ws : List Word) (v : Word) (rest : List Word) (end : ℕ) (breaks : Option ℕ) (column : ℕ) (kind : Kind) → ws ≡ v ∷ rest → v.text ≡ word → read (perhaps word slot next) (split ws end breaks) ≡ Err (column, kind)
+    → ((slot_at kinds.Number (number_in slot) (split rest end breaks) >>= some_pair) >>= (λ (n : Option ℕ × Split). read (next n.0) n.1)) ≡ Err (column, kind)
+unfolding option_at
+taken word slot next ws v rest end breaks column kind p t e = rw (p, t, is_itself word) at e
+
+pub perhaps_so : (word : List ℕ) (slot : NumberSlot) (next : Option ℕ → Form) (t : List ℕ) → t ≡ word → (ts : List (List ℕ)) (line : Line) → Spells (perhaps word slot next) (t ∷ ts) line → Spells (a_number slot (λ n. next (Some n))) ts line
+perhaps_so word slot next t is ts line (inl s) = (s.0, s.1, tail_is t word ts (s.0 ∷ s.1) s.2, s.3, s.4, s.5)
+perhaps_so word slot next t is ts line (inr s) = absurd (not_word word (t ∷ ts) ts s.0 (ap (λ (x : List ℕ). x ∷ ts) is))
+
+pub perhaps_none : (word : List ℕ) (slot : NumberSlot) (next : Option ℕ → Form) (ts : List (List ℕ)) (line : Line) → begins (is_word word) ts ≡ false → Spells (perhaps word slot next) ts line → Spells (next None) ts line
+perhaps_none word slot next ts line n (inl s) = absurd (not_word word ts (s.0 ∷ s.1) n s.2)
+perhaps_none word slot next ts line n (inr s) = s.1
 
 pub wrong : (f : Form) (ws : List Word) (end : ℕ) (breaks : Option ℕ) (column : ℕ) (kind : Kind) → read f (split ws end breaks) ≡ Err (column, kind) → Wrong f ws end breaks column
 unfolding option_at
@@ -170,21 +191,13 @@ wrong (either word so other) ws end breaks column kind e =
           behind (either word so other) so v.0 v.1 end breaks column (either_so word so other v.0.text v.3) (wrong so v.1 end breaks column kind e'))
       | inr t ↦ stays (either word so other) other (is_word word) ws end breaks column t.0 (either_other word so other) (wrong other ws end breaks column kind t.1)
     ]
-  where
-    either_so : (word : List ℕ) (so other : Form) (t : List ℕ) → t ≡ word → (ts : List (List ℕ)) (line : Line) → Spells (either word so other) (t ∷ ts) line → Spells so ts line
-    either_so word so other t is ts line (inl s) = subst (λ (us : List (List ℕ)). Spells so us line) (sym (tail_is t word ts s.0 s.1)) s.2
-    either_so word so other t is ts line (inr s) = absurd (not_word word (t ∷ ts) ts s.0 (ap (λ (x : List ℕ). x ∷ ts) is))
-
-    either_other : (word : List ℕ) (so other : Form) (ts : List (List ℕ)) (line : Line) → begins (is_word word) ts ≡ false → Spells (either word so other) ts line → Spells other ts line
-    either_other word so other ts line n (inl s) = absurd (not_word word ts s.0 n s.1)
-    either_other word so other ts line n (inr s) = s.1
 wrong (a_number slot next) ws end breaks column kind e = slot_wrong (a_number slot next) kinds.Number (number_in slot) next ws end breaks column kind (λ ts line s. s) e (λ x rest r. wrong (next x) rest end breaks column kind r)
 wrong (a_path next) ws end breaks column kind e = slot_wrong (a_path next) kinds.Path path_in next ws end breaks column kind (λ ts line s. s) e (λ x rest r. wrong (next x) rest end breaks column kind r)
 wrong (a_name next) ws end breaks column kind e = slot_wrong (a_name next) kinds.Path name_in next ws end breaks column kind (λ ts line s. s) e (λ x rest r. wrong (next x) rest end breaks column kind r)
 wrong (some_rights next) ws end breaks column kind e = slot_wrong (some_rights next) kinds.Word rights_in next ws end breaks column kind (λ ts line s. s) e (λ x rest r. wrong (next x) rest end breaks column kind r)
 wrong (a_text slot next) ws end breaks column kind e = slot_wrong (a_text slot next) kinds.Text (text_in slot) next ws end breaks column kind (λ ts line s. s) e (λ x rest r. wrong (next x) rest end breaks column kind r)
 wrong (perhaps word slot next) ws end breaks column kind e =
-    elim (cases_next (is_next (is_word word) ws)) [
+    elim (cases_is (is_next (is_word word) ws)) [
       | inl there ↦
           let v = first_is word ws there in
           let e' = option_taken slot next (slot_at kinds.Number (number_in slot) (split v.1 end breaks)) column kind (taken word slot next ws v.0 v.1 end breaks column kind v.2 v.3 e) in
@@ -193,20 +206,4 @@ wrong (perhaps word slot next) ws end breaks column kind e =
           slot_wrong (a_number slot (λ n. next (Some n))) kinds.Number (number_in slot) (λ n. next (Some n)) v.1 end breaks column kind (λ ts line s. s) e' (λ x rest r. wrong (next (Some x)) rest end breaks column kind r)))
       | inr other ↦ stays (perhaps word slot next) (next None) (is_word word) ws end breaks column other (perhaps_none word slot next) (wrong (next None) ws end breaks column kind (rw other at e))
     ]
-  where
-    cases_next : (b : Bool) → (b ≡ true) ⊎ (b ≡ false)
-    cases_next true = inl refl
-    cases_next false = inr refl
-
-    taken : (word : List ℕ) (slot : NumberSlot) (next : Option ℕ → Form) (ws : List Word) (v : Word) (rest : List Word) (end : ℕ) (breaks : Option ℕ) (column : ℕ) (kind : Kind) → ws ≡ v ∷ rest → v.text ≡ word → read (perhaps word slot next) (split ws end breaks) ≡ Err (column, kind)
-        → ((slot_at kinds.Number (number_in slot) (split rest end breaks) >>= some_pair) >>= (λ (n : Option ℕ × Split). read (next n.0) n.1)) ≡ Err (column, kind)
-    taken word slot next ws v rest end breaks column kind p t e = rw (p, t, is_itself word) at e
-
-    perhaps_so : (word : List ℕ) (slot : NumberSlot) (next : Option ℕ → Form) (t : List ℕ) → t ≡ word → (ts : List (List ℕ)) (line : Line) → Spells (perhaps word slot next) (t ∷ ts) line → Spells (a_number slot (λ n. next (Some n))) ts line
-    perhaps_so word slot next t is ts line (inl s) = (s.0, s.1, tail_is t word ts (s.0 ∷ s.1) s.2, s.3, s.4, s.5)
-    perhaps_so word slot next t is ts line (inr s) = absurd (not_word word (t ∷ ts) ts s.0 (ap (λ (x : List ℕ). x ∷ ts) is))
-
-    perhaps_none : (word : List ℕ) (slot : NumberSlot) (next : Option ℕ → Form) (ts : List (List ℕ)) (line : Line) → begins (is_word word) ts ≡ false → Spells (perhaps word slot next) ts line → Spells (next None) ts line
-    perhaps_none word slot next ts line n (inl s) = absurd (not_word word ts (s.0 ∷ s.1) n s.2)
-    perhaps_none word slot next ts line n (inr s) = s.1
 wrong (servers_above all last next) ws end breaks column kind e = servers_wrong all ws last next end breaks column kind e (λ ss rest r. wrong (next ss) rest end breaks column kind r)

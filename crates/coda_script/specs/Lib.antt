@@ -8,3 +8,4 @@ pub mod Spelling
 pub mod Ranges
 pub mod Refusals
 pub mod FirstWrong
+pub mod FirstColumn

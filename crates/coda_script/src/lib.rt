@@ -18,7 +18,7 @@ mod turns;
 
 pub use coda_engine::Kind;
 pub use fault::LineFault;
-pub use laws::{each_line_has_a_spelling, wrong_columns_are_wrong};
+pub use laws::{each_line_has_a_spelling, wrong_columns_are_first, wrong_columns_are_wrong};
 pub use line::{Content, Expansion, Line, Rights, Rule, Servers, Strength, Task};
 pub use reading::read_line;
 pub use refusal::Refusal;
