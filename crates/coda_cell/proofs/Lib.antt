@@ -33,3 +33,4 @@ pub mod SpelledLetters
 pub mod Alone
 pub mod Unlooked
 pub mod Ordered
+pub mod Checked

@@ -17,3 +17,4 @@ pub mod Spelled
 pub mod Laws
 pub mod Alone
 pub mod Orders
+pub mod Checks
