@@ -32,5 +32,5 @@ pub mod SpelledLines
 pub mod SpelledLetters
 pub mod Alone
 pub mod Unlooked
-pub mod Ordered
 pub mod Checked
+pub mod Ordered

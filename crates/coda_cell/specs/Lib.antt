@@ -16,5 +16,5 @@ pub mod Runs
 pub mod Spelled
 pub mod Laws
 pub mod Alone
-pub mod Orders
 pub mod Checks
+pub mod Orders

@@ -23,8 +23,8 @@ pub fn clients_alone_meet_no_conflict()
 {}
 
 /// A law of lines: one that names an actor that isn't there is refused for the leftmost of these, whatever else is wrong with it;
-/// then a log isn't sent over a link that is down; and an operation is refused for a log that is full only where acceptance has nothing
-/// against it.
+/// then a log isn't sent over a link that is down. An operation is refused for content that is too long, then for the first check that
+/// refuses, and for a log that is full only where acceptance has nothing against it.
 pub fn refusals_come_in_order()
     ensures { RefusalsComeInOrder }
 {}
