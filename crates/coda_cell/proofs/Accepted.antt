@@ -112,7 +112,7 @@ pub held_is : (o : Option Node) (fid there : Fid) → held o fid ≡ Ok there �
 held_is None fid there h = cc
 held_is (Some node) fid there h = (ok_is fid there h, refl)
 
-resolve_has : (m : Nodes) (at : Fid) (names : List Name) (fid : Fid) → resolve m at names ≡ Ok fid → has m fid ≡ true
+pub resolve_has : (m : Nodes) (at : Fid) (names : List Name) (fid : Fid) → resolve m at names ≡ Ok fid → has m fid ≡ true
 resolve_has m at [] fid h = let r = held_is (map.get m at) at fid h in subst (λ f. has m f ≡ true) r.0 r.1
 resolve_has m at (name ∷ names) fid h = let a = found_then (step_from (map.get m at) at name) (λ next. resolve m next names) fid h in resolve_has m a.0 names fid a.2
 

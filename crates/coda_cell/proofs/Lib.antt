@@ -32,4 +32,5 @@ pub mod SpelledLines
 pub mod SpelledLetters
 pub mod Alone
 pub mod Unlooked
+pub mod Checked
 pub mod Ordered

@@ -2,6 +2,7 @@
 use Rattle.std.proofs.Common.{◌≡◌, ℕ, Bool, true, false, if◌then◌else◌, List, [], ◌∷◌, ◌++◌, ◌==◌, ◌||◌, ◌&&◌, not, is_some, Option, Some, None, Result, Ok, Err, refl, sym, ap, ◌∙◌, subst, ◌⊎◌, inl, inr}
 use Rattle.std.specs.FinMap as map
 use Rattle.std.specs.Option.{option_map_or, unwrap_or}
+use Rattle.std.specs.Result.{result_err}
 use Rattle.std.proofs.lemmas.Bool.{eqb-true}
 use Rattle.coda_fid.specs.Fid.{same_fid, root_of}
 use Rattle.coda_fid.specs.declared.fid.Fid.{Fid}
@@ -26,6 +27,8 @@ use Rattle.coda_cell.specs.Held.{is_below, some_below}
 use Rattle.coda_cell.specs.Looking.{then_find, held, found, step_in, step_from, resolve, entries_of}
 use Rattle.coda_cell.specs.State.{ClientState, ReplicaState, CellState, Event}
 use Rattle.coda_cell.specs.Accepting.{Sight, Accepted, is_used_up, next_fid, unless_used, new_at, new_in, new_under, new_place, at_root, accept_creation, store_in, store_at, setattr_at, remove_in, remove_at, rmdir_of, rmdir_in, rmdir_at, held_bound, bound_in, bound_at, spot, place, is_dir_at, with_version, replaced_by, move_to, rename_to, rename_root, accept_rename, accept_remove, accept_rmdir, sight_of, accept}
+use Rattle.coda_cell.specs.Checks.{ask_checks, first_refusal}
+use Rattle.coda_cell.proofs.Checked.{acceptance_goes_by_checks}
 use Rattle.coda_cell.specs.Asking.{Said, answer_to, look_ups, behind_fetches, operate, operate_unless}
 use Rattle.coda_cell.specs.Refusing.{refusal}
 use Rattle.coda_letters.specs.Sent.{Sent, client_of, server_of, sent_at}
@@ -316,6 +319,23 @@ module _ (offers : Option Nodes) (c : ClientState) (time volume : ℕ) (ask : As
   abbrev accepted : Accepted
   accepted = accept (sight_of (behind_fetches c (look_ups offers c.held volume ask)) volume) volume ask
 
+  too_large : (length : ℕ) → too_big ask ≡ Some length → (operate offers c time volume ask).said ≡ Err (refused.TooBig length)
+  unfolding operate
+  too_large length is = ap (λ o. (operate_unless o offers c time volume ask).said) is
+
+  first_check : (why : Refused) → too_big ask ≡ None → first_refusal (sight_of (behind_fetches c (look_ups offers c.held volume ask)) volume) volume (ask_checks ask) ≡ Some why → (operate offers c time volume ask).said ≡ Err why
+  unfolding operate
+  first_check why small first =
+      ap (λ o. (operate_unless o offers c time volume ask).said) small
+      ∙ by accepted (acceptance_goes_by_checks (sight_of (behind_fetches c (look_ups offers c.held volume ask)) volume) volume ask ∙ first)
+    where
+      some_why : (x y : Refused) → Some x ≡ Some y → x ≡ y
+      some_why x y e = cc
+
+      by : (r : Accepted) → result_err r ≡ Some why → (answer_to (entries_of (look_ups offers c.held volume ask)) (c.volumes volume) time volume r).said ≡ Err why
+      by (Ok op) e = cc
+      by (Err other) e = ap (λ w. Err w) (some_why other why e)
+
   log_full : (operate offers c time volume ask).said ≡ Err refused.LogFull → (op : Op) × (accepted ≡ Ok op)
   unfolding operate
   log_full is = by (too_big ask) is
@@ -340,5 +360,7 @@ refusals_come_in_order = record {
   unsent = λ s client volume server window reply events does all down. send_down s client volume server window reply events does all down;
   missed = λ s message reply events none does. letter_missed s message reply events none does;
   stopped = λ s message sent reply events some down does. letter_stopped s message reply events sent some down does;
+  large = λ offers c time volume ask length is. too_large offers c time volume ask length is;
+  checked = λ offers c time volume ask why small first. first_check offers c time volume ask why small first;
   full = λ offers c time volume ask is. log_full offers c time volume ask is;
 }

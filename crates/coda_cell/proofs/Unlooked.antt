@@ -76,7 +76,7 @@ resolve_push m at (first ∷ front) name = by (step_from (map.get m at) at first
     by (Ok next) rest = rest next
 
 -- a path with a last name is its front and that name
-ended : (names : List Name) (e : List Name × Name) → ending names ≡ Some e → names ≡ e.0 ++ e.1 ∷ []
+pub ended : (names : List Name) (e : List Name × Name) → ending names ≡ Some e → names ≡ e.0 ++ e.1 ∷ []
 ended [] e is = cc
 ended (name ∷ []) e is = let same : ([], name) ≡ e = cc in ap (λ (p : List Name × Name). p.0 ++ p.1 ∷ []) same
 ended (name ∷ other ∷ names) e is = by (ending (other ∷ names)) refl (ended (other ∷ names)) is
@@ -87,7 +87,7 @@ ended (name ∷ other ∷ names) e is = by (ending (other ∷ names)) refl (ende
         let same : (name ∷ d.0, d.1) ≡ e = cc in
         ap (λ l. name ∷ l) (rest d some) ∙ ap (λ (p : List Name × Name). p.0 ++ p.1 ∷ []) same
 
-not_ended : (names : List Name) → ending names ≡ None → names ≡ []
+pub not_ended : (names : List Name) → ending names ≡ None → names ≡ []
 not_ended [] is = refl
 not_ended (name ∷ []) is = cc
 not_ended (name ∷ other ∷ names) is = by (ending (other ∷ names)) refl (not_ended (other ∷ names)) is
@@ -97,7 +97,7 @@ not_ended (name ∷ other ∷ names) is = by (ending (other ∷ names)) refl (no
     by (Some d) some rest x = cc
 
 -- a path leads to the object of its spot
-leads_to_spot : (m : Nodes) (volume : ℕ) (e : List Name × Name) → resolve m (root_of volume) (e.0 ++ e.1 ∷ []) ≡ then_find (spot m volume e) (λ at. Ok at.1)
+pub leads_to_spot : (m : Nodes) (volume : ℕ) (e : List Name × Name) → resolve m (root_of volume) (e.0 ++ e.1 ∷ []) ≡ then_find (spot m volume e) (λ at. Ok at.1)
 leads_to_spot m volume e = resolve_push m (root_of volume) e.0 e.1 ∙ by (resolve m (root_of volume) e.0)
   where
     last : (dir : Fid) (r : Result Fid Refused) → r ≡ then_find (then_find r (λ there. Ok (dir, there))) (λ (at : Fid × Fid). Ok at.1)

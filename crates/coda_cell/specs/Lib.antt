@@ -16,4 +16,5 @@ pub mod Runs
 pub mod Spelled
 pub mod Laws
 pub mod Alone
+pub mod Checks
 pub mod Orders

@@ -8,14 +8,16 @@ use Rattle.coda_script.specs.declared.line.Task.TheVariants as task
 use Rattle.coda_script.specs.declared.line.Line.{Line}
 use Rattle.coda_script.specs.declared.line.Line.TheVariants as line
 use Rattle.coda_script.specs.declared.reply.Reply.{Reply}
-use Rattle.coda_cell.specs.Ask.{Asked}
+use Rattle.coda_cell.specs.Ask.{Asked, too_big}
 use Rattle.coda_cell.specs.State.{ClientState, CellState, Event}
 use Rattle.coda_cell.specs.Accepting.{sight_of, accept}
 use Rattle.coda_cell.specs.Asking.{look_ups, behind_fetches, operate}
+use Rattle.coda_cell.specs.Checks.{ask_checks, first_refusal}
 use Rattle.coda_cell.specs.Refusing.{refusal}
 use Rattle.coda_letters.specs.Sent.{Sent, client_of, server_of, sent_at}
 use Rattle.coda_cell.specs.Steps.{Named, client_named, volume_named, server_named, holder_named, on_volume, on_holder, Does}
-use Rattle.coda_cell.specs.Refused.{LogFull, LinkDown, NoSuchActor, NoMessage}
+use Rattle.coda_cell.specs.Refused.{Refused}
+use Rattle.coda_cell.specs.Refused.{TooBig, LogFull, LinkDown, NoSuchActor, NoMessage}
 
 -- the actors that a task names, from left to right
 abbrev pub named_in : CellState → Task → List Named
@@ -64,6 +66,12 @@ pub record RefusalsComeInOrder : Type 0 where
       → Does s (line.Deliver message) reply events ⊎ Does s (line.Lose message) reply events → (reply ≡ refusal (NoMessage message)) × (events ≡ [])
   pub stopped : (s : CellState) (message : ℕ) (sent : Sent) (reply : Reply) (events : List Event) → sent_at message s.waiting ≡ Some sent → s.links (client_of sent) (server_of sent) ≡ Down
       → Does s (line.Deliver message) reply events → (reply ≡ refusal LinkDown) × (events ≡ [])
-  -- an operation is refused for a log that is full only where acceptance has nothing against it
+  -- an operation is refused first for content that is too long, then for the first check that refuses
+  pub large : (offers : Option Nodes) (c : ClientState) (time volume : ℕ) (ask : Asked) (length : ℕ) → too_big ask ≡ Some length
+      → (operate offers c time volume ask).said ≡ Err (TooBig length)
+  pub checked : (offers : Option Nodes) (c : ClientState) (time volume : ℕ) (ask : Asked) (why : Refused) → too_big ask ≡ None
+      → first_refusal (sight_of (behind_fetches c (look_ups offers c.held volume ask)) volume) volume (ask_checks ask) ≡ Some why
+      → (operate offers c time volume ask).said ≡ Err why
+  -- and for a log that is full only where acceptance has nothing against it
   pub full : (offers : Option Nodes) (c : ClientState) (time volume : ℕ) (ask : Asked) → (operate offers c time volume ask).said ≡ Err LogFull
       → (op : Op) × (accept (sight_of (behind_fetches c (look_ups offers c.held volume ask)) volume) volume ask ≡ Ok op)

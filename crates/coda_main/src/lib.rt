@@ -8,8 +8,8 @@ mod report;
 mod top;
 
 pub use coda_cell::{
-    accepted_operations_certify, cells_are_kept, clients_alone_meet_no_conflict, lines_keep_cells,
-    own_operations_keep_parents,
+    acceptance_goes_by_checks, accepted_operations_certify, cells_are_kept,
+    clients_alone_meet_no_conflict, lines_keep_cells, own_operations_keep_parents,
 };
 pub use coda_engine::{Kind, Status};
 pub use coda_report::volumes_are_shown_in_path_order;

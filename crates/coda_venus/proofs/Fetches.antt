@@ -4,12 +4,7 @@ use Rattle.std.specs.Prelude.{IsSome, OnOk, OnErr}
 use Rattle.std.specs.FinMap as map
 use Rattle.coda_fid.specs.declared.fid.Fid.{Fid}
 use Rattle.coda_tree.specs.declared.node.Node.{Node}
-use Rattle.coda_tree.specs.declared.node.NodeKind.{NodeKind}
-use Rattle.coda_tree.specs.declared.node.NodeKind.TheVariants.{File, Link, Dir}
-use Rattle.coda_tree.specs.Bindings.{Name}
-use Rattle.coda_tree.specs.Volume.{Nodes, IsDir, IsDirNode, IsDirAt, bindings, child, child_of, parent_of}
-use Rattle.coda_tree.proofs.Parents.{parent_sound}
-use Rattle.coda_fid.specs.Name.{name_cmp}
+use Rattle.coda_tree.specs.Volume.{Nodes, parent_of}
 use Rattle.coda_journal.specs.declared.header.Header.{Header}
 use Rattle.coda_record.specs.Entries.{client_entry, client_payload, node}
 use Rattle.coda_record.specs.Form.{four}
@@ -43,19 +38,6 @@ may_fetch header history code fid parent n is absent place f p fits =
 
 -- ---- its parent
 
-binds_dir : (kind : NodeKind) (name : Name) (fid : Fid) → map.get (bindings kind) name ≡ Some fid → IsDir kind
-binds_dir (File content) name fid h = (let no : None ≡ Some fid = sym (map.get-empty name_cmp name) ∙ h in cc)
-binds_dir (Link target) name fid h = (let no : None ≡ Some fid = sym (map.get-empty name_cmp name) ∙ h in cc)
-binds_dir (Dir entries) name fid h = tt
-
-binds_node : (o : Option Node) (name : Name) (fid : Fid) → child_of o name ≡ Some fid → IsDirNode o
-binds_node None name fid h = cc
-binds_node (Some n) name fid h = binds_dir n.kind name fid h
-
--- what binds an object is a directory
-pub binds_at : (m : Nodes) (dir : Fid) (name : Name) (fid : Fid) → child m dir name ≡ Some fid → IsDirAt m dir
-binds_at m dir name fid h = binds_node (map.get m dir) name fid h
-
 -- the parent that an object gets is one that it may have
 pub parent_fits : (held : Held) (fid : Fid) → IsMissed held.nodes fid → IsParent held fid (parent_for held fid)
 parent_fits held fid missed = by (map.get held.parents fid) refl
@@ -68,7 +50,7 @@ parent_fits held fid missed = by (map.get held.parents fid) refl
         | inr some ↦ (let no : false ≡ true = ap is_some (sym at) ∙ some in cc)
       ],
     )
-    bound (Some dir) own at = let b = parent_sound held.nodes fid dir at in inr (missed.absent, binds_at held.nodes dir b.0 fid b.1, b)
+    bound (Some dir) own at = inr (missed.absent, inr at)
 
     by : (o : Option Fid) → map.get held.parents fid ≡ o → IsParent held fid (parent_for_of o held.nodes fid)
     by None own = bound (parent_of held.nodes fid) own refl

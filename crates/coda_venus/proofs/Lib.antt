@@ -27,7 +27,6 @@ pub mod Reading
 pub mod Recoveries
 pub mod Taking
 pub mod Operations
-pub mod Bindings
 pub mod Fetches
 pub mod Children
 pub mod Reached

@@ -4,8 +4,7 @@ use Rattle.std.specs.FinMap as finite
 use Rattle.coda_fid.specs.Fid.{root_of}
 use Rattle.coda_fid.specs.declared.fid.Fid.{Fid}
 use Rattle.coda_fid.specs.declared.op.Record.{Record}
-use Rattle.coda_tree.specs.Volume.{IsDirAt, child}
-use Rattle.coda_tree.specs.Bindings.{Name}
+use Rattle.coda_tree.specs.Volume.{Nodes, IsDirAt, parent_of}
 use Rattle.coda_cancel.specs.Cancel.{add}
 use Rattle.coda_cancel.specs.Weights.{fits}
 use Rattle.coda_cml.specs.Chunks.{chunk_length, freeze_refusal}
@@ -46,10 +45,14 @@ state_of header history = left_by client_after_all (new_client header.number hea
 abbrev pub IsDirty : ClientState → Fid → Type 0
 IsDirty c fid = is_mentioned (c.volumes fid.volume) fid ≡ true
 
+-- the parent that an object which isn't cached may get: a directory that is cached; of the root of a volume only the first that binds it
+abbrev pub MayBeParent : Nodes → Fid → Fid → Type 0
+MayBeParent m fid dir = ((fid ≢ root_of fid.volume) × IsDirAt m dir) ⊎ (parent_of m fid ≡ Some dir)
+
 -- the parent that an object is cached with: its own one where it is cached, none for the root of a volume, and else a directory that is cached
 abbrev pub IsParent : Held → Fid → Option Fid → Type 0
 IsParent held fid None = (finite.get held.parents fid ≡ None) × (IsSome (finite.get held.nodes fid) ⊎ (fid ≡ root_of fid.volume))
-IsParent held fid (Some dir) = (finite.get held.parents fid ≡ Some dir) ⊎ ((finite.get held.nodes fid ≡ None) × IsDirAt held.nodes dir × ((name : Name) × (child held.nodes dir name ≡ Some fid)))
+IsParent held fid (Some dir) = (finite.get held.parents fid ≡ Some dir) ⊎ ((finite.get held.nodes fid ≡ None) × MayBeParent held.nodes fid dir)
 
 -- An operation is what acceptance makes of some ask, with the next number, where the log has room for it and fewer than 2^32 - 1 were
 -- performed.

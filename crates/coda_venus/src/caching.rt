@@ -1,24 +1,23 @@
 // What the journal has of objects that were fetched into a client's cache, and of those that were dropped from it.
-ghost use Rattle.std.specs.Prelude.{◌≡◌, ◌≢◌, true, false, None, Some, Err, OnOk, OnErr, IsSome};
+ghost use Rattle.std.specs.Prelude.{◌≡◌, true, Some, Err, OnOk, OnErr};
 ghost use Rattle.std.specs.BTreeMap as tree;
 ghost use Rattle.std.specs.FinMap as map;
 ghost use Rattle.std.specs.Ordering.{nat_cmp};
-ghost use Rattle.coda_tree.specs.Bindings.{Name as AName};
-ghost use Rattle.coda_tree.specs.Volume.{child, IsDirAt};
+ghost use Rattle.coda_tree.specs.Volume.{IsDirAt};
 ghost use Rattle.coda_cancel.specs.Dropping.{mentioning};
 ghost use Rattle.coda_cml.specs.Steady.{any_record};
 ghost use Rattle.coda_record.specs.declared.entry.ClientEntry.TheVariants.{Fetched as FetchedEntry, Dropped as DroppedEntry};
 ghost use Rattle.coda_venus.specs.Accepting.{is_mentioned};
 ghost use Rattle.coda_venus.specs.Code.{volume_in};
 ghost use Rattle.coda_venus.specs.Held.{held_after_fetch};
-ghost use Rattle.coda_venus.specs.History.{IsParent, MayEnter};
+ghost use Rattle.coda_venus.specs.History.{MayBeParent, IsParent, MayEnter};
 ghost use Rattle.coda_venus.specs.State.{ClientState, client_after};
 
 use crate::client::Client;
 use crate::recovery::Unfit;
 use coda_cancel::LentRecords;
 use coda_fid::Fid;
-use coda_tree::{Entries, Node, NodeKind};
+use coda_tree::{Node, NodeKind};
 use std::alloc::AllocError;
 
 // Whether one of some records mentions an object.
@@ -31,21 +30,6 @@ fn any_mentions(fid: Fid, mut records: LentRecords<'_>) -> bool
         };
         if rec.op.mentions(fid) {
             return true;
-        }
-    }
-    false
-}
-
-// Whether an object is bound at one of some names.
-fn is_bound(entries: &Entries, fid: Fid) -> bool
-    ensures yes { result ≡ true → (name : AName) × (map.get entries.now name ≡ Some fid) }
-    ensures no { result ≡ false → (name : AName) → map.get entries.now name ≢ Some fid }
-{
-    for index in 0..entries.len() {
-        if let Some((_, bound)) = entries.at(index) {
-            if bound == fid {
-                return true;
-            }
         }
     }
     false
@@ -67,14 +51,14 @@ impl Client {
         }
     }
 
-    // Whether an object that is held binds another, at whatever name. It costs its names.
-    fn holds_in(&self, dir: Fid, fid: Fid) -> bool
-        ensures yes { result ≡ true → (name : AName) × (child self.now.nodes dir name ≡ Some fid) }
-        ensures no { result ≡ false → (name : AName) → child self.now.nodes dir name ≢ Some fid }
+    // Whether a directory is held at a fid.
+    fn holds_dir(&self, dir: Fid) -> bool
+        ensures yes { result ≡ true → IsDirAt self.now.nodes dir }
+        ensures no { IsDirAt self.now.nodes dir → result ≡ true }
     {
         match self.nodes.get(dir) {
             Some(node) => match &node.kind {
-                NodeKind::Dir(entries) => is_bound(entries, fid),
+                NodeKind::Dir(_) => true,
                 NodeKind::File(_) => false,
                 NodeKind::Link(_) => false,
             },
@@ -82,15 +66,15 @@ impl Client {
         }
     }
 
-    // Whether a directory that is held binds an object. It costs the directory's names only where another one may bind it too.
-    fn is_bound_in(&self, dir: Fid, fid: Fid) -> bool
-        ensures yes { result ≡ true → IsDirAt self.now.nodes dir × ((name : AName) × (child self.now.nodes dir name ≡ Some fid)) }
-        ensures no { result ≡ false → (name : AName) → child self.now.nodes dir name ≢ Some fid }
+    // Whether an object that isn't cached may get this parent.
+    fn may_be_below(&self, fid: Fid, dir: Fid) -> bool
+        ensures yes { result ≡ true → MayBeParent self.now.nodes fid dir }
+        ensures no { MayBeParent self.now.nodes fid dir → result ≡ true }
     {
-        match self.nodes.binder(fid) {
-            Some(binder) => binder == dir || self.holds_in(dir, fid),
-            None => false,
+        if self.nodes.binder(fid) == Some(dir) {
+            return true;
         }
+        fid != Fid::root(fid.volume) && self.holds_dir(dir)
     }
 
     // Whether this is the parent that an object is cached with.
@@ -102,7 +86,7 @@ impl Client {
         match parent {
             None => { self.parents.get(fid).is_none() && (cached || fid == Fid::root(fid.volume)) }
             Some(dir) => {
-                self.parents.get(fid) == Some(dir) || (!cached && self.is_bound_in(dir, fid))
+                self.parents.get(fid) == Some(dir) || (!cached && self.may_be_below(fid, dir))
             }
         }
     }
