@@ -74,6 +74,7 @@ answer_letter server client volume number answer bytes spelled = ap (λ bs. let 
 abbrev pub fault_of : NetFault → LetterFault
 fault_of (net_faults.NoMessage number) = faults.NoMessage number
 fault_of net_faults.LinkDown = faults.LinkDown
+fault_of (net_faults.NotShorter n) = faults.Memory
 fault_of net_faults.Memory = faults.Memory
 
 module _ (waiting : Waiting) (net : Pool) (number : ℕ) (are : AreLetters waiting net) where
@@ -140,12 +141,12 @@ module _ (waiting : Waiting) (old new : Pool) (number : ℕ) (are : AreLetters w
   here : letter_at old.letters number ≡ option_map letter_of (sent_at number waiting)
   here = ap (λ ls. letter_at ls number) are.letters ∙ at_number number waiting
 
-  pub lost_so : (letter : Letter) → letter_at old.letters number ≡ Some letter → new.letters ≡ without_letter old.letters number → Loses waiting number (Ok tt) new
+  pub lost_so : (letter : Letter) → letter_at old.letters number ≡ Some letter → new.letters ≡ without_letter old.letters number → Loses waiting number (Ok letter) new
   lost_so letter there gone = by (sent_at number waiting) (sym here ∙ there)
     where
-      by : (o : Option Sent) → option_map letter_of o ≡ Some letter → LosesTo o waiting number (Ok tt) new
+      by : (o : Option Sent) → option_map letter_of o ≡ Some letter → LosesTo o waiting number (Ok letter) new
       by None e = cc
-      by (Some sent) e = (refl, letters_lost waiting old new number are gone)
+      by (Some sent) e = (let same : letter_of sent ≡ letter = cc in ap Ok (sym same), letters_lost waiting old new number are gone)
 
   pub none_lost : letter_at old.letters number ≡ None → new ≡ old → Loses waiting number (Err (faults.NoMessage number)) new
   none_lost none same = by (sent_at number waiting) (sym here ∙ none)

@@ -1,12 +1,13 @@
 -- Letters as what they say: a client's chunk on its way to a server, or the answer to it on its way back.
 use Rattle.std.specs.Prelude.{◌≡◌, ℕ, Bool, true, false, nat_eq, List, [], ◌∷◌, ◌++◌, map, drop, Option}
 use Rattle.std.specs.Map.{lookup, remove_entry}
+use Rattle.coda_fid.specs.declared.fid.Fid.{Fid}
 use Rattle.coda_fid.specs.declared.op.Record.{Record}
 use Rattle.coda_cancel.specs.Cancel.{fold}
 use Rattle.coda_record.specs.declared.answer.Answer.{Answer}
 use Rattle.coda_record.specs.Spelling.{HasSpelling}
 use Rattle.coda_wire.specs.declared.message.Message.{Message}
-use Rattle.coda_wire.specs.declared.message.Message.TheVariants.{Chunk, Verdict}
+use Rattle.coda_wire.specs.declared.message.Message.TheVariants.{Chunk, Verdict, Break}
 use Rattle.coda_wire.specs.Table.{message}
 use Rattle.coda_net.specs.declared.letter.Letter.{Letter}
 use Rattle.coda_net.specs.Pool.{Letters, Pool, lost_for, found}
@@ -44,6 +45,10 @@ bytes_of sent = (message.piece (message_of sent)).bytes
 -- the letter of it, which may be lost
 abbrev pub letter_of : Sent → Letter
 letter_of sent = record { client = client_of sent; server = server_of sent; to_server = is_to_server sent; lossy = true; bytes = bytes_of sent }
+
+-- the letter of a break, which may not be lost for the limits
+abbrev pub break_letter : ℕ → ℕ → ℕ → List Fid → Letter
+break_letter server client volume fids = record { client = client; server = server; to_server = false; lossy = false; bytes = (message.piece (Break server client volume fids)).bytes }
 
 -- what waits, by the numbers of its letters, in their order
 abbrev pub Waiting : Type 0

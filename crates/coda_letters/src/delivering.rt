@@ -26,6 +26,8 @@ pub fn deliver(alloc: Global, net: &Net, number: u64) -> Result<Message, LetterF
         Err(NetFault::NoMessage(_)) => return Err(LetterFault::NoMessage(number)),
         Err(NetFault::LinkDown) => return Err(LetterFault::LinkDown),
         Err(NetFault::Memory) => return Err(LetterFault::Memory),
+        // No delivery asks for this.
+        Err(NetFault::NotShorter(_)) => return Err(LetterFault::Memory),
     };
     match read(alloc, letter.bytes.bytes()) {
         Ok(message) => Ok(message),

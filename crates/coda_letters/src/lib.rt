@@ -1,12 +1,14 @@
 //! Letters between clients and servers as what they say: chunks on their way to be decided, and the answers to them.
 #![tactic(auto)]
 
+mod breaking;
 mod delivering;
 mod fault;
 mod law;
 mod losing;
 mod sending;
 
+pub use breaking::post_break;
 pub use delivering::deliver;
 pub use fault::LetterFault;
 pub use law::{bytes_tell_messages, chunks_are_light};

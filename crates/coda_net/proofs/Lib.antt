@@ -3,3 +3,4 @@ mod Kept
 mod Lost
 mod Found
 mod Waiting
+mod Trimmed

@@ -1,9 +1,9 @@
 -- What holds of the letters that wait, in words of which are lost.
-use Rattle.std.specs.Prelude.{◌≡◌, ◌<◌, ◌≤◌, ◌+◌, ℕ, Bool, true, false, not, List, [], ◌∷◌, ◌++◌, drop, Some, None, if◌then◌else◌}
+use Rattle.std.specs.Prelude.{◌≡◌, ◌<◌, ◌≤◌, ◌+◌, ℕ, Bool, true, false, not, List, [], ◌∷◌, ◌++◌, drop, Some, None, option_map, if◌then◌else◌}
 use Rattle.std.specs.List.{filter}
-use Rattle.std.specs.Map.{values_of}
+use Rattle.std.specs.Map.{keys_of, values_of}
 use Rattle.coda_net.specs.declared.letter.Letter.{Letter}
-use Rattle.coda_net.specs.Pool.{Letters, lossy_count, lossy_bytes, are_within, lost_for, posted_to, without, found, letter_at, AreRising, AreKept}
+use Rattle.coda_net.specs.Pool.{Letters, lossy_count, lossy_bytes, are_within, lost_for, posted_to, without, cut_to, trimmed, found, letter_at, AreRising, AreKept}
 
 -- whether a letter may be lost for the limits
 abbrev pub may_be_lost : ℕ × Letter → Bool
@@ -50,3 +50,12 @@ pub record LettersWaitUntilLost : Type 0 where
       → letter_at letters number ≡ Some other → letter_at (posted_to letters (posted + 1) letter) number ≡ Some other
   pub gone : (letters : Letters) (number : ℕ) → AreRising 0 letters → letter_at (without letters number) number ≡ None
   pub others_stay : (letters : Letters) (number other : ℕ) → (other ≡ number → ⊥) → letter_at (without letters number) other ≡ letter_at letters other
+
+-- A letter that is trimmed has its first bytes alone, and waits on under its number and in its place; all others are as they
+-- were. As many letters count for the limits as before, and what was within them is.
+pub record TrimmedLettersWait : Type 0 where
+  pub is_cut : (letters : Letters) (number most : ℕ) → letter_at (trimmed letters number most) number ≡ option_map (cut_to most) (letter_at letters number)
+  pub others_stay : (letters : Letters) (number other most : ℕ) → (other ≡ number → ⊥) → letter_at (trimmed letters number most) other ≡ letter_at letters other
+  pub numbers_stay : (letters : Letters) (number most : ℕ) → keys_of (trimmed letters number most) ≡ keys_of letters
+  pub counts : (letters : Letters) (number most : ℕ) → lossy_count (values_of (trimmed letters number most)) ≡ lossy_count (values_of letters)
+  pub still_fits : (letters : Letters) (number most : ℕ) → fit letters ≡ true → fit (trimmed letters number most) ≡ true

@@ -1,12 +1,12 @@
 -- The letters between clients and servers, each with its number, and the links.
-use Rattle.std.specs.Prelude.{◌≡◌, ◌≤◌, ◌<◌, ℕ, zero, suc, ◌+◌, Bool, true, false, ◌&&◌, ◌==◌, nat_le, nat_eq, List, [], ◌∷◌, ◌++◌, length, Option, Some, None, unwrap_or, if◌then◌else◌}
+use Rattle.std.specs.Prelude.{◌≡◌, ◌≤◌, ◌<◌, ℕ, zero, suc, ◌+◌, Bool, true, false, ◌&&◌, ◌==◌, nat_le, nat_lt, nat_eq, List, [], ◌∷◌, ◌++◌, length, take, Option, Some, None, unwrap_or, if◌then◌else◌}
 use Rattle.std.specs.Cmp.Lexicographic.{pointwise}
 use Rattle.std.specs.Map.{lookup, remove_entry, values_of}
 use Rattle.coda_state.specs.declared.state.Link.{Link}
 use Rattle.coda_state.specs.declared.state.Link.TheVariants.{Strong, Weak, Down}
 use Rattle.coda_net.specs.declared.letter.Letter.{Letter}
 use Rattle.coda_net.specs.declared.fault.NetFault.{NetFault}
-use Rattle.coda_net.specs.declared.fault.NetFault.TheVariants.{LinkDown, NoMessage}
+use Rattle.coda_net.specs.declared.fault.NetFault.TheVariants.{LinkDown, NoMessage, NotShorter}
 
 -- the letters that wait, in the order of their numbers
 abbrev pub Letters : Type 0
@@ -104,6 +104,23 @@ not_delivered pool number (Some l) = if is_down (link_of pool l.client l.server)
 
 abbrev pub deliver_refusal : Pool → ℕ → Option NetFault
 deliver_refusal pool number = not_delivered pool number (letter_at pool.letters number)
+
+-- a letter of its first bytes alone
+abbrev pub cut_to : ℕ → Letter → Letter
+cut_to most letter = record { client = letter.client; server = letter.server; to_server = letter.to_server; lossy = letter.lossy; bytes = take most letter.bytes }
+
+-- the letters, once that of a number has its first bytes alone
+abbrev pub trimmed : Letters → ℕ → ℕ → Letters
+trimmed [] number most = []
+trimmed (l ∷ ls) number most = if nat_eq number l.0 then (l.0, cut_to most l.1) ∷ ls else l ∷ trimmed ls number most
+
+-- why a letter isn't trimmed to so many bytes
+abbrev pub not_trimmed : ℕ → ℕ → Option Letter → Option NetFault
+not_trimmed number most None = Some (NoMessage number)
+not_trimmed number most (Some l) = if nat_lt most (length l.bytes) then None else Some (NotShorter (length l.bytes))
+
+abbrev pub trim_refusal : Pool → ℕ → ℕ → Option NetFault
+trim_refusal pool number most = not_trimmed number most (letter_at pool.letters number)
 
 -- ---- what always holds
 

@@ -13,6 +13,9 @@ pub enum NetFault {
     /// No letter of this number was posted, or it is lost.
     #[error("there is no letter {0}")]
     NoMessage(u64),
+    /// The letter has no more bytes than it was to be trimmed to: so many.
+    #[error("the letter has {0} bytes alone")]
+    NotShorter(u64),
     /// There was no memory.
     #[error("out of memory for the network")]
     Memory,

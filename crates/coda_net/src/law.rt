@@ -1,4 +1,4 @@
-ghost use Rattle.coda_net.specs.Laws.{FindsNameTheLeast, LettersWaitUntilLost, PostsLoseTheOldest};
+ghost use Rattle.coda_net.specs.Laws.{FindsNameTheLeast, LettersWaitUntilLost, PostsLoseTheOldest, TrimmedLettersWait};
 
 /// A law of the pool: which letters a new one puts out.
 pub fn posts_lose_the_oldest()
@@ -13,4 +13,9 @@ pub fn finds_name_the_least_number()
 /// A law of the pool: a letter waits under its number until it is lost.
 pub fn letters_wait_until_they_are_lost()
     ensures { LettersWaitUntilLost }
+{}
+
+/// A law of the pool: a letter that is trimmed has fewer bytes and waits on.
+pub fn trimmed_letters_wait()
+    ensures { TrimmedLettersWait }
 {}

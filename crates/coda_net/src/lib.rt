@@ -10,6 +10,7 @@ mod pool;
 pub use fault::NetFault;
 pub use law::{
     finds_name_the_least_number, letters_wait_until_they_are_lost, posts_lose_the_oldest,
+    trimmed_letters_wait,
 };
 pub use letter::Letter;
 pub use net::Net;

@@ -1,8 +1,8 @@
 ghost use Rattle.std.specs.Prelude.{◌≡◌, ◌≤◌, ◌<◌, ◌^◌, ◌+◌, ◌⊎◌, ℕ, [], true, false, length, Some, None, Err, Ok, IfOk, IfErr, OnErr, OnOk, if◌then◌else◌, ◌==◌, ◌&&◌};
 ghost use Rattle.coda_state.specs.declared.state.Link.TheVariants.{Down};
-ghost use Rattle.coda_net.specs.Pool.{deliver_refusal, found, is_down, letter_at, link_of, posted_to, without};
+ghost use Rattle.coda_net.specs.Pool.{deliver_refusal, found, is_down, letter_at, link_of, posted_to, trim_refusal, trimmed, without};
 
-use crate::pool::{find, lose_oldest_of, lost_for, put};
+use crate::pool::{find, lose_oldest_of, lost_for, may_trim, put, trim};
 use crate::{Letter, NetFault};
 use coda_state::Link;
 use indexmap::IndexMap;
@@ -16,6 +16,7 @@ use std::marker::Model;
 /// with their numbers, how many were posted, and the links.
 #[derive(Drop)]
 pub struct Net {
+    alloc: Global,
     letters: IndexMap<u64, Letter>,
     posted: u64,
     links: IndexMap<(u8, u8), Link>,
@@ -39,6 +40,7 @@ impl Net {
         ensures links { (client server : ℕ) → link_of result client server ≡ Down }
     {
         Net {
+            alloc,
             letters: IndexMap::new(alloc),
             posted: 0,
             links: IndexMap::new(alloc),
@@ -148,6 +150,26 @@ impl Net {
             Some(letter) => Ok(letter),
             None => Err(NetFault::NoMessage(number)),
         }
+    }
+
+    /// Trims a letter to its first bytes. It waits on under its number, and counts for the limits as before, with the
+    /// bytes that are left.
+    ///
+    /// # Errors
+    ///
+    /// `NoMessage` exactly where no letter of that number was posted, or it is lost; else `NotShorter` exactly where it
+    /// has no more bytes than that, with how many it has. Nothing changes then. No memory is taken.
+    pub fn trim(&mut self, number: u64, length: u64) -> Result<(), NetFault>
+        ensures letters { OnOk result (self.new.letters ≡ trimmed self.old.letters number length) }
+        ensures shorter { OnOk result (trim_refusal self.old number length ≡ None) }
+        ensures posted { self.new.posted ≡ self.old.posted }
+        ensures links { self.new.links ≡ self.old.links }
+        ensures why { IfErr result (λ why. trim_refusal self.old number length ≡ Some why) }
+        ensures err { OnErr result (self.new ≡ self.old) }
+    {
+        may_trim(&self.letters, number, length)?;
+        trim(self.alloc, &mut self.letters, number, length);
+        Ok(())
     }
 
     // Whether the link between a client and a server is down.

@@ -1,10 +1,13 @@
 //! The letters that wait, by their numbers and in their order.
-ghost use Rattle.std.specs.Prelude.{◌≡◌, ◌≤◌, ◌++◌, ◌∷◌, [], true, None, length, OnOk, OnErr, IfErr};
+ghost use Rattle.std.specs.Prelude.{◌≡◌, ◌≤◌, ◌++◌, ◌∷◌, [], true, Some, None, length, OnOk, OnErr, IfErr};
 ghost use Rattle.std.specs.Map.{values_of};
-ghost use Rattle.coda_net.specs.Pool.{are_within, found, is_sent as is_sent_so, letter_at, lossy_bytes, lost_for as lost_for_so, lossy_count, must_go as must_go_so, oldest_place, without_oldest, without_oldest_of};
+ghost use Rattle.coda_net.specs.Pool.{are_within, cut_to, found, is_sent as is_sent_so, letter_at, lossy_bytes, lost_for as lost_for_so, lossy_count, must_go as must_go_so, not_trimmed, oldest_place, trimmed, without_oldest, without_oldest_of};
 
 use crate::{Letter, NetFault};
+use coda_fid::Bytes;
 use indexmap::IndexMap;
+use std::alloc::Global;
+use std::mem;
 
 // The limits of letters that may be lost.
 const LETTERS: usize = 1_024;
@@ -146,4 +149,48 @@ pub(crate) fn find(
         }
     }
     None
+}
+
+/// Whether the letter of a number can be trimmed to so many bytes.
+///
+/// # Errors
+///
+/// `NoMessage` where none is there, and `NotShorter` where it has no more bytes.
+pub(crate) fn may_trim(
+    letters: &IndexMap<u64, Letter>,
+    number: u64,
+    most: u64,
+) -> Result<(), NetFault>
+    ensures ok { OnOk result (not_trimmed number most (letter_at letters.now.entries number) ≡ None) }
+    ensures err { IfErr result (λ why. not_trimmed number most (letter_at letters.now.entries number) ≡ Some why) }
+{
+    match letters.get(&number) {
+        None => Err(NetFault::NoMessage(number)),
+        Some(letter) => {
+            let length = letter.bytes.len() as u64;
+            if most < length {
+                return Ok(());
+            }
+            Err(NetFault::NotShorter(length))
+        }
+    }
+}
+
+// Leaves a letter its first bytes alone. It takes no memory.
+fn cut(alloc: Global, letter: &mut Letter, most: u64)
+    ensures { letter.new ≡ cut_to most letter.old }
+{
+    let bytes = mem::replace(&mut letter.bytes, Bytes::from_vec(Vec::new(alloc)));
+    let mut items = bytes.into_vec();
+    items.truncate(most as usize);
+    letter.bytes = Bytes::from_vec(items);
+}
+
+/// Leaves the letter of a number its first bytes alone. It takes no memory.
+pub(crate) fn trim(alloc: Global, letters: &mut IndexMap<u64, Letter>, number: u64, most: u64)
+    ensures { letters.new.entries ≡ trimmed letters.old.entries number most }
+{
+    if let Some(letter) = letters.get_mut(&number) {
+        cut(alloc, letter, most);
+    }
 }

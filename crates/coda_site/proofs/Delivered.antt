@@ -1,5 +1,5 @@
 -- What letters that come, and letters that are lost, leave of a site.
-use Rattle.std.proofs.Common.{◌≡◌, ◌≢◌, ℕ, Bool, true, false, cond, ◌&&◌, not, List, [], ◌∷◌, ◌++◌, append-nil, map, Option, Some, None, is_some, option_map, Result, Ok, Err, refl, sym, ap, subst, ◌∙◌, inl, inr}
+use Rattle.std.proofs.Common.{◌≡◌, ◌≢◌, ℕ, Bool, true, false, cond, ◌&&◌, not, List, [], ◌∷◌, ◌++◌, append-nil, map, Option, Some, None, is_some, option_map, Result, Ok, Err, refl, sym, ap, subst, ◌∙◌, true≢false, inl, inr}
 use Rattle.std.specs.Prelude.{⊤, nat_eq}
 use Rattle.std.specs.BTreeMap.{BTreeMap}
 use Rattle.coda_disk.specs.Told.{Told}
@@ -14,7 +14,8 @@ use Rattle.coda_record.specs.declared.answer.Answer.{Answer}
 use Rattle.coda_record.proofs.PartsAgree.{first_true, second_true}
 use Rattle.coda_wire.specs.Table.{message}
 use Rattle.coda_wire.specs.declared.message.Message.{Message}
-use Rattle.coda_wire.specs.declared.message.Message.TheVariants.{Chunk, Verdict}
+use Rattle.coda_wire.specs.declared.message.Message.TheVariants.{Chunk, Verdict, Fetch, Break}
+use Rattle.coda_wire.specs.declared.message.Message.TheVariants as messages
 use Rattle.coda_script.specs.declared.line.Line.TheVariants as line
 use Rattle.coda_script.specs.declared.line.Strength.{Strength}
 use Rattle.coda_script.specs.declared.reply.Answer.{Answer as ReplyAnswer}
@@ -28,6 +29,7 @@ use Rattle.coda_actors.specs.Slots.{is_up}
 use Rattle.coda_actors.specs.declared.slot.Slot.{Slot}
 use Rattle.coda_actors.specs.declared.slot.Slot.TheVariants.{Started}
 use Rattle.coda_crew.specs.Crews.{slot_at, KeepsOtherSlots}
+use Rattle.coda_net.specs.declared.letter.Letter.{Letter}
 use Rattle.coda_net.specs.Pool.{Pool, is_down, link_of}
 use Rattle.coda_letters.specs.Calls.{IsPosted, DeliversTo, Delivers as LettersDeliver, LosesTo, Loses as LettersLose}
 use Rattle.coda_letters.specs.Sent.{Sent, ChunkSent, AnswerSent, message_of, client_of as sent_client, server_of as sent_server, Waiting, AreLetters, CanBeSaid, CanBeSent, sent_at}
@@ -342,6 +344,27 @@ module _ {D : Type 0} (told : D → Told) (out : ℕ → Bool) (has : ℕ → To
       answer_came on reply after (left, acts, stands) =
           up_becomes told out has cell names (client_down cell client) answer_does reply answered after none (client_down_by told out has cell site shows client volume server here none true on) left (refl, acts) stands
 
+-- ---- messages that nothing sends
+
+-- whether a message is a chunk or the answer to one
+abbrev pub is_on_chunk : Message → Bool
+is_on_chunk (Chunk client server volume number recs) = true
+is_on_chunk (Verdict server client volume number answer) = true
+is_on_chunk (Fetch client server fid) = false
+is_on_chunk (messages.Node server client fid found) = false
+is_on_chunk (Break server client volume fids) = false
+
+sent_on_chunk : (sent : Sent) → is_on_chunk (message_of sent) ≡ true
+sent_on_chunk (ChunkSent client server volume number span) = refl
+sent_on_chunk (AnswerSent server client volume number answer) = refl
+
+-- no other one comes
+pub others_never_come : (waiting : Waiting) (net : Pool) (number : ℕ) (m : Message) → LettersDeliver waiting net number (Ok m) → is_on_chunk m ≡ false → ⊥
+others_never_come waiting net number m delivers other =
+    let c = came waiting net number m delivers in
+    let sent : is_on_chunk m ≡ true = sym (ap is_on_chunk c.says) ∙ sent_on_chunk c.sent in
+    true≢false (sym sent ∙ other)
+
 -- ---- lines
 
 up_link : (l : Link) → is_down l ≡ false → (link_down (strength_of l) ≡ None) × (is_cut (strength_of l) ≡ false)
@@ -447,10 +470,10 @@ module _ {D : Type 0} (told : D → Told) (out : ℕ → Bool) (has : ℕ → To
   abbrev IsLost : Reply → Site D → Type 0
   IsLost reply after = Becomes told out has (Happens cell (line.Lose number)) reply answered answered after
 
-  pub letter_lost : (net : Pool) → net.posted ≡ site.net.posted → net.links ≡ site.net.links → LettersLose cell.waiting number (Ok tt) net → IsLost (replies.Lost number) (with_net site net)
-  letter_lost net posted links loses = by (sent_at number cell.waiting) refl loses
+  pub letter_lost : (net : Pool) (handed : Letter) → net.posted ≡ site.net.posted → net.links ≡ site.net.links → LettersLose cell.waiting number (Ok handed) net → IsLost (replies.Lost number) (with_net site net)
+  letter_lost net handed posted links loses = by (sent_at number cell.waiting) refl loses
     where
-      by : (o : Option Sent) → sent_at number cell.waiting ≡ o → LosesTo o cell.waiting number (Ok tt) net → IsLost (replies.Lost number) (with_net site net)
+      by : (o : Option Sent) → sent_at number cell.waiting ≡ o → LosesTo o cell.waiting number (Ok handed) net → IsLost (replies.Lost number) (with_net site net)
       by None at l = (let no = l.0 in cc)
       by (Some sent) at l = record {
         outside = [];

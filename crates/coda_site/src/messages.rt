@@ -43,7 +43,7 @@ use coda_fid::Record;
 use coda_letters::{
     LetterFault, deliver as read_letter, lose as lose_letter, post_answer, send_chunk,
 };
-use coda_net::Net;
+use coda_net::{Letter, Net};
 use coda_record::Answer;
 use coda_script::{Refusal, Reply};
 use coda_sending::can_be_posted;
@@ -346,6 +346,9 @@ fn undelivered(alloc: Global, why: LetterFault) -> Result<Reply, CellFault>
     }
 }
 
+/// What is answered where a letter is of no kind that is known.
+const UNKNOWN: LetterFault = LetterFault::BadMessage(0);
+
 /// Delivers a letter, which waits on and may be delivered again.
 ///
 /// # Errors
@@ -381,8 +384,19 @@ pub fn deliver<B: Bay>(bay: &B, site: &mut Site<B::D>, message: u64) -> Result<R
                 answer,
             },
         ) => answer_comes(bay, site, client, server, volume, number, answer),
+        // Nothing sends these yet, so they are as unknown as any other kind.
+        Ok(Message::Fetch { .. }) => undelivered(site.alloc, UNKNOWN),
+        Ok(Message::Node { .. }) => undelivered(site.alloc, UNKNOWN),
+        Ok(Message::Break { .. }) => undelivered(site.alloc, UNKNOWN),
         Err(why) => undelivered(site.alloc, why),
     }
+}
+
+// What is answered where a letter was lost.
+fn reply_lost(_letter: Letter, message: u64) -> Reply
+    ensures { result ≡ Reply.Lost message }
+{
+    Reply::Lost { message }
 }
 
 /// Loses a letter.
@@ -401,7 +415,7 @@ pub fn lose<B: Bay>(_bay: &B, site: &mut Site<B::D>, message: u64) -> Result<Rep
     ensures counts { IsCounted (IsFault result) false (totals B.D.told B.D.faults B.D.arms (B.disk_faults _bay.now) (B.disk_arms _bay.now) site.old) (totals B.D.told B.D.faults B.D.arms (B.disk_faults _bay.now) (B.disk_arms _bay.now) site.new) }
 {
     match lose_letter(&mut site.net, message) {
-        Ok(()) => Ok(Reply::Lost { message }),
+        Ok(letter) => Ok(reply_lost(letter, message)),
         Err(why) => undelivered(site.alloc, why),
     }
 }

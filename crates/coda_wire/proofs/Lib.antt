@@ -1,3 +1,4 @@
 pub mod Tabled
 pub mod Found
 pub mod Spans
+pub mod Cut
