@@ -32,19 +32,19 @@ wordy_unquoted f w = and_left (avoids is_quoted f) (avoids begins_with_digit f) 
 path_head : (X Z : Lines) (next : List (List ℕ) → Form) → IsClear (a_path next) → Goes X Z (a_path next) → (wrong : List ℕ) → AtHead (a_path next) wrong kinds.Path
 path_head X Z next clear goes wrong = inl (λ word e.
     let p = is_given (path_in word) e in
-    let a = alive (next p.0) (clear p.0) (goes word p.0 p.1).0.0 in
+    let a = alive (next p.0) (clear p.0) (goes.1 word p.0 p.1).0.0 in
     (a.0, (a.1.0, (word, a.0, refl, p.0, p.1, a.1.1))))
 
 name_head : (X Z : Lines) (next : List ℕ → Form) → IsClear (a_name next) → Goes X Z (a_name next) → (wrong : List ℕ) → AtHead (a_name next) wrong kinds.Path
 name_head X Z next clear goes wrong = inr (λ word e.
     let n = is_given (name_in word) e in
-    let a = alive (next n.0) (clear n.0) (goes word n.0 n.1).0.0 in
+    let a = alive (next n.0) (clear n.0) (goes.1 word n.0 n.1).0.0 in
     (a.0, (a.1.0, (word, a.0, refl, n.0, n.1, a.1.1))))
 
 rights_head : (X Z : Lines) (next : Rights → Form) → IsClear (some_rights next) → Goes X Z (some_rights next) → (wrong : List ℕ) → AtHead (some_rights next) wrong kinds.Word
 rights_head X Z next clear goes wrong =
     let r : Rights = record { read = true; lookup = false; insert = false; delete = false; write = false } in
-    let a = alive (next r) (clear r) (goes (codes "r") r refl).0.0 in
+    let a = alive (next r) (clear r) (goes.1 (codes "r") r refl).0.0 in
     inr (
       (codes "r", refl, (a.0, (a.1.0, (codes "r", a.0, refl, r, refl, a.1.1)))),
       λ word q m. (apart_so word m.0 m.1.0 m.1.1).0 q,
@@ -63,7 +63,7 @@ text_head : (X Z : Lines) (slot : TextSlot) (next : List ℕ → Form) → IsCle
 unfolding decoded
 text_head X Z slot next clear goes wrong =
     let t : text_in slot slashed ≡ Some (codes "a/") = rw goes.0 refl in
-    let a = alive (next (codes "a/")) (clear (codes "a/")) (goes.1 slashed (codes "a/") t).0.0 in
+    let a = alive (next (codes "a/")) (clear (codes "a/")) (goes.2 slashed (codes "a/") t).0.0 in
     (slashed, refl, refl, refl, (a.0, (a.1.0, (slashed, a.0, refl, codes "a/", t, a.1.1))))
 
 ends_head : (kind : Kind) (said : Line) → is_behind kind ≡ true → (wrong : List ℕ) → AtHead (ends kind said) wrong kind
@@ -188,19 +188,19 @@ servers_first : (X Z : Lines) (all : Bool) (ws : List Word) (last : ℕ) (next :
 unfolding servers_at
 servers_first X Z all [] last next end breaks column k clear goes e rec =
     let f = servers_above all last next in
-    stays (Whole f) (Whole (next [])) X X Z Z (AtHead f) (AtHead (next [])) (is_server all) [] end breaks column k refl (done_back all last next) (done_forth all last next clear) (λ ts x. x) (λ ts x. x) (λ ts n x. x)
+    stays (Whole f) (Whole (next [])) X X Z Z (AtHead f) (AtHead (next [])) (is_server all) [] end breaks column k refl (done_back all last next) (done_forth all last next clear) (λ ts x. x) (λ ts n x. x) (λ ts x. x) (λ ts n x. x)
     (done_head X Z all last next clear goes (done_forth all last next clear)) (rec [] [] tt [] e)
 servers_first X Z all (w ∷ ws) last next end breaks column k clear goes e rec =
     let f = servers_above all last next in
     elim (cases_is (is_server all w.text)) [
       | inr other ↦
-          stays (Whole f) (Whole (next [])) X X Z Z (AtHead f) (AtHead (next [])) (is_server all) (w ∷ ws) end breaks column k other (done_back all last next) (done_forth all last next clear) (λ ts x. x) (λ ts x. x) (λ ts n x. x)
+          stays (Whole f) (Whole (next [])) X X Z Z (AtHead f) (AtHead (next [])) (is_server all) (w ∷ ws) end breaks column k other (done_back all last next) (done_forth all last next clear) (λ ts x. x) (λ ts n x. x) (λ ts x. x) (λ ts n x. x)
           (done_head X Z all last next clear goes (done_forth all last next clear)) (rec [] [] tt (w ∷ ws) (rw other at e))
       | inl server ↦ elim (cases_option (number_in (between (last + 1) 8) w.text)) [
         | inl none ↦
             let e' : (let r : Result Line Fault = Err (w.at + 1, kinds.Number) in r) ≡ Err (column, k) = rw (server, none) at e in
             at_word (Whole f) X Z (AtHead f) w ws end breaks column k (faulty (w.at + 1, kinds.Number) column k e') (subst (AtHead f w.text) (of_kind (w.at + 1, kinds.Number) column k e') (servers_head X Z all last next clear goes w.text server))
-            (λ m. no_number all last next w.text server none m.0 m.1.0 m.1.1)
+            (λ m. no_number all last next w.text server none m.0 m.1.0 m.1.1) ((goes [] [] tt).5 w.text)
         | inr some ↦
             let s = some.0 in
             let then : List ℕ → Form = λ ss. next (s ∷ ss) in
@@ -211,7 +211,7 @@ servers_first X Z all (w ∷ ws) last next end breaks column k clear goes e rec 
             let back : (ts : List (List ℕ)) → Whole f (w.text ∷ ts) → Whole g ts = λ ts p. (p.0, one_server all last s next w.text server some.1 ts p.0 p.1) in
             let forth : (ts : List (List ℕ)) → Whole g ts → Whole f (w.text ∷ ts) = λ ts p. (p.0, more_servers all last s next w.text server some.1 ts p.0 p.1) in
             let e' = one_more s next (servers_at all s (split ws end breaks) ws) column k (rw (server, some.1) at e) in
-            behind (Whole f) (Whole g) X (λ ts. X (w.text ∷ ts)) Z (λ ts. Z (w.text ∷ ts)) (AtHead f) (AtHead g) w ws end breaks column k back forth (λ ts x. x) (λ ts x. x) (λ ts x. x)
+            behind (Whole f) (Whole g) X (λ ts. X (w.text ∷ ts)) Z (λ ts. Z (w.text ∷ ts)) (AtHead f) (AtHead g) w ws end breaks column k back forth (λ ts x. x) (λ ts x. x) (λ ts x. x) (λ ts x. x)
             (inl (alive g clear' sure.0)) (resolved (Whole f) Z g w.text back forth sure.1 (another X Z all last s next w.text clear goes server some.1) (λ z. refl))
             (servers_first (λ ts. X (w.text ∷ ts)) (λ ts. Z (w.text ∷ ts)) all ws s then end breaks column k clear' goes' e' (λ mine ss m. rec (w.text ∷ mine) (s ∷ ss) (server, some.1, m)))
       ]
@@ -242,16 +242,17 @@ first X Z (ends k l) clear goes [] end (Some b) column kind e =
       parts = refl;
       place = sym (faulty (missing (split [] end (Some b))) column kind e);
       starts = inl refl;
+      read = tt;
       none = λ whole. absurd (let n = whole refl in cc);
       told = sym (of_kind (missing (split [] end (Some b))) column kind e);
     }
 first X Z (ends k l) clear goes (w ∷ ws) end breaks column kind e =
-    at_word (Whole (ends k l)) X Z (AtHead (ends k l)) w ws end breaks column kind (faulty (w.at + 1, k) column kind e) (subst (AtHead (ends k l) w.text) (of_kind (w.at + 1, k) column kind e) (ends_head k l goes w.text))
-    (λ m. let n = m.1.1.0 in absurd cc)
+    at_word (Whole (ends k l)) X Z (AtHead (ends k l)) w ws end breaks column kind (faulty (w.at + 1, k) column kind e) (subst (AtHead (ends k l) w.text) (of_kind (w.at + 1, k) column kind e) (ends_head k l goes.0 w.text))
+    (λ m. let n = m.1.1.0 in absurd cc) (goes.1 w.text)
 first X Z nothing clear goes [] end breaks column kind e =
     at_end (Whole nothing) X Z (AtHead nothing) end breaks column kind (faulty (missing (split [] end breaks)) column kind e) (of_kind (missing (split [] end breaks)) column kind e) (λ p. p.1)
 first X Z nothing clear goes (w ∷ ws) end breaks column kind e =
-    at_word (Whole nothing) X Z (AtHead nothing) w ws end breaks column kind (faulty (w.at + 1, kinds.Word) column kind e) (subst (AtHead nothing w.text) (of_kind (w.at + 1, kinds.Word) column kind e) (inl refl)) (λ m. m.1.1)
+    at_word (Whole nothing) X Z (AtHead nothing) w ws end breaks column kind (faulty (w.at + 1, kinds.Word) column kind e) (subst (AtHead nothing w.text) (of_kind (w.at + 1, kinds.Word) column kind e) (inl refl)) (λ m. m.1.1) (goes w.text)
 first X Z (either word so other) clear goes ws end breaks column kind e =
     let f = either word so other in
     let a = alive so clear.2 goes.1.0 in
@@ -262,39 +263,39 @@ first X Z (either word so other) clear goes ws end breaks column kind e =
           let back : (ts : List (List ℕ)) → Whole f (v.0.text ∷ ts) → Whole so ts = λ ts p. (p.0, either_so word so other v.0.text v.3 ts p.0 p.1) in
           let forth : (ts : List (List ℕ)) → Whole so ts → Whole f (v.0.text ∷ ts) = λ ts p. (p.0, inl (ts, ap (λ (t : List ℕ). t ∷ ts) v.3, p.1)) in
           subst (λ (x : List Word). First (Whole f) X Z (AtHead f) x end breaks column kind) (sym v.2) (
-          behind (Whole f) (Whole so) X (λ ts. X (word ∷ ts)) Z (λ ts. Z (word ∷ ts)) (AtHead f) (AtHead so) v.0 v.1 end breaks column kind back forth (λ ts x. subst (λ (t : List ℕ). X (t ∷ ts)) (sym v.3) x) (λ ts x. subst (λ (t : List ℕ). Z (t ∷ ts)) (sym v.3) x) (λ ts x. subst (λ (t : List ℕ). Z (t ∷ ts)) v.3 x)
+          behind (Whole f) (Whole so) X (λ ts. X (word ∷ ts)) Z (λ ts. Z (word ∷ ts)) (AtHead f) (AtHead so) v.0 v.1 end breaks column kind back forth (λ ts x. subst (λ (t : List ℕ). X (t ∷ ts)) (sym v.3) x) (λ ts x. subst (λ (t : List ℕ). X (t ∷ ts)) v.3 x) (λ ts x. subst (λ (t : List ℕ). Z (t ∷ ts)) (sym v.3) x) (λ ts x. subst (λ (t : List ℕ). Z (t ∷ ts)) v.3 x)
           (inl a) (resolved (Whole f) Z so v.0.text back forth goes.1.1 (inl goes.1.2) (λ z. absurd (goes.2 (subst (λ (t : List ℕ). Z (t ∷ [])) v.3 z)))) (first (λ ts. X (word ∷ ts)) (λ ts. Z (word ∷ ts)) so clear.2 goes.6 v.1 end breaks column kind e'))
       | inr t ↦
           let back : (ts : List (List ℕ)) → begins (is_word word) ts ≡ false → Whole f ts → Whole other ts = λ ts n p. (p.0, either_other word so other ts p.0 n p.1) in
           let forth : (ts : List (List ℕ)) → Whole other ts → Whole f ts = λ ts p. (p.0, inr (avoided other (is_word word) ts p.0 clear.1 p.1, p.1)) in
           let wanted : (wrong : List ℕ) → WordAtHead f wrong = λ wrong. fixed_word f goes.5 refl wrong word goes.0 (a.0, (a.1.0, inl (a.0, refl, a.1.1))) in
-          stays (Whole f) (Whole other) X X Z Z (AtHead f) (AtHead other) (is_word word) ws end breaks column kind t.0 back forth (λ ts x. x) (λ ts x. x) (λ ts n x. x)
+          stays (Whole f) (Whole other) X X Z Z (AtHead f) (AtHead other) (is_word word) ws end breaks column kind t.0 back forth (λ ts x. x) (λ ts n x. x) (λ ts x. x) (λ ts n x. x)
           (λ wrong n. stays_head f other forth wanted goes.3 goes.4 wrong) (first X Z other clear.3 goes.7 ws end breaks column kind t.1)
     ]
 first X Z (a_number slot next) clear goes ws end breaks column kind e =
-    slot_first X Z (a_number slot next) kinds.Number (number_in slot) next ws end breaks column kind (λ ts line s. s) (λ ts line s. s) (number_head slot next clear)
-    (λ w n is. let g = goes w n is in (begun X w (next n) (clear n) g.0.0, g.0.1, g.0.2, g.0.3)) e
-    (λ w n is rest r. first (λ ts. X (w ∷ ts)) (λ ts. Z (w ∷ ts)) (next n) (clear n) (goes w n is).1 rest end breaks column kind r)
+    slot_first X Z (a_number slot next) kinds.Number (number_in slot) next ws end breaks column kind (λ ts line s. s) (λ ts line s. s) (number_head slot next clear) goes.0
+    (λ w n is. let g = goes.1 w n is in (begun X w (next n) (clear n) g.0.0, g.0.1, g.0.2, g.0.3)) e
+    (λ w n is rest r. first (λ ts. X (w ∷ ts)) (λ ts. Z (w ∷ ts)) (next n) (clear n) (goes.1 w n is).1 rest end breaks column kind r)
 first X Z (a_path next) clear goes ws end breaks column kind e =
-    slot_first X Z (a_path next) kinds.Path path_in next ws end breaks column kind (λ ts line s. s) (λ ts line s. s) (path_head X Z next clear goes)
-    (λ w p is. let g = goes w p is in (inl (alive (next p) (clear p) g.0.0), g.0.1, inl g.0.2, λ z. absurd (g.1 z))) e
-    (λ w p is rest r. first (λ ts. X (w ∷ ts)) (λ ts. Z (w ∷ ts)) (next p) (clear p) (goes w p is).2 rest end breaks column kind r)
+    slot_first X Z (a_path next) kinds.Path path_in next ws end breaks column kind (λ ts line s. s) (λ ts line s. s) (path_head X Z next clear goes) (λ w n. goes.0 w)
+    (λ w p is. let g = goes.1 w p is in (inl (alive (next p) (clear p) g.0.0), g.0.1, inl g.0.2, λ z. absurd (g.1 z))) e
+    (λ w p is rest r. first (λ ts. X (w ∷ ts)) (λ ts. Z (w ∷ ts)) (next p) (clear p) (goes.1 w p is).2 rest end breaks column kind r)
 first X Z (a_name next) clear goes ws end breaks column kind e =
-    slot_first X Z (a_name next) kinds.Path name_in next ws end breaks column kind (λ ts line s. s) (λ ts line s. s) (name_head X Z next clear goes)
-    (λ w n is. let g = goes w n is in (inl (alive (next n) (clear n) g.0.0), g.0.1, inl g.0.2, λ z. absurd (g.1 z))) e
-    (λ w n is rest r. first (λ ts. X (w ∷ ts)) (λ ts. Z (w ∷ ts)) (next n) (clear n) (goes w n is).2 rest end breaks column kind r)
+    slot_first X Z (a_name next) kinds.Path name_in next ws end breaks column kind (λ ts line s. s) (λ ts line s. s) (name_head X Z next clear goes) (λ w n. goes.0 w)
+    (λ w n is. let g = goes.1 w n is in (inl (alive (next n) (clear n) g.0.0), g.0.1, inl g.0.2, λ z. absurd (g.1 z))) e
+    (λ w n is rest r. first (λ ts. X (w ∷ ts)) (λ ts. Z (w ∷ ts)) (next n) (clear n) (goes.1 w n is).2 rest end breaks column kind r)
 first X Z (some_rights next) clear goes ws end breaks column kind e =
-    slot_first X Z (some_rights next) kinds.Word rights_in next ws end breaks column kind (λ ts line s. s) (λ ts line s. s) (rights_head X Z next clear goes)
-    (λ w r is. let g = goes w r is in (inl (alive (next r) (clear r) g.0.0), g.0.1, inl g.0.2, λ z. absurd (g.1 z))) e
-    (λ w n is rest r. first (λ ts. X (w ∷ ts)) (λ ts. Z (w ∷ ts)) (next n) (clear n) (goes w n is).2 rest end breaks column kind r)
+    slot_first X Z (some_rights next) kinds.Word rights_in next ws end breaks column kind (λ ts line s. s) (λ ts line s. s) (rights_head X Z next clear goes) (λ w n. goes.0 w)
+    (λ w r is. let g = goes.1 w r is in (inl (alive (next r) (clear r) g.0.0), g.0.1, inl g.0.2, λ z. absurd (g.1 z))) e
+    (λ w n is rest r. first (λ ts. X (w ∷ ts)) (λ ts. Z (w ∷ ts)) (next n) (clear n) (goes.1 w n is).2 rest end breaks column kind r)
 first X Z (a_text slot next) clear goes ws end breaks column kind e =
-    slot_first X Z (a_text slot next) kinds.Text (text_in slot) next ws end breaks column kind (λ ts line s. s) (λ ts line s. s) (text_head X Z slot next clear goes)
-    (λ w t is. let g = goes.1 w t is in (inl (alive (next t) (clear t) g.0.0), g.0.1, inl g.0.2, λ z. absurd (g.1 z))) e
-    (λ w t is rest r. first (λ ts. X (w ∷ ts)) (λ ts. Z (w ∷ ts)) (next t) (clear t) (goes.1 w t is).2 rest end breaks column kind r)
+    slot_first X Z (a_text slot next) kinds.Text (text_in slot) next ws end breaks column kind (λ ts line s. s) (λ ts line s. s) (text_head X Z slot next clear goes) (λ w n. goes.1 w)
+    (λ w t is. let g = goes.2 w t is in (inl (alive (next t) (clear t) g.0.0), g.0.1, inl g.0.2, λ z. absurd (g.1 z))) e
+    (λ w t is rest r. first (λ ts. X (w ∷ ts)) (λ ts. Z (w ∷ ts)) (next t) (clear t) (goes.2 w t is).2 rest end breaks column kind r)
 first X Z (perhaps word slot next) clear goes ws end breaks column kind e =
     let f = perhaps word slot next in
     let g = a_number slot (λ n. next (Some n)) in
-    let lives_then : lives g ≡ true = rw (goes.1, (goes.6 (number_text slot (least slot)) (least slot) (number_again_in slot (least slot) (least_held slot goes.1))).0.0) refl in
+    let lives_then : lives g ≡ true = rw (goes.1, (goes.7 (number_text slot (least slot)) (least slot) (number_again_in slot (least slot) (least_held slot goes.1))).0.0) refl in
     let a = alive g (λ n. clear.2 (Some n)) lives_then in
     elim (cases_is (is_next (is_word word) ws)) [
       | inl there ↦
@@ -303,17 +304,17 @@ first X Z (perhaps word slot next) clear goes ws end breaks column kind e =
           let back : (ts : List (List ℕ)) → Whole f (v.0.text ∷ ts) → Whole g ts = λ ts p. (p.0, perhaps_so word slot next v.0.text v.3 ts p.0 p.1) in
           let forth : (ts : List (List ℕ)) → Whole g ts → Whole f (v.0.text ∷ ts) = λ ts p. (p.0, perhaps_taken word slot next v.0.text v.3 ts p.0 p.1) in
           subst (λ (x : List Word). First (Whole f) X Z (AtHead f) x end breaks column kind) (sym v.2) (
-          behind (Whole f) (Whole g) X (λ ts. X (word ∷ ts)) Z (λ ts. Z (word ∷ ts)) (AtHead f) (AtHead g) v.0 v.1 end breaks column kind back forth (λ ts x. subst (λ (t : List ℕ). X (t ∷ ts)) (sym v.3) x) (λ ts x. subst (λ (t : List ℕ). Z (t ∷ ts)) (sym v.3) x) (λ ts x. subst (λ (t : List ℕ). Z (t ∷ ts)) v.3 x)
+          behind (Whole f) (Whole g) X (λ ts. X (word ∷ ts)) Z (λ ts. Z (word ∷ ts)) (AtHead f) (AtHead g) v.0 v.1 end breaks column kind back forth (λ ts x. subst (λ (t : List ℕ). X (t ∷ ts)) (sym v.3) x) (λ ts x. subst (λ (t : List ℕ). X (t ∷ ts)) v.3 x) (λ ts x. subst (λ (t : List ℕ). Z (t ∷ ts)) (sym v.3) x) (λ ts x. subst (λ (t : List ℕ). Z (t ∷ ts)) v.3 x)
           (inl a) (resolved (Whole f) Z g v.0.text back forth refl (inl lives_then) (λ z. refl)) (
-          slot_first (λ ts. X (word ∷ ts)) (λ ts. Z (word ∷ ts)) g kinds.Number (number_in slot) (λ n. next (Some n)) v.1 end breaks column kind (λ ts line s. s) (λ ts line s. s) (number_head slot (λ n. next (Some n)) (λ n. clear.2 (Some n)))
-          (λ w n is. let s = goes.6 w n is in (inl (alive (next (Some n)) (clear.2 (Some n)) s.0.0), s.0.1, inl s.0.2, λ z. absurd (s.1 z))) e'
-          (λ w n is rest r. first (λ ts. X (word ∷ w ∷ ts)) (λ ts. Z (word ∷ w ∷ ts)) (next (Some n)) (clear.2 (Some n)) (goes.6 w n is).2 rest end breaks column kind r)))
+          slot_first (λ ts. X (word ∷ ts)) (λ ts. Z (word ∷ ts)) g kinds.Number (number_in slot) (λ n. next (Some n)) v.1 end breaks column kind (λ ts line s. s) (λ ts line s. s) (number_head slot (λ n. next (Some n)) (λ n. clear.2 (Some n))) (λ w n. goes.6 w)
+          (λ w n is. let s = goes.7 w n is in (inl (alive (next (Some n)) (clear.2 (Some n)) s.0.0), s.0.1, inl s.0.2, λ z. absurd (s.1 z))) e'
+          (λ w n is rest r. first (λ ts. X (word ∷ w ∷ ts)) (λ ts. Z (word ∷ w ∷ ts)) (next (Some n)) (clear.2 (Some n)) (goes.7 w n is).2 rest end breaks column kind r)))
       | inr other ↦
           let back : (ts : List (List ℕ)) → begins (is_word word) ts ≡ false → Whole f ts → Whole (next None) ts = λ ts n p. (p.0, perhaps_none word slot next ts p.0 n p.1) in
           let forth : (ts : List (List ℕ)) → Whole (next None) ts → Whole f ts = λ ts p. (p.0, inr (avoided (next None) (is_word word) ts p.0 clear.1 p.1, p.1)) in
           let wanted : (wrong : List ℕ) → WordAtHead f wrong = λ wrong. fixed_word f goes.5 refl wrong word goes.0 (a.0, (a.1.0, perhaps_taken word slot next word refl a.0 a.1.0 a.1.1)) in
-          stays (Whole f) (Whole (next None)) X X Z Z (AtHead f) (AtHead (next None)) (is_word word) ws end breaks column kind other back forth (λ ts x. x) (λ ts x. x) (λ ts n x. x)
-          (λ wrong n. stays_head f (next None) forth wanted goes.3 goes.4 wrong) (first X Z (next None) (clear.2 None) goes.7 ws end breaks column kind (not_taken word slot next ws end breaks column kind other e))
+          stays (Whole f) (Whole (next None)) X X Z Z (AtHead f) (AtHead (next None)) (is_word word) ws end breaks column kind other back forth (λ ts x. x) (λ ts n x. x) (λ ts x. x) (λ ts n x. x)
+          (λ wrong n. stays_head f (next None) forth wanted goes.3 goes.4 wrong) (first X Z (next None) (clear.2 None) goes.8 ws end breaks column kind (not_taken word slot next ws end breaks column kind other e))
     ]
 first X Z (servers_above all last next) clear goes ws end breaks column kind e =
-    servers_first X Z all ws last next end breaks column kind clear goes e (λ mine ss m rest r. first (λ ts. X (mine ++ ts)) (λ ts. Z (mine ++ ts)) (next ss) (clear ss).1 (goes mine ss m).5 rest end breaks column kind r)
+    servers_first X Z all ws last next end breaks column kind clear goes e (λ mine ss m rest r. first (λ ts. X (mine ++ ts)) (λ ts. Z (mine ++ ts)) (next ss) (clear ss).1 (goes mine ss m).6 rest end breaks column kind r)

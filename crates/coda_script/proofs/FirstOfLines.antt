@@ -16,13 +16,13 @@ use Rattle.coda_script.specs.Table.{script, create_form}
 use Rattle.coda_script.specs.Lines.{is_silent, with_thread, turns_at, placed, read_words, line_of}
 use Rattle.coda_script.specs.Reading.{Fault, ◌>>=◌, is_next, missing, read}
 use Rattle.coda_script.specs.Spelling.{begins}
-use Rattle.coda_script.specs.FirstColumn.{IsTabled, BehindThreads, IsFormed, IsAtLastServer, EndsAtLastServer, BeginsOne, MayStand, IsWanted, IsToldAs, IsFirstColumn, IsMisplaced}
+use Rattle.coda_script.specs.FirstColumn.{IsTabled, BehindThreads, IsFormed, IsAtLastServer, EndsAtLastServer, BeginsOne, MayStand, IsWanted, IsToldAs, IsNotLastServer, IsFirstColumn, IsMisplaced}
 use Rattle.coda_script.proofs.AnyForm.{sound}
 use Rattle.coda_script.proofs.Avoiding.{script_avoids_at}
 use Rattle.coda_script.proofs.Binding.{split, texts, chosen, ok_is, is_itself, word_is}
 use Rattle.coda_script.proofs.Clear.{script_clear}
 use Rattle.coda_script.proofs.FirstBytes.{number_begins, digit_unquoted, digit_unlettered, apart}
-use Rattle.coda_script.proofs.FirstSteps.{Nowhere, First, Told, AtHead, behind, stays, wanted_behind, may_stay, text_stays, path_stays, is_given, of_kind}
+use Rattle.coda_script.proofs.FirstSteps.{Nowhere, NotExcepted, First, Told, AtHead, behind, stays, wanted_behind, may_stay, text_stays, path_stays, is_given, of_kind}
 use Rattle.coda_script.proofs.FirstColumns.{first}
 use Rattle.coda_script.proofs.Going.{Whole, alive}
 use Rattle.coda_script.proofs.TableGoes.{script_goes}
@@ -37,12 +37,12 @@ here Rest [] r = r
 here Rest (w ∷ []) r = r
 here Rest (w ∷ v ∷ ts) r = inl r
 
--- a line that begins with no `at` is one of the table
-tabled : (ts : List (List ℕ)) → begins (is_word (codes "at")) ts ≡ false → IsFormed ts → Whole script ts
-tabled [] n r = r
-tabled (w ∷ []) n r = r
-tabled (w ∷ v ∷ ts) n (inl r) = r
-tabled (w ∷ v ∷ ts) n (inr r) = absurd (false≢true (sym n ∙ ap (is_word (codes "at")) r.0 ∙ is_itself (codes "at")))
+-- what begins with no `at` stands behind no thread
+threadless : (Rest : List (List ℕ) → Type 0) (ts : List (List ℕ)) → begins (is_word (codes "at")) ts ≡ false → BehindThreads Rest ts → Rest ts
+threadless Rest [] n r = r
+threadless Rest (w ∷ []) n r = r
+threadless Rest (w ∷ v ∷ ts) n (inl r) = r
+threadless Rest (w ∷ v ∷ ts) n (inr r) = absurd (false≢true (sym n ∙ ap (is_word (codes "at")) r.0 ∙ is_itself (codes "at")))
 
 -- some line of the table
 some_words : (ws : List (List ℕ)) × Whole script ws
@@ -58,7 +58,7 @@ AtLast ts = BehindThreads EndsAtLastServer ts
 
 -- a line whose first word passes a test that `at` doesn't is one of the table
 tabled_so : (test : List ℕ → Bool) → test (codes "at") ≡ false → (word : List ℕ) (more : List (List ℕ)) → test word ≡ true → IsFormed (word ∷ more) → Whole script (word ∷ more)
-tabled_so test n word more is p = tabled (word ∷ more) (apart test (codes "at") word n is) p
+tabled_so test n word more is p = threadless IsTabled (word ∷ more) (apart test (codes "at") word n is) p
 
 nothing_last : AtLast [] → ⊥
 nothing_last (v, servers, last, inl e, d, is) = absurd cc
@@ -69,11 +69,12 @@ thread_last : (t : List ℕ) (ts : List (List ℕ)) → t ≡ codes "at" → End
 thread_last t ts is (v, servers, last, inl e, d, n) = absurd (let x = sym is ∙ head_is t (codes "volume") ts (v ∷ codes "on" ∷ (servers ++ last ∷ [])) e in cc)
 thread_last t ts is (v, servers, last, inr e, d, n) = absurd (let x = sym is ∙ head_is t (codes "resolve") ts (v ∷ (servers ++ last ∷ [])) e in cc)
 
-last_tabled : (ts : List (List ℕ)) → begins (is_word (codes "at")) ts ≡ false → AtLast ts → EndsAtLastServer ts
-last_tabled [] n z = z
-last_tabled (w ∷ []) n z = z
-last_tabled (w ∷ v ∷ ts) n (inl z) = z
-last_tabled (w ∷ v ∷ ts) n (inr z) = absurd (false≢true (sym n ∙ ap (is_word (codes "at")) z.0 ∙ is_itself (codes "at")))
+thread_stuck : (t : List ℕ) (ts : List (List ℕ)) → t ≡ codes "at" → IsAtLastServer (t ∷ ts) → ⊥
+thread_stuck t ts is (v, s, e, n, eight) = absurd (let x = sym is ∙ head_is t (codes "resolve") ts (v ∷ s ∷ []) e in cc)
+
+stuck_behind : (w v : List ℕ) (ts : List (List ℕ)) → w ≡ codes "at" → BehindThreads IsAtLastServer (w ∷ v ∷ ts) → BehindThreads IsAtLastServer ts
+stuck_behind w v ts is (inl z) = absurd (thread_stuck w (v ∷ ts) is z)
+stuck_behind w v ts is (inr z) = z.2
 
 last_behind : (w v : List ℕ) (ts : List (List ℕ)) → w ≡ codes "at" → AtLast (w ∷ v ∷ ts) → AtLast ts
 last_behind w v ts is (inl z) = absurd (thread_last w (v ∷ ts) is z)
@@ -102,7 +103,7 @@ OfLine ws end breaks column kind = First IsFormed (BehindThreads IsAtLastServer)
 plain : (ws : List Word) (end : ℕ) (breaks : Option ℕ) (column : ℕ) (kind : Kind) → is_next (is_word (codes "at")) ws ≡ false → read script (split ws end breaks) ≡ Err (column, kind) → OfLine ws end breaks column kind
 plain ws end breaks column kind n e =
     stays IsFormed (Whole script) (BehindThreads IsAtLastServer) IsAtLastServer AtLast EndsAtLastServer (λ wrong k. IsWanted IsFormed AtLast [] wrong k) (AtHead script) (is_word (codes "at")) ws end breaks column kind
-    n tabled (here IsTabled) (here IsAtLastServer) (here EndsAtLastServer) last_tabled (λ wrong m. beginning wrong) (first IsAtLastServer EndsAtLastServer script script_clear script_goes ws end breaks column kind e)
+    n (threadless IsTabled) (here IsTabled) (here IsAtLastServer) (threadless IsAtLastServer) (here EndsAtLastServer) (threadless EndsAtLastServer) (λ wrong m. beginning wrong) (first IsAtLastServer EndsAtLastServer script script_clear script_goes ws end breaks column kind e)
 
 -- a thread that is named
 abbrev IsThread : List ℕ → List ℕ → Type 0
@@ -127,6 +128,10 @@ a_thread at wrong is =
     begun_so : (word : List ℕ) (more : List (List ℕ)) → IsFormed (at ∷ word ∷ more) → begins_with_digit word ≡ true
     begun_so word more p = let n = is_given (number_in (between 1 8) word) (behind_thread at word is more p).0 in number_begins (between 1 8) word n.0 n.1
 
+not_stuck : (at turn : List ℕ) → at ≡ codes "at" → number_in (between 1 8) turn ≡ None → BehindThreads IsAtLastServer (at ∷ turn ∷ []) → ⊥
+not_stuck at turn is none (inl z) = thread_stuck at (turn ∷ []) is z
+not_stuck at turn is none (inr z) = false≢true (sym (ap (λ (o : Option ℕ). is_some o) none) ∙ z.1)
+
 -- behind one more thread
 one_more_thread : (w v : Word) (ws : List Word) (end : ℕ) (breaks : Option ℕ) (column : ℕ) (kind : Kind) → IsThread w.text v.text → OfLine ws end breaks column kind → OfLine (w ∷ v ∷ ws) end breaks column kind
 one_more_thread w v ws end breaks column kind is r =
@@ -136,9 +141,9 @@ one_more_thread w v ws end breaks column kind is r =
     let Last : List (List ℕ) → Type 0 = λ ts. AtLast (w.text ∷ ts) in
     let back : (ts : List (List ℕ)) → IsFormed (w.text ∷ v.text ∷ ts) → IsFormed ts = λ ts p. (behind_thread w.text v.text is.0 ts p).1 in
     let forth : (ts : List (List ℕ)) → IsFormed ts → IsFormed (w.text ∷ v.text ∷ ts) = λ ts p. inr (is.0, is.1, p) in
-    behind IsFormed Behind (BehindThreads IsAtLastServer) Stuck AtLast Last (λ wrong k. IsWanted IsFormed AtLast [] wrong k) (λ wrong k. ⊥) w (v ∷ ws) end breaks column kind (λ ts p. p) (λ ts p. p) (λ ts p. p) (λ ts p. p) (λ ts p. p)
+    behind IsFormed Behind (BehindThreads IsAtLastServer) Stuck AtLast Last (λ wrong k. IsWanted IsFormed AtLast [] wrong k) (λ wrong k. ⊥) w (v ∷ ws) end breaks column kind (λ ts p. p) (λ ts p. p) (λ ts p. p) (λ ts p. p) (λ ts p. p) (λ ts p. p)
     (inl (codes "1" ∷ one.0, one.1)) (λ wrong k h. absurd h) (
-    behind Behind IsFormed Stuck (BehindThreads IsAtLastServer) Last AtLast (λ wrong k. ⊥) (λ wrong k. IsWanted IsFormed AtLast [] wrong k) v ws end breaks column kind back forth (λ ts p. inr (is.0, is.1, p)) (λ ts p. inr (is.0, is.1, p)) (λ ts p. last_behind w.text v.text ts is.0 p)
+    behind Behind IsFormed Stuck (BehindThreads IsAtLastServer) Last AtLast (λ wrong k. ⊥) (λ wrong k. IsWanted IsFormed AtLast [] wrong k) v ws end breaks column kind back forth (λ ts p. inr (is.0, is.1, p)) (λ ts p. stuck_behind w.text v.text ts is.0 p) (λ ts p. inr (is.0, is.1, p)) (λ ts p. last_behind w.text v.text ts is.0 p)
     (inl some_line) (λ wrong k i. wanted_behind Behind IsFormed Last AtLast v.text back forth (λ ts p. inr (is.0, is.1, p)) (λ ts p. last_behind w.text v.text ts is.0 p) [] wrong k i) r)
 
 -- ---- the words of a line
@@ -166,6 +171,7 @@ lines_first (w ∷ []) end breaks seen column kind e =
             place = sym (faulty (missing (split (w ∷ []) end breaks)) column kind e');
             starts = inr (inl (codes "1" ∷ one.0, one.1));
             none = λ whole p. false≢true (sym (script_avoids_at (w.text ∷ []) p.0 p.1) ∙ is);
+            read = tt;
             told = sym (of_kind (missing (split (w ∷ []) end breaks)) column kind e');
           }
     ]
@@ -188,10 +194,15 @@ lines_first (w ∷ v ∷ ws) end breaks seen column kind e =
                   place = sym (faulty (v.at + 1, kinds.Number) column kind e');
                   starts = inr (inl (codes "1" ∷ one.0, one.1));
                   none = λ whole m. false≢true (sym (ap (λ (o : Option ℕ). is_some o) none) ∙ (behind_thread w.text v.text at m.0 m.1).0);
+                  read = λ x. not_stuck w.text v.text at none x;
                   told = subst (IsWanted IsFormed AtLast (w.text ∷ []) v.text) (of_kind (v.at + 1, kinds.Number) column kind e') (a_thread w.text v.text at);
                 }
           ]
     ]
+
+read_again : (before after : List Word) → NotExcepted (BehindThreads IsAtLastServer) (texts before) after → IsNotLastServer (texts before) after
+read_again before [] n = tt
+read_again before (w ∷ ws) n = n
 
 told_again : (before after : List Word) (breaks : Option ℕ) (kind : Kind) → Told IsFormed AtLast (λ wrong k. IsWanted IsFormed AtLast [] wrong k) before after breaks kind → IsToldAs IsFormed AtLast (texts before) after breaks kind
 told_again before [] breaks kind t = t
@@ -212,6 +223,7 @@ first_column ws end breaks column kind r =
       place = r.place;
       starts = starts_again r.before r.starts;
       none = r.none;
+      read = read_again r.before r.after r.read;
       told = told_again r.before r.after breaks kind r.told;
     }
 

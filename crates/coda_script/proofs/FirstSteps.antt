@@ -41,6 +41,11 @@ Told P Z H before [] breaks kind = kind ≡ end_kind breaks
 Told P Z H [] (w ∷ ws) breaks kind = H w.text kind
 Told P Z H (b ∷ bs) (w ∷ ws) breaks kind = IsWanted P Z (texts (b ∷ bs)) w.text kind
 
+-- the words up to the next are none that are excepted
+abbrev pub NotExcepted : Lines → List (List ℕ) → List Word → Type 0
+NotExcepted X front [] = Unit {0}
+NotExcepted X front (w ∷ ws) = X (front ++ w.text ∷ []) → ⊥
+
 -- the column is the first that is wrong, of these lines, with those exceptions
 pub record First (P X Z : Lines) (H : List ℕ → Kind → Type 0) (ws : List Word) (end : ℕ) (breaks : Option ℕ) (column : ℕ) (kind : Kind) : Type 0 where
   pub before : List Word
@@ -49,6 +54,7 @@ pub record First (P X Z : Lines) (H : List ℕ → Kind → Type 0) (ws : List W
   pub place : column ≡ column_of end after
   pub starts : (before ≡ []) ⊎ (BeginsOne P (texts before) ⊎ X (texts before))
   pub none : (after ≡ [] → breaks ≡ None) → NoneGoesOn P (texts before) after
+  pub read : NotExcepted X (texts before) after
   pub told : Told P Z H before after breaks kind
 
 -- what a word is told as at the head of a form where a fixed word is wanted
@@ -120,11 +126,16 @@ starts_behind P Q X Y w forth with (inl s) [] (inl e) = inl (s.0, forth s.0 s.1)
 starts_behind P Q X Y w forth with (inr x) [] (inl e) = inr x
 starts_behind P Q X Y w forth with head (b ∷ bs) (inl e) = absurd cc
 
+read_behind : (X Y : Lines) (t : List ℕ) (front : List (List ℕ)) (after : List Word) → ((ts : List (List ℕ)) → X (t ∷ ts) → Y ts) → NotExcepted Y front after → NotExcepted X (t ∷ front) after
+read_behind X Y t front [] unwith n = tt
+read_behind X Y t front (w ∷ ws) unwith n = λ x. n (unwith (front ++ w.text ∷ []) x)
+
 pub behind : (P Q X Y Z W : Lines) (H K : List ℕ → Kind → Type 0) (w : Word) (ws : List Word) (end : ℕ) (breaks : Option ℕ) (column : ℕ) (kind : Kind)
-    → ((ts : List (List ℕ)) → P (w.text ∷ ts) → Q ts) → ((ts : List (List ℕ)) → Q ts → P (w.text ∷ ts)) → ((ts : List (List ℕ)) → Y ts → X (w.text ∷ ts)) → ((ts : List (List ℕ)) → W ts → Z (w.text ∷ ts)) → ((ts : List (List ℕ)) → Z (w.text ∷ ts) → W ts)
+    → ((ts : List (List ℕ)) → P (w.text ∷ ts) → Q ts) → ((ts : List (List ℕ)) → Q ts → P (w.text ∷ ts)) → ((ts : List (List ℕ)) → Y ts → X (w.text ∷ ts)) → ((ts : List (List ℕ)) → X (w.text ∷ ts) → Y ts)
+    → ((ts : List (List ℕ)) → W ts → Z (w.text ∷ ts)) → ((ts : List (List ℕ)) → Z (w.text ∷ ts) → W ts)
     → BeginsOne Q [] ⊎ X (w.text ∷ []) → ((wrong : List ℕ) (k : Kind) → K wrong k → IsWanted P Z (w.text ∷ []) wrong k)
     → First Q Y W K ws end breaks column kind → First P X Z H (w ∷ ws) end breaks column kind
-behind P Q X Y Z W H K w ws end breaks column kind back forth with last unlast starts head r =
+behind P Q X Y Z W H K w ws end breaks column kind back forth with unwith last unlast starts head r =
     record {
       before = w ∷ r.before;
       after = r.after;
@@ -132,6 +143,7 @@ behind P Q X Y Z W H K w ws end breaks column kind back forth with last unlast s
       place = r.place;
       starts = inr (starts_behind P Q X Y w forth with starts r.before r.starts);
       none = λ whole. none_behind P Q w.text (texts r.before) r.after back (r.none whole);
+      read = read_behind X Y w.text (texts r.before) r.after unwith r.read;
       told = told_behind P Q Z W H K w breaks back forth last unlast head r.before r.after kind r.told;
     }
 
@@ -186,11 +198,17 @@ starts_stay P Q X Y forth with before (inl e) = inl e
 starts_stay P Q X Y forth with before (inr (inl s)) = inr (inl (s.0, forth (texts before ++ s.0) s.1))
 starts_stay P Q X Y forth with before (inr (inr x)) = inr (inr (with (texts before) x))
 
+read_stays : (X Y : Lines) (test : List ℕ → Bool) → ((ts : List (List ℕ)) → begins test ts ≡ false → X ts → Y ts) → (before after : List Word) → is_next test (before ++ after) ≡ false → NotExcepted Y (texts before) after → NotExcepted X (texts before) after
+read_stays X Y test unwith before [] e n = tt
+read_stays X Y test unwith [] (w ∷ ws) e n = λ x. n (unwith (w.text ∷ []) e x)
+read_stays X Y test unwith (b ∷ bs) (w ∷ ws) e n = λ x. n (unwith (texts (b ∷ bs) ++ w.text ∷ []) e x)
+
 pub stays : (P Q X Y Z W : Lines) (H K : List ℕ → Kind → Type 0) (test : List ℕ → Bool) (ws : List Word) (end : ℕ) (breaks : Option ℕ) (column : ℕ) (kind : Kind)
-    → is_next test ws ≡ false → ((ts : List (List ℕ)) → begins test ts ≡ false → P ts → Q ts) → ((ts : List (List ℕ)) → Q ts → P ts) → ((ts : List (List ℕ)) → Y ts → X ts) → ((ts : List (List ℕ)) → W ts → Z ts) → ((ts : List (List ℕ)) → begins test ts ≡ false → Z ts → W ts)
+    → is_next test ws ≡ false → ((ts : List (List ℕ)) → begins test ts ≡ false → P ts → Q ts) → ((ts : List (List ℕ)) → Q ts → P ts) → ((ts : List (List ℕ)) → Y ts → X ts) → ((ts : List (List ℕ)) → begins test ts ≡ false → X ts → Y ts)
+    → ((ts : List (List ℕ)) → W ts → Z ts) → ((ts : List (List ℕ)) → begins test ts ≡ false → Z ts → W ts)
     → ((wrong : List ℕ) → test wrong ≡ false → (k : Kind) → K wrong k → H wrong k)
     → First Q Y W K ws end breaks column kind → First P X Z H ws end breaks column kind
-stays P Q X Y Z W H K test ws end breaks column kind e back forth with last unlast head r =
+stays P Q X Y Z W H K test ws end breaks column kind e back forth with unwith last unlast head r =
     let e' : is_next test (r.before ++ r.after) ≡ false = ap (is_next test) (sym r.parts) ∙ e in
     record {
       before = r.before;
@@ -199,6 +217,7 @@ stays P Q X Y Z W H K test ws end breaks column kind e back forth with last unla
       place = r.place;
       starts = starts_stay P Q X Y forth with r.before r.starts;
       none = λ whole. none_stays P Q test back r.before r.after e' (r.none whole);
+      read = read_stays X Y test unwith r.before r.after e' r.read;
       told = told_stays P Q Z W H K test breaks back forth last unlast head r.before r.after kind e' r.told;
     }
 
@@ -209,10 +228,10 @@ pub of_kind : {A : Type 0} (d : Fault) (column : ℕ) (kind : Kind) → (let r :
 of_kind d column kind e = cc
 
 pub at_end : (P X Z : Lines) (H : List ℕ → Kind → Type 0) (end : ℕ) (breaks : Option ℕ) (column : ℕ) (kind : Kind) → end + 1 ≡ column → end_kind breaks ≡ kind → (P [] → ⊥) → First P X Z H [] end breaks column kind
-at_end P X Z H end breaks column kind e k never = record { before = []; after = []; parts = refl; place = sym e; starts = inl refl; none = λ whole. never; told = sym k }
+at_end P X Z H end breaks column kind e k never = record { before = []; after = []; parts = refl; place = sym e; starts = inl refl; none = λ whole. never; read = tt; told = sym k }
 
-pub at_word : (P X Z : Lines) (H : List ℕ → Kind → Type 0) (w : Word) (ws : List Word) (end : ℕ) (breaks : Option ℕ) (column : ℕ) (kind : Kind) → w.at + 1 ≡ column → H w.text kind → (MayStand P [] w.text → ⊥) → First P X Z H (w ∷ ws) end breaks column kind
-at_word P X Z H w ws end breaks column kind e h never = record { before = []; after = w ∷ ws; parts = refl; place = sym e; starts = inl refl; none = λ whole. never; told = h }
+pub at_word : (P X Z : Lines) (H : List ℕ → Kind → Type 0) (w : Word) (ws : List Word) (end : ℕ) (breaks : Option ℕ) (column : ℕ) (kind : Kind) → w.at + 1 ≡ column → H w.text kind → (MayStand P [] w.text → ⊥) → (X (w.text ∷ []) → ⊥) → First P X Z H (w ∷ ws) end breaks column kind
+at_word P X Z H w ws end breaks column kind e h never free = record { before = []; after = w ∷ ws; parts = refl; place = sym e; starts = inl refl; none = λ whole. never; read = free; told = h }
 
 -- ---- what the head of a form tells, behind a word
 
@@ -275,21 +294,21 @@ begun X w f clear (inr x) = inr x
 
 pub slot_first : {A : Type 0} (X Z : Lines) (f : Form) (kind : Kind) (value : List ℕ → Option A) (next : A → Form) (ws : List Word) (end : ℕ) (breaks : Option ℕ) (column : ℕ) (k : Kind)
     → ((ts : List (List ℕ)) (line : Line) → Spells f ts line → SpellsSlot value next ts line) → ((ts : List (List ℕ)) (line : Line) → SpellsSlot value next ts line → Spells f ts line)
-    → ((wrong : List ℕ) → AtHead f wrong kind)
+    → ((wrong : List ℕ) → AtHead f wrong kind) → ((w : List ℕ) → value w ≡ None → X (w ∷ []) → ⊥)
     → ((w : List ℕ) (x : A) → value w ≡ Some x → (BeginsOne (Whole (next x)) [] ⊎ X (w ∷ [])) × (settled (next x) ≡ true) × ((full (next x) ≡ true) ⊎ Z (w ∷ [])) × (Z (w ∷ []) → tells_number (next x) ≡ true))
     → (slot_at kind value (split ws end breaks) >>= (λ n. read (next n.0) n.1)) ≡ Err (column, k)
     → ((w : List ℕ) (x : A) → value w ≡ Some x → (rest : List Word) → read (next x) (split rest end breaks) ≡ Err (column, k) → First (Whole (next x)) (λ ts. X (w ∷ ts)) (λ ts. Z (w ∷ ts)) (AtHead (next x)) rest end breaks column k)
     → First (Whole f) X Z (AtHead f) ws end breaks column k
 unfolding slot_at
-slot_first X Z f kind value next [] end breaks column k same again head good e rec =
+slot_first X Z f kind value next [] end breaks column k same again head free good e rec =
     at_end (Whole f) X Z (AtHead f) end breaks column k (faulty (missing (split [] end breaks)) column k e) (of_kind (missing (split [] end breaks)) column k e) (λ p. let t = same [] p.0 p.1 in absurd (let n = t.2 in cc))
-slot_first {A} X Z f kind value next (w ∷ ws) end breaks column k same again head good e rec =
+slot_first {A} X Z f kind value next (w ∷ ws) end breaks column k same again head free good e rec =
     elim (cases_option (value w.text)) [
       | inl none ↦
           let e' : (let r : Result Line Fault = Err (w.at + 1, kind) in r) ≡ Err (column, k) = rw none at e in
           at_word (Whole f) X Z (AtHead f) w ws end breaks column k (faulty (w.at + 1, kind) column k e') (subst (AtHead f w.text) (of_kind (w.at + 1, kind) column k e') (head w.text)) (λ m.
           let t = same (w.text ∷ m.0) m.1.0 m.1.1 in
-          none_some t.3 (sym none ∙ ap value (head_is w.text t.0 m.0 t.1 t.2) ∙ t.4))
+          none_some t.3 (sym none ∙ ap value (head_is w.text t.0 m.0 t.1 t.2) ∙ t.4)) (free w.text none)
       | inr some ↦
           let x = some.0 in
           let g = good w.text x some.1 in
@@ -298,7 +317,7 @@ slot_first {A} X Z f kind value next (w ∷ ws) end breaks column k same again h
           let y : t.3 ≡ x = some_is t.3 x (sym t.4 ∙ ap value (sym (head_is w.text t.0 ts t.1 t.2)) ∙ some.1) in
           (p.0, subst (λ (z : A). Spells (next z) ts p.0) y (subst (λ (us : List (List ℕ)). Spells (next t.3) us p.0) (sym (tail_is w.text t.0 ts t.1 t.2)) t.5)) in
           let forth : (ts : List (List ℕ)) → Whole (next x) ts → Whole f (w.text ∷ ts) = λ ts p. (p.0, again (w.text ∷ ts) p.0 (w.text, ts, refl, x, some.1, p.1)) in
-          behind (Whole f) (Whole (next x)) X (λ ts. X (w.text ∷ ts)) Z (λ ts. Z (w.text ∷ ts)) (AtHead f) (AtHead (next x)) w ws end breaks column k back forth (λ ts y. y) (λ ts y. y) (λ ts y. y) g.0
+          behind (Whole f) (Whole (next x)) X (λ ts. X (w.text ∷ ts)) Z (λ ts. Z (w.text ∷ ts)) (AtHead f) (AtHead (next x)) w ws end breaks column k back forth (λ ts y. y) (λ ts y. y) (λ ts y. y) (λ ts y. y) g.0
           (resolved (Whole f) Z (next x) w.text back forth g.1 g.2 g.3) (rec w.text x some.1 ws (rw some.1 at e))
     ]
 

@@ -168,30 +168,35 @@ Good X Z w f = ((lives f ≡ true) ⊎ X (w ∷ [])) × (settled f ≡ true) × 
 -- the words up to each place begin a line of the form, but for those excepted; and a number may stand where one is wanted,
 -- but behind those that are excepted
 abbrev pub Goes : (X Z : List (List ℕ) → Type 0) → Form → Type 0
-Goes X Z (ends kind said) = is_behind kind ≡ true
-Goes X Z nothing = Unit {0}
+Goes X Z (ends kind said) = (is_behind kind ≡ true) × ((w : List ℕ) → X (w ∷ []) → ⊥)
+Goes X Z nothing = (w : List ℕ) → X (w ∷ []) → ⊥
 Goes X Z (either word so other) =
     (is_lettered word ≡ true) × Sure so × (Z (word ∷ []) → ⊥) × (tells_number other ≡ false) × (counts other ≡ false) × (wordy (either word so other) ≡ true)
     × Goes (λ ws. X (word ∷ ws)) (λ ws. Z (word ∷ ws)) so × Goes X Z other
 Goes X Z (a_number slot next) =
-    (w : List ℕ) (n : ℕ) → number_in slot w ≡ Some n → Good X Z w (next n) × Goes (λ ws. X (w ∷ ws)) (λ ws. Z (w ∷ ws)) (next n)
+    ((w : List ℕ) → number_in slot w ≡ None → X (w ∷ []) → ⊥)
+    × ((w : List ℕ) (n : ℕ) → number_in slot w ≡ Some n → Good X Z w (next n) × Goes (λ ws. X (w ∷ ws)) (λ ws. Z (w ∷ ws)) (next n))
 Goes X Z (a_path next) =
-    (w : List ℕ) (p : List (List ℕ)) → path_in w ≡ Some p → Sure (next p) × (Z (w ∷ []) → ⊥) × Goes (λ ws. X (w ∷ ws)) (λ ws. Z (w ∷ ws)) (next p)
-Goes X Z (a_name next) = (w n : List ℕ) → name_in w ≡ Some n → Sure (next n) × (Z (w ∷ []) → ⊥) × Goes (λ ws. X (w ∷ ws)) (λ ws. Z (w ∷ ws)) (next n)
+    ((w : List ℕ) → X (w ∷ []) → ⊥)
+    × ((w : List ℕ) (p : List (List ℕ)) → path_in w ≡ Some p → Sure (next p) × (Z (w ∷ []) → ⊥) × Goes (λ ws. X (w ∷ ws)) (λ ws. Z (w ∷ ws)) (next p))
+Goes X Z (a_name next) =
+    ((w : List ℕ) → X (w ∷ []) → ⊥)
+    × ((w n : List ℕ) → name_in w ≡ Some n → Sure (next n) × (Z (w ∷ []) → ⊥) × Goes (λ ws. X (w ∷ ws)) (λ ws. Z (w ∷ ws)) (next n))
 Goes X Z (some_rights next) =
-    (w : List ℕ) (r : Rights) → rights_in w ≡ Some r → Sure (next r) × (Z (w ∷ []) → ⊥) × Goes (λ ws. X (w ∷ ws)) (λ ws. Z (w ∷ ws)) (next r)
+    ((w : List ℕ) → X (w ∷ []) → ⊥)
+    × ((w : List ℕ) (r : Rights) → rights_in w ≡ Some r → Sure (next r) × (Z (w ∷ []) → ⊥) × Goes (λ ws. X (w ∷ ws)) (λ ws. Z (w ∷ ws)) (next r))
 Goes X Z (a_text slot next) =
-    (has_room slot 2 ≡ true)
+    (has_room slot 2 ≡ true) × ((w : List ℕ) → X (w ∷ []) → ⊥)
     × ((w t : List ℕ) → text_in slot w ≡ Some t → Sure (next t) × (Z (w ∷ []) → ⊥) × Goes (λ ws. X (w ∷ ws)) (λ ws. Z (w ∷ ws)) (next t))
 Goes X Z (perhaps word slot next) =
     (is_lettered word ≡ true) × (holds_one slot ≡ true) × (Z (word ∷ []) → ⊥) × (tells_number (next None) ≡ false) × (counts (next None) ≡ false)
-    × (wordy (perhaps word slot next) ≡ true)
+    × (wordy (perhaps word slot next) ≡ true) × ((w : List ℕ) → X (word ∷ w ∷ []) → ⊥)
     × ((w : List ℕ) (n : ℕ) → number_in slot w ≡ Some n → Sure (next (Some n)) × (Z (word ∷ w ∷ []) → ⊥) × Goes (λ ws. X (word ∷ w ∷ ws)) (λ ws. Z (word ∷ w ∷ ws)) (next (Some n)))
     × Goes X Z (next None)
 Goes X Z (servers_above all last next) =
     (ws : List (List ℕ)) (ss : List ℕ) → SpellServers all last ws ss
     → Sure (next ss) × (tells_number (next ss) ≡ false) × ((all || not (counts (next ss))) ≡ true) × (wordy (next ss) ≡ true)
-    × ((w : List ℕ) → number_of w ≡ Some 8 → Z (ws ++ w ∷ []))
+    × ((w : List ℕ) → number_of w ≡ Some 8 → Z (ws ++ w ∷ [])) × ((w : List ℕ) → X (ws ++ w ∷ []) → ⊥)
     × Goes (λ more. X (ws ++ more)) (λ more. Z (ws ++ more)) (next ss)
 
 -- ---- servers

@@ -103,9 +103,14 @@ IsToldAs Lines Last front (w ∷ ws) breaks kind = IsWanted Lines Last front w.t
 
 -- ---- the law
 
+-- the next word isn't the 8 of `resolve V 8`, which is no wrong one
+abbrev pub IsNotLastServer : List (List ℕ) → List AWord → Type 0
+IsNotLastServer front [] = Unit {0}
+IsNotLastServer front (w ∷ ws) = BehindThreads IsAtLastServer (front ++ w.text ∷ []) → ⊥
+
 -- The column is that of a word, or the one behind the line, or that of what is no word. Some line begins with the words
--- before it, but for `resolve V 8`. None begins with those and the word at it, and where the line ends there they are
--- none.
+-- before it, but for `resolve V 8`, whose 8 is read all the same. None begins with those and the word at it, and where
+-- the line ends there they are none.
 pub record IsFirstColumn (split : Split) (column : ℕ) (kind : Kind) : Type 0 where
   pub before : List AWord
   pub after : List AWord
@@ -113,6 +118,7 @@ pub record IsFirstColumn (split : Split) (column : ℕ) (kind : Kind) : Type 0 w
   pub place : column ≡ column_of split.end after
   pub starts : BeginsOne IsFormed (map (λ w. w.text) before) ⊎ BehindThreads IsAtLastServer (map (λ w. w.text) before)
   pub none : (after ≡ [] → split.breaks ≡ None) → NoneGoesOn IsFormed (map (λ w. w.text) before) after
+  pub read : IsNotLastServer (map (λ w. w.text) before) after
   pub told : IsToldAs IsFormed (BehindThreads EndsAtLastServer) (map (λ w. w.text) before) after split.breaks kind
 
 -- The words are a line which may not stand there: behind several threads, or in a thread without being what a client
