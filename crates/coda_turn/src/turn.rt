@@ -127,11 +127,12 @@ impl<S: Book> Turn<S> {
     ///
     /// # Errors
     ///
-    /// `Busy` exactly where this call's own exchange found an odd word, which another pass had made. The pass remembers
-    /// it, and nothing else changes.
+    /// `Busy` exactly where this call's own exchange found an odd word, which another pass had made: a pass remembers
+    /// each such word as its exchange finds it, so one came to those that it met. Nothing else changes then.
     pub fn try_with<T: Step<S>>(&self, pass: &mut Pass<S>, step: T) -> Result<T::Answer, Busy<T>>
         requires own { pass.old.turn ≡ self.now }
         ensures ok { IfOk result (λ a. IsStep (T.does step) (T.lacks step) pass.old pass.new a) }
+        ensures none_met { IfOk result (λ a. pass.new.met ≡ pass.old.met) }
         ensures busy { IfErr result (λ b. (b.step ≡ step) × (b.word % 2 ≡ 1) × (pass.new ≡ record pass.old { met = pass.old.met ++ b.word ∷ [] })) }
     {
         let shared = &self.table.shared;
