@@ -80,7 +80,11 @@ binds_look offers h fid dir kid name = by (map.get h.nodes fid) (offered offers 
     by None (Some node) e is = (
         let at = offered_is offers fid node e in
         elim (fid_cases dir fid) [
-          | inl here ↦ inr (at.0, at.1, ap (λ d. child at.0 d name) here ∙ ap (λ o. child_of o name) at.2
-              ∙ sym (ap (λ d. child (map.insert h.nodes fid node) d name) here ∙ ap (λ o. child_of o name) (get_here fids_total h.nodes fid node)) ∙ is)
+          | inl here ↦ inr (
+            at.0,
+            at.1,
+            ap (λ d. child at.0 d name) here ∙ ap (λ o. child_of o name) at.2
+                ∙ sym (ap (λ d. child (map.insert h.nodes fid node) d name) here ∙ ap (λ o. child_of o name) (get_here fids_total h.nodes fid node)) ∙ is,
+          )
           | inr off ↦ inl (sym (ap (λ o. child_of o name) (get_else fids_total exact_fids h.nodes fid node dir off)) ∙ is)
         ])
