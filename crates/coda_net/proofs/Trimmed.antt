@@ -1,5 +1,5 @@
 -- What waits once a letter is trimmed.
-use Rattle.std.proofs.Common.{◌≡◌, ℕ, zero, suc, ◌+◌, ◌≤◌, ◌<◌, Bool, true, false, List, [], ◌∷◌, length, take, nat_eq, Option, Some, None, option_map, refl, sym, ap, subst, ◌∙◌, arith, inl, inr}
+use Rattle.std.proofs.Common.{◌≡◌, ℕ, zero, suc, ◌+◌, ◌≤◌, Bool, List, [], ◌∷◌, length, take, nat_eq, Option, Some, None, option_map, refl, sym, ap, subst, ◌∙◌, arith, inl, inr}
 use Rattle.std.specs.Prelude.{cond, if◌then◌else◌}
 use Rattle.std.specs.Map.{keys_of, values_of, set_value}
 use Rattle.std.proofs.lemmas.Bool.{cases_Bool, eqb-true}
@@ -7,8 +7,7 @@ use Rattle.coda_net.specs.declared.letter.Letter.{Letter}
 use Rattle.coda_net.specs.Pool.{Letters, lossy_count, lossy_bytes, cut_to, trimmed, letter_at, AreRising, AreUpTo, AreKept}
 use Rattle.coda_net.specs.Laws.{TrimmedLettersWait}
 use Rattle.coda_net.proofs.Losing.{within_count, within_bytes, is_within}
-use Rattle.coda_net.proofs.Kept.{count_lossy, count_safe, bytes_lossy, bytes_safe}
-use Rattle.coda_net.proofs.Found.{some_is, some_isnt, at_first, at_later}
+use Rattle.coda_net.proofs.Found.{some_is, some_isnt, at_later}
 
 -- what is written in the place of the letter of a number
 pub trimmed_set : (number most : ℕ) (ls : Letters) (x : Letter) → letter_at ls number ≡ Some x → set_value (nat_eq number) ls (cut_to most x) ≡ trimmed ls number most

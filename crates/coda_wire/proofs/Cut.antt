@@ -1,8 +1,8 @@
 -- What is left of a message that is cut short is refused where it ends.
-use Rattle.std.proofs.Common.{◌≡◌, ℕ, zero, suc, ◌≤◌, ◌<◌, Bool, true, false, List, [], ◌∷◌, ◌++◌, length, take, drop, get_or, nat_lt, Result, Ok, Err, refl, sym, ap, subst, ◌∙◌, arith, inl, inr}
+use Rattle.std.proofs.Common.{◌≡◌, ℕ, zero, suc, ◌<◌, List, [], ◌∷◌, ◌++◌, length, take, drop, nat_lt, Result, Ok, Err, refl, ap, subst, arith, inl, inr}
 use Rattle.std.proofs.lemmas.Bool.{cases_Bool, ltb-true, ltb-false}
 use Rattle.coda_record.specs.Exact.{AreBytes, IsExact}
-use Rattle.coda_record.specs.Spelling.{Spells, whole}
+use Rattle.coda_record.specs.Spelling.{whole}
 use Rattle.coda_record.proofs.Offsets.{agreeing_is_exact}
 use Rattle.coda_wire.specs.declared.message.Message.{Message}
 use Rattle.coda_wire.specs.Table.{message}

@@ -1,6 +1,5 @@
-use Rattle.std.proofs.Common.{sym, ap, ◌∙◌, nat_eq}
+use Rattle.std.proofs.Common.{sym, ap, ◌∙◌}
 use Rattle.std.specs.Option.{option_copied_mut}
-use Rattle.std.specs.Map.{set_value}
 use Rattle.coda_net.proofs.Trimmed.{trimmed_set, none_trimmed}
 use Rattle.coda_net.proofs.pool.trim.Goals as goal
 
