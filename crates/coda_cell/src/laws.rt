@@ -22,16 +22,16 @@ pub fn clients_alone_meet_no_conflict()
     ensures { ClientsAloneMeetNoConflict }
 {}
 
-/// A law of lines: one that names an actor that isn't there is refused for the leftmost of these, whatever else is wrong with it;
-/// then a log isn't sent over a link that is down. An operation is refused for content that is too long, then for the first check that
-/// refuses, and for a log that is full only where acceptance has nothing against it.
+/// A law of lines: one that names an actor that isn't there is refused for the leftmost of these, whatever else is wrong
+/// with it; then a log isn't sent over a link that is down. An operation is refused for content that is too long, then
+/// for the first check that refuses, and for a log that is full only where acceptance has nothing against it.
 pub fn refusals_come_in_order()
     ensures { RefusalsComeInOrder }
 {}
 
-/// A law of operations: what is asked of a client goes by a list of checks, one list for each kind of ask. It is refused for the first
-/// check that refuses, and where none does it is accepted. What each check looks at is said by itself, so the lists are the order in which
-/// causes are named.
+/// A law of operations: what is asked of a client goes by a list of checks, one list for each kind of ask. It is refused
+/// for the first check that refuses, and where none does it is accepted. What each check looks at is said by itself, so
+/// the lists are the order in which causes are named.
 pub fn acceptance_goes_by_checks()
     ensures { AcceptanceGoesByChecks }
 {}

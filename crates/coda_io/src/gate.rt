@@ -1,6 +1,6 @@
 // Where the threads of clients come by, so that a test can say in which order they go on.
 
-/// A thread of a client, as a script names it.
+/// A thread of a client, as a script names it. Elsewhere an actor is a client or a replica.
 #[derive(Clone, Copy, Debug, PartialEq, Eq)]
 pub struct Actor {
     /// The client, from 1 to 255.

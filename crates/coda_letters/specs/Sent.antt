@@ -1,4 +1,4 @@
--- Letters as what they say: a client's chunk on its way to a server, or the answer to it on its way back.
+-- Letters as what they say: a client's chunk on its way to a server, or the answer to it on its way back; and the letter of a break.
 use Rattle.std.specs.Prelude.{◌≡◌, ℕ, Bool, true, false, nat_eq, List, [], ◌∷◌, ◌++◌, map, drop, Option}
 use Rattle.std.specs.Map.{lookup, remove_entry}
 use Rattle.coda_fid.specs.declared.fid.Fid.{Fid}

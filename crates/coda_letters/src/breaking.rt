@@ -12,14 +12,15 @@ use coda_reslog::Fids;
 use coda_wire::{Message, write};
 use std::alloc::Global;
 
-/// Posts a server's word to a client that objects changed of which it had promised to tell, and answers the number of its letter. It
-/// counts for no limit: it waits until it is lost by its number, and puts no other letter out.
+/// Posts a server's word to a client that objects changed of which it had promised to tell, and answers the number of
+/// its letter. It counts for no limit: it waits until it is lost by its number, and puts no other letter out.
 ///
 /// It asks that the word can be spelled, and that fewer than 2^63 letters were posted before.
 ///
 /// # Errors
 ///
-/// `LinkDown` only where the link of the two is down, over which nothing is posted, and else only `Memory`. Nothing changes then.
+/// `LinkDown` only where the link of the two is down, over which nothing is posted, and else only `Memory`. Nothing
+/// changes then.
 pub fn post_break(
     alloc: Global,
     net: &mut Net,

@@ -1,4 +1,5 @@
-//! Letters between clients and servers as what they say: chunks on their way to be decided, and the answers to them.
+//! Letters between clients and servers as what they say: chunks on their way to be decided, the answers to them, and
+//! breaks.
 #![tactic(auto)]
 
 mod breaking;

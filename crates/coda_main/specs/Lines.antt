@@ -1,11 +1,10 @@
--- What a script's lines are, whatever cell they run in.
-use Rattle.std.specs.Prelude.{◌≡◌, ℕ, true, ◌⊎◌, List, [], Some, None, Ok, Err, ◌∷◌, codes}
-use Rattle.coda_engine.specs.declared.status.Kind.{Kind}
+-- What a script's lines are, whatever cell they run in, which of them may ask the bay, and the words of a command line.
+use Rattle.std.specs.Prelude.{◌≡◌, ℕ, true, ◌⊎◌, List, [], Some, None, Ok, ◌∷◌, codes}
 use Rattle.coda_script.specs.declared.line.Line.{Line}
 use Rattle.coda_script.specs.Lines.{line_of}
 use Rattle.coda_site.specs.Makings.{asks_bay}
 use Rattle.coda_shelves.specs.Lines.{is_built}
-use Rattle.coda_runs.specs.Shelved.{IsUnbuilt, Replies}
+use Rattle.coda_runs.specs.Shelved.{Replies}
 use Rattle.coda_script.specs.declared.reply.Reply.{Reply}
 use Rattle.coda_script.specs.declared.reply.Reply.TheVariants.{Opened, Crashed, Refused}
 use Rattle.coda_shelves.specs.Cells.{Cell}

@@ -3,7 +3,6 @@ use Rattle.std.specs.Prelude.{◌≡◌, ◌≢◌, ◌⊎◌, ◌≤◌, ◌++�
 use Rattle.coda_disk.specs.Bays.{plus}
 use Rattle.coda_disk.specs.Told.{Told}
 use Rattle.coda_engine.specs.Run.{Reports}
-use Rattle.coda_engine.specs.declared.status.Kind.{Kind}
 use Rattle.coda_engine.specs.declared.status.Status.{Status}
 use Rattle.coda_engine.specs.declared.status.Status.TheVariants.{BayFault, Memory}
 use Rattle.coda_script.specs.Lines.{line_of}

@@ -1,4 +1,4 @@
--- The cell of the code as a machine: what it is between two lines, and how a line stops.
+-- The cell of the code as a machine: what it is between two lines, how a line stops, and what one keeps at which the bay was at fault.
 use Rattle.std.specs.Prelude.{◌≡◌, ◌≤◌, ◌++◌, ℕ, Bool, ⊤, nat_lt, List, drop, length, if◌then◌else◌}
 use Rattle.coda_disk.specs.Told.{Told}
 use Rattle.coda_engine.specs.declared.machine.LineStop.{LineStop}

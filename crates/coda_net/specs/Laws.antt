@@ -1,4 +1,4 @@
--- What holds of the letters that wait, in words of which are lost.
+-- What holds of the letters that wait, in words of which are lost and which are trimmed.
 use Rattle.std.specs.Prelude.{◌≡◌, ◌<◌, ◌≤◌, ◌+◌, ℕ, Bool, true, false, not, List, [], ◌∷◌, ◌++◌, drop, Some, None, option_map, if◌then◌else◌}
 use Rattle.std.specs.List.{filter}
 use Rattle.std.specs.Map.{keys_of, values_of}

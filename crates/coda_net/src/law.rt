@@ -15,7 +15,8 @@ pub fn letters_wait_until_they_are_lost()
     ensures { LettersWaitUntilLost }
 {}
 
-/// A law of the pool: a letter that is trimmed has fewer bytes and waits on.
+/// A law of the pool: a letter that is trimmed has its first bytes alone and waits on under its number; all others are
+/// as they were.
 pub fn trimmed_letters_wait()
     ensures { TrimmedLettersWait }
 {}

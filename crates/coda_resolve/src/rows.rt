@@ -62,7 +62,7 @@ const ADD_A_AT_TWO: Update = (2, 1, ResKind::Add, Some(b"a"), None, 2, None);
 
 const ADD_B_AT_TWO: Update = (2, 1, ResKind::Add, Some(b"b"), None, 2, None);
 
-pub(crate) const ROWS: [Row; 17] = [
+pub(crate) const ROWS: [Row; 20] = [
     Row {
         says: "what is the same stays",
         replicas: &[
@@ -334,7 +334,7 @@ pub(crate) const ROWS: [Row; 17] = [
         touched: 2,
     },
     Row {
-        says: "of three two agree, and the third did something else",
+        says: "of three two agree, and the other did something else",
         replicas: &[
             &[
                 (0, Dir(&[(b"a", 1)]), false, ONE, &[ADD_A]),
@@ -356,7 +356,13 @@ pub(crate) const ROWS: [Row; 17] = [
         says: "of several causes the first, and nothing below",
         replicas: &[
             &[
-                (0, Dir(&[(b"a", 1), (b"f", 3)]), false, ONE, &[ADD_A]),
+                (
+                    0,
+                    Dir(&[(b"a", 1), (b"f", 3)]),
+                    false,
+                    [2, 0, 0],
+                    &[ADD_A, (1, 2, ResKind::Attr, None, None, 0, None)],
+                ),
                 (1, File(b"x"), false, ONE, &[]),
                 (3, File(b"x"), false, ONE, &[]),
             ],
@@ -373,6 +379,70 @@ pub(crate) const ROWS: [Row; 17] = [
             ],
         ],
         marks: &[(0, Cause::NameName(b"a"))],
+        touched: 1,
+    },
+    Row {
+        says: "an object that one took out and one renamed",
+        replicas: &[
+            &[(
+                0,
+                Dir(&[]),
+                false,
+                ONE,
+                &[(1, 1, ResKind::Drop, Some(b"a"), None, 3, Some((3, NONE)))],
+            )],
+            &[
+                (
+                    0,
+                    Dir(&[(b"b", 3)]),
+                    false,
+                    TWO,
+                    &[(2, 1, ResKind::Rename, Some(b"a"), Some(b"b"), 3, None)],
+                ),
+                (3, File(b"x"), false, NONE, &[]),
+            ],
+        ],
+        marks: &[(0, Cause::DoubleName(3))],
+        touched: 1,
+    },
+    Row {
+        says: "a directory that was removed and has an entry",
+        replicas: &[
+            &[(
+                0,
+                Dir(&[]),
+                false,
+                ONE,
+                &[(1, 1, ResKind::Drop, Some(b"d"), None, 1, Some((1, TWO)))],
+            )],
+            &[
+                (0, Dir(&[(b"d", 1)]), false, NONE, &[]),
+                (
+                    1,
+                    Dir(&[(b"a", 3)]),
+                    false,
+                    TWO,
+                    &[(2, 1, ResKind::Add, Some(b"a"), None, 3, None)],
+                ),
+                (3, File(b"x"), false, TWO, &[]),
+            ],
+        ],
+        marks: &[(0, Cause::RemoveUpdate(1))],
+        touched: 1,
+    },
+    Row {
+        says: "a file that one replica has marked is marked everywhere",
+        replicas: &[
+            &[
+                (0, Dir(&[(b"a", 3)]), false, NONE, &[]),
+                (3, File(b"x"), true, ONE, &[]),
+            ],
+            &[
+                (0, Dir(&[(b"a", 3)]), false, NONE, &[]),
+                (3, File(b"x"), false, ONE, &[]),
+            ],
+        ],
+        marks: &[(3, Cause::Kept)],
         touched: 1,
     },
 ];

@@ -218,7 +218,7 @@ fn merged(alloc: Global, views: &[View]) -> Option<Outcome> {
 fn each_cause_marks(rt: HostRuntime) -> Result<(), Fail> {
     for row in &ROWS {
         let views = views(rt.alloc(), row.replicas).ok_or("memory")?;
-        let outcome = merged(rt.alloc(), &views).ok_or("memory")?;
+        let outcome = merged(rt.alloc(), &views).ok_or("memory, or views out of order")?;
         assert!(rt; are_marked(&outcome.marks, row.marks), "{}", row.says);
         assert_eq!(rt; outcome.touched, row.touched, "{}", row.says);
     }
@@ -230,9 +230,9 @@ fn each_cause_marks(rt: HostRuntime) -> Result<(), Fail> {
 fn a_second_one_does_nothing(rt: HostRuntime) -> Result<(), Fail> {
     for row in &ROWS {
         let first = views(rt.alloc(), row.replicas).ok_or("memory")?;
-        let outcome = merged(rt.alloc(), &first).ok_or("memory")?;
+        let outcome = merged(rt.alloc(), &first).ok_or("memory, or views out of order")?;
         let after = resolved(rt.alloc(), first, &outcome).ok_or("memory")?;
-        let second = merged(rt.alloc(), &after).ok_or("memory")?;
+        let second = merged(rt.alloc(), &after).ok_or("memory, or views out of order")?;
         assert_eq!(rt; second.marks.marks().len(), 0, "{}", row.says);
         assert_eq!(rt; second.touched, 0, "{}", row.says);
     }

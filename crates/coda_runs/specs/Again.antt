@@ -1,4 +1,5 @@
--- What lines find on the disks on which they make actors, or recover them, whoever made them before; and what they leave of all others.
+-- What lines find on the disks on which they make actors, or recover them, whoever made them before; what they leave of all others; and that
+-- what one run made can be made again.
 use Rattle.std.specs.Prelude.{◌≡◌, ◌≢◌, ◌⊎◌, ℕ, length, List, [], ◌∷◌, Option, Some, true}
 use Rattle.coda_actors.specs.Plain.{PlainDisk, PlainActor, Unmade, Up}
 use Rattle.coda_journal.specs.declared.header.Header.{Header}

@@ -1,4 +1,4 @@
--- That a refusal of an operation, a read or a listing has its cause, in the words of a file system.
+-- That a refusal of an operation, a read or a listing has its cause, in the words of a file system; and that what is missed can't be fetched.
 use Rattle.std.specs.Prelude.{◌≡◌, ◌≢◌, ◌⊎◌, ◌<◌, ◌≤◌, ℕ, true, false, length, List, [], ◌∷◌, ◌++◌, Option, Some, None}
 use Rattle.std.specs.FinMap as map
 use Rattle.coda_fid.specs.Fid.{root_of}

@@ -1,4 +1,4 @@
--- That a chunk which is frozen goes again, and that what a drain tells of one is so.
+-- That a chunk which is frozen goes again, that a verdict thaws it, and that what a drain tells of one is so.
 use Rattle.std.specs.Prelude.{◌≡◌, ◌⊎◌, ◌+◌, ◌≤◌, ℕ, false, List, Option, Some, None}
 use Rattle.coda_certify.specs.declared.verdict.Verdict.{Verdict}
 use Rattle.coda_cml.specs.declared.frozen.Frozen.{Frozen}

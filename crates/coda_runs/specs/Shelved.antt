@@ -1,4 +1,4 @@
--- Runs of scripts over whatever stands on the disks of a bay: a cell is its disks.
+-- Runs of scripts over whatever stands on the disks of a bay: a cell is its disks; and which lines are refused.
 use Rattle.std.specs.Prelude.{◌≡◌, ℕ, true, ◌⊎◌, ◌++◌, List, [], Some, None, Ok, false, Err}
 use Rattle.coda_cancel.specs.Cancel.{fold}
 use Rattle.coda_engine.specs.Run.{Runs}

@@ -1,4 +1,4 @@
--- That what a line reads or lists is what stands at its path.
+-- That what a line reads or lists is what stands at its path; and that nothing is shown of an actor that is down.
 use Rattle.std.specs.Prelude.{◌≡◌, ◌≢◌, ℕ, List, Option, Some, None, false}
 use Rattle.std.specs.FinMap as map
 use Rattle.coda_fid.specs.Fid.{root_of}

@@ -1,20 +1,15 @@
 // What all runs of scripts have in common, whatever stands on the disks where they begin.
-ghost use Rattle.coda_runs.specs.Again.{WhoNeverCameIsAsItWas, OwnDisksAreNotForeign, WhatOthersHoldIsKept, WhatIsMadeAgainIsCounted, RecoveriesFindTheirOwn};
+ghost use Rattle.coda_runs.specs.Again.{WhoNeverCameIsAsItWas, OwnDisksAreNotForeign, WhatOthersHoldIsKept, WhatIsMadeAgainIsCounted, RecoveriesFindTheirOwn, WhatRanCanBeResumed};
 ghost use Rattle.coda_runs.specs.Because.{EveryRefusalHasItsCause};
-ghost use Rattle.coda_runs.specs.Causes.{RefusalsHaveCauses};
+ghost use Rattle.coda_runs.specs.Causes.{RefusalsHaveCauses, MissesAreUnreachable};
 ghost use Rattle.coda_runs.specs.Complete.{CleanScriptsEnd, ScriptsHaveOneStatus, ScriptsInGrammarAreClean};
-ghost use Rattle.coda_runs.specs.Headline.{WhatRanIsKept, ScriptsRun, ChunksAreDecidedOnce, CertifiedChunksAreApplied, ConflictsNameASentRecord, OperationsAreKept, VolumesInOneRowAreDoneOnce, SettlementsAreDecided, LogsArePending, AcknowledgedEntriesStay, ClientsComeBack, ReplicasComeBack};
-ghost use Rattle.coda_runs.specs.Going.{FrozenChunksGoAgain, VerdictsAreTold};
+ghost use Rattle.coda_runs.specs.Headline.{WhatRanIsKept, ScriptsRun, ChunksAreDecidedOnce, CertifiedChunksAreApplied, ConflictsNameASentRecord, OperationsAreKept, VolumesInOneRowAreDoneOnce, SettlementsAreDecided, LogsArePending, AcknowledgedEntriesStay, ClientsComeBack, ReplicasComeBack, ChunksOverwriteNobody};
+ghost use Rattle.coda_runs.specs.Going.{FrozenChunksGoAgain, VerdictsAreTold, VerdictsThaw};
 ghost use Rattle.coda_runs.specs.Lettered.{RepliesNameLetters, LettersSayWhatIsSo, LettersHaveEnds};
-ghost use Rattle.coda_runs.specs.Causes.{MissesAreUnreachable};
-ghost use Rattle.coda_runs.specs.Headline.{ChunksOverwriteNobody};
 ghost use Rattle.coda_runs.specs.Performed.{OperationsArePerformed};
-ghost use Rattle.coda_runs.specs.Again.{WhatRanCanBeResumed};
 ghost use Rattle.coda_runs.specs.Shelved.{RunsGoOn};
-ghost use Rattle.coda_runs.specs.Shown.{WhatIsShownIsThere};
-ghost use Rattle.coda_runs.specs.Shown.{WhatIsShownIsUp};
+ghost use Rattle.coda_runs.specs.Shown.{WhatIsShownIsThere, WhatIsShownIsUp};
 ghost use Rattle.coda_runs.specs.Standing.{VerdictsStandAtHome, ChunksStandWithClients};
-ghost use Rattle.coda_runs.specs.Going.{VerdictsThaw};
 ghost use Rattle.coda_runs.specs.Untouched.{RefusedLinesChangeLittle};
 ghost use Rattle.coda_runs.specs.Volumes.{LinesActOnMadeVolumes, ScriptsActOnMadeVolumes};
 

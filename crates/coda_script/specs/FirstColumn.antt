@@ -37,7 +37,8 @@ IsAtLastServer ws =
     (v : List ℕ) × (s : List ℕ) × (ws ≡ codes "resolve" ∷ v ∷ s ∷ [])
     × (is_some (number_in (between 1 4294967295) v) ≡ true) × (number_in (between 1 8) s ≡ Some 8)
 
--- a `volume` or a `resolve` line up to the last server, above which there is none
+-- Words as those of a `volume` or a `resolve` line up to server 8, above which there is none; whether they begin a line
+-- isn't asked here.
 abbrev pub EndsAtLastServer : List (List ℕ) → Type 0
 EndsAtLastServer ws =
     (v : List ℕ) × (servers : List (List ℕ)) × (s : List ℕ)
@@ -110,7 +111,7 @@ IsNotLastServer front (w ∷ ws) = BehindThreads IsAtLastServer (front ++ w.text
 
 -- The column is that of a word, or the one behind the line, or that of what is no word. Some line begins with the words
 -- before it, but for `resolve V 8`, whose 8 is read all the same. None begins with those and the word at it, and where
--- the line ends there they are none.
+-- the line ends there they are no line.
 pub record IsFirstColumn (split : Split) (column : ℕ) (kind : Kind) : Type 0 where
   pub before : List AWord
   pub after : List AWord
