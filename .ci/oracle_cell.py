@@ -7,12 +7,25 @@ from oracle_texts import Refused, content_text, fid_text, printed, words_of
 from oracle_volume import KIND_MADE, shown
 
 
+def next_state(state, link, log_is_empty):
+    """The state after a look at the best link to a replica that is reached, and at the log."""
+    if link == "down":
+        return "emulating"
+    if state == "emulating":
+        return "write-disconnected"
+    if state == "write-disconnected" and link == "strong" and log_is_empty:
+        return "hoarding"
+    if state == "hoarding" and (link == "weak" or not log_is_empty):
+        return "write-disconnected"
+    return state
+
+
 class Cell:
     """All actors of a script, over a bay of disks, which are files or in memory."""
 
     def __init__(self, in_files, disks=None):
         self.actors, self.letters, self.in_files = Actors({} if disks is None else disks), Letters(), in_files
-        self.clock, self.up, self.fetched = 0, set(), set()
+        self.clock, self.links, self.states, self.fetched = 0, {}, {}, set()
 
     def next_run(self):
         """The cell of the next run over the same disks."""
@@ -26,9 +39,11 @@ class Cell:
         if not words or words[0].startswith(b"#"):
             return ""
         try:
-            return self.reply(words[0].decode(), words) + "\n"
+            text = self.reply(words[0].decode(), words) + "\n"
         except Refused as refusal:
-            return refusal.text + "\n"
+            text = refusal.text + "\n"
+        self.replace_states()
+        return text
 
     def reply(self, kind, words):
         self.fetched = set()
@@ -40,9 +55,12 @@ class Cell:
             self.clock = min(self.clock + int(words[1]), 2**64 - 1)
             return "ok"
         if kind == "link":
-            return self.link(int(words[1]), int(words[2]), words[3] == b"strong")
+            return self.link(int(words[1]), int(words[2]), words[3].decode())
         if kind == "show" and words[1] == b"log":
             return self.client_at(int(words[2]), int(words[3])).log(int(words[3])).text()
+        if kind == "show" and words[1] == b"state":
+            self.client_at(int(words[2]), int(words[3]))
+            return self.states.get((int(words[2]), int(words[3])), "emulating")
         if kind == "show":
             server, volume = int(words[2]), int(words[3])
             return "\n".join(shown(volume, server, self.actors.replica(server, volume).up().nodes))
@@ -70,13 +88,29 @@ class Cell:
             return self.list(client, volume, words[3])
         return self.operate(client, volume, kind, words[3:])
 
-    def link(self, client, server, strong):
+    def link(self, client, server, strength):
         actor = self.actors.client(client)
         if server not in self.actors.servers.values():
             raise Refused("no-such-actor", server)
         actor.up()
-        (self.up.add if strong else self.up.discard)((client, server))
+        self.links[client, server] = strength
         return "ok"
+
+    # ---- the states of clients
+
+    def replace_states(self):
+        """After every line the state of each client that is up, on each volume, is replaced by the next one, twice."""
+        for volume, replica in self.actors.replicas.items():
+            for client, actor in self.actors.clients.items():
+                if actor.has is not None:
+                    link = "down" if replica.has is None else self.strength(client, self.actors.servers[volume])
+                    log, state = actor.has.log(volume), self.states.get((client, volume), "emulating")
+                    for _ in range(2):
+                        state = next_state(state, link, log.is_empty())
+                    self.states[client, volume] = state
+
+    def strength(self, client, server):
+        return self.links.get((client, server), "down")
 
     def client_at(self, client, volume):
         """What a client has that a line names with a volume."""
@@ -104,7 +138,7 @@ class Cell:
     # ---- chunks and their answers
 
     def reach(self, client, server):
-        if (client, server) not in self.up:
+        if self.strength(client, server) == "down":
             raise Refused("link-down")
 
     def freeze(self, client, volume, server, window, asks_server):
@@ -175,7 +209,7 @@ class Cell:
         """An object that a client looks at: its own copy, which it fetches where it has none."""
         actor, replica = self.actors.clients[client], self.actors.replicas[volume].has
         if fid not in actor.has.nodes:
-            if (client, self.actors.servers[volume]) not in self.up or replica is None or fid not in replica.nodes:
+            if self.strength(client, self.actors.servers[volume]) == "down" or replica is None or fid not in replica.nodes:
                 raise Refused("miss", fid_text(fid))
             parent, node = actor.has.likely_parent(fid), replica.nodes[fid].copy()
             actor.append(("fetched", fid, parent, node), fetched_length(parent, node))

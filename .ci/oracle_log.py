@@ -215,6 +215,9 @@ class Log:
         rest = self.rest if applied else Run(self.front.pending + self.rest.pending)
         self.front, self.home, self.rest = None, None, rest
 
+    def is_empty(self):
+        return not self.rest.records and not (self.front and self.front.records)
+
     def text(self):
         chunk = self.chunks if self.front else "-"
         frozen = self.front.lines("frozen") if self.front else []

@@ -17,7 +17,7 @@ ODD_LINES = (
     "read 9 7 /", "list 1 9 /", "drain 2 7 2 window 0", "drain 3 7 5 window 0", "show volume 3 7", "volume 7 on 3",
     "client 2 cache 9", "link 1 4 down", "store 3 7 /a fill 1048577 0", "# nothing", "", "drain 9 7 1", "drain 1 7 3 window 5",
     "crash client 9 0", "recover replica 2 7", "arm replica 1 9 2", "client 10 cache 9 area 64", "client 11 cache 9 area 64",
-    "show log 9 7", "show log 1 9", "show log 3 8", "send 9 7 1", "send 2 7 2 window 0", "deliver 0", "lose 0", "send 1 9 1",
+    "show log 9 7", "show state 9 7", "show state 1 9", "show log 1 9", "show log 3 8", "send 9 7 1", "send 2 7 2 window 0", "deliver 0", "lose 0", "send 1 9 1",
 )
 
 
@@ -123,8 +123,8 @@ class Writer:
         down = [number for number, actor in self.actors.clients.items() if actor.has is None]
         if down and self.random.random() < 0.2:
             client = self.random.choice(down)
-        weights = (170, 6, 6, 3, 3, 6, 3, 4, 2, 3, 4, 1) if self.is_long else (140, 8, 8, 18, 8, 12, 4, 9, 3, 16, 22, 3)
-        kinds = ("operation", "read", "list", "drain", "link", "tick", "show", "log", "odd", "send", "deliver", "lose", "failing")
+        weights = (170, 6, 6, 3, 3, 6, 3, 4, 3, 2, 3, 4, 1) if self.is_long else (140, 8, 8, 18, 8, 12, 4, 9, 6, 3, 16, 22, 3)
+        kinds = ("operation", "read", "list", "drain", "link", "tick", "show", "log", "state", "odd", "send", "deliver", "lose", "failing")
         are_down = len(down) + sum(actor.has is None for actor in self.actors.replicas.values())
         failing = (60 if self.is_harsh else 4) + 60 * are_down
         kind = self.random.choices(kinds, weights + (failing,))[0]
@@ -137,10 +137,11 @@ class Writer:
             "send": f"send {client} {volume} {server}{self.random.choice(WINDOWS)}",
             "deliver": f"deliver {self.message()}",
             "lose": f"lose {self.message()}",
-            "link": f"link {client} {server} {self.random.choice(('strong', 'strong', 'down'))}",
+            "link": f"link {client} {server} {self.random.choice(('strong', 'strong', 'weak', 'down'))}",
             "tick": f"tick {self.random.choice(TICKS)}",
             "show": f"show volume {server} {volume}",
             "log": f"show log {client} {volume}",
+            "state": f"show state {client} {volume}",
             "odd": self.random.choice(ODD_LINES),
             "failing": self.failing(client, volume, server),
         }[kind]

@@ -17,7 +17,7 @@ use Rattle.coda_cell.specs.Asking.{Answer, operate, read, list}
 use Rattle.coda_cell.specs.Messages.{Ending, over, Going, going_by, sends_of}
 use Rattle.coda_cell.specs.Sending.{Freezing, freezing, deeds_at}
 use Rattle.coda_cell.specs.State.{ClientState, ReplicaState, CellState, Event, at_client}
-use Rattle.coda_cell.specs.Steps.{client_named, volume_named, holder_named, server_named, on_volume, on_holder, first_missing, no_room, no_volume, no_client, Doing, Unless, Naming, reached, offers_of, reply_to, ByClient, ByBoth, BySend, ByRuling, ByTaking, bytes_of, Operates, DoesTask, Comes, link_down, Delivers, Does}
+use Rattle.coda_cell.specs.Steps.{client_named, volume_named, holder_named, server_named, on_volume, on_holder, first_missing, no_room, no_volume, no_client, Doing, Unless, Naming, reached, offers_of, reply_to, ByClient, ByBoth, BySend, ShowsState, ByRuling, ByTaking, bytes_of, Operates, DoesTask, Comes, link_down, Delivers, Does}
 use Rattle.coda_cell.specs.Refused.{Refused}
 
 -- the client and the volume that a task is for
@@ -49,16 +49,18 @@ replica_to None = None
 replica_to (Some (ChunkSent client server volume number span)) = Some volume
 replica_to (Some (AnswerSent server client volume number answer)) = None
 
--- The client that takes part in a line, by the letters that wait: that of a task, who sends a chunk, and who a letter is delivered to.
+-- The client that takes part in a line, by the letters that wait: that of a task, whose state is shown, who sends a chunk, and who a letter is delivered to.
 abbrev pub client_in : Line → Waiting → Option ℕ
 client_in (line.Task work) waiting = Some (for_task work).0
+client_in (line.ShowState client volume) waiting = Some client
 client_in (line.Send client volume server window) waiting = Some client
 client_in (line.Deliver message) waiting = client_to (sent_at message waiting)
 client_in _ waiting = None
 
--- the volume whose replica takes part in a line: that of a task, and the one that a letter is delivered to
+-- the volume whose replica takes part in a line: that of a task, the one on which a state is shown, and the one that a letter is delivered to
 abbrev pub replica_in : Line → Waiting → Option ℕ
 replica_in (line.Task work) waiting = Some (for_task work).1
+replica_in (line.ShowState client volume) waiting = Some volume
 replica_in (line.Deliver message) waiting = replica_to (sent_at message waiting)
 replica_in _ waiting = None
 
@@ -143,6 +145,16 @@ module _ (t : CellState) (replicas : ℕ → Option ReplicaState) (clients : ℕ
     happened = did.happened;
   }
 
+  by_state : (client volume : ℕ) → clients client ≡ t.clients client → replicas volume ≡ t.replicas volume → ShowsState s client volume reply events → ShowsState t client volume reply events
+  by_state client volume here home did = record {
+    client = did.client;
+    replica = did.replica;
+    client_there = sym here ∙ did.client_there;
+    replica_there = sym home ∙ did.replica_there;
+    answered = did.answered;
+    happened = did.happened;
+  }
+
   going_same : (sent : Sent) (o : Option ℕ) → going_by o sent s ≡ going_by o sent t
   going_same sent None = refl
   going_same sent (Some message) = refl
@@ -218,6 +230,9 @@ module _ (t : CellState) (replicas : ℕ → Option ReplicaState) (clients : ℕ
   line_same (line.ShowVolume server volume) here home does =
       unless_same (first_missing (holder_named s server volume ∷ [])) (first_missing (holder_named t server volume ∷ [])) _ _ reply events (λ i. first_missing (holder_same server volume i ∷ [])) (λ did. did) does
   line_same (line.ShowLog client volume) here home does = unless_same (first_missing (on_volume s client volume)) (first_missing (on_volume t client volume)) _ _ reply events (on_volume_same client volume) (λ did. did) does
+  line_same (line.ShowState client volume) here home does =
+      unless_same (first_missing (on_volume s client volume)) (first_missing (on_volume t client volume)) (ShowsState s client volume) (ShowsState t client volume) reply events
+      (on_volume_same client volume) (by_state client volume (here client refl) (home volume refl)) does
   line_same (line.Send client volume server window) here home does =
       unless_same (first_missing (on_holder s client volume server)) (first_missing (on_holder t client volume server)) (BySend s client volume server (unwrap_or window 600)) (BySend t client volume server (unwrap_or window 600)) reply events
       (on_holder_same client volume server) (by_send client volume server (unwrap_or window 600) (here client refl)) does

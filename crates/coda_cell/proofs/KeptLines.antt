@@ -377,6 +377,7 @@ module _ (cell : MadeCell) (kept : IsKept cell) where
   line_left (line.Task t) reply events numbered does = task_left t reply events does
   line_left (line.ShowVolume server volume) reply events numbered does = unless_own (first_missing (holder_named (state_of cell) server volume ∷ [])) _ reply events (λ all did. nothing_left events did.1) does
   line_left (line.ShowLog client volume) reply events numbered does = unless_own (first_missing (on_volume (state_of cell) client volume)) _ reply events (λ all did. nothing_left events did.1) does
+  line_left (line.ShowState client volume) reply events numbered does = unless_own (first_missing (on_volume (state_of cell) client volume)) _ reply events (λ all did. nothing_left events did.happened) does
   line_left (line.Send client volume server window) reply events numbered does = send_left client volume server (unwrap_or window 600) reply events does
   line_left (line.Deliver message) reply events numbered does = delivers_left message (sent_at message cell.waiting) reply events refl does
   line_left (line.Lose message) reply events numbered does = loses_left message (sent_at message cell.waiting) reply events does

@@ -82,6 +82,7 @@ module _ (s : CellState) (reply : Reply) (events : List Event) (front back : Lis
   line_missing (line.Task t) does e = task_missing t does e
   line_missing (line.ShowVolume server volume) does e = named _ _ does e
   line_missing (line.ShowLog client volume) does e = named _ _ does e
+  line_missing (line.ShowState client volume) does e = named _ _ does e
   line_missing (line.Send client volume server window) does e = named _ _ does e
   line_missing (line.Deliver message) does e = absurd (none_named front back n e)
   line_missing (line.Lose message) does e = absurd (none_named front back n e)

@@ -462,6 +462,7 @@ module _ (cell : MadeCell) (kept : IsKept cell) (can : CanBeSpelled cell) where
   line_spelled (line.Task t) reply events r does = task_spelled t reply events r does
   line_spelled (line.ShowVolume server volume) reply events r does = unless_own (first_missing (holder_named (state_of cell) server volume ∷ [])) _ reply events (λ did. nothing events did.1) does
   line_spelled (line.ShowLog client volume) reply events r does = unless_own (first_missing (on_volume (state_of cell) client volume)) _ reply events (λ did. nothing events did.1) does
+  line_spelled (line.ShowState client volume) reply events r does = unless_own (first_missing (on_volume (state_of cell) client volume)) _ reply events (λ did. nothing events did.happened) does
   line_spelled (line.Send client volume server window) reply events r does = unless_own (first_missing (on_holder (state_of cell) client volume server)) (BySend (state_of cell) client volume server (unwrap_or window 600)) reply events
       (λ did. subst AreEventsSpelled (sym did.happened) (sends_spelled (state_of cell) client volume server (unwrap_or window 600) (did.client.volumes volume))) does
   line_spelled (line.Deliver message) reply events r does = delivers message (sent_at message cell.waiting) reply events does

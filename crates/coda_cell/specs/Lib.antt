@@ -3,6 +3,7 @@ pub mod Ask
 pub mod Held
 pub mod Looking
 pub mod State
+pub mod States
 pub mod Kept
 pub mod Made
 pub mod Refusing

@@ -42,6 +42,7 @@ named_by s (line.Link client server strength) = client_named s client ∷ server
 named_by s (line.Task t) = named_in s t
 named_by s (line.ShowVolume server volume) = holder_named s server volume ∷ []
 named_by s (line.ShowLog client volume) = on_volume s client volume
+named_by s (line.ShowState client volume) = on_volume s client volume
 named_by s (line.Send client volume server window) = on_holder s client volume server
 named_by s _ = []
 

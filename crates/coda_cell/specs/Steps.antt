@@ -12,12 +12,13 @@ use Rattle.coda_script.specs.declared.line.Task.TheVariants as task
 use Rattle.coda_script.specs.declared.line.Line.{Line}
 use Rattle.coda_script.specs.declared.line.Line.TheVariants as line
 use Rattle.coda_script.specs.declared.reply.Reply.{Reply}
-use Rattle.coda_script.specs.declared.reply.Reply.TheVariants.{Opened, Accepted, Lost, ShowVolume, ShowLog}
+use Rattle.coda_script.specs.declared.reply.Reply.TheVariants.{Opened, Accepted, Lost, ShowVolume, ShowLog, State}
 use Rattle.coda_cell.specs.Ask.{Asked, Create, Mkdir, Symlink, Store, Setattr, Remove, Rmdir, Rename}
 use Rattle.coda_fid.specs.declared.op.Record.{Record}
 use Rattle.coda_record.specs.declared.answer.Answer.{Answer as RecordAnswer}
 use Rattle.coda_letters.specs.Sent.{Sent, ChunkSent, AnswerSent, client_of, server_of, sent_at}
-use Rattle.coda_cell.specs.State.{ClientState, ReplicaState, CellState, Event, VolumeMade, ClientMade, Ticked, LinkSet, Lost as LetterLost, at_client}
+use Rattle.coda_cell.specs.State.{ClientState, ReplicaState, CellState, Event, VolumeMade, ClientMade, Ticked, LinkSet, Lost as LetterLost, at_client, log_of}
+use Rattle.coda_cell.specs.States.{state_over}
 use Rattle.coda_cell.specs.Refusing.{refusal}
 use Rattle.coda_cell.specs.Sending.{drain}
 use Rattle.coda_cell.specs.Messages.{sends, chunk_comes, answer_comes}
@@ -33,12 +34,6 @@ is_alone [] = false
 is_alone (server ∷ []) = true
 is_alone (server ∷ other ∷ servers) = false
 
--- a link that is as good as can be, or down
-abbrev pub is_plain : Strength → Bool
-is_plain Strong = true
-is_plain Weak = false
-is_plain Down = true
-
 abbrev pub is_built_task : Task → Bool
 is_built_task (task.Hardlink client volume from to) = false
 is_built_task (task.Refresh client volume server) = false
@@ -49,11 +44,12 @@ is_built_task _ = true
 abbrev pub is_built : Line → Bool
 is_built (line.Volume volume servers None) = is_alone servers
 is_built (line.Client client blocks None) = true
-is_built (line.Link client server strength) = is_plain strength
+is_built (line.Link client server strength) = true
 is_built (line.Tick seconds) = true
 is_built (line.Task t) = is_built_task t
 is_built (line.ShowVolume server volume) = true
 is_built (line.ShowLog client volume) = true
+is_built (line.ShowState client volume) = true
 is_built (line.Send client volume server window) = true
 is_built (line.Deliver message) = true
 is_built (line.Lose message) = true
@@ -152,6 +148,15 @@ pub record ByBoth (s : CellState) (number volume window : ℕ) (reply : Reply) (
   pub replica_there : s.replicas volume ≡ Some replica
   pub answered : reply ≡ reply_to (drain (s.links number replica.server) s.clock window number volume (client.volumes volume) replica).said
   pub happened : events ≡ (drain (s.links number replica.server) s.clock window number volume (client.volumes volume) replica).events
+
+-- a client's state on a volume is shown: the one that the link to the server of the volume and the client's log settle in
+pub record ShowsState (s : CellState) (number volume : ℕ) (reply : Reply) (events : List Event) : Type 0 where
+  pub client : ClientState
+  pub replica : ReplicaState
+  pub client_there : s.clients number ≡ Some client
+  pub replica_there : s.replicas volume ≡ Some replica
+  pub answered : reply ≡ State (state_over (s.links number replica.server) (log_of (client.volumes volume)))
+  pub happened : events ≡ []
 
 -- a client sends a chunk of a volume to a server
 pub record BySend (s : CellState) (number volume server window : ℕ) (reply : Reply) (events : List Event) : Type 0 where
@@ -253,6 +258,7 @@ Does s (line.Tick seconds) = Happens Accepted (Ticked seconds)
 Does s (line.Task t) = DoesTask s t
 Does s (line.ShowVolume server volume) = Naming (holder_named s server volume ∷ []) (Says (ShowVolume server volume))
 Does s (line.ShowLog client volume) = Naming (on_volume s client volume) (Says (ShowLog client volume))
+Does s (line.ShowState client volume) = Naming (on_volume s client volume) (ShowsState s client volume)
 Does s (line.Send client volume server window) = Naming (on_holder s client volume server) (BySend s client volume server (unwrap_or window 600))
 Does s (line.Deliver message) = Delivers s message (sent_at message s.waiting)
 Does s (line.Lose message) = Loses message (sent_at message s.waiting)

@@ -213,6 +213,9 @@ module _ (old new : Cell) (reply : Reply) (isnt : IsRefused reply) where
   acting_is (line.ShowLog client volume) events acting other does =
       let said = line.ShowLog client volume in
       unless_is said (on_volume (state_of old) client volume) _ events (client_by said client refl, (volume_by said volume refl, tt)) (λ all did. absurd (subst IsRefused did.0 isnt)) does
+  acting_is (line.ShowState client volume) events acting other does =
+      let said = line.ShowState client volume in
+      unless_is said (on_volume (state_of old) client volume) _ events (client_by said client refl, (volume_by said volume refl, tt)) (λ all did. absurd (subst IsRefused did.answered isnt)) does
   acting_is (line.Send client volume server given) events acting other does =
       let said = line.Send client volume server given in
       unless_is said (on_holder (state_of old) client volume server) (BySend (state_of old) client volume server (unwrap_or given 600)) events (all_by said client volume server refl)
@@ -265,6 +268,7 @@ module _ (old new : Cell) (reply : Reply) (isnt : IsRefused reply) where
   down_is (line.Task t) other down says = cc
   down_is (line.ShowVolume server volume) other down says = replica_is_down (line.ShowVolume server volume) server volume (refl, refl) (one_down (needs old (line.ShowVolume server volume)) down) says
   down_is (line.ShowLog client volume) other down says = client_is_down (line.ShowLog client volume) client refl (one_down (needs old (line.ShowLog client volume)) down) says
+  down_is (line.ShowState client volume) other down says = client_is_down (line.ShowState client volume) client refl (one_down (needs old (line.ShowState client volume)) down) says
   down_is (line.Send client volume server given) other down says = client_is_down (line.Send client volume server given) client refl (one_down (needs old (line.Send client volume server given)) down) says
   down_is (line.Deliver message) other down says = receiver_is_down message (sent_at message old.waiting) refl down says
   down_is (line.ArmClient client passes) other down says = client_is_down (line.ArmClient client passes) client refl (one_down (needs old (line.ArmClient client passes)) down) says
@@ -382,6 +386,7 @@ module _ (old new : Cell) (reply : Reply) (isnt : IsRefused reply) where
   up_is (line.Task t) outside built other (out, acts) = ends_is (line.Task t) acts.own acts.events refl other acts.does acts.ends
   up_is (line.ShowVolume server volume) outside built other (out, acts) = ends_is (line.ShowVolume server volume) acts.own acts.events refl other acts.does acts.ends
   up_is (line.ShowLog client volume) outside built other (out, acts) = ends_is (line.ShowLog client volume) acts.own acts.events refl other acts.does acts.ends
+  up_is (line.ShowState client volume) outside built other (out, acts) = ends_is (line.ShowState client volume) acts.own acts.events refl other acts.does acts.ends
   up_is (line.Send client volume server given) outside built other (out, acts) = ends_is (line.Send client volume server given) acts.own acts.events refl other acts.does acts.ends
   up_is (line.Deliver message) outside built other (out, acts) = ends_is (line.Deliver message) acts.own acts.events refl other acts.does acts.ends
   up_is (line.Lose message) outside built other (out, acts) = ends_is (line.Lose message) acts.own acts.events refl other acts.does acts.ends

@@ -101,6 +101,7 @@ module _ (old : Cell) (reply : Reply) (outside : List (List ℕ)) (new : Cell) w
   becomes (line.Task t) does = HasActed refl does
   becomes (line.ShowVolume server volume) does = HasActed refl does
   becomes (line.ShowLog client volume) does = HasActed refl does
+  becomes (line.ShowState client volume) does = HasActed refl does
   becomes (line.Send client volume server window) does = HasActed refl does
   becomes (line.Deliver message) does = HasActed refl does
   becomes (line.Lose message) does = HasActed refl does

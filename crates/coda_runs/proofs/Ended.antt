@@ -207,6 +207,7 @@ module _ (s : CellState) where
   line_fine (line.Task t) reply events acts does = entries_fine s events (task_entries s reply events t does)
   line_fine (line.ShowVolume server volume) reply events acts does = unless_fine (first_missing (holder_named s server volume ∷ [])) _ reply events (λ all did. none_fine events did.1) does
   line_fine (line.ShowLog client volume) reply events acts does = unless_fine (first_missing (on_volume s client volume)) _ reply events (λ all did. none_fine events did.1) does
+  line_fine (line.ShowState client volume) reply events acts does = unless_fine (first_missing (on_volume s client volume)) _ reply events (λ all did. none_fine events did.happened) does
   line_fine (line.Send client volume server window) reply events acts does =
       unless_fine (first_missing (on_holder s client volume server)) (BySend s client volume server (unwrap_or window 600)) reply events
       (λ all did. subst (AreFine s) (sym did.happened) (sends_fine client volume server (over (s.links client server) (freezing s.clock (unwrap_or window 600) server (did.client.volumes volume))) all)) does

@@ -350,6 +350,7 @@ unless_stays s (Some why) own reply events rest does = ap (λ es. (after_all s e
 unless_stays s None own reply events rest does = rest does
 
 tells : (s : CellState) (said : Line) (reply : Reply) (events : List Event) → AreNumbered 0 s.posted s.waiting → is_acting said ≡ true → Does s said reply events → TellsLetters said reply s.waiting (after_all s events).waiting
+tells s (line.ShowState client volume) reply events numbered acts does = unless_stays s (first_missing (on_volume s client volume)) _ reply events (λ did. ap (λ es. (after_all s es).waiting) did.happened) does
 tells s (line.Send client volume server window) reply events numbered acts does =
     send_tells s numbered client volume server (unwrap_or window 600) (first_missing (on_holder s client volume server)) reply events does
 tells s (line.Deliver message) reply events numbered acts does = delivery_tells s numbered message (sent_at message s.waiting) reply events refl does

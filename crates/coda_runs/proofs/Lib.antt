@@ -36,3 +36,4 @@ pub mod Untouched
 pub mod Sought
 pub mod Missing
 pub mod Misses
+pub mod States

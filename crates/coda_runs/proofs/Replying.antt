@@ -13,13 +13,14 @@ use Rattle.coda_script.specs.declared.line.Task.TheVariants as task
 use Rattle.coda_script.specs.declared.line.Line.{Line}
 use Rattle.coda_script.specs.declared.line.Line.TheVariants as line
 use Rattle.coda_script.specs.declared.reply.Reply.{Reply}
-use Rattle.coda_script.specs.declared.reply.Reply.TheVariants.{Accepted, Lost, ShowVolume, ShowLog}
+use Rattle.coda_script.specs.declared.reply.Reply.TheVariants.{Accepted, Lost, ShowVolume, ShowLog, State}
 use Rattle.coda_cell.specs.Refused.{Refused, NoSuchActor, NoMessage}
 use Rattle.coda_cell.specs.Refusing.{refusal}
 use Rattle.coda_cell.specs.Made.{client_of, replica_of}
-use Rattle.coda_cell.specs.State.{put, ClientState, ReplicaState, CellState, Event, VolumeMade, ClientMade, Ticked, LinkSet, Entered, Posted, Lost as LetterLost, Used, Kept, Stale, at_client}
+use Rattle.coda_cell.specs.State.{put, ClientState, ReplicaState, CellState, Event, VolumeMade, ClientMade, Ticked, LinkSet, Entered, Posted, Lost as LetterLost, Used, Kept, Stale, at_client, log_of}
+use Rattle.coda_cell.specs.States.{state_over}
 use Rattle.coda_cell.specs.Asking.{Answer}
-use Rattle.coda_cell.specs.Steps.{Doing, Unless, Naming, Happens as HappensOne, ByClient, ByBoth, BySend, ByRuling, ByTaking, Comes, link_down, Delivers, Loses, Does, DoesTask, first_missing, client_named, volume_named, server_named, holder_named, on_volume, on_holder, offers_of, reply_to, is_alone, alone, is_built_task}
+use Rattle.coda_cell.specs.Steps.{Doing, Unless, Naming, Happens as HappensOne, ByClient, ByBoth, ShowsState, BySend, ByRuling, ByTaking, Comes, link_down, Delivers, Loses, Does, DoesTask, first_missing, client_named, volume_named, server_named, holder_named, on_volume, on_holder, offers_of, reply_to, is_alone, alone, is_built_task}
 use Rattle.coda_letters.specs.Sent.{Sent, ChunkSent, AnswerSent, client_of as sender_of, server_of, sent_at}
 use Rattle.coda_cell.specs.Messages.{sends, chunk_comes, answer_comes}
 use Rattle.coda_cell.specs.Sending.{drain}
@@ -68,6 +69,13 @@ by_both s client volume server window =
     let r = there_of (s.replicas volume) (first_missing behind) volume c.2 in
     let out = drain (s.links client r.0.server) s.clock window client volume (c.0.volumes volume) r.0 in
     (reply_to out.said, out.events, record { client = c.0; replica = r.0; client_there = c.1; replica_there = r.1; answered = refl; happened = refl }))
+
+by_state : (s : CellState) (client volume : ℕ) → Some_of (Naming (on_volume s client volume) (ShowsState s client volume))
+by_state s client volume =
+    unless_some (first_missing (on_volume s client volume)) (ShowsState s client volume) (λ none.
+    let c = there_of (s.clients client) (first_missing (volume_named s volume ∷ [])) client none in
+    let r = there_of (s.replicas volume) None volume c.2 in
+    (State (state_over (s.links client r.0.server) (log_of (c.0.volumes volume))), [], record { client = c.0; replica = r.0; client_there = c.1; replica_there = r.1; answered = refl; happened = refl }))
 
 by_send : (s : CellState) (client volume server window : ℕ) → Some_of (Naming (on_holder s client volume server) (BySend s client volume server window))
 by_send s client volume server window =
@@ -263,6 +271,7 @@ module _ (old : Cell) where
         (unless_some (first_missing (holder_named s server volume ∷ [])) _ (λ none. (ShowVolume server volume, [], (refl, refl))))
     up_some (line.ShowLog client volume) b c = acts_some old (line.ShowLog client volume)
         (unless_some (first_missing (on_volume s client volume)) _ (λ none. (ShowLog client volume, [], (refl, refl))))
+    up_some (line.ShowState client volume) b c = acts_some old (line.ShowState client volume) (by_state (meets old (line.ShowState client volume)) client volume)
     up_some (line.Send client volume server window) b c = acts_some old (line.Send client volume server window) (by_send s client volume server (unwrap_or window 600))
     up_some (line.Deliver message) b c = acts_some old (line.Deliver message) (delivers_some s message (sent_at message old.waiting))
     up_some (line.Lose message) b c = acts_some old (line.Lose message) (loses_some message (sent_at message old.waiting))

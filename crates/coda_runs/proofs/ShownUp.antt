@@ -23,7 +23,7 @@ use Rattle.coda_script.specs.declared.line.Task.TheVariants as task
 use Rattle.coda_script.specs.declared.line.Line.{Line}
 use Rattle.coda_script.specs.declared.line.Line.TheVariants as line
 use Rattle.coda_script.specs.declared.reply.Reply.{Reply}
-use Rattle.coda_script.specs.declared.reply.Reply.TheVariants.{Opened, Accepted, Done, Lost, ShowVolume, ShowLog}
+use Rattle.coda_script.specs.declared.reply.Reply.TheVariants.{Opened, Accepted, Done, Lost, ShowVolume, ShowLog, State}
 use Rattle.coda_cell.specs.Accepting.{Accepted as OpAccepted, sight_of, accept}
 use Rattle.coda_cell.specs.Ask.{Asked, too_big, object_of}
 use Rattle.coda_cell.specs.Asking.{Said, answers as answers_with, look_ups, behind_fetches, next_record, has_room, is_full, answer_to, operate_unless, operate, read, list, shown_at, shown_as, read_in, list_in}
@@ -32,8 +32,9 @@ use Rattle.coda_cell.specs.Looking.{entries_of, is_fetched}
 use Rattle.coda_cell.specs.Messages.{over, sends_of, ruled_in, reply_taken, taken_in}
 use Rattle.coda_cell.specs.Refusing.{refusal}
 use Rattle.coda_cell.specs.Sending.{Freezing, freezing, Ruling, ruling, Taking, taking, answered_to, ruled_on, drained_of, drain}
-use Rattle.coda_cell.specs.State.{ClientVolume, ClientState, ReplicaState, CellState, Event}
-use Rattle.coda_cell.specs.Steps.{Doing, Unless, Says, Named, first_missing, on_volume, on_holder, client_named, volume_named, server_named, holder_named, no_volume, no_client, offers_of, reply_to, ByClient, ByBoth, BySend, ByRuling, ByTaking, Comes, link_down, Delivers, Loses, DoesTask, Does}
+use Rattle.coda_cell.specs.State.{ClientVolume, ClientState, ReplicaState, CellState, Event, log_of}
+use Rattle.coda_cell.specs.States.{state_over}
+use Rattle.coda_cell.specs.Steps.{Doing, Unless, Says, Named, first_missing, on_volume, on_holder, client_named, volume_named, server_named, holder_named, no_volume, no_client, offers_of, reply_to, ByClient, ByBoth, ShowsState, BySend, ByRuling, ByTaking, Comes, link_down, Delivers, Loses, DoesTask, Does}
 use Rattle.coda_cell.specs.Refused.{Refused}
 use Rattle.coda_cell.specs.Refused as refused
 use Rattle.coda_shelves.specs.Cells.{Cell, state_of}
@@ -193,6 +194,8 @@ module _ (s : CellState) (reply : Reply) (events : List Event) where
   does_whole (line.Task t) isnt does = task_whole t does
   does_whole (line.ShowVolume server volume) isnt does = absurd (false≢true (sym isnt))
   does_whole (line.ShowLog client volume) isnt does = absurd (false≢true (sym isnt))
+  does_whole (line.ShowState client volume) isnt does = unless_is (first_missing (on_volume s client volume)) (ShowsState s client volume)
+      (λ did. whole_as (State (state_over (s.links client did.replica.server) (log_of (did.client.volumes volume)))) tt did.answered) does
   does_whole (line.Send client volume server window) isnt does =
       unless_is (first_missing (on_holder s client volume server)) (BySend s client volume server (unwrap_or window 600))
       (λ did. let froze = over (s.links client server) (freezing s.clock (unwrap_or window 600) server (did.client.volumes volume)) in whole_as (reply_to (sends_of s client volume server froze).said) (sends_whole s client volume server froze) did.answered) does

@@ -45,6 +45,7 @@ is_acting (line.Tick seconds) = true
 is_acting (line.Task t) = true
 is_acting (line.ShowVolume server volume) = true
 is_acting (line.ShowLog client volume) = true
+is_acting (line.ShowState client volume) = true
 is_acting (line.Send client volume server window) = true
 is_acting (line.Deliver message) = true
 is_acting (line.Lose message) = true
@@ -333,6 +334,7 @@ module _ (s : CellState) where
     line_first (line.Task t) acts does = are_first events (task_entries s reply events t does)
     line_first (line.ShowVolume server volume) acts does = unless_first (first_missing (holder_named s server volume ∷ [])) _ (λ did. none_first did.1) does
     line_first (line.ShowLog client volume) acts does = unless_first (first_missing (on_volume s client volume)) _ (λ did. none_first did.1) does
+    line_first (line.ShowState client volume) acts does = unless_first (first_missing (on_volume s client volume)) _ (λ did. none_first did.happened) does
     line_first (line.Send client volume server window) acts does =
         unless_first (first_missing (on_holder s client volume server)) (BySend s client volume server (unwrap_or window 600))
         (λ did. subst ComeFirst (sym did.happened) (sends_first client volume server (over (s.links client server) (freezing s.clock (unwrap_or window 600) server (did.client.volumes volume))))) does

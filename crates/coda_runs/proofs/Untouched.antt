@@ -116,6 +116,8 @@ module _ (s : CellState) (reply : Reply) (events : List Event) where
       unless_little (IsAdded (line.ShowVolume server volume)) (first_missing (holder_named s server volume ∷ [])) _ (λ all did. none_added (IsAdded (line.ShowVolume server volume)) did.1) does
   line_little (line.ShowLog client volume) acting does =
       unless_little (IsAdded (line.ShowLog client volume)) (first_missing (on_volume s client volume)) _ (λ all did. none_added (IsAdded (line.ShowLog client volume)) did.1) does
+  line_little (line.ShowState client volume) acting does =
+      unless_little (IsAdded (line.ShowState client volume)) (first_missing (on_volume s client volume)) _ (λ all did. none_added (IsAdded (line.ShowState client volume)) did.happened) does
   line_little (line.Send client volume server given) acting does =
       let P = IsAdded (line.Send client volume server given) in
       unless_little P (first_missing (on_holder s client volume server)) (BySend s client volume server (unwrap_or given 600))
@@ -301,6 +303,7 @@ module _ (old new : Cell) (reply : Reply) (isnt : IsRefused reply) where
   up_so (line.Task t) outside built (out, acts) = ends_so (line.Task t) acts.own acts.events refl acts.does acts.ends
   up_so (line.ShowVolume server volume) outside built (out, acts) = ends_so (line.ShowVolume server volume) acts.own acts.events refl acts.does acts.ends
   up_so (line.ShowLog client volume) outside built (out, acts) = ends_so (line.ShowLog client volume) acts.own acts.events refl acts.does acts.ends
+  up_so (line.ShowState client volume) outside built (out, acts) = ends_so (line.ShowState client volume) acts.own acts.events refl acts.does acts.ends
   up_so (line.Send client volume server given) outside built (out, acts) = ends_so (line.Send client volume server given) acts.own acts.events refl acts.does acts.ends
   up_so (line.Deliver message) outside built (out, acts) = ends_so (line.Deliver message) acts.own acts.events refl acts.does acts.ends
   up_so (line.Lose message) outside built (out, acts) = ends_so (line.Lose message) acts.own acts.events refl acts.does acts.ends

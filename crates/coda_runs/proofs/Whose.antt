@@ -259,6 +259,7 @@ module _ (s : CellState) (reply : Reply) (events : List Event) where
   of_line (line.Task t) acts does = of_task t does
   of_line (line.ShowVolume server volume) acts does = unless_there (first_missing (holder_named s server volume ∷ [])) _ (λ all did. happened_there [] did.1 tt) does
   of_line (line.ShowLog client volume) acts does = unless_there (first_missing (on_volume s client volume)) _ (λ all did. happened_there [] did.1 tt) does
+  of_line (line.ShowState client volume) acts does = unless_there (first_missing (on_volume s client volume)) _ (λ all did. happened_there [] did.happened tt) does
   of_line (line.Send client volume server window) acts does = unless_there (first_missing (on_holder s client volume server)) (BySend s client volume server (unwrap_or window 600))
       (λ all did. (let there = all_there (client_named s client) (volume_named s volume) (holder_named s server volume) all in
       happened_there _ did.happened (of_sends (IsThere s) (Holds s) (Stands s) client volume there.0 there.1 s server (over (s.links client server) (freezing s.clock (unwrap_or window 600) server (did.client.volumes volume)))))) does

@@ -61,6 +61,7 @@ names_in cell (line.Link client server strength) = record { client = Some client
 names_in cell (line.Task (task.Drain client volume server window)) = all_names client volume server
 names_in cell (line.ShowVolume server volume) = record { client = None; volume = Some volume; server = Some server }
 names_in cell (line.ShowLog client volume) = record { client = Some client; volume = Some volume; server = None }
+names_in cell (line.ShowState client volume) = record { client = Some client; volume = Some volume; server = None }
 names_in cell (line.Send client volume server window) = all_names client volume server
 names_in cell (line.Deliver message) = names_of (sent_at message cell.waiting)
 names_in cell (line.CrashClient client choice) = record { client = Some client; volume = None; server = None }
@@ -81,6 +82,7 @@ abbrev pub NeedsClient : Cell → Line → ℕ → Type 0
 NeedsClient cell (line.Link client server strength) c = client ≡ c
 NeedsClient cell (line.Task (task.Drain client volume server window)) c = client ≡ c
 NeedsClient cell (line.ShowLog client volume) c = client ≡ c
+NeedsClient cell (line.ShowState client volume) c = client ≡ c
 NeedsClient cell (line.Send client volume server window) c = client ≡ c
 NeedsClient cell (line.Deliver message) c = (server volume number : ℕ) × (answer : Answer) × (sent_at message cell.waiting ≡ Some (AnswerSent server c volume number answer))
 NeedsClient cell (line.ArmClient client passes) c = client ≡ c

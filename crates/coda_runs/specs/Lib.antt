@@ -5,6 +5,7 @@ pub mod Complete
 pub mod Lettered
 pub mod Performed
 pub mod Shown
+pub mod States
 pub mod Causes
 pub mod Volumes
 pub mod Standing

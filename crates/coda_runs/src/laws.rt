@@ -10,6 +10,7 @@ ghost use Rattle.coda_runs.specs.Performed.{OperationsArePerformed};
 ghost use Rattle.coda_runs.specs.Shelved.{RunsGoOn};
 ghost use Rattle.coda_runs.specs.Shown.{WhatIsShownIsThere, WhatIsShownIsUp};
 ghost use Rattle.coda_runs.specs.Standing.{VerdictsStandAtHome, ChunksStandWithClients};
+ghost use Rattle.coda_runs.specs.States.{ShownStatesAreSettled};
 ghost use Rattle.coda_runs.specs.Untouched.{RefusedLinesChangeLittle};
 ghost use Rattle.coda_runs.specs.Volumes.{LinesActOnMadeVolumes, ScriptsActOnMadeVolumes};
 
@@ -276,6 +277,13 @@ pub fn frozen_chunks_go_again()
 /// of the volume decided it so.
 pub fn verdicts_are_told()
     ensures { VerdictsAreTold }
+{}
+
+/// A client is in the state that a line shows: whatever state it was in, two looks at the link to the volume's server and
+/// at its log make it this one. It emulates exactly where it can't reach the server, and hoards exactly where the link is
+/// strong and nothing is left to send (Mummert, Ebling and Satyanarayanan 1995).
+pub fn shown_states_are_settled()
+    ensures { ShownStatesAreSettled }
 {}
 
 /// A client misses only what it can't fetch: in whatever cell, where an operation, a read or a listing is refused since

@@ -227,6 +227,7 @@ module _ (old : Cell) (kept : IsKept old) (blank : IsFromBlank old) (reply : Rep
   does_blank (line.Task work) built does = acts_blank (line.Task work) does
   does_blank (line.ShowVolume server volume) built does = acts_blank (line.ShowVolume server volume) does
   does_blank (line.ShowLog client volume) built does = acts_blank (line.ShowLog client volume) does
+  does_blank (line.ShowState client volume) built does = acts_blank (line.ShowState client volume) does
   does_blank (line.Send client volume server window) built does = acts_blank (line.Send client volume server window) does
   does_blank (line.Deliver message) built does = acts_blank (line.Deliver message) does
   does_blank (line.Lose message) built does = acts_blank (line.Lose message) does

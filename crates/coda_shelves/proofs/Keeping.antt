@@ -21,9 +21,9 @@ use Rattle.coda_cell.specs.Steps.{holder_named, on_volume, first_missing, no_roo
 use Rattle.coda_shelves.specs.Shelves.{Shelves, client_header, replica_header}
 use Rattle.coda_shelves.specs.Cells.{Cell, shelves_of, Stand, stand_of, state_of, with_client, with_replica, with_volume, grown, failing, failed, after, after_all}
 use Rattle.coda_shelves.specs.Laws.{Stays, Stay, ShelvesAreKept}
-use Rattle.coda_shelves.specs.Lines.{Becoming, Stays as StaysSo, Unless, UnlessDown, needs, is_down_for, EndsBy, Acts, the_client, the_replica, is_others, MountsRow, made_on, area_of, no_volume, no_client, with_row, MakesVolume, with_made, MakesClient, client_payloads, replica_payloads, Crashes, Recovers, AtReplicaOf, DoesUp, Happens}
+use Rattle.coda_shelves.specs.Lines.{Becoming, Stays as StaysSo, Unless, UnlessDown, meets, needs, is_down_for, EndsBy, Acts, the_client, the_replica, is_others, MountsRow, made_on, area_of, no_volume, no_client, with_row, MakesVolume, with_made, MakesClient, client_payloads, replica_payloads, Crashes, Recovers, AtReplicaOf, DoesUp, Happens}
 use Rattle.coda_shelves.specs.Running.{IsKept}
-use Rattle.coda_shelves.proofs.Acting.{tasks_acted, send_acted, delivers_acted, loses_acted, tick_acted, link_acted, nothing_acted}
+use Rattle.coda_shelves.proofs.Acting.{tasks_acted, send_acted, delivers_acted, loses_acted, tick_acted, link_acted, nothing_acted, state_acted}
 use Rattle.coda_shelves.proofs.Blank.{blank_kept, begun_kept}
 use Rattle.coda_shelves.proofs.Ending.{IsActed, acts_kept}
 use Rattle.coda_shelves.proofs.Mounting.{at_put, at_place, crash_client, recover_client, crash_replica, recover_replica, makes_client, makes_volume}
@@ -70,6 +70,7 @@ module _ (old : Cell) (kept : IsKept old) (reply : Reply) (outside : List (List 
   does_kept (line.ShowVolume server volume) range down does =
       acted_kept (line.ShowVolume server volume) tt does.1 (nothing_acted old kept does.1.own does.1.events (first_missing (holder_named (state_of old) server volume ∷ [])) (replies.ShowVolume server volume) does.1.does)
   does_kept (line.ShowLog client volume) range down does = acted_kept (line.ShowLog client volume) tt does.1 (nothing_acted old kept does.1.own does.1.events (first_missing (on_volume (state_of old) client volume)) (replies.ShowLog client volume) does.1.does)
+  does_kept (line.ShowState client volume) range down does = acted_kept (line.ShowState client volume) tt does.1 (state_acted old kept does.1.own does.1.events (meets old (line.ShowState client volume)) client volume does.1.does)
   does_kept (line.Send client volume server window) range down does = acted_kept (line.Send client volume server window) tt does.1 (send_acted old kept does.1.own does.1.events client volume server window down does.1.does)
   does_kept (line.Deliver message) range down does = acted_kept (line.Deliver message) tt does.1 (delivers_acted old kept does.1.own does.1.events message (sent_at message old.waiting) refl down does.1.does)
   does_kept (line.Lose message) range down does = acted_kept (line.Lose message) tt does.1 (loses_acted old kept does.1.own does.1.events message (sent_at message old.waiting) refl does.1.does)
@@ -230,6 +231,7 @@ module _ (old : Cell) (reply : Reply) (outside : List (List ℕ)) (new : Cell) w
   does_stay (line.Task work) does = acts_stay (line.Task work) does
   does_stay (line.ShowVolume server volume) does = acts_stay (line.ShowVolume server volume) does
   does_stay (line.ShowLog client volume) does = acts_stay (line.ShowLog client volume) does
+  does_stay (line.ShowState client volume) does = acts_stay (line.ShowState client volume) does
   does_stay (line.Send client volume server window) does = acts_stay (line.Send client volume server window) does
   does_stay (line.Deliver message) does = acts_stay (line.Deliver message) does
   does_stay (line.Lose message) does = acts_stay (line.Lose message) does

@@ -16,13 +16,14 @@ use Rattle.coda_script.specs.declared.line.Line.TheVariants as line
 use Rattle.coda_script.specs.declared.line.Task.{Task}
 use Rattle.coda_script.specs.declared.line.Task.TheVariants as task
 use Rattle.coda_script.specs.declared.reply.Reply.{Reply}
-use Rattle.coda_script.specs.declared.reply.Reply.TheVariants.{Accepted, Lost}
+use Rattle.coda_script.specs.declared.reply.Reply.TheVariants.{Accepted, Lost, State}
 use Rattle.coda_cell.specs.Asking.{Answer, read}
 use Rattle.coda_cell.specs.Refused.{Refused}
 use Rattle.coda_cell.specs.Messages.{sends, chunk_comes, answer_comes}
 use Rattle.coda_cell.specs.Sending.{drain}
-use Rattle.coda_cell.specs.State.{ClientState, ReplicaState, CellState, Event, Entered, Ticked, Lost as LetterLost, at_client, put}
-use Rattle.coda_cell.specs.Steps.{Doing, Unless, Naming, reply_to, offers_of, first_missing, ByClient, ByBoth, BySend, ByRuling, ByTaking, Happens as HappensOne, Says, Comes, Delivers, Loses, link_down, on_volume, on_holder, DoesTask, Does, is_alone}
+use Rattle.coda_cell.specs.State.{ClientState, ReplicaState, CellState, Event, Entered, Ticked, Lost as LetterLost, at_client, log_of, put}
+use Rattle.coda_cell.specs.States.{state_over}
+use Rattle.coda_cell.specs.Steps.{Doing, Unless, Naming, reply_to, offers_of, first_missing, ByClient, ByBoth, ShowsState, BySend, ByRuling, ByTaking, Happens as HappensOne, Says, Comes, Delivers, Loses, link_down, on_volume, on_holder, DoesTask, Does, is_alone}
 use Rattle.coda_shelves.specs.Cells.{Cell, Stand, stand_of, asked, with_client, with_replica, after, after_all}
 use Rattle.coda_shelves.specs.Lines as plain
 use Rattle.coda_shelves.specs.Lines.{Becoming, refused_fault, refused_full, is_built, Stop, Fits, FitsOne, Lacks, EndsBy, Acts, meets, UnlessDown, needs, is_down_for, DoesUp, Happens, Payloads, Recovers, recovery, client_payloads, replica_payloads, AtReplicaOf, opening, is_others, made_on, MountsRow, MakesVolume, MakesClient, no_volume, no_client, area_of, the_client, the_replica}
@@ -56,6 +57,14 @@ both_one s number volume window reply second events others a b =
     let drained = λ (c : ClientState) (r : ReplicaState). drain (s.links number r.server) s.clock window number volume (c.volumes volume) r in (
       a.answered ∙ (λ i. reply_to (drained (c i) (r i)).said) ∙ sym b.answered,
       a.happened ∙ (λ i. (drained (c i) (r i)).events) ∙ sym b.happened,
+    )
+
+state_one : (s : CellState) (number volume : ℕ) → OneDoing (ShowsState s number volume)
+state_one s number volume reply second events others a b =
+    let c = some_once (s.clients number) a.client b.client a.client_there b.client_there in
+    let r = some_once (s.replicas volume) a.replica b.replica a.replica_there b.replica_there in (
+      a.answered ∙ (λ i. State (state_over (s.links number (r i).server) (log_of ((c i).volumes volume)))) ∙ sym b.answered,
+      a.happened ∙ sym b.happened,
     )
 
 send_one : (s : CellState) (number volume server window : ℕ) → OneDoing (BySend s number volume server window)
@@ -116,6 +125,7 @@ does_one s (line.Tick seconds) = happens_one Accepted (Ticked seconds)
 does_one s (line.Task t) = task_one s t
 does_one s (line.ShowVolume server volume) = unless_one _ _ (says_one _)
 does_one s (line.ShowLog client volume) = unless_one _ _ (says_one _)
+does_one s (line.ShowState client volume) = unless_one _ _ (state_one s client volume)
 does_one s (line.Send client volume server window) = unless_one _ _ (send_one s client volume server (unwrap_or window 600))
 does_one s (line.Deliver message) = delivers_one s message (sent_at message s.waiting)
 does_one s (line.Lose message) = loses_one message (sent_at message s.waiting)

@@ -20,6 +20,7 @@ use crate::lines::{fail, set_link, show_log, show_volume, tick};
 use crate::making::{AREA, make_client, make_volume};
 use crate::messages::{deliver, lose, send};
 use crate::site::Site;
+use crate::states::{log, show_state};
 use crate::tasks::{AGING_WINDOW, carry_out};
 use coda_cml::Log;
 use coda_crew::{get, give_back, unmade};
@@ -127,6 +128,7 @@ impl<B: Bay> Cell<B> {
             Line::Task(task) => carry_out(bay, site, task),
             Line::ShowVolume { server, volume } => show_volume(bay, site, *server, *volume),
             Line::ShowLog { client, volume } => show_log(bay, site, *client, *volume),
+            Line::ShowState { client, volume } => show_state(bay, site, *client, *volume),
             Line::Send {
                 client,
                 volume,
@@ -185,9 +187,6 @@ impl<B: Bay> Cell<B> {
             → client_down cell client ≡ false → (c : ClientState) → (state_of cell).clients client ≡ Some c
             → MatchOption result (log_of (c.volumes volume) ≡ log_of new_volume) (λ log. log.now ≡ log_of (c.volumes volume)) }
     {
-        match get(&self.site.clients, u32::from(client)) {
-            Some(venus) => venus.log(volume),
-            None => None,
-        }
+        log(&self.bay, &self.site, client, volume)
     }
 }

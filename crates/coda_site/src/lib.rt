@@ -14,6 +14,7 @@ mod making;
 mod messages;
 mod replies;
 mod site;
+mod states;
 mod tasks;
 mod there;
 
@@ -23,4 +24,5 @@ pub use laws::blank_disks_stand;
 pub use lines::{asks_bay, fail, is_built, set_link, show_log, show_volume, tick};
 pub use messages::{deliver, lose, send};
 pub use site::{Place, Site};
+pub use states::show_state;
 pub use tasks::carry_out;

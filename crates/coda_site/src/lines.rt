@@ -3,7 +3,7 @@ ghost use Rattle.std.specs.Prelude.{◌≡◌, ◌≢◌, ◌≤◌, ℕ, true, 
 ghost use Rattle.coda_io.specs.Faults.{Rose};
 ghost use Rattle.coda_site.specs.Makings.{is_disk_line, asks_bay};
 ghost use Rattle.coda_script.specs.declared.line.Line.TheVariants as line;
-ghost use Rattle.coda_cell.specs.Steps.{is_built_task, is_plain};
+ghost use Rattle.coda_cell.specs.Steps.{is_built_task};
 ghost use Rattle.coda_shelves.specs.Cells.{Cell};
 ghost use Rattle.coda_shelves.specs.Lines.{is_built, Happens};
 ghost use Rattle.coda_site.specs.Shelves.{Shows};
@@ -21,17 +21,6 @@ use crate::site::Site;
 use coda_crew::is_up;
 use coda_disk::Bay;
 use coda_script::{Line, Refusal, Reply, Strength, Task};
-
-// Whether a link may have this strength so far.
-fn is_plain(strength: Strength) -> bool
-    ensures { result ≡ is_plain strength }
-{
-    match strength {
-        Strength::Strong => true,
-        Strength::Weak => false,
-        Strength::Down => true,
-    }
-}
 
 // Whether a task has a meaning so far.
 fn is_built_task(task: &Task) -> bool
@@ -51,12 +40,13 @@ pub fn is_built(line: &Line) -> bool
 {
     match line {
         Line::Volume { servers, .. } => servers.servers().len() == 1,
-        Line::Link { strength, .. } => is_plain(*strength),
         Line::Task(task) => is_built_task(task),
         Line::Client { .. } => true,
+        Line::Link { .. } => true,
         Line::Tick { .. } => true,
         Line::ShowVolume { .. } => true,
         Line::ShowLog { .. } => true,
+        Line::ShowState { .. } => true,
         Line::Send { .. } => true,
         Line::Deliver { .. } => true,
         Line::Lose { .. } => true,

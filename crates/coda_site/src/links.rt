@@ -2,14 +2,16 @@
 ghost use Rattle.std.specs.Prelude.{◌≡◌, ℕ, OnOk};
 ghost use Rattle.coda_cell.specs.Cells.{linked_in, strength_of};
 ghost use Rattle.coda_cell.specs.State.{linked};
+ghost use Rattle.coda_cell.specs.States.{link_with};
 
 use coda_net::{Net, NetFault};
 use coda_script::Strength;
 use coda_state::Link;
 
-// A link of this strength.
-fn link_of(strength: Strength) -> Link
-    ensures { strength_of result ≡ strength }
+/// A link of this strength.
+pub fn link_of(strength: Strength) -> Link
+    ensures strength { strength_of result ≡ strength }
+    ensures link { result ≡ link_with strength }
 {
     match strength {
         Strength::Strong => Link::Strong,

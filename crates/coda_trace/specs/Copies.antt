@@ -11,4 +11,5 @@ is_plain_line (line.Deliver message) = true
 is_plain_line (line.Lose message) = true
 is_plain_line (line.ShowVolume server volume) = true
 is_plain_line (line.ShowLog client volume) = true
+is_plain_line (line.ShowState client volume) = true
 is_plain_line _ = false

@@ -85,6 +85,10 @@ fn copy_plain_line(line: &Line) -> Line
             client: *client,
             volume: *volume,
         },
+        Line::ShowState { client, volume } => Line::ShowState {
+            client: *client,
+            volume: *volume,
+        },
         _ => unreachable!(),
     }
 }
@@ -121,6 +125,7 @@ pub fn copy_line(line: &Line) -> Result<Line, AllocError>
         Line::Lose { .. } => Ok(copy_plain_line(line)),
         Line::ShowVolume { .. } => Ok(copy_plain_line(line)),
         Line::ShowLog { .. } => Ok(copy_plain_line(line)),
+        Line::ShowState { .. } => Ok(copy_plain_line(line)),
         _ => Ok(copy_disk_line(line)),
     }
 }

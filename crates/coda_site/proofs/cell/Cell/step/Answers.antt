@@ -106,6 +106,15 @@ returns-in-ShowLog-clause-does g c = λ plain shows.
     leads_as g.B.D.Disk.told (g.B.Bay.out old.bay) (g.B.Bay.out bay) (g.B.Bay.has old.bay) (g.B.Bay.has bay) plain old.site site c.args.line.now said c.show_log.result (g.B.Bay.answered old.bay) (g.B.Bay.answered bay) shows c.requires.range c.requires.built c.in-ShowLog.is
     (c.show_log.ensures.does plain shows)
 
+pub returns-in-ShowState-clause-does : goal.returns-in-ShowState-clause-does
+returns-in-ShowState-clause-does g c = λ plain shows.
+    let old = c.args.self.now in
+    let bay = old.bay in
+    let site = old.site in
+    let said = line.ShowState c.in-ShowState.client c.in-ShowState.volume in
+    leads_as g.B.D.Disk.told (g.B.Bay.out old.bay) (g.B.Bay.out bay) (g.B.Bay.has old.bay) (g.B.Bay.has bay) plain old.site site c.args.line.now said c.show_state.result (g.B.Bay.answered old.bay) (g.B.Bay.answered bay) shows c.requires.range c.requires.built c.in-ShowState.is
+    (c.show_state.ensures.does plain shows)
+
 pub returns-in-Deliver-clause-does : goal.returns-in-Deliver-clause-does
 returns-in-Deliver-clause-does g c = λ plain shows.
     let old = c.args.self.now in
