@@ -18,6 +18,7 @@ use Rattle.coda_fid.specs.declared.fid.Fid.{Fid}
 use Rattle.coda_cell.specs.Made.{Copy, MadeCell, nothing_made, client_of, state_of}
 use Rattle.coda_cell.specs.Cells.{IsOrderly, AreOrderly}
 use Rattle.coda_cell.specs.Runs.{IsKept, IsLeft, CellsAreKept}
+use Rattle.coda_cell.proofs.Forests.{forest_none}
 use Rattle.coda_cell.proofs.Histories.{volumes_are, pending_are}
 use Rattle.coda_cell.proofs.Grown.{volume_grown, client_made}
 
@@ -66,6 +67,7 @@ cells_are_kept = record { first = first_kept; orderly = orderly }
 pub nothing_holding : (cell : PlainCell) (client blocks : ℕ) (history : List ClientEntry) → history ≡ [] → IsHolding cell (client_of client history blocks)
 nothing_holding cell client blocks history none = subst (λ h. IsHolding cell (client_of client h blocks)) (sym none) (record {
   bound = λ f p is. (let no : None ≡ Some p = sym (finite.get-empty fid_cmp f) ∙ is in cc);
+  forest = forest_none;
   within = λ dir fid name is. (let no : None ≡ Some fid = ap (λ o. child_of o name) (sym (finite.get-empty fid_cmp dir)) ∙ is in cc);
   made = λ fid is. absurd (false≢true (sym (ap is_some (finite.get-empty fid_cmp fid)) ∙ is));
   named = λ dir fid name is. (let no : None ≡ Some fid = ap (λ o. child_of o name) (sym (finite.get-empty fid_cmp dir)) ∙ is in cc);

@@ -31,8 +31,10 @@ use Rattle.coda_cell.specs.Kept.{AreChildrenKept, IsHolding}
 use Rattle.coda_cell.specs.Made.{MadeCell, client_of, grown, grown_all, moves_of}
 use Rattle.coda_cell.specs.Runs.{AreUp, AreMade, IsKept, IsLeft}
 use Rattle.coda_cell.proofs.Accepted.{Relies, accepted_relies}
+use Rattle.coda_cell.proofs.Apart.{accepted_apart}
 use Rattle.coda_cell.proofs.AfterOperations.{bound_before, bound_operation, has_operation}
 use Rattle.coda_cell.proofs.Fetches.{client_after_both, client_after_fetches}
+use Rattle.coda_cell.proofs.Forests.{forest_operation}
 use Rattle.coda_cell.proofs.Histories.{IsOfCourse, client_push, volume_of, volumes_are, number_stays, shown}
 use Rattle.coda_cell.proofs.KeptCells.{lawful, pending_is}
 use Rattle.coda_cell.proofs.NamedObjects.{accepted_names, accepted_creates}
@@ -45,6 +47,7 @@ use Rattle.coda_cell.proofs.Moving.{HasMore, has_more, shown_more, done_here, do
 pub holding_on : (moves : List Move) (old new : PlainCell) (c : ClientState) → Moved old moves new → IsHolding old c → IsHolding new c
 holding_on moves old new c moved h = record {
   bound = h.bound;
+  forest = h.forest;
   within = h.within;
   made = λ fid is. made_stays moves old new moved fid.vnode fid.volume fid (h.made fid is);
   named = λ dir fid name is. made_stays moves old new moved fid.vnode fid.volume fid (h.named dir fid name is);
@@ -253,6 +256,7 @@ module _ (cell : MadeCell) (number blocks : ℕ) (kept : IsKept cell) (there : c
   operation_holding : IsHolding next.acted (client_after client entry)
   operation_holding = record {
     bound = bound_operation sight volume client.number next_operation relies holds.bound;
+    forest = forest_operation sight volume client.number next_operation relies (accepted_apart sight volume ask op accepted) holds.bound holds.forest;
     within = within_operation client.held.nodes volume client.number next_operation holds.within (λ fid mentions. (names fid mentions).0);
     made = λ fid is. elim (has_operation client.held.nodes client.number next_operation fid is) [ inl old ↦ made_before fid (holds.made fid old) | inr new ↦ made_now fid new ];
     named = λ dir kid name is. elim (bound_before client.held.nodes client.number next_operation dir name kid is) [

@@ -25,7 +25,7 @@ use Rattle.coda_plain.specs.Moves.{done_on}
 use Rattle.coda_plain.proofs.Soundness.{none_joins}
 use Rattle.coda_plain.proofs.Volumes.{volumes}
 use Rattle.coda_cell.specs.Ask.{Asked, Create, Mkdir, Symlink, Store, Setattr, Remove, Rmdir, Rename, too_big, object_of}
-use Rattle.coda_cell.specs.Held.{Held, Fetch, AreBound, held_after_fetch, held_after_fetches}
+use Rattle.coda_cell.specs.Held.{Held, Fetch, AreBound, IsForest, held_after_fetch, held_after_fetches}
 use Rattle.coda_cell.specs.Looking.{look, look_along, fetched, entries_of}
 use Rattle.coda_cell.specs.State.{pending, ClientState, new_client, ReplicaState, new_replica, Event, VolumeMade, ClientMade, Ticked, LinkSet, Lost, at_client}
 use Rattle.coda_cell.specs.Accepting.{Accepted, sight_of, accept}
@@ -41,6 +41,7 @@ use Rattle.coda_cell.specs.Refused.{Refused}
 use Rattle.coda_cell.specs.Refused as refused
 use Rattle.coda_cell.proofs.Events.{are_there, all_there}
 use Rattle.coda_cell.proofs.Fetches.{AreLookUps, along_looks_up, ask_looks_up, bound_look, client_after_both, client_after_fetches}
+use Rattle.coda_cell.proofs.Forests.{forest_look}
 use Rattle.coda_cell.proofs.Histories.{nodes_are, server_stays}
 use Rattle.coda_cell.proofs.KeptCells.{client_there, volume_left, client_left, ticked_left, linked_left}
 use Rattle.coda_cell.proofs.KeptChildren.{kept_children_look}
@@ -97,6 +98,7 @@ module _ (cell : MadeCell) (kept : IsKept cell) where
 -- what fetches keep that a look-up comes to
 record AreKeeping (offers : Option Nodes) (h : Held) (fetches : List Fetch) : Type 0 where
   pub bound : AreBound h → AreBound (held_after_fetches h fetches)
+  pub forest : IsForest h → IsForest (held_after_fetches h fetches)
   pub within : ((nodes : Nodes) → offers ≡ Some nodes → AreWithin nodes) → AreWithin h.nodes → AreWithin (held_after_fetches h fetches).nodes
   pub had : (f : Fid) → has (held_after_fetches h fetches).nodes f ≡ true → (has h.nodes f ≡ true) ⊎ ((nodes : Nodes) × (offers ≡ Some nodes) × (has nodes f ≡ true))
   pub binds : (dir kid : Fid) (name : Name) → child (held_after_fetches h fetches).nodes dir name ≡ Some kid → (child h.nodes dir name ≡ Some kid) ⊎ ((nodes : Nodes) × (offers ≡ Some nodes) × (child nodes dir name ≡ Some kid))
@@ -106,6 +108,7 @@ record AreKeeping (offers : Option Nodes) (h : Held) (fetches : List Fetch) : Ty
 keeping : (offers : Option Nodes) (h : Held) (fid : Fid) → AreKeeping offers h (look offers h fid)
 keeping offers h fid = record {
   bound = bound_look offers h fid;
+  forest = forest_look offers h fid;
   within = λ o w. within_look offers o h fid w;
   had = λ f. held_look offers h f h fid (λ is. inl is);
   binds = λ dir kid name. binds_look offers h fid dir kid name;
@@ -128,6 +131,7 @@ module _ (cell : MadeCell) (number blocks : ℕ) (kept : IsKept cell) (there : c
   fetch_left : look can_see looker.held fetch.fid ≡ fetch ∷ [] → IsLeft cell (at_client number (fetched fetch) ∷ [])
   fetch_left is = fetches_left cell number blocks kept there (fetch ∷ []) replicated (record {
     bound = are.bound holds.bound;
+    forest = are.forest holds.forest;
     within = are.within (offered_within cell kept number volume) holds.within;
     made = λ fid has_it. elim (are.had fid has_it) [ inl old ↦ holds.made fid old | inr new ↦ offered_made cell kept number volume new.0 fid new.1 new.2 ];
     named = λ dir kid name is. elim (are.binds dir kid name is) [ inl old ↦ holds.named dir kid name old | inr new ↦ offered_named cell kept number volume new.0 dir kid name new.1 new.2 ];

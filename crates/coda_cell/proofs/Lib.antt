@@ -2,6 +2,8 @@ pub mod Families
 pub mod LightLogs
 pub mod Accepted
 pub mod Fetches
+pub mod Apart
+pub mod Forests
 pub mod AfterOperations
 pub mod NamedObjects
 pub mod Offered

@@ -1,5 +1,5 @@
 -- What a client holds: nodes, and the directory that is the parent of each.
-use Rattle.std.specs.Prelude.{ℕ, suc, zero, Bool, false, ◌&&◌, ◌||◌, not, List, [], ◌∷◌, Option, Some, None, ◌≡◌}
+use Rattle.std.specs.Prelude.{ℕ, suc, zero, ◌<◌, Bool, true, false, ◌&&◌, ◌||◌, not, List, [], ◌∷◌, Option, Some, None, ◌≡◌}
 use Rattle.std.specs.Option.{option_map_or}
 use Rattle.std.specs.List.{list_any}
 use Rattle.std.specs.FinMap as map
@@ -12,7 +12,7 @@ use Rattle.coda_fid.specs.declared.op.Op.TheVariants.{Create, Mkdir, Symlink, St
 use Rattle.coda_fid.specs.declared.op.Record.{Record}
 use Rattle.coda_tree.specs.declared.node.Node.{Node}
 use Rattle.coda_tree.specs.Bindings.{Name}
-use Rattle.coda_tree.specs.Volume.{Nodes, child}
+use Rattle.coda_tree.specs.Volume.{Nodes, child, has}
 use Rattle.coda_certify.specs.Replay.{applied}
 use Rattle.coda_plain.specs.Cell.{ClientEntry, Fetched, Did, Dropping}
 use Rattle.coda_plain.specs.Deeds.{Deed, Operated, Froze, Settled, Gaveup}
@@ -50,6 +50,14 @@ some_below held test f = list_any (λ g. not (same_fid g f) && (test g && is_bel
 -- each object with a parent is bound there
 abbrev pub AreBound : Held → Type 0
 AreBound held = (f p : Fid) → map.get held.parents f ≡ Some p → (name : Name) × (child held.nodes p name ≡ Some f)
+
+-- What is held is a forest: each object with a parent is held, and so is its parent, which stands less deep, so that each way up ends.
+pub record IsForest (held : Held) : Type 0 where
+  pub kids : (f p : Fid) → map.get held.parents f ≡ Some p → has held.nodes f ≡ true
+  pub parents : (f p : Fid) → map.get held.parents f ≡ Some p → has held.nodes p ≡ true
+  -- how many directories are above an object
+  pub depth : Fid → ℕ
+  pub deeper : (f p : Fid) → map.get held.parents f ≡ Some p → depth p < depth f
 
 -- ---- what entries leave
 
