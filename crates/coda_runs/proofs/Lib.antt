@@ -37,3 +37,4 @@ pub mod Sought
 pub mod Missing
 pub mod Misses
 pub mod States
+pub mod Caches

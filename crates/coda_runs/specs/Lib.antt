@@ -13,3 +13,4 @@ pub mod Again
 pub mod Going
 pub mod Because
 pub mod Untouched
+pub mod Caches

@@ -1,6 +1,7 @@
 // What all runs of scripts have in common, whatever stands on the disks where they begin.
 ghost use Rattle.coda_runs.specs.Again.{WhoNeverCameIsAsItWas, OwnDisksAreNotForeign, WhatOthersHoldIsKept, WhatIsMadeAgainIsCounted, RecoveriesFindTheirOwn, WhatRanCanBeResumed};
 ghost use Rattle.coda_runs.specs.Because.{EveryRefusalHasItsCause};
+ghost use Rattle.coda_runs.specs.Caches.{CachesAreForests};
 ghost use Rattle.coda_runs.specs.Causes.{RefusalsHaveCauses, MissesAreUnreachable};
 ghost use Rattle.coda_runs.specs.Complete.{CleanScriptsEnd, ScriptsHaveOneStatus, ScriptsInGrammarAreClean};
 ghost use Rattle.coda_runs.specs.Headline.{WhatRanIsKept, ScriptsRun, ChunksAreDecidedOnce, CertifiedChunksAreApplied, ConflictsNameASentRecord, OperationsAreKept, VolumesInOneRowAreDoneOnce, SettlementsAreDecided, LogsArePending, AcknowledgedEntriesStay, ClientsComeBack, ReplicasComeBack, ChunksOverwriteNobody};
@@ -277,6 +278,12 @@ pub fn frozen_chunks_go_again()
 /// of the volume decided it so.
 pub fn verdicts_are_told()
     ensures { VerdictsAreTold }
+{}
+
+/// In every cell that is kept, what a client caches is a forest: each directory above a cached object is cached too, and
+/// no way up goes in a circle, whatever the client moved.
+pub fn caches_are_forests()
+    ensures { CachesAreForests }
 {}
 
 /// A client is in the state that a line shows: whatever state it was in, two looks at the link to the volume's server and

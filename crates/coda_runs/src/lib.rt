@@ -4,7 +4,7 @@
 mod laws;
 
 pub use laws::{
-    acknowledged_entries_stay, certified_chunks_are_applied, chunks_are_decided_once,
+    acknowledged_entries_stay, caches_are_forests, certified_chunks_are_applied, chunks_are_decided_once,
     chunks_overwrite_nobody, chunks_stand_with_clients, clean_scripts_run, clients_come_back,
     conflicts_name_a_sent_record, every_refusal_has_its_cause, frozen_chunks_go_again,
     letters_have_ends, letters_say_what_is_so, lines_act_on_made_volumes, logs_are_pending,
