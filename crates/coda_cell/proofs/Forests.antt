@@ -89,12 +89,12 @@ module _ (parents : Parents) (depth : Fid → ℕ) (deeper : (f p : Fid) → map
   all_keys zero f q goes h = absurd (both_ways _ refl h)
   all_keys (suc n) f q goes h = (elim (map.get parents f) as (λ o. map.get parents f ≡ o → option_map_or (λ p. climbs parents n p) o false ≡ true
       → (eq_by_cmp fid_cmp q f || among (option_map_or (λ p. steps_up parents n p) o []) q) ≡ true → IsSome (map.get parents q)) [
-    | None ↦ λ is no _. absurd (both_ways _ refl no)
-    | Some p ↦ λ is on rest. (elim (eq_by_cmp fid_cmp q f) as (λ b. eq_by_cmp fid_cmp q f ≡ b → (b || among (steps_up parents n p) q) ≡ true → IsSome (map.get parents q)) [
-      | true ↦ λ e _. subst IsSome (sym (ap (map.get parents) (tied_fid q f e) ∙ is)) tt
-      | false ↦ λ e r. all_keys n p q on r
-    ]) refl rest
-  ]) refl goes h
+        | None ↦ λ is no _. absurd (both_ways _ refl no)
+        | Some p ↦ λ is on rest. (elim (eq_by_cmp fid_cmp q f) as (λ b. eq_by_cmp fid_cmp q f ≡ b → (b || among (steps_up parents n p) q) ≡ true → IsSome (map.get parents q)) [
+          | true ↦ λ e _. subst IsSome (sym (ap (map.get parents) (tied_fid q f e) ∙ is)) tt
+          | false ↦ λ e r. all_keys n p q on r
+        ]) refl rest
+      ]) refl goes h
 
   count : (n : ℕ) (f : Fid) → climbs parents n f ≡ true → length (steps_up parents n f) ≡ n
   count zero f goes = refl
@@ -253,6 +253,7 @@ forest_gone h nodes fid stay leaf forest = record {
 -- an object moves below a directory that isn't the object, nor below it: all below it stands deeper than the directory then
 forest_moved : (h : Held) (nodes : Nodes) (fid dir : Fid) → ((f : Fid) → has h.nodes f ≡ true → has nodes f ≡ true) → has h.nodes fid ≡ true → has h.nodes dir ≡ true → is_below h.parents dir fid ≡ false → IsForest h
     → IsForest (record { nodes = nodes; parents = map.insert h.parents fid dir })
+unfolding is_below
 forest_moved h nodes fid dir stay here above apart forest = record {
   kids = λ f p is. elim (fid_cases f fid) [
     | inl same ↦ stay f (subst (λ q. has h.nodes q ≡ true) (sym same) here)
@@ -287,7 +288,6 @@ forest_moved h nodes fid dir stay here above apart forest = record {
     at f p same is = some_fid dir p (sym (ap (map.get (map.insert h.parents fid dir)) same ∙ get_here fids_total h.parents fid dir) ∙ is)
 
     itself : is_below h.parents fid fid ≡ true
-    unfolding is_below
     itself = by (map.len h.parents)
       where
         by : (n : ℕ) → below_within h.parents n fid fid ≡ true
@@ -404,10 +404,10 @@ forest_renamed h from_dir from to_dir to fid (Some over) may apart bound forest 
 
 -- the client's own operation, which relies on what is held
 pub forest_operation : (s : Sight) (volume client : ℕ) (rec : Record) → Relies s volume rec.op → IsApart s.held.parents rec.op → AreBound s.held → IsForest s.held → IsForest (held_after_operation s.held client rec)
+unfolding applied
 forest_operation s volume client rec relies apart bound forest = by rec.op relies apart
   where
     by : (op : Op) → Relies s volume op → IsApart s.held.parents op → IsForest (held_after_operation s.held client (record { number = rec.number; time = rec.time; op = op }))
-    unfolding applied
     by (Create dir name fid mode owner) r a = forest_created s.held dir name fid (empty_file mode owner rec.time (sid_of client rec)) r.place.dir_there r.place.fid_free forest
     by (Mkdir dir name fid mode owner) r a = forest_created s.held dir name fid (empty_dir mode owner rec.time (sid_of client rec)) r.place.dir_there r.place.fid_free forest
     by (Symlink dir name fid target mode owner) r a = forest_created s.held dir name fid (new_link target mode owner rec.time (sid_of client rec)) r.place.dir_there r.place.fid_free forest

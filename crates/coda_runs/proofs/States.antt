@@ -117,20 +117,22 @@ module _ (cell : Cell) (client volume : ℕ) (state : ShownState) (outside : Lis
       let log = log_of (s.shows.client.volumes volume) in
       let fell = replica_down cell r.server volume in
       let link = cell.links client r.server in
-      let state_is : state ≡ state_by fell link (is_empty log) = (let is = s.shows.answered in cc) in
-      (record {
-        at_client = s.shows.client;
-        at_server = r;
-        up = up;
-        made = s.shows.client_there;
-        there = s.shows.replica_there;
-        settles = λ one. state_is ∙ settles one (links_to cell volume client r.server) (is_empty log);
-        cut_off = λ cause. state_is ∙ emulates fell link (is_empty log) cause;
-        reaches = λ can is. works_on fell link (is_empty log) can.0 can.1 (sym state_is ∙ is);
-        hoards = λ can is chunk records. state_is ∙ hoards fell link (is_empty log) can.1 is (λ i. (length (chunk i) == 0) && (length (records i) == 0));
-        strong = λ is. strong fell link (is_empty log) (sym state_is ∙ is);
-        none_left = λ is. both_none log.chunk log.records (sent fell link (is_empty log) (sym state_is ∙ is));
-      }, s.same)
+      let state_is : state ≡ state_by fell link (is_empty log) = (let is = s.shows.answered in cc) in (
+        record {
+          at_client = s.shows.client;
+          at_server = r;
+          up = up;
+          made = s.shows.client_there;
+          there = s.shows.replica_there;
+          settles = λ one. state_is ∙ settles one (links_to cell volume client r.server) (is_empty log);
+          cut_off = λ cause. state_is ∙ emulates fell link (is_empty log) cause;
+          reaches = λ can is. works_on fell link (is_empty log) can.0 can.1 (sym state_is ∙ is);
+          hoards = λ can is chunk records. state_is ∙ hoards fell link (is_empty log) can.1 is (λ i. (length (chunk i) == 0) && (length (records i) == 0));
+          strong = λ is. strong fell link (is_empty log) (sym state_is ∙ is);
+          none_left = λ is. both_none log.chunk log.records (sent fell link (is_empty log) (sym state_is ∙ is));
+        },
+        s.same,
+      )
 
 pub shown_states_are_settled : ShownStatesAreSettled
 shown_states_are_settled cell client volume state outside new happens = by (is_down_for (needs cell (line.ShowState client volume))) refl happens

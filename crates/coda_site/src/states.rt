@@ -31,12 +31,7 @@ use coda_state::{State, next};
 use std::collections::BTreeMap;
 
 /// A client's log of a volume; `None` where the client isn't there or is down, or never had a log of the volume.
-pub fn log<'a, B: Bay>(
-    _bay: &B,
-    site: &'a Site<B::D>,
-    client: u8,
-    volume: u32,
-) -> Option<&'a Log>
+pub fn log<'a, B: Bay>(_bay: &B, site: &'a Site<B::D>, client: u8, volume: u32) -> Option<&'a Log>
     ensures down { (cell : Cell) → Shows B.D.told (B.out _bay.now) (B.has _bay.now) cell site.now
         → client_down cell client ≡ true → result ≡ None }
     ensures shown { (cell : Cell) → Shows B.D.told (B.out _bay.now) (B.has _bay.now) cell site.now
@@ -90,7 +85,11 @@ fn settled(strength: Strength, log_is_empty: bool) -> ClientState
     ensures { result ≡ shown_state (settled_state (link_with strength) log_is_empty) }
 {
     let link = link_of(strength);
-    match next(next(State::Emulating, link, log_is_empty), link, log_is_empty) {
+    match next(
+        next(State::Emulating, link, log_is_empty),
+        link,
+        log_is_empty,
+    ) {
         State::Hoarding => ClientState::Hoarding,
         State::Emulating => ClientState::Emulating,
         State::WriteDisconnected => ClientState::WriteDisconnected,
