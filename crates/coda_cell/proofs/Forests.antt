@@ -20,6 +20,7 @@ use Rattle.coda_fid.proofs.Fids.{fids_total, exact_fids, same_fid_is}
 use Rattle.coda_tree.specs.declared.node.Node.{Node}
 use Rattle.coda_tree.specs.Bindings.{Name}
 use Rattle.coda_tree.specs.Volume.{Nodes, child, child_of, has, parent_of, IsDirNode, changed, written, content_patch, attrs_patch, bind_in, unbind_in, bound, unbound, additions, removals, moves, edited_all}
+use Rattle.coda_tree.proofs.Booleans.{has_some}
 use Rattle.coda_tree.proofs.Order.{fid_cases, get_here, get_else, gone_here, gone_else}
 use Rattle.coda_tree.proofs.Changes.{has_changed}
 use Rattle.coda_tree.proofs.Parents.{tied_fid, parent_sound}
@@ -91,7 +92,7 @@ module _ (parents : Parents) (depth : Fid → ℕ) (deeper : (f p : Fid) → map
       → (eq_by_cmp fid_cmp q f || among (option_map_or (λ p. steps_up parents n p) o []) q) ≡ true → IsSome (map.get parents q)) [
         | None ↦ λ is no _. absurd (both_ways _ refl no)
         | Some p ↦ λ is on rest. (elim (eq_by_cmp fid_cmp q f) as (λ b. eq_by_cmp fid_cmp q f ≡ b → (b || among (steps_up parents n p) q) ≡ true → IsSome (map.get parents q)) [
-          | true ↦ λ e _. subst IsSome (sym (ap (map.get parents) (tied_fid q f e) ∙ is)) tt
+          | true ↦ λ e _. has_some (map.get parents q) (ap is_some (ap (map.get parents) (tied_fid q f e) ∙ is))
           | false ↦ λ e r. all_keys n p q on r
         ]) refl rest
       ]) refl goes h
@@ -350,13 +351,14 @@ below_fewer parents gone (suc n) f g is = (elim (same_fid f g) as (λ b. (b || o
   | true ↦ λ _. refl
   | false ↦ λ rest. elim (fid_cases f gone) [
     | inl same ↦ absurd (false≢true (sym (ap (λ o. option_map_or (λ p. below_within (map.remove parents gone) n p g) o false) (ap (map.get (map.remove parents gone)) same ∙ gone_here fids_total parents gone)) ∙ rest))
-    | inr other ↦ up (map.get parents f) (sym (ap (λ o. option_map_or (λ p. below_within (map.remove parents gone) n p g) o false) (gone_else fids_total exact_fids parents gone f other)) ∙ rest)
+    | inr other ↦ up (λ p e. below_fewer parents gone n p g e) (map.get parents f) (sym (ap (λ o. option_map_or (λ p. below_within (map.remove parents gone) n p g) o false) (gone_else fids_total exact_fids parents gone f other)) ∙ rest)
   ]
 ]) is
   where
-    up : (o : Option Fid) → option_map_or (λ p. below_within (map.remove parents gone) n p g) o false ≡ true → option_map_or (λ p. below_within parents n p g) o false ≡ true
-    up None e = e
-    up (Some p) e = below_fewer parents gone n p g e
+    up : ((p : Fid) → below_within (map.remove parents gone) n p g ≡ true → below_within parents n p g ≡ true) → (o : Option Fid) → option_map_or (λ p. below_within (map.remove parents gone) n p g) o false ≡ true
+        → option_map_or (λ p. below_within parents n p g) o false ≡ true
+    up later None e = e
+    up later (Some p) e = later p e
 
 -- so what isn't below an object isn't, once another has no parent any more
 apart_still : (h : Held) (gone f g : Fid) → IsForest h → is_below h.parents f g ≡ false → is_below (map.remove h.parents gone) f g ≡ false
