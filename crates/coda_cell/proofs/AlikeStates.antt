@@ -11,7 +11,7 @@ use Rattle.coda_script.specs.declared.reply.Reply.{Reply}
 use Rattle.coda_script.specs.declared.reply.Reply.TheVariants as replies
 use Rattle.coda_fid.specs.declared.op.Record.{Record}
 use Rattle.coda_record.specs.declared.answer.Answer.{Answer as RecordAnswer}
-use Rattle.coda_letters.specs.Sent.{Sent, ChunkSent, AnswerSent, Waiting, client_of, server_of, sent_at, number_of}
+use Rattle.coda_letters.specs.Sent.{Sent, ChunkSent, AnswerSent, BreakSent, Waiting, client_of, server_of, sent_at, number_of}
 use Rattle.coda_cell.specs.Ask.{Asked, Create, Mkdir, Symlink, Store, Setattr, Remove, Rmdir, Rename}
 use Rattle.coda_cell.specs.Asking.{Answer, operate, read, list}
 use Rattle.coda_cell.specs.Messages.{Ending, over, Going, going_by, sends_of}
@@ -42,12 +42,14 @@ abbrev pub client_to : Option Sent → Option ℕ
 client_to None = None
 client_to (Some (ChunkSent client server volume number span)) = None
 client_to (Some (AnswerSent server client volume number answer)) = Some client
+client_to (Some (BreakSent server client volume fids)) = Some client
 
 -- the volume whose replica a letter goes to, where it goes to one
 abbrev pub replica_to : Option Sent → Option ℕ
 replica_to None = None
 replica_to (Some (ChunkSent client server volume number span)) = Some volume
 replica_to (Some (AnswerSent server client volume number answer)) = None
+replica_to (Some (BreakSent server client volume fids)) = None
 
 -- The client that takes part in a line, by the letters that wait: that of a task, whose state is shown, who sends a chunk, and who a letter is delivered to.
 abbrev pub client_in : Line → Waiting → Option ℕ
@@ -210,6 +212,8 @@ module _ (t : CellState) (replicas : ℕ → Option ReplicaState) (clients : ℕ
   comes_same (AnswerSent server client volume number answer) here home does =
       unless_same (first_missing (on_holder s client volume server)) (first_missing (on_holder t client volume server)) (ByTaking s client volume number answer) (ByTaking t client volume number answer) reply events
       (on_holder_same client volume server) (by_taking client volume number answer (here client refl)) does
+  comes_same (BreakSent server client volume fids) here home does =
+      unless_same (first_missing (on_holder s client volume server)) (first_missing (on_holder t client volume server)) _ _ reply events (on_holder_same client volume server) (λ did. did) does
 
   delivers_same : (message : ℕ) (o : Option Sent) → ((client : ℕ) → client_to o ≡ Some client → clients client ≡ t.clients client) → ((volume : ℕ) → replica_to o ≡ Some volume → replicas volume ≡ t.replicas volume)
       → Delivers s message o reply events → Delivers t message o reply events

@@ -6,7 +6,7 @@ use Rattle.coda_record.specs.declared.answer.Answer.{Answer}
 use Rattle.coda_wire.specs.declared.message.Message.{Message}
 use Rattle.coda_wire.specs.declared.message.Message.TheVariants.{Chunk, Verdict}
 use Rattle.coda_net.specs.Pool.{Pool, is_down, link_of}
-use Rattle.coda_letters.specs.Sent.{Sent, ChunkSent, AnswerSent, message_of, client_of, server_of, Waiting, sent_at}
+use Rattle.coda_letters.specs.Sent.{Sent, ChunkSent, AnswerSent, BreakSent, message_of, client_of, server_of, Waiting, sent_at}
 use Rattle.coda_letters.specs.Calls.{DeliversTo, Delivers as LettersDeliver}
 use Rattle.coda_letters.specs.declared.fault.LetterFault.{LetterFault}
 use Rattle.coda_letters.specs.declared.fault.LetterFault.TheVariants as letter
@@ -35,7 +35,9 @@ came waiting net number m (inr to) = by (sent_at number waiting) refl to
 pub chunk_of : (sent : Sent) (client server volume number : ℕ) (recs : List Record) → message_of sent ≡ Chunk client server volume number recs → (span : List Record) × (recs ≡ sent_of span) × (sent ≡ ChunkSent client server volume number span)
 chunk_of (ChunkSent c s v n span) client server volume number recs e = (span, (let same : fold span ≡ recs = cc in sym same), cc)
 chunk_of (AnswerSent s c v n answer) client server volume number recs e = cc
+chunk_of (BreakSent s c v fids) client server volume number recs e = cc
 
 pub answer_of : (sent : Sent) (server client volume number : ℕ) (answer : Answer) → message_of sent ≡ Verdict server client volume number answer → sent ≡ AnswerSent server client volume number answer
 answer_of (ChunkSent c s v n span) server client volume number answer e = cc
 answer_of (AnswerSent s c v n a) server client volume number answer e = cc
+answer_of (BreakSent s c v fids) server client volume number answer e = cc

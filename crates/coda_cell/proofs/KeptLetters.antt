@@ -1,5 +1,5 @@
 -- A cell stays kept by a letter that is posted or lost, and by lines that send, deliver and lose letters.
-use Rattle.std.proofs.Common.{◌≡◌, ◌≢◌, ℕ, ◌+◌, ◌≤◌, ◌==◌, Bool, true, false, cond, List, [], ◌∷◌, ◌++◌, append-nil, map, take, Option, Some, None, option_map, Result, Ok, Err, refl, sym, ap, ◌∙◌, subst, inl, arith}
+use Rattle.std.proofs.Common.{◌≡◌, ◌≢◌, ℕ, ◌+◌, ◌≤◌, ◌==◌, Bool, true, false, cond, List, [], ◌∷◌, ◌++◌, append-nil, map, Option, Some, None, option_map, Result, Ok, Err, refl, sym, ap, ◌∙◌, subst, inl, arith}
 use Rattle.std.specs.Prelude.{nat_eq}
 use Rattle.std.proofs.lemmas.Bool.{eqb-true, ne_eqb}
 use Rattle.std.proofs.lemmas.Bool.Decides.{nat_tests}
@@ -16,7 +16,7 @@ use Rattle.coda_plain.specs.Deeds.{Cut, Course, course_of, MaySettle}
 use Rattle.coda_plain.specs.Cell.{Letter, ChunkSent as PlainChunk, AnswerSent as PlainAnswer, BreakSent as PlainBreak, Ruled, Behind as PlainBehind, Old as PlainOld, PlainCell}
 use Rattle.coda_plain.specs.Moves.{Posts, Loses, after as after_move, done_on, MayPost}
 use Rattle.coda_plain.proofs.Soundness.{moves_keep_sound}
-use Rattle.coda_letters.specs.Sent.{Sent, ChunkSent, AnswerSent, Waiting, sent_at, lost_by, number_of, without}
+use Rattle.coda_letters.specs.Sent.{Sent, ChunkSent, AnswerSent, BreakSent, Waiting, sent_at, put_out, number_of, without}
 use Rattle.coda_cell.specs.State.{ClientVolume, ClientState, CellState, Posted, Lost}
 use Rattle.coda_cell.specs.Made.{MadeCell, client_of, replica_of, plain_letter, grown, grown_all}
 use Rattle.coda_cell.specs.Refusing.{settle_refused_as}
@@ -43,6 +43,7 @@ module _ (cell : PlainCell) (letter : Letter) where
   said_posted : (sent : Sent) → IsSaid cell sent → IsSaid posted sent
   said_posted (ChunkSent client server volume number span) is = is
   said_posted (AnswerSent server client volume number answer) is = tt
+  said_posted (BreakSent server client volume fids) is = absurd is
 
   pooled_posted : (before : ℕ) (waiting : Waiting) (sent : Sent) → letter ≡ plain_letter sent → IsSaid cell sent → AreNumbered before cell.posted waiting → ArePooled cell waiting → ArePooled posted (waiting ++ (cell.posted + 1, sent) ∷ [])
   pooled_posted before [] sent same is numbered are = (
@@ -78,6 +79,7 @@ module _ (cell : PlainCell) (message : ℕ) where
   said_lost : (sent : Sent) → IsSaid cell sent → IsSaid lost sent
   said_lost (ChunkSent client server volume number span) is = is
   said_lost (AnswerSent server client volume number answer) is = tt
+  said_lost (BreakSent server client volume fids) is = absurd is
 
   -- those above one that is lost
   pooled_above : (before last : ℕ) (waiting : Waiting) → message ≤ before → AreNumbered before last waiting → ArePooled cell waiting → ArePooled lost waiting
@@ -136,7 +138,7 @@ put_out_left (l ∷ going) cell sent kept may said =
     (first, put_out_left going (grown cell (Lost l.0)) sent first.kept (may_post_on cell.acted l.0 (plain_letter sent) may) (said_lost cell.acted l.0 sent said))
 
 pub posting_left : (cell : MadeCell) (sent : Sent) (waiting : Waiting) → IsKept cell → MayPost cell.acted (plain_letter sent) → IsSaid cell.acted sent → AreLeft cell (posting sent waiting)
-posting_left cell sent waiting kept may said = put_out_left (take (lost_by sent waiting) waiting) cell sent kept may said
+posting_left cell sent waiting kept may said = put_out_left (put_out sent waiting) cell sent kept may said
 
 module _ (cell : MadeCell) (s : CellState) (number blocks : ℕ) (kept : IsKept cell) (there : cell.sizes number ≡ Some blocks) (volume server : ℕ) (homed : cell.homes volume ≡ Some server) (now window : ℕ) where
   abbrev sender : ClientState

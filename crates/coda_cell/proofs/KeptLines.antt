@@ -32,7 +32,7 @@ use Rattle.coda_cell.specs.Accepting.{Accepted, sight_of, accept}
 use Rattle.coda_cell.specs.Asking.{Answer, answers, look_ups, behind_fetches, next_record, has_room, is_full, answer_to, operate_unless, operate, read, list}
 use Rattle.coda_cell.specs.Kept.{AreWithin, AreChildrenKept, IsHolding}
 use Rattle.coda_cell.specs.Made.{MadeCell, client_of, replica_of, state_of, grown, grown_all}
-use Rattle.coda_letters.specs.Sent.{Sent, ChunkSent, AnswerSent, client_of as sender_of, server_of, sent_at}
+use Rattle.coda_letters.specs.Sent.{Sent, ChunkSent, AnswerSent, BreakSent, client_of as sender_of, server_of, is_lossy, sent_at}
 use Rattle.coda_cell.specs.Messages.{sends, chunk_comes, answer_comes}
 use Rattle.coda_cell.specs.Steps.{first_missing, on_volume, on_holder, client_named, volume_named, server_named, holder_named, no_volume, no_client, no_room, Doing, Unless, reached, offers_of, ByClient, ByBoth, BySend, ByRuling, ByTaking, bytes_of, Operates, DoesTask, Comes, link_down, Delivers, Loses, alone, Does}
 use Rattle.coda_cell.specs.Sending.{Freezing, freezing, ruling, taking, drained_of, drained, drain}
@@ -325,6 +325,8 @@ module _ (cell : MadeCell) (kept : IsKept cell) where
       subst (AreLeft cell) (sym (did.happened ∙ ap (λ (x : ClientState). (answer_comes client volume number answer (x.volumes volume)).events) (sym c.2)))
       (answer_comes_left cell client c.0 kept c.1 volume server (homed client volume server all) server number answer is (taking number answer ((client_of client (cell.acted.clients client).history c.0).volumes volume)) refl)) does
 
+  comes_left (BreakSent server client volume fids) reply events is does = absurd is.said
+
   delivers_left : (message : ℕ) (o : Option Sent) (reply : Reply) (events : List Event) → sent_at message cell.waiting ≡ o → Delivers (state_of cell) message o reply events → AreLeft cell events
   delivers_left message None reply events e does = nothing_left events does.1
   delivers_left message (Some sent) reply events e does = unless_own (link_down (cell.links (sender_of sent) (server_of sent))) (Comes (state_of cell) sent) reply events
@@ -332,7 +334,15 @@ module _ (cell : MadeCell) (kept : IsKept cell) where
 
   loses_left : (message : ℕ) (o : Option Sent) (reply : Reply) (events : List Event) → Loses message o reply events → AreLeft cell events
   loses_left message None reply events does = nothing_left events does.1
-  loses_left message (Some sent) reply events does = subst (AreLeft cell) (sym does.1) (are_left_one cell (Lost message) (lost_left cell message kept))
+  loses_left message (Some sent) reply events does = subst (AreLeft cell) (sym does.1) (by (is_lossy sent))
+    where
+      gone : IsLeft cell (Lost message ∷ [])
+      gone = lost_left cell message kept
+
+      by : (b : Bool) → AreLeft cell (Lost message ∷ cond b [] (LinkSet (sender_of sent) (server_of sent) Down ∷ []))
+      by true = are_left_one cell (Lost message) gone
+      by false = are_left_both cell (Lost message ∷ []) (LinkSet (sender_of sent) (server_of sent) Down ∷ []) (are_left_one cell (Lost message) gone)
+          (are_left_one (grown cell (Lost message)) (LinkSet (sender_of sent) (server_of sent) Down) (linked_left (grown cell (Lost message)) (sender_of sent) (server_of sent) Down gone.kept))
 
   task_left : (t : Task) (reply : Reply) (events : List Event) → DoesTask (state_of cell) t reply events → AreLeft cell events
   task_left (task.Create client volume path mode owner) reply events does = operates_left client volume (Create path (unwrap_or mode 420) (unwrap_or owner 0)) reply events does

@@ -10,7 +10,7 @@ use Rattle.coda_plain.proofs.Chunking.{numbered}
 use Rattle.coda_plain.proofs.Lists.{told_more}
 use Rattle.coda_plain.proofs.Soundness.{none_joins, runs_sound}
 use Rattle.coda_plain.proofs.Staying.{clients_run}
-use Rattle.coda_letters.specs.Sent.{Sent, ChunkSent, AnswerSent, Waiting}
+use Rattle.coda_letters.specs.Sent.{Sent, ChunkSent, AnswerSent, BreakSent, Waiting}
 use Rattle.coda_cell.specs.Made.{MadeCell, plain_letter}
 use Rattle.coda_cell.specs.Runs.{AreNumbered, IsSaid, ArePooled, AreLettersOf}
 use Rattle.coda_cell.proofs.Moving.{deeds_both}
@@ -36,6 +36,7 @@ module _ (moves : List Move) (old new : PlainCell) (sound : IsSound old) (moved 
       let all = subst AreLawful deeds (((runs_sound moves old new sound moved).agree none_joins).lawful client volume) in
       is ∙ sym (span_stays (record { number = number; home = server; span = frozen.0 }) past more law all frozen.1) ∙ sym (ap (λ ds. span_of ds number) deeds)
   said_on message (AnswerSent server client volume number answer) there is = tt
+  said_on message (BreakSent server client volume fids) there is = absurd is
 
   pooled_on : new.pool ≡ old.pool → (waiting : Waiting) → ArePooled old waiting → ArePooled new waiting
   pooled_on same [] are = tt

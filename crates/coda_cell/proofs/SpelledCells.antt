@@ -5,7 +5,7 @@ use Rattle.std.specs.FinMap as map
 use Rattle.coda_fid.specs.declared.op.Record.{Record}
 use Rattle.coda_fid.specs.declared.fid.Fid.{Fid}
 use Rattle.coda_fid.proofs.Fids.{fids_total, exact_fids}
-use Rattle.coda_tree.specs.Volume.{Nodes, child, child_of}
+use Rattle.coda_tree.specs.Volume.{Nodes, child_of}
 use Rattle.coda_tree.proofs.Order.{fid_cases, gone_here, gone_else}
 use Rattle.coda_certify.specs.declared.verdict.Verdict.TheVariants.{Applied}
 use Rattle.coda_certify.specs.Verdicts.{verdict_of}

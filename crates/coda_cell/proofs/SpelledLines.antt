@@ -1,5 +1,5 @@
 -- What each line leaves can be spelled, where its numbers are in their ranges.
-use Rattle.std.proofs.Common.{◌≡◌, ℕ, ◌<◌, ◌≤◌, ◌+◌, ◌==◌, ◌||◌, Bool, true, false, cond, List, [], ◌∷◌, ◌++◌, length, map, take, min, Option, Some, None, is_some, option_map, Result, Ok, Err, refl, sym, ap, ◌∙◌, subst, inl, inr, arith}
+use Rattle.std.proofs.Common.{◌≡◌, ℕ, ◌<◌, ◌≤◌, ◌+◌, ◌==◌, ◌||◌, Bool, true, false, cond, List, [], ◌∷◌, ◌++◌, length, map, min, Option, Some, None, is_some, option_map, Result, Ok, Err, refl, sym, ap, ◌∙◌, subst, inl, inr, arith}
 use Rattle.std.specs.Prelude.{nat_lt, nat_le, IfSome}
 use Rattle.std.specs.Option.{unwrap_or}
 use Rattle.std.specs.FinMap as finite
@@ -47,7 +47,7 @@ use Rattle.coda_cell.specs.State.{ClientVolume, ClientState, ReplicaState, new_c
 use Rattle.coda_cell.specs.Accepting.{Accepted, sight_of, accept}
 use Rattle.coda_cell.specs.Asking.{Answer, answers, look_ups, behind_fetches, next_record, has_room, is_full, answer_to, operate_unless, operate, read, list}
 use Rattle.coda_cell.specs.Made.{MadeCell, client_of, state_of, grown, grown_all, moves_of}
-use Rattle.coda_letters.specs.Sent.{Sent, ChunkSent, AnswerSent, Waiting, client_of as sender_of, server_of, sent_at, lost_by, number_of}
+use Rattle.coda_letters.specs.Sent.{Sent, ChunkSent, AnswerSent, BreakSent, Waiting, client_of as sender_of, server_of, is_lossy, sent_at, put_out, number_of}
 use Rattle.coda_cell.specs.Messages.{over, posting, going_by, sends_of, sends, ruled_in, taken_in}
 use Rattle.coda_cell.specs.Steps.{Doing, Unless, first_missing, on_volume, on_holder, client_named, volume_named, server_named, holder_named, no_volume, no_client, offers_of, ByClient, ByBoth, BySend, ByRuling, ByTaking, bytes_of, Operates, DoesTask, Comes, link_down, Delivers, Loses, alone, Does}
 use Rattle.coda_cell.specs.Sending.{Freezing, frozen_now, frozen_unless, freezing_of, freezing, Ruling, decides, ruling_of, ruling, Taking, taken, taken_unless, taking, deeds_at, entries_at, answered_to, ruled_on, drained_of, drain}
@@ -305,7 +305,7 @@ put_out_spelled [] sent = (tt, tt)
 put_out_spelled (l ∷ going) sent = (tt, put_out_spelled going sent)
 
 posting_spelled : (sent : Sent) (waiting : Waiting) → AreEventsSpelled (posting sent waiting)
-posting_spelled sent waiting = put_out_spelled (take (lost_by sent waiting) waiting) sent
+posting_spelled sent waiting = put_out_spelled (put_out sent waiting) sent
 
 module _ (s : CellState) (client volume server : ℕ) where
   going_spelled : (sent : Sent) (o : Option ℕ) → AreEventsSpelled (going_by o sent s).events
@@ -434,13 +434,19 @@ module _ (cell : MadeCell) (kept : IsKept cell) (can : CanBeSpelled cell) where
   comes (AnswerSent server client volume number answer) reply events does = named_own (first_missing (on_holder (state_of cell) client volume server)) (ByTaking (state_of cell) client volume number answer) reply events (λ all did.
       subst AreEventsSpelled (sym did.happened) (taken_in_spelled (state_of cell) client volume server number answer (did.client.volumes volume) (taking number answer (did.client.volumes volume)) refl)) does
 
+  comes (BreakSent server client volume fids) reply events does = named_own (first_missing (on_holder (state_of cell) client volume server)) _ reply events (λ all did. subst AreEventsSpelled (sym did.1) (tt, tt)) does
+
   delivers : (message : ℕ) (o : Option Sent) (reply : Reply) (events : List Event) → Delivers (state_of cell) message o reply events → AreEventsSpelled events
   delivers message None reply events does = nothing events does.1
   delivers message (Some sent) reply events does = unless_own (link_down (cell.links (sender_of sent) (server_of sent))) (Comes (state_of cell) sent) reply events (comes sent reply events) does
 
   loses : (message : ℕ) (o : Option Sent) (reply : Reply) (events : List Event) → Loses message o reply events → AreEventsSpelled events
   loses message None reply events does = nothing events does.1
-  loses message (Some sent) reply events does = subst AreEventsSpelled (sym does.1) (tt, tt)
+  loses message (Some sent) reply events does = subst AreEventsSpelled (sym does.1) (tt, by (is_lossy sent))
+    where
+      by : (b : Bool) → AreEventsSpelled (cond b [] (LinkSet (sender_of sent) (server_of sent) Down ∷ []))
+      by true = tt
+      by false = (tt, tt)
 
   number_spelled : (volume : ℕ) → IsVolume volume → HasSpelling table.volume volume
   number_spelled volume range = let most = range.1 in within 1 4294967295 four volume range.0 range.1 (omega (arith, most))

@@ -7,9 +7,9 @@ use Rattle.coda_script.specs.declared.line.Strength.TheVariants.{Down}
 use Rattle.coda_certify.specs.declared.verdict.Verdict.TheVariants as verdict
 use Rattle.coda_record.specs.declared.answer.Answer.{Answer}
 use Rattle.coda_record.specs.declared.answer.Answer.TheVariants as answer
-use Rattle.coda_letters.specs.Sent.{Sent, ChunkSent, AnswerSent, Waiting, without}
+use Rattle.coda_letters.specs.Sent.{Sent, ChunkSent, AnswerSent, BreakSent, Waiting, without}
 use Rattle.coda_plain.specs.Decisions.{ReplicaEntry}
-use Rattle.coda_plain.specs.Cell.{ClientEntry, Letter, ChunkSent as PlainChunk, AnswerSent as PlainAnswer, Answer as PlainReply, Ruled, Behind, Old, PlainCell, empty_cell}
+use Rattle.coda_plain.specs.Cell.{ClientEntry, Letter, ChunkSent as PlainChunk, AnswerSent as PlainAnswer, BreakSent as PlainBreak, Answer as PlainReply, Ruled, Behind, Old, PlainCell, empty_cell}
 use Rattle.coda_plain.specs.Moves.{Move, Does, Posts, Loses, after as after_move}
 use Rattle.coda_cell.specs.State.{put, later, linked, ClientState, new_client, client_after_all, ReplicaState, new_replica, replica_after_all, CellState, Event, VolumeMade, ClientMade, Ticked, LinkSet, Entered, Posted, Lost, Used, Kept, Stale, but_of, with_copy, cut_by, used_then}
 
@@ -58,7 +58,7 @@ state_of cell = record {
   uses = cell.uses;
 }
 
--- an answer by its verdict, and a letter by the chunk's number alone, as histories have them
+-- an answer by its verdict, a chunk by its number alone, and a break by its objects, as histories have them
 abbrev pub plain_answer : Answer → PlainReply
 plain_answer answer.Applied = Ruled verdict.Applied
 plain_answer (answer.Conflict number why) = Ruled (verdict.Conflict number why)
@@ -68,6 +68,7 @@ plain_answer (answer.Old last) = Old last
 abbrev pub plain_letter : Sent → Letter
 plain_letter (ChunkSent client server volume number span) = PlainChunk client server volume number
 plain_letter (AnswerSent server client volume number answer) = PlainAnswer server client volume number (plain_answer answer)
+plain_letter (BreakSent server client volume fids) = PlainBreak server client fids
 
 -- a cell with what an event adds
 abbrev pub grown : MadeCell → Event → MadeCell

@@ -1,5 +1,5 @@
 -- What a line comes to that sends, delivers or loses a letter.
-use Rattle.std.specs.Prelude.{ℕ, ◌+◌, List, [], ◌∷◌, ◌++◌, map, take, Option, Some, None, Result, Ok, Err}
+use Rattle.std.specs.Prelude.{ℕ, ◌+◌, List, [], ◌∷◌, ◌++◌, map, Option, Some, None, Result, Ok, Err}
 use Rattle.coda_certify.specs.declared.verdict.Verdict.TheVariants as verdict
 use Rattle.coda_fid.specs.declared.op.Record.{Record}
 use Rattle.coda_record.specs.declared.answer.Answer.{Answer}
@@ -9,7 +9,7 @@ use Rattle.coda_script.specs.declared.line.Strength.TheVariants.{Strong, Weak, D
 use Rattle.coda_script.specs.declared.reply.Reply.{Reply}
 use Rattle.coda_script.specs.declared.reply.Reply.TheVariants as reply
 use Rattle.coda_script.specs.declared.reply.Undecided.TheVariants as undecided
-use Rattle.coda_letters.specs.Sent.{Sent, ChunkSent, AnswerSent, Waiting, lost_by, number_of}
+use Rattle.coda_letters.specs.Sent.{Sent, ChunkSent, AnswerSent, Waiting, put_out, number_of}
 use Rattle.coda_cell.specs.Asking.{Said}
 use Rattle.coda_cell.specs.State.{ClientVolume, ReplicaState, CellState, Event, Posted, Lost}
 use Rattle.coda_cell.specs.Sending.{Freezing, freezing, Ruling, ruling, Taking, taking, deeds_at, entries_at, reply_answer}
@@ -33,9 +33,9 @@ over Down r = Err LinkDown
 
 -- ---- letters
 
--- something is posted: as few of the oldest letters are lost as make the rest and the new one fit
+-- something is posted: as few of the oldest letters that may be lost go as make the rest and the new one fit
 abbrev pub posting : Sent → Waiting → List Event
-posting sent waiting = map (λ l. Lost l.0) (take (lost_by sent waiting) waiting) ++ Posted sent ∷ []
+posting sent waiting = map (λ l. Lost l.0) (put_out sent waiting) ++ Posted sent ∷ []
 
 -- a letter by its number, and what happens for it
 pub record Going : Type 0 where

@@ -17,7 +17,7 @@ use Rattle.coda_cell.specs.Sending.{frozen_now, drained}
 use Rattle.coda_cell.specs.State.{ClientVolume, ClientState, ReplicaState, Event, after_all}
 use Rattle.coda_cell.specs.Kept.{IsHolding}
 use Rattle.coda_plain.specs.Deeds.{span_of}
-use Rattle.coda_letters.specs.Sent.{Sent, ChunkSent, AnswerSent, Waiting}
+use Rattle.coda_letters.specs.Sent.{Sent, ChunkSent, AnswerSent, BreakSent, Waiting}
 use Rattle.coda_cell.specs.Made.{MadeCell, plain_letter, nothing_made, client_of, state_of, grown_all, moves_of}
 use Rattle.coda_cell.specs.Steps.{Does}
 use Rattle.coda_cell.specs.Cells.{AreOrderly}
@@ -39,10 +39,12 @@ abbrev pub AreNumbered : ℕ → ℕ → Waiting → Type 0
 AreNumbered before last [] = Unit {0}
 AreNumbered before last (l ∷ waiting) = (before < l.0) × (l.0 ≤ last) × AreNumbered l.0 last waiting
 
--- what a letter says of a chunk are the operations that its client froze
+-- what a letter says of a chunk are the operations that its client froze; and no letter is a break, since no server promises to tell of
+-- changed objects
 abbrev pub IsSaid : PlainCell → Sent → Type 0
 IsSaid cell (ChunkSent client server volume number span) = span ≡ span_of (done_on cell client volume) number
 IsSaid cell (AnswerSent server client volume number answer) = Unit {0}
+IsSaid cell (BreakSent server client volume fids) = ⊥
 
 -- each letter that waits is that of its number in the pool
 abbrev pub ArePooled : PlainCell → Waiting → Type 0

@@ -1,7 +1,8 @@
 -- What a line does in a cell: a relation of the state before, the line, its reply, and what happens.
 use Rattle.std.specs.Prelude.{◌≡◌, ℕ, Bool, true, false, ◌==◌, nat_le, is_some, if◌then◌else◌, List, [], ◌∷◌, length, map, replicate, Option, Some, None, Ok, Err}
 use Rattle.std.specs.Option.{option_map_or, option_and_then, unwrap_or}
-use Rattle.std.specs.List.{list_any}
+use Rattle.std.specs.List.{list_any, filter}
+use Rattle.coda_fid.specs.declared.fid.Fid.{Fid}
 use Rattle.coda_tree.specs.Volume.{Nodes}
 use Rattle.coda_script.specs.declared.line.Strength.{Strength}
 use Rattle.coda_script.specs.declared.line.Strength.TheVariants.{Strong, Weak, Down}
@@ -12,12 +13,12 @@ use Rattle.coda_script.specs.declared.line.Task.TheVariants as task
 use Rattle.coda_script.specs.declared.line.Line.{Line}
 use Rattle.coda_script.specs.declared.line.Line.TheVariants as line
 use Rattle.coda_script.specs.declared.reply.Reply.{Reply}
-use Rattle.coda_script.specs.declared.reply.Reply.TheVariants.{Opened, Accepted, Lost, ShowVolume, ShowLog, State}
+use Rattle.coda_script.specs.declared.reply.Reply.TheVariants.{Opened, Accepted, Broken, Lost, ShowVolume, ShowLog, State}
 use Rattle.coda_cell.specs.Ask.{Asked, Create, Mkdir, Symlink, Store, Setattr, Remove, Rmdir, Rename}
 use Rattle.coda_fid.specs.declared.op.Record.{Record}
 use Rattle.coda_record.specs.declared.answer.Answer.{Answer as RecordAnswer}
-use Rattle.coda_letters.specs.Sent.{Sent, ChunkSent, AnswerSent, client_of, server_of, sent_at}
-use Rattle.coda_cell.specs.State.{ClientState, ReplicaState, CellState, Event, VolumeMade, ClientMade, Ticked, LinkSet, Lost as LetterLost, at_client, log_of}
+use Rattle.coda_letters.specs.Sent.{Sent, ChunkSent, AnswerSent, BreakSent, client_of, server_of, is_lossy, sent_at}
+use Rattle.coda_cell.specs.State.{ClientState, ReplicaState, CellState, Event, VolumeMade, ClientMade, Ticked, LinkSet, Lost as LetterLost, Stale, at_client, log_of}
 use Rattle.coda_cell.specs.States.{state_over}
 use Rattle.coda_cell.specs.Refusing.{refusal}
 use Rattle.coda_cell.specs.Sending.{drain}
@@ -183,6 +184,10 @@ pub record ByTaking (s : CellState) (number volume chunk : ℕ) (answer : Record
 abbrev pub Happens : Reply → Event → Doing
 Happens said event reply events = (reply ≡ said) × (events ≡ event ∷ [])
 
+-- a reply, and these happen in turn
+abbrev pub HappenInTurn : Reply → List Event → Doing
+HappenInTurn said happening reply events = (reply ≡ said) × (events ≡ happening)
+
 -- a reply, and nothing happens
 abbrev pub Says : Reply → Doing
 Says said reply events = (reply ≡ said) × (events ≡ [])
@@ -223,10 +228,15 @@ DoesTask s (task.Giveup client volume) = Nowhere
 abbrev pub on_holder : CellState → ℕ → ℕ → ℕ → List Named
 on_holder s client volume server = client_named s client ∷ volume_named s volume ∷ holder_named s server volume ∷ []
 
--- a letter comes to whom it was sent
+-- how many of these objects a client has valid copies of
+abbrev pub valid_copies : CellState → ℕ → List Fid → ℕ
+valid_copies s client fids = length (filter (λ fid. is_some (s.copies client fid)) fids)
+
+-- A letter comes to whom it was sent. By a break the client's copies of its objects aren't valid any more, and the reply counts those that were.
 abbrev pub Comes : CellState → Sent → Doing
 Comes s (ChunkSent client server volume number span) = Naming (on_holder s client volume server) (ByRuling s client server volume number span)
 Comes s (AnswerSent server client volume number answer) = Naming (on_holder s client volume server) (ByTaking s client volume number answer)
+Comes s (BreakSent server client volume fids) = Naming (on_holder s client volume server) (Happens (Broken (valid_copies s client fids)) (Stale client fids))
 
 -- why a link carries nothing
 abbrev pub link_down : Strength → Option Refused
@@ -239,10 +249,14 @@ abbrev pub Delivers : CellState → ℕ → Option Sent → Doing
 Delivers s message None = Unless (Some (NoMessage message)) Nowhere
 Delivers s message (Some sent) = Unless (link_down (s.links (client_of sent) (server_of sent))) (Comes s sent)
 
+-- what happens with a letter that is lost: with one that may not be lost for the limits, the link between its ends goes down
+abbrev pub cut_with : Sent → List Event
+cut_with sent = if is_lossy sent then [] else LinkSet (client_of sent) (server_of sent) Down ∷ []
+
 -- a letter that waits is lost
 abbrev pub Loses : ℕ → Option Sent → Doing
 Loses message None = Unless (Some (NoMessage message)) Nowhere
-Loses message (Some sent) = Happens (Lost message) (LetterLost message)
+Loses message (Some sent) = HappenInTurn (Lost message) (LetterLost message ∷ cut_with sent)
 
 -- the server of a volume that is on one alone
 abbrev pub alone : List ℕ → ℕ

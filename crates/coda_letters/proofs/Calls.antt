@@ -1,5 +1,6 @@
 -- What the calls of a network come to, in words of what its letters say.
 use Rattle.std.proofs.Common.{◌≡◌, ℕ, ◌+◌, ◌≤◌, Bool, true, false, cond, List, [], length, append-nil, Option, Some, None, option_map, Result, Ok, Err, IfOk, refl, sym, ap, ◌∙◌, subst, inr, arith}
+use Rattle.coda_fid.specs.declared.fid.Fid.{Fid}
 use Rattle.coda_fid.specs.declared.op.Record.{Record}
 use Rattle.coda_cancel.specs.Cancel.{fold}
 use Rattle.coda_cancel.specs.Weights.{total_weight}
@@ -8,7 +9,7 @@ use Rattle.coda_record.specs.Spelling.{HasSpelling, Spells}
 use Rattle.coda_record.proofs.Offsets.{agreeing_is_exact}
 use Rattle.coda_wire.specs.declared.fault.WireFault.{WireFault}
 use Rattle.coda_wire.specs.declared.message.Message.{Message}
-use Rattle.coda_wire.specs.declared.message.Message.TheVariants.{Chunk, Verdict}
+use Rattle.coda_wire.specs.declared.message.Message.TheVariants.{Chunk, Verdict, Break}
 use Rattle.coda_wire.specs.Outcome.{Reads}
 use Rattle.coda_wire.specs.Table.{message}
 use Rattle.coda_wire.proofs.Tabled.{message_agrees}
@@ -16,7 +17,7 @@ use Rattle.coda_net.specs.declared.fault.NetFault.{NetFault}
 use Rattle.coda_net.specs.declared.fault.NetFault.TheVariants as net_faults
 use Rattle.coda_net.specs.declared.letter.Letter.{Letter}
 use Rattle.coda_net.specs.Pool.{Pool, letter_at, is_down, link_of, not_delivered, deliver_refusal, posted_to, found, without as without_letter}
-use Rattle.coda_letters.specs.Sent.{Sent, ChunkSent, AnswerSent, message_of, CanBeSent, client_of, server_of, bytes_of, letter_of, Waiting, AreLetters, sent_at, number_of}
+use Rattle.coda_letters.specs.Sent.{Sent, ChunkSent, AnswerSent, BreakSent, message_of, CanBeSent, client_of, server_of, bytes_of, letter_of, Waiting, AreLetters, sent_at, number_of}
 use Rattle.coda_letters.specs.Calls.{IsPosted, IsSentAs, IsSent, DeliversTo, Delivers, LosesTo, Loses}
 use Rattle.coda_letters.specs.Laws.{BytesTellMessages}
 use Rattle.coda_letters.specs.declared.fault.LetterFault.{LetterFault}
@@ -67,6 +68,10 @@ chunk_can client server volume number span recs folded can = subst (λ rs. HasSp
 pub answer_letter : (server client volume number : ℕ) (answer : Answer) (bytes : List ℕ) → Spells message bytes (Verdict server client volume number answer)
     → (let written : Letter = record { client = client; server = server; to_server = false; lossy = true; bytes = bytes } in written ≡ letter_of (AnswerSent server client volume number answer))
 answer_letter server client volume number answer bytes spelled = ap (λ bs. let written : Letter = record { client = client; server = server; to_server = false; lossy = true; bytes = bs } in written) spelled.0
+
+pub break_letter : (server client volume : ℕ) (fids : List Fid) (bytes : List ℕ) → Spells message bytes (Break server client volume fids)
+    → (let written : Letter = record { client = client; server = server; to_server = false; lossy = false; bytes = bytes } in written ≡ letter_of (BreakSent server client volume fids))
+break_letter server client volume fids bytes spelled = ap (λ bs. let written : Letter = record { client = client; server = server; to_server = false; lossy = false; bytes = bs } in written) spelled.0
 
 -- ---- delivering
 

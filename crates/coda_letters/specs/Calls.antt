@@ -4,7 +4,7 @@ use Rattle.coda_wire.specs.declared.message.Message.{Message}
 use Rattle.coda_fid.specs.declared.fid.Fid.{Fid}
 use Rattle.coda_net.specs.declared.letter.Letter.{Letter}
 use Rattle.coda_net.specs.Pool.{Pool, is_down, link_of}
-use Rattle.coda_letters.specs.Sent.{Sent, message_of, client_of, server_of, letter_of, break_letter, Waiting, AreLetters, sent_at, without, with_sent, number_of}
+use Rattle.coda_letters.specs.Sent.{Sent, BreakSent, message_of, client_of, server_of, letter_of, Waiting, AreLetters, sent_at, without, with_sent, number_of}
 use Rattle.coda_letters.specs.declared.fault.LetterFault.{LetterFault}
 use Rattle.coda_letters.specs.declared.fault.LetterFault.TheVariants.{NoMessage, LinkDown, Memory}
 
@@ -26,7 +26,7 @@ IsSent waiting sent old number new = IsSentAs (number_of sent waiting) waiting s
 pub record IsBreakPosted (server client volume : ℕ) (fids : List Fid) (old : Pool) (number : ℕ) (new : Pool) : Type 0 where
   pub next : number ≡ old.posted + 1
   pub posted : new.posted ≡ number
-  pub letters : new.letters ≡ old.letters ++ (number, break_letter server client volume fids) ∷ []
+  pub letters : new.letters ≡ old.letters ++ (number, letter_of (BreakSent server client volume fids)) ∷ []
 
 -- the letter of a number was delivered: it is there, its link is up, and this is what it says; or there was no memory
 abbrev pub DeliversTo : Pool → ℕ → Option Sent → Result Message LetterFault → Type 0

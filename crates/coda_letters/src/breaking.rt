@@ -5,7 +5,8 @@ ghost use Rattle.coda_wire.specs.declared.message.Message.TheVariants.{Break};
 ghost use Rattle.coda_wire.specs.Table.{message as a_message};
 ghost use Rattle.coda_net.specs.declared.fault.NetFault.TheVariants as net_faults;
 ghost use Rattle.coda_net.specs.Pool.{is_down, link_of};
-ghost use Rattle.coda_letters.specs.Calls.{IsBreakPosted};
+ghost use Rattle.coda_letters.specs.Sent.{Waiting, AreLetters, BreakSent};
+ghost use Rattle.coda_letters.specs.Calls.{IsPosted, IsBreakPosted};
 
 use coda_net::{Letter, Net, NetFault};
 use coda_reslog::Fids;
@@ -32,6 +33,7 @@ pub fn post_break(
     requires spelled { HasSpelling a_message (Break server client volume fids) }
     requires few { net.old.posted < 2 ^ 63 }
     ensures posted { IfOk result (λ letter. IsBreakPosted server client volume fids net.old letter net.new) }
+    ensures said { (waiting : Waiting) → AreLetters waiting net.old → IfOk result (λ letter. IsPosted waiting (BreakSent server client volume fids) net.old letter net.new) }
     ensures later { net.new.posted ≤ net.old.posted + 1 }
     ensures links { net.new.links ≡ net.old.links }
     ensures up { OnOk result (is_down (link_of net.old client server) ≡ false) }

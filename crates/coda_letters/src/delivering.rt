@@ -25,9 +25,9 @@ pub fn deliver(alloc: Global, net: &Net, number: u64) -> Result<Message, LetterF
         Ok(letter) => letter,
         Err(NetFault::NoMessage(_)) => return Err(LetterFault::NoMessage(number)),
         Err(NetFault::LinkDown) => return Err(LetterFault::LinkDown),
-        Err(NetFault::Memory) => return Err(LetterFault::Memory),
-        // No delivery asks for this.
-        Err(NetFault::NotShorter(_)) => return Err(LetterFault::Memory),
+        // A delivery trims nothing and takes no memory.
+        Err(NetFault::NotShorter(_)) => unreachable!(),
+        Err(NetFault::Memory) => unreachable!(),
     };
     match read(alloc, letter.bytes.bytes()) {
         Ok(message) => Ok(message),

@@ -1,4 +1,4 @@
-ghost use Rattle.coda_letters.specs.Laws.{BytesTellMessages, ChunksAreLight};
+ghost use Rattle.coda_letters.specs.Laws.{BreaksWait, BytesTellMessages, ChunksAreLight};
 
 /// A law of letters: of those that can be said, two with the same bytes say the same message.
 pub fn bytes_tell_messages()
@@ -9,4 +9,9 @@ pub fn bytes_tell_messages()
 /// 16 MiB, has less than the 64 MiB that may wait together.
 pub fn chunks_are_light()
     ensures { ChunksAreLight }
+{}
+
+/// A law of breaks: one waits until it is lost by its number, whatever else is sent, and puts no letter out.
+pub fn breaks_wait()
+    ensures { BreaksWait }
 {}

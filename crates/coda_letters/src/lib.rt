@@ -12,6 +12,6 @@ mod sending;
 pub use breaking::post_break;
 pub use delivering::deliver;
 pub use fault::LetterFault;
-pub use law::{bytes_tell_messages, chunks_are_light};
+pub use law::{breaks_wait, bytes_tell_messages, chunks_are_light};
 pub use losing::lose;
 pub use sending::{post_answer, send_chunk};

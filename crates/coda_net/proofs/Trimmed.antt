@@ -1,11 +1,12 @@
 -- What waits once a letter is trimmed.
-use Rattle.std.proofs.Common.{◌≡◌, ℕ, zero, suc, ◌+◌, ◌≤◌, Bool, List, [], ◌∷◌, length, take, nat_eq, Option, Some, None, option_map, refl, sym, ap, subst, ◌∙◌, arith, inl, inr}
+use Rattle.std.proofs.Common.{◌≡◌, ℕ, zero, suc, ◌+◌, ◌≤◌, Bool, List, [], ◌∷◌, ◌++◌, length, take, drop, nat_eq, Option, Some, None, option_map, refl, sym, ap, subst, ◌∙◌, arith, inl, inr}
 use Rattle.std.specs.Prelude.{cond, if◌then◌else◌}
 use Rattle.std.specs.Map.{keys_of, values_of, set_value}
 use Rattle.std.proofs.lemmas.Bool.{cases_Bool, eqb-true}
+use Rattle.std.proofs.lemmas.List.{length-take-le}
 use Rattle.coda_net.specs.declared.letter.Letter.{Letter}
 use Rattle.coda_net.specs.Pool.{Letters, lossy_count, lossy_bytes, cut_to, trimmed, letter_at, AreRising, AreUpTo, AreKept}
-use Rattle.coda_net.specs.Laws.{TrimmedLettersWait}
+use Rattle.coda_net.specs.Laws.{IsFrontOf, TrimmedLettersWait}
 use Rattle.coda_net.proofs.Losing.{within_count, within_bytes, is_within}
 use Rattle.coda_net.proofs.Found.{some_is, some_isnt, at_later}
 
@@ -103,8 +104,25 @@ numbers_kept (l ∷ ls) number most = elim (cases_Bool (nat_eq number l.0)) [
   | inr other ↦ rw other (ap (λ (ns : List ℕ). l.0 ∷ ns) (numbers_kept ls number most))
 ]
 
+parted : (most : ℕ) (bytes : List ℕ) → bytes ≡ take most bytes ++ drop most bytes
+parted zero bytes = refl
+parted (suc most) [] = refl
+parted (suc most) (b ∷ bytes) = ap (λ (bs : List ℕ). b ∷ bs) (parted most bytes)
+
+cut_is_front : (most : ℕ) (whole : Letter) → most ≤ length whole.bytes → IsFrontOf whole most (cut_to most whole)
+cut_is_front most whole some = record {
+  behind = drop most whole.bytes;
+  begins = parted most whole.bytes;
+  many = length-take-le most whole.bytes some;
+  client_is = refl;
+  server_is = refl;
+  to_server_is = refl;
+  lossy_is = refl;
+}
+
 pub trimmed_wait : TrimmedLettersWait
 trimmed_wait = record {
+  keeps_front = λ ls number most whole there some. (cut_to most whole, trimmed_itself ls number most ∙ ap (option_map (cut_to most)) there, cut_is_front most whole some);
   is_cut = trimmed_itself;
   others_stay = others_at;
   numbers_stay = numbers_kept;

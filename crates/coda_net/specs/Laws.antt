@@ -1,5 +1,5 @@
 -- What holds of the letters that wait, in words of which are lost and which are trimmed.
-use Rattle.std.specs.Prelude.{◌≡◌, ◌<◌, ◌≤◌, ◌+◌, ℕ, Bool, true, false, not, List, [], ◌∷◌, ◌++◌, drop, Some, None, option_map, if◌then◌else◌}
+use Rattle.std.specs.Prelude.{◌≡◌, ◌<◌, ◌≤◌, ◌+◌, ℕ, Bool, true, false, not, List, [], ◌∷◌, ◌++◌, length, drop, Some, None, option_map, if◌then◌else◌}
 use Rattle.std.specs.List.{filter}
 use Rattle.std.specs.Map.{keys_of, values_of}
 use Rattle.coda_net.specs.declared.letter.Letter.{Letter}
@@ -51,9 +51,21 @@ pub record LettersWaitUntilLost : Type 0 where
   pub gone : (letters : Letters) (number : ℕ) → AreRising 0 letters → letter_at (without letters number) number ≡ None
   pub others_stay : (letters : Letters) (number other : ℕ) → (other ≡ number → ⊥) → letter_at (without letters number) other ≡ letter_at letters other
 
--- A letter that is trimmed has its first bytes alone, and waits on under its number and in its place; all others are as they
--- were. As many letters count for the limits as before, and what was within them is.
+-- what is left of a letter that keeps so many bytes: that many, which the whole begins with, between the same ends and as lossy
+pub record IsFrontOf (whole : Letter) (most : ℕ) (front : Letter) : Type 0 where
+  pub behind : List ℕ
+  pub begins : whole.bytes ≡ front.bytes ++ behind
+  pub many : length front.bytes ≡ most
+  pub client_is : front.client ≡ whole.client
+  pub server_is : front.server ≡ whole.server
+  pub to_server_is : front.to_server ≡ whole.to_server
+  pub lossy_is : front.lossy ≡ whole.lossy
+
+-- A letter that is trimmed has its first bytes alone, as many as it was trimmed to, and waits on under its number and in its place; all
+-- others are as they were. As many letters count for the limits as before, and what was within them is.
 pub record TrimmedLettersWait : Type 0 where
+  pub keeps_front : (letters : Letters) (number most : ℕ) (whole : Letter) → letter_at letters number ≡ Some whole → most ≤ length whole.bytes
+      → (front : Letter) × (letter_at (trimmed letters number most) number ≡ Some front) × IsFrontOf whole most front
   pub is_cut : (letters : Letters) (number most : ℕ) → letter_at (trimmed letters number most) number ≡ option_map (cut_to most) (letter_at letters number)
   pub others_stay : (letters : Letters) (number other most : ℕ) → (other ≡ number → ⊥) → letter_at (trimmed letters number most) other ≡ letter_at letters other
   pub numbers_stay : (letters : Letters) (number most : ℕ) → keys_of (trimmed letters number most) ≡ keys_of letters

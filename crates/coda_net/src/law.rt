@@ -15,8 +15,8 @@ pub fn letters_wait_until_they_are_lost()
     ensures { LettersWaitUntilLost }
 {}
 
-/// A law of the pool: a letter that is trimmed has its first bytes alone and waits on under its number; all others are
-/// as they were.
+/// A law of the pool: a letter that is trimmed has its first bytes alone, as many as it was trimmed to, and waits on
+/// under its number; all others are as they were.
 pub fn trimmed_letters_wait()
     ensures { TrimmedLettersWait }
 {}

@@ -1,5 +1,5 @@
 -- Which events of a line that acts may have happened where it is refused, or where it stops at an entry.
-use Rattle.std.proofs.Common.{◌≡◌, ℕ, ◌==◌, nat_le, Bool, true, false, cond, List, [], ◌∷◌, ◌++◌, map, take, Option, Some, None, Result, Ok, Err, refl, sym, subst}
+use Rattle.std.proofs.Common.{◌≡◌, ℕ, ◌==◌, nat_le, Bool, true, false, cond, List, [], ◌∷◌, ◌++◌, map, Option, Some, None, Result, Ok, Err, refl, sym, subst}
 use Rattle.std.specs.Prelude.{nat_lt}
 use Rattle.std.specs.List.{find}
 use Rattle.coda_cml.specs.Chunks.{is_filled, too_young}
@@ -10,7 +10,7 @@ use Rattle.coda_cml.specs.declared.fault.SettleFault.{SettleFault}
 use Rattle.coda_cml.specs.declared.frozen.Frozen.{Frozen}
 use Rattle.coda_fid.specs.declared.fid.Fid.{Fid}
 use Rattle.coda_fid.specs.declared.op.Record.{Record}
-use Rattle.coda_letters.specs.Sent.{Sent, ChunkSent, AnswerSent, Waiting, lost_by, number_of}
+use Rattle.coda_letters.specs.Sent.{Sent, ChunkSent, AnswerSent, Waiting, put_out, number_of}
 use Rattle.coda_plain.specs.Cell.{Fetched, Did}
 use Rattle.coda_plain.specs.Decisions.{Decided}
 use Rattle.coda_plain.specs.Deeds.{Deed, Operated, Froze, Settled, Gaveup}
@@ -102,7 +102,7 @@ lost_quiet [] sent = (tt, tt)
 lost_quiet (l ∷ going) sent = (tt, lost_quiet going sent)
 
 going_quiet : (s : CellState) (sent : Sent) (o : Option ℕ) → All IsQuiet (going_by o sent s).events
-going_quiet s sent None = lost_quiet (take (lost_by sent s.waiting) s.waiting) sent
+going_quiet s sent None = lost_quiet (put_out sent s.waiting) sent
 going_quiet s sent (Some message) = tt
 
 -- ---- deeds
@@ -270,7 +270,7 @@ module _ (P : Event → Type 0) (client volume : ℕ) where
   ruling_little s server number span r true true = (tt, λ isnt. tt)
   ruling_little s server number span r true false =
       let sent = AnswerSent server client volume number (decides client number span r).answer in
-      (led_one P (Entered (AtReplica server volume (Decided client number span))) (posting sent s.waiting) (lost_quiet (take (lost_by sent s.waiting) s.waiting) sent), λ isnt. absurd isnt)
+      (led_one P (Entered (AtReplica server volume (Decided client number span))) (posting sent s.waiting) (lost_quiet (put_out sent s.waiting) sent), λ isnt. absurd isnt)
   ruling_little s server number span r false full =
       let sent = AnswerSent server client volume number (told (r.lasts client) number) in
-      (led_quiet P (posting sent s.waiting) (lost_quiet (take (lost_by sent s.waiting) s.waiting) sent), λ isnt. absurd isnt)
+      (led_quiet P (posting sent s.waiting) (lost_quiet (put_out sent s.waiting) sent), λ isnt. absurd isnt)

@@ -11,7 +11,7 @@ use Rattle.coda_cml.specs.Segments.{segments_of}
 use Rattle.coda_cml.proofs.segments.PartedRecords.{segments_part}
 use Rattle.coda_fid.specs.declared.op.Record.{Record}
 use Rattle.coda_journal.specs.declared.header.Header.{Header}
-use Rattle.coda_letters.specs.Sent.{Sent, ChunkSent, AnswerSent, sent_at}
+use Rattle.coda_letters.specs.Sent.{Sent, ChunkSent, AnswerSent, BreakSent, sent_at}
 use Rattle.coda_plain.specs.Cell.{ClientEntry}
 use Rattle.coda_plain.specs.Decisions.{ReplicaEntry}
 use Rattle.coda_record.specs.declared.answer.Answer.{Answer}
@@ -162,9 +162,14 @@ module _ (old new : Cell) (reply : Reply) (isnt : IsRefused reply) where
       (λ comes. unless_is (line.Deliver message) (on_holder (state_of old) client volume server) (ByRuling (state_of old) client server volume number span) events (all_by (line.Deliver message) client volume server (ap names_of e))
       (λ all did. ruled_is message client server volume number span did.replica e (is_next (did.replica.lasts client) number) (nat_lt 4294967295 number) refl did.answered) comes) does
   delivered_is message events (Some (AnswerSent server client volume number answer)) e does =
-      over_is (line.Deliver message) client server (Comes (state_of old) (AnswerSent server client volume number answer)) events (inr (volume, number, answer, e))
+      over_is (line.Deliver message) client server (Comes (state_of old) (AnswerSent server client volume number answer)) events (inr (inl (volume, number, answer, e)))
       (λ comes. unless_is (line.Deliver message) (on_holder (state_of old) client volume server) (ByTaking (state_of old) client volume number answer) events (all_by (line.Deliver message) client volume server (ap names_of e))
       (λ all did. taken_is message server client volume number answer (did.client.volumes volume) e (did.client, did.there, refl) (taking number answer (did.client.volumes volume)) refl did.answered) comes) does
+
+  delivered_is message events (Some (BreakSent server client volume fids)) e does =
+      over_is (line.Deliver message) client server (Comes (state_of old) (BreakSent server client volume fids)) events (inr (inr (volume, fids, e)))
+      (λ comes. unless_is (line.Deliver message) (on_holder (state_of old) client volume server) _ events (all_by (line.Deliver message) client volume server (ap names_of e))
+      (λ all did. absurd (subst IsRefused did.0 isnt)) comes) does
 
   lost_is : (message : ℕ) (events : List Event) (o : Option Sent) → sent_at message old.waiting ≡ o → Loses message o reply events → Is (line.Lose message)
   lost_is message events None e does = NoLetter message refl e does.0
@@ -250,8 +255,11 @@ module _ (old new : Cell) (reply : Reply) (isnt : IsRefused reply) where
       replica_is_down (line.Deliver message) server volume (client, number, span, e)
       (and_parts (not (is_cut (old.links client server))) (replica_down old server volume) (one_down (receiver old (Some (ChunkSent client server volume number span))) down)).1 says
   receiver_is_down message (Some (AnswerSent server client volume number answer)) e down says =
-      client_is_down (line.Deliver message) client (server, volume, number, answer, e)
+      client_is_down (line.Deliver message) client (inl (server, volume, number, answer, e))
       (and_parts (not (is_cut (old.links client server))) (client_down old client) (one_down (receiver old (Some (AnswerSent server client volume number answer))) down)).1 says
+  receiver_is_down message (Some (BreakSent server client volume fids)) e down says =
+      client_is_down (line.Deliver message) client (inr (server, volume, fids, e))
+      (and_parts (not (is_cut (old.links client server))) (client_down old client) (one_down (receiver old (Some (BreakSent server client volume fids))) down)).1 says
 
   drain_is_down : (client volume server : ℕ) (given : Option ℕ) (a b : Bool) → client_down old client ≡ a → replica_down old server volume ≡ b → (a || b) ≡ true → reply ≡ refused_down → Is (line.Task (task.Drain client volume server given))
   drain_is_down client volume server given true b fell other one says = client_is_down (line.Task (task.Drain client volume server given)) client refl fell says

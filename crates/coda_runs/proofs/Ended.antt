@@ -1,15 +1,16 @@
 -- The ends of letters that wait are there.
-use Rattle.std.proofs.Common.{arith, ◌≡◌, ℕ, ◌==◌, true, false, cond, nat_eq, List, [], ◌∷◌, ◌++◌, map, take, Option, Some, None, is_some, option_map, Result, Ok, Err, refl, sym, ap, subst, ◌∙◌, inl, inr}
+use Rattle.std.proofs.Common.{arith, ◌≡◌, ℕ, ◌==◌, Bool, true, false, cond, nat_eq, List, [], ◌∷◌, ◌++◌, map, Option, Some, None, is_some, option_map, Result, Ok, Err, refl, sym, ap, subst, ◌∙◌, inl, inr}
 use Rattle.std.specs.Option.{option_map_or, unwrap_or}
 use Rattle.std.proofs.lemmas.Bool.{eqb-true, eq-eqb}
 use Rattle.coda_engine.specs.Run.{Runs}
 use Rattle.coda_journal.specs.declared.header.Header.{Header}
-use Rattle.coda_letters.specs.Sent.{Sent, ChunkSent, AnswerSent, client_of, server_of, Waiting, sent_at, without, lost_by, number_of}
+use Rattle.coda_letters.specs.Sent.{Sent, ChunkSent, AnswerSent, BreakSent, client_of, server_of, is_lossy, Waiting, sent_at, without, put_out, number_of}
 use Rattle.coda_plain.specs.Moves.{AtClient, AtReplica}
 use Rattle.coda_plain.proofs.Soundness.{none_joins}
 use Rattle.coda_record.specs.declared.answer.Answer.{Answer}
 use Rattle.coda_script.specs.declared.line.Line.{Line}
 use Rattle.coda_script.specs.declared.line.Line.TheVariants as line
+use Rattle.coda_script.specs.declared.line.Strength.TheVariants.{Down as LinkIsDown}
 use Rattle.coda_script.specs.declared.reply.Reply.{Reply}
 use Rattle.coda_cell.specs.Made.{client_of as made_client, replica_of}
 use Rattle.coda_cell.specs.Messages.{over, posting, going_by, sends_of, ruled_in, taken_in}
@@ -160,7 +161,7 @@ posting_fine s sent (l ∷ going) is = (tt, posting_fine s sent going is)
 module _ (s : CellState) where
   going_fine : (sent : Sent) (o : Option ℕ) → IsThere s sent → AreFine s (going_by o sent s).events
   going_fine sent (Some message) is = tt
-  going_fine sent None is = posting_fine s sent (take (lost_by sent s.waiting) s.waiting) is
+  going_fine sent None is = posting_fine s sent (put_out sent s.waiting) is
 
   sends_fine : (client volume server : ℕ) (o : Result Freezing Refused) → first_missing (on_holder s client volume server) ≡ None → AreFine s (sends_of s client volume server o).events
   sends_fine client volume server (Err why) all = tt
@@ -172,7 +173,7 @@ module _ (s : CellState) where
   rulings_fine client server volume number (Err why) all = tt
   rulings_fine client server volume number (Ok ruled) all =
       let sent = AnswerSent server client volume number ruled.answer in
-      both_fine s (entries_at server volume ruled.entries) (posting sent s.waiting) (entries_fine s _ (replica_entries server volume ruled.entries)) (posting_fine s sent (take (lost_by sent s.waiting) s.waiting) all)
+      both_fine s (entries_at server volume ruled.entries) (posting sent s.waiting) (entries_fine s _ (replica_entries server volume ruled.entries)) (posting_fine s sent (put_out sent s.waiting) all)
 
   takings_fine : (client volume number : ℕ) (answer : Answer) (o : Result Taking Refused) → AreFine s (taken_in client volume number answer o).events
   takings_fine client volume number answer (Err why) = tt
@@ -192,6 +193,8 @@ module _ (s : CellState) where
   comes_fine (AnswerSent server client volume number answer) reply events does =
       unless_fine (first_missing (on_holder s client volume server)) (ByTaking s client volume number answer) reply events
       (λ all did. subst (AreFine s) (sym did.happened) (takings_fine client volume number answer (taking number answer (did.client.volumes volume)))) does
+  comes_fine (BreakSent server client volume fids) reply events does =
+      unless_fine (first_missing (on_holder s client volume server)) _ reply events (λ all did. subst (AreFine s) (sym did.1) (tt, tt)) does
 
   delivers_fine : (message : ℕ) (o : Option Sent) (reply : Reply) (events : List Event) → Delivers s message o reply events → AreFine s events
   delivers_fine message None reply events does = none_fine events does.1
@@ -199,7 +202,11 @@ module _ (s : CellState) where
 
   loses_fine : (message : ℕ) (o : Option Sent) (reply : Reply) (events : List Event) → Loses message o reply events → AreFine s events
   loses_fine message None reply events does = none_fine events does.1
-  loses_fine message (Some sent) reply events does = subst (AreFine s) (sym does.1) (tt, tt)
+  loses_fine message (Some sent) reply events does = subst (AreFine s) (sym does.1) (tt, by (is_lossy sent))
+    where
+      by : (b : Bool) → AreFine s (cond b [] (LinkSet (client_of sent) (server_of sent) LinkIsDown ∷ []))
+      by true = tt
+      by false = (tt, tt)
 
   line_fine : (said : Line) (reply : Reply) (events : List Event) → is_acting said ≡ true → Does s said reply events → AreFine s events
   line_fine (line.Link client server strength) reply events acts does = unless_fine (first_missing (client_named s client ∷ server_named s server ∷ [])) _ reply events (λ all did. subst (AreFine s) (sym did.1) (tt, tt)) does

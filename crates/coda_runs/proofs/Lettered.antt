@@ -1,15 +1,16 @@
 -- Replies name the letters in which chunks and answers wait, and letters say what is so.
-use Rattle.std.proofs.Common.{◌≡◌, ◌≢◌, ℕ, zero, suc, ◌+◌, ◌≤◌, ◌<◌, Bool, true, false, ◌&&◌, cond, nat_eq, List, [], ◌∷◌, ◌++◌, map, drop, Option, Some, None, Result, Ok, Err, refl, sym, ap, subst, ◌∙◌, inl, inr, arith}
+use Rattle.std.proofs.Common.{◌≡◌, ◌≢◌, ℕ, zero, suc, ◌+◌, ◌≤◌, ◌<◌, Bool, true, false, ◌&&◌, cond, nat_eq, List, [], ◌∷◌, ◌++◌, map, Option, Some, None, Result, Ok, Err, refl, sym, ap, subst, ◌∙◌, inl, inr, arith}
 use Rattle.std.specs.Prelude.{◌==◌}
 use Rattle.std.specs.Cmp.Lexicographic.{pointwise, bytes_decides}
 use Rattle.std.specs.Option.{unwrap_or}
 use Rattle.std.proofs.lemmas.Bool.{cases_Bool, eqb-true, eq-eqb, ne_eqb, false≢true}
+use Rattle.coda_fid.specs.declared.fid.Fid.{Fid}
 use Rattle.coda_fid.specs.declared.op.Record.{Record}
 use Rattle.coda_record.specs.declared.answer.Answer.{Answer}
 use Rattle.coda_record.specs.declared.answer.Answer.TheVariants as answers
 use Rattle.coda_net.specs.declared.letter.Letter.{Letter}
 use Rattle.coda_net.specs.Pool.{is_sent}
-use Rattle.coda_letters.specs.Sent.{Sent, ChunkSent, AnswerSent, client_of, server_of, bytes_of, letter_of, Waiting, sent_at, without, lost_by, with_sent, number_of}
+use Rattle.coda_letters.specs.Sent.{Sent, ChunkSent, AnswerSent, BreakSent, client_of, server_of, is_to_server, is_lossy, bytes_of, letter_of, Waiting, sent_at, without, lost_by, but_oldest, with_sent, number_of}
 use Rattle.coda_certify.specs.declared.verdict.Verdict.{Verdict}
 use Rattle.coda_certify.specs.declared.verdict.Verdict.TheVariants as verdicts
 use Rattle.coda_plain.specs.Cell.{ClientEntry, Did, Ruled, AnswerSent as PlainAnswer, Joins}
@@ -28,13 +29,14 @@ use Rattle.coda_script.specs.declared.refusal.Refusal.TheVariants as names
 use Rattle.coda_script.specs.declared.reply.Arg.{Arg}
 use Rattle.coda_script.specs.declared.reply.Reply.TheVariants as replies
 use Rattle.coda_script.specs.declared.line.Strength.{Strength}
-use Rattle.coda_cell.specs.State.{CellState, Event, Entered, after, after_all, at_client}
+use Rattle.coda_script.specs.declared.line.Strength.TheVariants.{Down as LinkIsDown}
+use Rattle.coda_cell.specs.State.{CellState, Event, LinkSet, Entered, Lost, Stale, after, after_all, at_client}
 use Rattle.coda_cell.specs.Sending.{Freezing, freezing, Ruling, ruling, Taking, taking, deeds_at, entries_at, reply_answer}
 use Rattle.coda_cell.specs.Made.{MadeCell, plain_answer}
 use Rattle.coda_cell.specs.Messages.{over, posting, going_by, sends_of, ruled_in, reply_taken, taken_in}
 use Rattle.coda_cell.specs.Refusing.{refusal}
 use Rattle.coda_cell.specs.Runs.{IsKept as IsMadeKept, AreNumbered}
-use Rattle.coda_cell.specs.Steps.{reply_to, Doing, Unless, first_missing, on_volume, on_holder, client_named, server_named, holder_named, BySend, ByRuling, ByTaking, Comes, link_down, Delivers, Loses, Does}
+use Rattle.coda_cell.specs.Steps.{reply_to, Doing, Unless, first_missing, on_volume, on_holder, client_named, server_named, holder_named, BySend, ByRuling, ByTaking, Happens as HappensOne, valid_copies, Comes, link_down, Delivers, Loses, Does}
 use Rattle.coda_cell.specs.Refused.{Refused}
 use Rattle.coda_cell.specs.Refused as refused
 use Rattle.coda_cell.proofs.CarriedLetters.{posting_after}
@@ -74,17 +76,21 @@ up_to : (before last : ℕ) (waiting : Waiting) → AreNumbered before last wait
 up_to before last [] numbered = tt
 up_to before last (l ∷ waiting) numbered = (numbered.1, up_to l.0 last waiting numbered.2)
 
-drop_up_to : (last count : ℕ) (waiting : Waiting) → AreUpTo last waiting → AreUpTo last (drop count waiting)
-drop_up_to last zero waiting all = all
-drop_up_to last (suc count) [] all = tt
-drop_up_to last (suc count) (l ∷ waiting) all = drop_up_to last count waiting all.1
+left_up_to : (last count : ℕ) (waiting : Waiting) → AreUpTo last waiting → AreUpTo last (but_oldest count waiting)
+left_up_to last zero waiting all = all
+left_up_to last (suc count) [] all = tt
+left_up_to last (suc count) (l ∷ waiting) all = by (is_lossy l.1) (left_up_to last count waiting all.1) (left_up_to last (suc count) waiting all.1)
+  where
+    by : (b : Bool) → AreUpTo last (but_oldest count waiting) → AreUpTo last (but_oldest (suc count) waiting) → AreUpTo last (cond b (but_oldest count waiting) (l ∷ but_oldest (suc count) waiting))
+    by true fewer rest = fewer
+    by false fewer rest = (all.0, rest)
 
 new_at : (last : ℕ) (waiting : Waiting) (sent : Sent) → AreUpTo last waiting → sent_at (last + 1) (waiting ++ (last + 1, sent) ∷ []) ≡ Some sent
 new_at last [] sent all = at_first (last + 1, sent) [] (last + 1) refl
 new_at last (l ∷ waiting) sent all = at_later l (waiting ++ (last + 1, sent) ∷ []) (last + 1) (λ same. omega (arith, same, all.0)) ∙ new_at last waiting sent all.1
 
 posted_at : (last : ℕ) (waiting : Waiting) (sent : Sent) → AreNumbered 0 last waiting → WaitsUnder (with_sent (last + 1) sent waiting) (last + 1) sent
-posted_at last waiting sent numbered = record { waits = sent; at = new_at last (drop (lost_by sent waiting) waiting) sent (drop_up_to last (lost_by sent waiting) waiting (up_to 0 last waiting numbered)); same = refl }
+posted_at last waiting sent numbered = record { waits = sent; at = new_at last (but_oldest (lost_by sent waiting) waiting) sent (left_up_to last (lost_by sent waiting) waiting (up_to 0 last waiting numbered)); same = refl }
 
 none_above : (before last : ℕ) (waiting : Waiting) → AreNumbered before last waiting → (number : ℕ) → number ≤ before → sent_at number waiting ≡ None
 none_above before last [] numbered number low = refl
@@ -105,6 +111,12 @@ lost_at before last (l ∷ waiting) number numbered = elim (cases_Bool (nat_eq n
 both_true : (a b : Bool) → (a && b) ≡ true → (a ≡ true) × (b ≡ true)
 both_true true b e = (refl, e)
 both_true false b e = cc
+
+-- what goes to a server may be lost
+to_server_lossy : (sent : Sent) → is_to_server sent ≡ true → is_lossy sent ≡ true
+to_server_lossy (ChunkSent client server volume number span) e = refl
+to_server_lossy (AnswerSent server client volume number answer) e = refl
+to_server_lossy (BreakSent server client volume fids) e = e
 
 -- a letter to the server with these bytes
 sent_so : (client server volume number : ℕ) (span : List Record) (l : Letter) → (let sent = ChunkSent client server volume number span in l.lossy ≡ true → is_sent client server (bytes_of sent) l ≡ true → l ≡ letter_of sent)
@@ -130,7 +142,8 @@ found_at before last (l ∷ waiting) numbered client server volume number span m
       | inl that ↦
           let is = is_some message l.0 (sym e ∙ ap (λ b. cond b (Some l.0) (number_of sent waiting)) that) in
           let above = numbered.0 in
-          (omega (arith, above, is), record { waits = l.1; at = at_first l waiting message is; same = sent_so client server volume number span (letter_of l.1) refl that })
+          let to_server = (both_true (is_to_server l.1) ((client == client_of l.1) && ((server == server_of l.1) && pointwise nat_eq (bytes_of l.1) (bytes_of sent))) that).0 in
+          (omega (arith, above, is), record { waits = l.1; at = at_first l waiting message is; same = sent_so client server volume number span (letter_of l.1) (to_server_lossy l.1 to_server) that })
       | inr other ↦
           let rest = found_at l.0 last waiting numbered.2 client server volume number span message (sym (ap (λ b. cond b (Some l.0) (number_of sent waiting)) other) ∙ e) in
           let above = numbered.0 in
@@ -212,15 +225,16 @@ entries_leave s server volume [] = (refl, refl)
 entries_leave s server volume (entry ∷ entries) = entries_leave (after s (Entered (AtReplica server volume entry))) server volume entries
 
 -- what waits once a letter was posted
-posting_leaves : (s t : CellState) (sent : Sent) → IsAsBefore s t → (after_all t (posting sent s.waiting)).waiting ≡ with_sent (s.posted + 1) sent s.waiting
-posting_leaves s t sent even =
-    ap (λ w. (after_all t (posting sent w)).waiting) (sym even.0) ∙ (ap (λ (c : CellState). c.waiting) (posting_after t sent) ∙ (λ i. with_sent (even.1 i + 1) sent (even.0 i)))
+posting_leaves : (s t : CellState) (sent : Sent) → AreNumbered 0 s.posted s.waiting → IsAsBefore s t → (after_all t (posting sent s.waiting)).waiting ≡ with_sent (s.posted + 1) sent s.waiting
+posting_leaves s t sent numbered even =
+    ap (λ w. (after_all t (posting sent w)).waiting) (sym even.0)
+    ∙ (ap (λ (c : CellState). c.waiting) (posting_after t sent 0 s.posted (subst (AreNumbered 0 s.posted) (sym even.0) numbered)) ∙ (λ i. with_sent (even.1 i + 1) sent (even.0 i)))
 
-posted_stay : (s : CellState) (first : List Event) (sent : Sent) → IsAsBefore s (after_all s first) → (after_all s (first ++ posting sent s.waiting)).waiting ≡ with_sent (s.posted + 1) sent s.waiting
-posted_stay s first sent even = ap (λ (c : CellState). c.waiting) (after_both s first (posting sent s.waiting)) ∙ posting_leaves s (after_all s first) sent even
+posted_stay : (s : CellState) (first : List Event) (sent : Sent) → AreNumbered 0 s.posted s.waiting → IsAsBefore s (after_all s first) → (after_all s (first ++ posting sent s.waiting)).waiting ≡ with_sent (s.posted + 1) sent s.waiting
+posted_stay s first sent numbered even = ap (λ (c : CellState). c.waiting) (after_both s first (posting sent s.waiting)) ∙ posting_leaves s (after_all s first) sent numbered even
 
 posted_behind : (s : CellState) (first : List Event) (sent : Sent) → IsAsBefore s (after_all s first) → AreNumbered 0 s.posted s.waiting → WaitsUnder (after_all s (first ++ posting sent s.waiting)).waiting (s.posted + 1) sent
-posted_behind s first sent even numbered = subst (λ w. WaitsUnder w (s.posted + 1) sent) (sym (posted_stay s first sent even)) (posted_at s.posted s.waiting sent numbered)
+posted_behind s first sent even numbered = subst (λ w. WaitsUnder w (s.posted + 1) sent) (sym (posted_stay s first sent numbered even)) (posted_at s.posted s.waiting sent numbered)
 
 none_stay : (s : CellState) (first : List Event) → IsAsBefore s (after_all s first) → (after_all s (first ++ [])).waiting ≡ s.waiting
 none_stay s first even = ap (λ (c : CellState). c.waiting) (after_both s first []) ∙ even.0
@@ -262,7 +276,7 @@ module _ (s : CellState) (numbered : AreNumbered 0 s.posted s.waiting) where
         let found = finds 0 s.posted s.waiting numbered client server volume number span before w in
         absurd (no_some (number_of (ChunkSent client server volume number span) s.waiting) found.message is found.is)
         );
-    stays = λ none. posted_stay s first (ChunkSent client server volume number span) even;
+    stays = λ none. posted_stay s first (ChunkSent client server volume number span) numbered even;
   }
 
   sends_tell : (client volume server : ℕ) (o : Result Freezing Refused) → SendTells client volume server (reply_to (sends_of s client volume server o).said) s.waiting (behind_of (sends_of s client volume server o).events)
@@ -292,7 +306,7 @@ module _ (s : CellState) (numbered : AreNumbered 0 s.posted s.waiting) where
         span = span;
         came = came;
         goes = posted_behind s (entries_at server volume ruled.entries) sent even numbered;
-        stays = posted_stay s (entries_at server volume ruled.entries) sent even;
+        stays = posted_stay s (entries_at server volume ruled.entries) sent numbered even;
       })
 
   brought : (client server volume number message : ℕ) (answer : Answer) (new : Waiting) → sent_at message s.waiting ≡ Some (AnswerSent server client volume number answer) → new ≡ s.waiting → DeliveryTells message (reply_taken number answer) s.waiting new
@@ -326,9 +340,18 @@ module _ (s : CellState) (numbered : AreNumbered 0 s.posted s.waiting) where
       subst (λ r. DeliveryTells message r s.waiting (behind_of events)) (sym did.answered)
       (subst (λ es. DeliveryTells message (reply_to (taken_in client volume number answer took).said) s.waiting (behind_of es)) (sym did.happened) (takings_tell client server volume number message answer took came))
 
+  break_tells : (server client volume message copies : ℕ) (fids : List Fid) (o : Option Refused) (reply : Reply) (events : List Event) → sent_at message s.waiting ≡ Some (BreakSent server client volume fids)
+      → Unless o (HappensOne (replies.Broken copies) (Stale client fids)) reply events → DeliveryTells message reply s.waiting (behind_of events)
+  break_tells server client volume message copies fids (Some why) reply events came does = refused_tells message why reply events does
+  break_tells server client volume message copies fids None reply events came did =
+      subst (λ r. DeliveryTells message r s.waiting (behind_of events)) (sym did.0)
+      (record { server = server; client = client; volume = volume; fids = fids; came = came; stays = ap behind_of did.1 })
+
   comes_tell : (message : ℕ) (sent : Sent) (reply : Reply) (events : List Event) → sent_at message s.waiting ≡ Some sent → Comes s sent reply events → DeliveryTells message reply s.waiting (behind_of events)
   comes_tell message (ChunkSent client server volume number span) reply events came does = chunk_tells client server volume number message span (first_missing (on_holder s client volume server)) reply events came does
   comes_tell message (AnswerSent server client volume number answer) reply events came does = answer_tells client server volume number message answer (first_missing (on_holder s client volume server)) reply events came does
+
+  comes_tell message (BreakSent server client volume fids) reply events came does = break_tells server client volume message (valid_copies s client fids) fids (first_missing (on_holder s client volume server)) reply events came does
 
   linked_tell : (message : ℕ) (sent : Sent) (o : Option Refused) (reply : Reply) (events : List Event) → sent_at message s.waiting ≡ Some sent → Unless o (Comes s sent) reply events → DeliveryTells message reply s.waiting (behind_of events)
   linked_tell message sent (Some why) reply events came does = refused_tells message why reply events does
@@ -342,8 +365,12 @@ module _ (s : CellState) (numbered : AreNumbered 0 s.posted s.waiting) where
   loss_tells message None reply events is does = subst (λ r. LossTells message r s.waiting (behind_of events)) (sym does.0) (nothing_stays events does.1)
   loss_tells message (Some sent) reply events is does =
       subst (λ r. LossTells message r s.waiting (behind_of events)) (sym does.0)
-      (subst (λ es. LossTells message (replies.Lost message) s.waiting (behind_of es)) (sym does.1)
-      (refl, record { sent = sent; waited = is; gone = lost_at 0 s.posted s.waiting message numbered; others = others_wait s.waiting message }))
+      (subst (λ es. LossTells message (replies.Lost message) s.waiting (behind_of es)) (sym does.1) (subst (λ w. LossTells message (replies.Lost message) s.waiting w) (by (is_lossy sent))
+      (refl, record { sent = sent; waited = is; gone = lost_at 0 s.posted s.waiting message numbered; others = others_wait s.waiting message })))
+    where
+      by : (b : Bool) → without message s.waiting ≡ behind_of (Lost message ∷ cond b [] (LinkSet (client_of sent) (server_of sent) LinkIsDown ∷ []))
+      by true = refl
+      by false = refl
 
 unless_stays : (s : CellState) (o : Option Refused) (own : Doing) (reply : Reply) (events : List Event) → (own reply events → (after_all s events).waiting ≡ s.waiting) → Unless o own reply events → (after_all s events).waiting ≡ s.waiting
 unless_stays s (Some why) own reply events rest does = ap (λ es. (after_all s es).waiting) does.1
@@ -418,6 +445,7 @@ verdict_is (verdicts.Conflict refused why) = refl
 abbrev pub IsSoIn : MadeCell → Sent → Type 0
 IsSoIn cell (ChunkSent client server volume number span) = In (record { number = number; home = server; span = span }) (chunks_of (done_on cell.acted client volume))
 IsSoIn cell (AnswerSent server client volume number answer) = (verdict : Verdict) → answer ≡ answer_with verdict → IsDecidedNow (λ s w. (cell.acted.replicas s w).history) volume client number verdict
+IsSoIn cell (BreakSent server client volume fids) = ⊥
 
 so_in : (cell : MadeCell) (sent : Sent) → IsMadeKept cell → IsWaiting cell.acted sent → IsSoIn cell sent
 so_in cell (ChunkSent client server volume number span) kept there =
@@ -429,6 +457,7 @@ so_in cell (ChunkSent client server volume number span) kept there =
 so_in cell (AnswerSent server client volume number answer) kept there = λ verdict is.
     let agree = kept.sound.agree none_joins in
     agree.answered there.message server client volume number verdict (there.there ∙ ap (λ a. some (PlainAnswer server client volume number a)) (ap plain_answer is ∙ verdict_is verdict))
+so_in cell (BreakSent server client volume fids) kept there = there.said
 
 -- a letter that waits in a cell that is kept, whichever of the entries join
 pub waits_so : (cell : Cell) (kept : IsKept cell) (joins : Joins) (message : ℕ) (sent : Sent) → sent_at message cell.waiting ≡ Some sent → IsSoIn (made_now cell joins kept.pool (learned cell kept joins)) sent
@@ -443,6 +472,7 @@ found_so cell kept joins (AnswerSent server client volume number answer) so = λ
     let d = so verdict is in
     now_by cell joins kept.pool (learned cell kept joins) d.server volume (λ l. In d.by (decisions_of volume l) → IsDecided (found_on (shelves_of cell) joins) volume client number verdict) (λ i. absurd i)
     (λ at stands home named i. record { row = at.row; server = d.server; by = d.by; there = (named, i); client_is = d.client_is; number_is = d.number_is; verdict_is = d.verdict_is }) d.there
+found_so cell kept joins (BreakSent server client volume fids) so = so
 
 pub letters_say_what_is_so : LettersSayWhatIsSo
 letters_say_what_is_so cell kept message sent is joins = found_so cell kept joins sent (waits_so cell kept joins message sent is)

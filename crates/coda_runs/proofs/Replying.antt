@@ -13,15 +13,15 @@ use Rattle.coda_script.specs.declared.line.Task.TheVariants as task
 use Rattle.coda_script.specs.declared.line.Line.{Line}
 use Rattle.coda_script.specs.declared.line.Line.TheVariants as line
 use Rattle.coda_script.specs.declared.reply.Reply.{Reply}
-use Rattle.coda_script.specs.declared.reply.Reply.TheVariants.{Accepted, Lost, ShowVolume, ShowLog, State}
+use Rattle.coda_script.specs.declared.reply.Reply.TheVariants.{Accepted, Broken, Lost, ShowVolume, ShowLog, State}
 use Rattle.coda_cell.specs.Refused.{Refused, NoSuchActor, NoMessage}
 use Rattle.coda_cell.specs.Refusing.{refusal}
 use Rattle.coda_cell.specs.Made.{client_of, replica_of}
 use Rattle.coda_cell.specs.State.{put, ClientState, ReplicaState, CellState, Event, VolumeMade, ClientMade, Ticked, LinkSet, Entered, Posted, Lost as LetterLost, Used, Kept, Stale, at_client, log_of}
 use Rattle.coda_cell.specs.States.{state_over}
 use Rattle.coda_cell.specs.Asking.{Answer}
-use Rattle.coda_cell.specs.Steps.{Doing, Unless, Naming, Happens as HappensOne, ByClient, ByBoth, ShowsState, BySend, ByRuling, ByTaking, Comes, link_down, Delivers, Loses, Does, DoesTask, first_missing, client_named, volume_named, server_named, holder_named, on_volume, on_holder, offers_of, reply_to, is_alone, alone, is_built_task}
-use Rattle.coda_letters.specs.Sent.{Sent, ChunkSent, AnswerSent, client_of as sender_of, server_of, sent_at}
+use Rattle.coda_cell.specs.Steps.{Doing, Unless, Naming, Happens as HappensOne, ByClient, ByBoth, BySend, ByRuling, ByTaking, valid_copies, Comes, cut_with, link_down, Delivers, Loses, Does, DoesTask, first_missing, client_named, volume_named, server_named, holder_named, on_volume, on_holder, offers_of, reply_to, is_alone, alone, is_built_task, ShowsState}
+use Rattle.coda_letters.specs.Sent.{Sent, ChunkSent, AnswerSent, BreakSent, client_of as sender_of, server_of, sent_at}
 use Rattle.coda_cell.specs.Messages.{sends, chunk_comes, answer_comes}
 use Rattle.coda_cell.specs.Sending.{drain}
 use Rattle.coda_journal.specs.declared.header.Header.{Header}
@@ -97,6 +97,8 @@ comes_some s (AnswerSent server client volume number answer) =
     let c = there_of (s.clients client) (first_missing (volume_named s volume ∷ holder_named s server volume ∷ [])) client none in
     let out = answer_comes client volume number answer (c.0.volumes volume) in
     (reply_to out.said, out.events, record { client = c.0; there = c.1; answered = refl; happened = refl }))
+comes_some s (BreakSent server client volume fids) =
+    unless_some (first_missing (on_holder s client volume server)) _ (λ none. (Broken (valid_copies s client fids), Stale client fids ∷ [], (refl, refl)))
 
 delivers_some : (s : CellState) (message : ℕ) (o : Option Sent) → Some_of (Delivers s message o)
 delivers_some s message None = (refusal (NoMessage message), [], (refl, refl))
@@ -123,7 +125,7 @@ happens_some reply event = (reply, event ∷ [], (refl, refl))
 
 loses_some : (message : ℕ) (o : Option Sent) → Some_of (Loses message o)
 loses_some message None = (refusal (NoMessage message), [], (refl, refl))
-loses_some message (Some sent) = happens_some (Lost message) (LetterLost message)
+loses_some message (Some sent) = (Lost message, LetterLost message ∷ cut_with sent, (refl, refl))
 
 -- ---- how events may end
 

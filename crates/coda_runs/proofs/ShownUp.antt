@@ -12,7 +12,7 @@ use Rattle.coda_tree.specs.declared.node.Node.{Node}
 use Rattle.coda_tree.specs.declared.node.NodeKind.{NodeKind}
 use Rattle.coda_tree.specs.declared.node.NodeKind.TheVariants.{File, Link, Dir}
 use Rattle.coda_tree.specs.Volume.{Nodes}
-use Rattle.coda_letters.specs.Sent.{Sent, ChunkSent, AnswerSent, client_of, server_of, sent_at}
+use Rattle.coda_letters.specs.Sent.{Sent, ChunkSent, AnswerSent, BreakSent, client_of, server_of, sent_at}
 use Rattle.coda_plain.specs.Cell.{ClientEntry, Did}
 use Rattle.coda_plain.specs.Deeds.{Operated}
 use Rattle.coda_report.specs.Texts.{IsWhole}
@@ -23,7 +23,7 @@ use Rattle.coda_script.specs.declared.line.Task.TheVariants as task
 use Rattle.coda_script.specs.declared.line.Line.{Line}
 use Rattle.coda_script.specs.declared.line.Line.TheVariants as line
 use Rattle.coda_script.specs.declared.reply.Reply.{Reply}
-use Rattle.coda_script.specs.declared.reply.Reply.TheVariants.{Opened, Accepted, Done, Lost, ShowVolume, ShowLog, State}
+use Rattle.coda_script.specs.declared.reply.Reply.TheVariants.{Opened, Accepted, Done, Broken, Lost, ShowVolume, ShowLog, State}
 use Rattle.coda_cell.specs.Accepting.{Accepted as OpAccepted, sight_of, accept}
 use Rattle.coda_cell.specs.Ask.{Asked, too_big, object_of}
 use Rattle.coda_cell.specs.Asking.{Said, answers as answers_with, look_ups, behind_fetches, next_record, has_room, is_full, answer_to, operate_unless, operate, read, list, shown_at, shown_as, read_in, list_in}
@@ -33,8 +33,8 @@ use Rattle.coda_cell.specs.Messages.{over, sends_of, ruled_in, reply_taken, take
 use Rattle.coda_cell.specs.Refusing.{refusal}
 use Rattle.coda_cell.specs.Sending.{Freezing, freezing, Ruling, ruling, Taking, taking, answered_to, ruled_on, drained_of, drain}
 use Rattle.coda_cell.specs.State.{ClientVolume, ClientState, ReplicaState, CellState, Event, log_of}
+use Rattle.coda_cell.specs.Steps.{Doing, Unless, Says, Named, first_missing, on_volume, on_holder, client_named, volume_named, server_named, holder_named, no_volume, no_client, offers_of, reply_to, ByClient, ByBoth, BySend, ByRuling, ByTaking, valid_copies, Comes, link_down, Delivers, Loses, DoesTask, Does, ShowsState}
 use Rattle.coda_cell.specs.States.{state_over}
-use Rattle.coda_cell.specs.Steps.{Doing, Unless, Says, Named, first_missing, on_volume, on_holder, client_named, volume_named, server_named, holder_named, no_volume, no_client, offers_of, reply_to, ByClient, ByBoth, ShowsState, BySend, ByRuling, ByTaking, Comes, link_down, Delivers, Loses, DoesTask, Does}
 use Rattle.coda_cell.specs.Refused.{Refused}
 use Rattle.coda_cell.specs.Refused as refused
 use Rattle.coda_shelves.specs.Cells.{Cell, state_of}
@@ -176,6 +176,7 @@ module _ (s : CellState) (reply : Reply) (events : List Event) where
   comes_whole (AnswerSent server client volume number answer) does =
       unless_is (first_missing (on_holder s client volume server)) (ByTaking s client volume number answer)
       (λ did. whole_as (reply_to (taken_in client volume number answer (taking number answer (did.client.volumes volume))).said) (takings_whole client volume number answer (taking number answer (did.client.volumes volume))) did.answered) does
+  comes_whole (BreakSent server client volume fids) does = unless_is (first_missing (on_holder s client volume server)) _ (λ did. whole_as (Broken (valid_copies s client fids)) tt did.0) does
 
   delivers_whole : (message : ℕ) (o : Option Sent) → Delivers s message o reply events → IsWhole reply
   delivers_whole message None does = whole_as (refusal (refused.NoMessage message)) tt does.0

@@ -1,9 +1,9 @@
 -- Which events of a line that acts are entries: of a task all are, and of any line they come first; and none makes an actor.
-use Rattle.std.proofs.Common.{◌≡◌, ℕ, Bool, true, false, List, [], ◌∷◌, ◌++◌, map, take, Option, Some, None, Result, Ok, Err, refl, sym, subst}
+use Rattle.std.proofs.Common.{◌≡◌, ℕ, Bool, true, false, List, [], ◌∷◌, ◌++◌, cond, map, Option, Some, None, Result, Ok, Err, refl, sym, subst}
 use Rattle.std.specs.Option.{unwrap_or}
 use Rattle.coda_record.specs.declared.answer.Answer.{Answer}
 use Rattle.coda_tree.specs.Volume.{Nodes}
-use Rattle.coda_letters.specs.Sent.{Sent, ChunkSent, AnswerSent, client_of, server_of, Waiting, sent_at, lost_by, number_of}
+use Rattle.coda_letters.specs.Sent.{Sent, ChunkSent, AnswerSent, BreakSent, client_of, server_of, is_lossy, Waiting, sent_at, put_out, number_of}
 use Rattle.coda_plain.specs.Cell.{ClientEntry, Did}
 use Rattle.coda_plain.specs.Decisions.{ReplicaEntry}
 use Rattle.coda_plain.specs.Moves.{Append, AtClient, AtReplica}
@@ -276,7 +276,7 @@ lost_others [] sent = (tt, tt)
 lost_others (l ∷ going) sent = (tt, lost_others going sent)
 
 posting_first : (sent : Sent) (waiting : Waiting) → ComeFirst (posting sent waiting)
-posting_first sent waiting = others_first (posting sent waiting) (lost_others (take (lost_by sent waiting) waiting) sent)
+posting_first sent waiting = others_first (posting sent waiting) (lost_others (put_out sent waiting) sent)
 
 module _ (s : CellState) where
   going_first : (sent : Sent) (o : Option ℕ) → ComeFirst (going_by o sent s).events
@@ -316,6 +316,7 @@ module _ (s : CellState) where
     comes_first (AnswerSent server client volume number answer) does =
         unless_first (first_missing (on_holder s client volume server)) (ByTaking s client volume number answer)
         (λ did. subst ComeFirst (sym did.happened) (takings_first client volume number answer (taking number answer (did.client.volumes volume)))) does
+    comes_first (BreakSent server client volume fids) does = unless_first (first_missing (on_holder s client volume server)) _ (λ did. subst ComeFirst (sym did.1) tt) does
 
     delivers_first : (message : ℕ) (o : Option Sent) → Delivers s message o reply events → ComeFirst events
     delivers_first message None does = none_first does.1
@@ -323,7 +324,11 @@ module _ (s : CellState) where
 
     loses_first : (message : ℕ) (o : Option Sent) → Loses message o reply events → ComeFirst events
     loses_first message None does = none_first does.1
-    loses_first message (Some sent) does = subst ComeFirst (sym does.1) tt
+    loses_first message (Some sent) does = subst ComeFirst (sym does.1) (by (is_lossy sent))
+      where
+        by : (b : Bool) → AreNoEntries (cond b [] (LinkSet (client_of sent) (server_of sent) Down ∷ []))
+        by true = tt
+        by false = (tt, tt)
 
     pub line_first : (said : Line) → is_acting said ≡ true → Does s said reply events → ComeFirst events
     line_first (line.Volume volume servers area) acts does = cc

@@ -5,7 +5,7 @@ use Rattle.std.specs.Option.{option_map_or, unwrap_or}
 use Rattle.std.proofs.lemmas.Bool.{eqb-true}
 use Rattle.coda_actors.specs.Plain.{PlainActor, Down}
 use Rattle.coda_actors.specs.declared.slot.Mounting.TheVariants.{Entries, Foreign, DiskFault, Memory}
-use Rattle.coda_letters.specs.Sent.{Sent, ChunkSent, AnswerSent, sent_at}
+use Rattle.coda_letters.specs.Sent.{Sent, ChunkSent, AnswerSent, BreakSent, client_of, server_of, is_lossy, sent_at}
 use Rattle.coda_plain.specs.Cell.{Fetched}
 use Rattle.coda_plain.specs.Decisions.{ReplicaEntry}
 use Rattle.coda_plain.specs.Moves.{Append, AtClient, AtReplica}
@@ -16,12 +16,13 @@ use Rattle.coda_script.specs.declared.line.Task.{Task}
 use Rattle.coda_script.specs.declared.line.Task.TheVariants as task
 use Rattle.coda_script.specs.declared.reply.Reply.{Reply}
 use Rattle.coda_script.specs.declared.reply.Reply.TheVariants.{Accepted}
+use Rattle.coda_script.specs.declared.line.Strength.TheVariants.{Down as LinkIsDown}
 use Rattle.coda_tree.specs.Volume.{Nodes}
 use Rattle.coda_cell.specs.Ask.{Asked, Create, Mkdir, Symlink, Store, Setattr, Remove, Rmdir, Rename}
 use Rattle.coda_cell.specs.Asking.{Answer, operate, read, list}
 use Rattle.coda_cell.specs.Refused.{Refused}
 use Rattle.coda_cell.specs.State.{put, ClientState, ReplicaState, CellState, Event, VolumeMade, ClientMade, Ticked, LinkSet, Entered, Posted, Lost, Used, Kept, Stale, at_client}
-use Rattle.coda_cell.specs.Steps.{Doing, Unless, client_named, volume_named, server_named, holder_named, on_volume, on_holder, first_missing, offers_of, reply_to, link_down, ByClient, ByBoth, BySend, ByRuling, ByTaking, Comes, Delivers, Loses, Does, DoesTask, bytes_of}
+use Rattle.coda_cell.specs.Steps.{Doing, Unless, client_named, volume_named, server_named, holder_named, on_volume, on_holder, first_missing, offers_of, reply_to, link_down, ByClient, ByBoth, BySend, ByRuling, ByTaking, Comes, Delivers, cut_with, Loses, Does, DoesTask, bytes_of}
 use Rattle.coda_cell.proofs.Events.{all_there}
 use Rattle.coda_cell.proofs.Families.{put_same}
 use Rattle.coda_shelves.specs.Shelves.{client_header, replica_header}
@@ -29,7 +30,7 @@ use Rattle.coda_shelves.specs.Cells.{Cell, Stand, stand_of, with_client, with_re
 use Rattle.coda_shelves.specs.Lines.{Becoming, Stays, Unless as UnlessIn, UnlessDown, needs, is_down_for, is_built, EndsBy, client_payloads, replica_payloads, the_client, the_replica, area_of, no_volume, no_client, MakesVolume, MakesClient, Crashes, Recovers, AtReplicaOf, DoesUp, Happens, meets, refused_fault}
 use Rattle.coda_runs.specs.Because.{IsRefused}
 use Rattle.coda_runs.specs.Untouched.{MayAdd, AllMay, added, IsBeside, Leaves, Adds, Falls, ClientFalls, ReplicaFalls, RefusedLinesChangeLittle}
-use Rattle.coda_runs.proofs.Adding.{All, Led, led_done, led_all, led_quiet, Little, fetches_all, operate_little, drain_little, send_little, taking_little, ruling_little}
+use Rattle.coda_runs.proofs.Adding.{All, IsQuiet, Led, led_done, led_all, led_quiet, Little, fetches_all, operate_little, drain_little, send_little, taking_little, ruling_little}
 use Rattle.coda_runs.proofs.Turning.{LedFor, PairsFor, for_done, take_turns, line_turned}
 use Rattle.coda_runs.proofs.Unlettered.{is_acting}
 
@@ -101,10 +102,17 @@ module _ (s : CellState) (reply : Reply) (events : List Event) where
   letter_little P message (Some (AnswerSent server client volume number answer)) does = unless_little P (link_down (s.links client server)) (Comes s (AnswerSent server client volume number answer))
       (λ link comes. unless_little P (first_missing (on_holder s client volume server)) (ByTaking s client volume number answer)
       (λ all did. as_is P _ _ did.answered did.happened (taking_little P client volume number answer (did.client.volumes volume))) comes) does
+  letter_little P message (Some (BreakSent server client volume fids)) does = unless_little P (link_down (s.links client server)) (Comes s (BreakSent server client volume fids))
+      (λ link comes. unless_little P (first_missing (on_holder s client volume server)) _
+      (λ all did. one_little P _ (Stale client fids) (λ isnt. isnt) (led_quiet P (Stale client fids ∷ []) (tt, tt)) did) comes) does
 
   loss_little : (P : Event → Type 0) (message : ℕ) (o : Option Sent) → Loses message o reply events → Little P reply events
   loss_little P message None does = none_added P does.1
-  loss_little P message (Some sent) does = one_little P _ (Lost message) (λ isnt. isnt) (led_quiet P (Lost message ∷ []) (tt, tt)) does
+  loss_little P message (Some sent) does = as_is P _ _ does.0 does.1 (led_quiet P (Lost message ∷ cut_with sent) (tt, by (is_lossy sent)), λ isnt. absurd isnt)
+    where
+      by : (b : Bool) → All IsQuiet (cond b [] (LinkSet (client_of sent) (server_of sent) LinkIsDown ∷ []))
+      by true = tt
+      by false = (tt, tt)
 
   line_little : (said : Line) → is_acting said ≡ true → Does s said reply events → Little (IsAdded said) reply events
   line_little (line.Link client server strength) acting does =

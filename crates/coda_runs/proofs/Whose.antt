@@ -1,11 +1,11 @@
 -- Whose entries are among the events of a line that acts, and on which volumes their deeds are: of its client, who is there, on a volume that is there, and of the replica
 -- that holds it.
-use Rattle.std.proofs.Common.{◌≡◌, ℕ, ◌==◌, Bool, true, false, List, [], ◌∷◌, ◌++◌, map, take, Option, Some, None, Result, Ok, Err, refl, sym, ap, subst, ◌∙◌, cond}
+use Rattle.std.proofs.Common.{◌≡◌, ℕ, ◌==◌, Bool, true, false, List, [], ◌∷◌, ◌++◌, map, Option, Some, None, Result, Ok, Err, refl, sym, ap, subst, ◌∙◌, cond}
 use Rattle.std.specs.Prelude.{nat_lt}
 use Rattle.std.specs.Option.{option_map_or, unwrap_or}
 use Rattle.std.proofs.lemmas.Bool.{eq-eqb}
 use Rattle.coda_tree.specs.Volume.{Nodes}
-use Rattle.coda_letters.specs.Sent.{Sent, ChunkSent, AnswerSent, Waiting, lost_by, number_of, sent_at}
+use Rattle.coda_letters.specs.Sent.{Sent, ChunkSent, AnswerSent, BreakSent, client_of, server_of, is_lossy, Waiting, put_out, number_of, sent_at}
 use Rattle.coda_plain.specs.Cell.{ClientEntry, Did, Fetched, Dropping}
 use Rattle.coda_plain.specs.Decisions.{ReplicaEntry}
 use Rattle.coda_plain.specs.Moves.{AtClient, AtReplica}
@@ -92,7 +92,7 @@ module _ (C : ℕ → Type 0) (R : ℕ → ℕ → Type 0) (V : ℕ → Type 0) 
   of_lost (l ∷ going) sent = (tt, of_lost going sent)
 
   of_going : (s : CellState) (sent : Sent) (o : Option ℕ) → AreOf C R V (going_by o sent s).events
-  of_going s sent None = of_lost (take (lost_by sent s.waiting) s.waiting) sent
+  of_going s sent None = of_lost (put_out sent s.waiting) sent
   of_going s sent (Some message) = tt
 
   module _ (client volume : ℕ) (c : C client) (v : V volume) where
@@ -159,7 +159,7 @@ module _ (C : ℕ → Type 0) (R : ℕ → ℕ → Type 0) (V : ℕ → Type 0) 
   of_ruled_in s client server volume number (Err why) r = tt
   of_ruled_in s client server volume number (Ok ruled) r =
       let sent = AnswerSent server client volume number ruled.answer in
-      of_both (entries_at server volume ruled.entries) (posting sent s.waiting) (of_decisions server volume ruled.entries r) (of_lost (take (lost_by sent s.waiting) s.waiting) sent)
+      of_both (entries_at server volume ruled.entries) (posting sent s.waiting) (of_decisions server volume ruled.entries r) (of_lost (put_out sent s.waiting) sent)
 
   of_unless : (o : Option Refused) (own : Doing) (reply : Reply) (events : List Event) → (o ≡ None → own reply events → AreOf C R V events) → Unless o own reply events → AreOf C R V events
   of_unless (Some why) own reply events rest does = subst (AreOf C R V) (sym does.1) tt
@@ -247,10 +247,16 @@ module _ (s : CellState) (reply : Reply) (events : List Event) where
       (λ link comes. unless_there (first_missing (on_holder s client volume server)) (ByTaking s client volume number answer)
       (λ all did. (let there = all_there (client_named s client) (volume_named s volume) (holder_named s server volume) all in
       happened_there _ did.happened (of_taken (IsThere s) (Holds s) (Stands s) client volume there.0 there.1 number answer (taking number answer (did.client.volumes volume))))) comes) does
+  of_letter message (Some (BreakSent server client volume fids)) does = unless_there (link_down (s.links client server)) (Comes s (BreakSent server client volume fids))
+      (λ link comes. unless_there (first_missing (on_holder s client volume server)) _ (λ all did. happened_there (Stale client fids ∷ []) did.1 (tt, tt)) comes) does
 
   of_loss : (message : ℕ) (o : Option Sent) → Loses message o reply events → AreThere
   of_loss message None does = happened_there [] does.1 tt
-  of_loss message (Some sent) does = happened_there (Lost message ∷ []) does.1 (tt, tt)
+  of_loss message (Some sent) does = happened_there _ does.1 (tt, by (is_lossy sent))
+    where
+      by : (b : Bool) → AreOf (IsThere s) (Holds s) (Stands s) (cond b [] (LinkSet (client_of sent) (server_of sent) Down ∷ []))
+      by true = tt
+      by false = (tt, tt)
 
   -- whatever line acts
   pub of_line : (said : Line) → is_acting said ≡ true → Does s said reply events → AreOf (IsThere s) (Holds s) (Stands s) events

@@ -2,6 +2,7 @@
 use Rattle.std.specs.Prelude.{◌≡◌, ◌≢◌, ◌⊎◌, ◌<◌, ◌≤◌, ℕ, ◌+◌, ◌-◌, false, true, length, List, [], ◌∷◌, ◌++◌, Option, Some, None}
 use Rattle.std.specs.Option.{unwrap_or}
 use Rattle.coda_actors.specs.Plain.{Down, Tries, HasOther}
+use Rattle.coda_fid.specs.declared.fid.Fid.{Fid}
 use Rattle.coda_fid.specs.declared.op.Record.{Record}
 use Rattle.coda_cml.specs.declared.frozen.Frozen.{Frozen}
 use Rattle.coda_cml.specs.declared.segment.Segment.{Segment}
@@ -9,7 +10,7 @@ use Rattle.coda_cancel.specs.Cancel.{fold}
 use Rattle.coda_cancel.specs.Numbers.{IsRising}
 use Rattle.coda_cml.specs.Segments.{segments_of}
 use Rattle.coda_journal.specs.declared.header.Header.{Header}
-use Rattle.coda_letters.specs.Sent.{Sent, ChunkSent, AnswerSent, sent_at}
+use Rattle.coda_letters.specs.Sent.{Sent, ChunkSent, AnswerSent, BreakSent, sent_at}
 use Rattle.coda_plain.specs.Histories.{In}
 use Rattle.coda_plain.specs.Moves.{Append}
 use Rattle.coda_record.specs.declared.answer.Answer.{Answer}
@@ -55,6 +56,7 @@ abbrev pub names_of : Option Sent → Names
 names_of None = no_names
 names_of (Some (ChunkSent client server volume number span)) = all_names client volume server
 names_of (Some (AnswerSent server client volume number answer)) = all_names client volume server
+names_of (Some (BreakSent server client volume fids)) = all_names client volume server
 
 abbrev pub names_in : Cell → Line → Names
 names_in cell (line.Link client server strength) = record { client = Some client; volume = None; server = Some server }
@@ -84,7 +86,9 @@ NeedsClient cell (line.Task (task.Drain client volume server window)) c = client
 NeedsClient cell (line.ShowLog client volume) c = client ≡ c
 NeedsClient cell (line.ShowState client volume) c = client ≡ c
 NeedsClient cell (line.Send client volume server window) c = client ≡ c
-NeedsClient cell (line.Deliver message) c = (server volume number : ℕ) × (answer : Answer) × (sent_at message cell.waiting ≡ Some (AnswerSent server c volume number answer))
+NeedsClient cell (line.Deliver message) c =
+    ((server volume number : ℕ) × (answer : Answer) × (sent_at message cell.waiting ≡ Some (AnswerSent server c volume number answer)))
+    ⊎ ((server volume : ℕ) × (fids : List Fid) × (sent_at message cell.waiting ≡ Some (BreakSent server c volume fids)))
 NeedsClient cell (line.ArmClient client passes) c = client ≡ c
 NeedsClient cell said c = ⊥
 
@@ -103,6 +107,7 @@ GoesOver cell (line.Send client volume server window) c s = (client ≡ c) × (s
 GoesOver cell (line.Deliver message) c s =
     ((volume number : ℕ) × (span : List Record) × (sent_at message cell.waiting ≡ Some (ChunkSent c s volume number span)))
     ⊎ ((volume number : ℕ) × (answer : Answer) × (sent_at message cell.waiting ≡ Some (AnswerSent s c volume number answer)))
+    ⊎ ((volume : ℕ) × (fids : List Fid) × (sent_at message cell.waiting ≡ Some (BreakSent s c volume fids)))
 GoesOver cell said c s = ⊥
 
 abbrev pub IsOfLetter : Line → ℕ → Type 0

@@ -1,12 +1,13 @@
 -- What replies tell of letters, and what letters say.
 use Rattle.std.specs.Prelude.{◌≡◌, ◌≢◌, ◌≤◌, ℕ, List, Some, None}
+use Rattle.coda_fid.specs.declared.fid.Fid.{Fid}
 use Rattle.coda_fid.specs.declared.op.Record.{Record}
 use Rattle.coda_engine.specs.Run.{Runs}
 use Rattle.coda_certify.specs.declared.verdict.Verdict.{Verdict}
 use Rattle.coda_certify.specs.declared.verdict.Verdict.TheVariants as verdicts
 use Rattle.coda_record.specs.declared.answer.Answer.{Answer}
 use Rattle.coda_record.specs.declared.answer.Answer.TheVariants.{Applied, Conflict, Behind, Old}
-use Rattle.coda_letters.specs.Sent.{Sent, ChunkSent, AnswerSent, client_of, server_of, Waiting, letter_of, sent_at, with_sent}
+use Rattle.coda_letters.specs.Sent.{Sent, ChunkSent, AnswerSent, BreakSent, client_of, server_of, Waiting, letter_of, sent_at, with_sent}
 use Rattle.coda_plain.specs.Deeds.{chunks_of}
 use Rattle.coda_plain.specs.Histories.{In}
 use Rattle.coda_script.specs.declared.line.Line.{Line}
@@ -16,7 +17,7 @@ use Rattle.coda_script.specs.declared.reply.Answer.TheVariants as replied
 use Rattle.coda_script.specs.declared.reply.Undecided.{Undecided}
 use Rattle.coda_script.specs.declared.reply.Undecided.TheVariants as undecided
 use Rattle.coda_script.specs.declared.reply.Reply.{Reply}
-use Rattle.coda_script.specs.declared.reply.Reply.TheVariants.{Sent as ChunkWent, Delivered, Settled, StillFrozen, Lost}
+use Rattle.coda_script.specs.declared.reply.Reply.TheVariants.{Sent as ChunkWent, Delivered, Settled, StillFrozen, Broken, Lost}
 use Rattle.coda_cell.specs.Steps.{first_missing, on_holder}
 use Rattle.coda_shelves.specs.Shelves.{Shelves, Found}
 use Rattle.coda_shelves.specs.Cells.{Cell, begun_on, state_of}
@@ -50,7 +51,7 @@ pub record WaitsUnder (waiting : Waiting) (number : ℕ) (sent : Sent) : Type 0 
   pub same : letter_of waits ≡ letter_of sent
 
 -- A chunk of the client waits under the number that is named. Where a letter waited that is letter for letter this one, no letter is added
--- or lost, and none such has a smaller number; where none did, it is put behind those that wait, of which as few of the oldest are lost as
+-- or lost, and none such has a smaller number; where none did, it is put behind those that wait, of which as few of the oldest that may be lost go as
 -- make room for it.
 pub record WentAs (client volume server number message : ℕ) (old new : Waiting) : Type 0 where
   pub span : List Record
@@ -81,12 +82,22 @@ pub record Brought (old new : Waiting) (message number : ℕ) (answer : Answer) 
   pub came : sent_at message old ≡ Some (AnswerSent server client volume number answer)
   pub stays : new ≡ old
 
--- The letter that was delivered said the chunk or the answer of which the reply tells; the answer to a chunk waits under the number that
--- the reply names.
+-- a break came, and all that waited waits on
+pub record BreakCame (old new : Waiting) (message : ℕ) : Type 0 where
+  pub server : ℕ
+  pub client : ℕ
+  pub volume : ℕ
+  pub fids : List Fid
+  pub came : sent_at message old ≡ Some (BreakSent server client volume fids)
+  pub stays : new ≡ old
+
+-- The letter that was delivered said the chunk or the answer of which the reply tells, or was a break; the answer to a chunk waits under the
+-- number that the reply names.
 abbrev pub DeliveryTells : ℕ → Reply → Waiting → Waiting → Type 0
 DeliveryTells message (Delivered number answer answered) old new = CameFor old new message number answered (answer_told answer)
 DeliveryTells message (Settled number verdict) old new = Brought old new message number (answer_with verdict)
 DeliveryTells message (StillFrozen number why) old new = Brought old new message number (undecided_told why)
+DeliveryTells message (Broken copies) old new = BreakCame old new message
 DeliveryTells message _ old new = new ≡ old
 
 -- the letter of this number waited and waits no more, and all others are as they were
@@ -114,10 +125,11 @@ RepliesNameLetters = InEachKept (λ cell. (said : Line) (reply : Reply) (outside
 -- ---- what a letter says
 
 -- A chunk on its way is one that its client froze for this server, of the operations that it froze; and a verdict on its way back is that
--- of a decision, which stands on a disk of the volume.
+-- of a decision, which stands on a disk of the volume. No letter is a break.
 abbrev pub IsSo : Found → Sent → Type 0
 IsSo f (ChunkSent client server volume number span) = In (record { number = number; home = server; span = span }) (chunks_of (deeds_in f client volume))
 IsSo f (AnswerSent server client volume number answer) = (verdict : Verdict) → answer ≡ answer_with verdict → IsDecided f volume client number verdict
+IsSo f (BreakSent server client volume fids) = ⊥
 
 -- In every cell that is kept, what a letter says that waits is so, however long it waited and whatever else was lost or came twice, also by what would be found on disks,
 -- whichever of the entries join whose appends failed.
@@ -130,6 +142,7 @@ LettersSayWhatIsSo = InEachKept (λ cell. (message : ℕ) (sent : Sent) → sent
 abbrev pub volume_of : Sent → ℕ
 volume_of (ChunkSent client server volume number span) = volume
 volume_of (AnswerSent server client volume number answer) = volume
+volume_of (BreakSent server client volume fids) = volume
 
 -- the client, the volume and the server of each letter that waits are there, so that none is refused for an actor that isn't
 abbrev pub AreAddressed : Cell → Type 0

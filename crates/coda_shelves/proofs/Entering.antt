@@ -1,5 +1,5 @@
 -- Which actors enter what happens by a line.
-use Rattle.std.proofs.Common.{ℕ, Bool, true, false, List, [], ◌∷◌, ◌++◌, map, take, Option, Some, None, Result, Ok, Err}
+use Rattle.std.proofs.Common.{ℕ, Bool, true, false, List, [], ◌∷◌, ◌++◌, map, Option, Some, None, Result, Ok, Err}
 use Rattle.std.specs.Prelude.{nat_lt}
 use Rattle.coda_fid.specs.declared.op.Record.{Record}
 use Rattle.coda_plain.specs.Cell.{ClientEntry, Did}
@@ -9,7 +9,7 @@ use Rattle.coda_record.specs.declared.answer.Answer.{Answer}
 use Rattle.coda_replica.specs.Answers.{told, is_next}
 use Rattle.coda_script.specs.declared.line.Strength.{Strength}
 use Rattle.coda_script.specs.declared.line.Strength.TheVariants.{Strong, Weak, Down}
-use Rattle.coda_letters.specs.Sent.{Sent, ChunkSent, AnswerSent, Waiting, lost_by, number_of}
+use Rattle.coda_letters.specs.Sent.{Sent, ChunkSent, AnswerSent, Waiting, put_out, number_of}
 use Rattle.coda_cell.specs.State.{ClientVolume, ReplicaState, CellState, Event, VolumeMade, ClientMade, Ticked, LinkSet, Entered, Posted, Lost, Used, Kept, Stale, at_client}
 use Rattle.coda_cell.specs.Messages.{over, posting, going_by, sends_of, sends, ruled_in, chunk_comes, taken_in, answer_comes}
 use Rattle.coda_cell.specs.Sending.{Freezing, freezing, Ruling, ruling_of, Taking, taking, deeds_at, entries_at, decides, answered_to, ruled_on, drained_of, drain}
@@ -71,7 +71,7 @@ module _ (C : ℕ → Type 0) (R : ℕ → ℕ → Type 0) where
   by_lost (l ∷ going) sent = (tt, by_lost going sent)
 
   by_posting : (sent : Sent) (waiting : Waiting) → AreBy C R (posting sent waiting)
-  by_posting sent waiting = by_lost (take (lost_by sent waiting) waiting) sent
+  by_posting sent waiting = by_lost (put_out sent waiting) sent
 
   by_going : (s : CellState) (sent : Sent) (o : Option ℕ) → AreBy C R (going_by o sent s).events
   by_going s sent None = by_posting sent s.waiting

@@ -8,7 +8,7 @@ use Rattle.coda_actors.specs.Plain.{PlainDisk, PlainActor, Joins, Mounts, recove
 use Rattle.coda_actors.specs.declared.slot.Mounting.{Mounting}
 use Rattle.coda_actors.specs.declared.slot.Mounting.TheVariants.{Entries, Foreign, DiskFault, Memory}
 use Rattle.coda_journal.specs.declared.header.Header.{Header}
-use Rattle.coda_letters.specs.Sent.{Sent, ChunkSent, AnswerSent, sent_at, client_of, server_of}
+use Rattle.coda_letters.specs.Sent.{Sent, ChunkSent, AnswerSent, BreakSent, sent_at, client_of, server_of}
 use Rattle.coda_plain.specs.Decisions.{ReplicaEntry}
 use Rattle.coda_plain.specs.Moves.{Append}
 use Rattle.coda_script.specs.declared.line.Line.{Line}
@@ -16,14 +16,14 @@ use Rattle.coda_script.specs.declared.line.Line.TheVariants as line
 use Rattle.coda_script.specs.declared.line.Task.{Task}
 use Rattle.coda_script.specs.declared.line.Task.TheVariants as task
 use Rattle.coda_script.specs.declared.reply.Reply.{Reply}
-use Rattle.coda_script.specs.declared.reply.Reply.TheVariants.{Accepted, Lost, State}
+use Rattle.coda_script.specs.declared.reply.Reply.TheVariants.{Accepted, State}
 use Rattle.coda_cell.specs.Asking.{Answer, read}
 use Rattle.coda_cell.specs.Refused.{Refused}
 use Rattle.coda_cell.specs.Messages.{sends, chunk_comes, answer_comes}
 use Rattle.coda_cell.specs.Sending.{drain}
-use Rattle.coda_cell.specs.State.{ClientState, ReplicaState, CellState, Event, Entered, Ticked, Lost as LetterLost, at_client, log_of, put}
+use Rattle.coda_cell.specs.State.{ClientState, ReplicaState, CellState, Event, Entered, Ticked, at_client, put, log_of}
+use Rattle.coda_cell.specs.Steps.{Doing, Unless, Naming, reply_to, offers_of, first_missing, ByClient, ByBoth, BySend, ByRuling, ByTaking, Happens as HappensOne, Says, Comes, Delivers, Loses, link_down, on_volume, on_holder, DoesTask, Does, is_alone, ShowsState}
 use Rattle.coda_cell.specs.States.{state_over}
-use Rattle.coda_cell.specs.Steps.{Doing, Unless, Naming, reply_to, offers_of, first_missing, ByClient, ByBoth, ShowsState, BySend, ByRuling, ByTaking, Happens as HappensOne, Says, Comes, Delivers, Loses, link_down, on_volume, on_holder, DoesTask, Does, is_alone}
 use Rattle.coda_shelves.specs.Cells.{Cell, Stand, stand_of, asked, with_client, with_replica, after, after_all}
 use Rattle.coda_shelves.specs.Lines as plain
 use Rattle.coda_shelves.specs.Lines.{Becoming, refused_fault, refused_full, is_built, Stop, Fits, FitsOne, Lacks, EndsBy, Acts, meets, UnlessDown, needs, is_down_for, DoesUp, Happens, Payloads, Recovers, recovery, client_payloads, replica_payloads, AtReplicaOf, opening, is_others, made_on, MountsRow, MakesVolume, MakesClient, no_volume, no_client, area_of, the_client, the_replica}
@@ -85,6 +85,7 @@ comes_one s (AnswerSent server client volume number answer) = unless_one (first_
       a.answered ∙ ap (λ (c : ClientState). reply_to (answer_comes client volume number answer (c.volumes volume)).said) same ∙ sym b.answered,
       a.happened ∙ ap (λ (c : ClientState). (answer_comes client volume number answer (c.volumes volume)).events) same ∙ sym b.happened,
     ))
+comes_one s (BreakSent server client volume fids) = unless_one (first_missing (on_holder s client volume server)) _ (λ reply second events others a b. (a.0 ∙ sym b.0, a.1 ∙ sym b.1))
 
 happens_one : (said : Reply) (event : Event) → OneDoing (HappensOne said event)
 happens_one said event reply second events others a b = (a.0 ∙ sym b.0, a.1 ∙ sym b.1)
@@ -98,7 +99,7 @@ delivers_one s message (Some sent) = unless_one (link_down (s.links (client_of s
 
 loses_one : (message : ℕ) (o : Option Sent) → OneDoing (Loses message o)
 loses_one message None = λ reply second events others a b. (a.0 ∙ sym b.0, a.1 ∙ sym b.1)
-loses_one message (Some sent) = happens_one (Lost message) (LetterLost message)
+loses_one message (Some sent) = λ reply second events others a b. (a.0 ∙ sym b.0, a.1 ∙ sym b.1)
 
 asks_one : (s : CellState) (client volume : ℕ) (ask : Option Nodes → ClientState → Answer) → OneDoing (Naming (on_volume s client volume) (ByClient s client volume ask))
 asks_one s client volume ask = unless_one (first_missing (on_volume s client volume)) (ByClient s client volume ask) (client_one s client volume ask)

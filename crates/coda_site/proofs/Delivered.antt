@@ -3,10 +3,12 @@ use Rattle.std.proofs.Common.{◌≡◌, ◌≢◌, ℕ, Bool, true, false, cond
 use Rattle.std.specs.Prelude.{⊤, nat_eq}
 use Rattle.std.specs.BTreeMap.{BTreeMap}
 use Rattle.coda_disk.specs.Told.{Told}
+use Rattle.coda_fid.specs.declared.fid.Fid.{Fid}
 use Rattle.coda_fid.specs.declared.op.Record.{Record}
 use Rattle.coda_journal.specs.declared.header.Header.{Header}
-use Rattle.coda_plain.specs.Cell.{ClientEntry}
+use Rattle.coda_plain.specs.Cell.{ClientEntry, PlainCell}
 use Rattle.coda_plain.specs.Decisions.{ReplicaEntry, sent_of}
+use Rattle.coda_plain.proofs.Soundness.{none_joins}
 use Rattle.coda_record.specs.Form.{four}
 use Rattle.coda_record.specs.Spelling.{HasSpelling}
 use Rattle.coda_record.specs.Table as table
@@ -18,6 +20,7 @@ use Rattle.coda_wire.specs.declared.message.Message.TheVariants.{Chunk, Verdict,
 use Rattle.coda_wire.specs.declared.message.Message.TheVariants as messages
 use Rattle.coda_script.specs.declared.line.Line.TheVariants as line
 use Rattle.coda_script.specs.declared.line.Strength.{Strength}
+use Rattle.coda_script.specs.declared.line.Strength.TheVariants.{Down}
 use Rattle.coda_script.specs.declared.reply.Answer.{Answer as ReplyAnswer}
 use Rattle.coda_script.specs.declared.reply.Reply.{Reply}
 use Rattle.coda_script.specs.declared.reply.Reply.TheVariants as replies
@@ -32,7 +35,7 @@ use Rattle.coda_crew.specs.Crews.{slot_at, KeepsOtherSlots}
 use Rattle.coda_net.specs.declared.letter.Letter.{Letter}
 use Rattle.coda_net.specs.Pool.{Pool, is_down, link_of}
 use Rattle.coda_letters.specs.Calls.{IsPosted, DeliversTo, Delivers as LettersDeliver, LosesTo, Loses as LettersLose}
-use Rattle.coda_letters.specs.Sent.{Sent, ChunkSent, AnswerSent, message_of, client_of as sent_client, server_of as sent_server, Waiting, AreLetters, CanBeSaid, CanBeSent, sent_at}
+use Rattle.coda_letters.specs.Sent.{Sent, ChunkSent, AnswerSent, BreakSent, message_of, client_of as sent_client, server_of as sent_server, is_lossy, letter_of, Waiting, AreLetters, CanBeSaid, CanBeSent, sent_at}
 use Rattle.coda_letters.specs.declared.fault.LetterFault.{LetterFault}
 use Rattle.coda_letters.specs.declared.fault.LetterFault.TheVariants as letter
 use Rattle.coda_replica.specs.declared.fault.ReplicaFault.{ReplicaFault}
@@ -40,21 +43,24 @@ use Rattle.coda_replica.specs.declared.replica.Replica.{Replica}
 use Rattle.coda_venus.specs.Standing.{IsUp}
 use Rattle.coda_venus.specs.declared.refused.Refused.{Refused as VenusRefused}
 use Rattle.coda_venus.specs.declared.venus.Venus.{Venus}
-use Rattle.coda_cell.specs.Cells.{strength_of}
+use Rattle.coda_cell.specs.Cells.{strength_of, linked_in}
 use Rattle.coda_cell.specs.Refusing.{letter_refused_as}
 use Rattle.coda_cell.specs.Made.{client_of}
 use Rattle.coda_cell.specs.Messages.{Ending, posting, ruled_in, reply_taken, taken_in}
 use Rattle.coda_cell.specs.Refusing.{refusal}
+use Rattle.coda_cell.specs.Runs.{IsSaid}
 use Rattle.coda_cell.specs.Sending.{Ruling, ruling, Taking, taking, deeds_at, entries_at, reply_answer}
-use Rattle.coda_cell.specs.State.{ReplicaState, CellState, Event, at_client, Lost, new_replica, replica_after_all}
-use Rattle.coda_cell.specs.Steps.{Doing, Named, on_holder, first_missing, link_down, reply_to, Unless, Naming, ByRuling, ByTaking, Comes, Delivers, Loses}
+use Rattle.coda_cell.specs.State.{ReplicaState, CellState, Event, at_client, LinkSet, Lost, linked, new_replica, replica_after_all}
+use Rattle.coda_cell.specs.Steps.{Doing, Named, on_holder, first_missing, link_down, reply_to, Unless, Naming, ByRuling, ByTaking, Comes, Delivers, cut_with, Loses}
 use Rattle.coda_cell.specs.Refused.{Refused}
 use Rattle.coda_cell.specs.Refused as refused
+use Rattle.coda_cell.proofs.KeptLetters.{waits}
 use Rattle.coda_cell.proofs.Delivering.{Came as LetterCame, came, chunk_of, answer_of}
 use Rattle.coda_matching.specs.Clients.{journal_by}
 use Rattle.coda_matching.specs.Replicas.{RulingEnds}
 use Rattle.coda_sending.specs.Ending.{entries_on, deeds_by, nothing_said, TakingEnds}
 use Rattle.coda_shelves.specs.Cells.{Cell, state_of, after, after_all}
+use Rattle.coda_shelves.specs.Running.{IsKept}
 use Rattle.coda_shelves.specs.Lines.{refused_down, refused_full, client_down, replica_down, is_cut, receiver, is_down_for, Fits as FitsEvents, EndsBy, Acts, Becoming, UnlessDown, Happens}
 use Rattle.coda_site.specs.Chunks.{volume_by, replica_by, ClientEnds, ReplicaEnds}
 use Rattle.coda_site.specs.Drains.{ActsBy, Came, taker_down, CameTo}
@@ -69,6 +75,7 @@ use Rattle.coda_site.proofs.ReplicaSites.{StandsAt, stands_at, IsReplicaThere, r
 use Rattle.coda_site.proofs.Stages.{ends_behind, EndsAt, IsFirst, client_refused, IsRuledFirst, UnruledReply, ruled_fits, ruled_left, replica_refused}
 use Rattle.coda_site.proofs.Drained as exchange
 use Rattle.coda_site.proofs.Holders.{names_in, missing_named, client_down_by, replica_down_by}
+use Rattle.coda_site.proofs.Clocks.{link_set}
 use Rattle.coda_site.proofs.Posted.{with_net, posted_site, posted_number, posting_fits, lost_site, unlost_site}
 
 -- what a replica that is up is
@@ -226,7 +233,7 @@ module _ {D : Type 0} (told : D → Told) (out : ℕ → Bool) (has : ℕ → To
                 (ends_behind cell decided events (reply_to (outcome (Ok ruled)).said) delivered left fits1
                 (subst (λ (c : Cell). EndsBy c events (reply_to (outcome (Ok ruled)).said) delivered left) (sym (decided_left cell volume place at ruled.entries))
                 (inl (posting_fits told out has cell1 site1 is1 net says, own, refl))))),
-            posted_site told out has cell1 site1 is1 net says going posted links,
+            posted_site told out has cell1 site1 is1 net says going posted links (shows.kept.letters none_joins).letters.numbered,
           )
 
 -- ---- an answer comes to a client
@@ -346,24 +353,38 @@ module _ {D : Type 0} (told : D → Told) (out : ℕ → Bool) (has : ℕ → To
 
 -- ---- messages that nothing sends
 
--- whether a message is a chunk or the answer to one
-abbrev pub is_on_chunk : Message → Bool
-is_on_chunk (Chunk client server volume number recs) = true
-is_on_chunk (Verdict server client volume number answer) = true
-is_on_chunk (Fetch client server fid) = false
-is_on_chunk (messages.Node server client fid found) = false
-is_on_chunk (Break server client volume fids) = false
+-- whether a message may be what a letter says
+abbrev pub is_of_letter : Message → Bool
+is_of_letter (Chunk client server volume number recs) = true
+is_of_letter (Verdict server client volume number answer) = true
+is_of_letter (Fetch client server fid) = false
+is_of_letter (messages.Node server client fid found) = false
+is_of_letter (Break server client volume fids) = true
 
-sent_on_chunk : (sent : Sent) → is_on_chunk (message_of sent) ≡ true
-sent_on_chunk (ChunkSent client server volume number span) = refl
-sent_on_chunk (AnswerSent server client volume number answer) = refl
+said_of_letter : (sent : Sent) → is_of_letter (message_of sent) ≡ true
+said_of_letter (ChunkSent client server volume number span) = refl
+said_of_letter (AnswerSent server client volume number answer) = refl
+said_of_letter (BreakSent server client volume fids) = refl
 
 -- no other one comes
-pub others_never_come : (waiting : Waiting) (net : Pool) (number : ℕ) (m : Message) → LettersDeliver waiting net number (Ok m) → is_on_chunk m ≡ false → ⊥
+pub others_never_come : (waiting : Waiting) (net : Pool) (number : ℕ) (m : Message) → LettersDeliver waiting net number (Ok m) → is_of_letter m ≡ false → ⊥
 others_never_come waiting net number m delivers other =
     let c = came waiting net number m delivers in
-    let sent : is_on_chunk m ≡ true = sym (ap is_on_chunk c.says) ∙ sent_on_chunk c.sent in
+    let sent : is_of_letter m ≡ true = sym (ap is_of_letter c.says) ∙ said_of_letter c.sent in
     true≢false (sym sent ∙ other)
+
+-- and no letter of a cell that is kept is a break
+no_break : (cell : PlainCell) (sent : Sent) → IsSaid cell sent → (server client volume : ℕ) (fids : List Fid) → message_of sent ≡ Break server client volume fids → ⊥
+no_break cell (ChunkSent c s v n span) said server client volume fids e = cc
+no_break cell (AnswerSent s c v n answer) said server client volume fids e = cc
+no_break cell (BreakSent s c v fs) said server client volume fids e = said
+
+pub breaks_never_come : (cell : Cell) → IsKept cell → (net : Pool) (number server client volume : ℕ) (fids : List Fid) → LettersDeliver cell.waiting net number (Ok (Break server client volume fids)) → ⊥
+breaks_never_come cell kept net number server client volume fids delivers =
+    let c = came cell.waiting net number (Break server client volume fids) delivers in
+    let so = kept.letters none_joins in
+    let waiting = waits _ number cell.waiting c.sent so.letters.pooled c.at in
+    no_break _ c.sent waiting.said server client volume fids c.says
 
 -- ---- lines
 
@@ -387,6 +408,7 @@ between false false c = refl
 by_link : (cell : Cell) (sent : Sent) → is_down_for (receiver cell (Some sent)) ≡ (not (is_cut (cell.links (sent_client sent) (sent_server sent))) && taker_down cell sent)
 by_link cell (ChunkSent client server volume number span) = between (not (is_some (first_missing (on_holder (state_of cell) client volume server)))) (not (is_cut (cell.links client server))) (replica_down cell server volume)
 by_link cell (AnswerSent server client volume number answer) = between (not (is_some (first_missing (on_holder (state_of cell) client volume server)))) (not (is_cut (cell.links client server))) (client_down cell client)
+by_link cell (BreakSent server client volume fids) = between (not (is_some (first_missing (on_holder (state_of cell) client volume server)))) (not (is_cut (cell.links client server))) (client_down cell client)
 
 unless_as : (one other : Bool) (cell : Cell) (a b : Becoming) (reply : Reply) (outside : List (List ℕ)) (left : Cell) → one ≡ other → (a reply outside left → b reply outside left) → UnlessDown one cell a reply outside left → UnlessDown other cell b reply outside left
 unless_as true true cell a b reply outside left same goes is = is
@@ -470,18 +492,37 @@ module _ {D : Type 0} (told : D → Told) (out : ℕ → Bool) (has : ℕ → To
   abbrev IsLost : Reply → Site D → Type 0
   IsLost reply after = Becomes told out has (Happens cell (line.Lose number)) reply answered answered after
 
-  pub letter_lost : (net : Pool) (handed : Letter) → net.posted ≡ site.net.posted → net.links ≡ site.net.links → LettersLose cell.waiting number (Ok handed) net → IsLost (replies.Lost number) (with_net site net)
-  letter_lost net handed posted links loses = by (sent_at number cell.waiting) refl loses
-    where
-      by : (o : Option Sent) → sent_at number cell.waiting ≡ o → LosesTo o cell.waiting number (Ok handed) net → IsLost (replies.Lost number) (with_net site net)
-      by None at l = (let no = l.0 in cc)
-      by (Some sent) at l = record {
-        outside = [];
-        left = after cell (Lost number);
-        happens = (refl, record { own = replies.Lost number; events = Lost number ∷ []; does = subst (λ (o : Option Sent). Loses number o (replies.Lost number) (Lost number ∷ [])) (sym at) (refl, refl); ends = inl ((tt, tt), refl, refl) });
-        answered = sym (append-nil answered);
-        stands = lost_site told out has cell site is net number l.1 posted links;
-      }
+  -- with one that may not be lost for the limits its link is cut
+  module _ (net cut : Pool) (handed : Letter) (posted : net.posted ≡ site.net.posted) (links : net.links ≡ site.net.links) (stays : handed.lossy ≡ true → cut ≡ net)
+      (goes : handed.lossy ≡ false → (c s : ℕ) → linked_in cut c s ≡ linked (linked_in net) handed.client handed.server Down c s) (letters : cut.letters ≡ net.letters) (many : cut.posted ≡ net.posted) where
+    abbrev cut_by : Sent → Bool → List Event
+    cut_by sent b = cond b [] (LinkSet (sent_client sent) (sent_server sent) Down ∷ [])
+
+    cut_fits : (sent : Sent) (b : Bool) → FitsEvents (after cell (Lost number)) (cut_by sent b)
+    cut_fits sent true = tt
+    cut_fits sent false = (tt, tt)
+
+    cut_site : (sent : Sent) → handed ≡ letter_of sent → IsSite told out has (after cell (Lost number)) (with_net site net) → (b : Bool) → is_lossy sent ≡ b
+        → IsSite told out has (after_all (after cell (Lost number)) (cut_by sent b)) (with_net site cut)
+    cut_site sent same lost true lossy = subst (λ (n : Pool). IsSite told out has (after cell (Lost number)) (with_net site n)) (sym (stays (ap (λ (l : Letter). l.lossy) same ∙ lossy))) lost
+    cut_site sent same lost false safe = link_set told out has (after cell (Lost number)) (with_net site net) lost (sent_client sent) (sent_server sent) Down cut
+        (λ c s. goes (ap (λ (l : Letter). l.lossy) same ∙ safe) c s ∙ ap (λ (l : Letter). linked (linked_in net) l.client l.server Down c s) same) letters many
+
+    pub letter_lost : LettersLose cell.waiting number (Ok handed) net → IsLost (replies.Lost number) (with_net site cut)
+    letter_lost loses = by (sent_at number cell.waiting) refl loses
+      where
+        by : (o : Option Sent) → sent_at number cell.waiting ≡ o → LosesTo o cell.waiting number (Ok handed) net → IsLost (replies.Lost number) (with_net site cut)
+        by None at l = (let no = l.0 in cc)
+        by (Some sent) at l =
+            let e = l.0 in
+            let same : handed ≡ letter_of sent = cc in
+            let events = Lost number ∷ cut_with sent in record {
+              outside = [];
+              left = after_all cell events;
+              happens = (refl, record { own = replies.Lost number; events = events; does = subst (λ (o : Option Sent). Loses number o (replies.Lost number) events) (sym at) (refl, refl); ends = inl ((tt, cut_fits sent (is_lossy sent)), refl, refl) });
+              answered = sym (append-nil answered);
+              stands = cut_site sent same (lost_site told out has cell site is net number l.1 posted links) (is_lossy sent) refl;
+            }
 
   pub not_lost : (net : Pool) → net.posted ≡ site.net.posted → net.links ≡ site.net.links → (why : LetterFault) → LettersLose cell.waiting number (Err why) net → (reply : Reply) → (why ≢ letter.Memory) × (reply ≡ refusal (letter_refused_as why))
       → IsLost reply (with_net site net)

@@ -1,11 +1,12 @@
 -- What letters that are posted and lost leave of a site.
-use Rattle.std.proofs.Common.{◌≡◌, ℕ, ◌+◌, Bool, List, [], ◌∷◌, ◌++◌, map, take, Option, Some, None, refl, sym, subst, ◌∙◌}
+use Rattle.std.proofs.Common.{◌≡◌, ℕ, ◌+◌, Bool, List, [], ◌∷◌, ◌++◌, map, Option, Some, None, refl, sym, subst, ◌∙◌}
 use Rattle.coda_disk.specs.Told.{Told}
 use Rattle.coda_net.specs.Pool.{Pool}
-use Rattle.coda_letters.specs.Sent.{Sent, Waiting, AreLetters, lost_by, number_of, without, with_sent}
+use Rattle.coda_letters.specs.Sent.{Sent, Waiting, AreLetters, put_out, number_of, without, with_sent}
 use Rattle.coda_letters.specs.Calls.{IsPosted, IsSent, IsSentAs}
 use Rattle.coda_cell.specs.Cells.{IsNetwork}
 use Rattle.coda_cell.specs.Messages.{posting, going_by, going}
+use Rattle.coda_cell.specs.Runs.{AreNumbered}
 use Rattle.coda_cell.specs.State.{Event, VolumeMade, ClientMade, Ticked, LinkSet, Entered, Posted, Lost, Used, Kept, Stale, CellState, after_all as state_after_all}
 use Rattle.coda_cell.proofs.CarriedLetters.{linked_same, network_posted, posting_after}
 use Rattle.coda_shelves.specs.Cells.{Cell, state_of, after, after_all}
@@ -36,7 +37,7 @@ lost_mail [] sent = tt
 lost_mail (l ∷ going) sent = lost_mail going sent
 
 posting_mail : (sent : Sent) (waiting : Waiting) → AreMail (posting sent waiting)
-posting_mail sent waiting = lost_mail (take (lost_by sent waiting) waiting) sent
+posting_mail sent waiting = lost_mail (put_out sent waiting) sent
 
 -- no disk keeps them
 mail_fits : (cell : Cell) (events : List Event) → AreMail events → FitsEvents cell events
@@ -106,12 +107,12 @@ module _ {D : Type 0} (told : D → Told) (out : ℕ → Bool) (has : ℕ → To
     posts : IsNetwork state.links (with_sent (state.posted + 1) sent state.waiting) (state.posted + 1) net × (number ≡ state.posted + 1)
     posts = network_posted state sent site.net net number is.net posted links
 
-    shown : state_of (after_all cell (posting sent cell.waiting)) ≡ record state { waiting = with_sent (state.posted + 1) sent state.waiting; posted = state.posted + 1 }
-    shown = mail_shown cell (posting sent cell.waiting) (posting_mail sent cell.waiting) ∙ posting_after state sent
+    shown : AreNumbered 0 cell.posted cell.waiting → state_of (after_all cell (posting sent cell.waiting)) ≡ record state { waiting = with_sent (state.posted + 1) sent state.waiting; posted = state.posted + 1 }
+    shown numbered = mail_shown cell (posting sent cell.waiting) (posting_mail sent cell.waiting) ∙ posting_after state sent 0 cell.posted numbered
 
-    pub posted_site : IsSite told out has (after_all cell (posting sent cell.waiting)) (with_net site net)
-    posted_site = mail_site (posting sent cell.waiting) (posting_mail sent cell.waiting)
-        (subst (λ (s : CellState). IsNetwork cell.links s.waiting s.posted net) (sym shown) posts.0)
+    pub posted_site : AreNumbered 0 cell.posted cell.waiting → IsSite told out has (after_all cell (posting sent cell.waiting)) (with_net site net)
+    posted_site numbered = mail_site (posting sent cell.waiting) (posting_mail sent cell.waiting)
+        (subst (λ (s : CellState). IsNetwork cell.links s.waiting s.posted net) (sym (shown numbered)) posts.0)
 
     pub posted_number : number ≡ cell.posted + 1
     posted_number = posts.1
@@ -121,14 +122,14 @@ module _ {D : Type 0} (told : D → Told) (out : ℕ → Bool) (has : ℕ → To
 
   -- something is sent: it waits already, or is posted
   module _ (sent : Sent) (number : ℕ) (links : net.links ≡ site.net.links) where
-    sent_by : (o : Option ℕ) → IsSentAs o cell.waiting sent site.net number net → FitsEvents cell (going_by o sent (state_of cell)).events × IsSite told out has (after_all cell (going_by o sent (state_of cell)).events) (with_net site net)
+    sent_by : (o : Option ℕ) → AreNumbered 0 cell.posted cell.waiting → IsSentAs o cell.waiting sent site.net number net → FitsEvents cell (going_by o sent (state_of cell)).events × IsSite told out has (after_all cell (going_by o sent (state_of cell)).events) (with_net site net)
         × (number ≡ (going_by o sent (state_of cell)).message)
-    sent_by (Some first) went = (tt, subst (λ (n : Pool). IsSite told out has cell (with_net site n)) (sym went.1) is, went.0)
-    sent_by None went = (posting_fits sent, posted_site sent number went links, posted_number sent number went links)
+    sent_by (Some first) numbered went = (tt, subst (λ (n : Pool). IsSite told out has cell (with_net site n)) (sym went.1) is, went.0)
+    sent_by None numbered went = (posting_fits sent, posted_site sent number went links numbered, posted_number sent number went links)
 
-    pub sent_site : IsSent cell.waiting sent site.net number net → FitsEvents cell (going sent (state_of cell)).events × IsSite told out has (after_all cell (going sent (state_of cell)).events) (with_net site net)
+    pub sent_site : AreNumbered 0 cell.posted cell.waiting → IsSent cell.waiting sent site.net number net → FitsEvents cell (going sent (state_of cell)).events × IsSite told out has (after_all cell (going sent (state_of cell)).events) (with_net site net)
         × (number ≡ (going sent (state_of cell)).message)
-    sent_site went = sent_by (number_of sent cell.waiting) went
+    sent_site numbered went = sent_by (number_of sent cell.waiting) numbered went
 
   -- a letter is lost
   pub lost_site : (message : ℕ) → AreLetters (without message cell.waiting) net → net.posted ≡ site.net.posted → net.links ≡ site.net.links → IsSite told out has (after cell (Lost message)) (with_net site net)

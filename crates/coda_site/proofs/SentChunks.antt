@@ -10,6 +10,7 @@ use Rattle.coda_record.specs.Table as table
 use Rattle.coda_spelling.proofs.SpelledParts.{within}
 use Rattle.coda_journal.specs.declared.header.Header.{Header}
 use Rattle.coda_plain.specs.Cell.{ClientEntry}
+use Rattle.coda_plain.proofs.Soundness.{none_joins}
 use Rattle.coda_script.specs.declared.line.Line.TheVariants as line
 use Rattle.coda_script.specs.declared.line.Strength.{Strength}
 use Rattle.coda_script.specs.declared.line.Strength.TheVariants.{Strong, Weak, Down}
@@ -28,6 +29,7 @@ use Rattle.coda_venus.specs.declared.refused.Refused.{Refused as VenusRefused}
 use Rattle.coda_venus.specs.declared.venus.Venus.{Venus}
 use Rattle.coda_cell.specs.Cells.{linked_in}
 use Rattle.coda_cell.specs.Made.{client_of}
+use Rattle.coda_cell.specs.Runs.{AreNumbered}
 use Rattle.coda_cell.specs.Messages.{Ending, over, posting, going_by, going, Going, sends_of, sends}
 use Rattle.coda_cell.specs.Refusing.{refusal}
 use Rattle.coda_cell.specs.Sending.{Freezing, freezing}
@@ -148,7 +150,7 @@ module _ {D : Type 0} (told : D → Told) (out : ℕ → Bool) (has : ℕ → To
 
   -- it was done, and the chunk went
   module _ (clients : BTreeMap ℕ (Slot (Venus D) D)) (others : KeepsOtherSlots client site.clients clients) (frozen : Venus D) (put : slot_at clients client ≡ Started ch frozen) (chunk : ℕ) (froze : IsFrozenAs told ch h volume wanted frozen chunk)
-      (net : Pool) (links : net.links ≡ site.net.links) (message : ℕ) (posts : PostsChunk told client volume server chunk clients site.net net message) where
+      (net : Pool) (links : net.links ≡ site.net.links) (message : ℕ) (posts : PostsChunk told client volume server chunk clients site.net net message) (numbered : AreNumbered 0 cell.posted cell.waiting) where
     abbrev f : Freezing
     f = froze.f
 
@@ -178,7 +180,7 @@ module _ {D : Type 0} (told : D → Told) (out : ℕ → Bool) (has : ℕ → To
 
     gone : FitsEvents cell1 (going sent (state_of cell1)).events × IsSite told out has (after_all cell1 (going sent (state_of cell1)).events) (with_net (with_clients site clients) net)
         × (message ≡ (going sent (state_of cell1)).message)
-    gone = sent_site told out has cell1 (with_clients site clients) is1 net sent message links went
+    gone = sent_site told out has cell1 (with_clients site clients) is1 net sent message links numbered went
 
     same : going sent (state_of cell1) ≡ going sent s
     same = going_same (state_of cell1) s sent (number_of sent cell.waiting) refl refl
@@ -237,7 +239,7 @@ module _ {D : Type 0} (told : D → Told) (out : ℕ → Bool) (has : ℕ → To
             → Acted told out has cell (line.Send client volume server (Some window)) (replies.Sent message chunk) (with_net (with_clients site clients) net)
         send_done chunk ends net links message posts =
             is_sent told out has cell site shows.stands client volume server window place at home c.0 c.1 c.2 link (with_net (with_clients site clients) net) (replies.Sent message chunk)
-            (chunk_sent told out has cell site shows.stands client volume server window place at home c.0 c.1 c.2 clients others (e clients chunk ends).0 (e clients chunk ends).1 chunk (froze clients chunk ends) net links message posts)
+            (chunk_sent told out has cell site shows.stands client volume server window place at home c.0 c.1 c.2 clients others (e clients chunk ends).0 (e clients chunk ends).1 chunk (froze clients chunk ends) net links message posts (shows.kept.letters none_joins).letters.numbered)
 
   -- ---- the whole line
 

@@ -9,7 +9,7 @@ use Rattle.coda_actors.specs.declared.slot.Slot.TheVariants.{Started}
 use Rattle.coda_crew.specs.Crews.{slot_at}
 use Rattle.coda_net.specs.Pool.{Pool}
 use Rattle.coda_letters.specs.Calls.{IsSent}
-use Rattle.coda_letters.specs.Sent.{Sent, ChunkSent, AnswerSent, Waiting, AreLetters}
+use Rattle.coda_letters.specs.Sent.{Sent, ChunkSent, AnswerSent, BreakSent, Waiting, AreLetters}
 use Rattle.coda_script.specs.declared.line.Line.{Line}
 use Rattle.coda_script.specs.declared.reply.Reply.{Reply}
 use Rattle.coda_venus.specs.Standing.{IsUp}
@@ -42,6 +42,7 @@ Came told out has cell sent reply site = (left : Cell) × ActsBy (Comes (state_o
 abbrev pub taker_down : Cell → Sent → Bool
 taker_down cell (ChunkSent client server volume number span) = is_down_for (a_holder cell client volume server (replica_down cell server volume))
 taker_down cell (AnswerSent server client volume number answer) = is_down_for (a_holder cell client volume server (client_down cell client))
+taker_down cell (BreakSent server client volume fids) = is_down_for (a_holder cell client volume server (client_down cell client))
 
 -- a letter comes to whom it was sent, unless that one is down
 abbrev pub CameTo : Cell → Sent → Becoming

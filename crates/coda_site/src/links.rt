@@ -1,10 +1,11 @@
 // The links between clients and servers, as lines name them.
-ghost use Rattle.std.specs.Prelude.{◌≡◌, ℕ, OnOk};
+ghost use Rattle.std.specs.Prelude.{◌≡◌, ℕ, true, false, OnOk};
+ghost use Rattle.coda_script.specs.declared.line.Strength.TheVariants.{Down};
 ghost use Rattle.coda_cell.specs.Cells.{linked_in, strength_of};
 ghost use Rattle.coda_cell.specs.State.{linked};
 ghost use Rattle.coda_cell.specs.States.{link_with};
 
-use coda_net::{Net, NetFault};
+use coda_net::{Letter, Net, NetFault};
 use coda_script::Strength;
 use coda_state::Link;
 
@@ -44,4 +45,19 @@ pub fn set_strength(
     ensures posted { net.new.posted ≡ net.old.posted }
 {
     net.set_link(client, server, link_of(strength))
+}
+
+/// Cuts the link between the ends of a letter that was lost, where it is one that may not be lost for the limits. Fails
+/// for want of memory alone.
+pub fn cut_with(net: &mut Net, letter: &Letter) -> Result<(), NetFault>
+    ensures lossy { OnOk result (letter.now.lossy ≡ true → net.new ≡ net.old) }
+    ensures links { OnOk result (letter.now.lossy ≡ false → (c s : ℕ)
+        → linked_in net.new c s ≡ linked (linked_in net.old) letter.now.client letter.now.server Down c s) }
+    ensures letters { net.new.letters ≡ net.old.letters }
+    ensures posted { net.new.posted ≡ net.old.posted }
+{
+    if letter.lossy {
+        return Ok(());
+    }
+    set_strength(net, letter.client, letter.server, Strength::Down)
 }

@@ -32,6 +32,7 @@ ghost use Rattle.coda_site.specs.declared.site.Place.{Place as APlace};
 use crate::chunks::{Until, chunk_at, freeze_at, rule_at, take_at};
 use crate::draining::is_linked;
 use crate::fault::CellFault;
+use crate::links::cut_with;
 use crate::replies::{
     no_such_actor, refuse, refuse_number, refused, reply_answer, reply_taken, unruled,
 };
@@ -384,7 +385,7 @@ pub fn deliver<B: Bay>(bay: &B, site: &mut Site<B::D>, message: u64) -> Result<R
                 answer,
             },
         ) => answer_comes(bay, site, client, server, volume, number, answer),
-        // Nothing sends these yet, so they are as unknown as any other kind.
+        // Nothing sends these yet, so they are as unknown as any other kind. No letter is a break where the cell is kept.
         Ok(Message::Fetch { .. }) => undelivered(site.alloc, UNKNOWN),
         Ok(Message::Node { .. }) => undelivered(site.alloc, UNKNOWN),
         Ok(Message::Break { .. }) => undelivered(site.alloc, UNKNOWN),
@@ -399,7 +400,7 @@ fn reply_lost(_letter: Letter, message: u64) -> Reply
     Reply::Lost { message }
 }
 
-/// Loses a letter.
+/// Loses a letter. With one that may not be lost for the limits the link between its ends goes down.
 ///
 /// # Errors
 ///
@@ -415,7 +416,10 @@ pub fn lose<B: Bay>(_bay: &B, site: &mut Site<B::D>, message: u64) -> Result<Rep
     ensures counts { IsCounted (IsFault result) false (totals B.D.told B.D.faults B.D.arms (B.disk_faults _bay.now) (B.disk_arms _bay.now) site.old) (totals B.D.told B.D.faults B.D.arms (B.disk_faults _bay.now) (B.disk_arms _bay.now) site.new) }
 {
     match lose_letter(&mut site.net, message) {
-        Ok(letter) => Ok(reply_lost(letter, message)),
+        Ok(letter) => match cut_with(&mut site.net, &letter) {
+            Ok(()) => Ok(reply_lost(letter, message)),
+            Err(_) => Err(CellFault::Memory),
+        },
         Err(why) => undelivered(site.alloc, why),
     }
 }

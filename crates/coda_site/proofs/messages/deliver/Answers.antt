@@ -4,7 +4,7 @@ use Rattle.coda_record.specs.Spelling.{HasSpelling}
 use Rattle.coda_wire.specs.Table.{message}
 use Rattle.coda_wire.specs.declared.message.Message.TheVariants.{Chunk}
 use Rattle.coda_site.proofs.Stages.{if_ok, said_ok}
-use Rattle.coda_site.proofs.Delivered.{chunk_delivered, answer_delivered, not_delivered, others_never_come}
+use Rattle.coda_site.proofs.Delivered.{chunk_delivered, answer_delivered, not_delivered, others_never_come, breaks_never_come}
 use Rattle.coda_site.proofs.messages.deliver.Goals as goal
 
 pub chunk_comes-requires-clause-spelled : goal.chunk_comes-requires-clause-spelled
@@ -43,5 +43,5 @@ returns-in-Ok-Node-clause-does g c = λ cell shows.
 
 pub returns-in-Ok-Break-clause-does : goal.returns-in-Ok-Break-clause-does
 returns-in-Ok-Break-clause-does g c = λ cell shows.
-    absurd (others_never_come cell.waiting c.args.site.now.net c.args.message _
-    (subst (λ m. Delivers cell.waiting c.args.site.now.net c.args.message (Ok m)) c.in-Ok-Break.field-0-is (c.in-Ok-Break.ensures.delivers cell.waiting shows.stands.net.letters)) refl)
+    absurd (breaks_never_come cell shows.kept c.args.site.now.net c.args.message _ _ _ _
+    (subst (λ m. Delivers cell.waiting c.args.site.now.net c.args.message (Ok m)) c.in-Ok-Break.field-0-is (c.in-Ok-Break.ensures.delivers cell.waiting shows.stands.net.letters)))
