@@ -198,6 +198,7 @@ is_met cell (line.Task (task.Rename client volume from to)) = record { links = l
 is_met cell (line.Task (task.Read client volume path)) = record { links = links_to cell volume; is = refl }
 is_met cell (line.Task (task.List client volume path)) = record { links = links_to cell volume; is = refl }
 is_met cell (line.Task _) = record { links = cell.links; is = refl }
+is_met cell (line.ShowState client volume) = record { links = links_to cell volume; is = refl }
 is_met cell _ = record { links = cell.links; is = refl }
 
 -- a state is what a cell is, but for its links

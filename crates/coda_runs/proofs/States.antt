@@ -1,6 +1,6 @@
 -- In which state a client is on a volume, as a line shows it.
-use Rattle.std.proofs.Common.{◌≡◌, ◌≢◌, ◌⊎◌, inl, inr, ℕ, ◌==◌, ◌&&◌, Bool, true, false, cond, List, [], ◌∷◌, length, Option, Some, None, refl, sym, ap, subst, ◌∙◌}
-use Rattle.std.proofs.lemmas.Bool.{false≢true}
+use Rattle.std.proofs.Common.{◌≡◌, ◌≢◌, ◌⊎◌, inl, inr, ℕ, ◌==◌, ◌&&◌, Bool, true, false, cond, List, [], ◌∷◌, length, Option, Some, None, refl, sym, ap, subst, ◌∙◌, arith}
+use Rattle.std.proofs.lemmas.Bool.{eqb-true, and_parts}
 use Rattle.std.specs.Prelude.{not, is_some}
 use Rattle.coda_state.specs.Laws.{twice}
 use Rattle.coda_state.specs.States.{settled_state}
@@ -73,10 +73,12 @@ sent false Strong false e = cc
 sent false Weak empty e = cc
 sent false Down empty e = cc
 
+none_long : {A : Type 0} (xs : List A) → (length xs == 0) ≡ true → xs ≡ []
+none_long [] e = refl
+none_long (x ∷ xs) e = let no = eqb-true (length (x ∷ xs)) 0 e in absurd (omega (arith, no))
+
 both_none : {A : Type 0} (xs ys : List A) → ((length xs == 0) && (length ys == 0)) ≡ true → (xs ≡ []) × (ys ≡ [])
-both_none [] [] e = (refl, refl)
-both_none [] (y ∷ ys) e = cc
-both_none (x ∷ xs) ys e = cc
+both_none xs ys e = let parts = and_parts (length xs == 0) (length ys == 0) e in (none_long xs parts.0, none_long ys parts.1)
 
 -- ---- the line
 

@@ -1,5 +1,5 @@
 -- In which state a client is on a volume, as a line shows it.
-use Rattle.std.specs.Prelude.{◌≡◌, ◌≢◌, ◌⊎◌, ℕ, true, false, List, []}
+use Rattle.std.specs.Prelude.{◌≡◌, ◌≢◌, ◌⊎◌, ℕ, true, false, List, [], Some}
 use Rattle.coda_state.specs.Laws.{twice}
 use Rattle.coda_state.specs.declared.state.State.{State}
 use Rattle.coda_script.specs.declared.line.Line.TheVariants as line
