@@ -27,4 +27,4 @@ pub mod Counting
 pub mod Giving
 pub mod Beginning
 pub mod BlankShelves
-pub mod States
+pub mod ShownStates

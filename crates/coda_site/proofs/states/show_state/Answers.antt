@@ -12,7 +12,7 @@ use Rattle.coda_shelves.specs.Cells.{state_of}
 use Rattle.coda_shelves.specs.Lines.{client_down, meets, DoesUp}
 use Rattle.coda_site.specs.Sites.{client_at, volume_at}
 use Rattle.coda_site.proofs.Becomings.{named_missing, named_there, missing_some, missing_none, missing_becomes, down_becomes, up_becomes, says}
-use Rattle.coda_site.proofs.States.{state_shown}
+use Rattle.coda_site.proofs.ShownStates.{state_shown}
 use Rattle.coda_site.proofs.Theres.{on_volume_at, client_down_by}
 use Rattle.coda_site.proofs.states.show_state.Goals as goal
 

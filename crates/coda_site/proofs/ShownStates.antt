@@ -1,6 +1,7 @@
 -- In which state a client is on a volume, by the site and by the cell that it stands for.
-use Rattle.std.proofs.Common.{◌≡◌, ℕ, Bool, true, false, cond, List, [], ◌∷◌, Option, Some, None, refl, sym, ap, ◌∙◌}
-use Rattle.std.specs.Prelude.{not}
+use Rattle.std.proofs.Common.{◌≡◌, ℕ, Bor, Bool, true, false, cond, List, [], ◌∷◌, Option, Some, None, refl, sym, ap, ◌∙◌}
+use Rattle.std.specs.Prelude.{not, MatchOption}
+use Rattle.coda_cml.specs.State.{LogState}
 use Rattle.coda_disk.specs.Told.{Told}
 use Rattle.coda_actors.specs.Clients.{client_form}
 use Rattle.coda_actors.specs.Replicas.{replica_form}
@@ -18,7 +19,7 @@ use Rattle.coda_script.specs.declared.reply.ClientState.{ClientState as ShownSta
 use Rattle.coda_script.specs.declared.reply.Reply.TheVariants.{State as StateReply}
 use Rattle.coda_cell.specs.Cells.{strength_of, linked_in}
 use Rattle.coda_cell.specs.Made.{client_of}
-use Rattle.coda_cell.specs.State.{ClientState, ReplicaState, log_of, new_replica, replica_after_all}
+use Rattle.coda_cell.specs.State.{ClientState, ReplicaState, log_of, new_volume, new_replica, replica_after_all}
 use Rattle.coda_cell.specs.States.{link_with, shown_state, is_empty}
 use Rattle.coda_cell.specs.Steps.{ShowsState}
 use Rattle.coda_cell.proofs.Histories.{server_stays}
@@ -48,6 +49,18 @@ settled_from link.Down empty = refl
 turned : (up : Bool) (strength : Strength) → cond up strength Down ≡ cond (not up) Down strength
 turned true strength = refl
 turned false strength = refl
+
+-- ---- logs
+
+-- the log that a client has of a volume is the one that the cell has
+pub sent_by : (own : LogState) (r : Option (Bor LogState)) (log : Bor LogState) → r ≡ Some log → MatchOption r (own ≡ log_of new_volume) (λ l. l.now ≡ own) → is_empty log.now ≡ is_empty own
+sent_by own None log is same = cc
+sent_by own (Some other) log is same = (let one : other ≡ log = cc in ap (λ (l : Bor LogState). is_empty l.now) (sym one) ∙ ap is_empty same)
+
+-- a client that never had a log of it has nothing to send
+pub sent_all : (own : LogState) (r : Option (Bor LogState)) → r ≡ None → MatchOption r (own ≡ log_of new_volume) (λ l. l.now ≡ own) → true ≡ is_empty own
+sent_all own None is same = sym (ap is_empty same)
+sent_all own (Some log) is same = cc
 
 module _ {D : Type 0} (told : D → Told) (out : ℕ → Bool) (has : ℕ → Told) (cell : Cell) (site : Site D) (shows : Shows told out has cell site) (client volume : ℕ) where
   -- how well a client reaches the replica at a place
