@@ -17,7 +17,7 @@ use Rattle.coda_script.specs.declared.line.Strength.{Strength}
 use Rattle.coda_script.specs.declared.line.Strength.TheVariants.{Strong, Weak, Down}
 use Rattle.coda_script.specs.declared.reply.ClientState.{ClientState as ShownState}
 use Rattle.coda_script.specs.declared.reply.Reply.TheVariants.{State as StateReply}
-use Rattle.coda_cell.specs.Cells.{strength_of, linked_in}
+use Rattle.coda_cell.specs.Cells.{linked_in}
 use Rattle.coda_cell.specs.Made.{client_of}
 use Rattle.coda_cell.specs.State.{ClientState, ReplicaState, log_of, new_volume, new_replica, replica_after_all}
 use Rattle.coda_cell.specs.States.{link_with, shown_state, is_empty}
@@ -32,12 +32,6 @@ use Rattle.coda_site.specs.declared.site.Place.{Place}
 use Rattle.coda_site.proofs.ClientSites.{up_at}
 use Rattle.coda_site.proofs.ReplicaSites.{StandsAt, stands_at, replica_is}
 use Rattle.coda_site.proofs.Theres.{replica_down_at}
-
--- a link of a strength has that strength
-pub link_strength : (strength : Strength) → strength_of (link_with strength) ≡ strength
-link_strength Strong = refl
-link_strength Weak = refl
-link_strength Down = refl
 
 -- two looks from the state of a client that was cut off settle the state
 pub settled_from : (l : Link) (empty : Bool) → next_state (next_state state.Emulating l empty) l empty ≡ settled_state l empty

@@ -53,13 +53,13 @@ returns-clause-does g c = λ cell shows.
     let volume = c.args.volume in
     let names = on_volume (state_of cell) client volume in
     let said = line.ShowState client volume in
-    let answer = reply.State c.settled.result in
+    let answer = reply.State c.settled-state.result in
     let there = missing_none c.missing.result (client_at site client ∷ volume_at site volume ∷ []) c.in_default.is c.missing.ensures.missing in
     let all = ap first_missing (on_volume_at told out has cell site shows client volume c.missing.ensures.disk) ∙ there in
     let runs = client_down_by told out has cell site shows client c.from.result (volume_at site volume ∷ []) c.is_up.result c.missing.ensures.disk there c.from.ensures c.is_up.ensures ∙ ap not c.if-not-is_up.false in
     let up : is_up (client_form told) (slot_at site.clients client) ≡ true = ap (λ n. is_up (client_form told) (slot_at site.clients n)) (sym c.from.ensures) ∙ sym c.is_up.ensures ∙ c.if-not-is_up.false in
     let place = c.in-Some-place.place in
-    let shown = state_shown told out has cell site shows client volume c.missing.ensures.disk up place (sym c.place.ensures ∙ c.in-Some-place.is) c.reach.result c.reach.ensures c.has_sent.result
-    (λ own made. c.has_sent.ensures cell shows runs own made) c.settled.result c.settled.ensures in
+    let shown = state_shown told out has cell site shows client volume c.missing.ensures.disk up place (sym c.place.ensures ∙ c.in-Some-place.is) c.reach-strength.result c.reach-strength.ensures c.has_sent.result
+    (λ own made. c.has_sent.ensures cell shows runs own made) c.settled-state.result c.settled-state.ensures in
     up_becomes told out has cell names (client_down cell client) (DoesUp cell said) answer (g.B.Bay.answered c.args._bay.now) site all runs
     cell (refl, says cell said answer (named_there names (ShowsState (meets cell said) client volume) answer [] all shown)) shows.stands
