@@ -1,5 +1,5 @@
 -- In which state a client is on a volume, by the site and by the cell that it stands for.
-use Rattle.std.proofs.Common.{◌≡◌, ℕ, Bor, Bool, true, false, cond, List, [], ◌∷◌, Option, Some, None, refl, sym, ap, ◌∙◌}
+use Rattle.std.proofs.Common.{◌≡◌, ℕ, Bor, Bool, true, false, cond, [], Option, Some, None, refl, sym, ap, ◌∙◌}
 use Rattle.std.specs.Prelude.{not, MatchOption}
 use Rattle.coda_cml.specs.State.{LogState}
 use Rattle.coda_disk.specs.Told.{Told}
@@ -7,19 +7,18 @@ use Rattle.coda_actors.specs.Clients.{client_form}
 use Rattle.coda_actors.specs.Replicas.{replica_form}
 use Rattle.coda_actors.specs.Slots.{is_up}
 use Rattle.coda_crew.specs.Crews.{slot_at}
-use Rattle.coda_state.specs.Laws.{twice}
 use Rattle.coda_state.specs.States.{next_state, settled_state}
 use Rattle.coda_state.specs.declared.state.Link.{Link}
 use Rattle.coda_state.specs.declared.state.Link.TheVariants as link
 use Rattle.coda_state.specs.declared.state.State.TheVariants as state
 use Rattle.coda_script.specs.declared.line.Line.TheVariants as line
 use Rattle.coda_script.specs.declared.line.Strength.{Strength}
-use Rattle.coda_script.specs.declared.line.Strength.TheVariants.{Strong, Weak, Down}
+use Rattle.coda_script.specs.declared.line.Strength.TheVariants.{Down}
 use Rattle.coda_script.specs.declared.reply.ClientState.{ClientState as ShownState}
 use Rattle.coda_script.specs.declared.reply.Reply.TheVariants.{State as StateReply}
 use Rattle.coda_cell.specs.Cells.{linked_in}
 use Rattle.coda_cell.specs.Made.{client_of}
-use Rattle.coda_cell.specs.State.{ClientState, ReplicaState, log_of, new_volume, new_replica, replica_after_all}
+use Rattle.coda_cell.specs.State.{ClientState, log_of, new_volume, new_replica, replica_after_all}
 use Rattle.coda_cell.specs.States.{link_with, shown_state, is_empty}
 use Rattle.coda_cell.specs.Steps.{ShowsState}
 use Rattle.coda_cell.proofs.Histories.{server_stays}
@@ -30,7 +29,7 @@ use Rattle.coda_site.specs.Sites.{is_client_disk, place_in}
 use Rattle.coda_site.specs.declared.site.Site.{Site}
 use Rattle.coda_site.specs.declared.site.Place.{Place}
 use Rattle.coda_site.proofs.ClientSites.{up_at}
-use Rattle.coda_site.proofs.ReplicaSites.{StandsAt, stands_at, replica_is}
+use Rattle.coda_site.proofs.ReplicaSites.{stands_at, replica_is}
 use Rattle.coda_site.proofs.Theres.{replica_down_at}
 
 -- two looks from the state of a client that was cut off settle the state
