@@ -50,7 +50,7 @@ use Rattle.coda_cell.specs.Messages.{Ending, posting, ruled_in, reply_taken, tak
 use Rattle.coda_cell.specs.Refusing.{refusal}
 use Rattle.coda_cell.specs.Runs.{IsSaid}
 use Rattle.coda_cell.specs.Sending.{Ruling, ruling, Taking, taking, deeds_at, entries_at, reply_answer}
-use Rattle.coda_cell.specs.State.{ReplicaState, CellState, Event, at_client, LinkSet, Lost, linked, new_replica, replica_after_all}
+use Rattle.coda_cell.specs.State.{ReplicaState, CellState, Event, at_client, LinkSet, Lost, linked as relinked, new_replica, replica_after_all}
 use Rattle.coda_cell.specs.Steps.{Doing, Named, on_holder, first_missing, link_down, reply_to, Unless, Naming, ByRuling, ByTaking, Comes, Delivers, cut_with, Loses}
 use Rattle.coda_cell.specs.Refused.{Refused}
 use Rattle.coda_cell.specs.Refused as refused
@@ -59,8 +59,9 @@ use Rattle.coda_cell.proofs.Delivering.{Came as LetterCame, came, chunk_of, answ
 use Rattle.coda_matching.specs.Clients.{journal_by}
 use Rattle.coda_matching.specs.Replicas.{RulingEnds}
 use Rattle.coda_sending.specs.Ending.{entries_on, deeds_by, nothing_said, TakingEnds}
-use Rattle.coda_shelves.specs.Cells.{Cell, state_of, after, after_all}
-use Rattle.coda_shelves.specs.Running.{IsKept}
+use Rattle.coda_shelves.specs.Cells.{Cell, shelves_of, state_of, after, after_all}
+use Rattle.coda_shelves.specs.Running.{made_now, settled_on, IsKept}
+use Rattle.coda_shelves.specs.Shelves.{found_on}
 use Rattle.coda_shelves.specs.Lines.{refused_down, refused_full, client_down, replica_down, is_cut, receiver, is_down_for, Fits as FitsEvents, EndsBy, Acts, Becoming, UnlessDown, Happens}
 use Rattle.coda_site.specs.Chunks.{volume_by, replica_by, ClientEnds, ReplicaEnds}
 use Rattle.coda_site.specs.Drains.{ActsBy, Came, taker_down, CameTo}
@@ -382,9 +383,9 @@ no_break cell (BreakSent s c v fs) said server client volume fids e = said
 pub breaks_never_come : (cell : Cell) → IsKept cell → (net : Pool) (number server client volume : ℕ) (fids : List Fid) → LettersDeliver cell.waiting net number (Ok (Break server client volume fids)) → ⊥
 breaks_never_come cell kept net number server client volume fids delivers =
     let c = came cell.waiting net number (Break server client volume fids) delivers in
-    let so = kept.letters none_joins in
-    let waiting = waits _ number cell.waiting c.sent so.letters.pooled c.at in
-    no_break _ c.sent waiting.said server client volume fids c.says
+    let now = (made_now cell none_joins kept.pool (settled_on (found_on (shelves_of cell) none_joins))).acted in
+    let waiting = waits now number cell.waiting c.sent (kept.letters none_joins).letters.pooled c.at in
+    no_break now c.sent waiting.said server client volume fids c.says
 
 -- ---- lines
 
@@ -494,7 +495,7 @@ module _ {D : Type 0} (told : D → Told) (out : ℕ → Bool) (has : ℕ → To
 
   -- with one that may not be lost for the limits its link is cut
   module _ (net cut : Pool) (handed : Letter) (posted : net.posted ≡ site.net.posted) (links : net.links ≡ site.net.links) (stays : handed.lossy ≡ true → cut ≡ net)
-      (goes : handed.lossy ≡ false → (c s : ℕ) → linked_in cut c s ≡ linked (linked_in net) handed.client handed.server Down c s) (letters : cut.letters ≡ net.letters) (many : cut.posted ≡ net.posted) where
+      (goes : handed.lossy ≡ false → (c s : ℕ) → linked_in cut c s ≡ relinked (linked_in net) handed.client handed.server Down c s) (letters : cut.letters ≡ net.letters) (many : cut.posted ≡ net.posted) where
     abbrev cut_by : Sent → Bool → List Event
     cut_by sent b = cond b [] (LinkSet (sent_client sent) (sent_server sent) Down ∷ [])
 
@@ -506,7 +507,7 @@ module _ {D : Type 0} (told : D → Told) (out : ℕ → Bool) (has : ℕ → To
         → IsSite told out has (after_all (after cell (Lost number)) (cut_by sent b)) (with_net site cut)
     cut_site sent same lost true lossy = subst (λ (n : Pool). IsSite told out has (after cell (Lost number)) (with_net site n)) (sym (stays (ap (λ (l : Letter). l.lossy) same ∙ lossy))) lost
     cut_site sent same lost false safe = link_set told out has (after cell (Lost number)) (with_net site net) lost (sent_client sent) (sent_server sent) Down cut
-        (λ c s. goes (ap (λ (l : Letter). l.lossy) same ∙ safe) c s ∙ ap (λ (l : Letter). linked (linked_in net) l.client l.server Down c s) same) letters many
+        (λ c s. goes (ap (λ (l : Letter). l.lossy) same ∙ safe) c s ∙ ap (λ (l : Letter). relinked (linked_in net) l.client l.server Down c s) same) letters many
 
     pub letter_lost : LettersLose cell.waiting number (Ok handed) net → IsLost (replies.Lost number) (with_net site cut)
     letter_lost loses = by (sent_at number cell.waiting) refl loses
