@@ -324,7 +324,6 @@ module _ (cell : MadeCell) (kept : IsKept cell) where
       let c = client_there cell kept client did.client did.there in
       subst (AreLeft cell) (sym (did.happened ∙ ap (λ (x : ClientState). (answer_comes client volume number answer (x.volumes volume)).events) (sym c.2)))
       (answer_comes_left cell client c.0 kept c.1 volume server (homed client volume server all) server number answer is (taking number answer ((client_of client (cell.acted.clients client).history c.0).volumes volume)) refl)) does
-
   comes_left (BreakSent server client volume fids) reply events is does = absurd is.said
 
   delivers_left : (message : ℕ) (o : Option Sent) (reply : Reply) (events : List Event) → sent_at message cell.waiting ≡ o → Delivers (state_of cell) message o reply events → AreLeft cell events

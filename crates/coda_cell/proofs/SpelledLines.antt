@@ -433,7 +433,6 @@ module _ (cell : MadeCell) (kept : IsKept cell) (can : CanBeSpelled cell) where
       subst AreEventsSpelled (sym did.happened) (ruled_in_spelled (state_of cell) client volume server number span did.replica (client_byte client volume server all) (ruling client number span did.replica) refl)) does
   comes (AnswerSent server client volume number answer) reply events does = named_own (first_missing (on_holder (state_of cell) client volume server)) (ByTaking (state_of cell) client volume number answer) reply events (λ all did.
       subst AreEventsSpelled (sym did.happened) (taken_in_spelled (state_of cell) client volume server number answer (did.client.volumes volume) (taking number answer (did.client.volumes volume)) refl)) does
-
   comes (BreakSent server client volume fids) reply events does = named_own (first_missing (on_holder (state_of cell) client volume server)) _ reply events (λ all did. subst AreEventsSpelled (sym did.1) (tt, tt)) does
 
   delivers : (message : ℕ) (o : Option Sent) (reply : Reply) (events : List Event) → Delivers (state_of cell) message o reply events → AreEventsSpelled events

@@ -165,7 +165,6 @@ module _ (old new : Cell) (reply : Reply) (isnt : IsRefused reply) where
       over_is (line.Deliver message) client server (Comes (state_of old) (AnswerSent server client volume number answer)) events (inr (inl (volume, number, answer, e)))
       (λ comes. unless_is (line.Deliver message) (on_holder (state_of old) client volume server) (ByTaking (state_of old) client volume number answer) events (all_by (line.Deliver message) client volume server (ap names_of e))
       (λ all did. taken_is message server client volume number answer (did.client.volumes volume) e (did.client, did.there, refl) (taking number answer (did.client.volumes volume)) refl did.answered) comes) does
-
   delivered_is message events (Some (BreakSent server client volume fids)) e does =
       over_is (line.Deliver message) client server (Comes (state_of old) (BreakSent server client volume fids)) events (inr (inr (volume, fids, e)))
       (λ comes. unless_is (line.Deliver message) (on_holder (state_of old) client volume server) _ events (all_by (line.Deliver message) client volume server (ap names_of e))

@@ -350,7 +350,6 @@ module _ (s : CellState) (numbered : AreNumbered 0 s.posted s.waiting) where
   comes_tell : (message : ℕ) (sent : Sent) (reply : Reply) (events : List Event) → sent_at message s.waiting ≡ Some sent → Comes s sent reply events → DeliveryTells message reply s.waiting (behind_of events)
   comes_tell message (ChunkSent client server volume number span) reply events came does = chunk_tells client server volume number message span (first_missing (on_holder s client volume server)) reply events came does
   comes_tell message (AnswerSent server client volume number answer) reply events came does = answer_tells client server volume number message answer (first_missing (on_holder s client volume server)) reply events came does
-
   comes_tell message (BreakSent server client volume fids) reply events came does = break_tells server client volume message (valid_copies s client fids) fids (first_missing (on_holder s client volume server)) reply events came does
 
   linked_tell : (message : ℕ) (sent : Sent) (o : Option Refused) (reply : Reply) (events : List Event) → sent_at message s.waiting ≡ Some sent → Unless o (Comes s sent) reply events → DeliveryTells message reply s.waiting (behind_of events)

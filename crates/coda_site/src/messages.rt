@@ -385,7 +385,7 @@ pub fn deliver<B: Bay>(bay: &B, site: &mut Site<B::D>, message: u64) -> Result<R
                 answer,
             },
         ) => answer_comes(bay, site, client, server, volume, number, answer),
-        // Nothing sends these yet, so they are as unknown as any other kind. No letter is a break where the cell is kept.
+        // Nothing sends these yet, so they are as unknown as any other kind.
         Ok(Message::Fetch { .. }) => undelivered(site.alloc, UNKNOWN),
         Ok(Message::Node { .. }) => undelivered(site.alloc, UNKNOWN),
         Ok(Message::Break { .. }) => undelivered(site.alloc, UNKNOWN),
