@@ -3,6 +3,7 @@ use Rattle.std.proofs.Common.{◌≡◌, Bool, true, false, cond, not, List, [],
 use Rattle.std.specs.FinMap as finmap
 use Rattle.std.specs.FinMap.Entries.{find, is_sorted}
 use Rattle.std.specs.List.{filter, list_any}
+use Rattle.std.specs.BTreeSet.{BTreeSet}
 use Rattle.std.specs.Ordering.{eq_by_cmp}
 use Rattle.std.specs.Cmp.{Equal-is}
 use Rattle.std.proofs.lemmas.Cmp.{eq_by_cmp_equiv}
@@ -15,7 +16,7 @@ use Rattle.coda_resolve.specs.Resolution.{Objects, has_in}
 use Rattle.coda_resolve.specs.Placement.{IsIn}
 use Rattle.coda_resolve.specs.Changes.{is_among, changed}
 use Rattle.coda_resolve.specs.Views.{HeldPairs, objects_in}
-use Rattle.coda_repair.specs.Making.{or_else}
+use Rattle.coda_repair.specs.Making.{AreSame, or_else}
 use Rattle.coda_resolve.proofs.Lists.{both_ways}
 use Rattle.coda_resolve.proofs.Logged.{any_in}
 
@@ -30,6 +31,10 @@ one_test f g = both_ways (eq_by_cmp fid_cmp f g) (same_fid f g)
 any_alike : {X : Type 0} (t u : X → Bool) (xs : List X) → ((x : X) → t x ≡ u x) → list_any t xs ≡ list_any u xs
 any_alike t u [] h = refl
 any_alike t u (x ∷ xs) h = λ i. h x i || any_alike t u xs h i
+
+-- a list of what a set keeps has the fids of the set
+pub listed_same : (set : BTreeSet Fid) (fids : List Fid) → fids ≡ set.keys → AreSame set fids
+listed_same set fids is f = ap (λ fs. is_among fs f) is ∙ sym (any_alike (eq_by_cmp fid_cmp f) (same_fid f) set.keys (one_test f))
 
 -- what is among the fids is one of them
 pub among_in : (fids : List Fid) (f : Fid) → is_among fids f ≡ true → IsIn f fids
