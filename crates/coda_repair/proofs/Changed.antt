@@ -18,7 +18,6 @@ use Rattle.coda_resolve.specs.Changes.{is_among, changed}
 use Rattle.coda_resolve.specs.Views.{HeldPairs, objects_in}
 use Rattle.coda_repair.specs.Making.{AreSame, or_else}
 use Rattle.coda_resolve.proofs.Lists.{both_ways}
-use Rattle.coda_resolve.proofs.Logged.{any_in}
 
 -- ---- fids among fids
 
@@ -36,14 +35,11 @@ any_alike t u (x ∷ xs) h = λ i. h x i || any_alike t u xs h i
 pub listed_same : (set : BTreeSet Fid) (fids : List Fid) → fids ≡ set.keys → AreSame set fids
 listed_same set fids is f = ap (λ fs. is_among fs f) is ∙ sym (any_alike (eq_by_cmp fid_cmp f) (same_fid f) set.keys (one_test f))
 
--- what is among the fids is one of them
-pub among_in : (fids : List Fid) (f : Fid) → is_among fids f ≡ true → IsIn f fids
-among_in fids f e = let m = any_in (same_fid f) fids e in subst (λ x. IsIn x fids) (sym (same_fid_is f m.0 m.1.1)) m.1.0
-
 or_right : (b c : Bool) → c ≡ true → (b || c) ≡ true
 or_right true c e = refl
 or_right false c e = e
 
+-- one of the fids is among them
 pub in_among : (fids : List Fid) (f : Fid) → IsIn f fids → is_among fids f ≡ true
 in_among [] f s = absurd s
 in_among (g ∷ fids) f (inl is) = ap (λ b. b || is_among fids f) (ap (same_fid f) is ∙ same_fid_refl f)
