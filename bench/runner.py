@@ -18,6 +18,19 @@ from program import PROGRAM, ROOT, folder
 RUNS = 3
 
 
+# Begins a program and waits for it, and tells its status, its processor seconds, the seconds that passed and its most memory in MiB.
+# It is a small process, since the most memory of a program counts what the process held that began it.
+STARTER = """
+import os, sys, time
+start = time.monotonic()
+child = os.posix_spawnp(sys.argv[2], sys.argv[2:], os.environ)
+_, status, usage = os.wait4(child, 0)
+passed = time.monotonic() - start
+with open(int(sys.argv[1]), "w") as told:
+    print(status, usage.ru_utime + usage.ru_stime, passed, usage.ru_maxrss / 1024, file=told)
+"""
+
+
 class Ran(NamedTuple):
     """A run: its processor seconds, of the user and of the system, the seconds that passed, the most memory in MiB, and what it wrote."""
 
@@ -29,18 +42,20 @@ class Ran(NamedTuple):
 
 def run(words, given=b"", place=None, report=None):
     """One run of a program with this input, in a folder; its status must be 0. What it writes goes to a file, where one is given."""
+    told, tell = os.pipe()
     with tempfile.TemporaryFile() as file:
         file.write(given)
         file.seek(0)
-        start = time.monotonic()
-        child = subprocess.Popen(words, cwd=place, stdin=file, stdout=report or subprocess.PIPE)
+        starter = [sys.executable, "-S", "-c", STARTER, str(tell), *words]
+        child = subprocess.Popen(starter, cwd=place, stdin=file, stdout=report or subprocess.PIPE, pass_fds=(tell,))
+        os.close(tell)
         said = b"" if report else child.stdout.read()
-        _, status, usage = os.wait4(child.pid, 0)
-        passed = time.monotonic() - start
-    child.returncode = os.waitstatus_to_exitcode(status)
-    if child.returncode:
-        sys.exit(f"{words[0]} ended with status {child.returncode}")
-    return Ran(usage.ru_utime + usage.ru_stime, passed, usage.ru_maxrss / 1024, said)
+        child.wait()
+    with open(told, encoding="ascii") as file:
+        status, seconds, passed, memory = file.read().split()
+    if int(status):
+        sys.exit(f"{words[0]} ended with status {os.waitstatus_to_exitcode(int(status))}")
+    return Ran(float(seconds), float(passed), float(memory), said)
 
 
 # ---- programs of a benchmark's own

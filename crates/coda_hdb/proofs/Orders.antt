@@ -5,7 +5,7 @@ use Rattle.std.specs.Cmp.Lexicographic.{pointwise, same_text}
 use Rattle.std.proofs.lemmas.Bool.{and_parts, and_from, eqb-true, eq-eqb, or_right}
 use Rattle.std.proofs.lemmas.List.{length-map}
 use Rattle.std.proofs.lemmas.List.Folds.{list_any-append}
-use Rattle.coda_fid.specs.Path.{path_text}
+use Rattle.coda_fid.specs.Path.{path_text, ArePathNames}
 use Rattle.coda_fid.proofs.Paths.{names_from_text}
 use Rattle.coda_hdb.specs.declared.entry.HdbEntry.{HdbEntry}
 use Rattle.coda_hdb.specs.Database.{same_path, is_at, has_place, AreDistinct, put, without}
@@ -33,6 +33,24 @@ one_place_has_one_path a b p q = (
   λ h. names_from_text a b p.names q.names (same_texts a b h),
   λ e. texts_same a b (ap path_text e),
 )
+
+same_lists : (xs ys : List (List ℕ)) → pointwise (pointwise nat_eq) xs ys ≡ true → xs ≡ ys
+same_lists [] [] h = refl
+same_lists [] (y ∷ ys) h = absurd cc
+same_lists (x ∷ xs) [] h = absurd cc
+same_lists (x ∷ xs) (y ∷ ys) h =
+    let parts = and_parts (pointwise nat_eq x y) (pointwise (pointwise nat_eq) xs ys) h in
+    (λ i. same_text x y (sym parts.0) i ∷ same_lists xs ys parts.1 i)
+
+names_themselves : (xs : List (List ℕ)) → pointwise (pointwise nat_eq) xs xs ≡ true
+names_themselves [] = refl
+names_themselves (x ∷ xs) = and_from (pointwise nat_eq x x) (pointwise (pointwise nat_eq) xs xs) (text_itself x) (names_themselves xs)
+
+-- paths have one text just where their names are the same, one by one
+pub names_as_texts : (a b : List (List ℕ)) → ArePathNames a → ArePathNames b → pointwise (pointwise nat_eq) a b ≡ same_path a b
+names_as_texts a b p q = agree (pointwise (pointwise nat_eq) a b) (same_path a b)
+    (λ h. texts_same a b (ap path_text (same_lists a b h)))
+    (λ h. ap (λ n. pointwise (pointwise nat_eq) a n) (sym (names_from_text a b p.names q.names (same_texts a b h))) ∙ names_themselves a)
 
 at_itself : (e : HdbEntry) → is_at e.volume e.path e ≡ true
 at_itself e = and_from (e.volume == e.volume) (same_path e.path e.path) (eq-eqb e.volume e.volume refl) (text_itself (path_text e.path))

@@ -1,8 +1,9 @@
-ghost use Rattle.std.specs.Prelude.{◌≡◌, ◌≤◌, ◌⊎◌, ℕ, List, ◌↔◌, [], true, false, ◌++◌, ◌||◌, nat_lt, Some, None, length, map, IsTrue, IfOk, IfErr, OnOk, OnErr};
+ghost use Rattle.std.specs.Prelude.{◌≡◌, ◌≤◌, ℕ, List, ◌↔◌, [], true, false, ◌++◌, ◌||◌, nat_lt, None, Err, length, map, IsTrue, IfOk, IfErr, OnOk, OnErr, MatchOption};
 ghost use Rattle.std.specs.Map.{values_of};
 ghost use Rattle.coda_hdb.specs.Database.{AreDistinct, has_place, put, without, add_refusal, remove_refusal};
 ghost use Rattle.coda_hdb.specs.Kept.{AreKept, ArePlaced, IsPlaceOf};
 
+use crate::names::has_entry;
 use crate::place::place_of;
 use crate::{HdbEntry, HdbFault};
 use coda_fid::Path;
@@ -87,6 +88,35 @@ fn take_at(entries: &mut IndexMap<(u32, Vec<u8>), HdbEntry>, place: &(u32, Vec<u
     entries.shift_remove(place).is_some()
 }
 
+// Why an entry isn't added for whose place there is no memory.
+#[cold]
+#[inline(never)]
+fn why_not_added(entries: &IndexMap<(u32, Vec<u8>), HdbEntry>, entry: &HdbEntry) -> HdbFault
+    ensures { MatchOption (add_refusal (values_of entries.now.entries) entry.now) (result ≡ HdbFault.Memory) (λ why. result ≡ why) }
+{
+    if entries.len() < ENTRIES || has_entry(entries, entry.volume, &entry.path) {
+        return HdbFault::Memory;
+    }
+    HdbFault::HdbFull
+}
+
+// Why no entry is removed where there is no memory for the place of its path.
+#[cold]
+#[inline(never)]
+fn why_not_removed(
+    entries: &IndexMap<(u32, Vec<u8>), HdbEntry>,
+    volume: u32,
+    path: &Path,
+) -> HdbFault
+    ensures { MatchOption (remove_refusal (values_of entries.now.entries) volume path.now) (result ≡ HdbFault.Memory) (λ why. result ≡ why) }
+{
+    if has_entry(entries, volume, path) {
+        HdbFault::Memory
+    } else {
+        HdbFault::NoEntry
+    }
+}
+
 impl Hdb {
     /// A database without entries. It takes no memory until the first one.
     pub fn new(alloc: Global) -> Hdb
@@ -103,13 +133,16 @@ impl Hdb {
     ///
     /// # Errors
     ///
-    /// `HdbFull` where the path is new and there are 1,024 entries, and else only `Memory`. Nothing changes then.
+    /// `HdbFull` exactly where the path is new and there are 1,024 entries, whatever memory there is; and else only
+    /// `Memory`. Nothing changes then.
     pub fn add(&mut self, entry: HdbEntry) -> Result<(), HdbFault>
-        ensures causes { IfErr result (λ why. (why ≡ HdbFault.Memory) ⊎ (add_refusal self.old entry ≡ Some why)) }
+        ensures causes { MatchOption (add_refusal self.old entry) (IfErr result (λ why. why ≡ HdbFault.Memory)) (λ why. result ≡ Err why) }
         ensures ok { OnOk result ((add_refusal self.old entry ≡ None) × (self.new ≡ put self.old entry)) }
         ensures err { OnErr result (self.new ≡ self.old) }
     {
-        let place = place_of(self.alloc, entry.volume, &entry.path)?;
+        let Ok(place) = place_of(self.alloc, entry.volume, &entry.path) else {
+            return Err(why_not_added(&self.entries, &entry));
+        };
         if !has_room(&self.entries, &place) {
             return Err(HdbFault::HdbFull);
         }
@@ -121,13 +154,15 @@ impl Hdb {
     ///
     /// # Errors
     ///
-    /// `NoEntry` where there is none, and else only `Memory`. Nothing changes then.
+    /// `NoEntry` exactly where there is none, whatever memory there is; and else only `Memory`. Nothing changes then.
     pub fn remove(&mut self, volume: u32, path: &Path) -> Result<(), HdbFault>
-        ensures causes { IfErr result (λ why. (why ≡ HdbFault.Memory) ⊎ (remove_refusal self.old volume path.now ≡ Some why)) }
+        ensures causes { MatchOption (remove_refusal self.old volume path.now) (IfErr result (λ why. why ≡ HdbFault.Memory)) (λ why. result ≡ Err why) }
         ensures ok { OnOk result ((remove_refusal self.old volume path.now ≡ None) × (self.new ≡ without self.old volume path.now)) }
         ensures err { OnErr result (self.new ≡ self.old) }
     {
-        let place = place_of(self.alloc, volume, path)?;
+        let Ok(place) = place_of(self.alloc, volume, path) else {
+            return Err(why_not_removed(&self.entries, volume, path));
+        };
         if !take_at(&mut self.entries, &place) {
             return Err(HdbFault::NoEntry);
         }

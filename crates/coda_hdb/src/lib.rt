@@ -5,6 +5,7 @@ mod database;
 mod entry;
 mod fault;
 mod law;
+mod names;
 mod place;
 
 pub use database::Hdb;

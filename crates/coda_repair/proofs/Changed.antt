@@ -3,6 +3,7 @@ use Rattle.std.proofs.Common.{◌≡◌, Bool, true, false, cond, not, List, [],
 use Rattle.std.specs.FinMap as finmap
 use Rattle.std.specs.FinMap.Entries.{find, is_sorted}
 use Rattle.std.specs.List.{filter, list_any}
+use Rattle.std.specs.BTreeSet.{BTreeSet}
 use Rattle.std.specs.Ordering.{eq_by_cmp}
 use Rattle.std.specs.Cmp.{Equal-is}
 use Rattle.std.proofs.lemmas.Cmp.{eq_by_cmp_equiv}
@@ -15,9 +16,8 @@ use Rattle.coda_resolve.specs.Resolution.{Objects, has_in}
 use Rattle.coda_resolve.specs.Placement.{IsIn}
 use Rattle.coda_resolve.specs.Changes.{is_among, changed}
 use Rattle.coda_resolve.specs.Views.{HeldPairs, objects_in}
-use Rattle.coda_repair.specs.Making.{or_else}
+use Rattle.coda_repair.specs.Making.{AreSame, or_else}
 use Rattle.coda_resolve.proofs.Lists.{both_ways}
-use Rattle.coda_resolve.proofs.Logged.{any_in}
 
 -- ---- fids among fids
 
@@ -31,14 +31,15 @@ any_alike : {X : Type 0} (t u : X → Bool) (xs : List X) → ((x : X) → t x �
 any_alike t u [] h = refl
 any_alike t u (x ∷ xs) h = λ i. h x i || any_alike t u xs h i
 
--- what is among the fids is one of them
-pub among_in : (fids : List Fid) (f : Fid) → is_among fids f ≡ true → IsIn f fids
-among_in fids f e = let m = any_in (same_fid f) fids e in subst (λ x. IsIn x fids) (sym (same_fid_is f m.0 m.1.1)) m.1.0
+-- a list of what a set keeps has the fids of the set
+pub listed_same : (set : BTreeSet Fid) (fids : List Fid) → fids ≡ set.keys → AreSame set fids
+listed_same set fids is f = ap (λ fs. is_among fs f) is ∙ sym (any_alike (eq_by_cmp fid_cmp f) (same_fid f) set.keys (one_test f))
 
 or_right : (b c : Bool) → c ≡ true → (b || c) ≡ true
 or_right true c e = refl
 or_right false c e = e
 
+-- one of the fids is among them
 pub in_among : (fids : List Fid) (f : Fid) → IsIn f fids → is_among fids f ≡ true
 in_among [] f s = absurd s
 in_among (g ∷ fids) f (inl is) = ap (λ b. b || is_among fids f) (ap (same_fid f) is ∙ same_fid_refl f)

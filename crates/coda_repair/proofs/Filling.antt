@@ -2,8 +2,7 @@
 use Rattle.std.proofs.Common.{◌≡◌, ◌<◌, ℕ, suc, ◌+◌, Bool, true, false, cond, not, List, [], ◌∷◌, ◌++◌, Option, Some, None, take, length, get_or, map, refl, sym, ap, ◌∙◌, subst, ◌||◌, ◌&&◌, ◌⊎◌, inl, inr, ⊎_elim, arith}
 use Rattle.std.specs.Option.{option_map}
 use Rattle.std.specs.FinMap as finmap
-use Rattle.std.specs.BTreeMap.{BTreeMap, get, Updates, is_at}
-use Rattle.std.specs.Map.{lookup}
+use Rattle.std.specs.BTreeMap.{BTreeMap, Updates}
 use Rattle.std.proofs.Math.Seq.{take-suc}
 use Rattle.std.proofs.lemmas.Bool.{true≢false}
 use Rattle.std.proofs.lemmas.List.{map-append}
@@ -76,40 +75,7 @@ module _ (source : ℕ) (copies : Fid → Copies) (right : Objects) (fids : List
       by g false e false h false = ap (λ b. cond b (Some put) None) e ∙ ap (λ b. cond b (put_at source copies right g) None) (sym h)
       by g false e true h false = absurd (true≢false (sym (subst (λ x. same_fid f x ≡ true) (sym (same_fid_is g f h)) (same_fid_refl f)) ∙ e))
 
-pub none_put : (source : ℕ) (copies : Fid → Copies) (right : Objects) (held : BTreeMap Fid Held) → held.entries ≡ [] → ArePut source copies right [] held
-none_put source copies right held e = record {
-  put = λ g. ap (λ es. lookup (is_at (fid_cmp g)) es) e;
-  wide = λ g was h is. absurd (true≢false (sym h));
-}
-
 -- ---- what loses
-
--- nothing comes in place of what is below
-pub spare_below : (held : BTreeMap Fid Held) (below : Bool) (f g : Fid) (other : Option Held) → below ≡ true → get fid_cmp held g ≡ or_else (cond (same_fid f g && not below) other None) (get fid_cmp held g)
-spare_below held below f g other e = by (same_fid f g) ∙ ap (λ b. or_else (cond (same_fid f g && not b) other None) (get fid_cmp held g)) (sym e)
-  where
-    by : (s : Bool) → get fid_cmp held g ≡ or_else (cond (s && false) other None) (get fid_cmp held g)
-    by true = refl
-    by false = refl
-
--- nor of what loses nothing
-pub spare_none : (held : BTreeMap Fid Held) (below : Bool) (f g : Fid) (spare : Option Held) → spare ≡ None → get fid_cmp held g ≡ or_else (cond (same_fid f g && not below) spare None) (get fid_cmp held g)
-spare_none held below f g spare e = by (same_fid f g && not below) ∙ ap (λ o. or_else (cond (same_fid f g && not below) o None) (get fid_cmp held g)) (sym e)
-  where
-    by : (s : Bool) → get fid_cmp held g ≡ or_else (cond s None None) (get fid_cmp held g)
-    by true = refl
-    by false = refl
-
-pub spare_some : (held new : BTreeMap Fid Held) (below : Bool) (f g : Fid) (spare : Option Held) (put : Held) → below ≡ false → spare ≡ Some put → Updates fid_cmp held new f (Some put) → get fid_cmp new g ≡ or_else (cond (same_fid f g && not below) spare None) (get fid_cmp held g)
-spare_some held new below f g spare put b e updates =
-    updates.0 g
-    ∙ ap (λ t. cond t (Some put) (get fid_cmp held g)) (one_test f g)
-    ∙ by (same_fid f g)
-    ∙ (λ i. or_else (cond (same_fid f g && not (sym b i)) (sym e i) None) (get fid_cmp held g))
-  where
-    by : (s : Bool) → cond s (Some put) (get fid_cmp held g) ≡ or_else (cond (s && true) (Some put) None) (get fid_cmp held g)
-    by true = refl
-    by false = refl
 
 module _ (subtree below : Fid → Bool) (top : Fid) (view : Objects) where
   or_twice : {X : Type 0} (a b : Option X) → or_else a (or_else a b) ≡ or_else a b

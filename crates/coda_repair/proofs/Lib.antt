@@ -1,7 +1,5 @@
 mod Lookups
 mod Changed
-mod Stack
-mod Reaching
 mod Vectors
 mod Ways
 mod Filling

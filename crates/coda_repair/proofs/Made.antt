@@ -19,7 +19,7 @@ use Rattle.coda_resolve.specs.Views.{HeldPairs, objects_in, objects_of, replicas
 use Rattle.coda_repair.specs.Making.{AreSame, ArePut, put_at, spare_at, or_else}
 use Rattle.coda_resolve.specs.Renewals.{changes_of}
 use Rattle.coda_repair.specs.Repaired.{IsReplicaRepair}
-use Rattle.coda_repair.proofs.Lookups.{keys_in_order}
+use Rattle.coda_resolve.proofs.Sorted.{keys_in_order}
 use Rattle.coda_repair.proofs.Parts.{part_is}
 use Rattle.coda_repair.proofs.Repairs.{below_is, in_copies, zip_more}
 use Rattle.coda_repair.proofs.Ways.{take_more}

@@ -151,9 +151,6 @@ module _ (subtree below : Fid → Bool) (top : Fid) (source : ℕ) (copies : Fid
   kept_or_gone : (f : Fid) → IsIn f (finmap.keys view) → (below f && not (subtree f)) ≡ not (has_in (changed view change) f)
   kept_or_gone f there = by (below f) (subtree f) (finmap.get view f) refl refl refl (sym (keys_has view f) ∙ in_among (finmap.keys view) f there)
     where
-      some_spared : (held : Held) (k : NodeKind) → is_some (spared subtree top (Some held)) ≡ true
-      some_spared held k = refl
-
       inside : (mine new : Option Held) → finmap.get view f ≡ mine → new_at f ≡ new → subtree f ≡ true → below f ≡ true → is_some mine ≡ true → has_in (changed view change) f ≡ true
       inside None new em en es eb h = absurd (true≢false (sym h))
       inside (Some old) None em en es eb h = ap is_some (after_by f true true (Some old) None eb es em en)

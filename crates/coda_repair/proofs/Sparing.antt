@@ -18,13 +18,13 @@ use Rattle.coda_tree.proofs.MapEntries.{get_entry}
 use Rattle.coda_reslog.specs.declared.change.Held.{Held}
 use Rattle.coda_resolve.specs.Copies.{bindings_of}
 use Rattle.coda_resolve.specs.Placement.{IsIn}
+use Rattle.coda_resolve.proofs.Collected.{one_more}
 use Rattle.coda_resolve.proofs.Lists.{some_none, both_ways}
 use Rattle.coda_resolve.proofs.Logged.{any_in, in_any}
 use Rattle.coda_resolve.proofs.MergedNames.{any_append}
 use Rattle.coda_resolve.proofs.Once.{entry_in}
 use Rattle.coda_lineage.specs.Repairs.{is_taken, others_of, binds_one, spared_by}
 use Rattle.coda_repair.specs.Making.{kind_loses}
-use Rattle.coda_repair.proofs.Stack.{one_more}
 
 module _ (subtree : Fid → Bool) (top : Fid) where
   pub get_others : (m : Bindings) (n : Name) → finmap.get (others_of subtree top m) n ≡ cond (not (is_taken subtree top (finmap.get m n))) (finmap.get m n) None

@@ -1,5 +1,5 @@
 -- Where names lead.
-use Rattle.std.proofs.Common.{◌≡◌, ℕ, ◌<◌, ◌+◌, suc, true, List, [], ◌∷◌, ◌++◌, Option, Some, None, is_some, Bor, option_copied, take, length, get_or, sym, ap, ◌∙◌, subst, arith}
+use Rattle.std.proofs.Common.{◌≡◌, ℕ, ◌<◌, ◌+◌, suc, List, [], ◌∷◌, ◌++◌, Option, Some, None, is_some, Bor, option_copied, take, length, get_or, sym, ap, ◌∙◌, subst, arith}
 use Rattle.std.specs.FinMap as finmap
 use Rattle.std.specs.List.{AllByRecursion}
 use Rattle.std.proofs.Math.Seq.{take-suc}
@@ -17,7 +17,7 @@ use Rattle.coda_resolve.specs.Resolution.{Objects, has_in, child_in}
 use Rattle.coda_resolve.specs.Views.{objects_of}
 use Rattle.coda_resolve.proofs.Lists.{some_none}
 use Rattle.coda_lineage.specs.Repairs.{LeadsAlike}
-use Rattle.coda_repair.specs.Finding.{view_of, objects_from, held_by, walked, IsWay, IsFound}
+use Rattle.coda_repair.specs.Finding.{view_of, objects_from, held_by, walked, IsFound}
 
 pub some_same : {X : Type 0} (x y : X) → Some x ≡ Some y → x ≡ y
 some_same x y e = cc
@@ -51,14 +51,6 @@ found_walked (view ∷ views) from root names top right e found =
 pub none_found : (views : List View) (from : ℕ) (root : Fid) (names : List Name) (top : Fid) → view_of views from ≡ None → IsFound views from root names top → ⊥
 none_found views from root names top e found =
     true≢false (sym found.there ∙ ap (λ o. has_in (objects_from o) top) e ∙ ap is_some (finmap.get-empty fid_cmp top))
-
-pub found_from : (views : List View) (from : ℕ) (root : Fid) (names : List Name) (top : Fid) (right : View) → view_of views from ≡ Some right → has_in (objects_of right) top ≡ true → AllByRecursion (IsWay (objects_of right) from root names top) views → IsFound views from root names top
-found_from views from root names top right e there ways =
-    let same : objects_of right ≡ held_by views from = ap objects_from (sym e) in
-    record {
-      there = subst (λ o. has_in o top ≡ true) same there;
-      ways = subst (λ o. AllByRecursion (IsWay o from root names top) views) same ways;
-    }
 
 -- ---- room
 

@@ -12,12 +12,11 @@ use Rattle.coda_tree.specs.declared.node.NodeKind.TheVariants.{File, Link, Dir}
 use Rattle.coda_reslog.specs.declared.change.Held.{Held}
 use Rattle.coda_tree.specs.Bindings.{Name, Bindings}
 use Rattle.coda_record.specs.declared.view.View.{View}
-use Rattle.coda_resolve.specs.Copies.{Copies, bindings_of}
+use Rattle.coda_resolve.specs.Copies.{Copies}
 use Rattle.coda_resolve.specs.Merged.{updates_of}
 use Rattle.coda_resolve.specs.Resolution.{Objects, copies_at}
 use Rattle.coda_resolve.specs.Changes.{is_among}
 use Rattle.coda_resolve.specs.Counted.{has_fid}
-use Rattle.coda_resolve.specs.Reached.{IsSearch}
 use Rattle.coda_resolve.specs.Views.{HeldPairs, objects_of, replicas_of}
 use Rattle.coda_lineage.specs.Repairs.{repaired, is_taken, binds_one, spared_by}
 
@@ -104,14 +103,3 @@ with_bindings held entries = record held { node = record held.node { kind = Dir 
 abbrev pub left_out : (Fid → Bool) → Fid → Name → Fid → Bindings → Bindings
 left_out subtree top name fid entries =
     cond (is_taken subtree top (Some fid)) (finmap.remove entries name) entries
-
--- ---- a search
-
--- what a copy binds, in the order of names
-abbrev pub values_of : Option Held → List Fid
-values_of copy = finmap.values (bindings_of copy)
-
--- a search of what a view binds goes on
-abbrev pub GoesOn : View → BTreeSet Fid → List Fid → BTreeSet Fid → List Fid → Type 0
-GoesOn view old before new after = (starts : List Fid) → IsSearch (objects_of view) starts old before
-    → IsSearch (objects_of view) starts new after

@@ -13,10 +13,11 @@ ghost use Rattle.coda_resolve.specs.Views.{objects_of, AreInOrder};
 ghost use Rattle.coda_lineage.specs.Repairs.{LeadsAlike};
 ghost use Rattle.coda_repair.specs.Finding.{IsSortedView, view_of, walked, HasRoom, HaveRoom, IsClear, IsWay, IsFound};
 
-use crate::lookup::{child_in, held_in};
+use crate::lookup::child_in;
 use coda_fid::{Fid, Name};
 use coda_record::View;
 use coda_reslog::Held;
+use coda_resolve::held_in;
 use coda_vv::Vv;
 
 /// So many updates of a server are too many for one more.

@@ -18,13 +18,13 @@ ghost use Rattle.coda_repair.specs.Finding.{HaveRoom};
 ghost use Rattle.coda_repair.specs.Making.{AreSame, ArePutFrom, PutsOne, SparesOne, SparesAll, gone_of};
 ghost use Rattle.coda_repair.specs.Repaired.{changed_servers, servers_of, AreChangesOf, IsChangeOf};
 
-use crate::lookup::held_in;
-use crate::reach::{Reach, below};
+use crate::reach::Reach;
 use crate::spare::loser;
 use crate::updates::repaired;
 use coda_fid::Fid;
 use coda_record::View;
 use coda_reslog::{Change, Fids, Held, HeldObjects};
+use coda_resolve::{below, held_in};
 use std::alloc::{AllocError, Global};
 use std::collections::{BTreeMap, BTreeSet};
 
@@ -172,8 +172,8 @@ fn change_of(
 {
     let below = below(alloc, view, &subtree.fids)?;
     let mut held = put(alloc, views, right, from, &subtree.fids)?;
-    spare(&mut held, view, &subtree.set, &below.set, top)?;
-    let gone = gone(alloc, view, &subtree.set, &below.set)?;
+    spare(&mut held, view, &subtree.set, &below, top)?;
+    let gone = gone(alloc, view, &subtree.set, &below)?;
     let held = in_order(alloc, held)?;
     Ok(Change {
         held,

@@ -12,7 +12,7 @@ ghost use Rattle.coda_repair.specs.Repaired.{changed_servers, servers_of, AreRep
 
 use crate::finding::{found, is_marked, view_of};
 use crate::part::changes_of;
-use crate::reach::below;
+use crate::reach::subtree;
 use coda_fid::{Fid, Path};
 use coda_record::View;
 use coda_reslog::Change;
@@ -118,7 +118,7 @@ fn repairs(
     ensures servers { IfOk result (λ changes. changed_servers changes ≡ servers_of views.now) }
     ensures changes { IfOk result (λ changes. AreRepairsOf views.now from (objects_of right.now) top changes) }
 {
-    let subtree = below(alloc, right, &[top])?;
+    let subtree = subtree(alloc, right, top)?;
     let items = changes_of(alloc, views, right, from, &subtree, top)?;
     Ok(Changes { items })
 }

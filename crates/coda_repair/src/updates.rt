@@ -11,10 +11,10 @@ ghost use Rattle.coda_lineage.specs.Repairs.{repaired};
 ghost use Rattle.coda_repair.specs.Finding.{HaveRoom};
 ghost use Rattle.coda_repair.specs.Making.{IsWide};
 
-use crate::lookup::held_in;
 use coda_fid::Fid;
 use coda_record::View;
 use coda_reslog::{Held, Ring};
+use coda_resolve::held_in;
 use coda_tree::Node;
 use coda_vv::Vv;
 use std::alloc::{AllocError, Global};

@@ -16,7 +16,7 @@ mod Complete
 mod Single
 pub mod Leaders
 pub mod Settled
-mod Collected
+pub mod Collected
 mod Stamped
 mod Gaps
 mod Followed
@@ -25,7 +25,7 @@ mod Led
 mod LeastNames
 mod Rebound
 mod Counts
-mod Sorted
+pub mod Sorted
 mod Stack
 mod Marking
 mod Changed

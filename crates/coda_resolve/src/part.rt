@@ -16,9 +16,9 @@ ghost use Rattle.coda_resolve.specs.Survey.{ArePlain, AreOthersBut};
 ghost use Rattle.coda_resolve.specs.Taken.{fids_of, AreFates};
 ghost use Rattle.coda_resolve.specs.Views.{objects_in, objects_of, replicas_of, AreInOrder};
 
-use crate::below::below;
 use crate::fate::Fate;
 use crate::hints::{Hints, met_at, place};
+use crate::reached::below;
 use crate::renewal::{Renewal, renewal_of};
 use crate::view::held_near;
 use crate::walking::{Survey, Taken};

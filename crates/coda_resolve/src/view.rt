@@ -99,8 +99,10 @@ pub(crate) fn held_near(items: &[(Fid, Held)], fid: Fid, near: usize) -> Option<
     }
 }
 
-// What is held of the object.
-pub(crate) fn held_in(items: &[(Fid, Held)], fid: Fid) -> Option<&Held>
+/// What is held of the object, which is looked up by halves.
+///
+/// The objects are in increasing order of fids.
+pub fn held_in(items: &[(Fid, Held)], fid: Fid) -> Option<&Held>
     requires { is_sorted fid_cmp items.now ≡ true }
     ensures { option_copied result ≡ finmap.get (objects_in items.now) fid }
 {

@@ -13,9 +13,9 @@ returns c = λ inview.
     let right = objects_of c.args.right.now in
     let view = objects_of c.args.view.now in
     let change : Change = record { held = c.in_ok-held-2.held; gone = c.from_vec.result } in
-    change_is views right c.args.view.now.held c.args.from c.args.top c.args.subtree.now.set c.in_ok-below.below.set c.args.subtree.now.fids.items c.in_ok-held.held c.spare.new.held change
+    change_is views right c.args.view.now.held c.args.from c.args.top c.args.subtree.now.set c.in_ok-below.below c.args.subtree.now.fids.items c.in_ok-held.held c.spare.new.held change
     c.requires.from_one c.requires.to_eight c.requires.own c.requires.same
-    (subst (λ fids. AreReached view fids c.in_ok-below.below.set) c.deref.ensures.value c.in_ok-below.ensures.reached)
+    (subst (λ fids. AreReached view fids c.in_ok-below.below) c.deref.ensures.value c.in_ok-below.ensures)
     (subst (λ fids. ArePut c.args.from (copies_at views) right fids c.in_ok-held.held) c.deref-2.ensures.value c.in_ok-held.ensures)
     c.in_ok-spare.ensures c.in_ok-held-2.ensures.sorted c.in_ok-held-2.ensures.same
     (c.from_vec.ensures ∙ c.in_ok-gone.ensures) inview

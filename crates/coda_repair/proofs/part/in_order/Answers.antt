@@ -5,7 +5,7 @@ use Rattle.std.proofs.lemmas.Map.Iter.{iter_end}
 use Rattle.coda_fid.specs.Fid.{fid_cmp}
 use Rattle.coda_fid.specs.declared.fid.Fid.{Fid}
 use Rattle.coda_reslog.specs.declared.change.Held.{Held}
-use Rattle.coda_repair.proofs.Lookups.{sorted_entries, entries_hold}
+use Rattle.coda_resolve.proofs.Sorted.{sorted_entries, entries_hold}
 use Rattle.coda_repair.proofs.part.in_order.Goals as goal
 
 pub returns-clause-sorted : goal.returns-clause-sorted

@@ -53,8 +53,15 @@ fn visit(
     Ok(stack)
 }
 
-// These objects, and all that the view binds below them.
-pub(crate) fn below(alloc: Global, view: &View, starts: &[Fid]) -> Result<BTreeSet<Fid>, AllocError>
+/// These objects, and all that the view binds below them.
+///
+/// The view has its objects in increasing order of fids. Each object is looked at once, and the search keeps a stack of
+/// its own.
+///
+/// # Errors
+///
+/// There is no memory.
+pub fn below(alloc: Global, view: &View, starts: &[Fid]) -> Result<BTreeSet<Fid>, AllocError>
     requires { is_sorted fid_cmp view.now.held ≡ true }
     ensures { IfOk result (λ set. AreReached (objects_of view.now) starts.now set) }
 {

@@ -3,7 +3,7 @@ use Rattle.std.proofs.lemmas.List.{append-nil}
 use Rattle.coda_resolve.specs.Views.{objects_of}
 use Rattle.coda_resolve.proofs.Reaching.{searched_none, searched_all}
 use Rattle.coda_resolve.proofs.Stack.{no_items}
-use Rattle.coda_resolve.proofs.below.below.Goals as goal
+use Rattle.coda_resolve.proofs.reached.below.Goals as goal
 
 pub loop-init : goal.loop-init
 loop-init c = searched_none (objects_of c.args.view.now) c.args.starts.now c.new-seen.result (reverse c.in_ok-stack.stack.items) c.new-seen.ensures.empty (c.in_ok-stack.ensures ∙ ap (λ l. c.args.starts.now ++ reverse l) c.new.ensures.items ∙ append-nil c.args.starts.now)

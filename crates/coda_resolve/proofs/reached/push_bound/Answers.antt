@@ -1,6 +1,6 @@
 use Rattle.std.proofs.Common.{sym, ap, ◌++◌, reverse}
-use Rattle.coda_repair.proofs.Stack.{absent_values, file_values, link_values}
-use Rattle.coda_repair.proofs.reach.push_bound.Goals as goal
+use Rattle.coda_resolve.proofs.Stack.{absent_values, file_values, link_values}
+use Rattle.coda_resolve.proofs.reached.push_bound.Goals as goal
 
 pub returns-in_default : goal.returns-in_default
 returns-in_default c = ap (λ fids. fids ++ reverse c.args.stack.items) (sym (absent_values c.args.copy c.in_default.is))

@@ -3,7 +3,7 @@ use Rattle.std.specs.FinMap as finmap
 use Rattle.coda_resolve.specs.Copies.{bindings_of}
 use Rattle.coda_resolve.specs.Views.{objects_in, objects_of}
 use Rattle.coda_resolve.proofs.Reaching.{visited_again, visited_first}
-use Rattle.coda_resolve.proofs.below.visit.Goals as goal
+use Rattle.coda_resolve.proofs.reached.visit.Goals as goal
 
 pub returns-then-not-branch : goal.returns-then-not-branch
 returns-then-not-branch c = λ starts search. visited_again (objects_of c.args.view.now) starts c.args.seen.now c.insert.new.self c.args.fid (reverse c.args.stack.items) search c.in_ok-insert.ensures.updates (sym c.in_ok-insert.ensures.added ∙ c.if-not-branch.true)
