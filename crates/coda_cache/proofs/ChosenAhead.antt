@@ -111,7 +111,7 @@ module _ (c : CacheState) (client : ℕ) (rec : Record) (n : CacheState) (p : Pr
         | false ↦ λ _. refl
       ]) refl
 
-  uncached : (g : Fid) → is_listed n.recency g ≡ false → blocks_at n g ≡ 0
+  pub uncached : (g : Fid) → is_listed n.recency g ≡ false → blocks_at n g ≡ 0
   uncached g free = no_blocks n g (sym (is.agree.used g) ∙ free)
 
   -- the blocks that are pinned then, by a set

@@ -30,3 +30,4 @@ pub mod Afterwards
 pub mod Spared
 pub mod Sized
 pub mod ChosenAhead
+pub mod Grown

@@ -497,6 +497,20 @@ impl Cache {
         }
     }
 
+    // Whether there is room for an operation beside all that is cached, so that nobody goes for it.
+    fn has_room_after(&self, prospect: &Prospect, rec: &Record) -> Result<bool, AllocError>
+        ensures { (client : ℕ) (n : CacheState) (looked_up : List Fid) → Foresees self.now client rec.now n prospect.now → IfOk result (λ b. OnTrue b (evicted_between self.now n looked_up ≡ Ok [])) }
+    {
+        self.contents.agree();
+        match self.queued.blocks() {
+            Some(total) => {
+                let more = self.contents.growth(prospect, rec)?;
+                Ok(room::fits(self.contents.size(), total, more))
+            }
+            None => Ok(false),
+        }
+    }
+
     // Who goes for an operation by what is known ahead of it, or how many blocks are pinned once it is made and how many more are
     // needed where these don't fit. Fails for want of memory alone.
     fn going_after(
@@ -507,6 +521,9 @@ impl Cache {
     ) -> Result<Result<Vec<Fid>, (u64, u64)>, AllocError>
         ensures { (client : ℕ) (n : CacheState) → Foresees self.now client rec.now n prospect.now → IfOk result (λ r. MatchResult r (λ v. evicted_between self.now n looked_up.now ≡ Ok v.items) (λ e. evicted_between self.now n looked_up.now ≡ Err (CacheFull e.0 e.1 self.now.size))) }
     {
+        if self.has_room_after(prospect, rec)? {
+            return Ok(Ok(Vec::new(self.contents.alloc())));
+        }
         match self.chosen_after(prospect, rec, looked_up)? {
             Some(gone) => Ok(gone),
             None => self.contents.going_ahead(prospect, rec, looked_up),

@@ -11,6 +11,7 @@ mod contents;
 mod descending;
 mod evicting;
 mod fault;
+mod growing;
 mod hold;
 mod holds;
 mod law;
