@@ -511,8 +511,8 @@ impl Cache {
         }
     }
 
-    // Who goes for an operation by what is known ahead of it, or how many blocks are pinned once it is made and how many more are
-    // needed where these don't fit. Fails for want of memory alone.
+    // Who goes for an operation by what is known ahead of it, or how many blocks are pinned once it is made and how many
+    // more are needed where these don't fit. Fails for want of memory alone.
     fn going_after(
         &self,
         prospect: &Prospect,

@@ -192,9 +192,9 @@ impl Contents {
         Ok(fids)
     }
 
-    // Who goes for an operation, or how many blocks are pinned once it is made and how many more are needed where these don't
-    // fit, found by a queue of the cached nodes and a set of the dirty ones. It isn't found so where one that stays stands under
-    // one that doesn't, or the operation changes one that doesn't.
+    // Who goes for an operation, or how many blocks are pinned once it is made and how many more are needed where these
+    // don't fit, found by a queue of the cached nodes and a set of the dirty ones. It isn't found so where one that stays
+    // stands under one that doesn't, or the operation changes one that doesn't.
     pub(crate) fn chosen_ahead(
         &self,
         queue: &Queue,
