@@ -40,7 +40,7 @@ blocks_joined : (l : List Item) (k : List Item) → blocks_of (l ++ k) ≡ block
 blocks_joined [] k = omega arith
 blocks_joined (i ∷ l) k = let rest = blocks_joined l k in omega (arith, rest)
 
-filter_map_is : (a : Fid → Item) (test : Item → Bool) (fids : List Fid) → filter test (prelude.map a fids) ≡ prelude.map a (filter (λ g. test (a g)) fids)
+pub filter_map_is : (a : Fid → Item) (test : Item → Bool) (fids : List Fid) → filter test (prelude.map a fids) ≡ prelude.map a (filter (λ g. test (a g)) fids)
 filter_map_is a test [] = refl
 filter_map_is a test (g ∷ fids) = elim (test (a g)) as (λ b. cond b (a g ∷ filter test (prelude.map a fids)) (filter test (prelude.map a fids)) ≡ prelude.map a (cond b (g ∷ filter (λ g. test (a g)) fids) (filter (λ g. test (a g)) fids))) [
   | true ↦ ap (λ l. a g ∷ l) (filter_map_is a test fids)

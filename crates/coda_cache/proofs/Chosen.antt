@@ -32,16 +32,16 @@ use Rattle.coda_cache.proofs.Uses.{same_turned}
 
 -- ---- who is dirty, and who is pinned
 
-bool_both : (a b : Bool) → (a ≡ true → b ≡ true) → (b ≡ true → a ≡ true) → a ≡ b
+pub bool_both : (a b : Bool) → (a ≡ true → b ≡ true) → (b ≡ true → a ≡ true) → a ≡ b
 bool_both true b there back = sym (there refl)
 bool_both false true there back = back refl
 bool_both false false there back = refl
 
-both_parts : (a b : Bool) → (a && b) ≡ true → (a ≡ true) × (b ≡ true)
+pub both_parts : (a b : Bool) → (a && b) ≡ true → (a ≡ true) × (b ≡ true)
 both_parts true b h = (refl, h)
 both_parts false b h = absurd (both_ways _ refl h)
 
-any_listed : (test : Fid → Bool) (fids : List Fid) (d : Fid) → is_listed fids d ≡ true → test d ≡ true → list_any test fids ≡ true
+pub any_listed : (test : Fid → Bool) (fids : List Fid) (d : Fid) → is_listed fids d ≡ true → test d ≡ true → list_any test fids ≡ true
 any_listed test [] d listed t = absurd (both_ways _ refl listed)
 any_listed test (g ∷ fids) d listed t = (elim (same_fid g d) as (λ b. same_fid g d ≡ b → (b || is_listed fids d) ≡ true → (test g || list_any test fids) ≡ true) [
   | true ↦ λ e _. ap (λ b. b || list_any test fids) (ap test (same_fid_is g d e) ∙ t)
@@ -52,7 +52,7 @@ any_listed test (g ∷ fids) d listed t = (elim (same_fid g d) as (λ b. same_fi
     or_later true x h = refl
     or_later false x h = h
 
-any_from : (test : Fid → Bool) (fids : List Fid) → list_any test fids ≡ true → (d : Fid) × (is_listed fids d ≡ true) × (test d ≡ true)
+pub any_from : (test : Fid → Bool) (fids : List Fid) → list_any test fids ≡ true → (d : Fid) × (is_listed fids d ≡ true) × (test d ≡ true)
 any_from test [] h = absurd (both_ways _ refl h)
 any_from test (g ∷ fids) h = (elim (test g) as (λ b. test g ≡ b → (b || list_any test fids) ≡ true → (d : Fid) × (is_listed (g ∷ fids) d ≡ true) × (test d ≡ true)) [
   | true ↦ λ t _. (g, ap (λ b. b || is_listed fids g) (same_fid_refl g), t)
@@ -63,7 +63,7 @@ any_from test (g ∷ fids) h = (elim (test g) as (λ b. test g ≡ b → (b || l
     or_later true x h = refl
     or_later false x h = h
 
-dirty_used : (c : CacheState) → Agree c.nodes c.holds c.recency → (d : Fid) → is_dirty c d ≡ true → is_listed c.recency d ≡ true
+pub dirty_used : (c : CacheState) → Agree c.nodes c.holds c.recency → (d : Fid) → is_dirty c d ≡ true → is_listed c.recency d ≡ true
 dirty_used c a d is = a.used d ∙ sym (a.held d) ∙ go (map.get c.holds d) is
   where
     go : (o : Option Hold) → option_map_or (λ (hold : Hold). hold.dirty) o false ≡ true → is_some o ≡ true
@@ -87,11 +87,11 @@ pinned_by_dirty c a dirty are f =
 pub fresh_queue : (q : Queue) (c : CacheState) → IsQueueOf q (standings c) → AreFresh c.recency
 fresh_queue q c is = fresh_items (used_at (place_in q.places)) (standing_of c) (λ g. refl) c.recency is.queued.rises
 
-beside_sum : (c : CacheState) (test : Fid → Bool) (fids : List Fid) → blocks_beside c test fids ≡ sum_on (λ g. cond (test g) 0 (item_of c g).blocks) fids
+pub beside_sum : (c : CacheState) (test : Fid → Bool) (fids : List Fid) → blocks_beside c test fids ≡ sum_on (λ g. cond (test g) 0 (item_of c g).blocks) fids
 beside_sum c test [] = refl
 beside_sum c test (g ∷ fids) = ap (λ n. cond (test g) 0 (blocks_at c g) + n) (beside_sum c test fids)
 
-no_blocks : (c : CacheState) (g : Fid) → is_cached c g ≡ false → blocks_at c g ≡ 0
+pub no_blocks : (c : CacheState) (g : Fid) → is_cached c g ≡ false → blocks_at c g ≡ 0
 no_blocks c g free = go (map.get c.nodes g) free
   where
     go : (o : Option Node) → is_some o ≡ false → option_map_or (λ (node : Node). blocks.blocks_of node.kind) o 0 ≡ 0

@@ -144,7 +144,7 @@ dir_cached : (m : Nodes) (d : Fid) → IsDirAt m d → has m d ≡ true
 dir_cached m d is = ap (λ (o : Option Node). is_some o) (dir_node m d is).1
 
 -- what a creation asks for
-creates : (m : Nodes) (op : Op) (dir fid : Fid) → new_node op ≡ Some (dir, fid) → MayApply m op → (has m dir ≡ true) × (has m fid ≡ false)
+pub creates : (m : Nodes) (op : Op) (dir fid : Fid) → new_node op ≡ Some (dir, fid) → MayApply m op → (has m dir ≡ true) × (has m fid ≡ false)
 creates m (Create d name f mode owner) dir fid is may = subst (λ (p : Fid × Fid). (has m p.0 ≡ true) × (has m p.1 ≡ false)) (same_Some _ _ is) (dir_cached m d may.dir_there, ap (λ (o : Option Node). is_some o) may.fid_free)
 creates m (Mkdir d name f mode owner) dir fid is may = subst (λ (p : Fid × Fid). (has m p.0 ≡ true) × (has m p.1 ≡ false)) (same_Some _ _ is) (dir_cached m d may.dir_there, ap (λ (o : Option Node). is_some o) may.fid_free)
 creates m (Symlink d name f target mode owner) dir fid is may = subst (λ (p : Fid × Fid). (has m p.0 ≡ true) × (has m p.1 ≡ false)) (same_Some _ _ is) (dir_cached m d may.dir_there, ap (λ (o : Option Node). is_some o) may.fid_free)

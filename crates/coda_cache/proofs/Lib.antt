@@ -24,3 +24,10 @@ pub mod Covered
 pub mod Down
 pub mod Under
 pub mod ByUse
+pub mod Lens
+pub mod Foreseen
+pub mod Afterwards
+pub mod Spared
+pub mod Sized
+pub mod ChosenAhead
+pub mod Grown

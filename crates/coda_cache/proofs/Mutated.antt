@@ -78,7 +78,7 @@ off_at m time client number (Rename from_dir from to_dir to fid (Some over)) g f
     let three = off_first fid (over.fid ∷ []) g two.1 in
     off_bound (unbound (map.remove m over.fid) from_dir from) to_dir to fid g two.0 ∙ off_unbound (map.remove m over.fid) from_dir from g one.0 ∙ gone_else fids_total exact_fids m over.fid g (off_first over.fid [] g three.1).0
 
-off_applied : (m : Nodes) (client : ℕ) (rec : Record) (g : Fid) → is_listed (fids_of rec.op) g ≡ false → map.get (applied m client rec) g ≡ map.get m g
+pub off_applied : (m : Nodes) (client : ℕ) (rec : Record) (g : Fid) → is_listed (fids_of rec.op) g ≡ false → map.get (applied m client rec) g ≡ map.get m g
 unfolding applied
 off_applied m client rec g free = off_at m rec.time client rec.number rec.op g free
 

@@ -35,7 +35,7 @@ use Rattle.coda_cache.proofs.Operated.{self_on_way}
 
 -- ---- items that a function of fids gives
 
-among_map : (item : Fid → Item) (fids : List Fid) (i : Item) → Among i (prelude.map item fids) → (g : Fid) × (is_listed fids g ≡ true) × (item g ≡ i)
+pub among_map : (item : Fid → Item) (fids : List Fid) (i : Item) → Among i (prelude.map item fids) → (g : Fid) × (is_listed fids g ≡ true) × (item g ≡ i)
 among_map item [] i h = absurd h
 among_map item (g ∷ fids) i (inl same) = (g, ap (λ b. b || is_listed fids g) (same_fid_refl g), same)
 among_map item (g ∷ fids) i (inr later) = let rest = among_map item fids i later in (rest.0, or_later (same_fid g rest.0) (is_listed fids rest.0) rest.1, rest.2)
@@ -60,7 +60,7 @@ module _ (fids : List Fid) (item : Fid → Item) (kept : List Fid) (size : ℕ) 
   at_its_fid : (i : Item) → Among i (prelude.map item fids) → item i.fid ≡ i
   at_its_fid i h = let at = among_map item fids i h in ap item (ap (λ (j : Item). j.fid) (sym at.2) ∙ fid_is at.0) ∙ at.2
 
-  makes_room : MakesRoom size kept (prelude.map item fids)
+  pub makes_room : MakesRoom size kept (prelude.map item fids)
   makes_room = record {
     once = λ i j h l same. sym (at_its_fid i h) ∙ ap item same ∙ at_its_fid j l;
     depth = depth;
@@ -73,15 +73,15 @@ module _ (fids : List Fid) (item : Fid → Item) (kept : List Fid) (size : ℕ) 
 
 -- ---- what is above what is on a way is on it
 
-or_true : (a b : Bool) → (a || b) ≡ true → (a ≡ true) ⊎ (b ≡ true)
+pub or_true : (a b : Bool) → (a || b) ≡ true → (a ≡ true) ⊎ (b ≡ true)
 or_true true b h = inl refl
 or_true false b h = inr h
 
-or_second : (a b : Bool) → b ≡ true → (a || b) ≡ true
+pub or_second : (a b : Bool) → b ≡ true → (a || b) ≡ true
 or_second true b h = refl
 or_second false b h = h
 
-or_first : (a b : Bool) → a ≡ true → (a || b) ≡ true
+pub or_first : (a b : Bool) → a ≡ true → (a || b) ≡ true
 or_first true b h = refl
 or_first false b h = absurd (both_ways _ refl h)
 
@@ -116,7 +116,7 @@ module _ (c : CacheState) (k : IsCache c) where
       go (Some hold) h = refl
 
   -- what is above a pinned node is pinned
-  pinned_above : (g i : Fid) → is_pinned c g ≡ true → parent_of c g ≡ Some i → is_pinned c i ≡ true
+  pub pinned_above : (g i : Fid) → is_pinned c g ≡ true → parent_of c g ≡ Some i → is_pinned c i ≡ true
   pinned_above g i pinned is = go c.recency pinned
     where
       go : (fids : List Fid) → list_any (λ d. is_dirty c d && is_below c d g) fids ≡ true → list_any (λ d. is_dirty c d && is_below c d i) fids ≡ true
@@ -145,7 +145,7 @@ module _ (c : CacheState) (k : IsCache c) where
     | false ↦ λ _ on. on
   ]) refl on
 
-  ancestors_closed : (keep : List Fid) (g i : Fid) → is_listed (with_ancestors c keep) g ≡ true → parent_of c g ≡ Some i → is_listed (with_ancestors c keep) i ≡ true
+  pub ancestors_closed : (keep : List Fid) (g i : Fid) → is_listed (with_ancestors c keep) g ≡ true → parent_of c g ≡ Some i → is_listed (with_ancestors c keep) i ≡ true
   ancestors_closed [] g i on is = on
   ancestors_closed (h ∷ keep) g i on is =
       list_any-append (λ x. same_fid x i) (way_of c h) (with_ancestors c keep)

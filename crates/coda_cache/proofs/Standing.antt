@@ -74,7 +74,7 @@ next_renewed test fids i d h f b =
 
 -- ---- items of fids
 
-map_on : (one other : Fid → Item) (fids : List Fid) → ((g : Fid) → is_listed fids g ≡ true → one g ≡ other g) → prelude.map one fids ≡ prelude.map other fids
+pub map_on : (one other : Fid → Item) (fids : List Fid) → ((g : Fid) → is_listed fids g ≡ true → one g ≡ other g) → prelude.map one fids ≡ prelude.map other fids
 map_on one other [] same = refl
 map_on one other (g ∷ fids) same = λ i. same g (ap (λ b. b || is_listed fids g) (same_fid_refl g)) i ∷ map_on one other fids (λ h listed. same h (later (same_fid g h) (is_listed fids h) listed)) i
   where

@@ -101,7 +101,7 @@ sum_either one other weight apart (g ∷ fids) =
     both false b h = omega arith
 
 -- what is in a set, of all
-sum_within : (weight : Fid → ℕ) (all : List Fid) → AreFresh all → ((g : Fid) → is_listed all g ≡ false → weight g ≡ 0) → (some : List Fid) → AreFresh some → sum_on weight some ≡ sum_on (λ g. cond (is_listed some g) (weight g) 0) all
+pub sum_within : (weight : Fid → ℕ) (all : List Fid) → AreFresh all → ((g : Fid) → is_listed all g ≡ false → weight g ≡ 0) → (some : List Fid) → AreFresh some → sum_on weight some ≡ sum_on (λ g. cond (is_listed some g) (weight g) 0) all
 sum_within weight all fresh none [] f = sym (sum_none all)
 sum_within weight all fresh none (h ∷ some) f =
     let rest = sum_within weight all fresh none some f.1 in

@@ -1,9 +1,10 @@
--- Who goes from a cache for a node, and when that cannot make room.
+-- Who goes from a cache for a node or for an operation, and when that cannot make room.
 use Rattle.std.specs.Prelude.{ℕ, ◌+◌, ◌-◌, Bool, true, false, not, ◌&&◌, ◌||◌, nat_lt, cond, is_some, if◌then◌else◌, List, [], ◌∷◌, ◌++◌, Option, Some, None, Result, Ok, Err}
 use Rattle.std.specs.Prelude as prelude
 use Rattle.std.specs.List.{filter}
 use Rattle.coda_fid.specs.declared.fid.Fid.{Fid}
 use Rattle.coda_fid.specs.Fid.{same_fid}
+use Rattle.coda_fid.specs.declared.op.Record.{Record}
 use Rattle.coda_walk.specs.declared.item.Item.{Item}
 use Rattle.coda_walk.specs.Going.{who_goes}
 use Rattle.coda_walk.specs.Going as going
@@ -12,6 +13,7 @@ use Rattle.coda_cache.specs.declared.fault.CacheFault.TheVariants.{CacheFull}
 use Rattle.coda_walk.specs.Going.{is_listed}
 use Rattle.coda_cache.specs.State.{CacheState, is_cached, parent_of, source_of, is_dirty, priority_of, blocks_at}
 use Rattle.coda_cache.specs.Ways.{way_up, is_pinned}
+use Rattle.coda_cache.specs.Steps.{pinned_in, mutated}
 
 -- what a plan has to know of a cached node
 abbrev pub item_of : CacheState → Fid → Item
@@ -88,3 +90,28 @@ needed_for c f parent blocks keep = more_blocks c f blocks + blocks_where (is_ne
 -- Who goes for a node of so many blocks that is put, or why it can't be.
 unfoldable pub evicted_for : CacheState → Fid → Option Fid → ℕ → List Fid → Result (List Fid) CacheFault
 evicted_for c f parent blocks keep = room_in c.size (pinned_blocks (items_of c)) (needed_for c f parent blocks keep) (kept_for c f parent keep) (items_with c f parent blocks)
+
+-- ---- for an operation
+
+-- the cache after an operation on a volume, whose log then mentions these
+abbrev pub operated : CacheState → ℕ → ℕ → Record → List Fid → CacheState
+operated c client volume rec mentioned = pinned_in (mutated c client rec) volume mentioned
+
+-- whether an item is needed besides those that are pinned: it is kept
+abbrev pub is_further : List Fid → Item → Bool
+is_further kept i = not i.pinned && is_listed kept i.fid
+
+-- the blocks of nodes that are kept, besides those that are pinned
+abbrev pub further_blocks : List Fid → List Item → ℕ
+further_blocks kept items = blocks_where (is_further kept) items
+
+-- Who goes from the cache that an operation makes of another one in which it looked up nodes, or why it can't be made: what
+-- stays is pinned after it, or was looked up or is above that before it.
+abbrev pub evicted_between : CacheState → CacheState → List Fid → Result (List Fid) CacheFault
+evicted_between before after looked_up =
+    room_in before.size (pinned_blocks (items_of after)) (further_blocks (with_ancestors before looked_up) (items_of after)) (with_ancestors before looked_up) (items_of after)
+
+-- Who goes for a client's operation on a volume that looked up nodes, where the volume's log mentions these once it is made; or
+-- why it can't be made.
+unfoldable pub evicted_after : CacheState → ℕ → ℕ → Record → List Fid → List Fid → Result (List Fid) CacheFault
+evicted_after c client volume rec mentioned looked_up = evicted_between c (operated c client volume rec mentioned) looked_up

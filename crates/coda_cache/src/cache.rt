@@ -1,4 +1,4 @@
-ghost use Rattle.std.specs.Prelude.{◌≡◌, ◌==◌, ◌⊎◌, ◌<◌, ◌^◌, Option, Ok, Err, true, Some, None, IfOk, IfErr, OnOk, OnErr, MatchResult, option_copied, is_some, List, [], ◌∷◌};
+ghost use Rattle.std.specs.Prelude.{◌≡◌, ◌==◌, ◌⊎◌, ◌<◌, ◌^◌, Option, Ok, Err, true, Some, None, IfOk, IfErr, IfSome, OnOk, OnErr, MatchResult, option_copied, ℕ, is_some, List, [], ◌∷◌};
 ghost use Rattle.std.specs.Bool.{OnTrue};
 ghost use Rattle.std.specs.FinMap as map;
 ghost use Rattle.coda_fid.specs.declared.fid.Fid.{Fid};
@@ -6,8 +6,9 @@ ghost use Rattle.coda_tree.specs.Blocks.{blocks_of};
 ghost use Rattle.coda_certify.specs.Replay.{MayApply};
 ghost use Rattle.coda_cache.specs.Rows.{rows_of};
 ghost use Rattle.coda_cache.specs.Ways.{at_or_below};
-ghost use Rattle.coda_cache.specs.State.{empty_cache, is_cached, parent_of, source_of, is_dirty, priority_of, blocks_at, AreSmall};
-ghost use Rattle.coda_cache.specs.Room.{evicted_for};
+ghost use Rattle.coda_cache.specs.State.{CacheState, empty_cache, is_cached, parent_of, source_of, is_dirty, priority_of, blocks_at, AreSmall};
+ghost use Rattle.coda_cache.specs.Room.{evicted_for, evicted_between, evicted_after};
+ghost use Rattle.coda_cache.specs.Prospects.{Foresees};
 ghost use Rattle.coda_cache.specs.declared.fault.CacheFault as CacheFault;
 ghost use Rattle.coda_cache.specs.declared.fault.CacheFault.TheVariants.{CacheFull};
 ghost use Rattle.coda_cache.specs.Steps.{new_node, taken_out, taken_below, used, invalidated, invalidated_from, pinned_to, pinned_in, put_in, without, dropped, removed, walked, mutated};
@@ -19,6 +20,7 @@ use crate::children::Children;
 use crate::contents::Contents;
 use crate::marks::Marks;
 use crate::operating::{mentioned, new_node, taken_out};
+use crate::prospect::Prospect;
 use crate::queued::Queued;
 use crate::sources::Sources;
 use crate::{CacheFault, CacheRow, by_use, descending, room};
@@ -488,6 +490,89 @@ impl Cache {
             return Ok(Vec::new(self.contents.alloc()));
         }
         match self.going_for(fid, parent, blocks, keep)? {
+            Ok(gone) => Ok(gone),
+            Err((pinned, needed)) => {
+                Err(CacheFault::CacheFull(pinned, needed, self.contents.size() as u64))
+            }
+        }
+    }
+
+    // Whether there is room for an operation beside all that is cached, so that nobody goes for it.
+    fn has_room_after(&self, prospect: &Prospect, rec: &Record) -> Result<bool, AllocError>
+        ensures { (client : ℕ) (n : CacheState) (looked_up : List Fid) → Foresees self.now client rec.now n prospect.now → IfOk result (λ b. OnTrue b (evicted_between self.now n looked_up ≡ Ok [])) }
+    {
+        self.contents.agree();
+        match self.queued.blocks() {
+            Some(total) => {
+                let more = self.contents.growth(prospect, rec)?;
+                Ok(room::fits(self.contents.size(), total, more))
+            }
+            None => Ok(false),
+        }
+    }
+
+    // Who goes for an operation by what is known ahead of it, or how many blocks are pinned once it is made and how many
+    // more are needed where these don't fit. Fails for want of memory alone.
+    fn going_after(
+        &self,
+        prospect: &Prospect,
+        rec: &Record,
+        looked_up: &[Fid],
+    ) -> Result<Result<Vec<Fid>, (u64, u64)>, AllocError>
+        ensures { (client : ℕ) (n : CacheState) → Foresees self.now client rec.now n prospect.now → IfOk result (λ r. MatchResult r (λ v. evicted_between self.now n looked_up.now ≡ Ok v.items) (λ e. evicted_between self.now n looked_up.now ≡ Err (CacheFull e.0 e.1 self.now.size))) }
+    {
+        if self.has_room_after(prospect, rec)? {
+            return Ok(Ok(Vec::new(self.contents.alloc())));
+        }
+        match self.chosen_after(prospect, rec, looked_up)? {
+            Some(gone) => Ok(gone),
+            None => self.contents.going_ahead(prospect, rec, looked_up),
+        }
+    }
+
+    // The same by the queue of the cached nodes, where it is kept and finds it.
+    fn chosen_after(
+        &self,
+        prospect: &Prospect,
+        rec: &Record,
+        looked_up: &[Fid],
+    ) -> Result<Option<Result<Vec<Fid>, (u64, u64)>>, AllocError>
+        ensures { (client : ℕ) (n : CacheState) → Foresees self.now client rec.now n prospect.now → IfOk result (λ o. IfSome o (λ r. MatchResult r (λ v. evicted_between self.now n looked_up.now ≡ Ok v.items) (λ e. evicted_between self.now n looked_up.now ≡ Err (CacheFull e.0 e.1 self.now.size)))) }
+    {
+        match &self.queued.queue {
+            Some(queue) => match &self.dirty.fids {
+                Some(dirty) => self
+                    .contents
+                    .chosen_ahead(queue, dirty, prospect, rec, looked_up),
+                None => Ok(None),
+            },
+            None => Ok(None),
+        }
+    }
+
+    /// Who goes for a client's operation on a volume that looked up nodes, in order, where the volume's log mentions these once
+    /// the operation is made: as few as make the rest fit, without what is pinned then, what was looked up and what is above
+    /// that. The operation isn't made.
+    ///
+    /// # Errors
+    ///
+    /// `CacheFull` exactly where the blocks that are pinned once the operation is made, and those of what is kept besides,
+    /// exceed the size; else only `Memory`, which stands too for a number of blocks that doesn't fit in 64 bits, or of one node
+    /// in 32.
+    pub fn evict_after(
+        &self,
+        volume: u32,
+        rec: &Record,
+        mentioned: &[Fid],
+        looked_up: &[Fid],
+    ) -> Result<Vec<Fid>, CacheFault>
+        requires { MayApply self.now.nodes rec.now.op }
+        ensures gone { (client : ℕ) → IfOk result (λ v. evicted_after self.now client volume rec.now mentioned.now looked_up.now ≡ Ok v.items) }
+        ensures causes { (client : ℕ) → IfErr result (λ why. (why ≡ CacheFault.Memory) ⊎ (evicted_after self.now client volume rec.now mentioned.now looked_up.now ≡ Err why)) }
+    {
+        let below = self.taken_below(taken_out(&rec.op))?;
+        let prospect = self.contents.prospect(volume, rec, &below, mentioned)?;
+        match self.going_after(&prospect, rec, looked_up)? {
             Ok(gone) => Ok(gone),
             Err((pinned, needed)) => {
                 Err(CacheFault::CacheFull(pinned, needed, self.contents.size() as u64))

@@ -57,7 +57,7 @@ impl Contents {
     }
 
     // So many blocks with those of the nodes in a set that are not in another.
-    fn blocks_beside(
+    pub(crate) fn blocks_beside(
         &self,
         fids: &BTreeSet<Fid>,
         but: &BTreeSet<Fid>,

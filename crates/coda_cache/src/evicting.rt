@@ -146,7 +146,7 @@ impl Contents {
     }
 
     // Adds nodes and what is above them, where they are cached.
-    fn add_ways(&self, kept: &mut Vec<Fid>, fids: &[Fid]) -> Result<(), AllocError>
+    pub(crate) fn add_ways(&self, kept: &mut Vec<Fid>, fids: &[Fid]) -> Result<(), AllocError>
         ensures { OnOk result (kept.new.items ≡ kept.old.items ++ with_ancestors self.now fids.now) }
     {
         for fid in fids {

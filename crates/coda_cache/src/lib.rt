@@ -1,6 +1,7 @@
 //! The cache of a client: copies of nodes, how each is held, and in which order they were used.
 #![tactic(auto)]
 
+mod ahead;
 mod applying;
 mod by_use;
 mod cache;
@@ -10,6 +11,7 @@ mod contents;
 mod descending;
 mod evicting;
 mod fault;
+mod growing;
 mod hold;
 mod holds;
 mod law;
@@ -17,16 +19,21 @@ mod marks;
 mod nodes;
 mod operating;
 mod priorities;
+mod prospect;
 mod queued;
 mod recency;
 mod room;
 mod row;
+mod sizes;
 mod sources;
+mod sparing;
 mod walking;
 
 pub use cache::Cache;
 pub use fault::CacheFault;
 pub use hold::Hold;
-pub use law::{steps_keep_caches, who_goes_for_a_node_is_right};
+pub use law::{
+    steps_keep_caches, who_goes_for_a_node_is_right, who_goes_for_an_operation_is_right,
+};
 pub use recency::Recency;
 pub use row::CacheRow;

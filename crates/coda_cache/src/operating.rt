@@ -51,7 +51,7 @@ pub(crate) fn taken_out(op: &Op) -> Option<Fid>
 }
 
 // The node that an operation moves, and the directory that then binds it.
-fn moved_node(op: &Op) -> Option<(Fid, Fid)>
+pub(crate) fn moved_node(op: &Op) -> Option<(Fid, Fid)>
     ensures { result ≡ moved_node op.now }
 {
     match op {

@@ -1,7 +1,7 @@
 ghost use Rattle.std.specs.Prelude.{◌≡◌, ◌+◌, ◌≤◌, IfOk, cond, not, nat_lt};
 ghost use Rattle.std.specs.Bool.{OnTrue};
 ghost use Rattle.coda_walk.specs.Going.{is_listed};
-ghost use Rattle.coda_cache.specs.Room.{pinned_blocks, is_needed, blocks_where};
+ghost use Rattle.coda_cache.specs.Room.{pinned_blocks, is_needed, blocks_where, is_further, further_blocks};
 
 use coda_fid::Fid;
 use coda_walk::Item;
@@ -88,4 +88,22 @@ pub(crate) fn has_room(size: u32, taken: u64, more: u32) -> bool
         Some(all) => all <= size as u64,
         None => false,
     }
+}
+
+// Whether an item is needed besides those that are pinned: it is kept.
+fn is_further(kept: &[Fid], item: &Item) -> bool
+    ensures { result ≡ is_further kept.now item.now }
+{
+    !item.pinned && is_listed(kept, item.fid)
+}
+
+// The blocks of items that are kept, besides those that are pinned, which fail where they don't fit in 64 bits.
+pub(crate) fn further_blocks(kept: &[Fid], items: &[Item]) -> Result<u64, AllocError>
+    ensures { IfOk result (λ sum. sum ≡ further_blocks kept.now items.now) }
+{
+    let mut blocks = 0;
+    for item in items {
+        blocks = plus_counted(blocks, is_further(kept, item), item)?;
+    }
+    Ok(blocks)
 }
