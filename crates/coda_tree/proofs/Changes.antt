@@ -1,5 +1,5 @@
 -- What each change of the nodes leaves at each fid, and of the tree.
-use Rattle.std.proofs.Common.{◌≡◌, ◌≢◌, ◌+◌, cond, Option, Some, None, option_map, is_some, refl, sym, ap, ◌∙◌, subst, inl, inr}
+use Rattle.std.proofs.Common.{◌≡◌, ◌≢◌, ◌+◌, cond, Option, Some, None, option_map, is_some, IsSome, refl, sym, ap, ◌∙◌, subst, inl, inr}
 use Rattle.std.specs.FinMap as map
 use Rattle.std.proofs.lemmas.Cmp.{nat_list_cmp_total}
 use Rattle.std.proofs.lemmas.Map.Lookups.{exact_bytes}
@@ -19,6 +19,13 @@ use Rattle.coda_tree.proofs.Trees.{IsAddition, tree_added, IsRemoval, tree_remov
 
 pub changed_is : (m : Nodes) (d : Fid) (change : Node → Node) (node : Node) → map.get m d ≡ Some node → changed m d change ≡ map.insert m d (change node)
 changed_is m d change node is = ap (λ o. changed_at o m d change) is
+
+-- another node is put in the place of one
+pub changed_to : (m : Nodes) (d : Fid) (node : Node) → IsSome (map.get m d) → changed m d (λ _. node) ≡ map.insert m d node
+changed_to m d node = elim (map.get m d) as (λ o. IsSome o → changed_at o m d (λ _. node) ≡ map.insert m d node) [
+  | None ↦ λ there. cc
+  | Some was ↦ λ _. refl
+]
 
 pub get_changed : (m : Nodes) (d : Fid) (change : Node → Node) (node : Node) → map.get m d ≡ Some node → map.get (changed m d change) d ≡ Some (change node)
 get_changed m d change node is = ap (λ n. map.get n d) (changed_is m d change node is) ∙ get_here fids_total m d (change node)

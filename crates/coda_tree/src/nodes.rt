@@ -82,6 +82,15 @@ fn set_attributes(nodes: &mut FidMap<Node>, fid: Fid, attrs: &Attrs, sid: Sid)
     }
 }
 
+// Puts another node in the place of the one at a fid, where there is one.
+fn set(nodes: &mut FidMap<Node>, fid: Fid, node: Node)
+    ensures { ChangesAt nodes.old nodes.new fid (λ _. node) }
+{
+    if let Some(held) = nodes.get_mut(&fid) {
+        *held = node;
+    }
+}
+
 // Whether two places in directories are one.
 fn is_same_place(from: Fid, name: &Name, to: Fid, new: &Name) -> bool
     ensures { IsTrue result ↔ ((from ≡ to) × (name.now ≡ new.now)) }
@@ -197,6 +206,14 @@ impl NodeMap {
         ensures err { OnErr result (self.new ≡ self.old) }
     {
         Ok(self.nodes.insert(fid, node)?)
+    }
+
+    // Puts another node in the place of the one at a fid. Takes no memory.
+    pub(crate) fn set(&mut self, fid: Fid, node: Node)
+        requires { IsSome (map.get self.old fid) }
+        ensures { self.new ≡ map.insert self.old fid node }
+    {
+        set(&mut self.nodes, fid, node);
     }
 
     // Binds a fid at a free name of a directory and unbinds its old name. Fails for want of memory alone, and then

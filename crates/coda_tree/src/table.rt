@@ -89,6 +89,17 @@ impl NodeTable {
         Ok(())
     }
 
+    /// Puts another node in the place of the one at a fid. Takes no memory.
+    pub fn set(&mut self, fid: Fid, node: Node)
+        requires { IsSome (map.get self.old fid) }
+        ensures { self.new ≡ map.insert self.old fid node }
+    {
+        self.binders.change_all(self.nodes.get(fid), Change::Less);
+        self.nodes.set(fid, node);
+        self.binders
+            .change_all(self.nodes.get(fid), Change::More(fid));
+    }
+
     /// Puts a node at a free fid and binds it in a directory at a free name. Fails for want of memory alone, and then
     /// changes nothing.
     pub fn create(&mut self, dir: Fid, name: Name, fid: Fid, node: Node) -> Result<(), AllocError>
