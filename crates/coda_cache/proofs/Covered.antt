@@ -6,8 +6,6 @@ use Rattle.std.specs.FinMap as map
 use Rattle.std.proofs.lemmas.Bool.{both_ways, eq-eqb}
 use Rattle.std.proofs.lemmas.Option.{none-some}
 use Rattle.coda_fid.specs.declared.fid.Fid.{Fid}
-use Rattle.coda_fid.specs.declared.op.Record.{Record}
-use Rattle.coda_fid.specs.Op.{fids_of}
 use Rattle.coda_fid.specs.Fid.{same_fid}
 use Rattle.coda_fid.proofs.Fids.{fids_total, exact_fids, same_fid_refl}
 use Rattle.coda_tree.specs.declared.node.Node.{Node}
@@ -22,7 +20,6 @@ use Rattle.coda_cache.specs.State.{CacheState, Holds, source_of, source_held, is
 use Rattle.coda_cache.specs.Steps.{used, put_in, kept_parent, dropped, taken_from, invalidated, not_valid, invalidated_from, valid_but_from, new_node, taken_out, moved_node, taken_below, moved_in, all_dirty, made_dirty, under, mutated, new_hold}
 use Rattle.coda_cache.specs.Steps as steps
 use Rattle.coda_cache.specs.Indexed.{AreCovered, same_server, is_from, is_of, dirty_of, pinned_of}
-use Rattle.coda_cache.proofs.Operated.{mutated_made, mutated_changed}
 use Rattle.coda_cache.proofs.Sourced.{covered_less, covered_same, same_server_is}
 use Rattle.coda_cache.proofs.Standing.{altered_at_all}
 use Rattle.coda_cache.proofs.Taken.{taken_at}
@@ -34,19 +31,15 @@ source_changed : (change : Hold → Hold) → ((hold : Hold) → (change hold).f
 source_changed change same None = refl
 source_changed change same (Some hold) = same hold
 
-altered_source : (holds : Holds) (f : Fid) (change : Hold → Hold) → ((hold : Hold) → (change hold).from ≡ hold.from) → (g : Fid) → source_held (map.get (altered holds f change) g) ≡ source_held (map.get holds g)
+pub altered_source : (holds : Holds) (f : Fid) (change : Hold → Hold) → ((hold : Hold) → (change hold).from ≡ hold.from) → (g : Fid) → source_held (map.get (altered holds f change) g) ≡ source_held (map.get holds g)
 altered_source holds f change same g = elim (altered_at_all holds f change g) [
   | inl e ↦ ap source_held e
   | inr e ↦ ap source_held e ∙ source_changed change same (map.get holds g)
 ]
 
-dirty_source : (holds : Holds) (fids : List Fid) (g : Fid) → source_held (map.get (all_dirty holds fids) g) ≡ source_held (map.get holds g)
+pub dirty_source : (holds : Holds) (fids : List Fid) (g : Fid) → source_held (map.get (all_dirty holds fids) g) ≡ source_held (map.get holds g)
 dirty_source holds [] g = refl
 dirty_source holds (f ∷ fids) g = dirty_source (altered holds f made_dirty) fids g ∙ altered_source holds f made_dirty (λ _. refl) g
-
-moved_source : (moved : Option (Fid × Fid)) (holds : Holds) (g : Fid) → source_held (map.get (moved_in moved holds) g) ≡ source_held (map.get holds g)
-moved_source None holds g = refl
-moved_source (Some p) holds g = altered_source holds p.0 (under p.1) (λ _. refl) g
 
 used_source : (c : CacheState) (f g : Fid) → source_of (used c f) g ≡ source_of c g
 used_source c f g = elim (is_cached c f) as (λ b. source_of (if b then record c { recency = latest c.recency f } else c) g ≡ source_of c g) [ true ↦ refl | false ↦ refl ]
@@ -84,7 +77,7 @@ taken_source : (b : Bool) (o : Option Hold) → source_held (cond b None o) ≡ 
 taken_source true o = refl
 taken_source false o = refl
 
-dropped_source : (c : CacheState) (fids : List Fid) (g : Fid) → source_of (dropped c fids) g ≡ cond (is_listed fids g) None (source_of c g)
+pub dropped_source : (c : CacheState) (fids : List Fid) (g : Fid) → source_of (dropped c fids) g ≡ cond (is_listed fids g) None (source_of c g)
 dropped_source c fids g = ap source_held (taken_at c.holds fids g) ∙ taken_source (is_listed fids g) (map.get c.holds g)
 
 -- a copy that is still valid is not of the volume and from the server
@@ -139,29 +132,3 @@ module _ (s : Sources) (c n : CacheState) where
       AreCovered s (λ g. cond (is_listed fids g && is_from server (source_of c g)) None (source_of c g)) → AreCovered s (source_of n)
   covered_left volume server fids is among h = covered_less s _ (source_of n)
       (λ g t e. left_source volume server g (is_listed fids g) (among g) (map.get c.holds g) t (sym (ap (λ (x : CacheState). source_of x g) is ∙ ap source_held (get_each (valid_but_from volume server) c.holds g)) ∙ e)) h
-
-  -- a node is made
-  pub covered_made : (client : ℕ) (rec : Record) (dir fid : Fid) → n ≡ mutated c client rec → new_node rec.op ≡ Some (dir, fid) → AreCovered s (source_of c) → AreCovered s (source_of n)
-  covered_made client rec dir fid is makes h = covered_less s (source_of c) (source_of n) (λ g t e. was g t (sym (new g) ∙ e)) h
-    where
-      new : (g : Fid) → source_of n g ≡ source_held (map.get (map.insert c.holds fid (new_hold dir)) g)
-      new g = ap (λ (x : CacheState). source_of x g) (is ∙ mutated_made c client rec dir fid makes) ∙ dirty_source (map.insert c.holds fid (new_hold dir)) (fids_of rec.op) g
-
-      was : (g : Fid) (t : ℕ) → source_held (map.get (map.insert c.holds fid (new_hold dir)) g) ≡ Some t → source_of c g ≡ Some t
-      was g t e = elim (fid_cases g fid) [
-        | inl at ↦ absurd (none-some t (sym (ap source_held (ap (map.get (map.insert c.holds fid (new_hold dir))) at ∙ get_here fids_total c.holds fid (new_hold dir))) ∙ e))
-        | inr apart ↦ sym (ap source_held (get_else fids_total exact_fids c.holds fid (new_hold dir) g apart)) ∙ e
-      ]
-
-  -- no node is made
-  pub covered_changed : (client : ℕ) (rec : Record) (gone : List Fid) → n ≡ mutated c client rec → new_node rec.op ≡ None → ((f : Fid) → is_listed gone f ≡ is_listed (taken_below c (taken_out rec.op)) f) →
-      AreCovered s (λ g. cond (is_listed gone g) None (source_of c g)) → AreCovered s (source_of n)
-  covered_changed client rec gone is makes goes h = covered_same s _ (source_of n) new h
-    where
-      new : (g : Fid) → source_of n g ≡ cond (is_listed gone g) None (source_of c g)
-      new g = ap (λ (x : CacheState). source_of x g) (is ∙ mutated_changed c client rec makes)
-          ∙ dirty_source (moved_in (moved_node rec.op) (taken_from c.holds (taken_below c (taken_out rec.op)))) (fids_of rec.op) g
-          ∙ moved_source (moved_node rec.op) (taken_from c.holds (taken_below c (taken_out rec.op))) g
-          ∙ ap source_held (taken_at c.holds (taken_below c (taken_out rec.op)) g)
-          ∙ taken_source (is_listed (taken_below c (taken_out rec.op)) g) (map.get c.holds g)
-          ∙ ap (λ b. cond b None (source_of c g)) (sym (goes g))

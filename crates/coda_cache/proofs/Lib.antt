@@ -8,6 +8,10 @@ pub mod Taken
 pub mod Operated
 pub mod Small
 pub mod Climbs
+pub mod ParentsWays
+pub mod Parents
+pub mod ParentsOperated
+pub mod ParentsHeld
 pub mod Kept
 pub mod KeptMore
 pub mod Rightly
@@ -31,3 +35,5 @@ pub mod Spared
 pub mod Sized
 pub mod ChosenAhead
 pub mod Grown
+pub mod Changed
+pub mod Beginnings

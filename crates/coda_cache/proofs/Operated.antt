@@ -105,7 +105,7 @@ applied_left m client rec is = left_at m rec.time client rec.number rec.op is
 
 -- ---- the parts agree
 
-agree_dirty : (nodes : Nodes) (holds : Holds) (recency fids : List Fid) → Agree nodes holds recency → Agree nodes (all_dirty holds fids) recency
+pub agree_dirty : (nodes : Nodes) (holds : Holds) (recency fids : List Fid) → Agree nodes holds recency → Agree nodes (all_dirty holds fids) recency
 agree_dirty nodes holds recency [] a = a
 agree_dirty nodes holds recency (f ∷ fids) a = agree_dirty nodes (altered holds f made_dirty) recency fids (agree_altered nodes holds recency a f made_dirty)
 

@@ -14,7 +14,7 @@ use Rattle.coda_cache.specs.declared.hold.Hold.{Hold}
 use Rattle.coda_cache.specs.declared.queued.Queued.{Queued}
 use Rattle.coda_cache.specs.declared.marks.Marks.{Marks}
 use Rattle.coda_cache.specs.State.{CacheState, Holds, is_dirty}
-use Rattle.coda_cache.specs.Steps.{each}
+use Rattle.coda_cache.specs.Steps.{each, made_dirty, all_dirty}
 use Rattle.coda_cache.specs.Indexed.{standings, AreMarked, AreIndexed, is_of, dirty_of, pinned_of, set_dirty, set_all}
 use Rattle.coda_cache.proofs.Written.{get_each}
 use Rattle.coda_cache.proofs.Standing.{held_dirty, marked_same, each_items, indexed_marked}
@@ -25,6 +25,12 @@ pub more_set : (volume : Option ℕ) (b : Bool) (holds : Holds) (fids : List Fid
 more_set volume b holds [] i d h = absurd (omega (arith, h))
 more_set volume b holds (f ∷ fids) zero d h = refl
 more_set volume b holds (f ∷ fids) (suc i) d h = more_set volume b (cond (is_of volume f) (altered holds f (set_dirty b)) holds) fids i d (omega (arith, h))
+
+-- one node more becomes dirty
+pub more_dirty : (holds : Holds) (fids : List Fid) (i : ℕ) (d : Fid) → i < length fids → all_dirty holds (take (suc i) fids) ≡ altered (all_dirty holds (take i fids)) (slice_index_or fids i d) made_dirty
+more_dirty holds [] i d h = absurd (omega (arith, h))
+more_dirty holds (f ∷ fids) zero d h = refl
+more_dirty holds (f ∷ fids) (suc i) d h = more_dirty (altered holds f made_dirty) fids i d (omega (arith, h))
 
 -- a hold where one is set
 one_set : (volume : Option ℕ) (b : Bool) (holds : Holds) (f q : Fid) →

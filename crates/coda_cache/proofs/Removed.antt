@@ -85,7 +85,7 @@ ways_same m (suc n) f =
       | Some p ↦ ap (λ l. f ∷ l) (ways_same m n p)
     ])
 
-filter_alike : (one other : Fid → Bool) (fids : List Fid) → ((g : Fid) → one g ≡ other g) → filter one fids ≡ filter other fids
+pub filter_alike : (one other : Fid → Bool) (fids : List Fid) → ((g : Fid) → one g ≡ other g) → filter one fids ≡ filter other fids
 filter_alike one other [] same = refl
 filter_alike one other (g ∷ fids) same = (λ i. cond (same g i) (g ∷ filter_alike one other fids same i) (filter_alike one other fids same i))
 
@@ -141,7 +141,7 @@ keys_listed (g ∷ fids) q = (λ i. tied q g i || keys_listed fids q i)
       | false ↦ λ e. false_from_ne_true _ (λ t. both_ways _ e (ap (λ x. same_fid x q) (sym (tied_fid q g t)) ∙ same_fid_refl q))
     ]) refl
 
-same_below : (c : CacheState) (f : Fid) → Agree c.nodes c.holds c.recency → (q : Fid) → is_listed (below_of c.holds f) q ≡ is_listed (at_or_below c f) q
+pub same_below : (c : CacheState) (f : Fid) → Agree c.nodes c.holds c.recency → (q : Fid) → is_listed (below_of c.holds f) q ≡ is_listed (at_or_below c f) q
 unfolding way_up
 same_below c f a q =
     listed_where (λ g. is_listed (way_of c.holds (map.len c.holds) g) f) (map.keys c.holds) q

@@ -191,7 +191,7 @@ parent_changed : (change : Hold → Hold) → ((hold : Hold) → (change hold).p
 parent_changed change same None = refl
 parent_changed change same (Some hold) = same hold
 
-dirty_changed : (change : Hold → Hold) → ((hold : Hold) → (change hold).dirty ≡ hold.dirty) → (o : Option Hold) → held_dirty (option_map change o) ≡ held_dirty o
+pub dirty_changed : (change : Hold → Hold) → ((hold : Hold) → (change hold).dirty ≡ hold.dirty) → (o : Option Hold) → held_dirty (option_map change o) ≡ held_dirty o
 dirty_changed change same None = refl
 dirty_changed change same (Some hold) = same hold
 

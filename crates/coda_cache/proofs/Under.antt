@@ -8,13 +8,11 @@ use Rattle.std.specs.BTreeSet as btree
 use Rattle.std.specs.BTreeSet.{BTreeSet}
 use Rattle.std.specs.FinMap as map
 use Rattle.coda_fid.specs.declared.fid.Fid.{Fid}
-use Rattle.coda_fid.specs.declared.op.Record.{Record}
-use Rattle.coda_fid.specs.Op.{fids_of}
 use Rattle.coda_fid.specs.Fid.{fid_cmp, same_fid}
 use Rattle.coda_fid.proofs.Fids.{fids_total, exact_fids, same_fid_is, same_fid_refl}
 use Rattle.coda_tree.specs.declared.node.Node.{Node}
 use Rattle.coda_tree.specs.Slots.{altered}
-use Rattle.coda_tree.proofs.Order.{fid_cases, get_here, get_else, gone_here, gone_else}
+use Rattle.coda_tree.proofs.Order.{fid_cases, get_else, gone_here, gone_else}
 use Rattle.coda_tree.proofs.Keyed.{not_same}
 use Rattle.coda_walk.specs.Going.{is_listed}
 use Rattle.coda_cache.specs.declared.hold.Hold.{Hold}
@@ -24,8 +22,6 @@ use Rattle.coda_cache.specs.State.{CacheState, Holds, parent_of, parent_held, is
 use Rattle.coda_cache.specs.Steps.{used, put_in, dropped, taken_from, invalidated, not_valid, invalidated_from, valid_but_from, new_node, taken_out, moved_node, taken_below, moved_in, all_dirty, made_dirty, mutated, new_hold}
 use Rattle.coda_cache.specs.Steps as steps
 use Rattle.coda_cache.specs.Indexed.{AreUnder, is_kept_under, is_of, dirty_of, pinned_of}
-use Rattle.coda_cache.proofs.Mutated.{off_dirty, off_moved}
-use Rattle.coda_cache.proofs.Operated.{mutated_made, mutated_changed}
 use Rattle.coda_cache.proofs.Standing.{altered_at_all}
 use Rattle.coda_cache.proofs.Taken.{taken_at}
 use Rattle.coda_cache.proofs.Written.{get_each}
@@ -58,7 +54,7 @@ altered_parent holds f change same g = elim (altered_at_all holds f change g) [
   | inr e ↦ ap parent_held e ∙ parent_changed change same (map.get holds g)
 ]
 
-dirty_parent : (holds : Holds) (fids : List Fid) (g : Fid) → parent_held (map.get (all_dirty holds fids) g) ≡ parent_held (map.get holds g)
+pub dirty_parent : (holds : Holds) (fids : List Fid) (g : Fid) → parent_held (map.get (all_dirty holds fids) g) ≡ parent_held (map.get holds g)
 dirty_parent holds [] g = refl
 dirty_parent holds (f ∷ fids) g = dirty_parent (altered holds f made_dirty) fids g ∙ altered_parent holds f made_dirty (λ _. refl) g
 
@@ -95,7 +91,7 @@ taken_parent : (b : Bool) (o : Option Hold) → parent_held (cond b None o) ≡ 
 taken_parent true o = refl
 taken_parent false o = refl
 
-dropped_parent : (c : CacheState) (fids : List Fid) (g : Fid) → parent_of (dropped c fids) g ≡ cond (is_listed fids g) None (parent_of c g)
+pub dropped_parent : (c : CacheState) (fids : List Fid) (g : Fid) → parent_of (dropped c fids) g ≡ cond (is_listed fids g) None (parent_of c g)
 dropped_parent c fids g = ap parent_held (taken_at c.holds fids g) ∙ taken_parent (is_listed fids g) (map.get c.holds g)
 
 -- ---- what is kept after each step
@@ -125,33 +121,3 @@ module _ (s : Children) (c n : CacheState) where
   pub under_put : (f : Fid) (parent : Option Fid) (node : Node) (from : Option ℕ) → n ≡ put_in c f parent node from → (now : Option Fid) → now ≡ parent_of n f →
       AreUnder s (λ g. cond (same_fid f g) now (parent_of c g)) → AreUnder s (parent_of n)
   under_put f parent node from is now at h = under_by (put_in c f parent node from) _ is (λ g. put_parent c f parent node from g ∙ ap (λ o. cond (same_fid f g) o (parent_of c g)) (sym (at ∙ ap (λ (x : CacheState). parent_of x f) is))) h
-
-  -- a node is made
-  pub under_made : (client : ℕ) (rec : Record) (dir fid : Fid) → n ≡ mutated c client rec → new_node rec.op ≡ Some (dir, fid) → AreUnder s (λ g. cond (same_fid fid g) (Some dir) (parent_of c g)) → AreUnder s (parent_of n)
-  under_made client rec dir fid is makes h = under_same s _ (parent_of n) new h
-    where
-      new : (g : Fid) → parent_of n g ≡ cond (same_fid fid g) (Some dir) (parent_of c g)
-      new g = ap (λ (x : CacheState). parent_of x g) (is ∙ mutated_made c client rec dir fid makes) ∙ dirty_parent (map.insert c.holds fid (new_hold dir)) (fids_of rec.op) g
-          ∙ (elim (fid_cases g fid) [
-            | inl at ↦ ap parent_held (ap (map.get (map.insert c.holds fid (new_hold dir))) at ∙ get_here fids_total c.holds fid (new_hold dir))
-                ∙ sym (ap (λ b. cond b (Some dir) (parent_of c g)) (ap (same_fid fid) at ∙ same_fid_refl fid))
-            | inr apart ↦ ap parent_held (get_else fids_total exact_fids c.holds fid (new_hold dir) g apart) ∙ sym (ap (λ b. cond b (Some dir) (parent_of c g)) (not_same fid g (λ at. apart (sym at))))
-          ])
-
-  -- no node is made
-  pub under_changed : (client : ℕ) (rec : Record) (gone mentioned : List Fid) → n ≡ mutated c client rec → new_node rec.op ≡ None →
-      ((f : Fid) → is_listed gone f ≡ is_listed (taken_below c (taken_out rec.op)) f) → ((f : Fid) → is_listed mentioned f ≡ is_listed (fids_of rec.op) f) →
-      AreUnder s (λ g. cond (is_listed mentioned g) (parent_of n g) (cond (is_listed mentioned g) None (cond (is_listed gone g) None (parent_of c g)))) → AreUnder s (parent_of n)
-  under_changed client rec gone mentioned is makes goes all h = under_same s _ (parent_of n) (λ g. new g (is_listed mentioned g) refl) h
-    where
-      others : (g : Fid) → is_listed mentioned g ≡ false → parent_of n g ≡ cond (is_listed gone g) None (parent_of c g)
-      others g free =
-          let off = sym (all g) ∙ free in
-          ap (λ (x : CacheState). parent_of x g) (is ∙ mutated_changed c client rec makes)
-          ∙ ap parent_held (off_dirty (moved_in (moved_node rec.op) (taken_from c.holds (taken_below c (taken_out rec.op)))) (fids_of rec.op) g off
-          ∙ off_moved (taken_from c.holds (taken_below c (taken_out rec.op))) rec.op g off ∙ taken_at c.holds (taken_below c (taken_out rec.op)) g)
-          ∙ taken_parent (is_listed (taken_below c (taken_out rec.op)) g) (map.get c.holds g) ∙ ap (λ b. cond b None (parent_of c g)) (sym (goes g))
-
-      new : (g : Fid) (b : Bool) → is_listed mentioned g ≡ b → parent_of n g ≡ cond b (parent_of n g) (cond b None (cond (is_listed gone g) None (parent_of c g)))
-      new g true e = refl
-      new g false e = others g e

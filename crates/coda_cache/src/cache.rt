@@ -2,16 +2,16 @@ ghost use Rattle.std.specs.Prelude.{◌≡◌, ◌==◌, ◌⊎◌, ◌<◌, ◌
 ghost use Rattle.std.specs.Bool.{OnTrue};
 ghost use Rattle.std.specs.FinMap as map;
 ghost use Rattle.coda_fid.specs.declared.fid.Fid.{Fid};
-ghost use Rattle.coda_tree.specs.Blocks.{blocks_of};
+ghost use Rattle.coda_tree.specs.Volume as volume;
 ghost use Rattle.coda_certify.specs.Replay.{MayApply};
 ghost use Rattle.coda_cache.specs.Rows.{rows_of};
 ghost use Rattle.coda_cache.specs.Ways.{at_or_below};
-ghost use Rattle.coda_cache.specs.State.{CacheState, empty_cache, is_cached, parent_of, source_of, is_dirty, priority_of, blocks_at, AreSmall};
+ghost use Rattle.coda_cache.specs.State.{CacheState, empty_cache, is_cached, parent_of, source_of, is_dirty, priority_of, blocks_at};
 ghost use Rattle.coda_cache.specs.Room.{evicted_for, evicted_between, evicted_after};
 ghost use Rattle.coda_cache.specs.Prospects.{Foresees};
 ghost use Rattle.coda_cache.specs.declared.fault.CacheFault as CacheFault;
 ghost use Rattle.coda_cache.specs.declared.fault.CacheFault.TheVariants.{CacheFull};
-ghost use Rattle.coda_cache.specs.Steps.{new_node, taken_out, taken_below, used, invalidated, invalidated_from, pinned_to, pinned_in, put_in, without, dropped, removed, walked, mutated};
+ghost use Rattle.coda_cache.specs.Steps.{taken_out, taken_below, used, invalidated, invalidated_from, pinned_to, pinned_in, put_in, without, dropped, removed, walked};
 ghost use Rattle.coda_cache.specs.Walking.{AreCounted};
 ghost use Rattle.coda_walk.specs.Going.{is_listed};
 ghost use Rattle.coda_cache.specs.Indexed.{pinned_of};
@@ -19,7 +19,7 @@ ghost use Rattle.coda_cache.specs.Indexed.{pinned_of};
 use crate::children::Children;
 use crate::contents::Contents;
 use crate::marks::Marks;
-use crate::operating::{mentioned, new_node, taken_out};
+use crate::operating::taken_out;
 use crate::prospect::Prospect;
 use crate::queued::Queued;
 use crate::sources::Sources;
@@ -63,16 +63,17 @@ impl Cache {
     ghost use Rattle.std.specs.Borrow.{sem};
     ghost use Rattle.coda_cache.specs.Lending.{ends_as};
 
-    /// A cache of so many blocks, in which nothing is. Fails for want of memory alone.
+    /// A cache of so many blocks, in which nothing is. Fails for want of memory alone. Who goes, what is dirty and what is from a
+    /// server is found by a look at all that is cached, until `index` was called.
     pub fn new(alloc: Global, size: u32) -> Result<Cache, AllocError>
         ensures { IfOk result (λ c. c ≡ empty_cache size) }
     {
         let contents = Contents::new(alloc, size)?;
         Ok(Cache {
             contents,
-            queued: Queued::new(alloc),
-            dirty: Marks::new(alloc),
-            sources: Sources::new(alloc),
+            queued: Queued::none(),
+            dirty: Marks::none(),
+            sources: Sources::none(alloc),
             children: Children::new(alloc),
         })
     }
@@ -96,6 +97,13 @@ impl Cache {
         ensures { option_copied result ≡ map.get self.now.nodes fid }
     {
         self.contents.peek(fid)
+    }
+
+    /// The directory that binds a fid, the first in the order of fids; `None` where no cached one does.
+    pub fn binder(&self, fid: Fid) -> Option<Fid>
+        ensures { result ≡ volume.parent_of self.now.nodes fid }
+    {
+        self.contents.binder(fid)
     }
 
     /// The server that a valid copy of a node is from.
@@ -148,7 +156,7 @@ impl Cache {
     }
 
     // The cached nodes that are a node, or cached below it, in no order. Fails for want of memory alone.
-    fn below(&self, fid: Fid) -> Result<Vec<Fid>, AllocError>
+    pub(crate) fn below(&self, fid: Fid) -> Result<Vec<Fid>, AllocError>
         ensures { IfOk result (λ v. (f : Fid) → is_listed v.items f ≡ is_listed (at_or_below self.now fid) f) }
     {
         self.contents.agree();
@@ -313,8 +321,9 @@ impl Cache {
         }
     }
 
-    // Makes anew what was given up for want of memory.
-    fn restore(&mut self)
+    /// Keeps from now on what finds nodes by their use, marks, servers and parents. It is made anew where it isn't kept: in a new
+    /// cache, and where a call found no memory for it.
+    pub fn index(&mut self)
         ensures { self.new ≡ self.old }
     {
         self.queued.restore(&self.contents);
@@ -324,7 +333,12 @@ impl Cache {
     }
 
     /// Puts a node at a fid that is not dirty: under the parent that it has where it is cached, and else under this one.
-    /// Its copy is valid where it is from a server. Counts as use. Fails for want of memory alone, and then changes nothing.
+    /// Its copy is valid where it is from a server. Counts as use.
+    ///
+    /// # Errors
+    ///
+    /// Fails for want of memory alone, which stands too for blocks of the node that don't fit in 32 bits, and then changes
+    /// nothing.
     pub fn put(
         &mut self,
         fid: Fid,
@@ -332,11 +346,9 @@ impl Cache {
         node: Node,
         from: Option<u8>,
     ) -> Result<(), AllocError>
-        requires { blocks_of node.kind < 2 ^ 32 }
         ensures ok { OnOk result (self.new ≡ put_in self.old fid parent node from) }
         ensures err { OnErr result (self.new ≡ self.old) }
     {
-        self.restore();
         let was = self.contents.source(fid);
         self.contents.put(fid, parent, node, from)?;
         self.queued.put(self.contents.standing(fid));
@@ -367,70 +379,6 @@ impl Cache {
         self.sources = Sources::of(&self.contents);
         self.children = Children::of(&self.contents);
         Ok(())
-    }
-
-    // Does an operation that makes a node.
-    fn create(&mut self, dir: Fid, fid: Fid, client: u8, rec: &Record) -> Result<(), AllocError>
-        requires makes { new_node rec.now.op ≡ Some (dir, fid) }
-        requires may { MayApply self.old.nodes rec.now.op }
-        requires small { AreSmall (mutated self.old client rec.now).nodes }
-        ensures ok { OnOk result (self.new ≡ mutated self.old client rec.now) }
-        ensures err { OnErr result (self.new ≡ self.old) }
-    {
-        self.contents.create(dir, fid, client, rec)?;
-        self.queued.put(self.contents.standing(fid));
-        self.queued.change(self.contents.standing(dir));
-        self.dirty.renew(&self.contents, &[dir, fid]);
-        self.children.set(None, Some(dir), fid);
-        Ok(())
-    }
-
-    // Does an operation that makes no node.
-    fn change(&mut self, client: u8, rec: &Record) -> Result<(), AllocError>
-        requires makes { new_node rec.now.op ≡ None }
-        requires may { MayApply self.old.nodes rec.now.op }
-        requires small { AreSmall (mutated self.old client rec.now).nodes }
-        ensures ok { OnOk result (self.new ≡ mutated self.old client rec.now) }
-        ensures err { OnErr result (self.new ≡ self.old) }
-    {
-        let gone = self.taken_below(taken_out(&rec.op))?;
-        let mentioned = mentioned(&rec.op);
-        self.sources.take_all(&self.contents, &gone);
-        self.children.take_all(&self.contents, &gone);
-        self.children.take_all(&self.contents, &mentioned);
-        match self.contents.change(client, rec, &gone) {
-            Ok(()) => {
-                self.queued.take_all(&gone);
-                self.queued.renew(&self.contents, &mentioned);
-                self.dirty.take_all(&gone);
-                self.dirty.renew(&self.contents, &mentioned);
-                self.children.add_all(&self.contents, &mentioned);
-                Ok(())
-            }
-            Err(e) => {
-                self.sources.give_up();
-                self.children.give_up();
-                Err(e)
-            }
-        }
-    }
-
-    /// Does a client's operation: the nodes change as it says, what it takes out goes with all that is cached below it, a
-    /// new node is held by its directory and used last, a moved one has its new parent, and what is mentioned is dirty.
-    ///
-    /// # Errors
-    ///
-    /// Fails for want of memory alone, and then changes nothing.
-    pub fn mutate(&mut self, client: u8, rec: &Record) -> Result<(), AllocError>
-        requires may { MayApply self.old.nodes rec.now.op }
-        requires small { AreSmall (mutated self.old client rec.now).nodes }
-        ensures ok { OnOk result (self.new ≡ mutated self.old client rec.now) }
-        ensures err { OnErr result (self.new ≡ self.old) }
-    {
-        match new_node(&rec.op) {
-            Some((dir, fid)) => self.create(dir, fid, client, rec),
-            None => self.change(client, rec),
-        }
     }
 
     // Whether there is room for a node of so many blocks, so that nobody goes for it.

@@ -4,6 +4,7 @@ ghost use Rattle.std.specs.FinMap as map;
 ghost use Rattle.std.specs.List.{filter};
 ghost use Rattle.coda_fid.specs.declared.fid.Fid.{Fid};
 ghost use Rattle.coda_tree.specs.Blocks.{blocks_of};
+ghost use Rattle.coda_tree.specs.Volume as volume;
 ghost use Rattle.coda_cache.specs.Keeping.{Agree};
 ghost use Rattle.coda_cache.specs.Rows.{row_of, rows_of};
 ghost use Rattle.coda_cache.specs.Ways.{way_up, way_on, is_below, at_or_below};
@@ -13,12 +14,12 @@ ghost use Rattle.coda_walk.specs.Going.{is_listed};
 ghost use Rattle.coda_cache.specs.Indexed.{standing_of, pinned_of};
 
 use crate::holds::HoldTable;
-use crate::nodes::NodeMap;
 use crate::operating::take_out_all;
 use crate::priorities::PriorityTable;
+use crate::sizes::check_node;
 use crate::{CacheRow, Hold, Recency, room};
 use coda_fid::Fid;
-use coda_tree::Node;
+use coda_tree::{Node, NodeTable};
 use coda_walk::Item;
 use std::alloc::{AllocError, Global};
 use std::marker::Model;
@@ -29,7 +30,7 @@ use std::marker::Model;
 pub(crate) struct Contents {
     pub(crate) alloc: Global,
     pub(crate) size: u32,
-    pub(crate) nodes: NodeMap,
+    pub(crate) nodes: NodeTable,
     pub(crate) holds: HoldTable,
     pub(crate) recency: Recency,
     pub(crate) priorities: PriorityTable,
@@ -53,7 +54,7 @@ impl Model for Contents {
 // Puts a hold and a node at a fid that has neither. Fails for want of memory alone, and then changes nothing.
 fn hold_and_node(
     holds: &mut HoldTable,
-    nodes: &mut NodeMap,
+    nodes: &mut NodeTable,
     fid: Fid,
     hold: Hold,
     node: Node,
@@ -81,7 +82,7 @@ impl Contents {
         Ok(Contents {
             alloc,
             size,
-            nodes: NodeMap::new(alloc),
+            nodes: NodeTable::new(alloc),
             holds: HoldTable::new(alloc),
             recency,
             priorities: PriorityTable::new(alloc),
@@ -119,6 +120,13 @@ impl Contents {
         ensures { option_copied result ≡ map.get self.now.nodes fid }
     {
         self.nodes.get(fid)
+    }
+
+    // The directory that binds a fid, the first in the order of fids.
+    pub(crate) fn binder(&self, fid: Fid) -> Option<Fid>
+        ensures { result ≡ volume.parent_of self.now.nodes fid }
+    {
+        self.nodes.binder(fid)
     }
 
     // The server that a valid copy of a node is from.
@@ -235,7 +243,8 @@ impl Contents {
     }
 
     // Puts a node at a fid that is not dirty: under the parent that it has where it is cached, and else under this one.
-    // Its copy is valid where it is from a server. Counts as use. Fails for want of memory alone, and then changes nothing.
+    // Its copy is valid where it is from a server. Counts as use. Fails for want of memory alone, also where the node's blocks
+    // don't fit in 32 bits, and then changes nothing.
     pub(crate) fn put(
         &mut self,
         fid: Fid,
@@ -243,10 +252,10 @@ impl Contents {
         node: Node,
         from: Option<u8>,
     ) -> Result<(), AllocError>
-        requires { blocks_of node.kind < 2 ^ 32 }
         ensures ok { OnOk result (self.new ≡ put_in self.old fid parent node from) }
         ensures err { OnErr result (self.new ≡ self.old) }
     {
+        check_node(&node)?;
         if self.contains(fid) {
             self.renew(fid, node, from);
             Ok(())

@@ -1,22 +1,25 @@
 //! The cache of a client: copies of nodes, how each is held, and in which order they were used.
 #![tactic(auto)]
 
+mod above;
 mod ahead;
-mod applying;
+mod begun;
 mod by_use;
 mod cache;
 mod children;
 mod choosing;
 mod contents;
 mod descending;
+mod editing;
 mod evicting;
 mod fault;
 mod growing;
 mod hold;
 mod holds;
 mod law;
+mod making;
 mod marks;
-mod nodes;
+mod mutating;
 mod operating;
 mod priorities;
 mod prospect;
@@ -29,6 +32,7 @@ mod sources;
 mod sparing;
 mod walking;
 
+pub use begun::Begun;
 pub use cache::Cache;
 pub use fault::CacheFault;
 pub use hold::Hold;

@@ -75,15 +75,6 @@ fn listed(alloc: Global, fids: &BTreeSet<Fid>) -> Result<Vec<Fid>, AllocError>
 }
 
 impl Marks {
-    // None is marked.
-    pub(crate) fn new(alloc: Global) -> Marks
-        ensures { AreMarked result (λ _. false) }
-    {
-        Marks {
-            fids: Some(BTreeSet::new(alloc)),
-        }
-    }
-
     // No marks are kept.
     pub(crate) fn none() -> Marks
         ensures { (passes : Fid → Bool) → AreMarked result passes }

@@ -1,4 +1,4 @@
-ghost use Rattle.std.specs.Prelude.{◌≡◌, [], List, IfSome};
+ghost use Rattle.std.specs.Prelude.{◌≡◌, List, IfSome};
 ghost use Rattle.coda_walk.specs.declared.item.Item.{Item};
 ghost use Rattle.coda_walk.specs.Going.{blocks_of, without};
 ghost use Rattle.coda_walk.specs.Laws.{left};
@@ -8,10 +8,9 @@ ghost use Rattle.coda_cache.specs.Indexed.{IsQueued, AreInOrder, standing_of, st
 use crate::contents::Contents;
 use coda_fid::Fid;
 use coda_walk::{Item, Queue};
-use std::alloc::Global;
 
-// The cached nodes as a queue, of which who goes is found without a look at all of them. Where a change wanted memory that was
-// not there, the queue is given up, and is made anew when nodes are put.
+// The cached nodes as a queue, of which who goes is found without a look at all of them. It is kept from when it is asked for; where
+// a change wanted memory that was not there it is given up, until it is asked for anew.
 #[derive(Drop)]
 pub(crate) struct Queued {
     pub queue: Option<Queue>,
@@ -51,15 +50,6 @@ fn taken(queue: Queue, fid: Fid) -> Option<Queue>
 }
 
 impl Queued {
-    // The queue of no items.
-    pub(crate) fn new(alloc: Global) -> Queued
-        ensures { IsQueued result [] }
-    {
-        Queued {
-            queue: Some(Queue::new(alloc)),
-        }
-    }
-
     // No queue.
     pub(crate) fn none() -> Queued
         ensures { (items : List Item) → IsQueued result items }

@@ -1,8 +1,9 @@
-ghost use Rattle.std.specs.Prelude.{◌≡◌, ◌↔◌, ℕ, ◌+◌, ◌/◌, IfOk, IsTrue, is_some, length};
+ghost use Rattle.std.specs.Prelude.{◌≡◌, ◌↔◌, ℕ, ◌+◌, ◌/◌, ◌<◌, ◌^◌, IfOk, OnOk, IsTrue, is_some, length};
 ghost use Rattle.std.specs.FinMap as map;
 ghost use Rattle.coda_fid.specs.declared.fid.Fid.{Fid};
 ghost use Rattle.coda_fid.specs.declared.fid.Sid.{Sid};
 ghost use Rattle.coda_tree.specs.declared.node.Node.{Node};
+ghost use Rattle.coda_tree.specs.declared.node.NodeKind.TheVariants.{File};
 ghost use Rattle.coda_tree.specs.Blocks.{blocks_of};
 ghost use Rattle.coda_tree.specs.Volume.{bindings, bound, unbound, changed, written, content_patch, edited_all};
 ghost use Rattle.coda_certify.specs.Replay.{applied, rename_effects};
@@ -12,7 +13,7 @@ ghost use Rattle.coda_cache.specs.Prospects.{Foresees};
 use crate::contents::Contents;
 use crate::prospect::Prospect;
 use coda_fid::{Bytes, Fid, Name, Op, Over, Record};
-use coda_tree::NodeKind;
+use coda_tree::{Node, NodeKind};
 use std::alloc::AllocError;
 
 // ---- names
@@ -125,9 +126,36 @@ fn file_blocks(content: &Bytes) -> Result<u32, AllocError>
     small(1 + content.len().div_ceil(1024))
 }
 
+// The blocks of a node of a kind.
+fn kind_blocks(kind: &NodeKind) -> Result<u32, AllocError>
+    ensures { IfOk result (λ b. b ≡ blocks_of kind.now) }
+{
+    match kind {
+        NodeKind::File(content) => file_blocks(content),
+        NodeKind::Link(_) => Ok(1),
+        NodeKind::Dir(entries) => dir_blocks(entries.len()),
+    }
+}
+
+// Fails where the blocks of a node don't fit in 32 bits.
+pub(crate) fn check_node(node: &Node) -> Result<(), AllocError>
+    ensures { OnOk result (blocks_of node.now.kind < 2 ^ 32) }
+{
+    let _blocks = kind_blocks(&node.kind)?;
+    Ok(())
+}
+
+// Fails where the blocks of a file with a content don't fit in 32 bits.
+pub(crate) fn check_content(content: &Bytes) -> Result<(), AllocError>
+    ensures { OnOk result (blocks_of (File content.now) < 2 ^ 32) }
+{
+    let _blocks = file_blocks(content)?;
+    Ok(())
+}
+
 impl Contents {
     // The blocks of a directory once it binds a name.
-    fn blocks_with(&self, dir: Fid, name: &Name) -> Result<u32, AllocError>
+    pub(crate) fn blocks_with(&self, dir: Fid, name: &Name) -> Result<u32, AllocError>
         ensures { (f : Fid) → IfOk result (λ b. b ≡ blocks_in (bound self.now.nodes dir name.now f) dir) }
     {
         match self.nodes.get(dir) {

@@ -132,6 +132,16 @@ impl Sources {
         }
     }
 
+    // None are kept.
+    pub(crate) fn none(alloc: Global) -> Sources
+        ensures { (source : Fid → Option ℕ) → AreCovered result source }
+    {
+        Sources {
+            alloc,
+            servers: None,
+        }
+    }
+
     // Gives up what is kept.
     pub(crate) fn give_up(&mut self)
         ensures { (source : Fid → Option ℕ) → AreCovered self.new source }

@@ -4,13 +4,17 @@ use Rattle.coda_fid.specs.declared.fid.Fid.{Fid}
 use Rattle.coda_tree.specs.Slots.{altered, altered_at}
 use Rattle.coda_tree.specs.Volume.{has}
 use Rattle.coda_tree.proofs.Booleans.{some_of}
-use Rattle.coda_tree.proofs.Changes.{changed_is}
 use Rattle.coda_cache.specs.declared.hold.Hold.{Hold}
 use Rattle.coda_cache.specs.State.{CacheState, Holds, is_cached}
 use Rattle.coda_cache.specs.Steps.{renewed, put_in, kept_parent}
 use Rattle.coda_cache.proofs.Agreeing.{agree_renewed, agree_same}
 use Rattle.coda_cache.proofs.Small.{small_put, small_same}
 use Rattle.coda_cache.proofs.contents.Contents.renew.Goals as goal
+
+pub set-requires : goal.set-requires
+set-requires c =
+    let there : has c.self.inside.nodes c.args.fid ≡ true = ap (λ (s : CacheState). is_cached s c.args.fid) c.self.view_is ∙ c.requires.held in
+    there
 
 pub touch-requires : goal.touch-requires
 touch-requires c =
@@ -20,8 +24,7 @@ touch-requires c =
 pub invariant_of-self : goal.invariant_of-self
 invariant_of-self c =
     let there : has c.self.inside.nodes c.args.fid ≡ true = ap (λ (s : CacheState). is_cached s c.args.fid) c.self.view_is ∙ c.requires.held in
-    let node = some_of (map.get c.self.inside.nodes c.args.fid) there in
-    let nodes = c.set.ensures ∙ changed_is c.self.inside.nodes c.args.fid (λ _. c.args.node) node.0 node.1 in
+    let nodes = c.set.ensures in
     record {
       agree = agree_same _ c.set.new.self _ c.renew.new.self _ c.touch.new.self nodes c.renew.ensures c.touch.ensures
           (agree_renewed c.self.inside.nodes c.self.inside.holds c.self.inside.recency c.self.invariant.agree c.args.fid c.args.node (renewed c.args.from) (c.self.invariant.agree.held c.args.fid ∙ there));
@@ -36,9 +39,8 @@ renewed_is holds f from parent hold is = ap (λ o. altered_at o holds f (renewed
 pub returns : goal.returns
 returns c = λ parent.
     let there : has c.self.inside.nodes c.args.fid ≡ true = ap (λ (s : CacheState). is_cached s c.args.fid) c.self.view_is ∙ c.requires.held in
-    let node = some_of (map.get c.self.inside.nodes c.args.fid) there in
     let hold = some_of (map.get c.self.inside.holds c.args.fid) (c.self.invariant.agree.held c.args.fid ∙ there) in
-    let nodes = c.set.ensures ∙ changed_is c.self.inside.nodes c.args.fid (λ _. c.args.node) node.0 node.1 in
+    let nodes = c.set.ensures in
     let holds = c.renew.ensures ∙ renewed_is c.self.inside.holds c.args.fid c.args.from parent hold.0 hold.1 in
     (λ i. record { size = c.self.inside.size; nodes = nodes i; holds = holds i; recency = c.touch.ensures i; priorities = c.self.inside.priorities })
     ∙ ap (λ (s : CacheState). put_in s c.args.fid parent c.args.node c.args.from) c.self.view_is
