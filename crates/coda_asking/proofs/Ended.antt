@@ -158,7 +158,7 @@ need_of told header past old new now volume ask result fid does need = by (opera
 
 -- the object that it needs
 pub seen_need : {D : Type 0} (told : D → Told) (header : Header) (past : List Payload) (new : Venus D) (what : Showing) (volume : ℕ) (path : List Name) (said : Result Seen Refused) (fid : Fid) → IsUp told header new past
-    → OrMemory said (seen_at (shown_as what) new.client.nodes volume path) → said ≡ Err (why.Need fid) → seen_at (shown_as what) (state_of header past).held.nodes volume path ≡ Err (why.Need fid)
+    → OrMemory said (seen_at (shown_as what) new.client.cache.nodes volume path) → said ≡ Err (why.Need fid) → seen_at (shown_as what) (state_of header past).held.nodes volume path ≡ Err (why.Need fid)
 seen_need told header past new what volume path said fid up (inl memory) need = absurd (let no : why.Memory ≡ why.Need fid = err_is Seen why.Memory (why.Need fid) (sym memory ∙ need) in cc)
 seen_need told header past new what volume path said fid up (inr is) need = ap (λ h. seen_at (shown_as what) h.nodes volume path) up.state.held ∙ sym is ∙ need
 
@@ -263,10 +263,10 @@ refused_by fids (Err x) e is = ap Err (err_is (Seen × Bool) x e is)
 
 -- what is said of what is shown
 pub shown : {D : Type 0} (told : D → Told) (header : Header) (offers : Option Nodes) (past : List Payload) (fids : List Fid) (new : Venus D) (what : Showing) (volume : ℕ) (path : List Name) (said : Result Seen Refused) → IsUp told header new past
-    → OrMemory said (seen_at (shown_as what) new.client.nodes volume path) → ((fid : Fid) → said ≢ Err (why.Need fid)) → Ends told header offers (showing what volume path) past fids new (shown_among fids said)
+    → OrMemory said (seen_at (shown_as what) new.client.cache.nodes volume path) → ((fid : Fid) → said ≢ Err (why.Need fid)) → Ends told header offers (showing what volume path) past fids new (shown_among fids said)
 shown told header offers past fids new what volume path said up (inl memory) need = subst (λ r. Ends told header offers (showing what volume path) past fids new (shown_among fids r)) (sym memory) up
 shown told header offers past fids new what volume path said up (inr is) need =
-    by said refl (is ∙ sym (ap (λ h. seen_at (shown_as what) h.nodes volume path) up.state.held)) (subst IsOwned (sym is) (own_seen what new.client.nodes volume path))
+    by said refl (is ∙ sym (ap (λ h. seen_at (shown_as what) h.nodes volume path) up.state.held)) (subst IsOwned (sym is) (own_seen what new.client.cache.nodes volume path))
   where
     by : (r : Result Seen Refused) → said ≡ r → said ≡ (showing what volume path).comes (state_of header past) → IsOwned said → Ends told header offers (showing what volume path) past fids new (shown_among fids said)
     by (Ok seen) r comes own =

@@ -81,7 +81,7 @@ fn seen_as<D: Disk>(
     path: &Path,
 ) -> Result<Seen, Refused>
     ensures down { venus.old.down ≡ true → result ≡ Err Refused.Down }
-    ensures seen { venus.old.down ≡ false → OrMemory result (seen_at (shown_as what) venus.old.client.nodes volume path.now) }
+    ensures seen { venus.old.down ≡ false → OrMemory result (seen_at (shown_as what) venus.old.client.cache.nodes volume path.now) }
     ensures only_down { result ≡ Err Refused.Down → venus.old.down ≡ true }
     ensures never { result ≢ Err Refused.DiskFault }
     ensures same { venus.new ≡ venus.old }

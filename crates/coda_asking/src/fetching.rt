@@ -20,8 +20,8 @@ use coda_venus::{Refused, Venus};
 
 // A copy of the node of an object that a client misses, where it is offered and a journal can keep it.
 fn node_for<D: Disk>(venus: &Venus<D>, offers: Option<&Volume>, fid: Fid) -> Result<Node, Refused>
-    ensures can { IfOk result (IsFetchable (nodes_offered offers.entry) venus.now.client.nodes fid) }
-    ensures not { IfErr result (IsUnfetched (nodes_offered offers.entry) venus.now.client.nodes fid) }
+    ensures can { IfOk result (IsFetchable (nodes_offered offers.entry) venus.now.client.cache.nodes fid) }
+    ensures not { IfErr result (IsUnfetched (nodes_offered offers.entry) venus.now.client.cache.nodes fid) }
 {
     let Some(volume) = offers else {
         return Err(Refused::Need(fid));
@@ -42,7 +42,7 @@ pub fn fetch<D: Disk>(
     fid: Fid,
 ) -> Result<(), Refused>
     ensures ends { (header : AskedHeader) (history : List Payload) → IsUp D.told header venus.old history → FetchEnds D.told header (nodes_offered offers.entry) history fid venus.new result }
-    ensures fewer { OnOk result (absent (nodes_offered offers.entry) venus.new.client.nodes < absent (nodes_offered offers.entry) venus.old.client.nodes) }
+    ensures fewer { OnOk result (absent (nodes_offered offers.entry) venus.new.client.cache.nodes < absent (nodes_offered offers.entry) venus.old.client.cache.nodes) }
     ensures only_down { result ≡ Err Refused.Down → venus.old.down ≡ true }
     ensures falls { Falls venus.old.down venus.new.down result }
     ensures later { D.faults venus.old.journal.disk ≤ D.faults venus.new.journal.disk }

@@ -6,7 +6,8 @@ use Rattle.std.specs.FinMap as map
 use Rattle.coda_fid.specs.Fid.{same_fid}
 use Rattle.coda_fid.specs.declared.fid.Fid.{Fid}
 use Rattle.coda_cancel.proofs.Keys.{fid_true}
-use Rattle.coda_venus.specs.Held.{Held, Parents, below_within, is_below, some_below}
+use Rattle.coda_cache.specs.Parents.{below_within}
+use Rattle.coda_venus.specs.Held.{Held, Parents, is_below, some_below}
 
 or_no : (a b : Bool) → b ≡ false → (a || b) ≡ a
 or_no true b e = refl

@@ -30,7 +30,7 @@ fetched_spelled fid parent n f p is = both_true _ _ refl (both_true _ _ (both_tr
 pub not_cached : (c : ClientState) (fid : Fid) → map.get c.held.nodes fid ≡ None → ¬ (IsSome (map.get c.held.nodes fid) × IsDirty c fid)
 not_cached c fid absent both = (let no : false ≡ true = ap is_some (sym absent) ∙ both.0 in cc)
 
-pub may_fetch : (header : Header) (history : List Payload) (code : Client) (fid : Fid) (parent : Option Fid) (n : Node) → IsClient (state_of header history) code → map.get code.nodes fid ≡ None → IsParent (held_of code) fid parent
+pub may_fetch : (header : Header) (history : List Payload) (code : Client) (fid : Fid) (parent : Option Fid) (n : Node) → IsClient (state_of header history) code → map.get code.cache.nodes fid ≡ None → IsParent (held_of code) fid parent
     → HasSpelling table.fid fid → HasSpelling (optional table.fid) parent → HasSpelling (node four) n → MayFollow header history (Fetched fid parent n ∷ [])
 may_fetch header history code fid parent n is absent place f p fits =
     let s = state_of header history in

@@ -1,5 +1,4 @@
 pub mod Endings
-pub mod ParentMap
 pub mod Ends
 pub mod KeptLogs
 pub mod SpelledLogs
@@ -14,13 +13,13 @@ pub mod OneLog
 pub mod Times
 pub mod Accepted
 pub mod SpelledAsks
-pub mod Beginnings
 pub mod DirtyBelow
 pub mod Childless
-pub mod Noted
 pub mod Framing
 pub mod OwnRefusals
 pub mod Performed
+pub mod Cached
+pub mod SpelledHeld
 pub mod Entered
 pub mod SpelledStates
 pub mod Reading

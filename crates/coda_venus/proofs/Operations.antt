@@ -48,7 +48,7 @@ module _ (c : ClientState) (code : Client) (volume : ℕ) (rec : Record) (is : I
 
 -- ---- what it relies on
 
-pub begins : (code : Client) (volume : ℕ) (rec : Record) → IsAccepted (sight code volume) volume rec.op → MayBegin code.nodes rec.op
+pub begins : (code : Client) (volume : ℕ) (rec : Record) → IsAccepted (sight code volume) volume rec.op → MayBegin code.cache.nodes rec.op
 begins code volume rec accepted = may_begin code volume accepted.ask rec.op accepted.accepted
 
 pub performs : (code : Client) (volume : ℕ) (rec : Record) → IsAccepted (sight code volume) volume rec.op → IsNextOf (volume_in (tree.get nat_cmp code.logs volume)).log rec.time rec.op rec

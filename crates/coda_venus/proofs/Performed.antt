@@ -3,13 +3,10 @@ use Rattle.std.specs.Prelude.{IfOk}
 use Rattle.std.proofs.Common.{◌≡◌, ℕ, ◌<◌, ◌⊎◌, inl, inr, arith, Option, Some, None, Result, Ok, Err, refl, sym, ap, ◌∙◌, subst}
 use Rattle.std.specs.BTreeMap as tree
 use Rattle.std.specs.Ordering.{nat_cmp}
-use Rattle.coda_fid.specs.declared.op.Over.{Over}
-use Rattle.coda_fid.specs.declared.fid.Fid.{Fid}
 use Rattle.coda_fid.specs.declared.op.Op.{Op}
 use Rattle.coda_fid.specs.declared.op.Op.TheVariants.{Create, Mkdir, Symlink, Store, Setattr, Remove, Rmdir, Rename}
 use Rattle.coda_fid.specs.declared.op.Record.{Record}
 use Rattle.coda_plain.specs.Deeds.{created_by}
-use Rattle.coda_tree.specs.Volume.{Nodes}
 use Rattle.coda_venus.specs.Accepting.{Sight, is_mentioned, sight_of, accept}
 use Rattle.coda_venus.specs.Ask.{Asked, too_big, IsAskSpelled}
 use Rattle.coda_venus.specs.Looking.{then_find, OrMemory}
@@ -23,12 +20,12 @@ use Rattle.coda_record.specs.Table as table
 use Rattle.coda_spelling.specs.Spelled.{IsSpelled, AreSpelled}
 use Rattle.coda_spelling.proofs.SpelledParts.{within, below}
 use Rattle.coda_venus.specs.Code.{IsLogAt, IsClient, IsNextOf, MayPerform, creations_in, volume_in, sight}
-use Rattle.coda_venus.specs.Operating.{IsOther, MayBegin}
+use Rattle.coda_venus.specs.Operating.{IsThere, MayBegin}
 use Rattle.coda_venus.specs.State.{ClientVolume, ClientState}
 use Rattle.coda_venus.specs.declared.client.Client.{Client}
 use Rattle.coda_venus.specs.declared.volume_log.VolumeLog.{VolumeLog}
 use Rattle.coda_venus.proofs.SpelledAsks.{accepted_spelled}
-use Rattle.coda_venus.proofs.Accepted.{Relies, IsReplaced, accepted_relies, relies_few}
+use Rattle.coda_venus.proofs.Accepted.{relies_may_apply, Relies, accepted_relies, relies_few}
 
 -- ---- what a client has of a volume, and sees of it
 
@@ -53,21 +50,21 @@ sight_is c code volume is =
 
 -- ---- what it relies on
 
-others : (m : Nodes) (fid : Fid) (over : Option Over) → IsReplaced m fid over → IsOther over fid
-others m fid None r = tt
-others m fid (Some over) r = r.1
+relies_there : (s : Sight) (volume : ℕ) (op : Op) → Relies s volume op → IsThere s.held.nodes op
+relies_there s volume (Create dir name fid mode owner) r = tt
+relies_there s volume (Mkdir dir name fid mode owner) r = tt
+relies_there s volume (Symlink dir name fid target mode owner) r = tt
+relies_there s volume (Store fid pre content) r = tt
+relies_there s volume (Setattr fid pre attrs) r = tt
+relies_there s volume (Remove dir name fid pre) r = r.1
+relies_there s volume (Rmdir dir name fid pre) r = r.1
+relies_there s volume (Rename from_dir from to_dir to fid None) r = (r.there, tt)
+relies_there s volume (Rename from_dir from to_dir to fid (Some over)) r = (r.there, r.replaced.0)
 
 relies_begin : (s : Sight) (volume : ℕ) (op : Op) → Relies s volume op → MayBegin s.held.nodes op
-relies_begin s volume (Create dir name fid mode owner) r = r.place
-relies_begin s volume (Mkdir dir name fid mode owner) r = r.place
-relies_begin s volume (Symlink dir name fid target mode owner) r = r.place
-relies_begin s volume (Store fid pre content) r = tt
-relies_begin s volume (Setattr fid pre attrs) r = tt
-relies_begin s volume (Remove dir name fid pre) r = r.0.dir_there
-relies_begin s volume (Rmdir dir name fid pre) r = r.0.dir_there
-relies_begin s volume (Rename from_dir from to_dir to fid over) r = record { places = r.places; bound = r.bound; other = others s.held.nodes fid over r.replaced }
+relies_begin s volume op r = record { apply = relies_may_apply s volume op r; there = relies_there s volume op r }
 
-pub may_begin : (code : Client) (volume : ℕ) (ask : Asked) (op : Op) → accept (sight code volume) volume ask ≡ Ok op → MayBegin code.nodes op
+pub may_begin : (code : Client) (volume : ℕ) (ask : Asked) (op : Op) → accept (sight code volume) volume ask ≡ Ok op → MayBegin code.cache.nodes op
 may_begin code volume ask op h = relies_begin (sight code volume) volume op (accepted_relies (sight code volume) volume ask op h)
 
 pub may_perform : (code : Client) (volume time : ℕ) (ask : Asked) (op : Op) (rec : Record) → accept (sight code volume) volume ask ≡ Ok op → IsNextOf (volume_in (tree.get nat_cmp code.logs volume)).log time op rec
@@ -117,7 +114,7 @@ module _ (c : ClientState) (code : Client) (time volume : ℕ) (ask : Asked) (is
 
 -- ---- spellings
 
-pub next_spelled : (code : Client) (volume time : ℕ) (ask : Asked) (op : Op) (rec : Record) → volume < 4294967296 → code.number < 256 → time < 18446744073709551616 → AreSpelled code.nodes → IsAskSpelled ask → too_big ask ≡ None
+pub next_spelled : (code : Client) (volume time : ℕ) (ask : Asked) (op : Op) (rec : Record) → volume < 4294967296 → code.number < 256 → time < 18446744073709551616 → AreSpelled code.cache.nodes → IsAskSpelled ask → too_big ask ≡ None
     → accept (sight code volume) volume ask ≡ Ok op → IsNextOf (volume_in (tree.get nat_cmp code.logs volume)).log time op rec → IsSpelled rec
 next_spelled code volume time ask op rec low number at nodes asked small h is =
     let few = is.few in

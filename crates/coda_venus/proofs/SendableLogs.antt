@@ -104,7 +104,7 @@ entered_sendable c (Snapshot snapshot) all may = all
 
 -- the client as it is now
 abbrev pub state_now : Client → ClientState
-state_now code = record { number = code.number; blocks = code.blocks; held = held_of code; volumes = λ volume. volume_in (tree.get nat_cmp code.logs volume) }
+state_now code = record { number = code.number; blocks = code.cache.size; held = held_of code; volumes = λ volume. volume_in (tree.get nat_cmp code.logs volume) }
 
 pub is_now : (code : Client) → IsClient (state_now code) code
 is_now code = record { number = refl; blocks = refl; held = refl; logs = λ volume. at (tree.get nat_cmp code.logs volume) }

@@ -23,12 +23,12 @@ use Rattle.coda_record.specs.declared.entry.ClientEntry.{ClientEntry}
 use Rattle.coda_record.specs.declared.entry.ClientEntry.TheVariants.{Op, Freeze, Settled, Giveup, Fetched, Dropped, Hoard, Snapshot}
 use Rattle.coda_record.proofs.PartsAgree.{first_true, second_true}
 use Rattle.coda_spelling.specs.Spelled.{AreSpelled}
-use Rattle.coda_spelling.proofs.SpelledNodes.{after_operation}
 use Rattle.coda_spelling.proofs.SpelledParts.{below}
 use Rattle.coda_spelling.proofs.SpelledRecords.{single_spelled}
 use Rattle.coda_venus.specs.State.{ClientState, new_client, client_after, client_after_all}
 use Rattle.coda_venus.specs.History.{Payload, MayFollow, IsHistory}
 use Rattle.coda_venus.proofs.Entered.{nothing_spelled}
+use Rattle.coda_venus.proofs.SpelledHeld.{operation_spelled}
 
 -- ---- a node that can be spelled
 
@@ -102,7 +102,7 @@ record IsStateSpelled (c : ClientState) : Type 0 where
 
 entry_spelled : (c : ClientState) (entry : ClientEntry) → IsStateSpelled c → HasSpelling (entries.client_entry four) entry → IsStateSpelled (client_after c entry)
 unfolding entries.client_entry
-entry_spelled c (Op volume rec) is fits = record { number = is.number; nodes = after_operation c.held.nodes c.number rec is.nodes is.number (single_spelled 0 rec (first_true ((table.record_above four 0).piece rec).fits _ (second_true (table.volume.piece volume).fits _ (second_true (u8.piece 1).fits _ fits)))) }
+entry_spelled c (Op volume rec) is fits = record { number = is.number; nodes = operation_spelled c.held c.number rec is.nodes is.number (single_spelled 0 rec (first_true ((table.record_above four 0).piece rec).fits _ (second_true (table.volume.piece volume).fits _ (second_true (u8.piece 1).fits _ fits)))) }
 entry_spelled c (Freeze volume number home last) is fits = record { number = is.number; nodes = is.nodes }
 entry_spelled c (Settled volume number verdict) is fits = record { number = is.number; nodes = is.nodes }
 entry_spelled c (Giveup volume) is fits = record { number = is.number; nodes = is.nodes }

@@ -6,6 +6,8 @@ use Rattle.coda_fid.specs.declared.op.Op.{Op}
 use Rattle.coda_fid.specs.declared.op.Record.{Record}
 use Rattle.coda_cancel.specs.Cancel.{add}
 use Rattle.coda_cancel.specs.Weights.{fits}
+use Rattle.coda_cache.specs.State.{CacheState}
+use Rattle.coda_cache.specs.Parents.{parents_of}
 use Rattle.coda_cml.specs.State.{LogState}
 use Rattle.coda_plain.specs.Deeds.{created_by}
 use Rattle.coda_venus.specs.Held.{Held}
@@ -44,9 +46,13 @@ pub record MayPush (code : VolumeLog) (rec : Record) : Type 0 where
   pub room : fits 4096 16777216 (code.log.chunk ++ add code.log.records rec) ≡ true
   pub creations : (code.creations < 4294967295) ⊎ (created_by rec.op ≡ 0)
 
+-- what is held by a cache
+abbrev pub held_in : CacheState → Held
+held_in c = record { nodes = c.nodes; parents = parents_of c.holds }
+
 -- what a client holds
 abbrev pub held_of : Client → Held
-held_of code = record { nodes = code.nodes; parents = code.parents }
+held_of code = held_in code.cache
 
 -- what a client has of a volume, by its log where it did something there
 abbrev pub volume_in : Option VolumeLog → ClientVolume
@@ -80,6 +86,6 @@ pub record MayPerform (v : ClientVolume) (rec : Record) : Type 0 where
 -- the code is the client
 pub record IsClient (c : ClientState) (code : Client) : Type 0 where
   pub number : c.number ≡ code.number
-  pub blocks : c.blocks ≡ code.blocks
+  pub blocks : c.blocks ≡ code.cache.size
   pub held : c.held ≡ held_of code
   pub logs : (volume : ℕ) → IsLogAt (c.volumes volume) (tree.get nat_cmp code.logs volume)

@@ -1,6 +1,5 @@
 -- What a client holds: nodes, and the directory that is the parent of each.
-use Rattle.std.specs.Prelude.{ℕ, suc, zero, Bool, false, ◌&&◌, ◌||◌, not, List, Option, Some, None, is_some, ◌≡◌}
-use Rattle.std.specs.Option.{option_map_or}
+use Rattle.std.specs.Prelude.{ℕ, Bool, true, ◌&&◌, not, Option, Some, None, is_some, option_map, ◌≡◌}
 use Rattle.std.specs.List.{list_any}
 use Rattle.std.specs.FinMap as map
 use Rattle.std.specs.FinMap.{FinMap}
@@ -15,14 +14,11 @@ use Rattle.coda_tree.specs.declared.node.Node.{Node}
 use Rattle.coda_tree.specs.Bindings.{Name}
 use Rattle.coda_tree.specs.Volume.{Nodes, child}
 use Rattle.coda_certify.specs.Replay.{applied}
+use Rattle.coda_cache.specs.Parents.{below_within}
 
 -- the parent of each object that has one
 abbrev pub Parents : Type 0
 Parents = FinMap fid_cmp Fid
-
--- the finite map of a list of entries
-abbrev pub parents_in : List (Fid × Fid) → Parents
-parents_in entries = map.from_entries entries
 
 pub record Held : Type 0 where
   pub nodes : Nodes
@@ -32,11 +28,6 @@ abbrev pub nothing_held : Held
 nothing_held = record { nodes = map.empty; parents = map.empty }
 
 -- ---- going up
-
--- whether g is met on the way up from f, within so many steps
-abbrev pub below_within : Parents → ℕ → Fid → Fid → Bool
-below_within parents zero f g = same_fid f g
-below_within parents (suc steps) f g = same_fid f g || option_map_or (λ p. below_within parents steps p g) (map.get parents f) false
 
 -- whether f is g or is held below it: no way up has more steps than there are parents
 unfoldable pub is_below : Parents → Fid → Fid → Bool
@@ -65,25 +56,45 @@ abbrev pub with_parent : Parents → Fid → Option Fid → Parents
 with_parent parents fid None = parents
 with_parent parents fid (Some parent) = map.insert parents fid parent
 
--- the parents without that of an object that is replaced
-abbrev pub without_over : Parents → Option Over → Parents
-without_over parents None = parents
-without_over parents (Some over) = map.remove parents over.fid
-
--- the parents after the client's own operation
+-- the parents after the client's own operation, before what it takes out goes
 abbrev pub parents_after : Parents → Op → Parents
 parents_after parents (Create dir name fid mode owner) = map.insert parents fid dir
 parents_after parents (Mkdir dir name fid mode owner) = map.insert parents fid dir
 parents_after parents (Symlink dir name fid target mode owner) = map.insert parents fid dir
 parents_after parents (Store fid pre content) = parents
 parents_after parents (Setattr fid pre attrs) = parents
-parents_after parents (Remove dir name fid pre) = map.remove parents fid
-parents_after parents (Rmdir dir name fid pre) = map.remove parents fid
-parents_after parents (Rename from_dir from to_dir to fid over) = map.insert (without_over parents over) fid to_dir
+parents_after parents (Remove dir name fid pre) = parents
+parents_after parents (Rmdir dir name fid pre) = parents
+parents_after parents (Rename from_dir from to_dir to fid over) = map.insert parents fid to_dir
 
--- what is held after an operation of the client with this number
+-- the object that an operation takes out
+abbrev pub taken_out : Op → Option Fid
+taken_out (Create dir name fid mode owner) = None
+taken_out (Mkdir dir name fid mode owner) = None
+taken_out (Symlink dir name fid target mode owner) = None
+taken_out (Store fid pre content) = None
+taken_out (Setattr fid pre attrs) = None
+taken_out (Remove dir name fid pre) = Some fid
+taken_out (Rmdir dir name fid pre) = Some fid
+taken_out (Rename from_dir from to_dir to fid over) = option_map (λ (o : Over). o.fid) over
+
+-- whether an object stays where another goes with all that is held below it
+abbrev pub stays : Parents → Fid → Fid → Bool
+stays parents gone f = not (is_below parents f gone)
+
+-- the same where an object may go
+abbrev pub stays_by : Parents → Option Fid → Fid → Bool
+stays_by parents None f = true
+stays_by parents (Some gone) f = stays parents gone f
+
+-- what is held once an object went with all that was held below it, by these parents
+abbrev pub held_without : Option Fid → Parents → Held → Held
+held_without None parents held = held
+held_without (Some gone) parents held = record { nodes = map.retain_keys held.nodes (stays parents gone); parents = map.retain_keys held.parents (stays parents gone) }
+
+-- what is held after an operation of the client with this number: what it takes out goes with all that was held below it
 abbrev pub held_after_operation : Held → ℕ → Record → Held
-held_after_operation held client rec = record { nodes = applied held.nodes client rec; parents = parents_after held.parents rec.op }
+held_after_operation held client rec = held_without (taken_out rec.op) held.parents (record { nodes = applied held.nodes client rec; parents = parents_after held.parents rec.op })
 
 -- what is held after a fetch
 abbrev pub held_after_fetch : Held → Fid → Option Fid → Node → Held

@@ -1,5 +1,4 @@
 pub mod Ask
-pub mod Above
 pub mod Held
 pub mod Looking
 pub mod State

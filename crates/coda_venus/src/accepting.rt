@@ -47,7 +47,7 @@ impl Client {
             vnode: u32::from(self.number),
             uniq: creations + 1,
         };
-        if self.nodes.get(fid).is_some() {
+        if self.cache.peek(fid).is_some() {
             Err(Refused::Exists)
         } else {
             Ok(fid)
@@ -56,9 +56,9 @@ impl Client {
 
     // The fid of a new object under a name of a directory.
     pub(crate) fn new_under(&self, volume: u32, dir: Fid, name: &Name) -> Result<Fid, Refused>
-        ensures { result ≡ new_under (sight self.now volume) volume (map.get self.now.nodes dir) dir name.now }
+        ensures { result ≡ new_under (sight self.now volume) volume (map.get self.now.cache.nodes dir) dir name.now }
     {
-        match self.nodes.get(dir) {
+        match self.cache.peek(dir) {
             Some(node) => match &node.kind {
                 NodeKind::Dir(entries) => match entries.find(name) {
                     Some(_) => Err(Refused::Exists),
@@ -135,9 +135,9 @@ impl Client {
 
     // A store at an object that was found.
     fn store_at(&self, fid: Fid, content: &Bytes) -> Result<Op, Refused>
-        ensures { OrMemory result (store_at (map.get self.now.nodes fid) fid content.now) }
+        ensures { OrMemory result (store_at (map.get self.now.cache.nodes fid) fid content.now) }
     {
-        match self.nodes.get(fid) {
+        match self.cache.peek(fid) {
             Some(node) => match &node.kind {
                 NodeKind::File(_) => Ok(Op::Store {
                     fid,
@@ -153,10 +153,10 @@ impl Client {
 
     // A removal of an object that was found.
     fn remove_at(&self, dir: Fid, name: &Name, fid: Fid) -> Result<Op, Refused>
-        ensures { OrMemory result (remove_at (map.get self.now.nodes fid) dir name.now fid) }
+        ensures { OrMemory result (remove_at (map.get self.now.cache.nodes fid) dir name.now fid) }
     {
         let name = name.copy()?;
-        match self.nodes.get(fid) {
+        match self.cache.peek(fid) {
             Some(node) => match &node.kind {
                 NodeKind::Dir(_) => Err(Refused::IsDir),
                 NodeKind::File(_) => Ok(Op::Remove {
@@ -179,10 +179,10 @@ impl Client {
     // A removal of a directory that was found. Though it binds nothing, objects may be held below it: it may have been fetched again
     // since they were.
     fn rmdir_at(&self, volume: u32, dir: Fid, name: &Name, fid: Fid) -> Result<Op, Refused>
-        ensures { OrMemory result (rmdir_at (sight self.now volume) (map.get self.now.nodes fid) dir name.now fid) }
+        ensures { OrMemory result (rmdir_at (sight self.now volume) (map.get self.now.cache.nodes fid) dir name.now fid) }
     {
         let name = name.copy()?;
-        match self.nodes.get(fid) {
+        match self.cache.peek(fid) {
             Some(node) => match &node.kind {
                 NodeKind::Dir(entries) => {
                     if entries.is_empty() && !self.is_dirty_below(volume, fid) {
@@ -205,7 +205,7 @@ impl Client {
 
     // The directory in which a path ends, and the object under its last name.
     fn spot(&self, volume: u32, front: &[Name], name: &Name) -> Result<(Fid, Fid), Refused>
-        ensures { result ≡ spot self.now.nodes volume (front.now, name.now) }
+        ensures { result ≡ spot self.now.cache.nodes volume (front.now, name.now) }
     {
         let dir = self.follow(Fid::root(volume), front)?;
         let fid = self.step(dir, name)?;
@@ -239,9 +239,9 @@ impl Client {
 
     // What a directory may bind at a name, where that is held.
     pub(crate) fn bound_at(&self, dir: Fid, name: &Name) -> Result<Option<Fid>, Refused>
-        ensures { result ≡ bound_at self.now.nodes (map.get self.now.nodes dir) dir name.now }
+        ensures { result ≡ bound_at self.now.cache.nodes (map.get self.now.cache.nodes dir) dir name.now }
     {
-        match self.nodes.get(dir) {
+        match self.cache.peek(dir) {
             Some(node) => match &node.kind {
                 NodeKind::Dir(entries) => match entries.find(name) {
                     Some(fid) => match self.held(fid) {
@@ -259,7 +259,7 @@ impl Client {
 
     // The place of a new name: its directory and what stands there.
     fn place(&self, volume: u32, front: &[Name], name: &Name) -> Result<(Fid, Option<Fid>), Refused>
-        ensures { result ≡ place self.now.nodes volume (front.now, name.now) }
+        ensures { result ≡ place self.now.cache.nodes volume (front.now, name.now) }
     {
         let dir = self.resolve(Fid::root(volume), front)?;
         let bound = self.bound_at(dir, name)?;
@@ -268,9 +268,9 @@ impl Client {
 
     // Whether a directory is held there.
     fn is_dir(&self, fid: Fid) -> bool
-        ensures { result ≡ is_dir_at (map.get self.now.nodes fid) }
+        ensures { result ≡ is_dir_at (map.get self.now.cache.nodes fid) }
     {
-        match self.nodes.get(fid) {
+        match self.cache.peek(fid) {
             Some(node) => match &node.kind {
                 NodeKind::Dir(_) => true,
                 NodeKind::File(_) => false,
@@ -282,9 +282,9 @@ impl Client {
 
     // An object that is to be replaced, with its version.
     fn with_version(&self, old: Fid) -> Result<Option<Over>, Refused>
-        ensures { result ≡ with_version (map.get self.now.nodes old) old }
+        ensures { result ≡ with_version (map.get self.now.cache.nodes old) old }
     {
-        match self.nodes.get(old) {
+        match self.cache.peek(old) {
             Some(node) => Ok(Some(Over {
                 fid: old,
                 pre: node.sid,
@@ -295,7 +295,7 @@ impl Client {
 
     // What a rename of an object replaces.
     pub(crate) fn replaced_by(&self, fid: Fid, bound: Option<Fid>) -> Result<Option<Over>, Refused>
-        ensures { result ≡ replaced_by self.now.nodes fid bound }
+        ensures { result ≡ replaced_by self.now.cache.nodes fid bound }
     {
         match bound {
             None => Ok(None),
@@ -321,7 +321,7 @@ impl Client {
     ) -> Result<Op, Refused>
         ensures { OrMemory result (move_to (held_of self.now) from_dir from.now fid to.now (to_dir, bound)) }
     {
-        if self.parents.is_below(to_dir, fid) {
+        if self.is_below(to_dir, fid) {
             return Err(Refused::Loop);
         }
         let over = self.replaced_by(fid, bound)?;
@@ -386,17 +386,17 @@ impl Client {
     }
 
     fn accept_store(&self, volume: u32, path: &Path, content: &Bytes) -> Result<Op, Refused>
-        ensures { OrMemory result (then_find (resolve self.now.nodes (root_of volume) path.now) (λ fid. store_at (map.get self.now.nodes fid) fid content.now)) }
+        ensures { OrMemory result (then_find (resolve self.now.cache.nodes (root_of volume) path.now) (λ fid. store_at (map.get self.now.cache.nodes fid) fid content.now)) }
     {
         let fid = self.resolve(Fid::root(volume), path.names())?;
         self.store_at(fid, content)
     }
 
     fn accept_setattr(&self, volume: u32, path: &Path, attrs: Attrs) -> Result<Op, Refused>
-        ensures { result ≡ then_find (resolve self.now.nodes (root_of volume) path.now) (λ fid. setattr_at (map.get self.now.nodes fid) fid attrs) }
+        ensures { result ≡ then_find (resolve self.now.cache.nodes (root_of volume) path.now) (λ fid. setattr_at (map.get self.now.cache.nodes fid) fid attrs) }
     {
         let fid = self.resolve(Fid::root(volume), path.names())?;
-        match self.nodes.get(fid) {
+        match self.cache.peek(fid) {
             Some(node) => Ok(Op::Setattr {
                 fid,
                 pre: node.sid,

@@ -19,7 +19,7 @@ impl Client {
     fn is_held_below(&self, fid: Fid, above: Fid) -> bool
         ensures { result ≡ is_held_below (held_of self.now) above fid }
     {
-        fid != above && self.nodes.get(fid).is_some() && self.parents.is_below(fid, above)
+        fid != above && self.cache.peek(fid).is_some() && self.is_below(fid, above)
     }
 
     // Whether an operation mentions an object that is held below another.
@@ -93,12 +93,12 @@ impl Client {
         }
     }
 
-    /// Whether an object is held below another that a record of a volume's log mentions. It costs a look-up where the other one was never
-    /// a parent, and else the records of the log, and the depth for each.
+    /// Whether an object is held below another that a record of a volume's log mentions. It costs a look-up where nothing is held below the
+    /// other one, and else the records of the log, and the depth for each.
     pub fn is_dirty_below(&self, volume: u32, above: Fid) -> bool
         ensures { result ≡ some_below (held_of self.now) (is_mentioned (volume_in (tree.get nat_cmp self.now.logs volume))) above }
     {
-        if self.parents.may_be_parent(above) {
+        if self.has_below(above) {
             self.is_mentioned_below(volume, above)
         } else {
             false

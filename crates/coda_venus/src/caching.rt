@@ -9,7 +9,6 @@ ghost use Rattle.coda_cml.specs.Steady.{any_record};
 ghost use Rattle.coda_record.specs.declared.entry.ClientEntry.TheVariants.{Fetched as FetchedEntry, Dropped as DroppedEntry};
 ghost use Rattle.coda_venus.specs.Accepting.{is_mentioned};
 ghost use Rattle.coda_venus.specs.Code.{volume_in};
-ghost use Rattle.coda_venus.specs.Held.{held_after_fetch};
 ghost use Rattle.coda_venus.specs.History.{MayBeParent, IsParent, MayEnter};
 ghost use Rattle.coda_venus.specs.State.{ClientState, client_after};
 
@@ -53,10 +52,10 @@ impl Client {
 
     // Whether a directory is held at a fid.
     fn holds_dir(&self, dir: Fid) -> bool
-        ensures yes { result ≡ true → IsDirAt self.now.nodes dir }
-        ensures no { IsDirAt self.now.nodes dir → result ≡ true }
+        ensures yes { result ≡ true → IsDirAt self.now.cache.nodes dir }
+        ensures no { IsDirAt self.now.cache.nodes dir → result ≡ true }
     {
-        match self.nodes.get(dir) {
+        match self.cache.peek(dir) {
             Some(node) => match &node.kind {
                 NodeKind::Dir(_) => true,
                 NodeKind::File(_) => false,
@@ -68,10 +67,10 @@ impl Client {
 
     // Whether an object that isn't cached may get this parent.
     fn may_be_below(&self, fid: Fid, dir: Fid) -> bool
-        ensures yes { result ≡ true → MayBeParent self.now.nodes fid dir }
-        ensures no { MayBeParent self.now.nodes fid dir → result ≡ true }
+        ensures yes { result ≡ true → MayBeParent self.now.cache.nodes fid dir }
+        ensures no { MayBeParent self.now.cache.nodes fid dir → result ≡ true }
     {
-        if self.nodes.binder(fid) == Some(dir) {
+        if self.cache.binder(fid) == Some(dir) {
             return true;
         }
         fid != Fid::root(fid.volume) && self.holds_dir(dir)
@@ -82,52 +81,26 @@ impl Client {
         ensures yes { result ≡ true → IsParent (held_of self.now) fid parent }
         ensures no { IsParent (held_of self.now) fid parent → result ≡ true }
     {
-        let cached = self.nodes.get(fid).is_some();
+        let cached = self.cache.peek(fid).is_some();
         match parent {
-            None => { self.parents.get(fid).is_none() && (cached || fid == Fid::root(fid.volume)) }
+            None => { self.parent(fid).is_none() && (cached || fid == Fid::root(fid.volume)) }
             Some(dir) => {
-                self.parents.get(fid) == Some(dir) || (!cached && self.may_be_below(fid, dir))
+                self.parent(fid) == Some(dir) || (!cached && self.may_be_below(fid, dir))
             }
         }
     }
 
-    // Puts a node in the place of what is held of an object, below a directory. Fails for want of memory alone, and then changes nothing.
-    fn put_below(&mut self, fid: Fid, dir: Fid, node: Node) -> Result<(), AllocError>
-        ensures held { OnOk result (held_of self.new ≡ held_after_fetch (held_of self.old) fid (Some dir) node) }
-        ensures kept { (self.new.number ≡ self.old.number) × (self.new.blocks ≡ self.old.blocks) × (self.new.logs ≡ self.old.logs) }
-        ensures err { OnErr result (held_of self.new ≡ held_of self.old) }
-    {
-        let was = self.parents.put(fid, dir)?;
-        match self.nodes.put(fid, node) {
-            Ok(()) => Ok(()),
-            Err(e) => {
-                self.parents.restore(fid, was);
-                Err(e)
-            }
-        }
-    }
-
-    // Puts a node in the place of what is held of an object, with its parent. Fails for want of memory alone, and then changes nothing.
-    fn put_node(&mut self, fid: Fid, parent: Option<Fid>, node: Node) -> Result<(), AllocError>
-        ensures held { OnOk result (held_of self.new ≡ held_after_fetch (held_of self.old) fid parent node) }
-        ensures kept { (self.new.number ≡ self.old.number) × (self.new.blocks ≡ self.old.blocks) × (self.new.logs ≡ self.old.logs) }
-        ensures err { OnErr result (held_of self.new ≡ held_of self.old) }
-    {
-        match parent {
-            None => self.nodes.put(fid, node),
-            Some(dir) => self.put_below(fid, dir, node),
-        }
-    }
-
-    /// Holds an object that was fetched. Fails for want of memory alone; then all is as it was.
+    /// Holds an object that was fetched, with the parent that it has. Fails for want of memory alone; then all is as it was.
     pub fn hold(&mut self, fid: Fid, parent: Option<Fid>, node: Node) -> Result<(), AllocError>
+        requires { IsParent (held_of self.old) fid parent }
         ensures entered { (c : ClientState) → IsClient c self.old → OnOk result (IsClient (client_after c (FetchedEntry fid parent node)) self.new) }
         ensures err { (c : ClientState) → IsClient c self.old → OnErr result (IsClient c self.new) }
-        ensures nodes { OnOk result (self.new.nodes ≡ map.insert self.old.nodes fid node) }
-        ensures nodes_err { OnErr result (self.new.nodes ≡ self.old.nodes) }
+        ensures nodes { OnOk result (self.new.cache.nodes ≡ map.insert self.old.cache.nodes fid node) }
+        ensures nodes_err { OnErr result (self.new.cache.nodes ≡ self.old.cache.nodes) }
         ensures number { self.new.number ≡ self.old.number }
     {
-        self.put_node(fid, parent, node)
+        self.cache.agree();
+        self.cache.put(fid, parent, node, None)
     }
 
     /// Takes up that an object was fetched, as the journal has it.
@@ -141,7 +114,7 @@ impl Client {
         ensures misfit { (c : ClientState) → IsClient c self.old → result ≡ Err Unfit.Misfit → ¬ MayEnter c (FetchedEntry fid parent node) }
         ensures err { (c : ClientState) → IsClient c self.old → OnErr result (IsClient c self.new) }
     {
-        if self.nodes.get(fid).is_some() && self.is_dirty(fid) {
+        if self.cache.peek(fid).is_some() && self.is_dirty(fid) {
             return Err(Unfit::Misfit);
         }
         if !self.is_parent(fid, parent) {
@@ -162,14 +135,13 @@ impl Client {
         ensures misfit { (c : ClientState) → IsClient c self.old → result ≡ Err Unfit.Misfit → ¬ MayEnter c (DroppedEntry fid) }
         ensures err { (c : ClientState) → IsClient c self.old → OnErr result (IsClient c self.new) }
     {
-        if self.nodes.get(fid).is_none() || self.is_dirty(fid) {
+        if self.cache.peek(fid).is_none() || self.is_dirty(fid) {
             return Err(Unfit::Misfit);
         }
-        if self.parents.is_parent(fid) {
+        if self.has_below(fid) {
             return Err(Unfit::Misfit);
         }
-        self.nodes.take_out(fid);
-        self.parents.remove(fid);
+        self.cache.take_out(fid);
         Ok(())
     }
 }

@@ -76,7 +76,7 @@ impl<D: Disk> Venus<D> {
     /// cached, `NotDir`, `NotFound`; `IsDir` of a directory; and `Memory`. Nothing changes.
     pub fn read(&mut self, volume: u32, path: &Path) -> Result<Seen, Refused>
         ensures down { self.old.down ≡ true → result ≡ Err Refused.Down }
-        ensures seen { self.old.down ≡ false → OrMemory result (seen_at readable self.old.client.nodes volume path.now) }
+        ensures seen { self.old.down ≡ false → OrMemory result (seen_at readable self.old.client.cache.nodes volume path.now) }
         ensures same { self.new ≡ self.old }
     {
         if self.down {
@@ -92,7 +92,7 @@ impl<D: Disk> Venus<D> {
     /// As `read`, but `NotDir` of an object that is no directory.
     pub fn list(&mut self, volume: u32, path: &Path) -> Result<Seen, Refused>
         ensures down { self.old.down ≡ true → result ≡ Err Refused.Down }
-        ensures seen { self.old.down ≡ false → OrMemory result (seen_at listable self.old.client.nodes volume path.now) }
+        ensures seen { self.old.down ≡ false → OrMemory result (seen_at listable self.old.client.cache.nodes volume path.now) }
         ensures same { self.new ≡ self.old }
     {
         if self.down {
@@ -129,7 +129,7 @@ impl<D: Disk> Venus<D> {
         requires up { self.old.down ≡ false }
         requires volume { HasSpelling a_volume volume }
         requires spelled { IsSpelled rec }
-        requires begin { MayBegin self.old.client.nodes rec.op }
+        requires begin { MayBegin self.old.client.cache.nodes rec.op }
         requires perform { MayPerform (volume_in (tree.get nat_cmp self.old.client.logs volume)) rec }
         ensures keeps { (header : AskedHeader) (history : List Payload) → IsUp D.told header self.old history → MayOperate (state_of header history) volume rec
             → KeepingOne D.told header self.old history (OpEntry volume rec ∷ []) self.new result }

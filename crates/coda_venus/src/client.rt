@@ -1,8 +1,7 @@
 // A client: what it holds and its logs.
-use crate::parents::ParentTable;
 use crate::volume_log::VolumeLog;
-use coda_tree::NodeTable;
-use std::alloc::Global;
+use coda_cache::Cache;
+use std::alloc::{AllocError, Global};
 use std::collections::BTreeMap;
 
 /// A client's cache manager: the nodes that it holds, of whatever volume, and its log of each volume that it worked on
@@ -13,36 +12,31 @@ pub struct Client {
     pub alloc: Global,
     /// The client's number.
     pub number: u8,
-    /// The size of its cache, in blocks.
-    pub blocks: u32,
-    /// The nodes that it holds.
-    pub nodes: NodeTable,
-    /// The directory that is the parent of each of them that has one.
-    pub parents: ParentTable,
+    /// The nodes that it holds, each below its parent.
+    pub cache: Cache,
     /// Its log of each volume that it worked on.
     pub logs: BTreeMap<u32, VolumeLog>,
 }
 
 impl Client {
-    ghost use Rattle.std.specs.Prelude.{◌≡◌};
+    ghost use Rattle.std.specs.Prelude.{◌≡◌, IfOk};
     ghost use Rattle.coda_spelling.specs.Spelled.{AreSpelled};
     ghost use Rattle.coda_venus.specs.State.{ClientState, new_client};
     ghost use Rattle.coda_venus.specs.Code.{sight, IsClient};
 
-    /// A client with so many blocks of cache, which holds nothing.
-    pub fn new(alloc: Global, number: u8, blocks: u32) -> Client
-        ensures new { IsClient (new_client number blocks) result }
-        ensures number { result.number ≡ number }
-        ensures spelled { AreSpelled result.nodes }
+    /// A client with so many blocks of cache, which holds nothing. Fails for want of memory alone.
+    pub fn new(alloc: Global, number: u8, blocks: u32) -> Result<Client, AllocError>
+        ensures new { IfOk result (IsClient (new_client number blocks)) }
+        ensures number { IfOk result (λ c. c.number ≡ number) }
+        ensures spelled { IfOk result (λ c. AreSpelled c.cache.nodes) }
     {
-        Client {
+        let cache = Cache::new(alloc, blocks)?;
+        Ok(Client {
             alloc,
             number,
-            blocks,
-            nodes: NodeTable::new(alloc),
-            parents: ParentTable::new(alloc),
+            cache,
             logs: BTreeMap::new(alloc),
-        }
+        })
     }
 
     /// How many objects the client created in a volume.

@@ -22,21 +22,21 @@ impl Client {
 
     // Whether an object is the next one that the client creates, at a free name.
     fn is_new(&self, volume: u32, dir: Fid, name: &Name, fid: Fid) -> bool
-        ensures yes { result ≡ true → new_under (sight self.now volume) volume (map.get self.now.nodes dir) dir name.now ≡ Ok fid }
-        ensures no { new_under (sight self.now volume) volume (map.get self.now.nodes dir) dir name.now ≡ Ok fid → result ≡ true }
+        ensures yes { result ≡ true → new_under (sight self.now volume) volume (map.get self.now.cache.nodes dir) dir name.now ≡ Ok fid }
+        ensures no { new_under (sight self.now volume) volume (map.get self.now.cache.nodes dir) dir name.now ≡ Ok fid → result ≡ true }
     {
         self.new_under(volume, dir, name) == Ok(fid)
     }
 
     // Whether a file that is held may get a content, and had this version.
     fn may_store(&self, fid: Fid, pre: Sid, content: &Bytes) -> bool
-        ensures yes { result ≡ true → (too_long content.now ≡ None) × (store_at (map.get self.now.nodes fid) fid content.now ≡ Ok (Op.Store fid pre content.now)) }
-        ensures no { too_long content.now ≡ None → store_at (map.get self.now.nodes fid) fid content.now ≡ Ok (Op.Store fid pre content.now) → result ≡ true }
+        ensures yes { result ≡ true → (too_long content.now ≡ None) × (store_at (map.get self.now.cache.nodes fid) fid content.now ≡ Ok (Op.Store fid pre content.now)) }
+        ensures no { too_long content.now ≡ None → store_at (map.get self.now.cache.nodes fid) fid content.now ≡ Ok (Op.Store fid pre content.now) → result ≡ true }
     {
         if too_long(content).is_some() {
             return false;
         }
-        match self.nodes.get(fid) {
+        match self.cache.peek(fid) {
             Some(node) => match &node.kind {
                 NodeKind::File(_) => node.sid == pre,
                 NodeKind::Link(_) => false,
@@ -48,10 +48,10 @@ impl Client {
 
     // Whether an object that is held has this version.
     fn is_version(&self, fid: Fid, pre: Sid) -> bool
-        ensures yes { result ≡ true → (attrs : Attributes) → setattr_at (map.get self.now.nodes fid) fid attrs ≡ Ok (Op.Setattr fid pre attrs) }
-        ensures no { (attrs : Attributes) → setattr_at (map.get self.now.nodes fid) fid attrs ≡ Ok (Op.Setattr fid pre attrs) → result ≡ true }
+        ensures yes { result ≡ true → (attrs : Attributes) → setattr_at (map.get self.now.cache.nodes fid) fid attrs ≡ Ok (Op.Setattr fid pre attrs) }
+        ensures no { (attrs : Attributes) → setattr_at (map.get self.now.cache.nodes fid) fid attrs ≡ Ok (Op.Setattr fid pre attrs) → result ≡ true }
     {
-        match self.nodes.get(fid) {
+        match self.cache.peek(fid) {
             Some(node) => node.sid == pre,
             None => false,
         }
@@ -59,13 +59,13 @@ impl Client {
 
     // Whether a directory binds a file or a link, which had this version.
     fn may_remove(&self, dir: Fid, name: &Name, fid: Fid, pre: Sid) -> bool
-        ensures yes { result ≡ true → (step_from (map.get self.now.nodes dir) dir name.now ≡ Ok fid) × (remove_at (map.get self.now.nodes fid) dir name.now fid ≡ Ok (Op.Remove dir name.now fid pre)) }
-        ensures no { step_from (map.get self.now.nodes dir) dir name.now ≡ Ok fid → remove_at (map.get self.now.nodes fid) dir name.now fid ≡ Ok (Op.Remove dir name.now fid pre) → result ≡ true }
+        ensures yes { result ≡ true → (step_from (map.get self.now.cache.nodes dir) dir name.now ≡ Ok fid) × (remove_at (map.get self.now.cache.nodes fid) dir name.now fid ≡ Ok (Op.Remove dir name.now fid pre)) }
+        ensures no { step_from (map.get self.now.cache.nodes dir) dir name.now ≡ Ok fid → remove_at (map.get self.now.cache.nodes fid) dir name.now fid ≡ Ok (Op.Remove dir name.now fid pre) → result ≡ true }
     {
         if self.step(dir, name) != Ok(fid) {
             return false;
         }
-        match self.nodes.get(fid) {
+        match self.cache.peek(fid) {
             Some(node) => match &node.kind {
                 NodeKind::File(_) => node.sid == pre,
                 NodeKind::Link(_) => node.sid == pre,
@@ -77,13 +77,13 @@ impl Client {
 
     // Whether a directory binds one that may go, which had this version.
     fn may_rmdir(&self, volume: u32, dir: Fid, name: &Name, fid: Fid, pre: Sid) -> bool
-        ensures yes { result ≡ true → (step_from (map.get self.now.nodes dir) dir name.now ≡ Ok fid) × (rmdir_at (sight self.now volume) (map.get self.now.nodes fid) dir name.now fid ≡ Ok (Op.Rmdir dir name.now fid pre)) }
-        ensures no { step_from (map.get self.now.nodes dir) dir name.now ≡ Ok fid → rmdir_at (sight self.now volume) (map.get self.now.nodes fid) dir name.now fid ≡ Ok (Op.Rmdir dir name.now fid pre) → result ≡ true }
+        ensures yes { result ≡ true → (step_from (map.get self.now.cache.nodes dir) dir name.now ≡ Ok fid) × (rmdir_at (sight self.now volume) (map.get self.now.cache.nodes fid) dir name.now fid ≡ Ok (Op.Rmdir dir name.now fid pre)) }
+        ensures no { step_from (map.get self.now.cache.nodes dir) dir name.now ≡ Ok fid → rmdir_at (sight self.now volume) (map.get self.now.cache.nodes fid) dir name.now fid ≡ Ok (Op.Rmdir dir name.now fid pre) → result ≡ true }
     {
         if self.step(dir, name) != Ok(fid) {
             return false;
         }
-        match self.nodes.get(fid) {
+        match self.cache.peek(fid) {
             Some(node) => match &node.kind {
                 NodeKind::Dir(entries) => {
                     if entries.is_empty() && !self.is_dirty_below(volume, fid) {
@@ -112,13 +112,11 @@ impl Client {
         ensures yes { result ≡ true → MovesThere (held_of self.now) from_dir from.now to_dir to.now fid over }
         ensures no { MovesThere (held_of self.now) from_dir from.now to_dir to.now fid over → result ≡ true }
     {
-        if self.step(from_dir, from) != Ok(fid) || self.nodes.get(fid).is_none() {
+        if self.step(from_dir, from) != Ok(fid) || self.cache.peek(fid).is_none() {
             return false;
         }
         match self.bound_at(to_dir, to) {
-            Ok(bound) => {
-                !self.parents.is_below(to_dir, fid) && self.replaced_by(fid, bound) == Ok(over)
-            }
+            Ok(bound) => { !self.is_below(to_dir, fid) && self.replaced_by(fid, bound) == Ok(over) }
             Err(_) => false,
         }
     }
@@ -166,8 +164,8 @@ impl Client {
 
     // Whether paths lead to the objects that the ask of an operation names.
     fn is_placed(&self, volume: u32, op: &Op) -> Result<bool, AllocError>
-        ensures yes { IfOk result (λ b. b ≡ true → ArePlaced self.now.nodes volume op.now) }
-        ensures no { IfOk result (λ b. ArePlaced self.now.nodes volume op.now → b ≡ true) }
+        ensures yes { IfOk result (λ b. b ≡ true → ArePlaced self.now.cache.nodes volume op.now) }
+        ensures no { IfOk result (λ b. ArePlaced self.now.cache.nodes volume op.now → b ≡ true) }
     {
         match op {
             Op::Create { dir, .. } => self.reaches(volume, *dir),

@@ -31,11 +31,11 @@ impl Client {
     // The parent that an object is cached with which isn't cached yet: its own one, and else the first directory that binds it.
     fn parent_for(&self, fid: Fid) -> Option<Fid>
         ensures parent { result ≡ parent_for (held_of self.now) fid }
-        ensures place { IsMissed self.now.nodes fid → IsParent (held_of self.now) fid result }
+        ensures place { IsMissed self.now.cache.nodes fid → IsParent (held_of self.now) fid result }
     {
-        match self.parents.get(fid) {
+        match self.parent(fid) {
             Some(parent) => Some(parent),
-            None => self.nodes.binder(fid),
+            None => self.cache.binder(fid),
         }
     }
 }
@@ -63,12 +63,12 @@ impl<D: Disk> Venus<D> {
     fn keep_fetched(&mut self, fid: Fid, parent: Option<Fid>, node: Node) -> Result<(), Refused>
         requires up { self.old.down ≡ false }
         requires node { HasSpelling (a_node four) node }
-        requires absent { map.get self.old.client.nodes fid ≡ None }
+        requires absent { map.get self.old.client.cache.nodes fid ≡ None }
         requires place { IsParent (held_of self.old.client) fid parent }
         ensures keeps { (header : AskedHeader) (history : List Payload) → IsUp D.told header self.old history
             → KeepingOne D.told header self.old history (FetchedEntry fid parent node ∷ []) self.new result }
         ensures never { result ≢ Err Refused.Down }
-        ensures held { OnOk result (self.new.client.nodes ≡ map.insert self.old.client.nodes fid node) }
+        ensures held { OnOk result (self.new.client.cache.nodes ≡ map.insert self.old.client.cache.nodes fid node) }
         ensures falls { Falls self.old.down self.new.down result }
         ensures later { D.faults self.old.journal.disk ≤ D.faults self.new.journal.disk }
         ensures cause { IsErrOf result Refused.DiskFault → Rose (D.faults self.old.journal.disk) (D.faults self.new.journal.disk) }
@@ -86,13 +86,13 @@ impl<D: Disk> Venus<D> {
 
     /// Whether an object may be fetched: it isn't held, and is a volume's root or bound in a directory that is held.
     pub fn misses(&self, fid: Fid) -> bool
-        ensures yes { result ≡ true → IsMissed self.now.client.nodes fid }
-        ensures no { IsMissed self.now.client.nodes fid → result ≡ true }
+        ensures yes { result ≡ true → IsMissed self.now.client.cache.nodes fid }
+        ensures no { IsMissed self.now.client.cache.nodes fid → result ≡ true }
     {
-        if self.client.nodes.get(fid).is_some() {
+        if self.client.cache.peek(fid).is_some() {
             return false;
         }
-        fid == Fid::root(fid.volume) || self.client.nodes.binder(fid).is_some()
+        fid == Fid::root(fid.volume) || self.client.cache.binder(fid).is_some()
     }
 
     /// Holds an object that was fetched, one that the client misses. It is on the disk before it is answered.
@@ -106,10 +106,10 @@ impl<D: Disk> Venus<D> {
     /// change nothing; or `DiskFault`, after which the client is down.
     pub fn installed(&mut self, fid: Fid, node: Node) -> Result<(), Refused>
         requires node { HasSpelling (a_node four) node }
-        requires missed { IsMissed self.old.client.nodes fid }
+        requires missed { IsMissed self.old.client.cache.nodes fid }
         ensures keeps { (header : AskedHeader) (history : List Payload) → IsUp D.told header self.old history
             → DoesKeep D.told header self.old history (fetched_due (state_of header history) fid node) self.new result }
-        ensures held { OnOk result (self.new.client.nodes ≡ map.insert self.old.client.nodes fid node) }
+        ensures held { OnOk result (self.new.client.cache.nodes ≡ map.insert self.old.client.cache.nodes fid node) }
         ensures down { self.old.down ≡ true → (result ≡ Err Refused.Down) × (self.new ≡ self.old) }
         ensures only_down { result ≡ Err Refused.Down → self.old.down ≡ true }
         ensures falls { Falls self.old.down self.new.down result }

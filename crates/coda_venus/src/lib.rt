@@ -1,10 +1,8 @@
 //! Clients: what one caches, its logs, and which operations it accepts; and the disk that keeps it.
 #![tactic(auto)]
 
-mod above;
 mod accepting;
 mod ask;
-mod begun;
 mod below;
 mod caching;
 mod calls;
@@ -13,11 +11,11 @@ mod done;
 mod entries;
 mod following;
 mod fronts;
+mod holding;
 mod installing;
 mod law;
 mod looking;
 mod operating;
-mod parents;
 mod reaching;
 mod recover;
 mod recovering;
@@ -32,7 +30,6 @@ pub use ask::Ask;
 pub use client::Client;
 pub use done::Done;
 pub use law::{clients_stay_ours, logs_are_folds};
-pub use parents::ParentTable;
 pub use recovery::Unfit;
 pub use refused::Refused;
 pub use seen::Seen;

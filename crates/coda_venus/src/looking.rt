@@ -24,9 +24,9 @@ impl Client {
 
     /// An object, where it is held.
     pub fn held(&self, fid: Fid) -> Result<Fid, Refused>
-        ensures { result ≡ held (map.get self.now.nodes fid) fid }
+        ensures { result ≡ held (map.get self.now.cache.nodes fid) fid }
     {
-        match self.nodes.get(fid) {
+        match self.cache.peek(fid) {
             Some(_) => Ok(fid),
             None => Err(Refused::Need(fid)),
         }
@@ -34,9 +34,9 @@ impl Client {
 
     /// Where a name leads from an object that is held.
     pub fn step(&self, at: Fid, name: &Name) -> Result<Fid, Refused>
-        ensures { result ≡ step_from (map.get self.now.nodes at) at name.now }
+        ensures { result ≡ step_from (map.get self.now.cache.nodes at) at name.now }
     {
-        match self.nodes.get(at) {
+        match self.cache.peek(at) {
             Some(node) => match &node.kind {
                 NodeKind::Dir(entries) => match entries.find(name) {
                     Some(next) => Ok(next),
@@ -51,7 +51,7 @@ impl Client {
 
     // Where names lead in turn from an object, over what is held, up to the last object, which may not be held.
     pub(crate) fn follow(&self, from: Fid, names: &[Name]) -> Result<Fid, Refused>
-        ensures { resolve self.now.nodes from names.now ≡ then_find result (λ at. held (map.get self.now.nodes at) at) }
+        ensures { resolve self.now.cache.nodes from names.now ≡ then_find result (λ at. held (map.get self.now.cache.nodes at) at) }
     {
         let mut at = from;
         for name in names {
@@ -65,7 +65,7 @@ impl Client {
 
     /// Where names lead in turn from an object, over what is held.
     pub fn resolve(&self, from: Fid, names: &[Name]) -> Result<Fid, Refused>
-        ensures { result ≡ resolve self.now.nodes from names.now }
+        ensures { result ≡ resolve self.now.cache.nodes from names.now }
     {
         let at = self.follow(from, names)?;
         self.held(at)
@@ -73,10 +73,10 @@ impl Client {
 
     /// The file or link at a path.
     pub fn read(&self, volume: u32, path: &Path) -> Result<Seen, Refused>
-        ensures { OrMemory result (seen_at readable self.now.nodes volume path.now) }
+        ensures { OrMemory result (seen_at readable self.now.cache.nodes volume path.now) }
     {
         let fid = self.resolve(Fid::root(volume), path.names())?;
-        match self.nodes.get(fid) {
+        match self.cache.peek(fid) {
             Some(node) => match &node.kind {
                 NodeKind::File(_) => seen(fid, node),
                 NodeKind::Link(_) => seen(fid, node),
@@ -88,10 +88,10 @@ impl Client {
 
     /// The directory at a path.
     pub fn list(&self, volume: u32, path: &Path) -> Result<Seen, Refused>
-        ensures { OrMemory result (seen_at listable self.now.nodes volume path.now) }
+        ensures { OrMemory result (seen_at listable self.now.cache.nodes volume path.now) }
     {
         let fid = self.resolve(Fid::root(volume), path.names())?;
-        match self.nodes.get(fid) {
+        match self.cache.peek(fid) {
             Some(node) => match &node.kind {
                 NodeKind::Dir(_) => seen(fid, node),
                 NodeKind::File(_) => Err(Refused::NotDir),

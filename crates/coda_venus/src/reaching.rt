@@ -13,18 +13,18 @@ impl Client {
     // Whether going up from an object, by the directories that bind it, leads to the root: then some path leads down that way. A step
     // is a look-up, where no other name was bound to what it goes up from, and else a search of what is held.
     fn leads_up(&self, volume: u32, fid: Fid) -> bool
-        ensures { result ≡ true → IsReached self.now.nodes volume fid }
+        ensures { result ≡ true → IsReached self.now.cache.nodes volume fid }
     {
-        if self.nodes.get(fid).is_none() {
+        if self.cache.peek(fid).is_none() {
             return false;
         }
         let root = Fid::root(volume);
         let mut at = fid;
-        for _ in 0..self.nodes.len() {
+        for _ in 0..self.cache.len() {
             if at == root {
                 return true;
             }
-            match self.nodes.binder(at) {
+            match self.cache.binder(at) {
                 Some(dir) => at = dir,
                 None => return false,
             }
@@ -34,9 +34,9 @@ impl Client {
 
     // Puts an object behind those that were met, if it is held and isn't among them.
     fn meet(&self, met: &mut IndexSet<Fid>, fid: Fid) -> Result<(), AllocError>
-        ensures { OnOk result (Meets self.now.nodes met.old.keys fid met.new.keys) }
+        ensures { OnOk result (Meets self.now.cache.nodes met.old.keys fid met.new.keys) }
     {
-        if self.nodes.get(fid).is_some() {
+        if self.cache.peek(fid).is_some() {
             met.insert(fid)?;
         }
         Ok(())
@@ -44,7 +44,7 @@ impl Client {
 
     // Puts what entries bind and the client holds behind the objects that were met.
     fn gather(&self, met: &mut IndexSet<Fid>, entries: &Entries) -> Result<(), AllocError>
-        ensures { OnOk result (Gathers self.now.nodes met.old.keys entries.now met.new.keys) }
+        ensures { OnOk result (Gathers self.now.cache.nodes met.old.keys entries.now met.new.keys) }
     {
         for index in 0..entries.len() {
             let Some((_, fid)) = entries.at(index) else {
@@ -57,9 +57,9 @@ impl Client {
 
     // Puts what an object binds and the client holds behind the objects that were met.
     fn gather_bound(&self, met: &mut IndexSet<Fid>, dir: Fid) -> Result<(), AllocError>
-        ensures { OnOk result (Gathers self.now.nodes met.old.keys (bound_by (map.get self.now.nodes dir)) met.new.keys) }
+        ensures { OnOk result (Gathers self.now.cache.nodes met.old.keys (bound_by (map.get self.now.cache.nodes dir)) met.new.keys) }
     {
-        match self.nodes.get(dir) {
+        match self.cache.peek(dir) {
             Some(node) => match &node.kind {
                 NodeKind::Dir(entries) => self.gather(met, entries),
                 NodeKind::File(_) => Ok(()),
@@ -71,7 +71,7 @@ impl Client {
 
     // The objects that paths lead to, each behind a directory that binds it. A step for each name that these bind.
     fn all_reached(&self, volume: u32) -> Result<IndexSet<Fid>, AllocError>
-        ensures { IfOk result (λ met. AreReached self.now.nodes volume met.keys) }
+        ensures { IfOk result (λ met. AreReached self.now.cache.nodes volume met.keys) }
     {
         let mut met = IndexSet::new(self.alloc);
         self.meet(&mut met, Fid::root(volume))?;
@@ -87,7 +87,7 @@ impl Client {
     /// Whether some path leads to an object. It costs the depth, where what is bound on the way up is bound once and leads to the
     /// root; else all that is held is searched.
     pub fn reaches(&self, volume: u32, fid: Fid) -> Result<bool, AllocError>
-        ensures { IfOk result (λ b. (b ≡ true) ↔ IsReached self.now.nodes volume fid) }
+        ensures { IfOk result (λ b. (b ≡ true) ↔ IsReached self.now.cache.nodes volume fid) }
     {
         if self.leads_up(volume, fid) {
             return Ok(true);

@@ -99,10 +99,10 @@ pub(crate) fn client_of(
     ensures ok { IfOk result (AreEntered header.now payloads.now) }
     ensures breaks { (at : ℕ) → result ≡ Err (MountFault.Foreign at) → Breaks header.now payloads.now start at }
     ensures no_fault { result ≢ Err MountFault.DiskFault }
-    ensures spelled { IfOk result (λ c. AreSpelled c.nodes) }
+    ensures spelled { IfOk result (λ c. AreSpelled c.cache.nodes) }
     ensures sendable { IfOk result (λ c. AreSendable c.logs) }
 {
-    let mut client = Client::new(alloc, header.number as u8, header.cache);
+    let mut client = Client::new(alloc, header.number as u8, header.cache)?;
     client.enter_payloads(payloads, start)?;
     Ok(client)
 }

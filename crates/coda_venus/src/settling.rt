@@ -39,7 +39,7 @@ impl Client {
         ensures only { (c : ClientState) → IsClient c self.old → OnOk result (IsOk (next_chunk (c.volumes volume).log now window)) }
         ensures refused { (c : ClientState) → IsClient c self.old → IfErr result (λ why. (why ≡ Refused.Memory) ⊎ (next_chunk (c.volumes volume).log now window ≡ Err why)) }
         ensures err { (c : ClientState) → IsClient c self.old → OnErr result (IsClient c self.new) }
-        ensures nodes { self.new.nodes ≡ self.old.nodes }
+        ensures nodes { self.new.cache.nodes ≡ self.old.cache.nodes }
         ensures number { self.new.number ≡ self.old.number }
         ensures own { IfErr result IsOwn }
     {
@@ -73,7 +73,7 @@ impl Client {
         ensures only { (c : ClientState) → IsClient c self.old → OnOk result (settle_refusal (c.volumes volume).log.frozen number ≡ None) }
         ensures refused { (c : ClientState) → IsClient c self.old → IfErr result (λ why. (why ≡ Refused.Memory) ⊎ (option_map unsettled_as (settle_refusal (c.volumes volume).log.frozen number) ≡ Some why)) }
         ensures err { (c : ClientState) → IsClient c self.old → OnErr result (IsClient c self.new) }
-        ensures nodes { self.new.nodes ≡ self.old.nodes }
+        ensures nodes { self.new.cache.nodes ≡ self.old.cache.nodes }
         ensures number { self.new.number ≡ self.old.number }
         ensures own { IfErr result IsOwn }
     {

@@ -17,6 +17,6 @@ pub struct Venus<D> {
     pub(crate) down: bool,
 
     ghost numbered: { client.number < 256 },
-    ghost spelled: { AreSpelled client.nodes },
+    ghost spelled: { AreSpelled client.cache.nodes },
     ghost sendable: { ∥ AreSendable client.logs ∥₁ },
 }

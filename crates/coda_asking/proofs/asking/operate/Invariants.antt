@@ -20,4 +20,4 @@ invariant-loop-fid g l =
     × (g.D.Disk.arms l.venus.journal.disk ≡ g.D.Disk.arms l.initial.venus.journal.disk)
 
 abbrev pub decreases-loop-fid : goal.decreases-loop-fid
-decreases-loop-fid g l = absent (nodes_offered l.initial.offers) l.venus.client.nodes
+decreases-loop-fid g l = absent (nodes_offered l.initial.offers) l.venus.client.cache.nodes

@@ -16,6 +16,6 @@ returns-after-giveup-clause-leaves c = λ s is.
     elim c.match-giveup.branch [
       | in-Ok w ↦
           subst (λ r. OnOk r (IsClient (client_after s (Giveup c.args.volume)) left)) (sym w.result-is)
-          (with_log s old left c.args.volume _ c.giveup.new.self is (refl, refl, refl) (λ q. search rules) (w.in-Ok.ensures.given_up v (subst (IsLogAt v) (sym (c.in-Some.ensures).value) (is.logs c.args.volume))))
+          (with_log s old left c.args.volume _ c.giveup.new.self is (refl, refl) (λ q. search rules) (w.in-Ok.ensures.given_up v (subst (IsLogAt v) (sym (c.in-Some.ensures).value) (is.logs c.args.volume))))
       | in-Err w ↦ subst (λ r. OnOk r (IsClient (client_after s (Giveup c.args.volume)) left)) (sym w.result-is) tt
     ]

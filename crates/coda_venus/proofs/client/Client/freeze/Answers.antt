@@ -9,5 +9,5 @@ returns-in-Ok-clause-frozen c = λ s is.
     let old = c.args.self.now in
     let v = s.volumes c.args.volume in
     let left : Client = record old { logs = c.get_mut.follows.lender c.freeze.new.self } in
-    with_log s old left c.args.volume _ c.freeze.new.self is (refl, refl, refl) (λ q. search rules)
+    with_log s old left c.args.volume _ c.freeze.new.self is (refl, refl) (λ q. search rules)
     (c.in-Ok.ensures.frozen v (subst (IsLogAt v) (sym (c.in-Some.ensures).value) (is.logs c.args.volume)))

@@ -6,5 +6,5 @@ use Rattle.coda_venus.specs.Code.{held_of, volume_in}
 use Rattle.coda_venus.proofs.Childless.{none_below}
 use Rattle.coda_venus.proofs.client.Client.is_dirty_below.Goals as goal
 
-pub returns-else-may_be_parent : goal.returns-else-may_be_parent
-returns-else-may_be_parent c = sym (none_below (held_of c.args.self.now) (is_mentioned (volume_in (tree.get nat_cmp c.args.self.now.logs c.args.volume))) c.args.above (c.may_be_parent.ensures c.if-may_be_parent.false))
+pub returns-else-has_below : goal.returns-else-has_below
+returns-else-has_below c = sym (none_below (held_of c.args.self.now) (is_mentioned (volume_in (tree.get nat_cmp c.args.self.now.logs c.args.volume))) c.args.above (c.has_below.ensures.no c.if-has_below.false))

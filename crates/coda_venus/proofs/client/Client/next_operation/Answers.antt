@@ -24,8 +24,8 @@ returns-in-Ok-clause-begin c =
     let code = c.args.self.now in
     let ask = asked c.args.ask.now in
     let accepted = surely_ok c.in-Ok.op (accept (sight code c.args.volume) c.args.volume ask) c.in-Ok.ensures in
-    ok_map c.next_record.result (IsNextOf (volume_in (tree.get nat_cmp code.logs c.args.volume)).log c.args.time c.in-Ok.op) (λ rec. MayBegin code.nodes rec.op) c.next_record.ensures.may
-    (λ rec next. subst (MayBegin code.nodes) (sym next.what) (may_begin code c.args.volume ask c.in-Ok.op accepted))
+    ok_map c.next_record.result (IsNextOf (volume_in (tree.get nat_cmp code.logs c.args.volume)).log c.args.time c.in-Ok.op) (λ rec. MayBegin code.cache.nodes rec.op) c.next_record.ensures.may
+    (λ rec next. subst (MayBegin code.cache.nodes) (sym next.what) (may_begin code c.args.volume ask c.in-Ok.op accepted))
 
 pub returns-in-Ok-clause-perform : goal.returns-in-Ok-clause-perform
 returns-in-Ok-clause-perform c =

@@ -19,4 +19,4 @@ returns-in-Some-clause-pushed c = λ s is.
     let left : Client = record old { logs = c.get_mut.follows.lender c.push.new.self } in
     both_ok c.push.result (IsVolumeLog (volume_after v (Operated c.args.rec)) c.push.new.self) (IsClient (after_deed s c.args.volume (Operated c.args.rec)) left)
     (c.push.ensures.pushed v (subst (IsLogAt v) (sym (c.in-Some.ensures).value) (is.logs c.args.volume)))
-    (λ made. with_log s old left c.args.volume _ c.push.new.self is (refl, refl, refl) (λ q. search rules) made)
+    (λ made. with_log s old left c.args.volume _ c.push.new.self is (refl, refl) (λ q. search rules) made)

@@ -40,7 +40,7 @@ invariant_of-self g c =
     let old = c.args.self.now in
     record {
       numbered = subst (λ n. n < 256) (sym c.hold.ensures.number) old.numbered;
-      spelled = spelled_with c.hold.result old.client.nodes c.hold.new.self.nodes c.args.fid c.args.node c.hold.ensures.nodes c.hold.ensures.nodes_err old.spelled c.requires.node;
+      spelled = spelled_with c.hold.result old.client.cache.nodes c.hold.new.self.cache.nodes c.args.fid c.args.node c.hold.ensures.nodes c.hold.ensures.nodes_err old.spelled c.requires.node;
       sendable = ∥∥₁_map old.sendable (λ all. sendable_after c.hold.result old.client c.hold.new.self (Fetched c.args.fid c.args.parent c.args.node) all (on_ok c.hold.result (Unit {0}) tt) (c.hold.ensures.entered (state_now old.client) (is_now old.client))
           (c.hold.ensures.err (state_now old.client) (is_now old.client)));
     }

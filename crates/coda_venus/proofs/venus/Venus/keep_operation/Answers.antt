@@ -6,7 +6,7 @@ use Rattle.std.specs.Prelude.{Err}
 use Rattle.coda_record.specs.declared.entry.ClientEntry.TheVariants.{Op}
 use Rattle.coda_venus.specs.State.{ClientVolume, client_after}
 use Rattle.coda_venus.specs.History.{Payload, payload_of, payloads_of, state_of}
-use Rattle.coda_venus.specs.Code.{IsClient, MayPerform}
+use Rattle.coda_venus.specs.Code.{IsClient, MayPerform, held_of}
 use Rattle.coda_venus.specs.Keeping.{IsFull}
 use Rattle.coda_venus.specs.declared.client.Client.{Client}
 use Rattle.coda_venus.specs.declared.refused.Refused.TheVariants.{Memory}
@@ -43,7 +43,7 @@ invariant_of-self g c =
     let old = c.args.self.now in
     record {
       numbered = subst (λ n. n < 256) (sym c.enter_operation.ensures.number) old.numbered;
-      spelled = spelled_after c.enter_operation.result old.client.nodes c.enter_operation.new.self.nodes old.client.number c.args.rec c.enter_operation.ensures.nodes c.enter_operation.ensures.nodes_err old.spelled old.numbered c.requires.spelled;
+      spelled = spelled_after c.enter_operation.result (held_of old.client) c.enter_operation.new.self.cache.nodes old.client.number c.args.rec c.enter_operation.ensures.nodes c.enter_operation.ensures.nodes_err old.spelled old.numbered c.requires.spelled;
       sendable = ∥∥₁_map old.sendable (λ all. sendable_after c.enter_operation.result old.client c.enter_operation.new.self (Op c.args.volume c.args.rec) all (on_ok c.enter_operation.result _ (may_log c.args.rec c.requires.perform c.requires.spelled))
           (c.enter_operation.ensures.entered (state_now old.client) (is_now old.client)) (c.enter_operation.ensures.err (state_now old.client) (is_now old.client)));
     }
