@@ -23,10 +23,11 @@ use Rattle.coda_certify.specs.Replay.{MayCreate, MayRemove, empty_file, empty_di
 use Rattle.coda_cancel.specs.Dropping.{creates}
 use Rattle.coda_cancel.proofs.Keys.{fid_same, fid_false, fid_other}
 use Rattle.coda_cml.specs.Steady.{unbinds}
-use Rattle.coda_cell.specs.Held.{Parents, AreBound, without_over, parents_after, held_after_operation}
+use Rattle.coda_cell.specs.Held.{Parents, Held, AreBound, taken_out, stays, held_without, parents_after, held_after_operation}
 use Rattle.coda_cell.specs.Accepting.{Sight}
 use Rattle.coda_cell.proofs.Accepted.{MayMove, Relies}
 use Rattle.coda_cell.proofs.Fetches.{some_fid, child_fetched}
+use Rattle.coda_cell.proofs.Going.{left_was, stays_apart, nodes_alone}
 
 -- a write leaves what is bound
 written_binds : (patch : Patch) (sid : Sid) (o : Option Node) (n : Name) → child_of (option_map (written patch sid) o) n ≡ child_of o n
@@ -155,63 +156,60 @@ unfolding applied
 newly_bound s volume client rec dir name kid relies at = anew_by s volume rec.time (sid_of client rec) rec.op dir name kid relies at
 
 -- the parents with that of an object that the operation binds
-parents_put : (s : Sight) (volume client : ℕ) (rec : Record) (parents : Parents) (dir : Fid) (name : Name) (fid : Fid) → Relies s volume rec.op → AreBound s.held → IsBoundBy rec.op dir name fid
-    → ((f p : Fid) → f ≢ fid → map.get parents f ≡ Some p → (map.get s.held.parents f ≡ Some p) × (unbinds f rec.op ≡ false))
-    → (f p : Fid) → map.get (map.insert parents fid dir) f ≡ Some p → (n : Name) × (child (applied s.held.nodes client rec) p n ≡ Some f)
-parents_put s volume client rec parents dir name fid relies bound anew rest f p is = elim (fid_cases f fid) [
+parents_put : (s : Sight) (volume client : ℕ) (rec : Record) (dir : Fid) (name : Name) (fid : Fid) → Relies s volume rec.op → AreBound s.held → IsBoundBy rec.op dir name fid
+    → (f p : Fid) → (f ≢ fid → unbinds f rec.op ≡ false) → map.get (map.insert s.held.parents fid dir) f ≡ Some p → (n : Name) × (child (applied s.held.nodes client rec) p n ≡ Some f)
+parents_put s volume client rec dir name fid relies bound anew f p stands is = elim (fid_cases f fid) [
   | inl same ↦ (
-      let here : Some dir ≡ Some p = sym (ap (map.get (map.insert parents fid dir)) same ∙ get_here fids_total parents fid dir) ∙ is in
+      let here : Some dir ≡ Some p = sym (ap (map.get (map.insert s.held.parents fid dir)) same ∙ get_here fids_total s.held.parents fid dir) ∙ is in
       (name, subst (λ q. child (applied s.held.nodes client rec) q name ≡ Some f) (some_fid dir p here) (newly_bound s volume client rec dir name fid relies anew ∙ ap Some (sym same))))
   | inr other ↦ (
-      let was = rest f p other (sym (get_else fids_total exact_fids parents fid dir f other) ∙ is) in
-      let at = bound f p was.0 in
-      (at.0, still_bound s volume client rec p at.0 f relies at.1 was.1))
+      let at = bound f p (sym (get_else fids_total exact_fids s.held.parents fid dir f other) ∙ is) in
+      (at.0, still_bound s volume client rec p at.0 f relies at.1 (stands other)))
 ]
 
--- a parent that is left when that of an object is taken out
-parent_left : (parents : Parents) (gone f p : Fid) → map.get (map.remove parents gone) f ≡ Some p → (map.get parents f ≡ Some p) × (same_fid gone f ≡ false)
-parent_left parents gone f p is = elim (fid_cases f gone) [
-  | inl same ↦ absurd (none-some p (sym (ap (map.get (map.remove parents gone)) same ∙ gone_here fids_total parents gone) ∙ is))
-  | inr other ↦ (sym (gone_else fids_total exact_fids parents gone f other) ∙ is, fid_other gone f (λ same. other (sym same)))
-]
-
--- a parent that is left when an object is renamed
-renamed_left : (parents : Parents) (from_dir : Fid) (from : Name) (to_dir : Fid) (to : Name) (fid : Fid) (over : Option Over) (f p : Fid) → f ≢ fid → map.get (without_over parents over) f ≡ Some p
-    → (map.get parents f ≡ Some p) × (unbinds f (Rename from_dir from to_dir to fid over) ≡ false)
-renamed_left parents from_dir from to_dir to fid None f p other is = (is, ap (λ b. b || false) (fid_other fid f (λ same. other (sym same))))
-renamed_left parents from_dir from to_dir to fid (Some over) f p other is =
-    let left = parent_left parents over.fid f p is in
-    (left.0, ap (λ b. b || same_fid over.fid f) (fid_other fid f (λ same. other (sym same))) ∙ left.1)
+-- a rename leaves an object where it is that it neither moves nor replaces
+renamed_else : (from_dir : Fid) (from : Name) (to_dir : Fid) (to : Name) (fid : Fid) (over : Option Over) (f : Fid) → ((gone : Fid) → taken_out (Rename from_dir from to_dir to fid over) ≡ Some gone → f ≢ gone) → f ≢ fid
+    → unbinds f (Rename from_dir from to_dir to fid over) ≡ false
+renamed_else from_dir from to_dir to fid None f left other = ap (λ b. b || false) (fid_other fid f (λ same. other (sym same)))
+renamed_else from_dir from to_dir to fid (Some over) f left other =
+    ap (λ b. b || same_fid over.fid f) (fid_other fid f (λ same. other (sym same))) ∙ fid_other over.fid f (λ same. left over.fid refl (sym same))
 
 -- what is held is bound by its parents after an operation of the client
-bound_after : (s : Sight) (volume client number time : ℕ) (op : Op) → Relies s volume op → AreBound s.held → (f p : Fid) → map.get (parents_after s.held.parents op) f ≡ Some p
+bound_after : (s : Sight) (volume client number time : ℕ) (op : Op) → Relies s volume op → AreBound s.held → (f p : Fid) → ((gone : Fid) → taken_out op ≡ Some gone → f ≢ gone) → map.get (parents_after s.held.parents op) f ≡ Some p
     → (n : Name) × (child (applied s.held.nodes client (record { number = number; time = time; op = op })) p n ≡ Some f)
-bound_after s volume client number time (Create dir name fid mode owner) r bound =
-    parents_put s volume client (record { number = number; time = time; op = Create dir name fid mode owner }) s.held.parents dir name fid r bound (refl, refl, refl) (λ f p other is. (is, refl))
-bound_after s volume client number time (Mkdir dir name fid mode owner) r bound =
-    parents_put s volume client (record { number = number; time = time; op = Mkdir dir name fid mode owner }) s.held.parents dir name fid r bound (refl, refl, refl) (λ f p other is. (is, refl))
-bound_after s volume client number time (Symlink dir name fid target mode owner) r bound =
-    parents_put s volume client (record { number = number; time = time; op = Symlink dir name fid target mode owner }) s.held.parents dir name fid r bound (refl, refl, refl) (λ f p other is. (is, refl))
-bound_after s volume client number time (Store fid pre content) r bound = λ f p is.
+bound_after s volume client number time (Create dir name fid mode owner) r bound f p left =
+    parents_put s volume client (record { number = number; time = time; op = Create dir name fid mode owner }) dir name fid r bound (refl, refl, refl) f p (λ other. refl)
+bound_after s volume client number time (Mkdir dir name fid mode owner) r bound f p left =
+    parents_put s volume client (record { number = number; time = time; op = Mkdir dir name fid mode owner }) dir name fid r bound (refl, refl, refl) f p (λ other. refl)
+bound_after s volume client number time (Symlink dir name fid target mode owner) r bound f p left =
+    parents_put s volume client (record { number = number; time = time; op = Symlink dir name fid target mode owner }) dir name fid r bound (refl, refl, refl) f p (λ other. refl)
+bound_after s volume client number time (Store fid pre content) r bound f p left = λ is.
     let at = bound f p is in
     (at.0, still_bound s volume client (record { number = number; time = time; op = Store fid pre content }) p at.0 f r at.1 refl)
-bound_after s volume client number time (Setattr fid pre attrs) r bound = λ f p is.
+bound_after s volume client number time (Setattr fid pre attrs) r bound f p left = λ is.
     let at = bound f p is in
     (at.0, still_bound s volume client (record { number = number; time = time; op = Setattr fid pre attrs }) p at.0 f r at.1 refl)
-bound_after s volume client number time (Remove dir name fid pre) r bound = λ f p is.
-    let left = parent_left s.held.parents fid f p is in
-    let at = bound f p left.0 in
-    (at.0, still_bound s volume client (record { number = number; time = time; op = Remove dir name fid pre }) p at.0 f r at.1 left.1)
-bound_after s volume client number time (Rmdir dir name fid pre) r bound = λ f p is.
-    let left = parent_left s.held.parents fid f p is in
-    let at = bound f p left.0 in
-    (at.0, still_bound s volume client (record { number = number; time = time; op = Rmdir dir name fid pre }) p at.0 f r at.1 left.1)
-bound_after s volume client number time (Rename from_dir from to_dir to fid over) r bound =
-    parents_put s volume client (record { number = number; time = time; op = Rename from_dir from to_dir to fid over }) (without_over s.held.parents over) to_dir to fid r bound (refl, refl, refl)
-    (renamed_left s.held.parents from_dir from to_dir to fid over)
+bound_after s volume client number time (Remove dir name fid pre) r bound f p left = λ is.
+    let at = bound f p is in
+    (at.0, still_bound s volume client (record { number = number; time = time; op = Remove dir name fid pre }) p at.0 f r at.1 (fid_other fid f (λ same. left fid refl (sym same))))
+bound_after s volume client number time (Rmdir dir name fid pre) r bound f p left = λ is.
+    let at = bound f p is in
+    (at.0, still_bound s volume client (record { number = number; time = time; op = Rmdir dir name fid pre }) p at.0 f r at.1 (fid_other fid f (λ same. left fid refl (sym same))))
+bound_after s volume client number time (Rename from_dir from to_dir to fid over) r bound f p left =
+    parents_put s volume client (record { number = number; time = time; op = Rename from_dir from to_dir to fid over }) to_dir to fid r bound (refl, refl, refl) f p (renamed_else from_dir from to_dir to fid over f left)
+
+-- a parent that is held still is that of an object that stays
+parent_held : (gone : Option Fid) (parents : Parents) (h : Held) (f p : Fid) → map.get (held_without gone parents h).parents f ≡ Some p → (map.get h.parents f ≡ Some p) × ((g : Fid) → gone ≡ Some g → f ≢ g)
+parent_held None parents h f p is = (is, λ g none. absurd (none-some g none))
+parent_held (Some gone) parents h f p is =
+    let was = left_was h.parents (stays parents gone) f p is in
+    (was.1, λ g same. subst (λ x. f ≢ x) (some_fid gone g same) (stays_apart parents gone f was.0))
 
 pub bound_operation : (s : Sight) (volume client : ℕ) (rec : Record) → Relies s volume rec.op → AreBound s.held → AreBound (held_after_operation s.held client rec)
-bound_operation s volume client rec relies bound = bound_after s volume client rec.number rec.time rec.op relies bound
+bound_operation s volume client rec relies bound = λ f p is.
+    let was = parent_held (taken_out rec.op) s.held.parents (record { nodes = applied s.held.nodes client rec; parents = parents_after s.held.parents rec.op }) f p is in
+    let at = bound_after s volume client rec.number rec.time rec.op relies bound f p was.1 was.0 in
+    (at.0, subst (λ m. child m p at.0 ≡ Some f) (sym (nodes_alone s volume client rec relies bound)) at.1)
 
 -- what an edit leaves bound was bound, or is what it binds
 was_bound : (m : Nodes) (dir : Fid) (name : Name) (fid d : Fid) (n : Name) (f : Fid) → child (bound m dir name fid) d n ≡ Some f → (child m d n ≡ Some f) ⊎ ((d ≡ dir) × (n ≡ name) × (f ≡ fid))

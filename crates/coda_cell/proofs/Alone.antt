@@ -29,7 +29,7 @@ use Rattle.coda_tree.specs.Tree.{Child, IsBelow, itself, under}
 use Rattle.coda_tree.specs.Volume.{Nodes, child, has, IsDir, IsDirNode, IsDirAt, IsVolume, parent_of, is_below}
 use Rattle.coda_tree.proofs.Below.{is_below_sound}
 use Rattle.coda_tree.proofs.Booleans.{or_true, has_some}
-use Rattle.coda_tree.proofs.Parents.{tied_fid, parent_is}
+use Rattle.coda_tree.proofs.Parents.{tied_fid, parent_is, parent_sound}
 use Rattle.coda_certify.specs.declared.reason.Reason.{Reason}
 use Rattle.coda_certify.specs.declared.reason.Reason.TheVariants.{NoDir, WrongKind, NameOther, Marked, NotEmpty, Loop, VolumeFull}
 use Rattle.coda_certify.specs.Checks.{Check, IsADir, IsUnmarked, IsNameFree, IsNotAbove, HasRoom, where_true, no_dir_of, marked_of, no_object_of, wrong_kind_of, is_no_dir, is_dir, is_no_file, creation_checks, store_checks, setattr_checks, remove_checks, rmdir_checks, move_checks, replace_checks, rename_checks, name_taken_of, fid_used_of, not_empty_in, version_of, change_of, not_empty_of, name_other_of, reason_of, ◌otherwise◌, first_reason, checks, certify}
@@ -44,6 +44,7 @@ use Rattle.coda_cell.specs.Accepting.{Accepted, Sight, new_place, accept_creatio
 use Rattle.coda_cell.specs.Refused as refused
 use Rattle.coda_cell.specs.Alone.{IsWhole, AcceptedOperationsCertify, AreAccepted, no_more, one_more, ClientsAloneMeetNoConflict}
 use Rattle.coda_cell.proofs.Accepted.{Relies, accepted_relies, ok_is, found_then, not_at_root, unless_is, or_none, place_is, root_stays, IsSpot, spot_is}
+use Rattle.coda_cell.proofs.Going.{nodes_alone}
 
 sid_same : (a : Sid) → same_sid a a ≡ true
 sid_same a = let c : (a.client == a.client) ≡ true = grind (arith, nat_tests) in let n : (a.number == a.number) ≡ true = grind (arith, nat_tests) in (λ i. c i && n i)
@@ -442,7 +443,11 @@ replays : (volume client : ℕ) (h : Held) (run : List Record) → AreAccepted v
 replays volume client h [] (no_more h') = (h.nodes, refl)
 replays volume client h (rec ∷ run) (one_more s ask rec' run' whole accepted rest) =
     let more = replays volume client (held_after_operation s.held client rec) run rest in
-    (more.0, ap (λ o. unless_refused o rec.number (replay (applied s.held.nodes client rec) client run)) (accepted_operations_certify s volume ask rec.op whole accepted) ∙ more.1)
+    let left = nodes_alone s volume client rec (accepted_relies s volume ask rec.op accepted) (λ f p is. parent_sound s.held.nodes f p (sym (whole.parents f) ∙ is)) in (
+      more.0,
+      ap (λ o. unless_refused o rec.number (replay (applied s.held.nodes client rec) client run)) (accepted_operations_certify s volume ask rec.op whole accepted)
+          ∙ ap (λ m. replay m client run) (sym left) ∙ more.1,
+    )
 
 pub clients_alone_meet_no_conflict : ClientsAloneMeetNoConflict
 clients_alone_meet_no_conflict volume client h run accepted =

@@ -1,5 +1,6 @@
 -- The ways up of what a client holds end: what it holds is a forest.
 use Rattle.std.proofs.Common.{◌≡◌, ◌≢◌, ℕ, zero, suc, ◌+◌, ◌<◌, ◌≤◌, Bool, true, false, cond, ◌||◌, List, [], ◌∷◌, length, Option, Some, None, IsSome, is_some, refl, sym, ap, ◌∙◌, subst, inl, inr, ◌⊎◌, arith}
+use Rattle.std.specs.Prelude.{not}
 use Rattle.std.specs.List.{list_any, AllByRecursion, IsDistinct}
 use Rattle.std.specs.Map.{lookup}
 use Rattle.std.specs.Option.{option_map_or}
@@ -18,20 +19,23 @@ use Rattle.coda_fid.specs.declared.op.Op.TheVariants.{Create, Mkdir, Symlink, St
 use Rattle.coda_fid.specs.declared.op.Record.{Record}
 use Rattle.coda_fid.proofs.Fids.{fids_total, exact_fids, same_fid_is}
 use Rattle.coda_tree.specs.declared.node.Node.{Node}
+use Rattle.coda_tree.specs.declared.node.NodeKind.{NodeKind}
+use Rattle.coda_tree.specs.declared.node.NodeKind.TheVariants.{File, Link, Dir}
 use Rattle.coda_tree.specs.Bindings.{Name}
-use Rattle.coda_tree.specs.Volume.{Nodes, child, child_of, has, parent_of, IsDirNode, changed, written, content_patch, attrs_patch, bind_in, unbind_in, bound, unbound, additions, removals, moves, edited_all}
+use Rattle.coda_tree.specs.Volume.{Nodes, child, child_of, has, parent_of, IsDir, IsDirNode, IsDirAt, written, content_patch, attrs_patch, bind_in, unbind_in, bound, unbound, additions, removals, moves, edited_all}
 use Rattle.coda_tree.proofs.Booleans.{has_some}
-use Rattle.coda_tree.proofs.Order.{fid_cases, get_here, get_else, gone_here, gone_else}
-use Rattle.coda_tree.proofs.Changes.{has_changed}
+use Rattle.coda_tree.proofs.Order.{fid_cases, get_here, get_else, gone_else}
+use Rattle.coda_tree.proofs.Changes.{has_changed, binder_is_dir}
 use Rattle.coda_tree.proofs.Parents.{tied_fid, parent_sound}
 use Rattle.coda_cancel.proofs.Keys.{fid_same, fid_other}
-use Rattle.coda_certify.specs.Replay.{empty_file, empty_dir, new_link, rename_effects, effects, sid_of, applied}
-use Rattle.coda_cell.specs.Held.{Parents, Held, AreBound, IsForest, nothing_held, below_within, is_below, without_over, held_after_operation, held_after_fetch, held_after_fetches}
-use Rattle.coda_cell.specs.Accepting.{Sight}
+use Rattle.coda_certify.specs.Replay.{empty_file, empty_dir, new_link, rename_effects, sid_of, applied}
+use Rattle.coda_cell.specs.Held.{Parents, Held, AreBound, IsForest, nothing_held, below_within, is_below, stays, held_without, held_after_operation, held_after_fetch, held_after_fetches}
+use Rattle.coda_cell.specs.Accepting.{Sight, is_dir_kind, is_dir_at}
 use Rattle.coda_cell.specs.Looking.{offered, fetch_of, looked}
 use Rattle.coda_cell.proofs.Accepted.{MayMove, Relies}
 use Rattle.coda_cell.proofs.Apart.{IsApart}
 use Rattle.coda_cell.proofs.Fetches.{some_fid}
+use Rattle.coda_cell.proofs.Going.{left_was, left_there, below_itself, below_alone, stays_apart}
 
 -- ---- whether a way up goes on
 
@@ -235,21 +239,29 @@ forest_put h nodes fid dir stay here new above forest = record {
     apart : dir ≢ fid
     apart same = absent h.nodes fid new (subst (λ q. has h.nodes q ≡ true) same above)
 
--- an object goes that is no parent
-forest_gone : (h : Held) (nodes : Nodes) (fid : Fid) → ((f : Fid) → f ≢ fid → has h.nodes f ≡ true → has nodes f ≡ true) → ((f : Fid) → map.get h.parents f ≡ Some fid → ⊥) → IsForest h
-    → IsForest (record { nodes = nodes; parents = map.remove h.parents fid })
-forest_gone h nodes fid stay leaf forest = record {
-  kids = λ f p is. (let was = before f p is in stay f was.0 (forest.kids f p was.1));
-  parents = λ f p is. (let was = before f p is in stay p (λ same. leaf f (subst (λ q. map.get h.parents f ≡ Some q) same was.1)) (forest.parents f p was.1));
+-- a forest stays one where with each object that stays its parent does
+forest_left : (h : Held) (nodes : Nodes) (test : Fid → Bool) → ((f : Fid) → test f ≡ true → has h.nodes f ≡ true → has nodes f ≡ true) → ((f p : Fid) → map.get h.parents f ≡ Some p → test f ≡ true → test p ≡ true) → IsForest h
+    → IsForest (record { nodes = map.retain_keys nodes test; parents = map.retain_keys h.parents test })
+forest_left h nodes test stay up forest = record {
+  kids = λ f p is. (let was = left_was h.parents test f p is in there f was.0 (forest.kids f p was.1));
+  parents = λ f p is. (let was = left_was h.parents test f p is in there p (up f p was.1 was.0) (forest.parents f p was.1));
   depth = forest.depth;
-  deeper = λ f p is. forest.deeper f p (before f p is).1;
+  deeper = λ f p is. forest.deeper f p (left_was h.parents test f p is).1;
 }
   where
-    before : (f p : Fid) → map.get (map.remove h.parents fid) f ≡ Some p → (f ≢ fid) × (map.get h.parents f ≡ Some p)
-    before f p is = elim (fid_cases f fid) [
-      | inl same ↦ absurd (none-some p (sym (ap (map.get (map.remove h.parents fid)) same ∙ gone_here fids_total h.parents fid) ∙ is))
-      | inr other ↦ (other, sym (gone_else fids_total exact_fids h.parents fid f other) ∙ is)
-    ]
+    there : (f : Fid) → test f ≡ true → has h.nodes f ≡ true → has (map.retain_keys nodes test) f ≡ true
+    there f passes held = left_there nodes test f passes ∙ stay f passes held
+
+-- the parent of who stays where an object goes stays, since who is below what goes goes too
+stays_above : (h : Held) (gone f p : Fid) → IsForest h → map.get h.parents f ≡ Some p → stays h.parents gone f ≡ true → stays h.parents gone p ≡ true
+stays_above h gone f p forest is here = (elim (is_below h.parents p gone) as (λ b. is_below h.parents p gone ≡ b → not b ≡ true) [
+  | true ↦ λ up. absurd (false≢true (sym (ap not ((below_by h.parents forest.depth forest.deeper f p gone is).1 up)) ∙ here))
+  | false ↦ λ _. refl
+]) refl
+
+-- an object goes, with all that is held below it
+forest_gone : (h : Held) (nodes : Nodes) (gone : Fid) → ((f : Fid) → f ≢ gone → has h.nodes f ≡ true → has nodes f ≡ true) → IsForest h → IsForest (held_without (Some gone) h.parents (record { nodes = nodes; parents = h.parents }))
+forest_gone h nodes gone stay forest = forest_left h nodes (stays h.parents gone) (λ f here. stay f (stays_apart h.parents gone f here)) (λ f p is. stays_above h gone f p forest is) forest
 
 -- an object moves below a directory that isn't the object, nor below it: all below it stands deeper than the directory then
 forest_moved : (h : Held) (nodes : Nodes) (fid dir : Fid) → ((f : Fid) → has h.nodes f ≡ true → has nodes f ≡ true) → has h.nodes fid ≡ true → has h.nodes dir ≡ true → is_below h.parents dir fid ≡ false → IsForest h
@@ -268,7 +280,7 @@ forest_moved h nodes fid dir stay here above apart forest = record {
   deeper = λ f p is. elim (fid_cases f fid) [
     | inl same ↦ (
         let up : depth p ≡ forest.depth dir = ap depth (sym (at f p same is)) ∙ ap (λ b. cond b (forest.depth dir + suc (forest.depth dir)) (forest.depth dir)) apart in
-        let own : depth f ≡ forest.depth fid + suc (forest.depth dir) = ap depth same ∙ ap (λ b. cond b (forest.depth fid + suc (forest.depth dir)) (forest.depth fid)) itself in
+        let own : depth f ≡ forest.depth fid + suc (forest.depth dir) = ap depth same ∙ ap (λ b. cond b (forest.depth fid + suc (forest.depth dir)) (forest.depth fid)) (below_itself h.parents fid) in
         omega (arith, up, own))
     | inr other ↦ (
         let was = before f p other is in
@@ -287,13 +299,6 @@ forest_moved h nodes fid dir stay here above apart forest = record {
 
     at : (f p : Fid) → f ≡ fid → map.get (map.insert h.parents fid dir) f ≡ Some p → dir ≡ p
     at f p same is = some_fid dir p (sym (ap (map.get (map.insert h.parents fid dir)) same ∙ get_here fids_total h.parents fid dir) ∙ is)
-
-    itself : is_below h.parents fid fid ≡ true
-    itself = by (map.len h.parents)
-      where
-        by : (n : ℕ) → below_within h.parents n fid fid ≡ true
-        by zero = fid_same fid fid refl
-        by (suc n) = ap (λ b. b || option_map_or (λ p. below_within h.parents n p fid) (map.get h.parents fid) false) (fid_same fid fid refl)
 
     alike : (f p : Fid) → f ≢ fid → map.get h.parents f ≡ Some p → is_below h.parents f fid ≡ is_below h.parents p fid
     alike f p other is =
@@ -340,35 +345,6 @@ forest_look offers h fid forest = by (map.get h.nodes fid) (offered offers fid) 
 
 -- ---- after an operation
 
--- a directory that binds nothing is nobody's parent
-no_parent : (h : Held) (fid : Fid) → AreBound h → ((name : Name) → child h.nodes fid name ≡ None) → (f : Fid) → map.get h.parents f ≡ Some fid → ⊥
-no_parent h fid bound leaf f is = (let at = bound f fid is in none-some f (sym (leaf at.0) ∙ at.1))
-
--- what is above an object among fewer parents is above it among all
-below_fewer : (parents : Parents) (gone : Fid) (n : ℕ) (f g : Fid) → below_within (map.remove parents gone) n f g ≡ true → below_within parents n f g ≡ true
-below_fewer parents gone zero f g is = is
-below_fewer parents gone (suc n) f g is = (elim (same_fid f g) as (λ b. (b || option_map_or (λ p. below_within (map.remove parents gone) n p g) (map.get (map.remove parents gone) f) false) ≡ true → (b || option_map_or (λ p. below_within parents n p g) (map.get parents f) false) ≡ true) [
-  | true ↦ λ _. refl
-  | false ↦ λ rest. elim (fid_cases f gone) [
-    | inl same ↦ absurd (false≢true (sym (ap (λ o. option_map_or (λ p. below_within (map.remove parents gone) n p g) o false) (ap (map.get (map.remove parents gone)) same ∙ gone_here fids_total parents gone)) ∙ rest))
-    | inr other ↦ up (λ p e. below_fewer parents gone n p g e) (map.get parents f) (sym (ap (λ o. option_map_or (λ p. below_within (map.remove parents gone) n p g) o false) (gone_else fids_total exact_fids parents gone f other)) ∙ rest)
-  ]
-]) is
-  where
-    up : ((p : Fid) → below_within (map.remove parents gone) n p g ≡ true → below_within parents n p g ≡ true) → (o : Option Fid) → option_map_or (λ p. below_within (map.remove parents gone) n p g) o false ≡ true
-        → option_map_or (λ p. below_within parents n p g) o false ≡ true
-    up later None e = e
-    up later (Some p) e = later p e
-
--- so what isn't below an object isn't, once another has no parent any more
-apart_still : (h : Held) (gone f g : Fid) → IsForest h → is_below h.parents f g ≡ false → is_below (map.remove h.parents gone) f g ≡ false
-unfolding is_below
-apart_still h gone f g forest apart = (elim (below_within (map.remove h.parents gone) (map.len (map.remove h.parents gone)) f g) as (λ b. below_within (map.remove h.parents gone) (map.len (map.remove h.parents gone)) f g ≡ b → b ≡ false) [
-  | true ↦ λ is. absurd (false≢true (sym apart ∙ within_less h.parents forest.depth forest.deeper (map.len h.parents) (map.len (map.remove h.parents gone)) f g (ends h.parents forest.depth forest.deeper f)
-      (below_fewer h.parents gone (map.len (map.remove h.parents gone)) f g is)))
-  | false ↦ λ _. refl
-]) refl
-
 -- what is there stays, but what is taken out
 stays_added : (m : Nodes) (dir : Fid) (name : Name) (fid : Fid) (new : Node) (f : Fid) → has m f ≡ true → has (edited_all m (additions dir name fid new)) f ≡ true
 stays_added m dir name fid new f there = elim (fid_cases f fid) [
@@ -391,30 +367,70 @@ forest_created : (h : Held) (dir : Fid) (name : Name) (fid : Fid) (new : Node) �
 forest_created h dir name fid new dir_there free forest =
     forest_put h (edited_all h.nodes (additions dir name fid new)) fid dir (stays_added h.nodes dir name fid new) (there_added h.nodes dir name fid new) free (dir_has (map.get h.nodes dir) dir_there) forest
 
-forest_renamed : (h : Held) (from_dir : Fid) (from : Name) (to_dir : Fid) (to : Name) (fid : Fid) (over : Option Over) → MayMove h.nodes from_dir from to_dir to fid over → is_below h.parents to_dir fid ≡ false → AreBound h → IsForest h
-    → IsForest (record { nodes = edited_all h.nodes (rename_effects from_dir from to_dir to fid over); parents = map.insert (without_over h.parents over) fid to_dir })
-forest_renamed h from_dir from to_dir to fid None may apart bound forest =
-    forest_moved h (edited_all h.nodes (moves from_dir from to_dir to fid)) fid to_dir (stays_moved h.nodes from_dir from to_dir to fid) may.there (dir_has (map.get h.nodes to_dir) may.places.to_there) apart forest
-forest_renamed h from_dir from to_dir to fid (Some over) may apart bound forest =
+-- the directory into which a rename moves an object isn't held below what it replaces, so it stays
+abbrev pub IsBeside : Parents → Op → Type 0
+IsBeside parents (Rename from_dir from to_dir to fid (Some over)) = is_below parents to_dir over.fid ≡ false
+IsBeside parents op = Unit {0}
+
+-- what a rename replaces goes with all below it; where the moved object is one of them, it goes too
+forest_replaced : (h : Held) (from_dir : Fid) (from : Name) (to_dir : Fid) (to : Name) (fid : Fid) (over : Over) → MayMove h.nodes from_dir from to_dir to fid (Some over) → is_below h.parents to_dir fid ≡ false → is_below h.parents to_dir over.fid ≡ false → IsForest h
+    → IsForest (held_without (Some over.fid) h.parents (record { nodes = edited_all h.nodes (rename_effects from_dir from to_dir to fid (Some over)); parents = map.insert h.parents fid to_dir }))
+forest_replaced h from_dir from to_dir to fid over may apart beside forest =
     let less = map.remove h.nodes over.fid in
-    let left : Held = record { nodes = less; parents = map.remove h.parents over.fid } in
-    let stay : (f : Fid) → f ≢ over.fid → has h.nodes f ≡ true → has less f ≡ true = λ f other there. ap is_some (gone_else fids_total exact_fids h.nodes over.fid f other) ∙ there in
-    let gone = forest_gone h less over.fid stay (no_parent h over.fid bound may.replaced.2) forest in
-    let to_apart : to_dir ≢ over.fid = λ same. none-some over.fid (sym (may.replaced.2 to) ∙ ap (λ d. child h.nodes d to) (sym same) ∙ may.places.bound) in
-    forest_moved left (edited_all less (moves from_dir from to_dir to fid)) fid to_dir (stays_moved less from_dir from to_dir to fid) (stay fid (λ same. may.replaced.1 (sym same)) may.there)
-    (stay to_dir to_apart (dir_has (map.get h.nodes to_dir) may.places.to_there)) (apart_still h over.fid to_dir fid forest apart) gone
+    let moved = forest_moved h h.nodes fid to_dir (λ f there. there) may.there (dir_has (map.get h.nodes to_dir) may.places.to_there) apart forest in
+    forest_left (record { nodes = h.nodes; parents = map.insert h.parents fid to_dir }) (edited_all less (moves from_dir from to_dir to fid)) (stays h.parents over.fid)
+    (λ f here there. stays_moved less from_dir from to_dir to fid f (ap is_some (gone_else fids_total exact_fids h.nodes over.fid f (stays_apart h.parents over.fid f here)) ∙ there))
+    (λ f p is here. elim (fid_cases f fid) [
+      | inl same ↦ (
+          let at : to_dir ≡ p = some_fid to_dir p (sym (ap (map.get (map.insert h.parents fid to_dir)) same ∙ get_here fids_total h.parents fid to_dir) ∙ is) in
+          subst (λ q. stays h.parents over.fid q ≡ true) at (ap not beside))
+      | inr other ↦ stays_above h over.fid f p forest (sym (get_else fids_total exact_fids h.parents fid to_dir f other) ∙ is) here
+    ]) moved
 
 -- the client's own operation, which relies on what is held
-pub forest_operation : (s : Sight) (volume client : ℕ) (rec : Record) → Relies s volume rec.op → IsApart s.held.parents rec.op → AreBound s.held → IsForest s.held → IsForest (held_after_operation s.held client rec)
+pub forest_operation : (s : Sight) (volume client : ℕ) (rec : Record) → Relies s volume rec.op → IsApart s.held.parents rec.op → IsBeside s.held.parents rec.op → IsForest s.held → IsForest (held_after_operation s.held client rec)
 unfolding applied
-forest_operation s volume client rec relies apart bound forest = by rec.op relies apart
+forest_operation s volume client rec relies apart beside forest = by rec.op relies apart beside
   where
-    by : (op : Op) → Relies s volume op → IsApart s.held.parents op → IsForest (held_after_operation s.held client (record { number = rec.number; time = rec.time; op = op }))
-    by (Create dir name fid mode owner) r a = forest_created s.held dir name fid (empty_file mode owner rec.time (sid_of client rec)) r.place.dir_there r.place.fid_free forest
-    by (Mkdir dir name fid mode owner) r a = forest_created s.held dir name fid (empty_dir mode owner rec.time (sid_of client rec)) r.place.dir_there r.place.fid_free forest
-    by (Symlink dir name fid target mode owner) r a = forest_created s.held dir name fid (new_link target mode owner rec.time (sid_of client rec)) r.place.dir_there r.place.fid_free forest
-    by (Store fid pre content) r a = forest_same s.held _ (λ f there. has_changed s.held.nodes fid (written (content_patch content rec.time) (sid_of client rec)) f ∙ there) forest
-    by (Setattr fid pre attrs) r a = forest_same s.held _ (λ f there. has_changed s.held.nodes fid (written (attrs_patch attrs) (sid_of client rec)) f ∙ there) forest
-    by (Remove dir name fid pre) r a = forest_gone s.held _ fid (stays_removed s.held.nodes dir name fid) (no_parent s.held fid bound r.0.leaf) forest
-    by (Rmdir dir name fid pre) r a = forest_gone s.held _ fid (stays_removed s.held.nodes dir name fid) (no_parent s.held fid bound r.0.leaf) forest
-    by (Rename from_dir from to_dir to fid over) r a = forest_renamed s.held from_dir from to_dir to fid over r a bound forest
+    by : (op : Op) → Relies s volume op → IsApart s.held.parents op → IsBeside s.held.parents op → IsForest (held_after_operation s.held client (record { number = rec.number; time = rec.time; op = op }))
+    by (Create dir name fid mode owner) r a b = forest_created s.held dir name fid (empty_file mode owner rec.time (sid_of client rec)) r.place.dir_there r.place.fid_free forest
+    by (Mkdir dir name fid mode owner) r a b = forest_created s.held dir name fid (empty_dir mode owner rec.time (sid_of client rec)) r.place.dir_there r.place.fid_free forest
+    by (Symlink dir name fid target mode owner) r a b = forest_created s.held dir name fid (new_link target mode owner rec.time (sid_of client rec)) r.place.dir_there r.place.fid_free forest
+    by (Store fid pre content) r a b = forest_same s.held _ (λ f there. has_changed s.held.nodes fid (written (content_patch content rec.time) (sid_of client rec)) f ∙ there) forest
+    by (Setattr fid pre attrs) r a b = forest_same s.held _ (λ f there. has_changed s.held.nodes fid (written (attrs_patch attrs) (sid_of client rec)) f ∙ there) forest
+    by (Remove dir name fid pre) r a b = forest_gone s.held _ fid (stays_removed s.held.nodes dir name fid) forest
+    by (Rmdir dir name fid pre) r a b = forest_gone s.held _ fid (stays_removed s.held.nodes dir name fid) forest
+    by (Rename from_dir from to_dir to fid None) r a b =
+        forest_moved s.held (edited_all s.held.nodes (moves from_dir from to_dir to fid)) fid to_dir (stays_moved s.held.nodes from_dir from to_dir to fid) r.there (dir_has (map.get s.held.nodes to_dir) r.places.to_there) a forest
+    by (Rename from_dir from to_dir to fid (Some over)) r a b = forest_replaced s.held from_dir from to_dir to fid over r a b forest
+
+-- each parent is a directory
+abbrev pub AreDirs : Held → Type 0
+AreDirs held = (f p : Fid) → map.get held.parents f ≡ Some p → IsDirAt held.nodes p
+
+no_dir : (o : Option Node) → IsDirNode o → is_dir_at o ≡ false → ⊥
+no_dir None is file = absurd is
+no_dir (Some node) is file = by node.kind is file
+  where
+    by : (kind : NodeKind) → IsDir kind → is_dir_kind kind ≡ false → ⊥
+    by (File content) none e = absurd none
+    by (Link target) none e = absurd none
+    by (Dir entries) all e = false≢true (sym e)
+
+-- then what a rename replaces is nobody's parent, since it is no directory
+pub beside_dirs : (s : Sight) (volume : ℕ) (op : Op) → Relies s volume op → AreDirs s.held → IsBeside s.held.parents op
+beside_dirs s volume (Create dir name fid mode owner) r dirs = tt
+beside_dirs s volume (Mkdir dir name fid mode owner) r dirs = tt
+beside_dirs s volume (Symlink dir name fid target mode owner) r dirs = tt
+beside_dirs s volume (Store fid pre content) r dirs = tt
+beside_dirs s volume (Setattr fid pre attrs) r dirs = tt
+beside_dirs s volume (Remove dir name fid pre) r dirs = tt
+beside_dirs s volume (Rmdir dir name fid pre) r dirs = tt
+beside_dirs s volume (Rename from_dir from to_dir to fid None) r dirs = tt
+beside_dirs s volume (Rename from_dir from to_dir to fid (Some over)) r dirs =
+    let other : to_dir ≢ over.fid = λ same. none-some over.fid (sym (r.replaced.2 to) ∙ ap (λ d. child s.held.nodes d to) (sym same) ∙ r.places.bound) in
+    below_alone s.held.parents over.fid (λ f is. no_dir (map.get s.held.nodes over.fid) (dirs f over.fid is) r.replaced.3) to_dir ∙ fid_other to_dir over.fid other
+
+-- each parent is a directory where it binds what it is the parent of
+pub dirs_bound : (h : Held) → AreBound h → AreDirs h
+dirs_bound h bound = λ f p is. let at = bound f p is in binder_is_dir h.nodes p at.0 f at.1

@@ -1,5 +1,5 @@
 -- A cell stays kept by what a client fetches, and by an operation that it accepts.
-use Rattle.std.proofs.Common.{◌≡◌, ◌≢◌, ℕ, ◌+◌, ◌==◌, true, false, cond, List, [], ◌∷◌, ◌++◌, append_assoc, map, Some, None, Ok, refl, sym, ap, ◌∙◌, subst, inl, inr, ◌⊎◌}
+use Rattle.std.proofs.Common.{◌≡◌, ◌≢◌, ℕ, ◌+◌, ◌==◌, true, false, cond, List, [], ◌∷◌, ◌++◌, append_assoc, map, Option, Some, None, Ok, refl, sym, ap, ◌∙◌, subst, inl, inr, ◌⊎◌}
 use Rattle.std.proofs.lemmas.Bool.{eqb-true, eq-eqb, false≢true, cases_Bool, false_from_ne_true}
 use Rattle.std.specs.FinMap as finite
 use Rattle.coda_fid.specs.declared.fid.Fid.{Fid}
@@ -22,7 +22,7 @@ use Rattle.coda_plain.proofs.Soundness.{none_joins, runs_sound}
 use Rattle.coda_cml.proofs.runs.StillThere.{creates_mentions}
 use Rattle.coda_cml.proofs.runs.WithoutObject.{makes_parts}
 use Rattle.coda_cell.specs.Ask.{Asked}
-use Rattle.coda_cell.specs.Held.{Fetch}
+use Rattle.coda_cell.specs.Held.{Held, Fetch, taken_out, parents_after}
 use Rattle.coda_cell.specs.Looking.{fetched, entries_of}
 use Rattle.coda_cell.specs.State.{put, pending, ClientVolume, volume_after, ClientState, new_client, client_after, Event, at_client}
 use Rattle.coda_cell.specs.Accepting.{Sight, sight_of, accept, next_fid}
@@ -34,7 +34,8 @@ use Rattle.coda_cell.proofs.Accepted.{Relies, accepted_relies}
 use Rattle.coda_cell.proofs.Apart.{accepted_apart}
 use Rattle.coda_cell.proofs.AfterOperations.{bound_before, bound_operation, has_operation}
 use Rattle.coda_cell.proofs.Fetches.{client_after_both, client_after_fetches}
-use Rattle.coda_cell.proofs.Forests.{forest_operation}
+use Rattle.coda_cell.proofs.Forests.{forest_operation, beside_dirs, dirs_bound}
+use Rattle.coda_cell.proofs.Going.{had_with, bound_with, nodes_alone}
 use Rattle.coda_cell.proofs.Histories.{IsOfCourse, client_push, volume_of, volumes_are, number_stays, shown}
 use Rattle.coda_cell.proofs.KeptCells.{lawful, pending_is}
 use Rattle.coda_cell.proofs.NamedObjects.{accepted_names, accepted_creates}
@@ -253,17 +254,25 @@ module _ (cell : MadeCell) (number blocks : ℕ) (kept : IsKept cell) (there : c
     | false ↦ λ off. kept_children_beside sight volume client.number next_operation (pending (client.volumes w)) (holds.kept w) relies (beside w off)
   ] refl
 
+  -- what it takes out, and what is held before that goes
+  abbrev gone : Option Fid
+  gone = taken_out op
+
+  abbrev behind : Held
+  behind = record { nodes = applied client.held.nodes client.number next_operation; parents = parents_after client.held.parents op }
+
   operation_holding : IsHolding next.acted (client_after client entry)
   operation_holding = record {
     bound = bound_operation sight volume client.number next_operation relies holds.bound;
-    forest = forest_operation sight volume client.number next_operation relies (accepted_apart sight volume ask op accepted) holds.bound holds.forest;
-    within = within_operation client.held.nodes volume client.number next_operation holds.within (λ fid mentions. (names fid mentions).0);
-    made = λ fid is. elim (has_operation client.held.nodes client.number next_operation fid is) [ inl old ↦ made_before fid (holds.made fid old) | inr new ↦ made_now fid new ];
-    named = λ dir kid name is. elim (bound_before client.held.nodes client.number next_operation dir name kid is) [
+    forest = forest_operation sight volume client.number next_operation relies (accepted_apart sight volume ask op accepted) (beside_dirs sight volume op relies (dirs_bound client.held holds.bound)) holds.forest;
+    within = λ dir kid name is. within_operation client.held.nodes volume client.number next_operation holds.within (λ fid mentions. (names fid mentions).0) dir kid name (bound_with gone client.held.parents behind dir kid name is);
+    made = λ fid is. elim (has_operation client.held.nodes client.number next_operation fid (had_with gone client.held.parents behind fid is)) [ inl old ↦ made_before fid (holds.made fid old) | inr new ↦ made_now fid new ];
+    named = λ dir kid name is. elim (bound_before client.held.nodes client.number next_operation dir name kid (bound_with gone client.held.parents behind dir kid name is)) [
       | inl was ↦ made_before kid (holds.named dir kid name was)
       | inr anew ↦ elim (names kid (bound_is_named op dir name kid anew).1).1 [ inl held ↦ made_before kid (holds.made kid held) | inr new ↦ made_now kid new.0 ]
     ];
-    kept = operation_kept;
+    kept = λ w. subst (λ m. AreChildrenKept m (pending (put client.volumes volume (volume_after (client.volumes volume) (Operated next_operation)) w)))
+        (sym (nodes_alone sight volume client.number next_operation relies holds.bound)) (operation_kept w);
   }
 
   all_holding : (c b : ℕ) → cell.sizes c ≡ Some b → IsHolding next.acted (client_of c (next.acted.clients c).history b)

@@ -3,6 +3,7 @@ pub mod LightLogs
 pub mod Accepted
 pub mod Fetches
 pub mod Apart
+pub mod Going
 pub mod Forests
 pub mod AfterOperations
 pub mod NamedObjects

@@ -1,5 +1,5 @@
 -- What actors did can be spelled, after whatever entries that can be.
-use Rattle.std.proofs.Common.{◌≡◌, ℕ, ◌==◌, ◌&&◌, true, false, cond, List, [], ◌∷◌, ◌++◌, append-nil, Some, None, refl, sym, ap, ◌∙◌, subst, inl, inr}
+use Rattle.std.proofs.Common.{◌≡◌, ℕ, ◌==◌, ◌&&◌, true, false, cond, List, [], ◌∷◌, ◌++◌, append-nil, Option, Some, None, refl, sym, ap, ◌∙◌, subst, inl, inr}
 use Rattle.std.proofs.lemmas.Bool.{eqb-true, cases_Bool, and_parts}
 use Rattle.std.specs.FinMap as map
 use Rattle.coda_fid.specs.declared.op.Record.{Record}
@@ -8,6 +8,7 @@ use Rattle.coda_fid.proofs.Fids.{fids_total, exact_fids}
 use Rattle.coda_tree.specs.Volume.{Nodes, child_of}
 use Rattle.coda_tree.proofs.Order.{fid_cases, gone_here, gone_else}
 use Rattle.coda_certify.specs.declared.verdict.Verdict.TheVariants.{Applied}
+use Rattle.coda_certify.specs.Replay.{applied}
 use Rattle.coda_certify.specs.Verdicts.{verdict_of}
 use Rattle.coda_cancel.specs.Cancel.{fold}
 use Rattle.coda_cancel.specs.Numbers.{AreAbove, IsRising}
@@ -30,11 +31,12 @@ use Rattle.coda_plain.proofs.Lists.{in_parts, told_last, follow_push, along}
 use Rattle.coda_plain.proofs.Places.{deeds_push, deeds_beside}
 use Rattle.coda_plain.proofs.Ranges.{both_parts, above_rising}
 use Rattle.coda_plain.proofs.Soundness.{none_joins, moves_keep_sound}
-use Rattle.coda_cell.specs.Held.{Held, held_after, held_after_drops}
+use Rattle.coda_cell.specs.Held.{Held, Parents, taken_out, stays, held_without, parents_after, held_after, held_after_drops}
 use Rattle.coda_cell.specs.State.{ClientState, new_client}
 use Rattle.coda_cell.specs.Made.{client_of}
 use Rattle.coda_spelling.specs.Spelled.{IsSpelled, AreSpelled, AreAllSpelled}
 use Rattle.coda_cell.specs.Spelled.{IsReplicaSpelled, DidSpelled}
+use Rattle.coda_cell.proofs.Going.{left_was, bound_with}
 use Rattle.coda_cell.proofs.Histories.{client_push, number_stays}
 use Rattle.coda_cell.proofs.SpelledFolds.{all_spelled, sent_spelled}
 use Rattle.coda_cell.proofs.SpelledDecisions.{after_decision, room_decided, verdict_spelled}
@@ -134,9 +136,17 @@ entry_spelled client volume history (Did at deed) are is = subst AreDeedsSpelled
     ])
 entry_spelled client volume history (Dropping gone entry) are is = subst AreDeedsSpelled (sym (deeds_beside gone volume entry history)) (entry_spelled client volume history entry are is)
 
+after_going : (gone : Option Fid) (parents : Parents) (h : Held) → AreSpelled h.nodes → AreSpelled (held_without gone parents h).nodes
+after_going None parents h are = are
+after_going (Some gone) parents h are = record {
+  versions = λ fid node e. are.versions fid node (left_was h.nodes (stays parents gone) fid node e).1;
+  bound = λ dir kid name e. are.bound dir kid name (bound_with (Some gone) parents h dir kid name e);
+}
+
 -- what is held; what is fetched comes from nodes that can be spelled
 held_by_deed : (h : Held) (client : ℕ) (volume : ℕ) (deed : Deed) → AreSpelled h.nodes → IsDeedSpelled client deed → AreSpelled (held_after h client (Did volume deed)).nodes
-held_by_deed h client volume (Operated rec) are is = after_operation h.nodes client rec are is.0 is.1
+held_by_deed h client volume (Operated rec) are is =
+    after_going (taken_out rec.op) h.parents (record { nodes = applied h.nodes client rec; parents = parents_after h.parents rec.op }) (after_operation h.nodes client rec are is.0 is.1)
 held_by_deed h client volume (Froze number home last) are is = are
 held_by_deed h client volume (Settled number verdict) are is = are
 held_by_deed h client volume Gaveup are is = are

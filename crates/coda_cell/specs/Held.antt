@@ -1,5 +1,5 @@
 -- What a client holds: nodes, and the directory that is the parent of each.
-use Rattle.std.specs.Prelude.{ℕ, suc, zero, ◌<◌, Bool, true, false, ◌&&◌, ◌||◌, not, List, [], ◌∷◌, Option, Some, None, ◌≡◌}
+use Rattle.std.specs.Prelude.{ℕ, suc, zero, ◌<◌, Bool, true, false, ◌&&◌, ◌||◌, not, List, [], ◌∷◌, Option, Some, None, option_map, ◌≡◌}
 use Rattle.std.specs.Option.{option_map_or}
 use Rattle.std.specs.List.{list_any}
 use Rattle.std.specs.FinMap as map
@@ -66,25 +66,40 @@ abbrev pub with_parent : Parents → Fid → Option Fid → Parents
 with_parent parents fid None = parents
 with_parent parents fid (Some parent) = map.insert parents fid parent
 
--- the parents without that of an object that is replaced
-abbrev pub without_over : Parents → Option Over → Parents
-without_over parents None = parents
-without_over parents (Some over) = map.remove parents over.fid
-
--- the parents after the client's own operation
+-- the parents after the client's own operation, before what it takes out goes
 abbrev pub parents_after : Parents → Op → Parents
 parents_after parents (Create dir name fid mode owner) = map.insert parents fid dir
 parents_after parents (Mkdir dir name fid mode owner) = map.insert parents fid dir
 parents_after parents (Symlink dir name fid target mode owner) = map.insert parents fid dir
 parents_after parents (Store fid pre content) = parents
 parents_after parents (Setattr fid pre attrs) = parents
-parents_after parents (Remove dir name fid pre) = map.remove parents fid
-parents_after parents (Rmdir dir name fid pre) = map.remove parents fid
-parents_after parents (Rename from_dir from to_dir to fid over) = map.insert (without_over parents over) fid to_dir
+parents_after parents (Remove dir name fid pre) = parents
+parents_after parents (Rmdir dir name fid pre) = parents
+parents_after parents (Rename from_dir from to_dir to fid over) = map.insert parents fid to_dir
 
--- what is held after an operation of the client with this number
+-- the object that an operation takes out
+abbrev pub taken_out : Op → Option Fid
+taken_out (Create dir name fid mode owner) = None
+taken_out (Mkdir dir name fid mode owner) = None
+taken_out (Symlink dir name fid target mode owner) = None
+taken_out (Store fid pre content) = None
+taken_out (Setattr fid pre attrs) = None
+taken_out (Remove dir name fid pre) = Some fid
+taken_out (Rmdir dir name fid pre) = Some fid
+taken_out (Rename from_dir from to_dir to fid over) = option_map (λ (o : Over). o.fid) over
+
+-- whether an object stays where another goes with all that is held below it
+abbrev pub stays : Parents → Fid → Fid → Bool
+stays parents gone f = not (is_below parents f gone)
+
+-- what is held once an object went with all that was held below it, by these parents
+abbrev pub held_without : Option Fid → Parents → Held → Held
+held_without None parents held = held
+held_without (Some gone) parents held = record { nodes = map.retain_keys held.nodes (stays parents gone); parents = map.retain_keys held.parents (stays parents gone) }
+
+-- what is held after an operation of the client with this number: what it takes out goes with all that was held below it
 abbrev pub held_after_operation : Held → ℕ → Record → Held
-held_after_operation held client rec = record { nodes = applied held.nodes client rec; parents = parents_after held.parents rec.op }
+held_after_operation held client rec = held_without (taken_out rec.op) held.parents (record { nodes = applied held.nodes client rec; parents = parents_after held.parents rec.op })
 
 -- what is held after a deed; chunks change nothing of it
 abbrev pub held_after_deed : Held → ℕ → Deed → Held

@@ -1,5 +1,5 @@
 -- An entry leaves a copy that it doesn't make not valid.
-use Rattle.std.proofs.Common.{◌≡◌, ℕ, Bool, false, ◌&&◌, ◌==◌, sym, ap, ◌∙◌}
+use Rattle.std.proofs.Common.{◌≡◌, ℕ, Bool, true, false, not, ◌&&◌, ◌==◌, refl, sym, ap, ◌∙◌}
 use Rattle.std.proofs.lemmas.Bool.{eq-eqb}
 use Rattle.coda_fid.specs.declared.fid.Fid.{Fid}
 use Rattle.coda_certify.specs.declared.verdict.Verdict.{Verdict}
@@ -10,6 +10,7 @@ use Rattle.coda_record.specs.declared.entry.ClientEntry.TheVariants.{Op, Freeze,
 use Rattle.coda_record.specs.declared.entry.ClientEntry.TheVariants.{Snapshot}
 use Rattle.coda_cancel.proofs.Keys.{fid_false}
 use Rattle.coda_copies.specs.Copies.{SettlementLeavesCopy, LeavesCopy}
+use Rattle.coda_venus.specs.Held.{taken_out, stays_by}
 use Rattle.coda_venus.specs.State.{ClientState}
 use Rattle.coda_coherence.specs.Cell.{settlement_invalidates, invalidates}
 
@@ -23,7 +24,11 @@ left_by_settlement (Conflict number why) log fid h = tt
 
 pub sparing : (c : ClientState) (entry : ClientEntry) (fid : Fid) → invalidates c entry fid ≡ false
     → LeavesCopy c entry fid
-sparing c (Op volume rec) fid h = h
+sparing c (Op volume rec) fid h = stays_so (stays_by c.held.parents (taken_out rec.op) fid) h
+  where
+    stays_so : (b : Bool) → not b ≡ false → b ≡ true
+    stays_so true e = refl
+    stays_so false e = sym e
 sparing c (Freeze volume number home last) fid h = tt
 sparing c (Settled volume number verdict) fid h =
     λ e. left_by_settlement verdict (c.volumes volume).log fid (second fid.volume volume _ h e)

@@ -1,7 +1,7 @@
 -- A cell as its caches see it: what servers decided and remember of their clients, what clients have and hold valid
 -- copies of, and which Breaks are under way.
 use Rattle.std.specs.Prelude.{◌≡◌, ◌≢◌, ℕ, ◌+◌, Bool, true, false, cond, ◌&&◌, ◌==◌, List, [], ◌∷◌, ◌++◌, length}
-use Rattle.std.specs.Prelude.{take, Option, Some, None, IsSome}
+use Rattle.std.specs.Prelude.{take, not, Option, Some, None, IsSome}
 use Rattle.std.specs.Option.{option_and_then}
 use Rattle.std.specs.FinMap as map
 use Rattle.coda_fid.specs.Fid.{same_fid}
@@ -18,6 +18,7 @@ use Rattle.coda_plain.specs.Decisions.{ReplicaEntry, nodes_of}
 use Rattle.coda_record.specs.declared.entry.ClientEntry.{ClientEntry}
 use Rattle.coda_record.specs.declared.entry.ClientEntry.TheVariants as entry
 use Rattle.coda_overlay.specs.Overlaying.{Predates, takes_out}
+use Rattle.coda_venus.specs.Held.{taken_out, stays_by}
 use Rattle.coda_copies.specs.Copies.{log_records, records_for, cached_node, RespectsGiven}
 use Rattle.coda_venus.specs.History.{MayEnter}
 use Rattle.coda_venus.specs.State.{ClientState, new_client, client_after}
@@ -98,10 +99,10 @@ abbrev pub settlement_invalidates : Verdict → LogState → Fid → Bool
 settlement_invalidates Applied log fid = any_record (mentioning fid) log.chunk
 settlement_invalidates (Conflict number why) log fid = false
 
--- whether an entry of a client makes its copy of the object not valid: an operation that takes it out, a settlement
+-- whether an entry of a client makes its copy of the object not valid: an operation by which it goes, a settlement
 -- of an applied chunk that mentions it, giving up a log that does, a fetch or a drop of it
 abbrev pub invalidates : ClientState → ClientEntry → Fid → Bool
-invalidates c (entry.Op volume rec) fid = takes_out fid rec.op
+invalidates c (entry.Op volume rec) fid = not (stays_by c.held.parents (taken_out rec.op) fid)
 invalidates c (entry.Freeze volume number home last) fid = false
 invalidates c (entry.Settled volume number verdict) fid =
     (fid.volume == volume) && settlement_invalidates verdict (c.volumes volume).log fid

@@ -1,5 +1,5 @@
 -- What a client's log mentions is cached or taken out.
-use Rattle.std.proofs.Common.{◌≡◌, ℕ, ◌==◌, Bool, true, false, cond, ◌||◌, List, [], ◌∷◌, ◌++◌, take, drop, Option, Some}
+use Rattle.std.proofs.Common.{◌≡◌, ℕ, Bool, true, false, cond, ◌||◌, List, [], ◌∷◌, ◌++◌, take, drop, Option, Some}
 use Rattle.std.proofs.Common.{None, IsSome, is_some, option_map, refl, sym, ap, ◌∙◌, subst, ⊎_elim, inl, inr, ◌⊎◌}
 use Rattle.std.proofs.lemmas.Bool.{or_parts, or_cases, or_left, or_right, false≢true, false_from_ne_true, cases_Bool}
 use Rattle.std.proofs.lemmas.Bool.{eq-eqb}
@@ -8,7 +8,6 @@ use Rattle.std.specs.FinMap as map
 use Rattle.coda_fid.specs.Fid.{same_fid}
 use Rattle.coda_fid.specs.declared.fid.Fid.{Fid}
 use Rattle.coda_fid.specs.declared.fid.Sid.{Sid}
-use Rattle.coda_fid.specs.declared.op.Over.{Over}
 use Rattle.coda_fid.specs.declared.op.Op.{Op}
 use Rattle.coda_fid.specs.declared.op.Op.TheVariants as op
 use Rattle.coda_fid.specs.declared.op.Record.{Record}
@@ -20,25 +19,26 @@ use Rattle.coda_tree.proofs.Order.{get_here, get_else, gone_else, fid_cases}
 use Rattle.coda_certify.specs.Replay.{effects, sid_of, applied, empty_file, empty_dir, new_link}
 use Rattle.coda_certify.specs.declared.verdict.Verdict.{Verdict}
 use Rattle.coda_certify.specs.declared.verdict.Verdict.TheVariants.{Applied, Conflict}
-use Rattle.coda_cancel.specs.Cancel.{add, added, cancels}
+use Rattle.coda_cancel.specs.Cancel.{add, added}
 use Rattle.coda_cancel.specs.Dropping.{mentioning, creates}
 use Rattle.coda_cancel.proofs.Keys.{fid_true, fid_same}
-use Rattle.coda_cml.specs.Steady.{any_record, is_over}
+use Rattle.coda_cml.specs.Steady.{any_record}
 use Rattle.coda_cml.specs.Steps.{records_in}
 use Rattle.coda_cml.proofs.runs.WithoutObject.{any-append}
-use Rattle.coda_cml.proofs.runs.ThawedFold.{cancels_created, mentions_in_added}
+use Rattle.coda_cml.proofs.runs.ThawedFold.{mentions_in_added}
 use Rattle.coda_plain.specs.Deeds.{Operated, Froze, Settled as SettledDeed, Gaveup}
 use Rattle.coda_record.specs.declared.entry.ClientEntry.{ClientEntry}
 use Rattle.coda_record.specs.declared.entry.ClientEntry.TheVariants as entry
-use Rattle.coda_overlay.specs.Objects.{edited_at, all_edited_at, operated_at}
+use Rattle.coda_overlay.specs.Objects.{edited_at, all_edited_at}
 use Rattle.coda_overlay.specs.Overlaying.{takes_out, EndsTakenOut, IsTailNew}
 use Rattle.coda_overlay.proofs.Copies.{get-applied}
 use Rattle.coda_overlay.proofs.Endings.{ends_behind, ends_before, ends_split, ends_take, ends_stay, add_quiet, takes_mentions, taken_undone}
-use Rattle.coda_overlay.proofs.Logs.{unmentioned}
 use Rattle.coda_venus.specs.Accepting.{Sight, sight_of}
 use Rattle.coda_venus.specs.History.{MayEnter}
 use Rattle.coda_venus.specs.State.{ended_by, ClientVolume, ClientState, volume_after, client_after}
 use Rattle.coda_venus.proofs.Accepted.{Relies, accepted_relies}
+use Rattle.coda_venus.specs.Held.{parents_after, taken_out, stays_by}
+use Rattle.coda_copies.proofs.Staying.{node_stays}
 use Rattle.coda_copies.specs.Copies.{log_records, records_for, cached_node, MentionsApart, KeepsMentioned, AreMentionedKept}
 use Rattle.coda_copies.specs.Copies.{MentionedObjectsAreKept}
 use Rattle.coda_copies.proofs.Entries.{at_volume, none_frozen}
@@ -246,30 +246,54 @@ frozen_kept f v number home last now empty kept = subst (λ l. any_record (menti
 given_up_kept : (f : Fid) (v : ClientVolume) (now : Option Node) → v.log.chunk ≡ [] → OfVolume f (volume_after v Gaveup) now
 given_up_kept f v now empty m = absurd (false≢true (subst (λ l. any_record (mentioning f) (l ++ []) ≡ true) empty m))
 
-module _ (c : ClientState) (volume : ℕ) (rec : Record) (may : MayEnter c (entry.Op volume rec)) (apart : MentionsApart (c.volumes volume) volume rec) (kept : AreMentionedKept c) (f : Fid) where
+module _ (c : ClientState) (volume : ℕ) (rec : Record) (may : MayEnter c (entry.Op volume rec)) (apart : MentionsApart c volume rec) (kept : AreMentionedKept c) (f : Fid) where
   abbrev after_it : ClientState
   after_it = client_after c (entry.Op volume rec)
 
   relied : Relies (sight_of c volume) volume rec.op
   relied = accepted_relies (sight_of c volume) volume may.ask rec.op may.accepted
 
-  still : takes_out f rec.op ≡ false → IsSome (cached_node c f) → IsSome (cached_node after_it f)
-  still spared there = stays_cached f c.number rec c.held.nodes spared there
+  node_is : stays_by c.held.parents (taken_out rec.op) f ≡ true → cached_node after_it f ≡ map.get (applied c.held.nodes c.number rec) f
+  node_is stays = node_stays (record { nodes = applied c.held.nodes c.number rec; parents = parents_after c.held.parents rec.op }) c.held.parents (taken_out rec.op) f stays
 
-  seen_now : takes_out f rec.op ≡ false → mentioning f rec.op ≡ true → IsSome (cached_node after_it f)
-  seen_now spared m = ⊎_elim
-      (λ (e : creates f rec.op ≡ true). made_cached f c.number rec c.held.nodes e)
-      (λ (h : has c.held.nodes f ≡ true). stays_cached f c.number rec c.held.nodes spared h)
-      (mentioned_there (sight_of c volume) volume rec.op f relied m)
+  module _ (still_there : takes_out f rec.op ≡ false → stays_by c.held.parents (taken_out rec.op) f ≡ true) where
+    still : takes_out f rec.op ≡ false → IsSome (cached_node c f) → IsSome (cached_node after_it f)
+    still spared there = ap is_some (node_is (still_there spared)) ∙ stays_cached f c.number rec c.held.nodes spared there
+
+    seen_now : takes_out f rec.op ≡ false → mentioning f rec.op ≡ true → IsSome (cached_node after_it f)
+    seen_now spared m = ap is_some (node_is (still_there spared)) ∙ ⊎_elim
+        (λ (e : creates f rec.op ≡ true). made_cached f c.number rec c.held.nodes e)
+        (λ (h : has c.held.nodes f ≡ true). stays_cached f c.number rec c.held.nodes spared h)
+        (mentioned_there (sight_of c volume) volume rec.op f relied m)
+
+    operated_still : OfVolume f (after_it.volumes f.volume) (cached_node after_it f)
+    operated_still = at_volume (λ v. OfVolume f v (cached_node after_it f)) c.volumes volume (volume_after (c.volumes volume) (Operated rec)) f.volume
+        (λ same. operated_kept f (c.volumes volume).log.chunk (c.volumes volume).log.records rec (cached_node c f) (cached_node after_it f) apart.behind still seen_now
+        (subst (λ w. OfVolume f (c.volumes w) (cached_node c f)) same (kept f)))
+        (λ off m. elim (kept f m) [
+          | inl there ↦ inl (still (false_from_ne_true _ (λ t. false≢true (sym off ∙ eq-eqb f.volume volume (apart.within f (takes_mentions f rec.op t))))) there)
+          | inr ends ↦ inr ends
+        ])
+
+  -- what goes along isn't mentioned
+  goes_unmentioned : stays_by c.held.parents (taken_out rec.op) f ≡ false → takes_out f rec.op ≡ false → OfVolume f (after_it.volumes f.volume) (cached_node after_it f)
+  goes_unmentioned goes spared =
+      let quiet = apart.along f goes spared in
+      at_volume (λ v. OfVolume f v (cached_node after_it f)) c.volumes volume (volume_after (c.volumes volume) (Operated rec)) f.volume
+      (λ same m.
+        let before = or_parts _ _ (sym (any-append (mentioning f) (c.volumes volume).log.chunk (c.volumes volume).log.records) ∙ subst (λ w. any_record (mentioning f) (log_records (c.volumes w)) ≡ false) same quiet.1) in
+        absurd (false≢true (sym (any-append (mentioning f) (c.volumes volume).log.chunk (add (c.volumes volume).log.records rec) ∙ ap (λ b. b || any_record (mentioning f) (add (c.volumes volume).log.records rec)) before.0
+          ∙ add_quiet f (c.volumes volume).log.records rec before.1 quiet.0) ∙ m)))
+      (λ off m. absurd (false≢true (sym quiet.1 ∙ m)))
 
   operated : OfVolume f (after_it.volumes f.volume) (cached_node after_it f)
-  operated = at_volume (λ v. OfVolume f v (cached_node after_it f)) c.volumes volume (volume_after (c.volumes volume) (Operated rec)) f.volume
-      (λ same. operated_kept f (c.volumes volume).log.chunk (c.volumes volume).log.records rec (cached_node c f) (cached_node after_it f) apart.behind still seen_now
-      (subst (λ w. OfVolume f (c.volumes w) (cached_node c f)) same (kept f)))
-      (λ off m. elim (kept f m) [
-        | inl there ↦ inl (still (false_from_ne_true _ (λ t. false≢true (sym off ∙ eq-eqb f.volume volume (apart.within f (takes_mentions f rec.op t))))) there)
-        | inr ends ↦ inr ends
-      ])
+  operated = elim (cases_Bool (takes_out f rec.op)) [
+    | inl takes ↦ operated_still (λ spared. absurd (false≢true (sym spared ∙ takes)))
+    | inr spared ↦ elim (cases_Bool (stays_by c.held.parents (taken_out rec.op) f)) [
+      | inl stays ↦ operated_still (λ _. stays)
+      | inr goes ↦ goes_unmentioned goes spared
+    ]
+  ]
 
 pub mentioned_are_kept : MentionedObjectsAreKept
 mentioned_are_kept = record { first = λ number blocks fid m. absurd (false≢true m); entered = entered; taken = taken }

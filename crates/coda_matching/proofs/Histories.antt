@@ -1,8 +1,11 @@
 -- What a client's history in a cell leaves, and what its journal leaves.
-use Rattle.std.proofs.Common.{◌≡◌, ℕ, List, [], ◌∷◌, ◌++◌, map as map_list, append_assoc, append-nil, Option, Some, None, refl, sym, ap, ◌∙◌, subst}
+use Rattle.std.proofs.Common.{◌≡◌, ℕ, zero, suc, false, not, ◌||◌, List, [], ◌∷◌, ◌++◌, map as map_list, append_assoc, append-nil, Option, Some, None, refl, sym, ap, ◌∙◌, subst}
 use Rattle.std.specs.FinMap as map
+use Rattle.std.specs.Option.{option_map_or}
+use Rattle.coda_fid.specs.Fid.{same_fid}
+use Rattle.coda_fid.specs.declared.op.Record.{Record}
+use Rattle.coda_tree.specs.Volume.{Nodes}
 use Rattle.coda_fid.specs.declared.fid.Fid.{Fid}
-use Rattle.coda_fid.specs.declared.op.Over.{Over}
 use Rattle.coda_fid.specs.declared.op.Op.{Op}
 use Rattle.coda_fid.specs.declared.op.Op.TheVariants.{Create, Mkdir, Symlink, Store, Setattr, Remove, Rmdir, Rename}
 use Rattle.coda_certify.specs.Replay.{applied}
@@ -13,12 +16,13 @@ use Rattle.coda_plain.specs.Deeds.{Deed, Operated, Froze, Settled, Gaveup, MayDo
 use Rattle.coda_plain.specs.Cell.{ClientEntry, Fetched, Did, Dropping, deed_on, deeds_of}
 use Rattle.coda_plain.proofs.Ledger.{orderly}
 use Rattle.coda_plain.proofs.Lists.{left_push, follow_push}
-use Rattle.coda_venus.specs.Held.{with_parent as venus_with_parent, without_over as venus_without_over, parents_after as venus_parents_after}
-use Rattle.coda_record.specs.declared.entry.ClientEntry.{ClientEntry as KeptEntry}
+use Rattle.coda_venus.specs.Held as venus_held
+use Rattle.coda_cache.specs.Parents.{below_within}
 use Rattle.coda_record.specs.declared.entry.ClientEntry.TheVariants as kept
 use Rattle.coda_venus.specs.History.{Payload, state_of, MayEnter, MayEnterAll, MayFollow, IsHistory}
 use Rattle.coda_venus.specs.State.{ClientState as VenusState, new_client as new_venus, client_after as venus_after, client_after_all as venus_after_all, volume_after as venus_volume_after}
-use Rattle.coda_cell.specs.Held.{Parents, held_after_drops, with_parent, without_over, parents_after}
+use Rattle.coda_cell.specs.Held as cell_held
+use Rattle.coda_cell.specs.Held.{Parents, held_after_drops, with_parent, parents_after, taken_out, held_without, held_after_operation}
 use Rattle.coda_cell.specs.State.{volume_after, pending, ClientState, client_after}
 use Rattle.coda_cell.specs.Made.{client_of}
 use Rattle.coda_cell.proofs.Histories.{client_push, volumes_are, volume_of, pending_are}
@@ -62,11 +66,7 @@ pub record AreAlike (c : ClientState) (d : VenusState) : Type 0 where
   pub parents : d.held.parents ≡ c.held.parents
   pub volumes : (volume : ℕ) → IsAlike (c.volumes volume) (d.volumes volume)
 
-over_same : (parents : Parents) (over : Option Over) → venus_without_over parents over ≡ without_over parents over
-over_same parents None = refl
-over_same parents (Some over) = refl
-
-parents_same : (parents : Parents) (op : Op) → venus_parents_after parents op ≡ parents_after parents op
+parents_same : (parents : Parents) (op : Op) → venus_held.parents_after parents op ≡ parents_after parents op
 parents_same parents (Create dir name fid mode owner) = refl
 parents_same parents (Mkdir dir name fid mode owner) = refl
 parents_same parents (Symlink dir name fid target mode owner) = refl
@@ -74,9 +74,49 @@ parents_same parents (Store fid pre content) = refl
 parents_same parents (Setattr fid pre attrs) = refl
 parents_same parents (Remove dir name fid pre) = refl
 parents_same parents (Rmdir dir name fid pre) = refl
-parents_same parents (Rename from_dir from to_dir to fid over) = λ i. map.insert (over_same parents over i) fid to_dir
+parents_same parents (Rename from_dir from to_dir to fid over) = refl
 
-parent_same : (parents : Parents) (fid : Fid) (parent : Option Fid) → venus_with_parent parents fid parent ≡ with_parent parents fid parent
+taken_same : (op : Op) → venus_held.taken_out op ≡ taken_out op
+taken_same (Create dir name fid mode owner) = refl
+taken_same (Mkdir dir name fid mode owner) = refl
+taken_same (Symlink dir name fid target mode owner) = refl
+taken_same (Store fid pre content) = refl
+taken_same (Setattr fid pre attrs) = refl
+taken_same (Remove dir name fid pre) = refl
+taken_same (Rmdir dir name fid pre) = refl
+taken_same (Rename from_dir from to_dir to fid over) = refl
+
+-- both go up alike
+below_within_is : (parents : Parents) (steps : ℕ) (f g : Fid) → cell_held.below_within parents steps f g ≡ below_within parents steps f g
+below_within_is parents zero f g = refl
+below_within_is parents (suc steps) f g = λ i. same_fid f g || option_map_or (λ p. below_within_is parents steps p g i) (map.get parents f) false
+
+pub below_is : (parents : Parents) (f g : Fid) → cell_held.is_below parents f g ≡ venus_held.is_below parents f g
+unfolding cell_held.is_below venus_held.is_below
+below_is parents f g = below_within_is parents (map.len parents) f g
+
+-- what stays once an object goes
+nodes_left : (gone : Option Fid) (by : Parents) (nodes : Nodes) (p q : Parents) → (venus_held.held_without gone by (record { nodes = nodes; parents = p })).nodes ≡ (held_without gone by (record { nodes = nodes; parents = q })).nodes
+nodes_left None by nodes p q = refl
+nodes_left (Some gone) by nodes p q = λ i. map.retain_keys nodes (λ f. not (sym (below_is by f gone) i))
+
+parents_left : (gone : Option Fid) (by : Parents) (nodes : Nodes) (p : Parents) → (venus_held.held_without gone by (record { nodes = nodes; parents = p })).parents ≡ (held_without gone by (record { nodes = nodes; parents = p })).parents
+parents_left None by nodes p = refl
+parents_left (Some gone) by nodes p = λ i. map.retain_keys p (λ f. not (sym (below_is by f gone) i))
+
+-- the client's own operation
+module _ (nodes : Nodes) (parents : Parents) (client : ℕ) (rec : Record) where
+  operation_nodes : (venus_held.held_after_operation (record { nodes = nodes; parents = parents }) client rec).nodes ≡ (held_after_operation (record { nodes = nodes; parents = parents }) client rec).nodes
+  operation_nodes =
+      nodes_left (venus_held.taken_out rec.op) parents (applied nodes client rec) (venus_held.parents_after parents rec.op) (parents_after parents rec.op)
+      ∙ ap (λ (gone : Option Fid). (held_without gone parents (record { nodes = applied nodes client rec; parents = parents_after parents rec.op })).nodes) (taken_same rec.op)
+
+  operation_parents : (venus_held.held_after_operation (record { nodes = nodes; parents = parents }) client rec).parents ≡ (held_after_operation (record { nodes = nodes; parents = parents }) client rec).parents
+  operation_parents =
+      parents_left (venus_held.taken_out rec.op) parents (applied nodes client rec) (venus_held.parents_after parents rec.op)
+      ∙ (λ i. (held_without (taken_same rec.op i) parents (record { nodes = applied nodes client rec; parents = parents_same parents rec.op i })).parents)
+
+parent_same : (parents : Parents) (fid : Fid) (parent : Option Fid) → venus_held.with_parent parents fid parent ≡ with_parent parents fid parent
 parent_same parents fid None = refl
 parent_same parents fid (Some parent) = refl
 
@@ -85,8 +125,8 @@ did_alike : (c : ClientState) (d : VenusState) (volume : ℕ) (deed : Deed) → 
 did_alike c d volume (Operated rec) a steady may = record {
   number = a.number;
   blocks = a.blocks;
-  nodes = λ i. applied (a.nodes i) (a.number i) rec;
-  parents = ap (λ p. venus_parents_after p rec.op) a.parents ∙ parents_same c.held.parents rec.op;
+  nodes = (λ i. (venus_held.held_after_operation (record { nodes = a.nodes i; parents = a.parents i }) (a.number i) rec).nodes) ∙ operation_nodes c.held.nodes c.held.parents c.number rec;
+  parents = (λ i. (venus_held.held_after_operation (record { nodes = a.nodes i; parents = a.parents i }) (a.number i) rec).parents) ∙ operation_parents c.held.nodes c.held.parents c.number rec;
   volumes = put_alike c.volumes d.volumes volume (volume_after (c.volumes volume) (Operated rec)) (venus_volume_after (d.volumes volume) (Operated rec)) a.volumes
       (deed_alike (c.volumes volume) (d.volumes volume) (Operated rec) (a.volumes volume) steady (may_come d volume (Operated rec) may));
 }
@@ -138,7 +178,7 @@ entry_alike c d (Fetched fid parent node) a steady may = record {
   number = a.number;
   blocks = a.blocks;
   nodes = λ i. map.insert (a.nodes i) fid node;
-  parents = ap (λ p. venus_with_parent p fid parent) a.parents ∙ parent_same c.held.parents fid parent;
+  parents = ap (λ p. venus_held.with_parent p fid parent) a.parents ∙ parent_same c.held.parents fid parent;
   volumes = a.volumes;
 }
 entry_alike c d (Did volume deed) a steady may = did_alike c d volume deed a (steady volume) may.0

@@ -268,6 +268,7 @@ module _ (s : CellState) (Reaches : ℕ → ℕ → ℕ → Type 0) (number : �
       record {
         before = (held_after_fetches c.held fetches).nodes;
         fetched = has_fetched s client volume (Reaches client volume) reach c.held fetches (keeps_look_ups (Keeps c.held.nodes) offers (keeps_look c.held.nodes offers) c.held volume ask (λ fid node is. is)) (fetched_is_offered offers c.held volume ask);
+        after = applied sight.held.nodes c.number rec;
         done = subst (λ n. DoesAsked (record { client = c.number; number = n; time = s.clock }) t client volume sight.held.nodes (applied sight.held.nodes c.number rec) object) (sym x.number_is)
             (subst (DoesAsked (stamp c.number rec) t client volume sight.held.nodes (applied sight.held.nodes c.number rec)) (sym x.object_is) (does sight c.number rec x.accepted));
         others = subst (OthersStay sight.held.nodes (applied sight.held.nodes c.number rec)) (sym x.object_is) (others_stay sight volume c.number rec (accepted_relies sight volume ask x.op x.accepted));
@@ -278,6 +279,8 @@ module _ (s : CellState) (Reaches : ℕ → ℕ → ℕ → Type 0) (number : �
         time_is = refl;
         next = x.number_is;
         replays = refl;
+        parents = sight.held.parents;
+        holds = refl;
       }
 
   finished : (t : Task) (client volume : ℕ) (c new : ClientState) (entries : List ClientEntry) (events : List Event) → s.clients client ≡ Some c → events ≡ map_list (at_client client) entries

@@ -19,6 +19,7 @@ use Rattle.coda_script.specs.declared.line.Line.TheVariants as line
 use Rattle.coda_script.specs.declared.line.Task.{Task}
 use Rattle.coda_script.specs.declared.line.Task.TheVariants as task
 use Rattle.coda_script.specs.declared.reply.Reply.TheVariants.{Done}
+use Rattle.coda_cell.specs.Held.{Parents, held_after_operation}
 use Rattle.coda_cell.specs.State.{pending, ClientState, ReplicaState}
 use Rattle.coda_shelves.specs.Cells.{Cell, state_of}
 use Rattle.coda_shelves.specs.Lines.{is_cut, replica_down, Happens}
@@ -186,19 +187,23 @@ pub record HasFetched (Reached : ℕ → Type 0) (replicas : ℕ → Option Repl
   pub served : (fid : Fid) (node : Node) → map.get new fid ≡ Some node → (map.get old fid ≡ Some node) ⊎ IsServed Reached replicas volume fid node
 
 -- What a client has of a volume once it performed an operation at a time, by what it had before and fetched on the way. The operation is
--- the last of those that no server applied, and a replay of it leaves what the client holds. What it has of other volumes stays.
+-- the last of those that no server applied, and a replay of it leaves what the client holds, but that what was held below an object that went
+-- is gone too. What it has of other volumes stays.
 pub record IsPerformed (Reached : ℕ → Type 0) (replicas : ℕ → Option ReplicaState) (t : Task) (old new : ClientState) (client volume time number : ℕ) (object : Fid) : Type 0 where
   pub before : Nodes
   pub fetched : HasFetched Reached replicas volume old.held.nodes before
-  pub done : DoesAsked (record { client = old.number; number = number; time = time }) t client volume before new.held.nodes object
-  pub others : OthersStay before new.held.nodes object
+  pub after : Nodes
+  pub done : DoesAsked (record { client = old.number; number = number; time = time }) t client volume before after object
+  pub others : OthersStay before after object
   pub rec : Record
   pub kept : pending (new.volumes volume) ≡ pending (old.volumes volume) ++ rec ∷ []
   pub elsewhere : (other : ℕ) → other ≢ volume → new.volumes other ≡ old.volumes other
   pub number_is : rec.number ≡ number
   pub time_is : rec.time ≡ time
   pub next : number ≡ (old.volumes volume).operations + 1
-  pub replays : new.held.nodes ≡ applied before old.number rec
+  pub replays : after ≡ applied before old.number rec
+  pub parents : Parents
+  pub holds : new.held ≡ held_after_operation (record { nodes = before; parents = parents }) old.number rec
 
 -- the client and the volume are those of a line that is answered as done; other clients are as they were
 pub record WasPerformed (Reaches : ℕ → ℕ → ℕ → Type 0) (t : Task) (clients behind : ℕ → Option ClientState) (replicas : ℕ → Option ReplicaState) (time number : ℕ) (object : Fid) : Type 0 where

@@ -1,8 +1,10 @@
 -- An object that a client doesn't hold has no parent, whatever its history.
-use Rattle.std.proofs.Common.{◌≡◌, ℕ, true, List, [], ◌∷◌, ◌++◌, Option, Some, None, is_some, refl, sym, ap, ◌∙◌, subst, inl, inr}
+use Rattle.std.proofs.Common.{◌≡◌, ◌≢◌, ℕ, zero, suc, Bool, true, false, cond, not, ◌||◌, List, [], ◌∷◌, ◌++◌, Option, Some, None, is_some, refl, sym, ap, ◌∙◌, subst, inl, inr}
 use Rattle.std.proofs.lemmas.Option.{none-some}
 use Rattle.std.proofs.lemmas.Bool.{false≢true}
 use Rattle.std.specs.FinMap as map
+use Rattle.std.specs.FinMap.{FinMap}
+use Rattle.std.specs.Option.{option_map_or}
 use Rattle.coda_fid.specs.Fid.{fid_cmp}
 use Rattle.coda_fid.specs.declared.fid.Fid.{Fid}
 use Rattle.coda_fid.specs.declared.op.Op.{Op}
@@ -11,7 +13,8 @@ use Rattle.coda_fid.specs.declared.op.Record.{Record}
 use Rattle.coda_fid.proofs.Fids.{fids_total, exact_fids}
 use Rattle.coda_tree.proofs.Changes.{has_changed}
 use Rattle.coda_tree.proofs.Order.{fid_cases, get_here, get_else, gone_here, gone_else}
-use Rattle.coda_tree.specs.Volume.{Nodes, has, changed}
+use Rattle.coda_tree.specs.Volume.{Nodes, has, changed, bind_in, unbind_in}
+use Rattle.coda_cancel.proofs.Keys.{fid_same}
 use Rattle.coda_tree.specs.declared.node.Node.{Node}
 use Rattle.coda_certify.specs.Replay.{applied}
 use Rattle.coda_journal.specs.declared.header.Header.{Header}
@@ -19,7 +22,8 @@ use Rattle.coda_plain.proofs.Lists.{left_push, along}
 use Rattle.coda_record.specs.declared.entry.ClientEntry.{ClientEntry}
 use Rattle.coda_record.specs.declared.entry.ClientEntry.TheVariants as entry
 use Rattle.coda_venus.specs.Accepting.{sight_of}
-use Rattle.coda_venus.specs.Held.{Parents, Held, held_after_operation, held_after_fetch}
+use Rattle.coda_venus.specs.Held.{Parents, Held, is_below, stays, held_after_operation, held_after_fetch}
+use Rattle.coda_cache.specs.Parents.{below_within}
 use Rattle.coda_venus.specs.History.{Payload, state_of, MayEnter, MayEnterAll, MayFollow, IsHistory}
 use Rattle.coda_venus.specs.State.{ClientState, new_client, client_after, client_after_all}
 use Rattle.coda_venus.proofs.Accepted.{Relies, accepted_relies}
@@ -37,6 +41,15 @@ absent_changed m d change f none = by (map.get m f) refl
     by : (o : Option Node) → map.get m f ≡ o → o ≡ None
     by None e = refl
     by (Some node) e = absurd (false≢true (sym (ap is_some none) ∙ has_changed m d change f ∙ ap is_some e))
+
+-- an object is below itself
+below_itself : (parents : Parents) (f : Fid) → is_below parents f f ≡ true
+unfolding is_below
+below_itself parents f = by (map.len parents)
+  where
+    by : (steps : ℕ) → below_within parents steps f f ≡ true
+    by zero = fid_same f f refl
+    by (suc steps) = ap (λ b. b || option_map_or (λ p. below_within parents steps p f) (map.get parents f) false) (fid_same f f refl)
 
 abbrev NoOrphans : Nodes → Parents → Type 0
 NoOrphans m p = (f : Fid) → map.get m f ≡ None → map.get p f ≡ None
@@ -65,13 +78,26 @@ taken_fits m p fid are f none = elim (fid_cases f fid) [
   | inr off ↦ gone_else fids_total exact_fids p fid f off ∙ are f (sym (gone_else fids_total exact_fids m fid f off) ∙ none)
 ]
 
+-- an object goes with all below it
+gone_fits : (m : Nodes) (p by : Parents) (gone : Fid) → ((f : Fid) → f ≢ gone → map.get m f ≡ None → map.get p f ≡ None) → NoOrphans (map.retain_keys m (stays by gone)) (map.retain_keys p (stays by gone))
+gone_fits m p by gone are f none = at_stays (stays by gone f) refl
+  where
+    retained : {X : Type 0} (x : FinMap fid_cmp X) → map.get (map.retain_keys x (stays by gone)) f ≡ cond (stays by gone f) (map.get x f) None
+    retained x = map.get-retain_keys x (stays by gone) f (λ q e. ap (stays by gone) (sym (exact_fids f q e)))
+
+    at_stays : (b : Bool) → stays by gone f ≡ b → map.get (map.retain_keys p (stays by gone)) f ≡ None
+    at_stays false e = retained p ∙ ap (λ b. cond b (map.get p f) None) e
+    at_stays true e =
+        retained p ∙ ap (λ b. cond b (map.get p f) None) e
+        ∙ are f (λ same. false≢true (sym (ap not (below_itself by gone)) ∙ ap (stays by gone) (sym same) ∙ e)) (sym (ap (λ b. cond b (map.get m f) None) e) ∙ sym (retained m) ∙ none)
+
 made_fits : (m : Nodes) (p : Parents) (dir fid : Fid) (change : Node → Node) (node : Node) → NoOrphans m p → NoOrphans (map.insert (changed m dir change) fid node) (map.insert p fid dir)
 made_fits m p dir fid change node are =
     parent_fits (map.insert (changed m dir change) fid node) p fid dir (ap is_some (get_here fids_total (changed m dir change) fid node))
     (put_fits (changed m dir change) p fid node (changed_fits m p dir change are))
 
-left_fits : (m : Nodes) (p : Parents) (dir fid : Fid) (change : Node → Node) → NoOrphans m p → NoOrphans (map.remove (changed m dir change) fid) (map.remove p fid)
-left_fits m p dir fid change are = taken_fits (changed m dir change) p fid (changed_fits m p dir change are)
+left_fits : (m : Nodes) (p : Parents) (dir fid : Fid) (change : Node → Node) → NoOrphans m p → NoOrphans (map.retain_keys (map.remove (changed m dir change) fid) (stays p fid)) (map.retain_keys p (stays p fid))
+left_fits m p dir fid change are = gone_fits (map.remove (changed m dir change) fid) p p fid (λ f other none. changed_fits m p dir change are f (sym (gone_else fids_total exact_fids (changed m dir change) fid f other) ∙ none))
 
 moved_fits : (m : Nodes) (p : Parents) (from_dir to_dir fid : Fid) (first second : Node → Node) → has m fid ≡ true → NoOrphans m p → NoOrphans (changed (changed m from_dir first) to_dir second) (map.insert p fid to_dir)
 moved_fits m p from_dir to_dir fid first second there are =
@@ -91,8 +117,19 @@ operation_fits c volume rec (Remove dir name fid pre) r are = left_fits c.held.n
 operation_fits c volume rec (Rmdir dir name fid pre) r are = left_fits c.held.nodes c.held.parents dir fid _ are
 operation_fits c volume rec (Rename from_dir from to_dir to fid None) r are = moved_fits c.held.nodes c.held.parents from_dir to_dir fid _ _ r.there are
 operation_fits c volume rec (Rename from_dir from to_dir to fid (Some over)) r are =
-    moved_fits (map.remove c.held.nodes over.fid) (map.remove c.held.parents over.fid) from_dir to_dir fid _ _
-    (ap is_some (gone_else fids_total exact_fids c.held.nodes over.fid fid (λ same. r.replaced.1 (sym same))) ∙ r.there) (taken_fits c.held.nodes c.held.parents over.fid are)
+    gone_fits _ (map.insert c.held.parents fid to_dir) c.held.parents over.fid (λ f other none. moved_over f other none)
+  where
+    less : Nodes
+    less = map.remove c.held.nodes over.fid
+
+    moved_over : (f : Fid) → f ≢ over.fid → map.get (changed (changed less from_dir (λ n. unbind_in n from)) to_dir (λ n. bind_in n to fid)) f ≡ None → map.get (map.insert c.held.parents fid to_dir) f ≡ None
+    moved_over f other none = elim (fid_cases f fid) [
+      | inl same ↦ absurd (false≢true (sym (ap is_some none) ∙ has_changed (changed less from_dir (λ n. unbind_in n from)) to_dir (λ n. bind_in n to fid) f ∙ has_changed less from_dir (λ n. unbind_in n from) f ∙ ap (has less) same
+          ∙ ap is_some (gone_else fids_total exact_fids c.held.nodes over.fid fid (λ e. r.replaced.1 (sym e))) ∙ r.there))
+      | inr off ↦
+          get_else fids_total exact_fids c.held.parents fid to_dir f off
+          ∙ are f (sym (gone_else fids_total exact_fids c.held.nodes over.fid f other) ∙ absent_changed less from_dir (λ n. unbind_in n from) f (absent_changed (changed less from_dir (λ n. unbind_in n from)) to_dir (λ n. bind_in n to fid) f none))
+    ]
 
 -- a fetch
 pub fetch_fits : (h : Held) (fid : Fid) (parent : Option Fid) (node : Node) → HasNoOrphans h → HasNoOrphans (held_after_fetch h fid parent node)

@@ -25,6 +25,7 @@ use Rattle.coda_venus.specs.declared.refused.Refused.TheVariants as venus_refuse
 use Rattle.coda_cell.specs.Accepting as cell
 use Rattle.coda_cell.specs.Ask as cell_ask
 use Rattle.coda_cell.specs.Held as cell_held
+use Rattle.coda_matching.proofs.Histories.{below_is}
 use Rattle.coda_cell.specs.Looking as cell_looking
 use Rattle.coda_cell.specs.Refused.{Refused}
 use Rattle.coda_cell.specs.Refused as refused
@@ -53,14 +54,6 @@ cond_is false x y x' y' a c = c
 
 abbrev pub held_as : venus_held.Held → cell_held.Held
 held_as h = record { nodes = h.nodes; parents = h.parents }
-
-below_within_is : (parents : venus_held.Parents) (steps : ℕ) (f g : Fid) → cell_held.below_within parents steps f g ≡ venus_held.below_within parents steps f g
-below_within_is parents zero f g = refl
-below_within_is parents (suc steps) f g = λ i. same_fid f g || option_map_or (λ p. below_within_is parents steps p g i) (map.get parents f) false
-
-below_is : (parents : venus_held.Parents) (f g : Fid) → cell_held.is_below parents f g ≡ venus_held.is_below parents f g
-unfolding cell_held.is_below venus_held.is_below
-below_is parents f g = below_within_is parents (map.len parents) f g
 
 some_below_is : (h : venus_held.Held) (test : Fid → Bool) (f : Fid) → cell_held.some_below (held_as h) test f ≡ venus_held.some_below h test f
 unfolding cell_held.some_below venus_held.some_below
