@@ -281,9 +281,9 @@ module _ (c : ClientState) (volume : ℕ) (rec : Record) (may : MayEnter c (entr
       let quiet = apart.along f goes spared in
       at_volume (λ v. OfVolume f v (cached_node after_it f)) c.volumes volume (volume_after (c.volumes volume) (Operated rec)) f.volume
       (λ same m.
-        let before = or_parts _ _ (sym (any-append (mentioning f) (c.volumes volume).log.chunk (c.volumes volume).log.records) ∙ subst (λ w. any_record (mentioning f) (log_records (c.volumes w)) ≡ false) same quiet.1) in
-        absurd (false≢true (sym (any-append (mentioning f) (c.volumes volume).log.chunk (add (c.volumes volume).log.records rec) ∙ ap (λ b. b || any_record (mentioning f) (add (c.volumes volume).log.records rec)) before.0
-          ∙ add_quiet f (c.volumes volume).log.records rec before.1 quiet.0) ∙ m)))
+      let before = or_parts _ _ (sym (any-append (mentioning f) (c.volumes volume).log.chunk (c.volumes volume).log.records) ∙ subst (λ w. any_record (mentioning f) (log_records (c.volumes w)) ≡ false) same quiet.1) in
+      absurd (false≢true (sym (any-append (mentioning f) (c.volumes volume).log.chunk (add (c.volumes volume).log.records rec) ∙ ap (λ b. b || any_record (mentioning f) (add (c.volumes volume).log.records rec)) before.0
+      ∙ add_quiet f (c.volumes volume).log.records rec before.1 quiet.0) ∙ m)))
       (λ off m. absurd (false≢true (sym quiet.1 ∙ m)))
 
   operated : OfVolume f (after_it.volumes f.volume) (cached_node after_it f)
