@@ -2,6 +2,7 @@ pub mod Keys
 pub mod Mentioned
 pub mod Between
 pub mod Ahead
+pub mod Told
 pub mod Walks
 pub mod Quiet
 pub mod Indexed

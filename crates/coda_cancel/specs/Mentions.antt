@@ -33,6 +33,11 @@ abbrev pub is_mentioned : List Record → Fid → ℕ → Bool
 is_mentioned [] fid number = false
 is_mentioned (rec ∷ recs) fid number = tells rec fid number || is_mentioned recs fid number
 
+-- whether one of the records mentions the object
+abbrev pub any_mentions : Fid → List Record → Bool
+any_mentions fid [] = false
+any_mentions fid (rec ∷ recs) = mentioning fid rec.op || any_mentions fid recs
+
 -- the index says what the records say
 abbrev pub IsIndexOf : BTreeSet Mention → List Record → Type 0
 IsIndexOf index recs = (fid : Fid) (number : ℕ) → has index fid number ≡ is_mentioned recs fid number

@@ -1,8 +1,9 @@
 ghost use Rattle.std.specs.Prelude.{◌≡◌, ◌↔◌, IsTrue, ◌<◌, ◌^◌, [], ◌∷◌, drop, length, IfOk, IfSome, IfNone};
+ghost use Rattle.coda_cancel.specs.Mentions.{any_mentions};
 ghost use Rattle.coda_cancel.specs.Slots.{kept_in};
 
 use crate::shelf::{Slot, copy_kept};
-use coda_fid::Record;
+use coda_fid::{Fid, Record};
 use std::alloc::{AllocError, Global};
 use std::marker::Model;
 
@@ -99,6 +100,18 @@ impl<'a> LentRecords<'a> {
             self.count -= 1;
         }
         first
+    }
+
+    /// Whether a record mentions an object. Costs the records up to the first that does.
+    pub fn mentions(mut self, fid: Fid) -> bool
+        ensures { result ≡ any_mentions fid self.entry }
+    {
+        while let Some(record) = self.take_first() {
+            if record.op.mentions(fid) {
+                return true;
+            }
+        }
+        false
     }
 
     /// The same records, in memory of their own.

@@ -1,8 +1,9 @@
 // An index of records by the objects that they mention.
-ghost use Rattle.std.specs.Prelude.{ℕ, Option, Some, None, ◌⊎◌, ◌≡◌, ◌≤◌, false, [], ◌∷◌, take as first, IfSome, IfNone, OnOk, OnErr};
+ghost use Rattle.std.specs.Prelude.{ℕ, List, Option, Some, None, ◌⊎◌, ◌≡◌, ◌≤◌, false, [], ◌∷◌, take as first, IfSome, IfNone, OnOk, OnErr};
 ghost use Rattle.coda_fid.specs.declared.fid.Fid.{Fid};
+ghost use Rattle.coda_fid.specs.declared.op.Record.{Record};
 ghost use Rattle.coda_fid.specs.Op.{mentions, over_fids};
-ghost use Rattle.coda_cancel.specs.Mentions.{has, tells, names, with_number, IsSame, IsSameElse, Gains, Loses, IsNext, NoneNext, Index, AreAhead, IsFirst, NoneBetween};
+ghost use Rattle.coda_cancel.specs.Mentions.{has, tells, names, with_number, IsSame, IsSameElse, Gains, Loses, IsNext, NoneNext, Index, IsIndexOf, any_mentions, AreAhead, IsFirst, NoneBetween};
 
 use coda_fid::{Fid, Op, Over, Record};
 use std::alloc::AllocError;
@@ -120,6 +121,16 @@ pub(crate) fn mentions_of(index: &BTreeSet<Mention>, fid: Fid) -> Range<'_, Ment
     ensures { AreAhead index.now fid None result }
 {
     index.range(Mention { fid, number: 0 }..)
+}
+
+/// Whether a record mentions the object, by the index of the records. Costs one search in it.
+pub(crate) fn has_object(index: &BTreeSet<Mention>, fid: Fid) -> bool
+    ensures { (recs : List Record) → IsIndexOf index.now recs → result ≡ any_mentions fid recs }
+{
+    match mentions_of(index, fid).next() {
+        Some(mention) => mention.fid == fid,
+        None => false,
+    }
 }
 
 /// Takes the next of the mentions, and answers its number if it is of the object, up to a number.

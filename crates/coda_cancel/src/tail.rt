@@ -3,7 +3,7 @@ ghost use Rattle.coda_fid.specs.declared.op.Record.{Record};
 ghost use Rattle.coda_cancel.specs.Cancel.{add, added, cancels};
 ghost use Rattle.coda_cancel.specs.Numbers.{AreBelow, IsRising, dropped, least};
 ghost use Rattle.coda_cancel.specs.Joins.{joins_of};
-ghost use Rattle.coda_cancel.specs.Mentions.{has, is_mentioned, IsIndexOf, IsSame, Loses};
+ghost use Rattle.coda_cancel.specs.Mentions.{any_mentions, has, is_mentioned, IsIndexOf, IsSame, Loses};
 ghost use Rattle.coda_cancel.specs.Passing.{goes, undropped};
 ghost use Rattle.coda_cancel.specs.Weights.{fits, total_weight};
 
@@ -13,10 +13,10 @@ use crate::entering::{AddFault, add_bare, add_indexed};
 use crate::indexing::{index_of, note_all};
 use crate::leaving::{is_light, leaving_with, weigh, weigh_light};
 use crate::lent::LentRecords;
-use crate::mentions::{Mention, forget};
+use crate::mentions::{Mention, forget, has_object};
 use crate::scanning::{Staying, staying_among};
 use crate::shelf::Shelf;
-use coda_fid::{Op, Record};
+use coda_fid::{Fid, Op, Record};
 use std::alloc::{AllocError, Global};
 use std::collections::BTreeSet;
 use std::marker::Model;
@@ -86,6 +86,17 @@ impl Tail {
         ensures { result ≡ total_weight self.now }
     {
         self.weight
+    }
+
+    /// Whether a record mentions an object. Costs one search among what the records mention; and where there is no index
+    /// of that yet, the records, of which there are 64 at most then.
+    pub fn mentions(&self, fid: Fid) -> bool
+        ensures { result ≡ any_mentions fid self.now }
+    {
+        match &self.index {
+            Some(index) => has_object(index, fid),
+            None => self.shelf.records().mentions(fid),
+        }
     }
 
     /// The records, in memory that was taken before.

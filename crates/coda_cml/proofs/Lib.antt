@@ -15,6 +15,9 @@
 -- `volumes` replays runs. `additions_sound` (Cancelling) is `additions_are_sound`, from which the other two laws of volumes follow:
 -- an operation that drops others (Appending) leaves what it wrote over (Overwritten) out, and one that undoes a creation
 -- (Omitting) the object itself (NeverMade, Erasing).
+--
+-- Mentioning: what coda_cancel says of records that mention an object, in the words of runs.
+pub mod Mentioning
 pub mod runs
 pub mod segments
 pub mod volumes

@@ -12,7 +12,7 @@ use crate::regrouping::{keep_widest, recount, regroup_last, rejoin, take_upto};
 use crate::{FreezeFault, Frozen, LogFault, Segment, SettleFault};
 use coda_cancel::{Join, LentRecords, Tail};
 use coda_certify::Verdict;
-use coda_fid::Record;
+use coda_fid::{Fid, Record};
 use std::alloc::{AllocError, Global};
 use std::marker::Model;
 use std::mem;
@@ -51,11 +51,12 @@ impl Model for Log {
 }
 
 impl Log {
-    ghost use Rattle.std.specs.Prelude.{◌≡◌, ◌≢◌, ◌↔◌, ◌<◌, ◌≤◌, ◌+◌, ◌-◌, ◌^◌, ℕ, List, [], ◌∷◌, ◌++◌, true, false, None, Some, IsSome, IsOk, IfOk, OnOk, OnErr};
+    ghost use Rattle.std.specs.Prelude.{◌≡◌, ◌≢◌, ◌↔◌, ◌<◌, ◌≤◌, ◌+◌, ◌-◌, ◌^◌, ◌||◌, ℕ, List, [], ◌∷◌, ◌++◌, true, false, None, Some, IsSome, IsOk, IfOk, OnOk, OnErr};
     ghost use Rattle.coda_fid.specs.declared.op.Record.{Record};
     ghost use Rattle.coda_cancel.specs.Cancel.{add, fold};
+    ghost use Rattle.coda_cancel.specs.Dropping.{mentioning};
     ghost use Rattle.coda_cancel.specs.Weights.{fits};
-    ghost use Rattle.coda_cml.specs.Steady.{IsSteady};
+    ghost use Rattle.coda_cml.specs.Steady.{IsSteady, any_record};
     ghost use Rattle.coda_cml.specs.State.{empty_log, IsLogOf};
     ghost use Rattle.coda_cml.specs.Chunks.{chunk_length, freeze_refusal};
     ghost use Rattle.std.specs.Prelude.{length as list_length, option_map};
@@ -118,6 +119,16 @@ impl Log {
         ensures tail { result.1 ≡ self.now.records }
     {
         (self.chunk.records(), self.tail.records())
+    }
+
+    /// Whether a record of the chunk or of the tail mentions an object. Costs the records of the chunk, and one search among
+    /// what those of the tail mention; and where there is no index of that yet, those of the tail, of which there are 64
+    /// at most then.
+    #[tactic(auto, using(crate::proofs::Mentioning::any_mentioning))]
+    pub fn mentions(&self, fid: Fid) -> bool
+        ensures { result ≡ (any_record (mentioning fid) self.now.chunk || any_record (mentioning fid) self.now.records) }
+    {
+        LentRecords::of(self.chunk.records()).mentions(fid) || self.tail.mentions(fid)
     }
 
     /// The segments of the chunk, and those of the tail. Those of each part have its records in turn, as many as they count,
