@@ -72,6 +72,13 @@ module _ (nodes : Nodes) (holds : Holds) (recency : List Fid) (a : Agree nodes h
     ];
   }
 
+  -- the same, whether or not the node is there
+  pub agree_touched : (f : Fid) → Agree nodes holds (cond (is_listed recency f) (latest recency f) recency)
+  agree_touched f = (elim (is_listed recency f) as (λ b. is_listed recency f ≡ b → Agree nodes holds (cond b (latest recency f) recency)) [
+    | true ↦ λ h. agree_used f h
+    | false ↦ λ _. a
+  ]) refl
+
   -- a hold is changed
   pub agree_altered : (f : Fid) (change : Hold → Hold) → Agree nodes (altered holds f change) recency
   agree_altered f change = record {

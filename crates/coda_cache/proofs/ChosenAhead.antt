@@ -28,7 +28,8 @@ use Rattle.coda_cache.proofs.Alike.{who_goes_alike, filter_map_is}
 use Rattle.coda_cache.proofs.Chosen.{no_blocks, beside_sum}
 use Rattle.coda_cache.proofs.Foreseen.{parent_so}
 use Rattle.coda_cache.proofs.Kept.{listed_where}
-use Rattle.coda_cache.proofs.Removed.{filter_twice, keys_listed}
+use Rattle.coda_cache.proofs.Hashed.{keys_listed}
+use Rattle.coda_cache.proofs.Removed.{filter_twice}
 use Rattle.coda_cache.proofs.Rightly.{among_map}
 use Rattle.coda_cache.proofs.Spared.{is_held, is_spare, held_blocks, Closed, who_goes_of_spare}
 use Rattle.coda_cache.proofs.Standing.{map_on, stands}

@@ -36,7 +36,8 @@ use Rattle.coda_cache.proofs.Kept.{listed_where}
 use Rattle.coda_cache.proofs.Lens.{len_each, len_dirty, len_moved, len_taken}
 use Rattle.coda_cache.proofs.Mutated.{off_applied}
 use Rattle.coda_cache.proofs.Operated.{mutated_made, mutated_changed, new_free, agree_made, agree_changed}
-use Rattle.coda_cache.proofs.Removed.{filter_all, filter_twice, keys_listed, taken_same}
+use Rattle.coda_cache.proofs.Hashed.{keys_listed}
+use Rattle.coda_cache.proofs.Removed.{filter_all, filter_twice, taken_same}
 use Rattle.coda_cache.proofs.Summed.{fresh_sorted}
 use Rattle.coda_cache.proofs.Taken.{taken_at}
 use Rattle.coda_cache.proofs.Uses.{same_turned}

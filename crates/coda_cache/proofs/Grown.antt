@@ -23,7 +23,7 @@ use Rattle.coda_cache.specs.Growing.{growth_of, growth_on}
 use Rattle.coda_cache.proofs.Afterwards.{stay_sum}
 use Rattle.coda_cache.proofs.Chosen.{no_blocks}
 use Rattle.coda_cache.proofs.ChosenAhead.{fresh_then, uncached}
-use Rattle.coda_cache.proofs.Removed.{keys_listed}
+use Rattle.coda_cache.proofs.Hashed.{keys_listed}
 use Rattle.coda_cache.proofs.Sized.{blocks_there}
 use Rattle.coda_cache.proofs.Summed.{AreFresh, fresh_sorted, sum_on, sum_within}
 use Rattle.coda_cache.proofs.Sums.{some_where}

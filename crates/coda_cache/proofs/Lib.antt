@@ -1,6 +1,6 @@
 pub mod Ordered
 pub mod Uses
-pub mod Keys
+pub mod Hashed
 pub mod Agreeing
 pub mod Sums
 pub mod Written

@@ -1,18 +1,15 @@
 -- What a list of entries, of which one is found by comparing, keeps as a finite map, and what a change of the entries makes of it.
-use Rattle.std.proofs.Common.{◌≡◌, ◌≢◌, cond, List, [], ◌∷◌, Option, Some, None, option_map, refl, sym, ap, ◌∙◌, inl, inr}
+use Rattle.std.proofs.Common.{◌≡◌, ◌≢◌, cond, List, [], ◌∷◌, Option, Some, refl, sym, ap, ◌∙◌, inl, inr}
 use Rattle.std.specs.Ordering.{is_eq}
-use Rattle.std.specs.Map.{lookup, keys_of}
-use Rattle.std.specs.List.{AllByRecursion}
+use Rattle.std.specs.Map.{lookup}
 use Rattle.std.specs.BTreeMap.{is_at}
-use Rattle.std.specs.declared.cmp.Ordering.TheVariants.{Less}
 use Rattle.std.specs.FinMap as map
 use Rattle.std.specs.FinMap.{find}
 use Rattle.coda_fid.specs.Fid.{fid_cmp}
 use Rattle.coda_fid.specs.declared.fid.Fid.{Fid}
 use Rattle.coda_fid.proofs.Fids.{fids_total, exact_fids}
-use Rattle.coda_tree.specs.Slots.{keyed, altered}
-use Rattle.coda_tree.proofs.Order.{fid_cases, get_here, get_else, gone_here, gone_else, at_itself, apart}
-use Rattle.coda_tree.proofs.Keyed.{at_altered, off_altered}
+use Rattle.coda_tree.specs.Slots.{keyed}
+use Rattle.coda_tree.proofs.Order.{fid_cases, get_here, get_else, at_itself, apart}
 
 -- what is kept at f
 abbrev pub kept_at : {X : Type 0} → List (Fid × X) → Fid → Option X
@@ -40,24 +37,3 @@ module _ {X : Type 0} where
     | inl same ↦ ap (λ e. cond (is_at (fid_cmp f) e) (Some x) (kept_at old q)) same ∙ here f (Some x) (kept_at old q) ∙ sym (ap (map.get (map.insert (keyed old) f x)) same ∙ get_here fids_total (keyed old) f x)
     | inr other ↦ else_where f q (Some x) (kept_at old q) other ∙ sym (get_keyed old q) ∙ sym (get_else fids_total exact_fids (keyed old) f x q other)
   ])
-
-  -- a value taken out
-  pub keyed_taken_out : (old new : List (Fid × X)) (f : Fid) → ((q : Fid) → kept_at new q ≡ cond (is_at (fid_cmp f) q) None (kept_at old q)) → keyed new ≡ map.remove (keyed old) f
-  keyed_taken_out old new f out = map.same_map fids_total exact_fids _ _ (λ q. get_keyed new q ∙ out q ∙ elim (fid_cases q f) [
-    | inl same ↦ ap (λ e. cond (is_at (fid_cmp f) e) None (kept_at old q)) same ∙ here f None (kept_at old q) ∙ sym (ap (map.get (map.remove (keyed old) f)) same ∙ gone_here fids_total (keyed old) f)
-    | inr other ↦ else_where f q None (kept_at old q) other ∙ sym (get_keyed old q) ∙ sym (gone_else fids_total exact_fids (keyed old) f q other)
-  ])
-
-  -- a value changed, where there is one
-  pub keyed_altered : (old new : List (Fid × X)) (f : Fid) (change : X → X) → ((q : Fid) → kept_at new q ≡ cond (is_at (fid_cmp f) q) (option_map change (kept_at old f)) (kept_at old q)) → keyed new ≡ altered (keyed old) f change
-  keyed_altered old new f change changes = map.same_map fids_total exact_fids _ _ (λ q. get_keyed new q ∙ changes q ∙ elim (fid_cases q f) [
-    | inl at ↦
-        ap (λ e. cond (is_at (fid_cmp f) e) (option_map change (kept_at old f)) (kept_at old q)) at ∙ here f _ (kept_at old q) ∙ ap (option_map change) (sym (get_keyed old f))
-        ∙ sym (ap (map.get (altered (keyed old) f change)) at ∙ at_altered (keyed old) f change)
-    | inr away ↦ else_where f q _ (kept_at old q) away ∙ sym (get_keyed old q) ∙ sym (off_altered (keyed old) f change q away)
-  ])
-
-  -- a fid below each key has nothing
-  pub below_none : (k : Fid) (entries : List (Fid × X)) → AllByRecursion (λ y. fid_cmp k y ≡ Less) (keys_of entries) → kept_at entries k ≡ None
-  below_none k [] h = refl
-  below_none k (e ∷ entries) h = ap (λ r. cond (is_eq r) (Some e.1) (kept_at entries k)) h.0 ∙ below_none k entries h.1

@@ -1,8 +1,7 @@
 -- How many nodes are held, and whether one is held under another.
 use Rattle.std.proofs.Common.{◌≡◌, ◌≢◌, ◌+◌, Bool, true, false, cond, ◌||◌, List, [], ◌∷◌, Option, Some, None, is_some, refl, sym, ap, ◌∙◌, inl, inr}
 use Rattle.std.specs.Prelude as prelude
-use Rattle.std.specs.List.{list_any}
-use Rattle.std.specs.List.Sorted.{IsStrictlySortedBy}
+use Rattle.std.specs.List.{list_any, IsDistinct}
 use Rattle.std.specs.Map.{keys_of}
 use Rattle.std.specs.Ordering.{eq_by_cmp}
 use Rattle.std.specs.FinMap as map
@@ -13,13 +12,13 @@ use Rattle.coda_fid.specs.declared.fid.Fid.{Fid}
 use Rattle.coda_fid.specs.Fid.{fid_cmp, same_fid}
 use Rattle.coda_fid.proofs.Fids.{fids_total, exact_fids, same_fid_is, same_fid_refl}
 use Rattle.coda_tree.specs.Slots.{keyed}
-use Rattle.coda_tree.proofs.Order.{fid_cases, at_itself, apart}
+use Rattle.coda_tree.proofs.Keyed.{kept_at, changed_here, changed_else, absent_none}
+use Rattle.coda_tree.proofs.Order.{fid_cases}
 use Rattle.coda_walk.specs.Going.{is_listed}
 use Rattle.coda_cache.specs.declared.hold.Hold.{Hold}
 use Rattle.coda_cache.specs.State.{parent_held}
 use Rattle.coda_cache.specs.Indexed.{is_parent}
 use Rattle.coda_cache.proofs.Down.{is_parent_is}
-use Rattle.coda_cache.proofs.Ordered.{kept_at, below_none}
 
 -- ---- maps with the same keys
 
@@ -101,14 +100,14 @@ pub none_under : (parent : Fid → Option Fid) (dir : Fid) (fids : List Fid) →
 none_under parent dir fids h all f is = both_ways _ (none_passes (λ g. is_parent dir (parent g)) fids h f (all f is)) (parent_is dir (parent f) is)
 
 -- one of these holds is under the directory
-pub one_held_under : (holds : List (Fid × Hold)) (dir : Fid) → IsStrictlySortedBy fid_cmp (keys_of holds) → list_any (λ e. is_parent dir e.1.parent) holds ≡ true → (f : Fid) × (parent_held (kept_at holds f) ≡ Some dir)
-unfolding IsStrictlySortedBy
-one_held_under [] dir rise h = absurd (both_ways _ refl h)
-one_held_under (e ∷ holds) dir rise h = (elim (is_parent dir e.1.parent) as (λ b. is_parent dir e.1.parent ≡ b → (b || list_any (λ e. is_parent dir e.1.parent) holds) ≡ true → (f : Fid) × (parent_held (kept_at (e ∷ holds) f) ≡ Some dir)) [
-  | true ↦ λ is _. (e.0, ap parent_held (at_itself fids_total e.0 (Some e.1) (kept_at holds e.0)) ∙ is_parent_is dir e.1.parent is)
-  | false ↦ λ _ rest. let one = one_held_under holds dir rise.1 rest in elim (fid_cases one.0 e.0) [
-    | inl at ↦ absurd (none-some dir (sym (ap parent_held (ap (kept_at holds) at ∙ below_none e.0 holds rise.0)) ∙ one.1))
-    | inr off ↦ (one.0, ap parent_held (apart fid_cmp exact_fids one.0 e.0 (Some e.1) (kept_at holds one.0) off) ∙ one.1)
+pub one_held_under : (holds : List (Fid × Hold)) (dir : Fid) → IsDistinct same_fid (keys_of holds) → list_any (λ e. is_parent dir e.1.parent) holds ≡ true → (f : Fid) × (parent_held (kept_at holds f) ≡ Some dir)
+unfolding IsDistinct
+one_held_under [] dir distinct h = absurd (both_ways _ refl h)
+one_held_under (e ∷ holds) dir distinct h = (elim (is_parent dir e.1.parent) as (λ b. is_parent dir e.1.parent ≡ b → (b || list_any (λ e. is_parent dir e.1.parent) holds) ≡ true → (f : Fid) × (parent_held (kept_at (e ∷ holds) f) ≡ Some dir)) [
+  | true ↦ λ is _. (e.0, ap parent_held (changed_here e.0 (Some e.1) (kept_at holds e.0)) ∙ is_parent_is dir e.1.parent is)
+  | false ↦ λ _ rest. let one = one_held_under holds dir distinct.1 rest in elim (fid_cases one.0 e.0) [
+    | inl at ↦ absurd (none-some dir (sym (ap parent_held (ap (kept_at holds) at ∙ absent_none e.0 holds distinct.0)) ∙ one.1))
+    | inr off ↦ (one.0, ap parent_held (changed_else one.0 e.0 (Some e.1) (kept_at holds one.0) (λ at. off (sym at))) ∙ one.1)
   ]
 ]) refl h
 
@@ -117,6 +116,6 @@ pub none_held_under : (holds : List (Fid × Hold)) (dir : Fid) → list_any (λ 
 none_held_under [] dir h f is = none-some dir is
 none_held_under (e ∷ holds) dir h f is = elim (fid_cases f e.0) [
   | inl at ↦ both_ways _ (first_false (is_parent dir e.1.parent) _ h)
-      (parent_is dir e.1.parent (sym (ap parent_held (ap (kept_at (e ∷ holds)) at ∙ at_itself fids_total e.0 (Some e.1) (kept_at holds e.0))) ∙ is))
-  | inr off ↦ none_held_under holds dir (second_false (is_parent dir e.1.parent) _ h) f (sym (ap parent_held (apart fid_cmp exact_fids f e.0 (Some e.1) (kept_at holds f) off)) ∙ is)
+      (parent_is dir e.1.parent (sym (ap parent_held (ap (kept_at (e ∷ holds)) at ∙ changed_here e.0 (Some e.1) (kept_at holds e.0))) ∙ is))
+  | inr off ↦ none_held_under holds dir (second_false (is_parent dir e.1.parent) _ h) f (sym (ap parent_held (changed_else f e.0 (Some e.1) (kept_at holds f) (λ at. off (sym at)))) ∙ is)
 ]

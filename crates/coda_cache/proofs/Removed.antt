@@ -1,20 +1,19 @@
 -- What is left when a node goes with all below it, by the holds as they are kept.
 use Rattle.std.proofs.Common.{◌≡◌, ◌≢◌, ℕ, zero, suc, Bool, true, false, cond, not, ◌||◌, ◌&&◌, List, [], ◌∷◌, Option, Some, None, is_some, refl, sym, ap, ◌∙◌, subst, inl, inr}
-use Rattle.std.specs.List.{filter, list_any}
-use Rattle.std.specs.List.Sorted.{IsStrictlySortedBy}
+use Rattle.std.specs.List.{filter, IsDistinct}
 use Rattle.std.specs.Map.{keys_of}
 use Rattle.std.specs.Map.Calls.{RetainsPairs}
 use Rattle.std.specs.Option.{option_map_or}
 use Rattle.std.specs.Ordering.{eq_by_cmp, is_eq}
 use Rattle.std.specs.declared.cmp.Ordering.TheVariants.{Equal}
-use Rattle.std.specs.BTreeMap.{BTreeMap, btree_map_len}
+use Rattle.std.specs.HashMap.{HashMap, hash_map_len}
 use Rattle.std.specs.FinMap as map
 use Rattle.std.specs.FinMap.{FinMap}
-use Rattle.std.proofs.lemmas.Bool.{both_ways, false_from_ne_true}
+use Rattle.std.proofs.lemmas.Bool.{false_from_ne_true}
 use Rattle.std.proofs.lemmas.Cmp.{tied_itself}
 use Rattle.coda_fid.specs.declared.fid.Fid.{Fid}
 use Rattle.coda_fid.specs.Fid.{fid_cmp, same_fid}
-use Rattle.coda_fid.proofs.Fids.{fids_total, exact_fids, same_fid_is, same_fid_refl}
+use Rattle.coda_fid.proofs.Fids.{fids_total, exact_fids}
 use Rattle.coda_tree.specs.declared.node.Node.{Node}
 use Rattle.coda_tree.specs.Volume.{has}
 use Rattle.coda_tree.proofs.Order.{fid_cases}
@@ -27,7 +26,8 @@ use Rattle.coda_cache.specs.State.{CacheState, parent_of, parent_held}
 use Rattle.coda_cache.specs.Ways.{way_within, way_up, at_or_below}
 use Rattle.coda_cache.specs.Keeping.{Agree}
 use Rattle.coda_cache.specs.Steps.{taken_from, except_all, dropped, removed}
-use Rattle.coda_cache.proofs.Keys.{len_keyed, keys_keyed}
+use Rattle.coda_tree.proofs.Keyed.{get_keyed as get_hashed}
+use Rattle.coda_cache.proofs.Hashed.{keys_listed, len_hashed, listed_keys}
 use Rattle.coda_cache.proofs.Ordered.{kept_at, get_keyed}
 use Rattle.coda_cache.proofs.Taken.{taken_at}
 use Rattle.coda_cache.proofs.Kept.{listed_where}
@@ -76,10 +76,10 @@ keyed_where p old new is = map.same_map fids_total exact_fids _ _ (λ q.
 
 -- ---- the ways up
 
-ways_same : (m : BTreeMap Fid Hold) (n : ℕ) (f : Fid) → way_in m n f ≡ way_of (holds_of m.entries) n f
+ways_same : {S : Type 0} (m : HashMap Fid Hold S) (n : ℕ) (f : Fid) → way_in m n f ≡ way_of (holds_of m.entries) n f
 ways_same m zero f = refl
 ways_same m (suc n) f =
-    ap (λ (o : Option Hold). f ∷ option_map_or (λ p. way_in m n p) (parent_held o) []) (sym (get_keyed m.entries f))
+    ap (λ (o : Option Hold). f ∷ option_map_or (λ p. way_in m n p) (parent_held o) []) (sym (get_hashed m.entries f))
     ∙ (elim (parent_held (map.get (holds_of m.entries) f)) as (λ o. (f ∷ option_map_or (λ p. way_in m n p) o []) ≡ (f ∷ option_map_or (λ p. way_of (holds_of m.entries) n p) o [])) [
       | None ↦ refl
       | Some p ↦ ap (λ l. f ∷ l) (ways_same m n p)
@@ -89,11 +89,13 @@ pub filter_alike : (one other : Fid → Bool) (fids : List Fid) → ((g : Fid) �
 filter_alike one other [] same = refl
 filter_alike one other (g ∷ fids) same = (λ i. cond (same g i) (g ∷ filter_alike one other fids same i) (filter_alike one other fids same i))
 
-pub below_same : (m : BTreeMap Fid Hold) (f : Fid) → IsStrictlySortedBy fid_cmp (keys_of m.entries) → below_in m f ≡ below_of (holds_of m.entries) f
-below_same m f rise =
-    filter_alike _ (λ g. is_listed (way_of (holds_of m.entries) (map.len (holds_of m.entries)) g) f) (keys_of m.entries)
-    (λ g. ap (λ l. is_listed l f) (ways_same m (btree_map_len m) g ∙ ap (λ n. way_of (holds_of m.entries) n g) (sym (len_keyed m.entries rise))))
-    ∙ ap (filter (λ g. is_listed (way_of (holds_of m.entries) (map.len (holds_of m.entries)) g) f)) (sym (keys_keyed m.entries rise))
+-- the same fids are below a node, in whatever order
+pub below_same : {S : Type 0} (m : HashMap Fid Hold S) (f : Fid) → IsDistinct same_fid (keys_of m.entries) → (q : Fid) → is_listed (below_in m f) q ≡ is_listed (below_of (holds_of m.entries) f) q
+below_same m f distinct q =
+    let way = ways_same m (hash_map_len m) q ∙ ap (λ n. way_of (holds_of m.entries) n q) (sym (len_hashed m.entries distinct)) in
+    listed_where (λ g. is_listed (way_in m (hash_map_len m) g) f) (keys_of m.entries) q
+    ∙ (λ i. is_listed (way i) f && listed_keys m.entries q i)
+    ∙ sym (listed_where (λ g. is_listed (way_of (holds_of m.entries) (map.len (holds_of m.entries)) g) f) (map.keys (holds_of m.entries)) q)
 
 way_is : (c : CacheState) (n : ℕ) (f : Fid) → way_of c.holds n f ≡ way_within c n f
 way_is c zero f = refl
@@ -129,17 +131,6 @@ except_is recency (f ∷ fids) = except_is (except recency f) fids
 
 pub except_same : (recency a b : List Fid) → ((q : Fid) → is_listed a q ≡ is_listed b q) → except_all recency a ≡ except_all recency b
 except_same recency a b same = except_is recency a ∙ filter_alike _ _ recency (λ g. ap not (same g)) ∙ sym (except_is recency b)
-
--- a fid is among the keys where it has a hold
-pub keys_listed : (fids : List Fid) (q : Fid) → list_any (eq_by_cmp fid_cmp q) fids ≡ is_listed fids q
-keys_listed [] q = refl
-keys_listed (g ∷ fids) q = (λ i. tied q g i || keys_listed fids q i)
-  where
-    tied : (q g : Fid) → eq_by_cmp fid_cmp q g ≡ same_fid g q
-    tied q g = (elim (same_fid g q) as (λ b. same_fid g q ≡ b → eq_by_cmp fid_cmp q g ≡ b) [
-      | true ↦ λ e. ap (λ x. eq_by_cmp fid_cmp q x) (same_fid_is g q e) ∙ ap is_eq (tied_itself fids_total q)
-      | false ↦ λ e. false_from_ne_true _ (λ t. both_ways _ e (ap (λ x. same_fid x q) (sym (tied_fid q g t)) ∙ same_fid_refl q))
-    ]) refl
 
 pub same_below : (c : CacheState) (f : Fid) → Agree c.nodes c.holds c.recency → (q : Fid) → is_listed (below_of c.holds f) q ≡ is_listed (at_or_below c f) q
 unfolding way_up

@@ -5,6 +5,7 @@ use Rattle.std.specs.Option.{IfSome, option_map_or}
 use Rattle.std.specs.FinMap as map
 use Rattle.std.specs.Cmp.{unsigned_tied}
 use Rattle.std.proofs.lemmas.Bool.{both_ways, eqb-true}
+use Rattle.std.proofs.lemmas.Option.{none-some}
 use Rattle.coda_fid.specs.declared.fid.Fid.{Fid}
 use Rattle.coda_fid.specs.Fid.{same_fid}
 use Rattle.coda_fid.proofs.Fids.{fids_total, exact_fids, same_fid_refl}
@@ -34,6 +35,14 @@ covered_less s p q less h = (elim s.servers as (λ o. IfSome o (λ servers. (f :
 
 pub covered_same : (s : Sources) (p q : Fid → Option ℕ) → ((f : Fid) → q f ≡ p f) → AreCovered s p → AreCovered s q
 covered_same s p q same h = covered_less s p q (λ f t e. sym (same f) ∙ e) h
+
+-- one copy less
+pub covered_without : (s : Sources) (p : Fid → Option ℕ) (f : Fid) → AreCovered s p → AreCovered s (λ g. cond (same_fid f g) None (p g))
+covered_without s p f h = covered_less s p _ (λ g t e. left (same_fid f g) (p g) t e) h
+  where
+    left : (b : Bool) (o : Option ℕ) (t : ℕ) → cond b None o ≡ Some t → o ≡ Some t
+    left true o t e = absurd (none-some t e)
+    left false o t e = e
 
 -- ---- holds
 

@@ -13,7 +13,7 @@ use Rattle.coda_walk.specs.declared.item.Item.{Item}
 use Rattle.coda_walk.specs.Going.{blocks_of, is_listed}
 use Rattle.coda_walk.specs.Laws.{Among}
 use Rattle.coda_walk.specs.Queue.{Rises}
-use Rattle.coda_cache.proofs.Removed.{keys_listed}
+use Rattle.coda_cache.proofs.Hashed.{keys_listed}
 
 -- ---- fids that stand once
 

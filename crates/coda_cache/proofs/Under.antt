@@ -1,29 +1,33 @@
 -- That each cached node is kept under its parent after each step of a cache.
-use Rattle.std.proofs.Common.{◌≡◌, ℕ, Bool, true, false, cond, List, [], ◌∷◌, Option, Some, None, option_map, refl, sym, ap, ◌∙◌, inl, inr}
+use Rattle.std.proofs.Common.{◌≡◌, ℕ, Bool, true, false, cond, ◌||◌, ◌&&◌, List, [], ◌∷◌, Option, Some, None, option_map, is_some, refl, sym, ap, ◌∙◌, inl, inr}
 use Rattle.std.specs.Prelude.{if◌then◌else◌}
+use Rattle.std.specs.List.{list_any}
 use Rattle.std.specs.Option.{IfSome, option_map_or}
 use Rattle.std.specs.HashMap as hash
 use Rattle.std.specs.HashMap.{HashMap}
-use Rattle.std.specs.BTreeSet as btree
-use Rattle.std.specs.BTreeSet.{BTreeSet}
+use Rattle.std.specs.HashSet as hash_set
+use Rattle.std.specs.HashSet.{HashSet}
 use Rattle.std.specs.FinMap as map
+use Rattle.std.proofs.lemmas.Bool.{both_ways}
 use Rattle.coda_fid.specs.declared.fid.Fid.{Fid}
-use Rattle.coda_fid.specs.Fid.{fid_cmp, same_fid}
+use Rattle.coda_fid.specs.Fid.{same_fid}
 use Rattle.coda_fid.proofs.Fids.{fids_total, exact_fids, same_fid_is, same_fid_refl}
 use Rattle.coda_tree.specs.declared.node.Node.{Node}
 use Rattle.coda_tree.specs.Slots.{altered}
-use Rattle.coda_tree.proofs.Order.{fid_cases, get_else, gone_here, gone_else}
+use Rattle.coda_tree.proofs.Order.{fid_cases, get_here, get_else, gone_here, gone_else}
 use Rattle.coda_tree.proofs.Keyed.{not_same}
 use Rattle.coda_walk.specs.Going.{is_listed}
 use Rattle.coda_cache.specs.declared.hold.Hold.{Hold}
 use Rattle.coda_cache.specs.declared.children.Children.{Children}
+use Rattle.coda_cache.specs.Keeping.{Agree}
 use Rattle.coda_cache.specs.Uses.{latest}
 use Rattle.coda_cache.specs.State.{CacheState, Holds, parent_of, parent_held, is_cached}
-use Rattle.coda_cache.specs.Steps.{used, put_in, dropped, taken_from, invalidated, not_valid, invalidated_from, valid_but_from, new_node, taken_out, moved_node, taken_below, moved_in, all_dirty, made_dirty, mutated, new_hold}
+use Rattle.coda_cache.specs.Steps.{used, put_in, kept_parent, dropped, taken_from, invalidated, not_valid, invalidated_from, valid_but_from, new_node, taken_out, moved_node, taken_below, moved_in, all_dirty, made_dirty, mutated, new_hold}
 use Rattle.coda_cache.specs.Steps as steps
 use Rattle.coda_cache.specs.Indexed.{AreUnder, is_kept_under, is_of, dirty_of, pinned_of}
 use Rattle.coda_cache.proofs.Standing.{altered_at_all}
 use Rattle.coda_cache.proofs.Taken.{taken_at}
+use Rattle.coda_cache.proofs.Uses.{same_turned}
 use Rattle.coda_cache.proofs.Written.{get_each}
 
 -- ---- what is kept
@@ -34,13 +38,37 @@ under_same s p q same h = (elim s.parents as (λ o. IfSome o (λ parents. (f d :
   | Some parents ↦ λ h f d e. h f d (sym (same f) ∙ e)
 ]) h
 
--- what is kept where nothing was kept under a directory and nothing is
-pub none_kept : {S : Type 0} (old new : HashMap Fid (BTreeSet Fid) S) (dir : Fid) → ((q : Fid) → hash.get same_fid new q ≡ cond (same_fid dir q) None (hash.get same_fid old q)) → ((f : Fid) → is_kept_under old dir f ≡ false) → (p f : Fid) → is_kept_under new p f ≡ is_kept_under old p f
-none_kept old new dir gone none p f = ap (λ (o : Option (BTreeSet Fid)). option_map_or (λ fids. btree.contains fid_cmp fids f) o false) (gone p)
-    ∙ (elim (same_fid dir p) as (λ b. same_fid dir p ≡ b → option_map_or (λ fids. btree.contains fid_cmp fids f) (cond b None (hash.get same_fid old p)) false ≡ is_kept_under old p f) [
-      | true ↦ λ e. sym (ap (λ x. is_kept_under old x f) (sym (same_fid_is dir p e)) ∙ none f)
-      | false ↦ λ _. refl
-    ]) refl
+first_or : (b x : Bool) → x ≡ false → b ≡ cond b true x
+first_or true x h = refl
+first_or false x h = sym h
+
+module _ {S H : Type 0} where
+  -- what is kept where nothing was kept under a directory and nothing is
+  pub none_kept : (old new : HashMap Fid (HashSet Fid H) S) (dir : Fid) → ((q : Fid) → hash.get same_fid new q ≡ cond (same_fid dir q) None (hash.get same_fid old q)) → ((f : Fid) → is_kept_under old dir f ≡ false) → (p f : Fid) → is_kept_under new p f ≡ is_kept_under old p f
+  none_kept old new dir gone none p f = ap (λ (o : Option (HashSet Fid H)). option_map_or (λ fids. hash_set.contains same_fid fids f) o false) (gone p)
+      ∙ (elim (same_fid dir p) as (λ b. same_fid dir p ≡ b → option_map_or (λ fids. hash_set.contains same_fid fids f) (cond b None (hash.get same_fid old p)) false ≡ is_kept_under old p f) [
+        | true ↦ λ e. sym (ap (λ x. is_kept_under old x f) (sym (same_fid_is dir p e)) ∙ none f)
+        | false ↦ λ _. refl
+      ]) refl
+
+  -- what is kept once a first fid is kept under a directory
+  pub first_kept : (old new : HashMap Fid (HashSet Fid H) S) (dir fid : Fid) (fids : HashSet Fid H) → ((q : Fid) → hash.get same_fid new q ≡ cond (same_fid dir q) (Some fids) (hash.get same_fid old q)) →
+      ((f : Fid) → hash_set.contains same_fid fids f ≡ same_fid fid f) → hash.get same_fid old dir ≡ None → (p f : Fid) → is_kept_under new p f ≡ cond (same_fid dir p && same_fid fid f) true (is_kept_under old p f)
+  first_kept old new dir fid fids put one none p f = ap (λ (o : Option (HashSet Fid H)). option_map_or (λ fids. hash_set.contains same_fid fids f) o false) (put p)
+      ∙ (elim (same_fid dir p) as (λ b. same_fid dir p ≡ b → option_map_or (λ fids. hash_set.contains same_fid fids f) (cond b (Some fids) (hash.get same_fid old p)) false ≡ cond (b && same_fid fid f) true (is_kept_under old p f)) [
+        | true ↦ λ e. one f
+            ∙ first_or (same_fid fid f) (is_kept_under old p f)
+            (ap (λ x. is_kept_under old x f) (sym (same_fid_is dir p e)) ∙ ap (λ (o : Option (HashSet Fid H)). option_map_or (λ fids. hash_set.contains same_fid fids f) o false) none)
+        | false ↦ λ _. refl
+      ]) refl
+
+  -- a fid is among those that are kept under a directory
+  pub listed_under : (parents : HashMap Fid (HashSet Fid H) S) (dir : Fid) (fids : HashSet Fid H) → hash.get same_fid parents dir ≡ Some fids → (f : Fid) → is_kept_under parents dir f ≡ is_listed fids.keys f
+  listed_under parents dir fids is f = ap (λ (o : Option (HashSet Fid H)). option_map_or (λ fids. hash_set.contains same_fid fids f) o false) is ∙ turned fids.keys
+    where
+      turned : (keys : List Fid) → list_any (same_fid f) keys ≡ is_listed keys f
+      turned [] = refl
+      turned (g ∷ keys) = λ i. same_turned f g i || turned keys i
 
 -- ---- under what nodes are cached after each change of holds
 
@@ -121,3 +149,11 @@ module _ (s : Children) (c n : CacheState) where
   pub under_put : (f : Fid) (parent : Option Fid) (node : Node) (from : Option ℕ) → n ≡ put_in c f parent node from → (now : Option Fid) → now ≡ parent_of n f →
       AreUnder s (λ g. cond (same_fid f g) now (parent_of c g)) → AreUnder s (parent_of n)
   under_put f parent node from is now at h = under_by (put_in c f parent node from) _ is (λ g. put_parent c f parent node from g ∙ ap (λ o. cond (same_fid f g) o (parent_of c g)) (sym (at ∙ ap (λ (x : CacheState). parent_of x f) is))) h
+
+-- a node that wasn't cached is under the directory under which it is put
+pub under_new : (c n : CacheState) (f dir : Fid) (node : Node) (from : Option ℕ) → n ≡ put_in c f (Some dir) node from → Agree c.nodes c.holds c.recency → is_cached c f ≡ false → Some dir ≡ parent_of n f
+under_new c n f dir node from is a free = sym (ap (λ (x : CacheState). parent_of x f) is ∙ ap parent_held (get_here fids_total c.holds f _) ∙ kept (map.get c.holds f) (a.held f ∙ free))
+  where
+    kept : (o : Option Hold) → is_some o ≡ false → kept_parent o (Some dir) ≡ Some dir
+    kept None h = refl
+    kept (Some hold) h = absurd (both_ways _ h refl)

@@ -114,6 +114,13 @@ module _ (test : Fid → Bool) (f : Fid) (only : (g : Fid) → test g ≡ same_f
         | false ↦ λ t k. ap (λ b. cond b (Some e) (lookup_entry test es)) (only e.0 ∙ t) ∙ go es k
       ]) refl h
 
+  -- and whether or not the fid is there
+  pub order_touched : (eq : Fid → Fid → Bool) → ((a b : Fid) → eq a b ≡ same_fid a b) → (es : List (Fid × Unit {0})) → IsDistinct eq (keys_of es) → in_order (promoted test es) ≡ cond (is_listed (in_order es) f) (latest (in_order es) f) (in_order es)
+  order_touched eq is es distinct = (elim (is_listed (in_order es) f) as (λ b. is_listed (in_order es) f ≡ b → in_order (promoted test es) ≡ cond b (latest (in_order es) f) (in_order es)) [
+    | true ↦ λ h. order_promoted eq is es distinct h
+    | false ↦ λ h. ap (λ o. in_order (option_map_or (λ e. e ∷ remove_entry test es) o es)) (not_found es h)
+  ]) refl
+
 pub take_enough : {X : Type 0} (xs : List X) (n : ℕ) → length xs ≤ n → take n xs ≡ xs
 take_enough [] zero h = refl
 take_enough [] (suc n) h = refl

@@ -8,6 +8,8 @@ use Rattle.std.specs.BTreeMap as tree
 use Rattle.std.specs.BTreeMap.{BTreeMap}
 use Rattle.std.specs.HashMap as hash
 use Rattle.std.specs.HashMap.{HashMap}
+use Rattle.std.specs.HashSet as hash_set
+use Rattle.std.specs.HashSet.{HashSet}
 use Rattle.std.specs.Ordering.{nat_cmp, eq_by_cmp, ordering_then}
 use Rattle.std.specs.declared.cmp.Ordering.{Ordering}
 use Rattle.coda_fid.specs.declared.fid.Fid.{Fid}
@@ -95,8 +97,8 @@ abbrev pub is_parent : Fid → Option Fid → Bool
 is_parent dir parent = option_map_or (λ p. same_fid dir p) parent false
 
 -- whether a fid is kept under a directory
-abbrev pub is_kept_under : {S : Type 0} → HashMap Fid (BTreeSet Fid) S → Fid → Fid → Bool
-is_kept_under parents dir f = option_map_or (λ fids. btree.contains fid_cmp fids f) (hash.get same_fid parents dir) false
+abbrev pub is_kept_under : {S T : Type 0} → HashMap Fid (HashSet Fid T) S → Fid → Fid → Bool
+is_kept_under parents dir f = option_map_or (λ fids. hash_set.contains same_fid fids f) (hash.get same_fid parents dir) false
 
 -- each fid that has a parent is kept under it, where they are kept
 abbrev pub AreUnder : Children → (Fid → Option Fid) → Type 0

@@ -8,9 +8,10 @@ ghost use Rattle.coda_cache.specs.Ways.{is_below};
 ghost use Rattle.coda_cache.specs.Indexed.{is_parent, is_kept_under};
 
 use crate::Cache;
+use crate::children::FidSet;
 use crate::contents::Contents;
 use coda_fid::Fid;
-use std::collections::{BTreeSet, HashMap};
+use coda_tree::FidMap;
 
 // Whether a parent, where there is one, is a directory.
 pub(crate) fn is_parent(dir: Fid, parent: Option<Fid>) -> bool
@@ -23,7 +24,7 @@ pub(crate) fn is_parent(dir: Fid, parent: Option<Fid>) -> bool
 }
 
 // Whether one of these nodes is cached under a directory.
-fn any_child(contents: &Contents, dir: Fid, fids: &BTreeSet<Fid>) -> bool
+fn any_child(contents: &Contents, dir: Fid, fids: &FidSet) -> bool
     ensures { result ≡ list_any (λ f. is_parent dir (parent_of contents.now f)) fids.now.keys }
 {
     for fid in fids.iter() {
@@ -35,7 +36,7 @@ fn any_child(contents: &Contents, dir: Fid, fids: &BTreeSet<Fid>) -> bool
 }
 
 // Whether a node is cached under a directory, by the fids that are kept under each.
-fn any_under(contents: &Contents, parents: &HashMap<Fid, BTreeSet<Fid>>, dir: Fid) -> bool
+fn any_under(contents: &Contents, parents: &FidMap<FidSet>, dir: Fid) -> bool
     requires { (f : Fid) → parent_of contents.now f ≡ Some dir → is_kept_under parents.now dir f ≡ true }
     ensures yes { result ≡ true → (f : Fid) × (parent_of contents.now f ≡ Some dir) }
     ensures no { result ≡ false → (f : Fid) → parent_of contents.now f ≢ Some dir }

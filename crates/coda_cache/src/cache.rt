@@ -33,8 +33,8 @@ use std::marker::Model;
 /// (Kistler and Satyanarayanan 1992).
 ///
 /// Each node but a volume's root is cached under one directory, which is cached too. Contracts see a record of the size in
-/// blocks, the nodes, their holds, the order of use and the priorities of the last walk. A node is found in logarithmic
-/// time, and so is each one that goes.
+/// blocks, the nodes, their holds, the order of use and the priorities of the last walk. A node is found by its hash in
+/// constant time, and each one that goes in logarithmic time.
 #[derive(Drop)]
 pub struct Cache {
     pub(crate) contents: Contents,
@@ -193,9 +193,8 @@ impl Cache {
     pub fn touch(&mut self, fid: Fid)
         ensures { self.new ≡ used self.old fid }
     {
-        if self.contents.contains(fid) {
-            self.contents.touch(fid);
-            self.queued.put(self.contents.standing(fid));
+        if self.contents.touch(fid) {
+            self.queued.put(&self.contents, fid);
         }
     }
 
@@ -213,7 +212,8 @@ impl Cache {
         ensures was { result ≡ is_some (source_of self.old fid) }
         ensures left { self.new ≡ invalidated self.old fid }
     {
-        self.sources.set(self.contents.source(fid), None, fid);
+        let was = self.sources.known(&self.contents, fid);
+        self.sources.set(was, None, fid);
         self.contents.invalidate(fid)
     }
 
@@ -287,7 +287,8 @@ impl Cache {
     pub fn take_out(&mut self, fid: Fid)
         ensures { self.new ≡ without self.old fid }
     {
-        self.sources.set(self.contents.source(fid), None, fid);
+        let was = self.sources.known(&self.contents, fid);
+        self.sources.set(was, None, fid);
         self.children.set(self.contents.parent(fid), None, fid);
         self.contents.take_out(fid);
         self.queued.take_out(fid);
@@ -349,9 +350,9 @@ impl Cache {
         ensures ok { OnOk result (self.new ≡ put_in self.old fid parent node from) }
         ensures err { OnErr result (self.new ≡ self.old) }
     {
-        let was = self.contents.source(fid);
+        let was = self.sources.known(&self.contents, fid);
         self.contents.put(fid, parent, node, from)?;
-        self.queued.put(self.contents.standing(fid));
+        self.queued.put(&self.contents, fid);
         self.dirty.set(fid, false);
         self.sources.set(was, from, fid);
         self.children.set(None, self.contents.parent(fid), fid);

@@ -1,6 +1,7 @@
-ghost use Rattle.std.specs.Prelude.{◌≡◌, ◌&&◌, Bool, true, false, cond, Option, Some, None, IfSome, IsSome, IfOk, OnOk};
+ghost use Rattle.std.specs.Prelude.{◌≡◌, ◌&&◌, true, false, cond, Option, Some, None, IsSome, IfOk, OnOk};
 ghost use Rattle.std.specs.Bool.{OnTrue};
 ghost use Rattle.std.specs.HashMap as hash;
+ghost use Rattle.std.specs.HashSet as hash_set;
 ghost use Rattle.coda_fid.specs.declared.fid.Fid.{Fid};
 ghost use Rattle.coda_fid.specs.Fid.{same_fid};
 ghost use Rattle.coda_walk.specs.Going.{is_listed};
@@ -8,22 +9,56 @@ ghost use Rattle.coda_cache.specs.State.{parent_of};
 ghost use Rattle.coda_cache.specs.Indexed.{AreUnder, is_parent, is_kept_under};
 
 use crate::contents::Contents;
-use crate::marks::{only, put_or_take};
 use coda_fid::Fid;
+use coda_tree::{FidHash, FidMap};
 use std::alloc::{AllocError, Global};
-use std::collections::{BTreeSet, HashMap};
+use std::collections::HashSet;
+use std::hash::BuildHasherDefault;
+
+// Fids, each found by its hash.
+pub(crate) type FidSet = HashSet<Fid, FidHash>;
 
 // The fids of the cached nodes, by the directory under which each is cached. Where a change wanted memory that was not there,
 // they are given up.
 #[derive(Drop)]
 pub(crate) struct Children {
     pub alloc: Global,
-    pub parents: Option<HashMap<Fid, BTreeSet<Fid>>>,
+    pub parents: Option<FidMap<FidSet>>,
+}
+
+// Puts a fid into a set, where it is to be there, or takes it out.
+fn set_in(fids: &mut FidSet, fid: Fid, there: bool) -> Result<(), AllocError>
+    ensures { OnOk result ((f : Fid) → hash_set.contains same_fid fids.new f ≡ cond (same_fid fid f) there (hash_set.contains same_fid fids.old f)) }
+{
+    if there {
+        fids.insert(fid)?;
+    } else {
+        let _ = fids.remove(&fid);
+    }
+    Ok(())
+}
+
+// The same, and answers whether the set is empty then.
+fn put_or_take(fids: &mut FidSet, fid: Fid, there: bool) -> Result<bool, AllocError>
+    ensures fids { OnOk result ((f : Fid) → hash_set.contains same_fid fids.new f ≡ cond (same_fid fid f) there (hash_set.contains same_fid fids.old f)) }
+    ensures none { IfOk result (λ none. OnTrue none ((f : Fid) → hash_set.contains same_fid fids.new f ≡ false)) }
+{
+    set_in(fids, fid, there)?;
+    Ok(fids.is_empty())
+}
+
+// A set of one fid.
+fn only(alloc: Global, fid: Fid) -> Result<FidSet, AllocError>
+    ensures { IfOk result (λ s. (f : Fid) → hash_set.contains same_fid s f ≡ same_fid fid f) }
+{
+    let mut fids = FidSet::with_hasher(alloc, BuildHasherDefault::new());
+    fids.insert(fid)?;
+    Ok(fids)
 }
 
 // Changes the fids that are kept under a directory by one, where some are, and answers whether none are then.
 fn change(
-    parents: &mut HashMap<Fid, BTreeSet<Fid>>,
+    parents: &mut FidMap<FidSet>,
     parent: Fid,
     fid: Fid,
     there: bool,
@@ -41,7 +76,7 @@ fn change(
 // Keeps a first fid under a directory, where it is to be there.
 fn begin(
     alloc: Global,
-    parents: &mut HashMap<Fid, BTreeSet<Fid>>,
+    parents: &mut FidMap<FidSet>,
     parent: Fid,
     fid: Fid,
     there: bool,
@@ -57,7 +92,7 @@ fn begin(
 }
 
 // Keeps no set for a directory under which no fid is kept.
-fn forget(parents: &mut HashMap<Fid, BTreeSet<Fid>>, parent: Fid)
+fn forget(parents: &mut FidMap<FidSet>, parent: Fid)
     requires { (f : Fid) → is_kept_under parents.old parent f ≡ false }
     ensures { (p f : Fid) → is_kept_under parents.new p f ≡ is_kept_under parents.old p f }
 {
@@ -67,7 +102,7 @@ fn forget(parents: &mut HashMap<Fid, BTreeSet<Fid>>, parent: Fid)
 // Keeps a fid under a directory, where it is to be there, or keeps it no longer.
 fn set_under(
     alloc: Global,
-    parents: &mut HashMap<Fid, BTreeSet<Fid>>,
+    parents: &mut FidMap<FidSet>,
     parent: Fid,
     fid: Fid,
     there: bool,
@@ -84,23 +119,6 @@ fn set_under(
     }
 }
 
-// What is kept, with a fid under a directory, where it is to be there, or without it.
-fn with_fid(
-    alloc: Global,
-    parents: HashMap<Fid, BTreeSet<Fid>>,
-    parent: Fid,
-    fid: Fid,
-    there: bool,
-) -> Option<HashMap<Fid, BTreeSet<Fid>>>
-    ensures { IfSome result (λ s. (p f : Fid) → is_kept_under s p f ≡ cond (same_fid parent p && same_fid fid f) there (is_kept_under parents p f)) }
-{
-    let mut parents = parents;
-    match set_under(alloc, &mut parents, parent, fid, there) {
-        Ok(()) => Some(parents),
-        Err(_) => None,
-    }
-}
-
 impl Children {
     // No node is cached.
     pub(crate) fn new(alloc: Global) -> Children
@@ -108,7 +126,7 @@ impl Children {
     {
         Children {
             alloc,
-            parents: Some(HashMap::new(alloc)),
+            parents: Some(FidMap::with_hasher(alloc, BuildHasherDefault::new())),
         }
     }
 
@@ -146,8 +164,10 @@ impl Children {
         ensures added { (parent : Fid → Option Fid) → AreUnder self.old parent → there ≡ true → AreUnder self.new (λ f. cond (same_fid fid f) (Some under) (parent f)) }
         ensures taken { (parent : Fid → Option Fid) → AreUnder self.old parent → AreUnder self.new (λ f. cond (same_fid fid f && is_parent under (parent f)) None (parent f)) }
     {
-        if let Some(parents) = self.parents.take() {
-            self.parents = with_fid(self.alloc, parents, under, fid, there);
+        if let Some(parents) = &mut self.parents {
+            if set_under(self.alloc, parents, under, fid, there).is_err() {
+                self.give_up();
+            }
         }
     }
 

@@ -166,13 +166,12 @@ impl Contents {
         self.priorities.get(fid)
     }
 
-    // Notes that a node was used, where it is cached.
-    pub(crate) fn touch(&mut self, fid: Fid)
-        ensures { self.new ≡ used self.old fid }
+    // Notes that a node was used, where it is cached, and answers whether it is.
+    pub(crate) fn touch(&mut self, fid: Fid) -> bool
+        ensures there { result ≡ is_cached self.old fid }
+        ensures used { self.new ≡ used self.old fid }
     {
-        if self.recency.contains(fid) {
-            self.recency.touch(fid);
-        }
+        self.recency.touch_if_there(fid)
     }
 
     // Makes the copy of a node not valid, and answers whether it was valid. Takes no memory.
@@ -276,7 +275,7 @@ impl Contents {
     }
 
     // Puts a node that is not cached.
-    fn begin(
+    pub(crate) fn begin(
         &mut self,
         fid: Fid,
         parent: Option<Fid>,

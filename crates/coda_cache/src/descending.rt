@@ -1,39 +1,29 @@
-ghost use Rattle.std.specs.Prelude.{◌≡◌, ◌&&◌, ◌||◌, ◌++◌, true, false, Some, IfOk, OnOk};
+ghost use Rattle.std.specs.Prelude.{◌≡◌, ◌&&◌, ◌||◌, ◌++◌, true, Some, IfOk, OnOk};
 ghost use Rattle.std.specs.List.{filter};
-ghost use Rattle.std.specs.BTreeSet as btree;
 ghost use Rattle.coda_fid.specs.declared.fid.Fid.{Fid};
-ghost use Rattle.coda_fid.specs.Fid.{fid_cmp};
 ghost use Rattle.coda_walk.specs.Going.{is_listed};
 ghost use Rattle.coda_cache.specs.State.{is_cached, parent_of};
 ghost use Rattle.coda_cache.specs.Ways.{is_below};
 ghost use Rattle.coda_cache.specs.Indexed.{is_parent, is_kept_under, is_under_any};
 
+use crate::above::is_parent;
+use crate::children::FidSet;
 use crate::contents::Contents;
 use coda_fid::Fid;
+use coda_tree::FidMap;
 use std::alloc::AllocError;
-use std::collections::{BTreeSet, HashMap};
-
-// Whether a node is cached under a directory.
-fn is_child(contents: &Contents, dir: Fid, fid: Fid) -> bool
-    ensures { result ≡ is_parent dir (parent_of contents.now fid) }
-{
-    match contents.parent(fid) {
-        Some(parent) => dir == parent,
-        None => false,
-    }
-}
 
 // Adds those of these nodes that are cached under a directory.
 fn add_among(
     contents: &Contents,
     level: &mut Vec<Fid>,
-    fids: &BTreeSet<Fid>,
+    fids: &FidSet,
     dir: Fid,
 ) -> Result<(), AllocError>
     ensures { OnOk result (level.new.items ≡ level.old.items ++ filter (λ f. is_parent dir (parent_of contents.now f)) fids.now.keys) }
 {
     for fid in fids.iter() {
-        if is_child(contents, dir, *fid) {
+        if is_parent(dir, contents.parent(*fid)) {
             level.push(*fid)?;
         }
     }
@@ -43,7 +33,7 @@ fn add_among(
 // Adds the nodes that are cached under a directory.
 fn add_under(
     contents: &Contents,
-    parents: &HashMap<Fid, BTreeSet<Fid>>,
+    parents: &FidMap<FidSet>,
     level: &mut Vec<Fid>,
     dir: Fid,
 ) -> Result<(), AllocError>
@@ -59,7 +49,7 @@ fn add_under(
 // The nodes that are cached under one of these.
 fn next_level(
     contents: &Contents,
-    parents: &HashMap<Fid, BTreeSet<Fid>>,
+    parents: &FidMap<FidSet>,
     level: &[Fid],
 ) -> Result<Vec<Fid>, AllocError>
     requires { (f p : Fid) → parent_of contents.now f ≡ Some p → is_kept_under parents.now p f ≡ true }
@@ -88,7 +78,7 @@ fn add_cached(contents: &Contents, below: &mut Vec<Fid>, level: &[Fid]) -> Resul
 // nodes. Fails for want of memory alone.
 pub(crate) fn below(
     contents: &Contents,
-    parents: &HashMap<Fid, BTreeSet<Fid>>,
+    parents: &FidMap<FidSet>,
     fid: Fid,
 ) -> Result<Vec<Fid>, AllocError>
     requires { (f p : Fid) → parent_of contents.now f ≡ Some p → is_kept_under parents.now p f ≡ true }

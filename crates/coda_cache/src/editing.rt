@@ -28,7 +28,7 @@ impl Contents {
         ensures ok { OnOk result (self.new ≡ with_nodes self.old (bound self.old.nodes dir name fid)) }
         ensures err { OnErr result (self.new ≡ self.old) }
     {
-        counted(self.blocks_with(dir, &name)?);
+        counted(self.blocks_with_one_more(dir)?);
         self.nodes.bind(dir, name, fid)?;
         Ok(())
     }

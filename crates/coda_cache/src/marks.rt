@@ -1,5 +1,4 @@
 ghost use Rattle.std.specs.Prelude.{◌≡◌, ◌&&◌, ◌||◌, not, Bool, false, cond, IfOk, IfSome, OnOk};
-ghost use Rattle.std.specs.Bool.{OnTrue};
 ghost use Rattle.std.specs.BTreeSet as btree;
 ghost use Rattle.coda_fid.specs.declared.fid.Fid.{Fid};
 ghost use Rattle.coda_fid.specs.Fid.{fid_cmp, same_fid};
@@ -30,19 +29,6 @@ pub(crate) fn set_in(fids: &mut BTreeSet<Fid>, fid: Fid, there: bool) -> Result<
     Ok(())
 }
 
-// The same, and answers whether the set is empty then.
-pub(crate) fn put_or_take(
-    fids: &mut BTreeSet<Fid>,
-    fid: Fid,
-    there: bool,
-) -> Result<bool, AllocError>
-    ensures fids { OnOk result ((f : Fid) → btree.contains fid_cmp fids.new f ≡ cond (same_fid fid f) there (btree.contains fid_cmp fids.old f)) }
-    ensures none { IfOk result (λ none. OnTrue none ((f : Fid) → btree.contains fid_cmp fids.new f ≡ false)) }
-{
-    set_in(fids, fid, there)?;
-    Ok(fids.is_empty())
-}
-
 // A set of one fid.
 pub(crate) fn only(alloc: Global, fid: Fid) -> Result<BTreeSet<Fid>, AllocError>
     ensures { IfOk result (λ s. (f : Fid) → btree.contains fid_cmp s f ≡ same_fid fid f) }
@@ -64,8 +50,9 @@ pub(crate) fn with(fids: BTreeSet<Fid>, fid: Fid, there: bool) -> Option<BTreeSe
 }
 
 // The fids of a set, in their order.
-fn listed(alloc: Global, fids: &BTreeSet<Fid>) -> Result<Vec<Fid>, AllocError>
-    ensures { IfOk result (λ v. v.items ≡ fids.now.keys) }
+pub(crate) fn listed(alloc: Global, fids: &BTreeSet<Fid>) -> Result<Vec<Fid>, AllocError>
+    ensures fids { IfOk result (λ v. v.items ≡ fids.now.keys) }
+    ensures ordered { btree.IsOrdered fid_cmp fids.now }
 {
     let mut list = Vec::new(alloc);
     for fid in fids.iter() {
@@ -132,12 +119,21 @@ impl Marks {
         }
     }
 
+    // Marks a fid where its node is dirty, and else no longer. Whether it is is looked up where marks are kept alone.
+    fn set_as(&mut self, contents: &Contents, fid: Fid)
+        ensures { (passes : Fid → Bool) → AreMarked self.old passes → AreMarked self.new (λ f. cond (same_fid fid f) (is_dirty contents.now fid) (passes f)) }
+    {
+        if let Some(fids) = self.fids.take() {
+            self.fids = with(fids, fid, contents.is_dirty(fid));
+        }
+    }
+
     // Marks those of these fids whose nodes are dirty, and the others no longer.
     pub(crate) fn renew(&mut self, contents: &Contents, fids: &[Fid])
         ensures { (passes : Fid → Bool) → AreMarked self.old passes → AreMarked self.new (λ f. cond (is_listed fids.now f) (is_dirty contents.now f) (passes f)) }
     {
         for fid in fids {
-            self.set(*fid, contents.is_dirty(*fid));
+            self.set_as(contents, *fid);
         }
     }
 }

@@ -1,4 +1,4 @@
-ghost use Rattle.std.specs.Prelude.{◌≡◌, ◌<◌, ◌^◌, Some, None, IfOk, OnOk, OnErr, List};
+ghost use Rattle.std.specs.Prelude.{◌≡◌, ◌<◌, ◌^◌, false, Some, None, IfOk, OnOk, OnErr, List};
 ghost use Rattle.coda_fid.specs.declared.fid.Fid.{Fid};
 ghost use Rattle.coda_fid.specs.declared.op.Op.TheVariants.{Rename};
 ghost use Rattle.coda_tree.specs.Blocks.{blocks_of};
@@ -6,8 +6,9 @@ ghost use Rattle.coda_tree.specs.declared.node.NodeKind.TheVariants.{File};
 ghost use Rattle.coda_tree.specs.Volume.{child, changed, bound, unbound, moved, written, content_patch, attrs_patch, IsDirAt};
 ghost use Rattle.coda_certify.specs.Replay.{MayApply, MayCreate, MayRename};
 ghost use Rattle.coda_walk.specs.Going.{is_listed};
+ghost use Rattle.coda_cache.specs.State.{is_cached};
 ghost use Rattle.coda_cache.specs.Ways.{at_or_below};
-ghost use Rattle.coda_cache.specs.Steps.{removed, moved_under, dirtied, mutated};
+ghost use Rattle.coda_cache.specs.Steps.{put_in, removed, moved_under, dirtied, mutated};
 ghost use Rattle.coda_cache.specs.Operating.{with_nodes, is_same_place, left_behind, created, finished, undone, MayEnd, HasBegun};
 
 use crate::begun::Begun;
@@ -15,7 +16,7 @@ use crate::cache::Cache;
 use crate::making::{make_link, new_dir, new_file, sid_for};
 use crate::marks::Marks;
 use crate::queued::Queued;
-use crate::sizes::check_content;
+use crate::sizes::{check_content, check_node};
 use coda_fid::{Attrs, Bytes, Fid, Name, Op, Over, Record, Sid};
 use coda_tree::Node;
 use std::alloc::AllocError;
@@ -39,7 +40,7 @@ impl Cache {
         ensures err { OnErr result (self.new ≡ self.old) }
     {
         self.contents.bind(dir, name, fid)?;
-        self.queued.change(self.contents.standing(dir));
+        self.queued.change(&self.contents, dir);
         Ok(())
     }
 
@@ -49,7 +50,7 @@ impl Cache {
         ensures { self.new ≡ with_nodes self.old (unbound self.old.nodes dir name.now) }
     {
         self.contents.unbind(dir, name);
-        self.queued.change(self.contents.standing(dir));
+        self.queued.change(&self.contents, dir);
     }
 
     // Stores a content in a file, where there is one.
@@ -58,7 +59,7 @@ impl Cache {
         ensures { self.new ≡ with_nodes self.old (changed self.old.nodes fid (written (content_patch content mtime) sid)) }
     {
         self.contents.store(fid, content, mtime, sid);
-        self.queued.change(self.contents.standing(fid));
+        self.queued.change(&self.contents, fid);
     }
 
     // Sets attributes of a node, where there is one.
@@ -82,7 +83,7 @@ impl Cache {
     {
         let was = self.contents.parent(fid);
         self.contents.move_under(fid, dir);
-        self.queued.change(self.contents.standing(fid));
+        self.queued.change(&self.contents, fid);
         self.children.set(was, self.contents.parent(fid), fid);
     }
 
@@ -161,6 +162,22 @@ impl Cache {
 // ---- operations
 
 impl Cache {
+    // Puts a node that isn't cached under a directory. Fails for want of memory alone, also where the node's blocks don't fit
+    // in 32 bits, and then changes nothing.
+    fn put_new(&mut self, dir: Fid, fid: Fid, node: Node) -> Result<(), AllocError>
+        requires { is_cached self.old fid ≡ false }
+        ensures ok { OnOk result (self.new ≡ put_in self.old fid (Some dir) node None) }
+        ensures err { OnErr result (self.new ≡ self.old) }
+    {
+        self.contents.agree();
+        check_node(&node)?;
+        self.contents.begin(fid, Some(dir), node, None)?;
+        self.queued.put(&self.contents, fid);
+        self.dirty.set(fid, false);
+        self.children.set(None, Some(dir), fid);
+        Ok(())
+    }
+
     // Begins an operation that makes a node.
     fn begin_creation(
         &mut self,
@@ -177,7 +194,7 @@ impl Cache {
         self.contents.agree();
         let kept = name.copy()?;
         let name = name.copy()?;
-        self.put(fid, Some(dir), node, None)?;
+        self.put_new(dir, fid, node)?;
         match self.bind(dir, name, fid) {
             Ok(()) => Ok(Begun::Made {
                 dir,

@@ -2,12 +2,12 @@ ghost use Rattle.std.specs.Prelude.{◌≡◌, List, IfSome};
 ghost use Rattle.coda_walk.specs.declared.item.Item.{Item};
 ghost use Rattle.coda_walk.specs.Going.{blocks_of, without};
 ghost use Rattle.coda_walk.specs.Laws.{left};
-ghost use Rattle.coda_walk.specs.Queue.{IsQueueOf, with_last, with_item};
+ghost use Rattle.coda_walk.specs.Queue.{with_last, with_item};
 ghost use Rattle.coda_cache.specs.Indexed.{IsQueued, AreInOrder, standing_of, standings, renewed_items};
 
 use crate::contents::Contents;
 use coda_fid::Fid;
-use coda_walk::{Item, Queue};
+use coda_walk::Queue;
 
 // The cached nodes as a queue, of which who goes is found without a look at all of them. It is kept from when it is asked for; where
 // a change wanted memory that was not there it is given up, until it is asked for anew.
@@ -16,45 +16,19 @@ pub(crate) struct Queued {
     pub queue: Option<Queue>,
 }
 
-// The queue with an item that is used last.
-fn put_last(queue: Queue, item: Item) -> Option<Queue>
-    ensures { (items : List Item) → IsQueueOf queue items → IfSome result (λ q. IsQueueOf q (with_last items item)) }
-{
-    let mut queue = queue;
-    match queue.put(item) {
-        Ok(()) => Some(queue),
-        Err(_) => None,
-    }
-}
-
-// The queue with another item at its object, where it has one.
-fn changed(queue: Queue, item: Item) -> Option<Queue>
-    ensures { (items : List Item) → IsQueueOf queue items → IfSome result (λ q. IsQueueOf q (with_item item items)) }
-{
-    let mut queue = queue;
-    match queue.change(item) {
-        Ok(()) => Some(queue),
-        Err(_) => None,
-    }
-}
-
-// The queue without the item of an object.
-fn taken(queue: Queue, fid: Fid) -> Option<Queue>
-    ensures { (items : List Item) → IsQueueOf queue items → IfSome result (λ q. IsQueueOf q (without fid items)) }
-{
-    let mut queue = queue;
-    match queue.take_out(fid) {
-        Ok(()) => Some(queue),
-        Err(_) => None,
-    }
-}
-
 impl Queued {
     // No queue.
     pub(crate) fn none() -> Queued
         ensures { (items : List Item) → IsQueued result items }
     {
         Queued { queue: None }
+    }
+
+    // Gives the queue up.
+    fn give_up(&mut self)
+        ensures { (items : List Item) → IsQueued self.new items }
+    {
+        self.queue = None;
     }
 
     // The queue of the cached nodes.
@@ -87,21 +61,26 @@ impl Queued {
         }
     }
 
-    // Puts in an item that is used last, in the place of the one that its object has.
-    pub(crate) fn put(&mut self, item: Item)
-        ensures { (items : List Item) → IsQueued self.old items → IsQueued self.new (with_last items item) }
+    // Puts in a cached node as the one that is used last, in the place of the item that it has. How it stands is looked up
+    // where a queue is kept alone.
+    pub(crate) fn put(&mut self, contents: &Contents, fid: Fid)
+        ensures { (items : List Item) → IsQueued self.old items → IsQueued self.new (with_last items (standing_of contents.now fid)) }
     {
-        if let Some(queue) = self.queue.take() {
-            self.queue = put_last(queue, item);
+        if let Some(queue) = &mut self.queue {
+            if queue.put(contents.standing(fid)).is_err() {
+                self.give_up();
+            }
         }
     }
 
-    // Puts an item in the place of the one that its object has, where it has one.
-    pub(crate) fn change(&mut self, item: Item)
-        ensures { (items : List Item) → IsQueued self.old items → IsQueued self.new (with_item item items) }
+    // Puts a cached node as it stands in the place of the item that it has, where it has one.
+    pub(crate) fn change(&mut self, contents: &Contents, fid: Fid)
+        ensures { (items : List Item) → IsQueued self.old items → IsQueued self.new (with_item (standing_of contents.now fid) items) }
     {
-        if let Some(queue) = self.queue.take() {
-            self.queue = changed(queue, item);
+        if let Some(queue) = &mut self.queue {
+            if queue.change(contents.standing(fid)).is_err() {
+                self.give_up();
+            }
         }
     }
 
@@ -109,8 +88,10 @@ impl Queued {
     pub(crate) fn take_out(&mut self, fid: Fid)
         ensures { (items : List Item) → IsQueued self.old items → IsQueued self.new (without fid items) }
     {
-        if let Some(queue) = self.queue.take() {
-            self.queue = taken(queue, fid);
+        if let Some(queue) = &mut self.queue {
+            if queue.take_out(fid).is_err() {
+                self.give_up();
+            }
         }
     }
 
@@ -128,7 +109,7 @@ impl Queued {
         ensures { (items : List Item) → IsQueued self.old items → IsQueued self.new (renewed_items (standing_of contents.now) fids.now items) }
     {
         for fid in fids {
-            self.change(contents.standing(*fid));
+            self.change(contents, *fid);
         }
     }
 }

@@ -1,11 +1,13 @@
-ghost use Rattle.std.specs.Prelude.{◌≡◌, true, false, [], IfOk, OnOk, OnErr};
+ghost use Rattle.std.specs.Prelude.{◌≡◌, true, false, cond, [], IfOk, OnOk, OnErr};
 ghost use Rattle.std.specs.Map.{keys_of};
 ghost use Rattle.coda_cache.specs.Uses.{latest, except};
 ghost use Rattle.coda_walk.specs.Going.{is_listed};
 
 use coda_fid::Fid;
+use coda_tree::FidHash;
 use lru::LruCache;
 use std::alloc::{AllocError, Global};
+use std::hash::BuildHasherDefault;
 use std::marker::Model;
 
 /// In which order objects were used.
@@ -13,7 +15,7 @@ use std::marker::Model;
 /// Contracts see the list of their fids, the least recently used first, each once. A change takes constant time.
 #[derive(Drop)]
 pub struct Recency {
-    used: LruCache<Fid, ()>,
+    used: LruCache<Fid, (), FidHash>,
 }
 
 impl Model for Recency {
@@ -33,7 +35,7 @@ impl Model for Recency {
 }
 
 // The keys, the most recently used first.
-fn latest_first(alloc: Global, used: &LruCache<Fid, ()>) -> Result<Vec<Fid>, AllocError>
+fn latest_first(alloc: Global, used: &LruCache<Fid, (), FidHash>) -> Result<Vec<Fid>, AllocError>
     ensures { IfOk result (λ v. v.items ≡ keys_of used.now.entries) }
 {
     let mut fids = Vec::new(alloc);
@@ -48,7 +50,7 @@ impl Recency {
     pub fn new(alloc: Global) -> Result<Recency, AllocError>
         ensures { IfOk result (λ r. r ≡ []) }
     {
-        let used = LruCache::unbounded(alloc)?;
+        let used = LruCache::unbounded_with_hasher(alloc, BuildHasherDefault::new())?;
         Ok(Recency { used })
     }
 
@@ -66,6 +68,15 @@ impl Recency {
     {
         let _count = self.used.len();
         let _ = self.used.promote(&fid);
+    }
+
+    // Notes that an object was used, where it is among them, and answers whether it is.
+    pub(crate) fn touch_if_there(&mut self, fid: Fid) -> bool
+        ensures there { result ≡ is_listed self.old fid }
+        ensures used { self.new ≡ cond (is_listed self.old fid) (latest self.old fid) self.old }
+    {
+        let _count = self.used.len();
+        self.used.promote(&fid)
     }
 
     /// Notes that an object was used that was not among them. Fails for want of memory alone, and then changes nothing.

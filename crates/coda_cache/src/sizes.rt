@@ -1,11 +1,12 @@
-ghost use Rattle.std.specs.Prelude.{◌≡◌, ◌↔◌, ℕ, ◌+◌, ◌/◌, ◌<◌, ◌^◌, IfOk, OnOk, IsTrue, is_some, length};
+ghost use Rattle.std.specs.Prelude.{◌≡◌, ◌↔◌, ℕ, ◌+◌, ◌/◌, ◌<◌, ◌^◌, IfOk, OnOk, IsTrue, None, is_some, length};
 ghost use Rattle.std.specs.FinMap as map;
 ghost use Rattle.coda_fid.specs.declared.fid.Fid.{Fid};
 ghost use Rattle.coda_fid.specs.declared.fid.Sid.{Sid};
 ghost use Rattle.coda_tree.specs.declared.node.Node.{Node};
 ghost use Rattle.coda_tree.specs.declared.node.NodeKind.TheVariants.{File};
+ghost use Rattle.coda_tree.specs.Bindings.{Name};
 ghost use Rattle.coda_tree.specs.Blocks.{blocks_of};
-ghost use Rattle.coda_tree.specs.Volume.{bindings, bound, unbound, changed, written, content_patch, edited_all};
+ghost use Rattle.coda_tree.specs.Volume.{bindings, child, bound, unbound, changed, written, content_patch, edited_all};
 ghost use Rattle.coda_certify.specs.Replay.{applied, rename_effects};
 ghost use Rattle.coda_cache.specs.State.{CacheState, blocks_in, blocks_at};
 ghost use Rattle.coda_cache.specs.Prospects.{Foresees};
@@ -160,6 +161,16 @@ impl Contents {
     {
         match self.nodes.get(dir) {
             Some(node) => dir_blocks(names_with(&node.kind, name)?),
+            None => Ok(0),
+        }
+    }
+
+    // The blocks of a directory once it binds a name that is free, which is not looked for.
+    pub(crate) fn blocks_with_one_more(&self, dir: Fid) -> Result<u32, AllocError>
+        ensures { (name : Name) (f : Fid) → child self.now.nodes dir name ≡ None → IfOk result (λ b. b ≡ blocks_in (bound self.now.nodes dir name f) dir) }
+    {
+        match self.nodes.get(dir) {
+            Some(node) => dir_blocks(one_more(names(&node.kind))?),
             None => Ok(0),
         }
     }

@@ -212,6 +212,14 @@ impl Sources {
         }
     }
 
+    // The server that the copy of a node is from, where it is valid and any are kept.
+    pub(crate) fn known(&self, contents: &Contents, fid: Fid) -> Option<u8> {
+        if self.servers.is_none() {
+            return None;
+        }
+        contents.source(fid)
+    }
+
     // The copy of a node that was from one server, where it was valid, is from another now, where it is.
     pub(crate) fn set(&mut self, was: Option<u8>, from: Option<u8>, fid: Fid)
         ensures { (source : Fid → Option ℕ) → AreCovered self.old source → AreCovered self.new (λ f. cond (same_fid fid f) from (source f)) }
@@ -234,7 +242,8 @@ impl Sources {
         ensures { (source : Fid → Option ℕ) → AreCovered self.old source → AreCovered self.new (λ f. cond (is_listed fids.now f) None (source f)) }
     {
         for fid in fids {
-            self.set(contents.source(*fid), None, *fid);
+            let was = self.known(contents, *fid);
+            self.set(was, None, *fid);
         }
     }
 

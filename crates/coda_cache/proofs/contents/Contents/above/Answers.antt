@@ -5,7 +5,7 @@ use Rattle.coda_fid.specs.declared.fid.Fid.{Fid}
 use Rattle.coda_fid.specs.Fid.{fid_cmp}
 use Rattle.coda_cache.specs.State.{is_dirty}
 use Rattle.coda_cache.specs.Ways.{is_below}
-use Rattle.coda_cache.proofs.Removed.{keys_listed}
+use Rattle.coda_cache.proofs.Hashed.{keys_listed}
 use Rattle.coda_cache.proofs.Chosen.{pinned_by_dirty}
 use Rattle.coda_cache.proofs.contents.Contents.above.Goals as goal
 

@@ -1,7 +1,7 @@
 use Rattle.std.proofs.Common.{◌+◌, sym, ap, ◌∙◌}
 use Rattle.std.specs.BTreeSet as btree
 use Rattle.coda_fid.specs.Fid.{fid_cmp}
-use Rattle.coda_cache.proofs.Removed.{keys_listed}
+use Rattle.coda_cache.proofs.Hashed.{keys_listed}
 use Rattle.coda_cache.proofs.Summed.{fresh_sorted}
 use Rattle.coda_cache.proofs.Chosen.{fresh_queue, needed_sum}
 use Rattle.coda_cache.proofs.contents.Contents.blocks_needed.Goals as goal

@@ -4,7 +4,7 @@ use Rattle.std.specs.Ordering.{eq_by_cmp}
 use Rattle.std.specs.BTreeSet as btree
 use Rattle.coda_fid.specs.declared.fid.Fid.{Fid}
 use Rattle.coda_fid.specs.Fid.{fid_cmp}
-use Rattle.coda_cache.proofs.Removed.{keys_listed}
+use Rattle.coda_cache.proofs.Hashed.{keys_listed}
 use Rattle.coda_cache.proofs.Summed.{fresh_sorted}
 use Rattle.coda_cache.proofs.Chosen.{fresh_queue, pinned_sum}
 use Rattle.coda_cache.proofs.contents.Contents.blocks_pinned.Goals as goal

@@ -14,7 +14,7 @@ use Rattle.coda_cache.specs.Room.{items_of, with_ancestors, pinned_blocks, furth
 use Rattle.coda_cache.proofs.Chosen.{fresh_queue}
 use Rattle.coda_cache.proofs.ChosenAhead.{pinned_then, further_then}
 use Rattle.coda_cache.proofs.Foreseen.{pinned_so}
-use Rattle.coda_cache.proofs.Removed.{keys_listed}
+use Rattle.coda_cache.proofs.Hashed.{keys_listed}
 use Rattle.coda_cache.proofs.Summed.{fresh_sorted}
 use Rattle.coda_cache.proofs.Sums.{too_full, enough, room_left}
 use Rattle.coda_cache.proofs.contents.Contents.chosen_ahead.Goals as goal

@@ -4,7 +4,7 @@ use Rattle.coda_walk.specs.Going.{is_listed}
 use Rattle.coda_cache.specs.Prospects.{fids_made}
 use Rattle.coda_cache.proofs.Down.{listed_join}
 use Rattle.coda_cache.proofs.Foreseen.{dirty_among}
-use Rattle.coda_cache.proofs.Removed.{keys_listed}
+use Rattle.coda_cache.proofs.Hashed.{keys_listed}
 use Rattle.coda_cache.proofs.contents.Contents.dirty_ahead.Goals as goal
 
 joined : (a b k l : List Fid) (f : Fid) → is_listed (((a ++ b) ++ k) ++ l) f ≡ (is_listed a f || (is_listed b f || (is_listed k f || is_listed l f)))

@@ -1,7 +1,7 @@
 use Rattle.std.proofs.Common.{sym, ap, ◌∙◌, arith}
 use Rattle.coda_cache.specs.State.{CacheState}
 use Rattle.coda_cache.specs.Indexed.{standings}
-use Rattle.coda_cache.proofs.Removed.{keys_listed}
+use Rattle.coda_cache.proofs.Hashed.{keys_listed}
 use Rattle.coda_cache.proofs.Chosen.{fresh_queue, goes_for}
 use Rattle.coda_cache.proofs.contents.Contents.going_from.Goals as goal
 

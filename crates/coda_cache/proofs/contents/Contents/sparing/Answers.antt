@@ -6,7 +6,7 @@ use Rattle.coda_fid.specs.Fid.{fid_cmp}
 use Rattle.coda_walk.specs.Going.{who_goes}
 use Rattle.coda_cache.specs.Indexed.{standings}
 use Rattle.coda_cache.proofs.Chosen.{fresh_queue}
-use Rattle.coda_cache.proofs.Removed.{keys_listed}
+use Rattle.coda_cache.proofs.Hashed.{keys_listed}
 use Rattle.coda_cache.proofs.ChosenAhead.{spares}
 use Rattle.coda_cache.proofs.contents.Contents.sparing.Goals as goal
 

@@ -1,9 +1,18 @@
-use Rattle.std.proofs.Common.{◌≡◌, List, IfOk, ap, ◌∙◌, sym, subst}
+use Rattle.std.proofs.Common.{◌≡◌, List, ap, ◌∙◌, subst}
+use Rattle.std.specs.Prelude.{IfOk}
+use Rattle.std.specs.List.{list_any}
+use Rattle.std.specs.Ordering.{eq_by_cmp}
 use Rattle.std.specs.FinMap as map
 use Rattle.coda_fid.specs.declared.fid.Fid.{Fid}
+use Rattle.coda_fid.specs.Fid.{fid_cmp}
+use Rattle.coda_walk.specs.Going.{is_listed}
 use Rattle.coda_cache.specs.State.{Holds}
-use Rattle.coda_cache.proofs.Keys.{keys_keyed}
+use Rattle.coda_cache.proofs.Hashed.{keys_rise, listed_there}
 use Rattle.coda_cache.proofs.holds.HoldTable.fids.Goals as goal
 
 pub returns : goal.returns
-returns c = subst (λ (l : List Fid). IfOk c.fids.result (λ v. v.items ≡ l)) (sym (keys_keyed c.self.inside.holds.entries c.len-count.ensures.ordered) ∙ ap (λ (m : Holds). map.keys m) c.self.view_is) c.fids.ensures
+returns c =
+    let keys = c.in_ok-set.set.keys in
+    let same : (q : Fid) → list_any (eq_by_cmp fid_cmp q) keys ≡ map.contains_key c.args.self.now q = λ q. c.in_ok-set.ensures q
+    ∙ ap (λ (l : List Fid). is_listed l q) (c.deref.ensures.value ∙ c.in_ok-held.ensures) ∙ listed_there c.self.inside.holds.entries q ∙ ap (λ (m : Holds). map.contains_key m q) c.self.view_is in
+    subst (λ (l : List Fid). IfOk c.listed.result (λ v. v.items ≡ l)) (keys_rise c.args.self.now keys c.listed.ensures.ordered same) c.listed.ensures.fids

@@ -1,6 +1,6 @@
 use Rattle.std.proofs.Common.{ap, ◌∙◌}
 use Rattle.coda_tree.specs.Slots.{altered}
-use Rattle.coda_cache.proofs.Ordered.{keyed_altered}
+use Rattle.coda_tree.proofs.Keyed.{keyed_altered}
 use Rattle.coda_cache.specs.State.{Holds}
 use Rattle.coda_cache.specs.Steps.{valid_but_from}
 use Rattle.coda_cache.proofs.holds.HoldTable.leave_at.Goals as goal
