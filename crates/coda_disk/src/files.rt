@@ -146,7 +146,8 @@ impl Disk for FileDisk {
     }
 
     fn sync(&mut self) -> Result<(), DiskFault> {
-        if passes_on(&mut self.passes) && self.file.sync_all().is_ok() {
+        // (what no read of the file needs, as the time of the write, isn't waited for)
+        if passes_on(&mut self.passes) && self.file.sync_data().is_ok() {
             return Ok(());
         }
         self.faults = self.faults.saturating_add(1);
@@ -201,8 +202,10 @@ fn open<R: Files<File = File>>(alloc: Global, files: &R, number: u32) -> io::Res
         .create(true)
         .open(files, &path)?;
     file.try_lock()?;
-    // That the folder has the file outlives a crash of the machine once the folder is synced.
+    // That there is a file outlives a crash of the machine once it is synced, and the folder that has it, and the one above.
+    file.sync_all()?;
     fs::open(files, "coda-disks")?.sync_all()?;
+    fs::open(files, ".")?.sync_all()?;
     Ok(FileDisk::new(number, file))
 }
 
