@@ -33,10 +33,10 @@ pub record MayMake (s : Sight) (volume : ℕ) (dir : Fid) (name : Name) (fid : F
   pub next : fid ≡ next_fid s volume
   pub few : s.creations < 4294967295
 
--- what is replaced is held, binds nothing, and isn't what is moved
+-- what is replaced is held, is no directory, and isn't what is moved
 abbrev pub IsReplaced : Nodes → Fid → Option Over → Type 0
 IsReplaced m fid None = Unit {0}
-IsReplaced m fid (Some over) = (has m over.fid ≡ true) × (over.fid ≢ fid) × ((name : Name) → child m over.fid name ≡ None)
+IsReplaced m fid (Some over) = (has m over.fid ≡ true) × (over.fid ≢ fid) × ((name : Name) → child m over.fid name ≡ None) × (is_dir_at (map.get m over.fid) ≡ false)
 
 -- a rename relies on both places, and moves what is held
 pub record MayMove (m : Nodes) (from_dir : Fid) (from : Name) (to_dir : Fid) (to : Name) (fid : Fid) (over : Option Over) : Type 0 where
@@ -281,8 +281,8 @@ replaced_at : (m : Nodes) (fid old : Fid) (over : Option Over) → has m old ≡
 replaced_at m fid old None there other file is = cc
 replaced_at m fid old (Some over) there other file is =
     let at = some_is old over.fid is in
-    subst (λ f. (has m f ≡ true) × (f ≢ fid) × ((name : Name) → child m f name ≡ None)) at
-    (there, (λ same. false≢true (sym other ∙ fid_same old fid same)), (λ name. no_dir_at_binds (map.get m old) name file))
+    subst (λ f. (has m f ≡ true) × (f ≢ fid) × ((name : Name) → child m f name ≡ None) × (is_dir_at (map.get m f) ≡ false)) at
+    (there, (λ same. false≢true (sym other ∙ fid_same old fid same)), (λ name. no_dir_at_binds (map.get m old) name file), file)
 
 replaced_is : (m : Nodes) (fid : Fid) (b : Option Fid) (over : Option Over) → replaced_by m fid b ≡ Ok over → (b ≡ option_map (λ (v : Over). v.fid) over) × IsReplaced m fid over
 replaced_is m fid None over h = let is = ok_is None over h in (ap (option_map (λ (v : Over). v.fid)) is, subst (IsReplaced m fid) is tt)

@@ -4,8 +4,6 @@ ghost use Rattle.std.specs.BTreeMap as tree;
 ghost use Rattle.std.specs.FinMap as map;
 ghost use Rattle.std.specs.Ordering.{nat_cmp};
 ghost use Rattle.coda_tree.specs.Volume.{IsDirAt};
-ghost use Rattle.coda_cancel.specs.Dropping.{mentioning};
-ghost use Rattle.coda_cml.specs.Steady.{any_record};
 ghost use Rattle.coda_record.specs.declared.entry.ClientEntry.TheVariants.{Fetched as FetchedEntry, Dropped as DroppedEntry};
 ghost use Rattle.coda_venus.specs.Accepting.{is_mentioned};
 ghost use Rattle.coda_venus.specs.Code.{volume_in};
@@ -14,38 +12,20 @@ ghost use Rattle.coda_venus.specs.State.{ClientState, client_after};
 
 use crate::client::Client;
 use crate::recovery::Unfit;
-use coda_cancel::LentRecords;
 use coda_fid::Fid;
 use coda_tree::{Node, NodeKind};
 use std::alloc::AllocError;
 
-// Whether one of some records mentions an object.
-fn any_mentions(fid: Fid, mut records: LentRecords<'_>) -> bool
-    ensures { result ≡ any_record (mentioning fid) records.entry }
-{
-    for _ in 0..records.len() {
-        let Some(rec) = records.take_first() else {
-            return false;
-        };
-        if rec.op.mentions(fid) {
-            return true;
-        }
-    }
-    false
-}
-
 impl Client {
     ghost use Rattle.coda_venus.specs.Code.{IsClient, held_of};
 
-    // Whether a record of the log of its volume mentions an object. It costs the records of the log.
+    // Whether a record of the log of its volume mentions an object. It costs the records of the chunk, and one search
+    // among what those of the tail mention (`mentions` of `Log`).
     fn is_dirty(&self, fid: Fid) -> bool
         ensures { result ≡ is_mentioned (volume_in (tree.get nat_cmp self.now.logs fid.volume)) fid }
     {
         match self.logs.get(&fid.volume) {
-            Some(log) => {
-                let (chunk, records) = log.log.records();
-                any_mentions(fid, LentRecords::of(chunk)) || any_mentions(fid, records)
-            }
+            Some(log) => log.log.mentions(fid),
             None => false,
         }
     }
