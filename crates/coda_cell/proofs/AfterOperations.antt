@@ -23,9 +23,9 @@ use Rattle.coda_certify.specs.Replay.{MayCreate, MayRemove, empty_file, empty_di
 use Rattle.coda_cancel.specs.Dropping.{creates}
 use Rattle.coda_cancel.proofs.Keys.{fid_same, fid_false, fid_other}
 use Rattle.coda_cml.specs.Steady.{unbinds}
-use Rattle.coda_cell.specs.Held.{Parents, Held, AreBound, taken_out, stays, held_without, parents_after, held_after_operation}
-use Rattle.coda_cell.specs.Accepting.{Sight}
-use Rattle.coda_cell.proofs.Accepted.{MayMove, Relies}
+use Rattle.coda_venus.specs.Held.{Parents, Held, AreBound, taken_out, stays, held_without, parents_after, held_after_operation}
+use Rattle.coda_venus.specs.Accepting.{Sight}
+use Rattle.coda_venus.proofs.Accepted.{MayMove, Relies}
 use Rattle.coda_cell.proofs.Fetches.{some_fid, child_fetched}
 use Rattle.coda_cell.proofs.Going.{left_was, stays_apart, nodes_alone}
 

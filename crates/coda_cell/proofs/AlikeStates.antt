@@ -12,7 +12,7 @@ use Rattle.coda_script.specs.declared.reply.Reply.TheVariants as replies
 use Rattle.coda_fid.specs.declared.op.Record.{Record}
 use Rattle.coda_record.specs.declared.answer.Answer.{Answer as RecordAnswer}
 use Rattle.coda_letters.specs.Sent.{Sent, ChunkSent, AnswerSent, BreakSent, Waiting, client_of, server_of, sent_at, number_of}
-use Rattle.coda_cell.specs.Ask.{Asked, Create, Mkdir, Symlink, Store, Setattr, Remove, Rmdir, Rename}
+use Rattle.coda_venus.specs.Ask.{Asked, Create, Mkdir, Symlink, Store, Setattr, Remove, Rmdir, Rename}
 use Rattle.coda_cell.specs.Asking.{Answer, operate, read, list}
 use Rattle.coda_cell.specs.Messages.{Ending, over, Going, going_by, sends_of}
 use Rattle.coda_cell.specs.Sending.{Freezing, freezing, deeds_at}

@@ -37,13 +37,14 @@ use Rattle.coda_certify.specs.Replay.{MayCreate, applied, replay, unless_refused
 use Rattle.coda_certify.specs.Verdicts.{verdict_of}
 use Rattle.coda_plain.specs.Deeds.{created_by}
 use Rattle.coda_plain.specs.Decisions.{or_replayed, sent_of}
-use Rattle.coda_cell.specs.Ask.{Asked, Create, Mkdir, Symlink, Store, Setattr, Remove, Rmdir, Rename, Ending, ending}
-use Rattle.coda_cell.specs.Held.{Held, Parents, below_within, is_below as is_held_below, held_after_operation, some_below}
-use Rattle.coda_cell.specs.Looking.{then_find, held, resolve}
-use Rattle.coda_cell.specs.Accepting.{Accepted, Sight, new_place, accept_creation, store_in, store_at, setattr_at, remove_in, remove_at, rmdir_of, rmdir_in, rmdir_at, spot, place, is_dir_kind, is_dir_at, with_version, replaced_by, move_to, rename_to, rename_root, accept_rename, accept_remove, accept_rmdir, accept}
-use Rattle.coda_cell.specs.Refused as refused
+use Rattle.coda_venus.specs.Ask.{Asked, Create, Mkdir, Symlink, Store, Setattr, Remove, Rmdir, Rename, Ending, ending}
+use Rattle.coda_cache.specs.Parents.{below_within}
+use Rattle.coda_venus.specs.Held.{Held, Parents, is_below as is_held_below, held_after_operation, some_below}
+use Rattle.coda_venus.specs.Looking.{then_find, held, resolve}
+use Rattle.coda_venus.specs.Accepting.{Accepted, Sight, new_place, accept_creation, store_in, store_at, setattr_at, remove_in, remove_at, rmdir_of, rmdir_in, rmdir_at, spot, place, is_dir_kind, is_dir_at, with_version, replaced_by, move_to, rename_to, rename_root, accept_rename, accept_remove, accept_rmdir, accept}
+use Rattle.coda_venus.specs.declared.refused.Refused.TheVariants as refused
 use Rattle.coda_cell.specs.Alone.{IsWhole, AcceptedOperationsCertify, AreAccepted, no_more, one_more, ClientsAloneMeetNoConflict}
-use Rattle.coda_cell.proofs.Accepted.{Relies, accepted_relies, ok_is, found_then, not_at_root, unless_is, or_none, place_is, root_stays, IsSpot, spot_is}
+use Rattle.coda_venus.proofs.Accepted.{Relies, accepted_relies, ok_is, found_then, not_at_root, unless_is, or_none, place_is, root_stays, IsSpot, spot_is}
 use Rattle.coda_cell.proofs.Going.{nodes_alone}
 
 sid_same : (a : Sid) → same_sid a a ≡ true

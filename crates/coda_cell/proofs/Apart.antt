@@ -1,24 +1,23 @@
 -- A rename that is accepted moves nothing below itself.
-use Rattle.std.proofs.Common.{◌≡◌, ℕ, Bool, true, false, cond, ◌&&◌, List, ◌==◌, Option, Some, None, Result, Ok, Err, refl, ap, subst}
+use Rattle.std.proofs.Common.{◌≡◌, ℕ, Bool, true, false, cond, ◌&&◌, List, ◌==◌, Option, Some, None, Ok, Err, refl, subst}
 use Rattle.std.specs.Prelude.{not}
 use Rattle.std.specs.FinMap as map
 use Rattle.coda_fid.specs.Fid.{root_of}
 use Rattle.coda_fid.specs.declared.fid.Fid.{Fid}
 use Rattle.coda_fid.specs.declared.fid.Sid.{Sid}
 use Rattle.coda_fid.specs.declared.op.Attrs.{Attrs}
-use Rattle.coda_fid.specs.declared.op.Over.{Over}
 use Rattle.coda_fid.specs.declared.op.Op.{Op}
 use Rattle.coda_fid.specs.declared.op.Op.TheVariants.{Create as CreateOp, Mkdir as MkdirOp, Symlink as SymlinkOp, Store as StoreOp, Setattr as SetattrOp, Remove as RemoveOp, Rmdir as RmdirOp, Rename as RenameOp}
 use Rattle.coda_tree.specs.declared.node.Node.{Node}
 use Rattle.coda_tree.specs.declared.node.NodeKind.{NodeKind}
 use Rattle.coda_tree.specs.declared.node.NodeKind.TheVariants.{File, Link, Dir}
 use Rattle.coda_tree.specs.Bindings.{Name}
-use Rattle.coda_cell.specs.Refused.{Exists, IsDir as IsADirectory, Loop}
-use Rattle.coda_cell.specs.Ask.{Asked, Create, Mkdir, Symlink, Store, Setattr, Remove, Rmdir, Rename, Ending, ending}
-use Rattle.coda_cell.specs.Held.{Parents, is_below, some_below}
-use Rattle.coda_cell.specs.Looking.{then_find, held, resolve}
-use Rattle.coda_cell.specs.Accepting.{Accepted, Sight, new_place, accept_creation, store_in, store_at, setattr_at, remove_in, remove_at, rmdir_of, rmdir_in, rmdir_at, spot, place, replaced_by, move_to, rename_to, rename_root, accept_rename, accept_remove, accept_rmdir, accept}
-use Rattle.coda_cell.proofs.Accepted.{found_then, ok_is, not_at_root, root_stays}
+use Rattle.coda_venus.specs.declared.refused.Refused.TheVariants.{Exists, IsDir as IsADirectory, Loop}
+use Rattle.coda_venus.specs.Ask.{Asked, Create, Mkdir, Symlink, Store, Setattr, Remove, Rmdir, Rename, Ending, ending}
+use Rattle.coda_venus.specs.Held.{Parents, is_below, some_below}
+use Rattle.coda_venus.specs.Looking.{then_find, held, resolve}
+use Rattle.coda_venus.specs.Accepting.{Accepted, Sight, new_place, accept_creation, store_in, store_at, setattr_at, remove_in, remove_at, rmdir_of, rmdir_in, rmdir_at, spot, place, replaced_by, move_to, rename_to, rename_root, accept_rename, accept_remove, accept_rmdir, accept}
+use Rattle.coda_venus.proofs.Accepted.{found_then, ok_is, not_at_root, root_stays}
 
 -- the directory into which a rename moves an object isn't the object, nor below it
 abbrev pub IsApart : Parents → Op → Type 0

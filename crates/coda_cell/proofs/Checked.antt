@@ -16,14 +16,14 @@ use Rattle.coda_tree.specs.declared.node.NodeKind.TheVariants.{File, Link, Dir}
 use Rattle.coda_tree.specs.Bindings.{Name}
 use Rattle.coda_tree.specs.Volume.{Nodes, bindings, child, child_of}
 use Rattle.coda_certify.specs.Checks.{is_dir, is_no_dir, is_no_file}
-use Rattle.coda_cell.specs.Ask.{Asked, Create, Mkdir, Symlink, Store, Setattr, Remove, Rmdir, Rename, Ending, ending}
-use Rattle.coda_cell.specs.Held.{is_below, some_below}
-use Rattle.coda_cell.specs.Looking.{then_find, held, found, step_in, step_from, resolve}
-use Rattle.coda_cell.specs.Accepting.{Sight, Accepted, is_used_up, next_fid, unless_used, new_fid, new_at, new_in, new_under, new_place, at_root, accept_creation, store_in, store_at, setattr_at, remove_in, remove_at, rmdir_of, rmdir_in, rmdir_at, spot, held_bound, bound_in, bound_at, place, is_dir_kind, is_dir_at, with_version, replaced_by, move_to, rename_to, rename_root, accept_rename, accept_remove, accept_rmdir, accept}
+use Rattle.coda_venus.specs.Ask.{Asked, Create, Mkdir, Symlink, Store, Setattr, Remove, Rmdir, Rename, Ending, ending}
+use Rattle.coda_venus.specs.Held.{is_below, some_below}
+use Rattle.coda_venus.specs.Looking.{then_find, held, found, step_in, step_from, resolve}
+use Rattle.coda_venus.specs.Accepting.{Sight, Accepted, is_used_up, next_fid, unless_used, new_fid, new_at, new_in, new_under, new_place, at_root, accept_creation, store_in, store_at, setattr_at, remove_in, remove_at, rmdir_of, rmdir_in, rmdir_at, spot, held_bound, bound_in, bound_at, place, is_dir_kind, is_dir_at, with_version, replaced_by, move_to, rename_to, rename_root, accept_rename, accept_remove, accept_rmdir, accept}
 use Rattle.coda_cell.specs.Checks.{AskCheck, PresentAt, DirAt, NoDirAt, FileAt, FreeAt, BelowRoot, EmptyAt, CleanBelow, NumberLeft, NextFree, NotAbove, OtherAt, NoDirsAt, way_checks, object_checks, parent_checks, ask_checks, refused_where, object_along, node_behind, miss_of, unheld_of, kind_refused, not_found_of, exists_of, top_refused, binds_some, mentioned_below, above_of, itself_of, is_held_dir, dirs_of, dir_above, refusal_by, first_refusal, AcceptanceGoesByChecks}
-use Rattle.coda_cell.specs.Refused.{Refused}
-use Rattle.coda_cell.specs.Refused as refused
-use Rattle.coda_cell.proofs.Accepted.{found_then, held_is, resolve_has, step_is, spot_is}
+use Rattle.coda_venus.specs.declared.refused.Refused.{Refused}
+use Rattle.coda_venus.specs.declared.refused.Refused.TheVariants as refused
+use Rattle.coda_venus.proofs.Accepted.{found_then, held_is, resolve_has, step_is, spot_is}
 use Rattle.coda_cell.proofs.Unlooked.{ended, not_ended, leads_to_spot}
 
 -- ---- first refusals

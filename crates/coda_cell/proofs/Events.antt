@@ -19,7 +19,8 @@ use Rattle.coda_plain.specs.Cell.{ClientEntry, Did}
 use Rattle.coda_plain.specs.Decisions.{ReplicaEntry}
 use Rattle.coda_plain.specs.Deeds.{Deed}
 use Rattle.coda_plain.specs.Moves.{AtReplica}
-use Rattle.coda_cell.specs.Held.{Held, held_after_deed}
+use Rattle.coda_cell.specs.Held.{held_after_deed}
+use Rattle.coda_venus.specs.Held.{Held}
 use Rattle.coda_cell.specs.State.{put, ClientVolume, volume_after, ClientState, client_after, client_after_all, ReplicaState, replica_after, replica_after_all, replica_after_at, CellState, Event, Entered, after, after_all, at_client}
 use Rattle.coda_cell.specs.Sending.{Freezing, frozen_now, frozen_unless, freezing_of, freezing, Ruling, decides, ruling_of, ruling, Taking, taken, taken_unless, taking, deeds_at, entries_at, Outcome, answered_to, ruled_on, drained_of, drain}
 use Rattle.coda_cell.specs.Steps.{Named, first_missing}

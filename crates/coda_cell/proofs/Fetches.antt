@@ -7,13 +7,14 @@ use Rattle.coda_fid.proofs.Fids.{fids_total, exact_fids}
 use Rattle.coda_tree.specs.declared.node.Node.{Node}
 use Rattle.coda_tree.specs.Bindings.{Name}
 use Rattle.coda_tree.specs.Volume.{Nodes, child, child_of, parent_of}
-use Rattle.coda_tree.proofs.Order.{fid_cases, get_here, get_else}
-use Rattle.coda_tree.proofs.Parents.{parent_sound}
+use Rattle.coda_tree.proofs.Order.{fid_cases, get_else}
 use Rattle.coda_plain.specs.Cell.{ClientEntry}
-use Rattle.coda_cell.specs.Refused.{Refused}
-use Rattle.coda_cell.specs.Ask.{Asked, Create, Mkdir, Symlink, Store, Setattr, Remove, Rmdir, Rename, front_of, ending}
-use Rattle.coda_cell.specs.Held.{Held, Fetch, AreBound, held_after_fetch, held_after_fetches}
-use Rattle.coda_cell.specs.Looking.{step_from, resolve, offered, fetch_of, look, looked, look_on, look_along, entries_of}
+use Rattle.coda_venus.specs.declared.refused.Refused.{Refused}
+use Rattle.coda_venus.specs.Ask.{Asked, Create, Mkdir, Symlink, Store, Setattr, Remove, Rmdir, Rename, front_of, ending}
+use Rattle.coda_cell.specs.Held.{Fetch, held_after_fetches}
+use Rattle.coda_venus.specs.Held.{Held, held_after_fetch}
+use Rattle.coda_cell.specs.Looking.{offered, fetch_of, look, looked, look_on, look_along, entries_of}
+use Rattle.coda_venus.specs.Looking.{step_from, resolve}
 use Rattle.coda_cell.specs.State.{ClientState, client_after, client_after_all}
 use Rattle.coda_cell.specs.Asking.{rename_look_ups, look_ups, behind_fetches}
 
@@ -123,22 +124,3 @@ child_fetched m fid dir f node name new bound = elim (fid_cases dir fid) [
   | inl same ↦ absurd (binder_held m dir f name bound (ap (map.get m) same ∙ new))
   | inr other ↦ ap (λ o. child_of o name) (get_else fids_total exact_fids m fid node dir other) ∙ bound
 ]
-
-bound_fetch : (h : Held) (fid : Fid) (parent : Option Fid) (node : Node) → map.get h.nodes fid ≡ None → parent ≡ parent_of h.nodes fid → AreBound h → AreBound (held_after_fetch h fid parent node)
-bound_fetch h fid None node new from bound = λ f p is. let at = bound f p is in (at.0, child_fetched h.nodes fid p f node at.0 new at.1)
-bound_fetch h fid (Some parent) node new from bound = λ f p is. elim (fid_cases f fid) [
-  | inl same ↦ (
-      let here : Some parent ≡ Some p = sym (ap (map.get (map.insert h.parents fid parent)) same ∙ get_here fids_total h.parents fid parent) ∙ is in
-      let p_is = some_fid parent p here in
-      let at = parent_sound h.nodes fid parent (sym from) in
-      (at.0, subst (λ q. child (map.insert h.nodes fid node) q at.0 ≡ Some f) p_is (child_fetched h.nodes fid parent fid node at.0 new at.1 ∙ ap Some (sym same))))
-  | inr other ↦ (let at = bound f p (sym (get_else fids_total exact_fids h.parents fid parent f other) ∙ is) in (at.0, child_fetched h.nodes fid p f node at.0 new at.1))
-]
-
-pub bound_look : (offers : Option Nodes) (h : Held) (fid : Fid) → AreBound h → AreBound (looked offers h fid)
-bound_look offers h fid bound = by (map.get h.nodes fid) (offered offers fid) refl
-  where
-    by : (o offer : Option Node) → map.get h.nodes fid ≡ o → AreBound (held_after_fetches h (fetch_of o offer (parent_of h.nodes fid) fid))
-    by (Some node) offer e = bound
-    by None (Some node) e = bound_fetch h fid (parent_of h.nodes fid) node e refl bound
-    by None None e = bound

@@ -25,14 +25,16 @@ use Rattle.coda_tree.specs.Bindings.{Name}
 use Rattle.coda_tree.specs.Volume.{Nodes, child, child_of, has, parent_of, IsDir, IsDirNode, IsDirAt, written, content_patch, attrs_patch, bind_in, unbind_in, bound, unbound, additions, removals, moves, edited_all}
 use Rattle.coda_tree.proofs.Booleans.{has_some}
 use Rattle.coda_tree.proofs.Order.{fid_cases, get_here, get_else, gone_else}
-use Rattle.coda_tree.proofs.Changes.{has_changed, binder_is_dir}
+use Rattle.coda_tree.proofs.Changes.{has_changed}
 use Rattle.coda_tree.proofs.Parents.{tied_fid, parent_sound}
 use Rattle.coda_cancel.proofs.Keys.{fid_same, fid_other}
 use Rattle.coda_certify.specs.Replay.{empty_file, empty_dir, new_link, rename_effects, sid_of, applied}
-use Rattle.coda_cell.specs.Held.{Parents, Held, AreBound, IsForest, nothing_held, below_within, is_below, stays, held_without, held_after_operation, held_after_fetch, held_after_fetches}
-use Rattle.coda_cell.specs.Accepting.{Sight, is_dir_kind, is_dir_at}
+use Rattle.coda_cache.specs.Parents.{below_within}
+use Rattle.coda_cell.specs.Held.{IsForest, held_after_fetches}
+use Rattle.coda_venus.specs.Held.{Parents, Held, nothing_held, is_below, stays, held_without, held_after_operation, held_after_fetch}
+use Rattle.coda_venus.specs.Accepting.{Sight, is_dir_kind, is_dir_at}
 use Rattle.coda_cell.specs.Looking.{offered, fetch_of, looked}
-use Rattle.coda_cell.proofs.Accepted.{MayMove, Relies}
+use Rattle.coda_venus.proofs.Accepted.{MayMove, Relies}
 use Rattle.coda_cell.proofs.Apart.{IsApart}
 use Rattle.coda_cell.proofs.Fetches.{some_fid}
 use Rattle.coda_cell.proofs.Going.{left_was, left_there, below_itself, below_alone, stays_apart}
@@ -167,7 +169,7 @@ module _ (parents : Parents) (depth : Fid → ℕ) (deeper : (f p : Fid) → map
 -- ---- what is held
 
 -- an object that binds something is there
-binds_there : (m : Nodes) (dir fid : Fid) (name : Name) → child m dir name ≡ Some fid → has m dir ≡ true
+pub binds_there : (m : Nodes) (dir fid : Fid) (name : Name) → child m dir name ≡ Some fid → has m dir ≡ true
 binds_there m dir fid name bound = by (map.get m dir) bound
   where
     by : (o : Option Node) → child_of o name ≡ Some fid → is_some o ≡ true
@@ -253,7 +255,7 @@ forest_left h nodes test stay up forest = record {
     there f passes held = left_there nodes test f passes ∙ stay f passes held
 
 -- the parent of who stays where an object goes stays, since who is below what goes goes too
-stays_above : (h : Held) (gone f p : Fid) → IsForest h → map.get h.parents f ≡ Some p → stays h.parents gone f ≡ true → stays h.parents gone p ≡ true
+pub stays_above : (h : Held) (gone f p : Fid) → IsForest h → map.get h.parents f ≡ Some p → stays h.parents gone f ≡ true → stays h.parents gone p ≡ true
 stays_above h gone f p forest is here = (elim (is_below h.parents p gone) as (λ b. is_below h.parents p gone ≡ b → not b ≡ true) [
   | true ↦ λ up. absurd (false≢true (sym (ap not ((below_by h.parents forest.depth forest.deeper f p gone is).1 up)) ∙ here))
   | false ↦ λ _. refl
@@ -408,7 +410,7 @@ forest_operation s volume client rec relies apart beside forest = by rec.op reli
 abbrev pub AreDirs : Held → Type 0
 AreDirs held = (f p : Fid) → map.get held.parents f ≡ Some p → IsDirAt held.nodes p
 
-no_dir : (o : Option Node) → IsDirNode o → is_dir_at o ≡ false → ⊥
+pub no_dir : (o : Option Node) → IsDirNode o → is_dir_at o ≡ false → ⊥
 no_dir None is file = absurd is
 no_dir (Some node) is file = by node.kind is file
   where
@@ -430,7 +432,3 @@ beside_dirs s volume (Rename from_dir from to_dir to fid None) r dirs = tt
 beside_dirs s volume (Rename from_dir from to_dir to fid (Some over)) r dirs =
     let other : to_dir ≢ over.fid = λ same. none-some over.fid (sym (r.replaced.2 to) ∙ ap (λ d. child s.held.nodes d to) (sym same) ∙ r.places.bound) in
     below_alone s.held.parents over.fid (λ f is. no_dir (map.get s.held.nodes over.fid) (dirs f over.fid is) r.replaced.3) to_dir ∙ fid_other to_dir over.fid other
-
--- each parent is a directory where it binds what it is the parent of
-pub dirs_bound : (h : Held) → AreBound h → AreDirs h
-dirs_bound h bound = λ f p is. let at = bound f p is in binder_is_dir h.nodes p at.0 f at.1

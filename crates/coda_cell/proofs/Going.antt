@@ -20,9 +20,10 @@ use Rattle.coda_tree.proofs.Order.{fid_cases, gone_here, gone_else}
 use Rattle.coda_tree.proofs.Changes.{has_changed}
 use Rattle.coda_cancel.proofs.Keys.{fid_same, fid_other}
 use Rattle.coda_certify.specs.Replay.{effects, sid_of, applied}
-use Rattle.coda_cell.specs.Held.{Parents, Held, AreBound, below_within, is_below, taken_out, stays, held_without, parents_after, held_after_operation}
-use Rattle.coda_cell.specs.Accepting.{Sight}
-use Rattle.coda_cell.proofs.Accepted.{Relies}
+use Rattle.coda_cache.specs.Parents.{below_within}
+use Rattle.coda_venus.specs.Held.{Parents, Held, AreBound, is_below, taken_out, stays, held_without, parents_after, held_after_operation}
+use Rattle.coda_venus.specs.Accepting.{Sight}
+use Rattle.coda_venus.proofs.Accepted.{Relies}
 use Rattle.coda_cell.proofs.Fetches.{some_fid}
 
 -- ---- what is left
@@ -53,6 +54,10 @@ left_bound m test dir f name is = (elim (test dir) as (λ b. child_of (cond b (m
   | true ↦ λ at. at
   | false ↦ λ at. absurd (none-some f at)
 ]) (sym (ap (λ o. child_of o name) (get_left m test dir)) ∙ is)
+
+-- what is left of directories binds what they bound
+pub left_binds : (m : Nodes) (test : Fid → Bool) (dir f : Fid) (name : Name) → test dir ≡ true → child m dir name ≡ Some f → child (map.retain_keys m test) dir name ≡ Some f
+left_binds m test dir f name passes was = ap (λ o. child_of o name) (get_left m test dir ∙ ap (λ b. cond b (map.get m dir) None) passes) ∙ was
 
 -- what is held once an object went was held
 pub had_with : (gone : Option Fid) (parents : Parents) (h : Held) (f : Fid) → has (held_without gone parents h).nodes f ≡ true → has h.nodes f ≡ true
@@ -140,7 +145,7 @@ taken_by m time sid (Rename from_dir from to_dir to fid (Some over)) gone is =
     (moved_none (map.remove m over.fid) from_dir from to_dir to fid over.fid (gone_here fids_total m over.fid))
 
 -- an object that an operation takes out isn't there after it
-taken_none : (m : Nodes) (client : ℕ) (rec : Record) (gone : Fid) → taken_out rec.op ≡ Some gone → map.get (applied m client rec) gone ≡ None
+pub taken_none : (m : Nodes) (client : ℕ) (rec : Record) (gone : Fid) → taken_out rec.op ≡ Some gone → map.get (applied m client rec) gone ≡ None
 unfolding applied
 taken_none m client rec gone is = taken_by m rec.time (sid_of client rec) rec.op gone is
 

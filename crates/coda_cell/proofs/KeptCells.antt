@@ -36,7 +36,7 @@ module _ (cell : MadeCell) (kept : IsKept cell) where
 
   orderly_client : (client blocks : ℕ) → cell.sizes client ≡ Some blocks → IsOrderly (client_of client (cell.acted.clients client).history blocks)
   orderly_client client blocks there = record {
-    bound = (kept.holding client blocks there).bound;
+    under = (kept.holding client blocks there).under;
     steady = λ volume. subst IsSteady (sym (pending_is client blocks volume)) (steady client volume);
   }
 
@@ -66,7 +66,7 @@ cells_are_kept = record { first = first_kept; orderly = orderly }
 -- a client that did nothing holds nothing
 pub nothing_holding : (cell : PlainCell) (client blocks : ℕ) (history : List ClientEntry) → history ≡ [] → IsHolding cell (client_of client history blocks)
 nothing_holding cell client blocks history none = subst (λ h. IsHolding cell (client_of client h blocks)) (sym none) (record {
-  bound = λ f p is. (let no : None ≡ Some p = sym (finite.get-empty fid_cmp f) ∙ is in cc);
+  under = λ f p is. (let no : None ≡ Some p = sym (finite.get-empty fid_cmp f) ∙ is in cc);
   forest = forest_none;
   within = λ dir fid name is. (let no : None ≡ Some fid = ap (λ o. child_of o name) (sym (finite.get-empty fid_cmp dir)) ∙ is in cc);
   made = λ fid is. absurd (false≢true (sym (ap is_some (finite.get-empty fid_cmp fid)) ∙ is));

@@ -1,6 +1,6 @@
 -- What a run created stays where it put it, unless the run took it from there: after operations, after fetches, and for the rest
 -- of the run.
-use Rattle.std.proofs.Common.{◌≡◌, ℕ, Bool, true, false, ◌||◌, List, [], ◌∷◌, ◌++◌, Option, Some, None, refl, sym, ap, ◌∙◌, inl, inr, ◌⊎◌}
+use Rattle.std.proofs.Common.{◌≡◌, ℕ, Bool, true, false, ◌||◌, not, List, [], ◌∷◌, ◌++◌, Option, Some, None, refl, sym, ap, ◌∙◌, inl, inr, ◌⊎◌}
 use Rattle.std.specs.FinMap as map
 use Rattle.std.specs.List.{list_any}
 use Rattle.std.proofs.lemmas.Bool.{cases_Bool, and_parts, or_cases, or_left, or_right, or_parts, false≢true}
@@ -14,23 +14,26 @@ use Rattle.coda_fid.specs.declared.op.Op.TheVariants.{Create as CreateOp, Mkdir 
 use Rattle.coda_fid.specs.declared.op.Record.{Record}
 use Rattle.coda_tree.specs.declared.node.Node.{Node}
 use Rattle.coda_tree.specs.Bindings.{Name}
-use Rattle.coda_tree.specs.Volume.{Nodes, child, parent_of}
+use Rattle.coda_tree.specs.Volume.{Nodes, child, has, parent_of}
 use Rattle.coda_certify.specs.Replay.{applied}
 use Rattle.coda_cancel.specs.Dropping.{mentioning, creates}
 use Rattle.coda_cancel.specs.Cancel.{add}
-use Rattle.coda_cancel.proofs.Keys.{fid_true}
+use Rattle.coda_cancel.proofs.Keys.{fid_true, fid_same}
 use Rattle.coda_cml.specs.Steady.{any_record, makes_in, unbinds, is_over, ChildrenLeft, RemovesEmpty, GoesOn, IsSteady}
 use Rattle.coda_cml.proofs.runs.WithoutObject.{any-append}
-use Rattle.coda_cell.specs.Held.{Held, held_after_fetches}
+use Rattle.coda_cell.specs.Held.{held_after_fetches}
+use Rattle.coda_venus.specs.Held.{Parents, Held, is_below, taken_out, stays, held_without}
 use Rattle.coda_cell.specs.Looking.{offered, fetch_of, looked}
-use Rattle.coda_cell.specs.Accepting.{Sight}
+use Rattle.coda_venus.specs.Accepting.{Sight}
 use Rattle.coda_cell.specs.Kept.{AreChildrenKept}
-use Rattle.coda_cell.proofs.Accepted.{Relies}
-use Rattle.coda_cell.proofs.Fetches.{child_fetched}
+use Rattle.coda_venus.proofs.Accepted.{Relies}
+use Rattle.coda_cell.proofs.Fetches.{some_fid, child_fetched}
 use Rattle.coda_cell.proofs.AfterOperations.{IsBoundBy, still_bound, newly_bound}
+use Rattle.coda_cell.proofs.Forests.{binds_there}
+use Rattle.coda_cell.proofs.Going.{left_binds}
 
 -- one of two runs passes
-any_parts : (test : Op → Bool) (front back : List Record) → any_record test (front ++ back) ≡ true → (any_record test front ≡ true) ⊎ (any_record test back ≡ true)
+pub any_parts : (test : Op → Bool) (front back : List Record) → any_record test (front ++ back) ≡ true → (any_record test front ≡ true) ⊎ (any_record test back ≡ true)
 any_parts test front back h = or_cases (any_record test front) (any_record test back) (sym (any-append test front back) ∙ h)
 
 any_front : (test : Op → Bool) (front back : List Record) → any_record test front ≡ true → any_record test (front ++ back) ≡ true
@@ -40,7 +43,7 @@ any_back : (test : Op → Bool) (front back : List Record) → any_record test b
 any_back test front back h = any-append test front back ∙ or_right (any_record test front) (any_record test back) h
 
 -- the last record
-any_last : (test : Op → Bool) (rec : Record) → any_record test (rec ∷ []) ≡ true → test rec.op ≡ true
+pub any_last : (test : Op → Bool) (rec : Record) → any_record test (rec ∷ []) ≡ true → test rec.op ≡ true
 any_last test rec h = elim (or_cases (test rec.op) false h) [ inl is ↦ is | inr none ↦ absurd (false≢true none) ]
 
 any_one : (test : Op → Bool) (rec : Record) → test rec.op ≡ true → any_record test (rec ∷ []) ≡ true
@@ -76,6 +79,18 @@ pub kept_children_beside : (s : Sight) (volume client : ℕ) (rec : Record) (run
 kept_children_beside s volume client rec run kept relies others = λ dir kid made. elim (kept dir kid made) [
   | inl left ↦ inl left
   | inr at ↦ inr (at.0, still_bound s volume client rec dir at.0 kid relies at.1 (others dir kid made))
+]
+
+-- and where an object goes with all that was held below it, if no directory goes in which the run made something that it left there
+pub kept_children_going : (gone : Option Fid) (parents : Parents) (h : Held) (run : List Record) → AreChildrenKept h.nodes run
+    → ((g dir kid : Fid) → gone ≡ Some g → has h.nodes dir ≡ true → any_record (makes_in dir kid) run ≡ true → any_record (unbinds kid) run ≡ false → is_below parents dir g ≡ false) → AreChildrenKept (held_without gone parents h).nodes run
+kept_children_going None parents h run kept apart = kept
+kept_children_going (Some gone) parents h run kept apart = λ dir kid made. elim (kept dir kid made) [
+  | inl left ↦ inl left
+  | inr at ↦ elim (cases_Bool (any_record (unbinds kid) run)) [
+    | inl left ↦ inl left
+    | inr still ↦ inr (at.0, left_binds h.nodes (stays parents gone) dir kid at.0 (ap not (apart gone dir kid refl (binds_there h.nodes dir kid at.0 at.1) made still)) at.1)
+  ]
 ]
 
 pub kept_children_look : (offers : Option Nodes) (run : List Record) (h : Held) (fid : Fid) → AreChildrenKept h.nodes run → AreChildrenKept (looked offers h fid).nodes run
@@ -126,6 +141,18 @@ unbinds_mentions (RenameOp from_dir from to_dir to it over) f h =
       | inl same ↦ or_left (same_fid it f) (same_fid v.fid f || false) same
       | inr same ↦ or_right (same_fid it f) (same_fid v.fid f || false) (or_left (same_fid v.fid f) false same)
     ]
+
+-- what an operation takes out it takes from where it is bound
+pub takes_unbinds : (op : Op) (gone : Fid) → taken_out op ≡ Some gone → unbinds gone op ≡ true
+takes_unbinds (CreateOp dir name it mode owner) gone is = absurd (none-some gone is)
+takes_unbinds (MkdirOp dir name it mode owner) gone is = absurd (none-some gone is)
+takes_unbinds (SymlinkOp dir name it target mode owner) gone is = absurd (none-some gone is)
+takes_unbinds (StoreOp it pre content) gone is = absurd (none-some gone is)
+takes_unbinds (SetattrOp it pre attrs) gone is = absurd (none-some gone is)
+takes_unbinds (RemoveOp dir name it pre) gone is = fid_same it gone (some_fid it gone is)
+takes_unbinds (RmdirOp dir name it pre) gone is = fid_same it gone (some_fid it gone is)
+takes_unbinds (RenameOp from_dir from to_dir to it None) gone is = absurd (none-some gone is)
+takes_unbinds (RenameOp from_dir from to_dir to it (Some over)) gone is = or_right (same_fid it gone) (same_fid over.fid gone) (fid_same over.fid gone (some_fid over.fid gone is))
 
 -- what is made in a directory is created
 pub makes_creates : (op : Op) (dir f : Fid) → makes_in dir f op ≡ true → creates f op ≡ true

@@ -1,5 +1,5 @@
 -- A cell stays kept by what a client fetches, and by an operation that it accepts.
-use Rattle.std.proofs.Common.{◌≡◌, ◌≢◌, ℕ, ◌+◌, ◌==◌, true, false, cond, List, [], ◌∷◌, ◌++◌, append_assoc, map, Option, Some, None, Ok, refl, sym, ap, ◌∙◌, subst, inl, inr, ◌⊎◌}
+use Rattle.std.proofs.Common.{◌≡◌, ◌≢◌, ℕ, ◌+◌, ◌==◌, Bool, true, false, cond, List, [], ◌∷◌, ◌++◌, append_assoc, map, Option, Some, None, Ok, refl, sym, ap, ◌∙◌, subst, inl, inr, ◌⊎◌}
 use Rattle.std.proofs.lemmas.Bool.{eqb-true, eq-eqb, false≢true, cases_Bool, false_from_ne_true}
 use Rattle.std.specs.FinMap as finite
 use Rattle.coda_fid.specs.declared.fid.Fid.{Fid}
@@ -21,33 +21,37 @@ use Rattle.coda_plain.proofs.Freshness.{next_objects_are_fresh}
 use Rattle.coda_plain.proofs.Soundness.{none_joins, runs_sound}
 use Rattle.coda_cml.proofs.runs.StillThere.{creates_mentions}
 use Rattle.coda_cml.proofs.runs.WithoutObject.{makes_parts}
-use Rattle.coda_cell.specs.Ask.{Asked}
-use Rattle.coda_cell.specs.Held.{Held, Fetch, taken_out, parents_after}
+use Rattle.coda_venus.specs.Ask.{Asked}
+use Rattle.coda_cell.specs.Held.{Fetch}
+use Rattle.coda_venus.specs.Held.{Held, is_below, taken_out, parents_after}
 use Rattle.coda_cell.specs.Looking.{fetched, entries_of}
 use Rattle.coda_cell.specs.State.{put, pending, ClientVolume, volume_after, ClientState, new_client, client_after, Event, at_client}
-use Rattle.coda_cell.specs.Accepting.{Sight, sight_of, accept, next_fid}
+use Rattle.coda_cell.specs.Accepting.{sight_of}
+use Rattle.coda_venus.specs.Accepting.{Sight, accept, next_fid}
 use Rattle.coda_cell.specs.Asking.{behind_fetches, next_record}
 use Rattle.coda_cell.specs.Kept.{AreChildrenKept, IsHolding}
 use Rattle.coda_cell.specs.Made.{MadeCell, client_of, grown, grown_all, moves_of}
 use Rattle.coda_cell.specs.Runs.{AreUp, AreMade, IsKept, IsLeft}
-use Rattle.coda_cell.proofs.Accepted.{Relies, accepted_relies}
+use Rattle.coda_venus.proofs.Accepted.{Relies, accepted_relies}
 use Rattle.coda_cell.proofs.Apart.{accepted_apart}
-use Rattle.coda_cell.proofs.AfterOperations.{bound_before, bound_operation, has_operation}
+use Rattle.coda_cell.proofs.AfterOperations.{bound_before, has_operation}
+use Rattle.coda_cell.proofs.Cleared.{made_apart}
 use Rattle.coda_cell.proofs.Fetches.{client_after_both, client_after_fetches}
-use Rattle.coda_cell.proofs.Forests.{forest_operation, beside_dirs, dirs_bound}
-use Rattle.coda_cell.proofs.Going.{had_with, bound_with, nodes_alone}
+use Rattle.coda_cell.proofs.Forests.{AreDirs, IsBeside, forest_operation, beside_dirs}
+use Rattle.coda_cell.proofs.Going.{had_with, bound_with}
 use Rattle.coda_cell.proofs.Histories.{IsOfCourse, client_push, volume_of, volumes_are, number_stays, shown}
 use Rattle.coda_cell.proofs.KeptCells.{lawful, pending_is}
 use Rattle.coda_cell.proofs.NamedObjects.{accepted_names, accepted_creates}
+use Rattle.coda_cell.proofs.UnderDirs.{dirs_under, below_volume, under_operation}
 use Rattle.coda_cell.proofs.Within.{bound_is_named, within_operation}
-use Rattle.coda_cell.proofs.KeptChildren.{unbinds_mentions, kept_children_operation, kept_children_beside, removes_empty}
+use Rattle.coda_cell.proofs.KeptChildren.{unbinds_mentions, takes_unbinds, kept_children_operation, kept_children_beside, kept_children_going, removes_empty}
 use Rattle.coda_cell.proofs.LettersOn.{letters_on}
 use Rattle.coda_cell.proofs.Moving.{HasMore, has_more, shown_more, done_here, done_elsewhere, done_same, made_stays, up_all}
 
 -- what it holds stays in order while histories go on
 pub holding_on : (moves : List Move) (old new : PlainCell) (c : ClientState) → Moved old moves new → IsHolding old c → IsHolding new c
 holding_on moves old new c moved h = record {
-  bound = h.bound;
+  under = h.under;
   forest = h.forest;
   within = h.within;
   made = λ fid is. made_stays moves old new moved fid.vnode fid.volume fid (h.made fid is);
@@ -237,14 +241,16 @@ module _ (cell : MadeCell) (number blocks : ℕ) (kept : IsKept cell) (there : c
       subst (λ v. IsMade v (done_on next.acted fid.vnode v) fid) (sym n.here)
       (subst (λ c. IsMade volume (done_on next.acted c volume) fid) (sym n.own) (subst (λ ds. IsMade volume ds fid) (sym deeds_here) (next_made volume deeds number next_operation fid n)))
 
+  -- what is pending of a volume mentions objects of that volume alone
+  named_on : (w : ℕ) (test : Op → Bool) (fid : Fid) → ((o : Op) → test o ≡ true → mentioning fid o ≡ true) → any_record test (pending (client.volumes w)) ≡ true → fid.volume ≡ w
+  named_on w test fid mentions passes =
+      let rec = some_record test (pending_of (done_on cell.acted number w)) (ap (any_record test) (sym (pending_is cell kept number blocks w)) ∙ passes) in
+      ((kept.sound.agree none_joins).made number w rec.0 (in_above (course_of (done_on cell.acted number w)).done rec.0 (full_of (done_on cell.acted number w)) rec.1) fid (mentions rec.0.op rec.2)).0
+
   -- an object that a run of another volume created isn't taken from where it is bound
   beside : (w : ℕ) → (w == volume) ≡ false → (dir kid : Fid) → any_record (makes_in dir kid) (pending (client.volumes w)) ≡ true → unbinds kid op ≡ false
   beside w off dir kid makes = false_from_ne_true (unbinds kid op) (λ takes.
-      let run = pending_is cell kept number blocks w in
-      let rec = some_record (makes_in dir kid) (pending_of (done_on cell.acted number w)) (ap (any_record (makes_in dir kid)) (sym run) ∙ makes) in
-      let made = (kept.sound.agree none_joins).made number w rec.0 (in_above (course_of (done_on cell.acted number w)).done rec.0 (full_of (done_on cell.acted number w)) rec.1) kid
-      (creates_mentions kid rec.0.op (makes_parts dir kid rec.0.op rec.2).1) in
-      let same : w ≡ volume = sym made.0 ∙ (names kid (unbinds_mentions op kid takes)).0 in
+      let same : w ≡ volume = sym (named_on w (makes_in dir kid) kid (λ o h. creates_mentions kid o (makes_parts dir kid o h).1) makes) ∙ (names kid (unbinds_mentions op kid takes)).0 in
       false≢true (sym off ∙ eq-eqb w volume same))
 
   operation_kept : (w : ℕ) → AreChildrenKept (applied client.held.nodes client.number next_operation) (pending (put client.volumes volume (volume_after (client.volumes volume) (Operated next_operation)) w))
@@ -261,18 +267,36 @@ module _ (cell : MadeCell) (number blocks : ℕ) (kept : IsKept cell) (there : c
   abbrev behind : Held
   behind = record { nodes = applied client.held.nodes client.number next_operation; parents = parents_after client.held.parents op }
 
+  dirs : AreDirs client.held
+  dirs = dirs_under client.held holds.under
+
+  beside_gone : IsBeside client.held.parents op
+  beside_gone = beside_dirs sight volume op relies dirs
+
+  -- no directory goes in which something was made that is pending, and left
+  made_stay : (w : ℕ) (g dir kid : Fid) → gone ≡ Some g → has behind.nodes dir ≡ true → any_record (makes_in dir kid) (pending (put client.volumes volume (volume_after (client.volumes volume) (Operated next_operation)) w)) ≡ true
+      → any_record (unbinds kid) (pending (put client.volumes volume (volume_after (client.volumes volume) (Operated next_operation)) w)) ≡ false → is_below client.held.parents dir g ≡ false
+  made_stay w g dir kid takes has_it = elim (w == volume) as (λ b. (w == volume) ≡ b → any_record (makes_in dir kid) (pending (cond b (volume_after (client.volumes volume) (Operated next_operation)) (client.volumes w))) ≡ true
+      → any_record (unbinds kid) (pending (cond b (volume_after (client.volumes volume) (Operated next_operation)) (client.volumes w))) ≡ false → is_below client.held.parents dir g ≡ false) [
+        | true ↦ λ at makes stays. (
+            let whole = append_assoc (client.volumes volume).front (client.volumes volume).back (next_operation ∷ []) in
+            made_apart client volume ask next_operation accepted dirs g dir kid takes has_it (ap (any_record (makes_in dir kid)) whole ∙ makes) (ap (any_record (unbinds kid)) whole ∙ stays))
+        | false ↦ λ off makes stays. false_from_ne_true (is_below client.held.parents dir g) (λ below.
+            let same : w ≡ volume = sym (named_on w (makes_in dir kid) dir (λ o h. (makes_parts dir kid o h).0) makes) ∙ below_volume client.held dir g holds.under below ∙ (names g (unbinds_mentions op g (takes_unbinds op g takes))).0 in
+            false≢true (sym off ∙ eq-eqb w volume same))
+      ] refl
+
   operation_holding : IsHolding next.acted (client_after client entry)
   operation_holding = record {
-    bound = bound_operation sight volume client.number next_operation relies holds.bound;
-    forest = forest_operation sight volume client.number next_operation relies (accepted_apart sight volume ask op accepted) (beside_dirs sight volume op relies (dirs_bound client.held holds.bound)) holds.forest;
+    under = under_operation sight volume client.number next_operation relies beside_gone (λ fid mentions. (names fid mentions).0) holds.forest holds.under;
+    forest = forest_operation sight volume client.number next_operation relies (accepted_apart sight volume ask op accepted) beside_gone holds.forest;
     within = λ dir kid name is. within_operation client.held.nodes volume client.number next_operation holds.within (λ fid mentions. (names fid mentions).0) dir kid name (bound_with gone client.held.parents behind dir kid name is);
     made = λ fid is. elim (has_operation client.held.nodes client.number next_operation fid (had_with gone client.held.parents behind fid is)) [ inl old ↦ made_before fid (holds.made fid old) | inr new ↦ made_now fid new ];
     named = λ dir kid name is. elim (bound_before client.held.nodes client.number next_operation dir name kid (bound_with gone client.held.parents behind dir kid name is)) [
       | inl was ↦ made_before kid (holds.named dir kid name was)
       | inr anew ↦ elim (names kid (bound_is_named op dir name kid anew).1).1 [ inl held ↦ made_before kid (holds.made kid held) | inr new ↦ made_now kid new.0 ]
     ];
-    kept = λ w. subst (λ m. AreChildrenKept m (pending (put client.volumes volume (volume_after (client.volumes volume) (Operated next_operation)) w)))
-        (sym (nodes_alone sight volume client.number next_operation relies holds.bound)) (operation_kept w);
+    kept = λ w. kept_children_going gone client.held.parents behind (pending (put client.volumes volume (volume_after (client.volumes volume) (Operated next_operation)) w)) (operation_kept w) (made_stay w);
   }
 
   all_holding : (c b : ℕ) → cell.sizes c ≡ Some b → IsHolding next.acted (client_of c (next.acted.clients c).history b)

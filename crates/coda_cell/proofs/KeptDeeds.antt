@@ -11,7 +11,8 @@ use Rattle.coda_plain.specs.Cell.{ClientEntry, Did, Actor}
 use Rattle.coda_plain.specs.Moves.{Move, AtClient, AtReplica, Does, done_on, IsSent, IsBacked, Moved, grown as grown_actor}
 use Rattle.coda_plain.proofs.Soundness.{none_joins, runs_sound}
 use Rattle.coda_cell.specs.State.{pending, ClientState, new_client, client_after, Event, Entered, at_client}
-use Rattle.coda_cell.specs.Held.{Held, AreBound, IsForest, held_after_deed}
+use Rattle.coda_cell.specs.Held.{AreUnderDirs, IsForest, held_after_deed}
+use Rattle.coda_venus.specs.Held.{Held}
 use Rattle.coda_cell.specs.Kept.{AreWithin, AreChildrenKept, IsHolding}
 use Rattle.coda_cell.specs.Made.{MadeCell, client_of, grown}
 use Rattle.coda_cell.specs.Runs.{AreMade, IsKept, IsLeft}
@@ -99,7 +100,7 @@ module _ (cell : MadeCell) (number blocks : ℕ) (kept : IsKept cell) (there : c
   holding =
       let before = holding_on moves cell.acted next.acted client moved (kept.holding number blocks there) in
       record {
-        bound = subst AreBound (sym held_left) before.bound;
+        under = subst AreUnderDirs (sym held_left) before.under;
         forest = subst IsForest (sym held_left) before.forest;
         within = subst (λ (h : Held). AreWithin h.nodes) (sym held_left) before.within;
         made = subst (λ (h : Held). (fid : Fid) → has h.nodes fid ≡ true → IsMade fid.volume (done_on next.acted fid.vnode fid.volume) fid) (sym held_left) before.made;

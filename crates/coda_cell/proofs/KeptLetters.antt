@@ -60,7 +60,7 @@ posted_left cell sent kept may said = record {
     sound = moves_keep_sound cell.acted (Posts (plain_letter sent)) may kept.sound;
     up = record { clients = kept.up.clients; replicas = kept.up.replicas };
     made = record { numbered = kept.made.numbered; clients = kept.made.clients; replicas = kept.made.replicas };
-    holding = λ c b e. (let h = kept.holding c b e in record { bound = h.bound; forest = h.forest; within = h.within; made = h.made; named = h.named; kept = h.kept });
+    holding = λ c b e. (let h = kept.holding c b e in record { under = h.under; forest = h.forest; within = h.within; made = h.made; named = h.named; kept = h.kept });
     letters = record {
       numbered = numbered_more 0 cell.acted.posted cell.waiting sent (omega arith) kept.letters.numbered;
       pooled = pooled_posted cell.acted (plain_letter sent) 0 cell.waiting sent refl said kept.letters.numbered kept.letters.pooled;
@@ -115,7 +115,7 @@ lost_left cell message kept = record {
     sound = moves_keep_sound cell.acted (Loses message) tt kept.sound;
     up = record { clients = kept.up.clients; replicas = kept.up.replicas };
     made = record { numbered = kept.made.numbered; clients = kept.made.clients; replicas = kept.made.replicas };
-    holding = λ c b e. (let h = kept.holding c b e in record { bound = h.bound; forest = h.forest; within = h.within; made = h.made; named = h.named; kept = h.kept });
+    holding = λ c b e. (let h = kept.holding c b e in record { under = h.under; forest = h.forest; within = h.within; made = h.made; named = h.named; kept = h.kept });
     letters = record {
       numbered = numbered_lost cell.acted message 0 cell.acted.posted cell.waiting kept.letters.numbered;
       pooled = pooled_lost cell.acted message 0 cell.acted.posted cell.waiting kept.letters.numbered kept.letters.pooled;

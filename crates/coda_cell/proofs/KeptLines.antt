@@ -24,11 +24,13 @@ use Rattle.coda_plain.specs.Cell.{Did}
 use Rattle.coda_plain.specs.Moves.{done_on}
 use Rattle.coda_plain.proofs.Soundness.{none_joins}
 use Rattle.coda_plain.proofs.Volumes.{volumes}
-use Rattle.coda_cell.specs.Ask.{Asked, Create, Mkdir, Symlink, Store, Setattr, Remove, Rmdir, Rename, too_big, object_of}
-use Rattle.coda_cell.specs.Held.{Held, Fetch, AreBound, IsForest, held_after_fetch, held_after_fetches}
+use Rattle.coda_venus.specs.Ask.{Asked, Create, Mkdir, Symlink, Store, Setattr, Remove, Rmdir, Rename, too_big, object_of}
+use Rattle.coda_cell.specs.Held.{Fetch, AreUnderDirs, IsForest, held_after_fetches}
+use Rattle.coda_venus.specs.Held.{Held, held_after_fetch}
 use Rattle.coda_cell.specs.Looking.{look, look_along, fetched, entries_of}
 use Rattle.coda_cell.specs.State.{pending, ClientState, new_client, ReplicaState, new_replica, Event, VolumeMade, ClientMade, Ticked, LinkSet, Lost, at_client}
-use Rattle.coda_cell.specs.Accepting.{Accepted, sight_of, accept}
+use Rattle.coda_cell.specs.Accepting.{sight_of}
+use Rattle.coda_venus.specs.Accepting.{Accepted, accept}
 use Rattle.coda_cell.specs.Asking.{Answer, answers, look_ups, behind_fetches, next_record, has_room, is_full, answer_to, operate_unless, operate, read, list}
 use Rattle.coda_cell.specs.Kept.{AreWithin, AreChildrenKept, IsHolding}
 use Rattle.coda_cell.specs.Made.{MadeCell, client_of, replica_of, state_of, grown, grown_all}
@@ -40,7 +42,7 @@ use Rattle.coda_cell.specs.Runs.{IsKept, IsLeft, MakesNumbered, LinesKeepCells, 
 use Rattle.coda_cell.specs.Refused.{Refused}
 use Rattle.coda_cell.specs.Refused as refused
 use Rattle.coda_cell.proofs.Events.{are_there, all_there}
-use Rattle.coda_cell.proofs.Fetches.{AreLookUps, along_looks_up, ask_looks_up, bound_look, client_after_both, client_after_fetches}
+use Rattle.coda_cell.proofs.Fetches.{AreLookUps, along_looks_up, ask_looks_up, client_after_both, client_after_fetches}
 use Rattle.coda_cell.proofs.Forests.{forest_look}
 use Rattle.coda_cell.proofs.Histories.{nodes_are, server_stays}
 use Rattle.coda_cell.proofs.KeptCells.{client_there, volume_left, client_left, ticked_left, linked_left}
@@ -50,6 +52,7 @@ use Rattle.coda_cell.proofs.KeptClients.{IsReplicated, the_client, fetches_left,
 use Rattle.coda_cell.proofs.KeptLetters.{IsWaiting, waits, lost_left, sends_left, chunk_comes_left, answer_comes_left}
 use Rattle.coda_cell.proofs.Moving.{has_more, AreLeft, are_left_one, are_left_both, kept_behind, front_left, all_left}
 use Rattle.coda_cell.proofs.Offered.{offered_look, held_look}
+use Rattle.coda_cell.proofs.UnderDirs.{under_look}
 use Rattle.coda_cell.proofs.Within.{within_look, binds_look}
 
 reached_is : (strength : Strength) (r : ReplicaState) (nodes : Nodes) → reached strength r ≡ Some nodes → r.tree.nodes ≡ nodes
@@ -97,7 +100,7 @@ module _ (cell : MadeCell) (kept : IsKept cell) where
 
 -- what fetches keep that a look-up comes to
 record AreKeeping (offers : Option Nodes) (h : Held) (fetches : List Fetch) : Type 0 where
-  pub bound : AreBound h → AreBound (held_after_fetches h fetches)
+  pub under : AreWithin h.nodes → AreUnderDirs h → AreUnderDirs (held_after_fetches h fetches)
   pub forest : IsForest h → IsForest (held_after_fetches h fetches)
   pub within : ((nodes : Nodes) → offers ≡ Some nodes → AreWithin nodes) → AreWithin h.nodes → AreWithin (held_after_fetches h fetches).nodes
   pub had : (f : Fid) → has (held_after_fetches h fetches).nodes f ≡ true → (has h.nodes f ≡ true) ⊎ ((nodes : Nodes) × (offers ≡ Some nodes) × (has nodes f ≡ true))
@@ -107,7 +110,7 @@ record AreKeeping (offers : Option Nodes) (h : Held) (fetches : List Fetch) : Ty
 
 keeping : (offers : Option Nodes) (h : Held) (fid : Fid) → AreKeeping offers h (look offers h fid)
 keeping offers h fid = record {
-  bound = bound_look offers h fid;
+  under = under_look offers h fid;
   forest = forest_look offers h fid;
   within = λ o w. within_look offers o h fid w;
   had = λ f. held_look offers h f h fid (λ is. inl is);
@@ -130,7 +133,7 @@ module _ (cell : MadeCell) (number blocks : ℕ) (kept : IsKept cell) (there : c
   -- a look-up keeps the cell
   fetch_left : look can_see looker.held fetch.fid ≡ fetch ∷ [] → IsLeft cell (at_client number (fetched fetch) ∷ [])
   fetch_left is = fetches_left cell number blocks kept there (fetch ∷ []) replicated (record {
-    bound = are.bound holds.bound;
+    under = are.under holds.within holds.under;
     forest = are.forest holds.forest;
     within = are.within (offered_within cell kept number volume) holds.within;
     made = λ fid has_it. elim (are.had fid has_it) [ inl old ↦ holds.made fid old | inr new ↦ offered_made cell kept number volume new.0 fid new.1 new.2 ];

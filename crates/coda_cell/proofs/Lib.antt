@@ -1,6 +1,5 @@
 pub mod Families
 pub mod LightLogs
-pub mod Accepted
 pub mod Fetches
 pub mod Apart
 pub mod Going
@@ -9,7 +8,10 @@ pub mod AfterOperations
 pub mod NamedObjects
 pub mod Offered
 pub mod Within
+pub mod UnderDirs
 pub mod KeptChildren
+pub mod Mentioned
+pub mod Cleared
 pub mod Drains
 pub mod Events
 pub mod CarriedLetters
@@ -29,7 +31,6 @@ pub mod AlikeStates
 pub mod Decided
 pub mod SpelledFolds
 pub mod SpelledDecisions
-pub mod SpelledAsks
 pub mod SpelledCells
 pub mod SpelledLines
 pub mod SpelledLetters
@@ -37,3 +38,4 @@ pub mod Alone
 pub mod Unlooked
 pub mod Checked
 pub mod Ordered
+pub mod Again

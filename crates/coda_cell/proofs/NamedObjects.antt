@@ -19,13 +19,13 @@ use Rattle.coda_tree.specs.Bindings.{Name}
 use Rattle.coda_tree.specs.Volume.{Nodes, has, IsDirNode}
 use Rattle.coda_cancel.specs.Dropping.{mentioning, creates}
 use Rattle.coda_cancel.proofs.Keys.{fid_true}
-use Rattle.coda_cell.specs.Refused.{Exists, IsDir as IsADirectory, Loop}
-use Rattle.coda_cell.specs.Ask.{Asked, Create, Mkdir, Symlink, Store, Setattr, Remove, Rmdir, Rename, Ending, ending}
-use Rattle.coda_cell.specs.Held.{is_below, some_below}
-use Rattle.coda_cell.specs.Looking.{then_find, held, step_from, resolve}
-use Rattle.coda_cell.specs.Accepting.{Sight, next_fid, new_under, new_place, accept_creation, store_in, store_at, setattr_at, remove_in, remove_at, rmdir_of, rmdir_in, rmdir_at, bound_at, spot, place, replaced_by, move_to, rename_to, rename_root, accept_rename, accept_remove, accept_rmdir, accept}
+use Rattle.coda_venus.specs.declared.refused.Refused.TheVariants.{Exists, IsDir as IsADirectory, Loop}
+use Rattle.coda_venus.specs.Ask.{Asked, Create, Mkdir, Symlink, Store, Setattr, Remove, Rmdir, Rename, Ending, ending}
+use Rattle.coda_venus.specs.Held.{is_below, some_below}
+use Rattle.coda_venus.specs.Looking.{then_find, held, step_from, resolve}
+use Rattle.coda_venus.specs.Accepting.{Sight, next_fid, new_under, new_place, accept_creation, store_in, store_at, setattr_at, remove_in, remove_at, rmdir_of, rmdir_in, rmdir_at, bound_at, spot, place, replaced_by, move_to, rename_to, rename_root, accept_rename, accept_remove, accept_rmdir, accept}
 use Rattle.coda_cell.specs.Kept.{AreWithin}
-use Rattle.coda_cell.proofs.Accepted.{Relies, accepted_relies, ok_is, found_then, not_at_root, held_is, step_is, spot_is, unless_below, root_stays}
+use Rattle.coda_venus.proofs.Accepted.{Relies, accepted_relies, ok_is, found_then, not_at_root, held_is, step_is, spot_is, unless_below, root_stays}
 
 -- within its volume
 pub resolve_within : (m : Nodes) → AreWithin m → (at : Fid) (names : List Name) (fid : Fid) → resolve m at names ≡ Ok fid → fid.volume ≡ at.volume

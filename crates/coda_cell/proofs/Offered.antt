@@ -9,10 +9,12 @@ use Rattle.coda_tree.specs.Bindings.{Name}
 use Rattle.coda_tree.specs.Volume.{Nodes, has, parent_of}
 use Rattle.coda_plain.specs.Histories.{In}
 use Rattle.coda_plain.proofs.Lists.{in_parts}
-use Rattle.coda_cell.specs.Refused.{Refused}
-use Rattle.coda_cell.specs.Ask.{Asked, Create, Mkdir, Symlink, Store, Setattr, Remove, Rmdir, Rename, front_of, ending}
-use Rattle.coda_cell.specs.Held.{Held, Fetch, held_after_fetches}
-use Rattle.coda_cell.specs.Looking.{step_from, resolve, offered, fetch_of, look, looked, look_on, look_along}
+use Rattle.coda_venus.specs.declared.refused.Refused.{Refused}
+use Rattle.coda_venus.specs.Ask.{Asked, Create, Mkdir, Symlink, Store, Setattr, Remove, Rmdir, Rename, front_of, ending}
+use Rattle.coda_cell.specs.Held.{Fetch, held_after_fetches}
+use Rattle.coda_venus.specs.Held.{Held}
+use Rattle.coda_cell.specs.Looking.{offered, fetch_of, look, looked, look_on, look_along}
+use Rattle.coda_venus.specs.Looking.{step_from, resolve}
 use Rattle.coda_cell.specs.Asking.{rename_look_ups, look_ups}
 use Rattle.coda_cell.proofs.AfterOperations.{there_put}
 

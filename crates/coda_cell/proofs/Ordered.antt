@@ -22,20 +22,24 @@ use Rattle.coda_script.specs.declared.line.Task.TheVariants as task
 use Rattle.coda_script.specs.declared.line.Line.{Line}
 use Rattle.coda_script.specs.declared.line.Line.TheVariants as line
 use Rattle.coda_script.specs.declared.reply.Reply.{Reply}
-use Rattle.coda_cell.specs.Ask.{Asked, Create, Mkdir, Symlink, Store, Setattr, Remove, Rmdir, Rename, Ending, ending, too_big}
-use Rattle.coda_cell.specs.Held.{is_below, some_below}
-use Rattle.coda_cell.specs.Looking.{then_find, held, found, step_in, step_from, resolve, entries_of}
+use Rattle.coda_venus.specs.Ask.{Asked, Create, Mkdir, Symlink, Store, Setattr, Remove, Rmdir, Rename, Ending, ending, too_big}
+use Rattle.coda_venus.specs.Held.{is_below, some_below}
+use Rattle.coda_cell.specs.Looking.{entries_of}
+use Rattle.coda_venus.specs.Looking.{then_find, held, found, step_in, step_from, resolve}
 use Rattle.coda_cell.specs.State.{ClientState, ReplicaState, CellState, Event}
-use Rattle.coda_cell.specs.Accepting.{Sight, Accepted, is_used_up, next_fid, unless_used, new_at, new_in, new_under, new_place, at_root, accept_creation, store_in, store_at, setattr_at, remove_in, remove_at, rmdir_of, rmdir_in, rmdir_at, held_bound, bound_in, bound_at, spot, place, is_dir_at, with_version, replaced_by, move_to, rename_to, rename_root, accept_rename, accept_remove, accept_rmdir, sight_of, accept}
+use Rattle.coda_cell.specs.Accepting.{sight_of}
+use Rattle.coda_venus.specs.Accepting.{Sight, Accepted, is_used_up, next_fid, unless_used, new_at, new_in, new_under, new_place, at_root, accept_creation, store_in, store_at, setattr_at, remove_in, remove_at, rmdir_of, rmdir_in, rmdir_at, held_bound, bound_in, bound_at, spot, place, is_dir_at, with_version, replaced_by, move_to, rename_to, rename_root, accept_rename, accept_remove, accept_rmdir, accept}
 use Rattle.coda_cell.specs.Checks.{ask_checks, first_refusal}
 use Rattle.coda_cell.proofs.Checked.{acceptance_goes_by_checks}
 use Rattle.coda_cell.specs.Asking.{Said, answer_to, look_ups, behind_fetches, operate, operate_unless}
-use Rattle.coda_cell.specs.Refusing.{refusal}
+use Rattle.coda_cell.specs.Refusing.{client_refused_as, refusal}
 use Rattle.coda_letters.specs.Sent.{Sent, client_of, server_of, sent_at}
 use Rattle.coda_cell.specs.Messages.{over, sends_of}
 use Rattle.coda_cell.specs.Steps.{Named, first_missing, on_holder, Doing, Unless, Naming, reply_to, ByBoth, BySend, Comes, link_down as no_way, Delivers, Loses, DoesTask, Does}
 use Rattle.coda_cell.specs.Sending.{freezing, drain}
 use Rattle.coda_cell.specs.Orders.{named_in, named_by, AreThere, RefusalsComeInOrder}
+use Rattle.coda_venus.specs.declared.refused.Refused.{Refused as ClientRefused}
+use Rattle.coda_venus.specs.declared.refused.Refused.TheVariants as client
 use Rattle.coda_cell.specs.Refused.{Refused}
 use Rattle.coda_cell.specs.Refused as refused
 
@@ -118,36 +122,32 @@ module _ (s : CellState) (message : ℕ) (reply : Reply) (events : List Event) w
   letter_stopped sent some down does = subst (λ strength. Unless (no_way strength) (Comes s sent) reply events) down (subst (λ o. Delivers s message o reply events) some does)
 
 -- it isn't refused for a log that is full
-abbrev IsElse : {A : Type 0} → Result A Refused → Type 0
+abbrev IsElse : {A : Type 0} → Result A ClientRefused → Type 0
 IsElse (Ok x) = Unit {0}
-IsElse (Err refused.LogFull) = ⊥
+IsElse (Err client.LogFull) = ⊥
 IsElse (Err why) = Unit {0}
 
-then_else : {A B : Type 0} (r : Result A Refused) (next : A → Result B Refused) → IsElse r → ((x : A) → IsElse (next x)) → IsElse (then_find r next)
+then_else : {A B : Type 0} (r : Result A ClientRefused) (next : A → Result B ClientRefused) → IsElse r → ((x : A) → IsElse (next x)) → IsElse (then_find r next)
 then_else (Ok x) next n m = m x
-then_else (Err refused.LogFull) next n m = n
-then_else (Err refused.NotFound) next n m = tt
-then_else (Err refused.NotDir) next n m = tt
-then_else (Err refused.Nothing) next n m = tt
-then_else (Err (refused.Young age window)) next n m = tt
-then_else (Err (refused.Frozen number home)) next n m = tt
-then_else (Err (refused.NotFrozen number)) next n m = tt
-then_else (Err (refused.WrongNumber kept number)) next n m = tt
-then_else (Err (refused.NoMessage number)) next n m = tt
-then_else (Err (refused.BadMessage at)) next n m = tt
-then_else (Err refused.JournalFull) next n m = tt
-then_else (Err refused.Exists) next n m = tt
-then_else (Err refused.IsDir) next n m = tt
-then_else (Err refused.NotEmpty) next n m = tt
-then_else (Err refused.Loop) next n m = tt
-then_else (Err (refused.Miss fid)) next n m = tt
-then_else (Err (refused.TooBig length)) next n m = tt
-then_else (Err refused.LinkDown) next n m = tt
-then_else (Err (refused.NoSuchActor number)) next n m = tt
-then_else (Err refused.AlreadyThere) next n m = tt
-then_else (Err refused.CellFull) next n m = tt
-then_else (Err refused.NotFile) next n m = tt
-then_else (Err refused.Memory) next n m = tt
+then_else (Err client.LogFull) next n m = n
+then_else (Err client.Down) next n m = tt
+then_else (Err (client.TooBig length)) next n m = tt
+then_else (Err client.NotFound) next n m = tt
+then_else (Err client.NotDir) next n m = tt
+then_else (Err client.Exists) next n m = tt
+then_else (Err client.IsDir) next n m = tt
+then_else (Err client.NotFile) next n m = tt
+then_else (Err client.NotEmpty) next n m = tt
+then_else (Err client.Loop) next n m = tt
+then_else (Err (client.Need fid)) next n m = tt
+then_else (Err client.JournalFull) next n m = tt
+then_else (Err client.DiskFault) next n m = tt
+then_else (Err (client.Frozen number home)) next n m = tt
+then_else (Err client.Nothing) next n m = tt
+then_else (Err (client.Young age window)) next n m = tt
+then_else (Err (client.NotFrozen number)) next n m = tt
+then_else (Err (client.WrongNumber kept number)) next n m = tt
+then_else (Err client.Memory) next n m = tt
 
 held_else : (o : Option Node) (fid : Fid) → IsElse (held o fid)
 held_else None fid = tt
@@ -178,7 +178,7 @@ module _ (s : Sight) (volume : ℕ) where
   used_else true fid = tt
   used_else false fid = tt
 
-  fid_else : (b : Bool) → IsElse (let r : Result Fid Refused = if b then Err refused.JournalFull else unless_used (is_some (map.get nodes (next_fid s volume))) (next_fid s volume) in r)
+  fid_else : (b : Bool) → IsElse (let r : Result Fid ClientRefused = if b then Err client.JournalFull else unless_used (is_some (map.get nodes (next_fid s volume))) (next_fid s volume) in r)
   fid_else true = tt
   fid_else false = used_else (is_some (map.get nodes (next_fid s volume))) (next_fid s volume)
 
@@ -195,11 +195,11 @@ module _ (s : Sight) (volume : ℕ) where
   under_else None dir name = tt
   under_else (Some node) dir name = in_else node.kind name
 
-  root_else : (why : Refused) → (let r : Accepted = Err why in IsElse r) → IsElse (at_root s volume why)
+  root_else : (why : ClientRefused) → (let r : Accepted = Err why in IsElse r) → IsElse (at_root s volume why)
   root_else why n = then_else (held (map.get nodes (root_of volume)) (root_of volume)) (λ _. Err why) (held_else (map.get nodes (root_of volume)) (root_of volume)) (λ _. n)
 
   creation_else : (e : Ending) (make : Fid → Name → Fid → Op) → IsElse (accept_creation s volume e make)
-  creation_else None make = root_else refused.Exists tt
+  creation_else None make = root_else client.Exists tt
   creation_else (Some e) make =
       then_else (new_place s volume e) (λ p. Ok (make p.0 e.1 p.1))
       (then_else (resolve nodes (root_of volume) e.0) (λ dir. then_find (new_under s volume (map.get nodes dir) dir e.1) (λ fid. Ok (dir, fid))) (resolve_else nodes (root_of volume) e.0)
@@ -274,35 +274,35 @@ module _ (s : Sight) (volume : ℕ) where
   over_else fid None = tt
   over_else fid (Some old) = by (same_fid old fid || (is_dir_at (map.get nodes fid) || is_dir_at (map.get nodes old)))
     where
-      by : (b : Bool) → IsElse (let r : Result (Option Over) Refused = if b then Err refused.Exists else with_version (map.get nodes old) old in r)
+      by : (b : Bool) → IsElse (let r : Result (Option Over) ClientRefused = if b then Err client.Exists else with_version (map.get nodes old) old in r)
       by true = tt
       by false = version_else (map.get nodes old) old
 
   move_else : (from_dir : Fid) (from : Name) (fid : Fid) (to : Name) (p : Fid × Option Fid) → IsElse (move_to s.held from_dir from fid to p)
   move_else from_dir from fid to p = by (is_below s.held.parents p.0 fid)
     where
-      by : (b : Bool) → IsElse (let r : Accepted = if b then Err refused.Loop else then_find (replaced_by nodes fid p.1) (λ over. Ok (RenameOp from_dir from p.0 to fid over)) in r)
+      by : (b : Bool) → IsElse (let r : Accepted = if b then Err client.Loop else then_find (replaced_by nodes fid p.1) (λ over. Ok (RenameOp from_dir from p.0 to fid over)) in r)
       by true = tt
       by false = then_else (replaced_by nodes fid p.1) (λ over. Ok (RenameOp from_dir from p.0 to fid over)) (over_else fid p.1) (λ over. tt)
 
   to_else : (from_dir : Fid) (from : Name) (fid : Fid) (e : Ending) → IsElse (rename_to s volume from_dir from fid e)
-  to_else from_dir from fid None = root_else refused.Exists tt
+  to_else from_dir from fid None = root_else client.Exists tt
   to_else from_dir from fid (Some e) = then_else (place nodes volume e) (λ p. move_to s.held from_dir from fid e.1 p) (place_else e) (λ p. move_else from_dir from fid e.1 p)
 
   root_to_else : (e : Ending) → IsElse (rename_root s volume e)
-  root_to_else None = root_else refused.Loop tt
-  root_to_else (Some e) = then_else (place nodes volume e) (λ p. Err refused.Loop) (place_else e) (λ p. tt)
+  root_to_else None = root_else client.Loop tt
+  root_to_else (Some e) = then_else (place nodes volume e) (λ p. Err client.Loop) (place_else e) (λ p. tt)
 
   rename_else : (e to : Ending) → IsElse (accept_rename s volume e to)
   rename_else None to = then_else (held (map.get nodes (root_of volume)) (root_of volume)) (λ _. rename_root s volume to) (held_else (map.get nodes (root_of volume)) (root_of volume)) (λ _. root_to_else to)
   rename_else (Some e) to = then_else (spot nodes volume e) (λ at. rename_to s volume at.0 e.1 at.1 to) (spot_else e) (λ at. to_else at.0 e.1 at.1 to)
 
   removal_else : (e : Ending) → IsElse (accept_remove s volume e)
-  removal_else None = root_else refused.IsDir tt
+  removal_else None = root_else client.IsDir tt
   removal_else (Some e) = then_else (spot nodes volume e) (λ at. remove_at (map.get nodes at.1) at.0 e.1 at.1) (spot_else e) (λ at. remove_else (map.get nodes at.1) at.0 e.1 at.1)
 
   removal_of_directory_else : (e : Ending) → IsElse (accept_rmdir s volume e)
-  removal_of_directory_else None = root_else refused.Loop tt
+  removal_of_directory_else None = root_else client.Loop tt
   removal_of_directory_else (Some e) = then_else (spot nodes volume e) (λ at. rmdir_at s (map.get nodes at.1) at.0 e.1 at.1) (spot_else e) (λ at. rmdir_else (map.get nodes at.1) at.0 e.1 at.1)
 
   accept_else : (ask : Asked) → IsElse (accept s volume ask)
@@ -324,30 +324,48 @@ module _ (offers : Option Nodes) (c : ClientState) (time volume : ℕ) (ask : As
   unfolding operate
   too_large length is = ap (λ o. (operate_unless o offers c time volume ask).said) is
 
-  first_check : (why : Refused) → too_big ask ≡ None → first_refusal (sight_of (behind_fetches c (look_ups offers c.held volume ask)) volume) volume (ask_checks ask) ≡ Some why → (operate offers c time volume ask).said ≡ Err why
+  first_check : (why : ClientRefused) → too_big ask ≡ None → first_refusal (sight_of (behind_fetches c (look_ups offers c.held volume ask)) volume) volume (ask_checks ask) ≡ Some why → (operate offers c time volume ask).said ≡ Err (client_refused_as why)
   unfolding operate
   first_check why small first =
       ap (λ o. (operate_unless o offers c time volume ask).said) small
       ∙ by accepted (acceptance_goes_by_checks (sight_of (behind_fetches c (look_ups offers c.held volume ask)) volume) volume ask ∙ first)
     where
-      some_why : (x y : Refused) → Some x ≡ Some y → x ≡ y
+      some_why : (x y : ClientRefused) → Some x ≡ Some y → x ≡ y
       some_why x y e = cc
 
-      by : (r : Accepted) → result_err r ≡ Some why → (answer_to (entries_of (look_ups offers c.held volume ask)) (c.volumes volume) time volume r).said ≡ Err why
+      by : (r : Accepted) → result_err r ≡ Some why → (answer_to (entries_of (look_ups offers c.held volume ask)) (c.volumes volume) time volume r).said ≡ Err (client_refused_as why)
       by (Ok op) e = cc
-      by (Err other) e = ap (λ w. Err w) (some_why other why e)
+      by (Err other) e = ap (λ w. Err (client_refused_as w)) (some_why other why e)
 
   log_full : (operate offers c time volume ask).said ≡ Err refused.LogFull → (op : Op) × (accepted ≡ Ok op)
   unfolding operate
   log_full is = by (too_big ask) is
     where
-      why_is : (why : Refused) → (let r : Said = Err why in r) ≡ Err refused.LogFull → why ≡ refused.LogFull
-      why_is why e = cc
+      why_is : (why : ClientRefused) → (let r : Said = Err (client_refused_as why) in r) ≡ Err refused.LogFull → why ≡ client.LogFull
+      why_is client.LogFull e = refl
+      why_is client.Down e = cc
+      why_is (client.TooBig length) e = cc
+      why_is client.NotFound e = cc
+      why_is client.NotDir e = cc
+      why_is client.Exists e = cc
+      why_is client.IsDir e = cc
+      why_is client.NotFile e = cc
+      why_is client.NotEmpty e = cc
+      why_is client.Loop e = cc
+      why_is (client.Need fid) e = cc
+      why_is client.JournalFull e = cc
+      why_is client.DiskFault e = cc
+      why_is (client.Frozen number home) e = cc
+      why_is client.Nothing e = cc
+      why_is (client.Young age window) e = cc
+      why_is (client.NotFrozen number) e = cc
+      why_is (client.WrongNumber kept number) e = cc
+      why_is client.Memory e = cc
 
       answers_full : (r : Accepted) → accepted ≡ r → (answer_to (entries_of (look_ups offers c.held volume ask)) (c.volumes volume) time volume r).said ≡ Err refused.LogFull → (op : Op) × (accepted ≡ Ok op)
       answers_full (Ok op) a e = (op, a)
       answers_full (Err why) a e =
-          let full : accepted ≡ Err refused.LogFull = a ∙ ap (λ w. Err w) (why_is why e) in
+          let full : accepted ≡ Err client.LogFull = a ∙ ap (λ w. Err w) (why_is why e) in
           absurd (subst IsElse full (accept_else (sight_of (behind_fetches c (look_ups offers c.held volume ask)) volume) volume ask))
 
       by : (o : Option ℕ) → (operate_unless o offers c time volume ask).said ≡ Err refused.LogFull → (op : Op) × (accepted ≡ Ok op)

@@ -31,7 +31,8 @@ use Rattle.coda_plain.proofs.Lists.{in_parts, told_last, follow_push, along}
 use Rattle.coda_plain.proofs.Places.{deeds_push, deeds_beside}
 use Rattle.coda_plain.proofs.Ranges.{both_parts, above_rising}
 use Rattle.coda_plain.proofs.Soundness.{none_joins, moves_keep_sound}
-use Rattle.coda_cell.specs.Held.{Held, Parents, taken_out, stays, held_without, parents_after, held_after, held_after_drops}
+use Rattle.coda_cell.specs.Held.{held_after, held_after_drops}
+use Rattle.coda_venus.specs.Held.{Held, Parents, taken_out, stays, held_without, parents_after}
 use Rattle.coda_cell.specs.State.{ClientState, new_client}
 use Rattle.coda_cell.specs.Made.{client_of}
 use Rattle.coda_spelling.specs.Spelled.{IsSpelled, AreSpelled, AreAllSpelled}

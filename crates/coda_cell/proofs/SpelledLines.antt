@@ -40,11 +40,13 @@ use Rattle.coda_plain.specs.Decisions.{last_of}
 use Rattle.coda_plain.specs.Cell.{ClientEntry, Did}
 use Rattle.coda_plain.specs.Moves.{done_on}
 use Rattle.coda_plain.proofs.Soundness.{none_joins}
-use Rattle.coda_cell.specs.Ask.{Asked, Create, Mkdir, Symlink, Store, Setattr, Remove, Rmdir, Rename, too_long, too_big, object_of}
-use Rattle.coda_cell.specs.Held.{Held, Fetch, held_after_fetches}
+use Rattle.coda_venus.specs.Ask.{Asked, Create, Mkdir, Symlink, Store, Setattr, Remove, Rmdir, Rename, too_long, too_big, object_of, IsAskSpelled}
+use Rattle.coda_cell.specs.Held.{Fetch, held_after_fetches}
+use Rattle.coda_venus.specs.Held.{Held}
 use Rattle.coda_cell.specs.Looking.{offered, fetch_of, looked, look_along, entries_of}
 use Rattle.coda_cell.specs.State.{ClientVolume, ClientState, ReplicaState, new_client, Event, VolumeMade, ClientMade, Ticked, LinkSet, Entered, Posted, Lost, Used, Kept, Stale, CellState, at_client}
-use Rattle.coda_cell.specs.Accepting.{Accepted, sight_of, accept}
+use Rattle.coda_cell.specs.Accepting.{sight_of}
+use Rattle.coda_venus.specs.Accepting.{Accepted, accept}
 use Rattle.coda_cell.specs.Asking.{Answer, answers, look_ups, behind_fetches, next_record, has_room, is_full, answer_to, operate_unless, operate, read, list}
 use Rattle.coda_cell.specs.Made.{MadeCell, client_of, state_of, grown, grown_all, moves_of}
 use Rattle.coda_letters.specs.Sent.{Sent, ChunkSent, AnswerSent, BreakSent, Waiting, client_of as sender_of, server_of, is_lossy, sent_at, put_out, number_of}
@@ -63,7 +65,7 @@ use Rattle.coda_cell.proofs.KeptCells.{client_there, lawful}
 use Rattle.coda_cell.proofs.KeptLines.{offered_are, lines_keep_cells}
 use Rattle.coda_cell.proofs.Offered.{offered_is}
 use Rattle.coda_spelling.proofs.SpelledParts.{within, is_within, below, attrs_spelled, both_true}
-use Rattle.coda_cell.proofs.SpelledAsks.{IsAskSpelled, accepted_spelled}
+use Rattle.coda_venus.proofs.SpelledAsks.{accepted_spelled}
 use Rattle.coda_cell.proofs.SpelledCells.{IsAppendSpelled, AreMovesSpelled, moves_spelled, nothing_spelled, chunk_spelled}
 use Rattle.coda_spelling.proofs.SpelledNodes.{after_fetch}
 
@@ -197,7 +199,7 @@ module _ (cell : MadeCell) (kept : IsKept cell) (can : CanBeSpelled cell) (numbe
         record {
           number = within 1 4294967295 eight (n + 1) (omega arith) (omega (arith, few)) (omega (arith, few));
           time = can.clock;
-          op = accepted_spelled (sight_of behind volume) volume volumed client_small behind_spelled ask op (asked short) accepted;
+          op = accepted_spelled (sight_of behind volume) volume volumed client_small behind_spelled ask op (asked short) short accepted;
         }
 
     entered_spelled : (op : Op) → too_big ask ≡ None → accept (sight_of behind volume) volume ask ≡ Ok op → (room full : Bool) → is_full (client.volumes volume) ≡ full
@@ -345,15 +347,6 @@ owner_spelled (Some owner) is = let most = is.1 in below four owner (omega (arit
 target_spelled : (target : List ℕ) → (1 ≤ length target) × (length target ≤ 1024) → HasSpelling (table.target four) target
 target_spelled target is = let most = is.1 in both_true _ _ (within 1 1024 four (length target) is.0 is.1 (omega (arith, most))) refl
 
-not_long : (content : List ℕ) → too_long content ≡ None → length content ≤ 1048576
-not_long content none = elim (cases_Bool (nat_lt 1048576 (length content))) [
-  | inl long ↦ (let some : too_long content ≡ Some (length content) = rw long in let no : None ≡ Some (length content) = sym none ∙ some in cc)
-  | inr e ↦ grind (arith, nat_tests, e)
-]
-
-content_spelled : (content : List ℕ) → too_long content ≡ None → HasSpelling (table.content four) content
-content_spelled content short = let most = not_long content short in both_true _ _ (within 0 1048576 four (length content) (omega arith) most (omega (arith, most))) refl
-
 set_spelled : (attrs : Attrs) → IfSome attrs.mode IsMode → IfSome attrs.owner IsOwner → IfSome attrs.mtime IsNumber → (is_some attrs.mode || (is_some attrs.owner || is_some attrs.mtime)) ≡ true → HasSpelling table.attrs attrs
 set_spelled attrs mode owner mtime some = attrs_spelled attrs (modes attrs.mode mode) (owners attrs.owner owner) (times attrs.mtime mtime) some
   where
@@ -403,7 +396,7 @@ module _ (cell : MadeCell) (kept : IsKept cell) (can : CanBeSpelled cell) where
   task_spelled (task.Mkdir client volume path mode owner) reply events r does =
       operates client volume (Mkdir path (unwrap_or mode 493) (unwrap_or owner 0)) reply events r.1 (λ short. (r.2.names, mode_spelled mode 493 r.3 (omega arith), owner_spelled owner r.4)) does
   task_spelled (task.Symlink client volume path target) reply events r does = operates client volume (Symlink path target) reply events r.1 (λ short. (r.2.names, target_spelled target r.3)) does
-  task_spelled (task.Store client volume path content) reply events r does = operates client volume (Store path (bytes_of content)) reply events r.1 (λ short. content_spelled (bytes_of content) short) does
+  task_spelled (task.Store client volume path content) reply events r does = operates client volume (Store path (bytes_of content)) reply events r.1 (λ short. tt) does
   task_spelled (task.Setattr client volume path attrs) reply events r does = operates client volume (Setattr path attrs) reply events r.1 (λ short. set_spelled attrs r.3 r.4 r.5 r.6) does
   task_spelled (task.Remove client volume path) reply events r does = operates client volume (Remove path) reply events r.1 (λ short. r.2.names) does
   task_spelled (task.Rmdir client volume path) reply events r does = operates client volume (Rmdir path) reply events r.1 (λ short. r.2.names) does

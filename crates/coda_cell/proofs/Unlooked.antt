@@ -9,24 +9,26 @@ use Rattle.coda_tree.specs.declared.node.NodeKind.{NodeKind}
 use Rattle.coda_tree.specs.declared.node.NodeKind.TheVariants.{File, Link, Dir}
 use Rattle.coda_tree.specs.Bindings.{Name}
 use Rattle.coda_tree.specs.Volume.{Nodes, parent_of}
-use Rattle.coda_cell.specs.Ask.{Asked, Create, Mkdir, Symlink, Store, Setattr, Remove, Rmdir, Rename, Ending, ending, front_of}
-use Rattle.coda_cell.specs.Held.{Held, held_after_fetches}
-use Rattle.coda_cell.specs.Looking.{then_find, held, found, step_in, step_from, resolve, offered, fetch_of, look, looked, look_on, look_along}
-use Rattle.coda_cell.specs.Accepting.{Sight, new_place, held_bound, bound_in, at_root, accept_creation, store_at, setattr_at, remove_at, rmdir_at, spot, bound_at, place, move_to, rename_to, rename_root, accept_rename, accept_remove, accept_rmdir, accept}
+use Rattle.coda_venus.specs.Ask.{Asked, Create, Mkdir, Symlink, Store, Setattr, Remove, Rmdir, Rename, Ending, ending, front_of}
+use Rattle.coda_cell.specs.Held.{held_after_fetches}
+use Rattle.coda_venus.specs.Held.{Held}
+use Rattle.coda_cell.specs.Looking.{offered, fetch_of, look, looked, look_on, look_along}
+use Rattle.coda_venus.specs.Looking.{then_find, held, found, step_in, step_from, resolve}
+use Rattle.coda_venus.specs.Accepting.{Sight, new_place, held_bound, bound_in, at_root, accept_creation, store_at, setattr_at, remove_at, rmdir_at, spot, bound_at, place, move_to, rename_to, rename_root, accept_rename, accept_remove, accept_rmdir, accept}
 use Rattle.coda_cell.specs.Asking.{rename_look_ups, look_ups}
-use Rattle.coda_cell.specs.Refused.{Refused}
-use Rattle.coda_cell.specs.Refused as refused
+use Rattle.coda_venus.specs.declared.refused.Refused.{Refused}
+use Rattle.coda_venus.specs.declared.refused.Refused.TheVariants as refused
 
 -- no object is missing
 abbrev pub MissesNothing : {A : Type 0} → Result A Refused → Type 0
 MissesNothing (Ok x) = Unit {0}
-MissesNothing (Err (refused.Miss fid)) = ⊥
+MissesNothing (Err (refused.Need fid)) = ⊥
 MissesNothing (Err why) = Unit {0}
 
 -- what comes first misses nothing either
 first_misses : {A B : Type 0} (r : Result A Refused) (next : A → Result B Refused) → MissesNothing (then_find r next) → MissesNothing r
 first_misses (Ok x) next n = tt
-first_misses (Err (refused.Miss fid)) next n = n
+first_misses (Err (refused.Need fid)) next n = n
 first_misses (Err _) next n = n
 
 -- and what comes then
@@ -115,7 +117,7 @@ leads_to_spot m volume e = resolve_push m (root_of volume) e.0 e.1 ∙ by (resol
 
 found_misses : {A B : Type 0} (r : Result A Refused) (see : A → B) → MissesNothing r → MissesNothing (then_find r (λ x. Ok (see x)))
 found_misses (Ok x) see n = tt
-found_misses (Err (refused.Miss fid)) see n = n
+found_misses (Err (refused.Need fid)) see n = n
 found_misses (Err _) see n = n
 
 spot_misses : (m : Nodes) (volume : ℕ) (e : List Name × Name) → MissesNothing (spot m volume e) → MissesNothing (resolve m (root_of volume) (e.0 ++ e.1 ∷ []))

@@ -17,7 +17,8 @@ use Rattle.coda_tree.proofs.Order.{fid_cases, get_here, get_else}
 use Rattle.coda_certify.specs.Replay.{applied}
 use Rattle.coda_cancel.specs.Dropping.{mentioning}
 use Rattle.coda_cancel.proofs.Keys.{fid_same}
-use Rattle.coda_cell.specs.Held.{Held, held_after_fetches}
+use Rattle.coda_cell.specs.Held.{held_after_fetches}
+use Rattle.coda_venus.specs.Held.{Held}
 use Rattle.coda_cell.specs.Looking.{offered, fetch_of, looked}
 use Rattle.coda_cell.specs.Kept.{AreWithin}
 use Rattle.coda_cell.proofs.AfterOperations.{IsBoundBy, bound_before}

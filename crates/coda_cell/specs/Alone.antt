@@ -11,9 +11,9 @@ use Rattle.coda_certify.specs.declared.verdict.Verdict.TheVariants.{Applied}
 use Rattle.coda_certify.specs.Checks.{certify}
 use Rattle.coda_certify.specs.Verdicts.{verdict_of}
 use Rattle.coda_plain.specs.Decisions.{decision}
-use Rattle.coda_cell.specs.Ask.{Asked}
-use Rattle.coda_cell.specs.Held.{Held, held_after_operation}
-use Rattle.coda_cell.specs.Accepting.{Sight, accept}
+use Rattle.coda_venus.specs.Ask.{Asked}
+use Rattle.coda_venus.specs.Held.{Held, held_after_operation}
+use Rattle.coda_venus.specs.Accepting.{Sight, accept}
 
 -- What is held is a whole volume: nothing of it is missing or marked, each object has as its parent the directory that binds it, and
 -- there is room for one object more.

@@ -17,11 +17,16 @@ use Rattle.coda_script.specs.declared.reply.Reply.{Reply}
 use Rattle.coda_script.specs.declared.reply.Reply.TheVariants.{Read, Listed, Done}
 use Rattle.coda_plain.specs.Deeds.{Operated}
 use Rattle.coda_plain.specs.Cell.{ClientEntry, Did}
-use Rattle.coda_cell.specs.Ask.{Asked, Create, Mkdir, Symlink, Store, Setattr, Remove, Rmdir, Rename, ending, front_of, too_big, object_of}
-use Rattle.coda_cell.specs.Held.{Held, Fetch, held_after_fetches}
-use Rattle.coda_cell.specs.Looking.{resolve, look_on, look_along, is_fetched, entries_of}
+use Rattle.coda_venus.specs.Ask.{Asked, Create, Mkdir, Symlink, Store, Setattr, Remove, Rmdir, Rename, ending, front_of, too_big, object_of}
+use Rattle.coda_cell.specs.Held.{Fetch, held_after_fetches}
+use Rattle.coda_venus.specs.Held.{Held}
+use Rattle.coda_cell.specs.Looking.{look_on, look_along, is_fetched, entries_of}
+use Rattle.coda_venus.specs.Looking.{resolve}
 use Rattle.coda_cell.specs.State.{ClientVolume, ClientState}
-use Rattle.coda_cell.specs.Accepting.{Accepted, sight_of, accept}
+use Rattle.coda_cell.specs.Accepting.{sight_of}
+use Rattle.coda_venus.specs.Accepting.{Accepted, accept}
+use Rattle.coda_venus.specs.declared.refused.Refused.{Refused as ClientRefused}
+use Rattle.coda_cell.specs.Refusing.{client_refused_as}
 use Rattle.coda_cell.specs.Refused.{Refused}
 use Rattle.coda_cell.specs.Refused.{NotDir, IsDir, Miss, TooBig, LogFull, JournalFull}
 
@@ -82,7 +87,7 @@ entered entries v volume op rec =
 
 -- the answer where an operation is accepted or refused after look-ups
 abbrev pub answer_to : List ClientEntry → ClientVolume → ℕ → ℕ → Accepted → Answer
-answer_to entries v time volume (Err why) = answers entries (Err why)
+answer_to entries v time volume (Err why) = answers entries (Err (client_refused_as why))
 answer_to entries v time volume (Ok op) = entered entries v volume op (next_record v time op)
 
 -- the same, unless content is too long, which is seen before anything is looked up
@@ -116,8 +121,8 @@ shown_as show fetched None fid = Err (Miss fid)
 shown_as show fetched (Some node) fid = show fetched node.kind
 
 -- the answer by where a path leads after look-ups
-abbrev pub shown_at : (Bool → NodeKind → Said) → List Fetch → Nodes → Result Fid Refused → Said
-shown_at show fetches m (Err why) = Err why
+abbrev pub shown_at : (Bool → NodeKind → Said) → List Fetch → Nodes → Result Fid ClientRefused → Said
+shown_at show fetches m (Err why) = Err (client_refused_as why)
 shown_at show fetches m (Ok fid) = shown_as show (is_fetched fetches fid) (map.get m fid) fid
 
 -- what a client that is asked to show an object answers

@@ -8,7 +8,7 @@ use Rattle.coda_letters.specs.Sent.{Waiting, AreLetters}
 use Rattle.coda_script.specs.declared.line.Strength.{Strength}
 use Rattle.coda_script.specs.declared.line.Strength.TheVariants.{Strong, Weak, Down}
 use Rattle.coda_cml.specs.Steady.{IsSteady}
-use Rattle.coda_cell.specs.Held.{AreBound}
+use Rattle.coda_cell.specs.Held.{AreUnderDirs}
 use Rattle.coda_cell.specs.State.{pending, ClientState, ReplicaState, CellState}
 
 -- a link, as lines name its strength
@@ -29,9 +29,9 @@ pub record IsNetwork (links : ℕ → ℕ → Strength) (waiting : Waiting) (pos
 
 -- ---- what is kept of clients
 
--- what each client holds is bound, and what is pending of it is steady
+-- the parent of each object that a client holds is a directory of the object's volume, and what is pending of the client is steady
 pub record IsOrderly (c : ClientState) : Type 0 where
-  pub bound : AreBound c.held
+  pub under : AreUnderDirs c.held
   pub steady : (volume : ℕ) → IsSteady (pending (c.volumes volume))
 
 abbrev pub AreOrderly : CellState → Type 0

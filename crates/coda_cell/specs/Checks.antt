@@ -11,11 +11,11 @@ use Rattle.coda_tree.specs.declared.node.NodeKind.TheVariants.{File, Link, Dir}
 use Rattle.coda_tree.specs.Bindings.{Name}
 use Rattle.coda_tree.specs.Volume.{Nodes, child}
 use Rattle.coda_certify.specs.Checks.{is_dir, is_no_dir, is_no_file}
-use Rattle.coda_cell.specs.Ask.{Asked, Create, Mkdir, Symlink, Store, Setattr, Remove, Rmdir, Rename, Ending, ending}
-use Rattle.coda_cell.specs.Held.{Parents, is_below, some_below}
-use Rattle.coda_cell.specs.Accepting.{Sight, next_fid, accept}
-use Rattle.coda_cell.specs.Refused.{Refused}
-use Rattle.coda_cell.specs.Refused.{NotFound, NotDir, Exists, IsDir, NotEmpty, Loop, NotFile, Miss, JournalFull}
+use Rattle.coda_venus.specs.Ask.{Asked, Create, Mkdir, Symlink, Store, Setattr, Remove, Rmdir, Rename, Ending, ending}
+use Rattle.coda_venus.specs.Held.{Parents, is_below, some_below}
+use Rattle.coda_venus.specs.Accepting.{Sight, next_fid, accept}
+use Rattle.coda_venus.specs.declared.refused.Refused.{Refused}
+use Rattle.coda_venus.specs.declared.refused.Refused.TheVariants.{NotFound, NotDir, Exists, IsDir, NotEmpty, Loop, NotFile, Need, JournalFull}
 
 -- what is asked of what a client holds before it accepts what it is asked to do
 pub data AskCheck : Type 0 where
@@ -103,7 +103,7 @@ node_behind m (Some fid) = map.get m fid
 
 -- an object is missed where nothing is held of it
 abbrev pub miss_of : Option Node → Fid → Option Refused
-miss_of None fid = Some (Miss fid)
+miss_of None fid = Some (Need fid)
 miss_of (Some node) fid = None
 
 abbrev pub unheld_of : Nodes → Option Fid → Option Refused

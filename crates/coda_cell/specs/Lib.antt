@@ -1,5 +1,4 @@
 pub mod Refused
-pub mod Ask
 pub mod Held
 pub mod Looking
 pub mod State

@@ -8,15 +8,16 @@ use Rattle.coda_script.specs.declared.line.Task.TheVariants as task
 use Rattle.coda_script.specs.declared.line.Line.{Line}
 use Rattle.coda_script.specs.declared.line.Line.TheVariants as line
 use Rattle.coda_script.specs.declared.reply.Reply.{Reply}
-use Rattle.coda_cell.specs.Ask.{Asked, too_big}
+use Rattle.coda_venus.specs.Ask.{Asked, too_big}
 use Rattle.coda_cell.specs.State.{ClientState, CellState, Event}
-use Rattle.coda_cell.specs.Accepting.{sight_of, accept}
+use Rattle.coda_cell.specs.Accepting.{sight_of}
+use Rattle.coda_venus.specs.Accepting.{accept}
 use Rattle.coda_cell.specs.Asking.{look_ups, behind_fetches, operate}
 use Rattle.coda_cell.specs.Checks.{ask_checks, first_refusal}
-use Rattle.coda_cell.specs.Refusing.{refusal}
+use Rattle.coda_cell.specs.Refusing.{client_refused_as, refusal}
 use Rattle.coda_letters.specs.Sent.{Sent, client_of, server_of, sent_at}
 use Rattle.coda_cell.specs.Steps.{Named, client_named, volume_named, server_named, holder_named, on_volume, on_holder, Does}
-use Rattle.coda_cell.specs.Refused.{Refused}
+use Rattle.coda_venus.specs.declared.refused.Refused.{Refused as ClientRefused}
 use Rattle.coda_cell.specs.Refused.{TooBig, LogFull, LinkDown, NoSuchActor, NoMessage}
 
 -- the actors that a task names, from left to right
@@ -70,9 +71,9 @@ pub record RefusalsComeInOrder : Type 0 where
   -- an operation is refused first for content that is too long, then for the first check that refuses
   pub large : (offers : Option Nodes) (c : ClientState) (time volume : ℕ) (ask : Asked) (length : ℕ) → too_big ask ≡ Some length
       → (operate offers c time volume ask).said ≡ Err (TooBig length)
-  pub checked : (offers : Option Nodes) (c : ClientState) (time volume : ℕ) (ask : Asked) (why : Refused) → too_big ask ≡ None
+  pub checked : (offers : Option Nodes) (c : ClientState) (time volume : ℕ) (ask : Asked) (why : ClientRefused) → too_big ask ≡ None
       → first_refusal (sight_of (behind_fetches c (look_ups offers c.held volume ask)) volume) volume (ask_checks ask) ≡ Some why
-      → (operate offers c time volume ask).said ≡ Err why
+      → (operate offers c time volume ask).said ≡ Err (client_refused_as why)
   -- and for a log that is full only where acceptance has nothing against it
   pub full : (offers : Option Nodes) (c : ClientState) (time volume : ℕ) (ask : Asked) → (operate offers c time volume ask).said ≡ Err LogFull
       → (op : Op) × (accept (sight_of (behind_fetches c (look_ups offers c.held volume ask)) volume) volume ask ≡ Ok op)

@@ -12,6 +12,8 @@ use Rattle.coda_script.specs.declared.reply.Arg.{Arg}
 use Rattle.coda_script.specs.declared.reply.Arg.TheVariants.{Number, Object}
 use Rattle.coda_script.specs.declared.reply.Reply.{Reply}
 use Rattle.coda_script.specs.declared.reply.Reply.TheVariants as reply
+use Rattle.coda_venus.specs.declared.refused.Refused.{Refused as ClientRefused}
+use Rattle.coda_venus.specs.declared.refused.Refused.TheVariants as client
 use Rattle.coda_cell.specs.Refused.{Refused}
 use Rattle.coda_cell.specs.Refused as refused
 
@@ -70,6 +72,29 @@ args_of refused.Memory = []
 -- the refusal as a reply
 abbrev pub refusal : Refused → Reply
 refusal why = reply.Refused (refusal_of why) (args_of why)
+
+-- Why a client refuses a call, as a line is refused for it: what it needs is missing. That it is down or its disk failed no client of a
+-- cell says.
+abbrev pub client_refused_as : ClientRefused → Refused
+client_refused_as client.Down = refused.Memory
+client_refused_as (client.TooBig length) = refused.TooBig length
+client_refused_as client.NotFound = refused.NotFound
+client_refused_as client.NotDir = refused.NotDir
+client_refused_as client.Exists = refused.Exists
+client_refused_as client.IsDir = refused.IsDir
+client_refused_as client.NotFile = refused.NotFile
+client_refused_as client.NotEmpty = refused.NotEmpty
+client_refused_as client.Loop = refused.Loop
+client_refused_as (client.Need fid) = refused.Miss fid
+client_refused_as client.LogFull = refused.LogFull
+client_refused_as client.JournalFull = refused.JournalFull
+client_refused_as client.DiskFault = refused.Memory
+client_refused_as (client.Frozen number home) = refused.Frozen number home
+client_refused_as client.Nothing = refused.Nothing
+client_refused_as (client.Young age window) = refused.Young age window
+client_refused_as (client.NotFrozen number) = refused.NotFrozen number
+client_refused_as (client.WrongNumber frozen number) = refused.WrongNumber frozen number
+client_refused_as client.Memory = refused.Memory
 
 -- why a log freezes nothing, as a line is refused for it
 abbrev pub refused_as : FreezeFault → Refused

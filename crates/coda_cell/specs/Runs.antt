@@ -85,7 +85,8 @@ LinesKeepCells = (old : MadeCell) (said : Line) (reply : Reply) (events : List E
 abbrev pub LinesKeepFronts : Type 0
 LinesKeepFronts = (old : MadeCell) (said : Line) (reply : Reply) (done rest : List Event) → IsKept old → MakesNumbered said → Does (state_of old) said reply (done ++ rest) → IsLeft old done
 
--- What holds of cells that are kept: the first one is, and in each what a client holds is bound, and what is pending of it is steady.
+-- What holds of cells that are kept: the first one is, and in each the parent of each object that a client holds is a directory of the object's
+-- volume, and what is pending of the client is steady.
 pub record CellsAreKept : Type 0 where
   pub first : IsKept nothing_made
   pub orderly : (cell : MadeCell) → IsKept cell → AreOrderly (state_of cell)

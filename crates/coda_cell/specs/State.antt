@@ -21,7 +21,8 @@ use Rattle.coda_plain.specs.Cell.{ClientEntry, Fetched, Did, Dropping}
 use Rattle.coda_plain.specs.Moves.{Append, AtClient, AtReplica}
 use Rattle.coda_letters.specs.Sent.{Sent, Waiting, without}
 use Rattle.coda_replica.specs.State.{ReplicaState as Replica, last_for}
-use Rattle.coda_cell.specs.Held.{Held, nothing_held, held_after}
+use Rattle.coda_cell.specs.Held.{held_after}
+use Rattle.coda_venus.specs.Held.{Held, nothing_held}
 
 -- the same for each key, but this at one of them
 abbrev pub put : {A : Type 0} → (ℕ → A) → ℕ → A → ℕ → A

@@ -1,7 +1,7 @@
 // What holds of every client.
 ghost use Rattle.coda_cell.specs.Alone.{AcceptedOperationsCertify, ClientsAloneMeetNoConflict};
 ghost use Rattle.coda_cell.specs.Checks.{AcceptanceGoesByChecks};
-ghost use Rattle.coda_cell.specs.Laws.{OperationsKeepHeldBound};
+ghost use Rattle.coda_cell.specs.Laws.{CachesStayInOrder, OperationsKeepHeldBound};
 ghost use Rattle.coda_cell.specs.Orders.{RefusalsComeInOrder};
 
 /// A law of clients: where the directory that a client takes for the parent of an object binds that object, for each that has
@@ -34,4 +34,10 @@ pub fn refusals_come_in_order()
 /// the lists are the order in which causes are named.
 pub fn acceptance_goes_by_checks()
     ensures { AcceptanceGoesByChecks }
+{}
+
+/// A law of clients: what a client holds stays in order where an object that no record of its logs mentions is fetched again, or
+/// dropped while no object is held below it. No such line is built yet: a client fetches what it doesn't hold, and drops nothing.
+pub fn caches_stay_in_order()
+    ensures { CachesStayInOrder }
 {}

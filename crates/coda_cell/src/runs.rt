@@ -2,8 +2,8 @@
 ghost use Rattle.coda_cell.specs.Runs.{CellsAreKept, DrainsAreDecided, LinesKeepCells, LinesKeepFronts};
 ghost use Rattle.coda_cell.specs.Spelled.{MessagesCanBeSpelled};
 
-/// A law of cells: one in which nothing was made is kept, and in one that is kept what each client holds is bound by its
-/// parents, and what is pending of it is steady.
+/// A law of cells: one in which nothing was made is kept, and in one that is kept the parent of each object that a client
+/// holds is a directory of the object's volume, and what is pending of the client is steady.
 pub fn cells_are_kept()
     ensures { CellsAreKept }
 {}

@@ -32,7 +32,7 @@ use Rattle.coda_cml.proofs.runs.UndoneCreations.{all_records, only_made, undone_
 use Rattle.coda_cml.proofs.runs.WithoutObject.{any-append}
 use Rattle.coda_cell.specs.Accepting.{sight_of}
 use Rattle.coda_cell.specs.State.{ClientState}
-use Rattle.coda_cell.proofs.Accepted.{Relies, accepted_relies}
+use Rattle.coda_venus.proofs.Accepted.{Relies, accepted_relies}
 use Rattle.coda_cell.proofs.AfterOperations.{IsBoundBy, bound_before}
 use Rattle.coda_cell.proofs.KeptChildren.{unbinds_mentions, any_weaker}
 use Rattle.coda_overlay.specs.Overlaying.{IsCreatedAt, AreCreatedAt, RemovesInPlace, AllRemoveInPlace}

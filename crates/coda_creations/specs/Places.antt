@@ -25,8 +25,9 @@ use Rattle.coda_plain.specs.Logs.{back_of}
 use Rattle.coda_plain.specs.Objects.{nodes_in}
 use Rattle.coda_plain.specs.Decisions.{ReplicaEntry, Decided, Resolved, decision, Kept, kept_after, kept_of, nodes_of}
 use Rattle.coda_plain.specs.Decisions.{Decision, verdict_on}
-use Rattle.coda_cell.specs.Accepting.{sight_of, accept}
-use Rattle.coda_cell.specs.Ask.{Asked}
+use Rattle.coda_cell.specs.Accepting.{sight_of}
+use Rattle.coda_venus.specs.Accepting.{accept}
+use Rattle.coda_venus.specs.Ask.{Asked}
 use Rattle.coda_cell.specs.State.{ClientState}
 use Rattle.coda_overlay.specs.Overlaying.{AreCreatedAt, RemovesInPlace, AllRemoveInPlace}
 

@@ -16,13 +16,11 @@ use Rattle.coda_plain.specs.Deeds.{Deed, Operated, Froze, Settled, Gaveup, MayDo
 use Rattle.coda_plain.specs.Cell.{ClientEntry, Fetched, Did, Dropping, deed_on, deeds_of}
 use Rattle.coda_plain.proofs.Ledger.{orderly}
 use Rattle.coda_plain.proofs.Lists.{left_push, follow_push}
-use Rattle.coda_venus.specs.Held as venus_held
-use Rattle.coda_cache.specs.Parents.{below_within}
 use Rattle.coda_record.specs.declared.entry.ClientEntry.TheVariants as kept
 use Rattle.coda_venus.specs.History.{Payload, state_of, MayEnter, MayEnterAll, MayFollow, IsHistory}
 use Rattle.coda_venus.specs.State.{ClientState as VenusState, new_client as new_venus, client_after as venus_after, client_after_all as venus_after_all, volume_after as venus_volume_after}
-use Rattle.coda_cell.specs.Held as cell_held
-use Rattle.coda_cell.specs.Held.{Parents, held_after_drops, with_parent, parents_after, taken_out, held_without, held_after_operation}
+use Rattle.coda_cell.specs.Held.{held_after_drops}
+use Rattle.coda_venus.specs.Held.{held_after_operation, held_after_fetch, held_after_drop}
 use Rattle.coda_cell.specs.State.{volume_after, pending, ClientState, client_after}
 use Rattle.coda_cell.specs.Made.{client_of}
 use Rattle.coda_cell.proofs.Histories.{client_push, volumes_are, volume_of, pending_are}
@@ -62,105 +60,46 @@ history_push header history entry is may laws = record {
 pub record AreAlike (c : ClientState) (d : VenusState) : Type 0 where
   pub number : d.number ≡ c.number
   pub blocks : d.blocks ≡ c.blocks
-  pub nodes : d.held.nodes ≡ c.held.nodes
-  pub parents : d.held.parents ≡ c.held.parents
+  pub held : d.held ≡ c.held
   pub volumes : (volume : ℕ) → IsAlike (c.volumes volume) (d.volumes volume)
-
-parents_same : (parents : Parents) (op : Op) → venus_held.parents_after parents op ≡ parents_after parents op
-parents_same parents (Create dir name fid mode owner) = refl
-parents_same parents (Mkdir dir name fid mode owner) = refl
-parents_same parents (Symlink dir name fid target mode owner) = refl
-parents_same parents (Store fid pre content) = refl
-parents_same parents (Setattr fid pre attrs) = refl
-parents_same parents (Remove dir name fid pre) = refl
-parents_same parents (Rmdir dir name fid pre) = refl
-parents_same parents (Rename from_dir from to_dir to fid over) = refl
-
-taken_same : (op : Op) → venus_held.taken_out op ≡ taken_out op
-taken_same (Create dir name fid mode owner) = refl
-taken_same (Mkdir dir name fid mode owner) = refl
-taken_same (Symlink dir name fid target mode owner) = refl
-taken_same (Store fid pre content) = refl
-taken_same (Setattr fid pre attrs) = refl
-taken_same (Remove dir name fid pre) = refl
-taken_same (Rmdir dir name fid pre) = refl
-taken_same (Rename from_dir from to_dir to fid over) = refl
-
--- both go up alike
-below_within_is : (parents : Parents) (steps : ℕ) (f g : Fid) → cell_held.below_within parents steps f g ≡ below_within parents steps f g
-below_within_is parents zero f g = refl
-below_within_is parents (suc steps) f g = λ i. same_fid f g || option_map_or (λ p. below_within_is parents steps p g i) (map.get parents f) false
-
-pub below_is : (parents : Parents) (f g : Fid) → cell_held.is_below parents f g ≡ venus_held.is_below parents f g
-unfolding cell_held.is_below venus_held.is_below
-below_is parents f g = below_within_is parents (map.len parents) f g
-
--- what stays once an object goes
-nodes_left : (gone : Option Fid) (by : Parents) (nodes : Nodes) (p q : Parents) → (venus_held.held_without gone by (record { nodes = nodes; parents = p })).nodes ≡ (held_without gone by (record { nodes = nodes; parents = q })).nodes
-nodes_left None by nodes p q = refl
-nodes_left (Some gone) by nodes p q = λ i. map.retain_keys nodes (λ f. not (sym (below_is by f gone) i))
-
-parents_left : (gone : Option Fid) (by : Parents) (nodes : Nodes) (p : Parents) → (venus_held.held_without gone by (record { nodes = nodes; parents = p })).parents ≡ (held_without gone by (record { nodes = nodes; parents = p })).parents
-parents_left None by nodes p = refl
-parents_left (Some gone) by nodes p = λ i. map.retain_keys p (λ f. not (sym (below_is by f gone) i))
-
--- the client's own operation
-module _ (nodes : Nodes) (parents : Parents) (client : ℕ) (rec : Record) where
-  operation_nodes : (venus_held.held_after_operation (record { nodes = nodes; parents = parents }) client rec).nodes ≡ (held_after_operation (record { nodes = nodes; parents = parents }) client rec).nodes
-  operation_nodes =
-      nodes_left (venus_held.taken_out rec.op) parents (applied nodes client rec) (venus_held.parents_after parents rec.op) (parents_after parents rec.op)
-      ∙ ap (λ (gone : Option Fid). (held_without gone parents (record { nodes = applied nodes client rec; parents = parents_after parents rec.op })).nodes) (taken_same rec.op)
-
-  operation_parents : (venus_held.held_after_operation (record { nodes = nodes; parents = parents }) client rec).parents ≡ (held_after_operation (record { nodes = nodes; parents = parents }) client rec).parents
-  operation_parents =
-      parents_left (venus_held.taken_out rec.op) parents (applied nodes client rec) (venus_held.parents_after parents rec.op)
-      ∙ (λ i. (held_without (taken_same rec.op i) parents (record { nodes = applied nodes client rec; parents = parents_same parents rec.op i })).parents)
-
-parent_same : (parents : Parents) (fid : Fid) (parent : Option Fid) → venus_held.with_parent parents fid parent ≡ with_parent parents fid parent
-parent_same parents fid None = refl
-parent_same parents fid (Some parent) = refl
 
 did_alike : (c : ClientState) (d : VenusState) (volume : ℕ) (deed : Deed) → AreAlike c d → IsSteady (pending (c.volumes volume)) → MayEnter d (entry_of (Did volume deed))
     → AreAlike (client_after c (Did volume deed)) (venus_after d (entry_of (Did volume deed)))
 did_alike c d volume (Operated rec) a steady may = record {
   number = a.number;
   blocks = a.blocks;
-  nodes = (λ i. (venus_held.held_after_operation (record { nodes = a.nodes i; parents = a.parents i }) (a.number i) rec).nodes) ∙ operation_nodes c.held.nodes c.held.parents c.number rec;
-  parents = (λ i. (venus_held.held_after_operation (record { nodes = a.nodes i; parents = a.parents i }) (a.number i) rec).parents) ∙ operation_parents c.held.nodes c.held.parents c.number rec;
+  held = λ i. held_after_operation (a.held i) (a.number i) rec;
   volumes = put_alike c.volumes d.volumes volume (volume_after (c.volumes volume) (Operated rec)) (venus_volume_after (d.volumes volume) (Operated rec)) a.volumes
       (deed_alike (c.volumes volume) (d.volumes volume) (Operated rec) (a.volumes volume) steady (may_come d volume (Operated rec) may));
 }
 did_alike c d volume (Froze number home last) a steady may = record {
   number = a.number;
   blocks = a.blocks;
-  nodes = a.nodes;
-  parents = a.parents;
+  held = a.held;
   volumes = put_alike c.volumes d.volumes volume (volume_after (c.volumes volume) (Froze number home last)) (venus_volume_after (d.volumes volume) (Froze number home last)) a.volumes
       (deed_alike (c.volumes volume) (d.volumes volume) (Froze number home last) (a.volumes volume) steady (may_come d volume (Froze number home last) may));
 }
 did_alike c d volume (Settled number verdict) a steady may = record {
   number = a.number;
   blocks = a.blocks;
-  nodes = a.nodes;
-  parents = a.parents;
+  held = a.held;
   volumes = put_alike c.volumes d.volumes volume (volume_after (c.volumes volume) (Settled number verdict)) (venus_volume_after (d.volumes volume) (Settled number verdict)) a.volumes
       (deed_alike (c.volumes volume) (d.volumes volume) (Settled number verdict) (a.volumes volume) steady (may_come d volume (Settled number verdict) may));
 }
 did_alike c d volume Gaveup a steady may = record {
   number = a.number;
   blocks = a.blocks;
-  nodes = a.nodes;
-  parents = a.parents;
+  held = a.held;
   volumes = put_alike c.volumes d.volumes volume (volume_after (c.volumes volume) Gaveup) (venus_volume_after (d.volumes volume) Gaveup) a.volumes
       (deed_alike (c.volumes volume) (d.volumes volume) Gaveup (a.volumes volume) steady (may_come d volume Gaveup may));
 }
 
 -- what is dropped leaves both alike
 drops_alike : (c : ClientState) (d : VenusState) (gone : List Fid) → AreAlike c d → AreAlike (record c { held = held_after_drops c.held gone }) (venus_after_all d (map_list kept.Dropped gone))
-drops_alike c d [] a = record { number = a.number; blocks = a.blocks; nodes = a.nodes; parents = a.parents; volumes = a.volumes }
+drops_alike c d [] a = record { number = a.number; blocks = a.blocks; held = a.held; volumes = a.volumes }
 drops_alike c d (fid ∷ gone) a =
     drops_alike (record c { held = record { nodes = map.remove c.held.nodes fid; parents = map.remove c.held.parents fid } }) (venus_after d (kept.Dropped fid)) gone
-    (record { number = a.number; blocks = a.blocks; nodes = λ i. map.remove (a.nodes i) fid; parents = λ i. map.remove (a.parents i) fid; volumes = a.volumes })
+    (record { number = a.number; blocks = a.blocks; held = λ i. held_after_drop (a.held i) fid; volumes = a.volumes })
 
 -- entries of a payload behind others of it
 after_both : (d : VenusState) (front back : Payload) → venus_after_all d (front ++ back) ≡ venus_after_all (venus_after_all d front) back
@@ -177,8 +116,7 @@ pub entry_alike : (c : ClientState) (d : VenusState) (entry : ClientEntry) → A
 entry_alike c d (Fetched fid parent node) a steady may = record {
   number = a.number;
   blocks = a.blocks;
-  nodes = λ i. map.insert (a.nodes i) fid node;
-  parents = ap (λ p. venus_held.with_parent p fid parent) a.parents ∙ parent_same c.held.parents fid parent;
+  held = λ i. held_after_fetch (a.held i) fid parent node;
   volumes = a.volumes;
 }
 entry_alike c d (Did volume deed) a steady may = did_alike c d volume deed a (steady volume) may.0
@@ -220,10 +158,10 @@ module _ (header : Header) where
 
   -- what a history leaves, and what its journal leaves
   pub alike : (history : List ClientEntry) → IsClientHistory header history → Alike history
-  alike history is = alike_from [] history is.deeds (record { number = refl; blocks = refl; nodes = refl; parents = refl; volumes = λ volume. new_alike }) is.journal
+  alike history is = alike_from [] history is.deeds (record { number = refl; blocks = refl; held = refl; volumes = λ volume. new_alike }) is.journal
 
 pub one_client : (c : ClientState) (d : VenusState) → AreAlike c d → IsOneClient c d
-one_client c d a = record { number = a.number; blocks = a.blocks; nodes = a.nodes; parents = a.parents; volumes = λ volume. one_volume (c.volumes volume) (d.volumes volume) (a.volumes volume) }
+one_client c d a = record { number = a.number; blocks = a.blocks; held = a.held; volumes = λ volume. one_volume (c.volumes volume) (d.volumes volume) (a.volumes volume) }
 
 pub journals_leave_clients : JournalsLeaveClients
 journals_leave_clients header history is = one_client (client_of header.number history header.cache) (state_of header (journal_by history)) (alike header history is)

@@ -16,6 +16,7 @@ use Rattle.coda_venus.specs.declared.refused.Refused.{Refused as VenusRefused}
 use Rattle.coda_venus.specs.declared.refused.Refused.TheVariants as venus
 use Rattle.coda_venus.specs.declared.venus.Venus.{Venus}
 use Rattle.coda_cell.specs.State.{ClientVolume, ClientState, log_of}
+use Rattle.coda_cell.specs.Refusing.{client_refused_as}
 use Rattle.coda_cell.specs.Refused.{Refused}
 use Rattle.coda_cell.specs.Refused as refused
 
@@ -59,33 +60,10 @@ pub record IsOneVolume (v : ClientVolume) (w : VenusVolume) : Type 0 where
 pub record IsOneClient (c : ClientState) (d : VenusState) : Type 0 where
   pub number : d.number ≡ c.number
   pub blocks : d.blocks ≡ c.blocks
-  pub nodes : d.held.nodes ≡ c.held.nodes
-  pub parents : d.held.parents ≡ c.held.parents
+  pub held : d.held ≡ c.held
   pub volumes : (volume : ℕ) → IsOneVolume (c.volumes volume) (d.volumes volume)
 
 -- ---- how a call of a client ends that is to add entries
-
--- Why a client on a disk refuses a call, as a line is refused for it. That it is down or its disk failed no client of a cell says.
-abbrev pub refused_as : VenusRefused → Refused
-refused_as venus.Down = refused.Memory
-refused_as (venus.TooBig length) = refused.TooBig length
-refused_as venus.NotFound = refused.NotFound
-refused_as venus.NotDir = refused.NotDir
-refused_as venus.Exists = refused.Exists
-refused_as venus.IsDir = refused.IsDir
-refused_as venus.NotFile = refused.NotFile
-refused_as venus.NotEmpty = refused.NotEmpty
-refused_as venus.Loop = refused.Loop
-refused_as (venus.Need fid) = refused.Miss fid
-refused_as venus.LogFull = refused.LogFull
-refused_as venus.JournalFull = refused.JournalFull
-refused_as venus.DiskFault = refused.Memory
-refused_as (venus.Frozen number home) = refused.Frozen number home
-refused_as venus.Nothing = refused.Nothing
-refused_as (venus.Young age window) = refused.Young age window
-refused_as (venus.NotFrozen number) = refused.NotFrozen number
-refused_as (venus.WrongNumber frozen number) = refused.WrongNumber frozen number
-refused_as venus.Memory = refused.Memory
 
 -- entries that were to be added in order: those that were, and the one at which it stopped
 pub record Cut {E : Type 0} (entries : List E) : Type 0 where
@@ -110,4 +88,4 @@ Ends told header history entries said IsAs new (Err venus.DiskFault) =
     (cut : Cut entries) × (new.down ≡ true) × StandsFor (told new.journal.disk) header (journal_by (history ++ cut.done)) (Some (payload_by cut.next))
 Ends told header history entries said IsAs new (Err venus.Memory) = (done : List ClientEntry) × (rest : List ClientEntry) × (entries ≡ done ++ rest) × IsUp told header new (journal_by (history ++ done))
 Ends told header history entries said IsAs new (Err venus.Down) = ⊥
-Ends told header history entries said IsAs new (Err why) = (said ≡ Err (refused_as why)) × IsUp told header new (journal_by (history ++ entries))
+Ends told header history entries said IsAs new (Err why) = (said ≡ Err (client_refused_as why)) × IsUp told header new (journal_by (history ++ entries))

@@ -115,7 +115,7 @@ module _ (cell : Cell) (kept : IsKept cell) (joins : Joins) where
   holding_now client blocks (Some header) life is e =
       let size : header.cache ≡ blocks = cc in
       let h = kept.shelves.holding joins client header is in
-      subst (λ n. IsHolding whole.acted (client_of client (f.clients client) n)) size (record { bound = h.bound; forest = h.forest; within = h.within; made = h.made; named = h.named; kept = h.kept })
+      subst (λ n. IsHolding whole.acted (client_of client (f.clients client) n)) size (record { under = h.under; forest = h.forest; within = h.within; made = h.made; named = h.named; kept = h.kept })
 
   pub whole_kept : IsMadeKept whole
   whole_kept = record {
@@ -241,7 +241,7 @@ module _ (old new : Cell) (kept : IsKept old) (grown : HasGrown old new) (pool :
     holding_is : (client : ℕ) (header : Header) → (new.clients client).disk.header ≡ Some header → IsHolding (clients_with is) (client_of client (is.clients client) header.cache)
     holding_is client header e =
         let h = (wholes joins).holding client header.cache (ap (λ o. size_on o (new.clients client).life) e) in
-        record { bound = h.bound; forest = h.forest; within = h.within; made = h.made; named = h.named; kept = h.kept }
+        record { under = h.under; forest = h.forest; within = h.within; made = h.made; named = h.named; kept = h.kept }
 
     letters_is : AreLettersSo new pool joins
     letters_is = record {

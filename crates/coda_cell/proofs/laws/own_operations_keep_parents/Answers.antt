@@ -1,6 +1,6 @@
 use Rattle.std.proofs.Common.{sym, subst}
 use Rattle.coda_cell.specs.Accepting.{sight_of}
-use Rattle.coda_cell.proofs.Accepted.{Relies, accepted_relies}
+use Rattle.coda_venus.proofs.Accepted.{Relies, accepted_relies}
 use Rattle.coda_cell.proofs.AfterOperations.{bound_operation}
 use Rattle.coda_cell.proofs.laws.own_operations_keep_parents.Goals as goal
 
